@@ -1,0 +1,4 @@
+pub mod Told
+pub mod Faults
+pub mod Memory
+pub mod Standard
