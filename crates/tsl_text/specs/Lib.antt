@@ -1,0 +1,4 @@
+pub mod Lexeme
+pub mod Division
+pub mod Front
+pub mod Lines
