@@ -1,0 +1,11 @@
+pub mod DistinctLemmas
+pub mod Examples
+pub mod FormulaLemmas
+pub mod GatherLemmas
+pub mod MarkLemmas
+pub mod MarkWhole
+pub mod NameLemmas
+pub mod SameLemmas
+pub mod SignalLemmas
+pub mod TermLemmas
+pub mod WholeLemmas

@@ -1,0 +1,96 @@
+-- Marks that are set one after another.
+use Rattle.std.proofs.Common.{◌≡◌, ℕ, zero, suc, ◌<◌, ◌≤◌, ◌==◌, Bool, true, false, ◌||◌, cond, List, [], ◌∷◌, ◌++◌, length, replicate, set, get_or, refl, sym, ap, ◌∙◌, arith}
+use Rattle.std.proofs.lemmas.List.{length-replicate}
+use Rattle.std.proofs.Math.Bool.{or_assoc, or-true, or-false}
+use Rattle.std.proofs.Math.Dec.{eqb-suc-zero, eqb-zero-suc, eqb-suc-suc}
+use Rattle.tsl_terms.specs.TermTree.{TermTree, TermTrees, no_terms, more_terms}
+use Rattle.tsl_terms.specs.Marked.{marked}
+use Rattle.tsl_terms.specs.FormulaTree.{FormulaTree, FormulaTrees, update, more_formulas}
+use Rattle.tsl_terms.specs.Signals.{term_reads, some_term_reads, formula_reads, some_formula_reads, formula_updates, terms_for, all_terms_for, is_some_term}
+
+-- a test that nothing passes
+pub mark_none : (marks : List Bool) → marked (λ _. false) marks ≡ marks
+mark_none [] = refl
+mark_none (b ∷ marks) = λ i. or-false b i ∷ mark_none marks i
+
+-- one place
+pub mark_place : (marks : List Bool) (place : ℕ) → set marks place true ≡ marked (λ s. place == s) marks
+mark_place [] place = refl
+mark_place (b ∷ marks) zero =
+    λ i. sym (or-true b) i ∷ (sym (mark_none marks) ∙ (λ j. marked (λ s. sym (eqb-zero-suc s) j) marks)) i
+mark_place (b ∷ marks) (suc place) =
+    λ i. (sym (or-false b) ∙ ap (λ c. b || c) (sym (eqb-suc-zero place))) i
+    ∷ (mark_place marks place ∙ (λ j. marked (λ s. sym (eqb-suc-suc place s) j) marks)) i
+
+-- a place past the end
+pub mark_past : (marks : List Bool) (place : ℕ) → length marks ≤ place → marks ≡ marked (λ s. place == s) marks
+mark_past marks place past = sym (set_past marks place past) ∙ mark_place marks place
+  where
+    set_past : (marks : List Bool) (place : ℕ) → length marks ≤ place → set marks place true ≡ marks
+    set_past [] place past = refl
+    set_past (b ∷ marks) zero past = absurd (omega arith)
+    set_past (b ∷ marks) (suc place) past = ap (λ rest. b ∷ rest) (set_past marks place (omega arith))
+
+-- one test after another
+pub mark_two : (p q : ℕ → Bool) (marks : List Bool) → marked q (marked p marks) ≡ marked (λ s. p s || q s) marks
+mark_two p q [] = refl
+mark_two p q (b ∷ marks) = λ i. or_assoc b (p 0) (q 0) i ∷ mark_two (λ s. p (suc s)) (λ s. q (suc s)) marks i
+
+-- tests that are equal
+pub mark_same : (p q : ℕ → Bool) (marks : List Bool) → ((s : ℕ) → p s ≡ q s) → marked p marks ≡ marked q marks
+mark_same p q marks same = λ i. marked (λ s. same s i) marks
+
+pub length-marked : (p : ℕ → Bool) (marks : List Bool) → length (marked p marks) ≡ length marks
+length-marked p [] = refl
+length-marked p (b ∷ marks) = ap suc (length-marked (λ s. p (suc s)) marks)
+
+-- the mark of a place where none stood
+pub at_mark : (p : ℕ → Bool) (count place : ℕ) (default : Bool) → place < count → get_or (marked p (replicate count false)) place default ≡ p place
+at_mark p zero place default within = absurd (omega arith)
+at_mark p (suc count) zero default within = refl
+at_mark p (suc count) (suc place) default within = at_mark (λ s. p (suc s)) count place default (omega arith)
+
+-- the marks of a first term, and then those of the rest
+pub mark_terms_more : (old new all : List Bool) (t : TermTree) (ts : TermTrees) → marked (λ s. some_term_reads s (more_terms t ts)) old ≡ all → new ≡ marked (λ s. term_reads s t) old → marked (λ s. some_term_reads s ts) new ≡ all
+mark_terms_more old new all t ts before step =
+    ap (marked (λ s. some_term_reads s ts)) step ∙ mark_two (λ s. term_reads s t) (λ s. some_term_reads s ts) old ∙ before
+
+pub mark_terms_end : (old all : List Bool) → marked (λ s. some_term_reads s no_terms) old ≡ all → old ≡ all
+mark_terms_end old all before = sym (mark_none old) ∙ before
+
+-- some term of two lists is one of the first or of the second
+pub is_some_term-append : (xs ys : List TermTree) → is_some_term (xs ++ ys) ≡ (is_some_term xs || is_some_term ys)
+is_some_term-append [] ys = refl
+is_some_term-append (x ∷ xs) ys = refl
+
+-- the updates of two parts, one after another
+pub mark_updates_two : (a b : ℕ → List TermTree) (marks : List Bool) → marked (λ s. is_some_term (b s)) (marked (λ s. is_some_term (a s)) marks) ≡ marked (λ s. is_some_term (a s ++ b s)) marks
+mark_updates_two a b marks =
+    mark_two (λ s. is_some_term (a s)) (λ s. is_some_term (b s)) marks
+    ∙ mark_same _ _ marks (λ s. sym (is_some_term-append (a s) (b s)))
+
+-- the mark of an update
+pub mark_update : (r : ℕ) (t : TermTree) (marks : List Bool) → marked (λ s. r == s) marks ≡ marked (λ s. formula_updates s (update r t)) marks
+mark_update r t marks = mark_same _ _ marks (λ s. by (r == s))
+  where
+    by : (b : Bool) → b ≡ is_some_term (cond b (t ∷ []) [])
+    by true = refl
+    by false = refl
+
+-- the marks of a first formula, and then those of the rest
+pub mark_updates_more : (old new all : List Bool) (f : FormulaTree) (fs : FormulaTrees) → marked (λ s. is_some_term (all_terms_for s (more_formulas f fs))) old ≡ all → new ≡ marked (λ s. formula_updates s f) old → marked (λ s. is_some_term (all_terms_for s fs)) new ≡ all
+mark_updates_more old new all f fs before step =
+    ap (marked (λ s. is_some_term (all_terms_for s fs))) step ∙ mark_updates_two (λ s. terms_for s f) (λ s. all_terms_for s fs) old ∙ before
+
+pub mark_reads_more : (old new all : List Bool) (f : FormulaTree) (fs : FormulaTrees) → marked (λ s. some_formula_reads s (more_formulas f fs)) old ≡ all → new ≡ marked (λ s. formula_reads s f) old → marked (λ s. some_formula_reads s fs) new ≡ all
+mark_reads_more old new all f fs before step =
+    ap (marked (λ s. some_formula_reads s fs)) step ∙ mark_two (λ s. formula_reads s f) (λ s. some_formula_reads s fs) old ∙ before
+
+pub mark_end : (old all : List Bool) → marked (λ _. false) old ≡ all → old ≡ all
+mark_end old all before = sym (mark_none old) ∙ before
+
+pub length-marks : (p : ℕ → Bool) (count : ℕ) (marks : List Bool) → marks ≡ marked p (replicate count false) → length marks ≡ count
+length-marks p count marks is = ap length is ∙ length-marked p (replicate count false) ∙ length-replicate count false
+
+pub mark_at : (p : ℕ → Bool) (count place : ℕ) (marks : List Bool) (mark : Bool) → marks ≡ marked p (replicate count false) → mark ≡ get_or marks place mark → place < count → mark ≡ p place
+mark_at p count place marks mark is here within = here ∙ ap (λ ms. get_or ms place mark) is ∙ at_mark p count place mark within

@@ -1,0 +1,15 @@
+pub mod Distinct
+pub mod FormulaTree
+pub mod Marked
+pub mod Name
+pub mod Named
+pub mod Nodes
+pub mod Predicates
+pub mod SameTree
+pub mod Signals
+pub mod SpecTree
+pub mod SpecView
+pub mod TermTree
+pub mod Value
+pub mod WellFormed
+pub mod WindowTree

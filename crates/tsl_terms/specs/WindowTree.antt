@@ -1,0 +1,52 @@
+-- Windows: what a program may be found under. A window whose two sides unfold to the same terms holds in
+-- every run.
+-- Source: Finkbeiner, Klein, Piskac, Santolucito: Temporal Stream Logic: Synthesis Beyond the Bools
+-- (CAV 2019), the refinement of the underapproximation.
+use Rattle.std.specs.Prelude.{ℕ, zero, suc, List, [], ◌∷◌, map}
+use Rattle.tsl_terms.specs.declared.window.Listed.{Listed}
+use Rattle.tsl_terms.specs.declared.window.Window.{Window}
+use Rattle.tsl_terms.specs.TermTree.{TermTree, ProbeTree, term_tree, probe_tree}
+use Rattle.tsl_terms.specs.FormulaTree.{FormulaTree, test, update, implication, equivalence, next, globally}
+use Rattle.tsl_terms.specs.SpecTree.{conjunction_of}
+
+-- an update that is listed at an offset from the window's first step
+pub record ListedTree : Type 0 where
+  pub signal : ℕ
+  pub term : TermTree
+  pub offset : ℕ
+
+-- the left probe at one step, the right probe at the last step, and the updates between
+pub record WindowTree : Type 0 where
+  pub left : ProbeTree
+  pub left_at : ℕ
+  pub right : ProbeTree
+  pub length : ℕ
+  pub updates : List ListedTree
+
+abbrev pub listed_tree : Listed → ListedTree
+listed_tree u = record { signal = u.signal; term = term_tree u.term; offset = u.offset }
+
+abbrev pub window_tree : Window → WindowTree
+window_tree w = record {
+  left = probe_tree w.left;
+  left_at = w.left_at;
+  right = probe_tree w.right;
+  length = w.length;
+  updates = map listed_tree w.updates;
+}
+
+-- a formula so many steps later
+abbrev pub later : ℕ → FormulaTree → FormulaTree
+later zero f = f
+later (suc n) f = next (later n f)
+
+-- always: if each listed update holds at its offset, then the left probe at its step is as the right one at the last
+abbrev pub window_formula_of : WindowTree → FormulaTree
+window_formula_of w = globally (implication
+    (conjunction_of (map (λ u. later u.offset (update u.signal u.term)) w.updates))
+    (equivalence (later w.left_at (test w.left)) (later w.length (test w.right))))
+
+-- a formula under the assumption of windows, where there are some
+abbrev pub under_windows : List WindowTree → FormulaTree → FormulaTree
+under_windows [] f = f
+under_windows (w ∷ ws) f = implication (conjunction_of (map window_formula_of (w ∷ ws))) f

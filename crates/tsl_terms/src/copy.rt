@@ -1,0 +1,118 @@
+//! Copies of terms, probes and formulas.
+
+ghost use Rattle.std.specs.Prelude.{◌≡◌, map, IfOk};
+ghost use Rattle.tsl_terms.specs.TermTree.{term_tree, term_trees, probe_tree};
+ghost use Rattle.tsl_terms.specs.FormulaTree.{formula_tree, member_trees};
+
+use crate::formula::{Formula, FormulaList};
+use crate::term::{Probe, Term, TermList};
+use sequence::NoMemory;
+use std::alloc::Global;
+
+/// An equal term. An `Err` says that memory ran out.
+#[cycle(copy_terms)]
+pub fn copy_term(alloc: Global, term: &Term) -> Result<Term, NoMemory>
+    ensures { IfOk result (λ copy. term_tree copy ≡ term_tree term.now) }
+{
+    match term {
+        Term::Signal(signal) => Ok(Term::Signal(*signal)),
+        Term::Apply(function, arguments) => {
+            Ok(Term::Apply(*function, copy_terms(alloc, arguments)?))
+        }
+    }
+}
+
+/// An equal list of terms.
+#[tactic(auto, using(crate::proofs::TermLemmas::with_front_none, crate::proofs::TermLemmas::with_front_push))]
+#[cycle(copy_terms)]
+pub(crate) fn copy_terms(alloc: Global, terms: &TermList) -> Result<TermList, NoMemory>
+    ensures { IfOk result (λ copy. term_trees copy ≡ term_trees terms.now) }
+{
+    let mut copies = Vec::new(alloc);
+    let mut rest = terms;
+    while let TermList::More(term, next) = rest {
+        copies.push(copy_term(alloc, term)?)?;
+        rest = next;
+    }
+    TermList::from_vec(alloc, copies)
+}
+
+/// An equal probe. An `Err` says that memory ran out.
+pub fn copy_probe(alloc: Global, probe: &Probe) -> Result<Probe, NoMemory>
+    ensures { IfOk result (λ copy. probe_tree copy ≡ probe_tree probe.now) }
+{
+    Ok(Probe {
+        predicate: probe.predicate,
+        arguments: copy_terms(alloc, &probe.arguments)?,
+    })
+}
+
+/// An equal formula. An `Err` says that memory ran out.
+#[cycle(copy_formulas)]
+#[tactic(auto, using(crate::proofs::FormulaLemmas::formulas_of_members))]
+pub fn copy_formula(alloc: Global, formula: &Formula) -> Result<Formula, NoMemory>
+    ensures { IfOk result (λ copy. formula_tree copy ≡ formula_tree formula.now) }
+{
+    match formula {
+        Formula::True => Ok(Formula::True),
+        Formula::False => Ok(Formula::False),
+        Formula::Test(probe) => Ok(Formula::Test(copy_probe(alloc, probe)?)),
+        Formula::Update(signal, term) => Ok(Formula::Update(*signal, copy_term(alloc, term)?)),
+        Formula::Not(part) => Ok(Formula::Not(copy_part(alloc, part)?)),
+        Formula::All(members) => Ok(Formula::All(FormulaList::from_vec(
+            alloc,
+            copy_members(alloc, members)?,
+        )?)),
+        Formula::Any(members) => Ok(Formula::Any(FormulaList::from_vec(
+            alloc,
+            copy_members(alloc, members)?,
+        )?)),
+        Formula::Implies(left, right) => Ok(Formula::Implies(
+            copy_part(alloc, left)?,
+            copy_part(alloc, right)?,
+        )),
+        Formula::Iff(left, right) => Ok(Formula::Iff(
+            copy_part(alloc, left)?,
+            copy_part(alloc, right)?,
+        )),
+        Formula::Next(part) => Ok(Formula::Next(copy_part(alloc, part)?)),
+        Formula::Finally(part) => Ok(Formula::Finally(copy_part(alloc, part)?)),
+        Formula::Globally(part) => Ok(Formula::Globally(copy_part(alloc, part)?)),
+        Formula::Until(left, right) => Ok(Formula::Until(
+            copy_part(alloc, left)?,
+            copy_part(alloc, right)?,
+        )),
+        Formula::Weak(left, right) => Ok(Formula::Weak(
+            copy_part(alloc, left)?,
+            copy_part(alloc, right)?,
+        )),
+        Formula::Release(left, right) => Ok(Formula::Release(
+            copy_part(alloc, left)?,
+            copy_part(alloc, right)?,
+        )),
+    }
+}
+
+/// A formula's part, copied.
+#[cycle(copy_formulas)]
+pub(crate) fn copy_part(alloc: Global, part: &Formula) -> Result<Box<Formula>, NoMemory>
+    ensures { IfOk result (λ copy. formula_tree copy.value ≡ formula_tree part.now) }
+{
+    Ok(Box::new(alloc, copy_formula(alloc, part)?)?)
+}
+
+/// Copies of the members of a list, in order.
+#[cycle(copy_formulas)]
+#[tactic(auto, using(crate::proofs::FormulaLemmas::copies_push, crate::proofs::FormulaLemmas::copies_end))]
+pub(crate) fn copy_members(alloc: Global, formulas: &FormulaList) -> Result<Vec<Formula>, NoMemory>
+    ensures { IfOk result
+        (λ copies. map formula_tree copies.items ≡ member_trees formulas.now) }
+{
+    let mut copies = Vec::new(alloc);
+    let mut rest = formulas;
+    while let FormulaList::More(formula, next) = rest {
+        copies.push(copy_formula(alloc, formula)?)?;
+        rest = next;
+    }
+    Ok(copies)
+}

@@ -1,0 +1,51 @@
+//! Terms, formulas and specifications of Temporal Stream Logic.
+//!
+//! A term is a signal or a function applied to terms, a probe is a predicate applied to terms, and a
+//! formula is built from probes, updates and the connectives. Their numbers are those of a list of
+//! names, which a specification has. Each type has a pure tree in `specs/`, where the definitions
+//! stand, and a function that gives the tree of a value: `term_tree`, `probe_tree`, `formula_tree`,
+//! `spec_tree`, `window_tree`. Contracts speak of these trees, since values may lie anywhere in memory.
+//!
+//! - `Names` keeps names by first appearance: each call gives its part of the list of names.
+//! - `copy_term`, `copy_probe` and `copy_formula` give a value of the same tree, and `same_term` and
+//!   `same_probe` say whether two trees are equal; that the test of trees is equality is a law.
+//! - `whole` gives the formula that a specification stands for, `signals` its inputs, cells and outputs,
+//!   `choices` the terms that a signal may take, and `predicates` the probes, each exactly as defined.
+//! - `node_count` counts nodes, and stops at the largest number.
+//!
+//! The only error is want of memory. Lists of members are walked, built, copied and dropped by loops, so
+//! they may be long; how deep formulas and terms nest is up to what makes them, and calls go as deep.
+//! A crate above may rely on the fields of a `Spec`: each of its formulas fits its names.
+#![tactic(auto)]
+
+mod choosing;
+mod copy;
+mod counting;
+mod formula;
+mod gathering;
+mod joining;
+mod laws;
+mod marks;
+mod names;
+mod same;
+mod signal_lists;
+mod spec;
+mod term;
+mod window;
+
+pub use choosing::choices;
+pub use copy::{copy_formula, copy_probe, copy_term};
+pub use counting::node_count;
+pub use formula::{Formula, FormulaList};
+pub use gathering::predicates;
+pub use joining::whole;
+pub use laws::same_tree_is_equality;
+pub use names::{NameKind, Names};
+pub use same::{same_probe, same_term};
+pub use signal_lists::{SignalLists, signals};
+pub use spec::Spec;
+pub use term::{Probe, Term, TermList};
+pub use window::{Listed, Window};
+
+#[cfg(test)]
+mod tests;

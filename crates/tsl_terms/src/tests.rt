@@ -1,0 +1,170 @@
+ghost use Rattle.std.specs.Prelude.{◌≡◌, ◌∷◌, [], codes, IsTrue, IfOk};
+ghost use Rattle.tsl_terms.specs.TermTree.{signal, no_terms, more_terms, probe_tree};
+ghost use Rattle.tsl_terms.specs.FormulaTree.{update, no_formulas, more_formulas, formula_tree, formula_trees};
+ghost use Rattle.tsl_terms.specs.WellFormed.{formulas_fit};
+
+use crate::{
+    Formula, FormulaList, NameKind, Names, Probe, Spec, Term, TermList, choices, copy_formula,
+    copy_term, node_count, predicates, same_term, signals, whole,
+};
+use std::alloc::{AllocError, Global};
+use std::test::Fail;
+
+const MANY: u32 = 500_000;
+
+fn many_signals(alloc: Global) -> Result<TermList, AllocError> {
+    let mut terms = Vec::new(alloc);
+    for _ in 0..MANY {
+        terms.push(Term::Signal(1))?;
+    }
+    TermList::from_vec(alloc, terms)
+}
+
+fn many_truths(alloc: Global) -> Result<FormulaList, AllocError> {
+    let mut formulas = Vec::new(alloc);
+    for _ in 0..MANY {
+        formulas.push(Formula::True)?;
+    }
+    FormulaList::from_vec(alloc, formulas)
+}
+
+#[test]
+fn half_a_million_terms_are_built_copied_compared_and_dropped(rt: HostRuntime) -> Result<(), Fail> {
+    let alloc = rt.alloc();
+    let term = Term::Apply(0, many_signals(alloc)?);
+    let copy = copy_term(alloc, &term)?;
+    assert!(rt; same_term(&term, &copy));
+    assert!(rt; !same_term(&term, &Term::Signal(1)));
+    let update = Formula::Update(2, copy);
+    assert_eq!(rt; node_count(&update), 500_002);
+    Ok(())
+}
+
+#[test]
+fn half_a_million_formulas_are_built_copied_counted_and_dropped(
+    rt: HostRuntime,
+) -> Result<(), Fail> {
+    let alloc = rt.alloc();
+    let formula = Formula::All(many_truths(alloc)?);
+    let copy = copy_formula(alloc, &formula)?;
+    assert_eq!(rt; node_count(&copy), 500_001);
+    Ok(())
+}
+
+#[test]
+fn a_count_stops_at_the_largest_number(rt: HostRuntime) -> Result<(), Fail> {
+    let alloc = rt.alloc();
+    let mut formula = Formula::True;
+    for _ in 0..70 {
+        formula = Formula::Iff(Box::new(alloc, formula)?, Box::new(alloc, Formula::True)?);
+    }
+    assert_eq!(rt; node_count(&formula), u64::MAX);
+    Ok(())
+}
+
+#[test]
+fn names_are_found_where_they_were_added(rt: HostRuntime) -> Result<(), Fail> {
+    let mut names = Names::new(rt.alloc());
+    assert_eq!(rt; names.add(b"y", NameKind::Signal, 0)?, 0);
+    assert_eq!(rt; names.add(b"p", NameKind::Predicate, 1)?, 1);
+    let copy = names.copy()?;
+    assert_eq!(rt; copy.count(), 2);
+    assert_eq!(rt; copy.find(b"p"), Some(1));
+    assert_eq!(rt; copy.find(b"q"), None);
+    Ok(())
+}
+
+/// `[left <- right]`
+fn update(left: u32, right: u32) -> Formula
+    ensures { formula_tree result ≡ update left (signal right) }
+{
+    Formula::Update(left, Term::Signal(right))
+}
+
+/// `p` of a signal.
+fn probe_of(alloc: Global, of: u32) -> Result<Probe, AllocError>
+    ensures { IfOk result (λ probe. probe_tree probe
+        ≡ record { predicate = 2; arguments = more_terms (signal of) no_terms }) }
+{
+    Ok(Probe {
+        predicate: 2,
+        arguments: TermList::More(
+            Box::new(alloc, Term::Signal(of))?,
+            Box::new(alloc, TermList::Empty)?,
+        ),
+    })
+}
+
+/// Two members.
+fn both(alloc: Global, left: Formula, right: Formula) -> Result<FormulaList, AllocError>
+    ensures { IfOk result (λ list. formula_trees list
+        ≡ more_formulas (formula_tree left) (more_formulas (formula_tree right) no_formulas)) }
+{
+    let rest = FormulaList::More(
+        Box::new(alloc, right)?,
+        Box::new(alloc, FormulaList::Empty)?,
+    );
+    Ok(FormulaList::More(Box::new(alloc, left)?, Box::new(alloc, rest)?))
+}
+
+/// `y`, `x` and `p`.
+fn names_of_example(alloc: Global) -> Result<Names, AllocError>
+    ensures { IfOk result (λ names. names
+        ≡ (record { text = codes "y"; kind = NameKind.Signal; arity = 0 })
+        ∷ (record { text = codes "x"; kind = NameKind.Signal; arity = 0 })
+        ∷ (record { text = codes "p"; kind = NameKind.Predicate; arity = 1 }) ∷ []) }
+{
+    let mut names = Names::new(alloc);
+    names.add(b"y", NameKind::Signal, 0)?;
+    names.add(b"x", NameKind::Signal, 0)?;
+    names.add(b"p", NameKind::Predicate, 1)?;
+    Ok(names)
+}
+
+/// `always guarantee { p x; [y <- y] || [y <- x]; }`
+fn example(alloc: Global) -> Result<Spec, AllocError> {
+    let choice = both(alloc, update(0, 0), update(0, 1))?;
+    let always = both(
+        alloc,
+        Formula::Test(probe_of(alloc, 1)?),
+        Formula::Any(choice),
+    )?;
+    Ok(spec_of(names_of_example(alloc)?, always))
+}
+
+/// What is guaranteed always, and nothing else.
+fn spec_of(names: Names, guarantee_always: FormulaList) -> Spec
+    requires { IsTrue (formulas_fit names (formula_trees guarantee_always)) }
+{
+    Spec {
+        names,
+        assume_first: FormulaList::Empty,
+        assume_always: FormulaList::Empty,
+        guarantee_first: FormulaList::Empty,
+        guarantee_always,
+    }
+}
+
+#[test]
+fn signals_are_told_apart(rt: HostRuntime) -> Result<(), Fail> {
+    let lists = signals(rt.alloc(), &example(rt.alloc())?)?;
+    assert_eq!(rt; lists.inputs.as_slice(), [1].as_slice());
+    assert_eq!(rt; lists.cells.as_slice(), [0].as_slice());
+    assert_eq!(rt; lists.outputs.len(), 0);
+    Ok(())
+}
+
+#[test]
+fn choices_and_predicates_are_gathered(rt: HostRuntime) -> Result<(), Fail> {
+    let spec = example(rt.alloc())?;
+    assert_eq!(rt; choices(rt.alloc(), &spec, 0)?.len(), 2);
+    assert_eq!(rt; predicates(rt.alloc(), &spec)?.len(), 1);
+    Ok(())
+}
+
+#[test]
+fn the_whole_formula_is_made(rt: HostRuntime) -> Result<(), Fail> {
+    let spec = example(rt.alloc())?;
+    assert_eq!(rt; node_count(&whole(rt.alloc(), &spec)?), 10);
+    Ok(())
+}

@@ -1,0 +1,31 @@
+//! Windows: assumptions that hold in every run.
+
+use crate::term::{Probe, Term};
+use sequence::Sequence;
+
+/// An update that a window lists.
+#[derive(Debug, Drop)]
+pub struct Listed {
+    /// The cell that is updated, by its number.
+    pub signal: u32,
+    /// The term that it takes.
+    pub term: Term,
+    /// At which step of the window, from 0.
+    pub offset: u32,
+}
+
+/// A window of a few steps: where the listed updates hold at their offsets, the left probe at its
+/// step is as the right one at the last step.
+#[derive(Debug, Drop)]
+pub struct Window {
+    /// The left probe.
+    pub left: Probe,
+    /// The left probe's step, from 0.
+    pub left_at: u32,
+    /// The right probe, which stands at the last step.
+    pub right: Probe,
+    /// The number of the last step.
+    pub length: u32,
+    /// The updates, by rising offset.
+    pub updates: Sequence<Listed>,
+}
