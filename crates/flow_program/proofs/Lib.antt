@@ -1,0 +1,7 @@
+mod Examples
+pub mod Held
+pub mod Steps
+pub mod Numbers
+pub mod Lines
+pub mod OneLine
+pub mod OneProgram

@@ -1,0 +1,65 @@
+-- What every program keeps.
+use Rattle.std.specs.Prelude.{◌≡◌, ℕ, ◌<◌, Bool, true, false, ◌&&◌, ◌||◌, ◌==◌, nat_le, nat_lt, List, [], ◌∷◌, length, Some, slice_get, IsTrue}
+use Rattle.std.specs.List.{list_all, list_any}
+use Rattle.tsl_terms.specs.TermTree.{TermTree, signal, apply, TermTrees, no_terms, more_terms, ProbeTree}
+use Rattle.tsl_terms.specs.WindowTree.{WindowTree, ListedTree}
+use Rattle.flow_program.specs.NodeTree.{NodeTree, branch, assign}
+
+-- whether a number stands in a list
+abbrev pub is_among : List ℕ → ℕ → Bool
+is_among ids s = list_any (λ r. r == s) ids
+
+-- no number stands twice
+abbrev pub IsDistinct : List ℕ → Type 0
+IsDistinct ids = (i j s : ℕ) → slice_get ids i ≡ Some s → slice_get ids j ≡ Some s → i ≡ j
+
+-- a term reads these signals only
+abbrev mutual
+  pub reads_only : List ℕ → TermTree → Bool
+  reads_only ids (signal s) = is_among ids s
+  reads_only ids (apply f arguments) = read_only ids arguments
+
+  pub read_only : List ℕ → TermTrees → Bool
+  read_only ids no_terms = true
+  read_only ids (more_terms t ts) = reads_only ids t && read_only ids ts
+
+-- a test names smaller nodes, and reads these signals only
+abbrev pub BranchesFit : List ℕ → List NodeTree → Type 0
+BranchesFit readable nodes = (i a b : ℕ) (t : ProbeTree) → slice_get nodes i ≡ Some (branch t a b) →
+    (a < i) × (b < i) × IsTrue (read_only readable t.arguments)
+
+-- an assignment has so many terms, which read these signals only, and goes to one of so many states
+abbrev pub AssignmentsFit : List ℕ → ℕ → ℕ → List NodeTree → Type 0
+AssignmentsFit readable slots states nodes = (i go : ℕ) (ts : List TermTree) → slice_get nodes i ≡ Some (assign ts go) →
+    (length ts ≡ slots) × (go < states) × IsTrue (list_all (reads_only readable) ts)
+
+-- there is a state, and each names one of so many nodes
+abbrev pub StatesFit : List ℕ → ℕ → Type 0
+StatesFit states nodes = (0 < length states) × ((s i : ℕ) → slice_get states s ≡ Some i → i < nodes)
+
+-- whether updates rise strictly by their offset, and at one offset by the cell's place among the cells
+abbrev pub stands_before : List ℕ → ℕ → ℕ → Bool
+stands_before [] r s = false
+stands_before (c ∷ cs) r s = ((c == r) && is_among cs s) || stands_before cs r s
+
+abbrev pub comes_before : List ℕ → ListedTree → ListedTree → Bool
+comes_before cells u v =
+    nat_lt u.offset v.offset || ((u.offset == v.offset) && stands_before cells u.signal v.signal)
+
+abbrev pub rises : List ℕ → List ListedTree → Bool
+rises cells [] = true
+rises cells (u ∷ []) = true
+rises cells (u ∷ v ∷ us) = comes_before cells u v && rises cells (v ∷ us)
+
+-- the longest window
+abbrev pub longest : ℕ
+longest = 3
+
+-- The length is at most 3, the left probe stands within it, and the listed updates are of cells, at
+-- offsets below the length, in rising order. Probes and terms read these signals only.
+abbrev pub window_fits : List ℕ → List ℕ → WindowTree → Bool
+window_fits readable cells w =
+    ((nat_le w.length longest && nat_le w.left_at w.length)
+    && (list_all (λ u. nat_lt u.offset w.length && is_among cells u.signal) w.updates && rises cells w.updates))
+    && ((read_only readable w.left.arguments && read_only readable w.right.arguments)
+    && list_all (λ u. reads_only readable u.term) w.updates)

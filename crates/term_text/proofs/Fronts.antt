@@ -1,0 +1,86 @@
+-- Where a run of bytes ends: facts about bytes and lists alone.
+use Rattle.std.proofs.Common.{◌≡◌, ℕ, ◌+◌, ◌<◌, ◌≤◌, Bool, true, false, ◌&&◌, ◌||◌, List, [], ◌∷◌, ◌++◌, IsTrue, eqb, leb, refl, sym, ap, ◌∙◌, arith, ⊎_elim}
+use Rattle.std.specs.Char.{is_ascii_digit, is_ascii_alphabetic, is_ascii_alphanumeric}
+use Rattle.std.specs.Int.{is_in_range}
+use Rattle.std.specs.List.{list_all}
+use Rattle.std.proofs.lemmas.Bool.{and_parts, and_from, or_cases, or_left, or_right, leb-true, eqb-true, false≢true}
+use Rattle.tsl_terms.specs.Name.{begins_name, continues_name, is_name_text}
+
+-- whether a text begins with a byte that passes a test
+abbrev pub begins : (ℕ → Bool) → List ℕ → Bool
+begins test [] = false
+begins test (c ∷ cs) = test c
+
+-- texts that begin with other bytes are not the same
+pub other_front : (test : ℕ → Bool) (u v : List ℕ) → begins test u ≡ false → begins test v ≡ true → u ≡ v → ⊥
+other_front test u v h k e = false≢true (sym h ∙ ap (begins test) e ∙ k)
+
+pub tails : (a b : ℕ) (u v : List ℕ) → a ∷ u ≡ b ∷ v → u ≡ v
+tails a b u v e = cc
+
+pub heads : (a b : ℕ) (u v : List ℕ) → a ∷ u ≡ b ∷ v → a ≡ b
+heads a b u v e = cc
+
+abbrev pub is_space : ℕ → Bool
+is_space c = eqb c 32
+
+abbrev pub is_round : ℕ → Bool
+is_round c = eqb c 40
+
+-- a run of bytes that pass a test, up to where one follows that does not, is the only one
+pub one_run : (test : ℕ → Bool) (a b u v : List ℕ) → IsTrue (list_all test a) → IsTrue (list_all test b) → begins test u ≡ false → begins test v ≡ false → a ++ u ≡ b ++ v → (a ≡ b) × (u ≡ v)
+one_run test [] [] u v p q h k e = (refl, e)
+one_run test [] (y ∷ b) u v p q h k e =
+    let passes = (and_parts (test y) (list_all test b) q).0 in
+    let begun : begins test u ≡ test y = ap (begins test) e in
+    absurd (cc (passes, begun, h))
+one_run test (x ∷ a) [] u v p q h k e =
+    let passes = (and_parts (test x) (list_all test a) p).0 in
+    let begun : test x ≡ begins test v = ap (begins test) e in
+    absurd (cc (passes, begun, k))
+one_run test (x ∷ a) (y ∷ b) u v p q h k e =
+    let more = one_run test a b u v (and_parts (test x) (list_all test a) p).1 (and_parts (test y) (list_all test b) q).1 h k (cc) in
+    let first : x ≡ y = cc in
+    let fronts : a ≡ b = more.0 in
+    (cc, more.1)
+
+-- a name begins above the digits
+name_above : (c : ℕ) → IsTrue (begins_name c) → 65 ≤ c
+name_above c h =
+    ⊎_elim
+    (λ letter.
+    ⊎_elim
+    (λ upper. leb-true 65 c (and_parts (leb 65 c) (leb c 90) upper).0)
+    (λ lower. omega (arith, leb-true 97 c (and_parts (leb 97 c) (leb c 122) lower).0))
+    (or_cases (is_in_range 65 90 c) (is_in_range 97 122 c) letter))
+    (λ underscore. omega (arith, eqb-true c 95 underscore))
+    (or_cases (is_ascii_alphabetic c) (eqb c 95) h)
+
+pub no_digit_begins : (c : ℕ) → IsTrue (begins_name c) → IsTrue (is_ascii_digit c) → ⊥
+no_digit_begins c h d = omega (arith, name_above c h, leb-true c 57 (and_parts (leb 48 c) (leb c 57) d).1)
+
+pub no_bracket_begins : (c : ℕ) → IsTrue (begins_name c) → 40 ≡ c → ⊥
+no_bracket_begins c h e = omega (arith, name_above c h)
+
+begun_continues : (c : ℕ) → IsTrue (begins_name c) → IsTrue (continues_name c)
+begun_continues c h =
+    ⊎_elim
+    (λ letter.
+    or_left (is_ascii_alphanumeric c) (eqb c 95 || eqb c 39)
+    (⊎_elim
+    (λ upper. or_left (is_in_range 48 57 c || is_in_range 65 90 c) (is_in_range 97 122 c) (or_right (is_in_range 48 57 c) (is_in_range 65 90 c) upper))
+    (λ lower. or_right (is_in_range 48 57 c || is_in_range 65 90 c) (is_in_range 97 122 c) lower)
+    (or_cases (is_in_range 65 90 c) (is_in_range 97 122 c) letter)))
+    (λ underscore. or_right (is_ascii_alphanumeric c) (eqb c 95 || eqb c 39) (or_left (eqb c 95) (eqb c 39) underscore))
+    (or_cases (is_ascii_alphabetic c) (eqb c 95) h)
+
+-- a name is a run of its letters, and begins with one that begins a name
+pub name_run : (text : List ℕ) → IsTrue (is_name_text text) → IsTrue (list_all continues_name text)
+name_run [] h = refl
+name_run (c ∷ cs) h =
+    let parts = and_parts (begins_name c) (list_all continues_name cs) h in
+    and_from (continues_name c) (list_all continues_name cs) (begun_continues c parts.0) parts.1
+
+pub name_first : (text : List ℕ) → IsTrue (is_name_text text) → (c : ℕ) × (cs : List ℕ) × (text ≡ c ∷ cs) × IsTrue (begins_name c)
+name_first [] h = absurd (cc)
+name_first (c ∷ cs) h = (c, cs, refl, (and_parts (begins_name c) (list_all continues_name cs) h).0)
