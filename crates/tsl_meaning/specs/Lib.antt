@@ -1,0 +1,5 @@
+pub mod Interpretation
+pub mod Lasso
+pub mod LoopFits
+pub mod Promise
+pub mod Run

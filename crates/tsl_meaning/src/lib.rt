@@ -1,0 +1,6 @@
+//! What specifications and programs mean.
+#![tactic(auto)]
+
+mod run;
+
+pub use run::{InputLoop, LoopRun, Position};
