@@ -1,0 +1,15 @@
+pub mod FixedCode
+pub mod FixedExamples
+pub mod FixedLaws
+pub mod FixedLists
+pub mod FixedSteps
+pub mod FixedTerms
+pub mod FormFits
+pub mod FormLaws
+pub mod FormLemmas
+pub mod FormNames
+pub mod FormOne
+pub mod FormSteps
+pub mod FormWords
+pub mod SynthLaws
+pub mod TopLaws

@@ -1,0 +1,49 @@
+-- Specifications of fixed updates, and the program of one node that each of them has.
+use Rattle.std.specs.Prelude.{◌≡◌, ℕ, Bool, true, false, ◌&&◌, ◌||◌, ◌==◌, List, [], ◌∷◌, ◌++◌, take, flat_map, Some, slice_get, Contains, IsTrue}
+use Rattle.std.specs.List.{list_all}
+use Rattle.std.specs.Str.{bytes_eq}
+use Rattle.tsl_terms.specs.declared.names.NameKind.TheVariants.{Signal, Function, Predicate}
+use Rattle.tsl_terms.specs.Name.{Name, same_kind, is_usable, question}
+use Rattle.tsl_terms.specs.TermTree.{TermTree}
+use Rattle.tsl_terms.specs.FormulaTree.{FormulaTree, update}
+use Rattle.tsl_terms.specs.SpecTree.{SpecTree, whole_formula}
+use Rattle.tsl_terms.specs.Signals.{inputs_of, cells_of, outputs_of, terms_for}
+use Rattle.flow_program.specs.NodeTree.{assign}
+use Rattle.flow_program.specs.ProgramTree.{ProgramTree}
+
+-- a name may be written: a usable one, where a signal takes no argument, or the test of a Boolean signal
+abbrev pub name_fits : Name → Bool
+name_fits n =
+    (is_usable n.text && ((same_kind n.kind Function || same_kind n.kind Predicate) || (same_kind n.kind Signal && (n.arity == 0))))
+    || ((bytes_eq n.text question && same_kind n.kind Predicate) && (n.arity == 1))
+
+abbrev pub NamesFit : List Name → Type 0
+NamesFit names = IsTrue (list_all name_fits names)
+
+abbrev pub is_update : FormulaTree → Bool
+is_update (update s t) = true
+is_update _ = false
+
+-- Every formula is an update that is always guaranteed, and no signal stands left of two different updates.
+pub record IsFixed (spec : SpecTree) : Type 0 where
+  pub nothing_assumed_first : spec.assume_first ≡ []
+  pub nothing_assumed_always : spec.assume_always ≡ []
+  pub nothing_guaranteed_first : spec.guarantee_first ≡ []
+  pub updates : IsTrue (list_all is_update spec.guarantee_always)
+  pub one_term : (s : ℕ) (t u : TermTree) →
+      Contains spec.guarantee_always (update s t) → Contains spec.guarantee_always (update s u) → t ≡ u
+
+-- the first term that a signal is to take, if there is one
+abbrev pub first_term : SpecTree → ℕ → List TermTree
+first_term spec s = take 1 (terms_for s (whole_formula spec))
+
+-- One state, and one node that assigns to each cell and then each output the term that it is to take.
+abbrev pub fixed_program : SpecTree → ProgramTree
+fixed_program spec = record {
+  inputs = inputs_of spec;
+  cells = cells_of spec;
+  outputs = outputs_of spec;
+  windows = [];
+  nodes = assign (flat_map (first_term spec) (cells_of spec ++ outputs_of spec)) 0 ∷ [];
+  states = 0 ∷ [];
+}

@@ -1,0 +1,10 @@
+pub mod Causes
+pub mod Fixed
+pub mod FixedSlots
+pub mod Form
+pub mod Outcome
+pub mod PairView
+pub mod Reading
+pub mod ReplyView
+pub mod Statuses
+pub mod Words

@@ -1,0 +1,288 @@
+//! Runs of the top call over memory.
+
+use crate::{Status, tsl};
+use std::alloc::{AllocError, Global};
+use std::test::Fail;
+use tsl_io::{MemorySink, MemorySource};
+
+const COPY: &[u8] = b"always guarantee { [y <- x]; }";
+
+const COPIED: &[u8] =
+    b"tslprogram 1\ninput x\noutput y\nnode 0 set [y <- x] go 0\nstate 0 at 0\nend\n";
+
+const USAGE: &[u8] = b"usage: tsl synth|check|run|prove|recheck|gen\n";
+
+/// What a run left behind.
+#[derive(Drop)]
+struct Ran {
+    status: Status,
+    out: Vec<u8>,
+    err: Vec<u8>,
+}
+
+/// How a device behaves: the most bytes of a call, at least 1, and the ordinals of the calls that fail.
+#[derive(Clone, Copy)]
+struct Device {
+    piece: usize,
+    fails_at: u64,
+}
+
+/// Takes or gives all bytes at once, and never fails.
+const PLAIN: Device = Device {
+    piece: 4_000_000,
+    fails_at: 0,
+};
+
+fn fails(alloc: Global, device: Device) -> Result<Vec<u64>, AllocError> {
+    let mut fails = Vec::new(alloc);
+    if device.fails_at > 0 {
+        fails.push(device.fails_at)?;
+    }
+    Ok(fails)
+}
+
+fn sink(alloc: Global, device: Device) -> Result<MemorySink, AllocError> {
+    MemorySink::new(alloc, 100_000, device.piece.max(1), fails(alloc, device)?)
+}
+
+fn run(
+    alloc: Global,
+    words: &[&str],
+    text: &[u8],
+    from: Device,
+    to: Device,
+    errors_to: Device,
+) -> Result<Ran, AllocError> {
+    let mut given = Vec::new(alloc);
+    for word in words {
+        given.push(String::from_str(alloc, word)?)?;
+    }
+    let bytes = Vec::from_slice(alloc, text)?;
+    let mut source = MemorySource::new(bytes, from.piece.max(1), fails(alloc, from)?);
+    let mut out = sink(alloc, to)?;
+    let mut err = sink(alloc, errors_to)?;
+    let status = tsl(alloc, &given, &mut source, &mut out, &mut err);
+    Ok(Ran {
+        status,
+        out: Vec::from_slice(alloc, out.bytes())?,
+        err: Vec::from_slice(alloc, err.bytes())?,
+    })
+}
+
+#[test]
+fn each_status_has_its_texts(rt: HostRuntime) -> Result<(), Fail> {
+    let synth: &[&str] = &["synth"];
+    let table: [(&[&str], &[u8], Status, &[u8], &[u8]); 16] = [
+        (&["synth", "--states", "1"], COPY, Status::Done, COPIED, b""),
+        (synth, COPY, Status::Done, COPIED, b""),
+        (
+            synth,
+            b"always guarantee {}",
+            Status::Done,
+            b"tslprogram 1\nnode 0 set go 0\nstate 0 at 0\nend\n",
+            b"",
+        ),
+        (
+            synth,
+            b"\talways\r\nguarantee{[y<-x];[z<-y];[w <- z] ; [v <- v];[ y <- x ];}\n",
+            Status::Done,
+            b"tslprogram 1\ninput x\ncell y\ncell z\ncell v\noutput w\nnode 0 set [y <- x] [z <- y] [v <- v] [w <- z] go 0\nstate 0 at 0\nend\n",
+            b"",
+        ),
+        (&[], COPY, Status::Usage, b"", USAGE),
+        (&["frob"], COPY, Status::Usage, b"", USAGE),
+        (&["synth", "--states", "9"], COPY, Status::Usage, b"", USAGE),
+        (&["synth", "--states"], COPY, Status::Usage, b"", USAGE),
+        (synth, b"", Status::Reading, b"", b"fault unbuilt\n"),
+        (
+            synth,
+            b"guarantee { a; }",
+            Status::Reading,
+            b"",
+            b"fault unbuilt\n",
+        ),
+        (
+            synth,
+            b"always guarantee { [y <- x]; [y <- z]; }",
+            Status::Reading,
+            b"",
+            b"fault unbuilt\n",
+        ),
+        (
+            synth,
+            b"always guarantee { [X <- x]; }",
+            Status::Reading,
+            b"",
+            b"fault unbuilt\n",
+        ),
+        (
+            synth,
+            b"always guarantee { [y <- x] }",
+            Status::Reading,
+            b"",
+            b"fault unbuilt\n",
+        ),
+        (
+            synth,
+            b"always guarantee { [y <- x]; } // copies",
+            Status::Reading,
+            b"",
+            b"fault unbuilt\n",
+        ),
+        (
+            synth,
+            b"always guarantee { [y <- 7]; }",
+            Status::Reading,
+            b"",
+            b"fault unbuilt\n",
+        ),
+        (
+            synth,
+            b"alwaysguarantee { [y <- x]; }",
+            Status::Reading,
+            b"",
+            b"fault unbuilt\n",
+        ),
+    ];
+    for (words, text, status, out, err) in table {
+        let ran = run(rt.alloc(), words, text, PLAIN, PLAIN, PLAIN)?;
+        assert_eq!(rt; ran.status, status);
+        assert_eq!(rt; ran.out.as_slice(), out);
+        assert_eq!(rt; ran.err.as_slice(), err);
+    }
+    Ok(())
+}
+
+/// So many spaces, in which no specification stands.
+fn spaces(alloc: Global, count: usize) -> Result<Vec<u8>, AllocError> {
+    vec![in alloc; b' '; count]
+}
+
+#[test]
+fn a_text_of_the_limit_is_read_and_a_longer_one_is_large(rt: HostRuntime) -> Result<(), Fail> {
+    let alloc = rt.alloc();
+    let ran = run(
+        alloc,
+        &["synth"],
+        &spaces(alloc, 1_048_576)?,
+        PLAIN,
+        PLAIN,
+        PLAIN,
+    )?;
+    assert_eq!(rt; ran.status, Status::Reading);
+    assert_eq!(rt; ran.err.as_slice(), b"fault unbuilt\n".as_slice());
+    let ran = run(
+        alloc,
+        &["synth"],
+        &spaces(alloc, 1_048_577)?,
+        PLAIN,
+        PLAIN,
+        PLAIN,
+    )?;
+    assert_eq!(rt; ran.status, Status::Large);
+    assert_eq!(rt; ran.out.is_empty(), true);
+    assert_eq!(rt; ran.err.as_slice(), b"large text 1048576\n".as_slice());
+    Ok(())
+}
+
+#[test]
+fn a_sink_that_fails_at_any_call_keeps_what_came_before(rt: HostRuntime) -> Result<(), Fail> {
+    let alloc = rt.alloc();
+    assert_eq!(rt; COPIED.len(), 72);
+    // One byte a call: the writes are the calls 1 to 72, and the flush is the last.
+    for fails_at in 1..=73u64 {
+        let to = Device { piece: 1, fails_at };
+        let ran = run(alloc, &["synth"], COPY, PLAIN, to, PLAIN)?;
+        assert_eq!(rt; ran.status, Status::WriteFault);
+        assert_eq!(rt; ran.out.len() as u64, fails_at - 1);
+        assert_eq!(rt; COPIED.starts_with(&ran.out), true);
+        assert_eq!(rt; ran.err.is_empty(), true);
+    }
+    let to = Device {
+        piece: 1,
+        fails_at: 3,
+    };
+    let ran = run(alloc, &["synth"], COPY, PLAIN, to, PLAIN)?;
+    assert_eq!(rt; ran.out.as_slice(), b"ts".as_slice());
+    // All bytes at once: the second call is the flush.
+    let to = Device {
+        piece: 100,
+        fails_at: 2,
+    };
+    let ran = run(alloc, &["synth"], COPY, PLAIN, to, PLAIN)?;
+    assert_eq!(rt; ran.status, Status::WriteFault);
+    assert_eq!(rt; ran.out.as_slice(), COPIED);
+    let to = Device {
+        piece: 7,
+        fails_at: 2,
+    };
+    let ran = run(alloc, &["frob"], COPY, PLAIN, PLAIN, to)?;
+    assert_eq!(rt; ran.status, Status::WriteFault);
+    assert_eq!(rt; ran.err.as_slice(), b"usage: ".as_slice());
+    assert_eq!(rt; ran.out.is_empty(), true);
+    Ok(())
+}
+
+#[test]
+fn a_source_that_fails_at_any_call_is_a_read_fault(rt: HostRuntime) -> Result<(), Fail> {
+    let alloc = rt.alloc();
+    assert_eq!(rt; COPY.len(), 30);
+    // One byte a call: the text takes the calls 1 to 30, and the end the last.
+    for fails_at in 1..=31u64 {
+        let from = Device { piece: 1, fails_at };
+        let ran = run(alloc, &["synth"], COPY, from, PLAIN, PLAIN)?;
+        assert_eq!(rt; ran.status, Status::ReadFault);
+        assert_eq!(rt; ran.out.is_empty(), true);
+        assert_eq!(rt; ran.err.as_slice(), b"fault read\n".as_slice());
+    }
+    let from = Device {
+        piece: 1,
+        fails_at: 32,
+    };
+    let ran = run(alloc, &["synth"], COPY, from, PLAIN, PLAIN)?;
+    assert_eq!(rt; ran.status, Status::Done);
+    // Words that are refused leave the source alone.
+    let from = Device {
+        piece: 1,
+        fails_at: 1,
+    };
+    let ran = run(alloc, &["frob"], COPY, from, PLAIN, PLAIN)?;
+    assert_eq!(rt; ran.status, Status::Usage);
+    Ok(())
+}
+
+/// A thousand updates over five hundred signals: each but the first takes the one before it, twice.
+fn chain(alloc: Global) -> Result<Vec<u8>, AllocError> {
+    let mut text = Vec::from_slice(alloc, b"always guarantee {")?;
+    for turn in 0..1000u32 {
+        let signal = turn % 500;
+        let update = format!(in alloc; " [s{} <- s{}];", signal, signal.saturating_sub(1))?;
+        text.extend_from_slice(update.as_bytes())?;
+    }
+    text.extend_from_slice(b" }")?;
+    Ok(text)
+}
+
+/// The program of the chain: all but the last signal are read, and so cells.
+fn chained(alloc: Global) -> Result<Vec<u8>, AllocError> {
+    let mut text = Vec::from_slice(alloc, b"tslprogram 1\n")?;
+    for signal in 0..499u32 {
+        text.extend_from_slice(format!(in alloc; "cell s{}\n", signal)?.as_bytes())?;
+    }
+    text.extend_from_slice(b"output s499\nnode 0 set")?;
+    for signal in 0..500u32 {
+        let update = format!(in alloc; " [s{} <- s{}]", signal, signal.saturating_sub(1))?;
+        text.extend_from_slice(update.as_bytes())?;
+    }
+    text.extend_from_slice(b" go 0\nstate 0 at 0\nend\n")?;
+    Ok(text)
+}
+
+#[test]
+fn a_thousand_updates_over_five_hundred_signals(rt: HostRuntime) -> Result<(), Fail> {
+    let alloc = rt.alloc();
+    let ran = run(alloc, &["synth"], &chain(alloc)?, PLAIN, PLAIN, PLAIN)?;
+    assert_eq!(rt; ran.status, Status::Done);
+    assert_eq!(rt; ran.out.as_slice(), chained(alloc)?.as_slice());
+    Ok(())
+}
