@@ -1,0 +1,95 @@
+//! Clauses: strictly increasing lists of literals.
+
+ghost use Rattle.std.specs.Prelude.{◌≡◌, ◌↔◌, IfOk, IsTrue};
+ghost use Rattle.clause_core.specs.Clauses.{IsIncreasing, IsOver, in_order, is_contained, has_pair};
+
+use crate::literals::Literal;
+use sequence::NoMemory;
+use std::alloc::Global;
+use std::marker::Model;
+
+/// A clause: literals, at least one of which is to be true. They rise strictly by their numbers.
+#[derive(Debug, Drop)]
+pub struct Clause {
+    literals: Vec<Literal>,
+}
+
+impl Model for Clause {
+    ghost use Rattle.std.specs.Prelude.{List};
+    ghost use Rattle.clause_core.specs.Literals.{Lit};
+    ghost use Rattle.clause_core.specs.Clauses.{IsIncreasing};
+
+    ghost Value = { List Lit };
+
+    ghost view = { λ clause. clause.literals.items };
+
+    ghost invariant = { λ clause. IsIncreasing clause.literals.items };
+}
+
+impl Clause {
+    /// The literals, by rising numbers.
+    pub fn literals(&self) -> &[Literal]
+        ensures value { result.now ≡ self.now }
+        ensures increasing { IsIncreasing self.now }
+    {
+        self.literals.as_slice()
+    }
+
+    /// Whether its variables are at most this one.
+    pub fn is_over(&self, variables: u32) -> bool
+        ensures { IsTrue result ↔ IsOver variables self.now }
+    {
+        self.literals
+            .iter()
+            .all(|literal| literal.variable() <= variables)
+    }
+}
+
+/// The clause of these literals: by rising numbers, each once. An `Err` says that memory ran out.
+pub fn clause_of(alloc: Global, literals: &[Literal]) -> Result<Clause, NoMemory>
+    ensures { IfOk result (λ clause. clause ≡ in_order literals.now) }
+{
+    let mut literals = literals.to_vec(alloc)?;
+    literals.sort_unstable();
+    literals.dedup();
+    Ok(Clause { literals })
+}
+
+/// Whether each literal of the small clause is in the large one.
+pub fn contains(small: &Clause, large: &Clause) -> bool
+    ensures { result ≡ is_contained small.now large.now }
+{
+    let mut wanted = small.literals();
+    let mut offered = large.literals();
+    while let Some((first, later)) = wanted.split_first() {
+        let Some((found, rest)) = offered.split_first() else {
+            return false;
+        };
+        if first < found {
+            return false;
+        }
+        if first == found {
+            wanted = later;
+        }
+        offered = rest;
+    }
+    true
+}
+
+/// Whether the clause has a literal and its negation.
+pub fn is_tautology(clause: &Clause) -> bool
+    ensures { result ≡ has_pair clause.now }
+{
+    let mut rest = clause.literals();
+    while let Some((first, after)) = rest.split_first() {
+        let Some((last, before)) = rest.split_last() else {
+            return false;
+        };
+        let negative = first.negated();
+        if negative == *last {
+            return true;
+        }
+        rest = if negative < *last { before } else { after };
+    }
+    false
+}

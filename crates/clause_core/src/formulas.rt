@@ -1,0 +1,37 @@
+//! Formulas in conjunctive normal form, and assignments.
+
+ghost use Rattle.std.specs.Prelude.{◌≡◌, ◌<◌, ◌^◌, All, length};
+ghost use Rattle.clause_core.specs.Clauses.{IsOver, assignment_of, meets};
+
+use crate::clauses::Clause;
+use sequence::Sequence;
+
+/// A formula in conjunctive normal form: clauses over the variables from 1 to a number.
+#[derive(Debug, Drop)]
+pub struct Cnf {
+    /// How many variables there are.
+    pub variables: u32,
+    /// The clauses, in order.
+    pub clauses: Sequence<Clause>,
+    pub ghost few: { variables < 2 ^ 31 },
+    pub ghost over: { All (IsOver variables) clauses },
+}
+
+/// A truth for each variable, that of variable v at place v - 1.
+#[derive(Debug, Drop)]
+pub struct Assignment {
+    /// The truths, in the order of the variables.
+    pub truths: Sequence<bool>,
+}
+
+/// Whether the assignment meets the clause: it makes one of its literals true.
+pub fn meets(assignment: &Assignment, clause: &Clause) -> bool
+    requires { IsOver (length assignment.now.truths) clause.now }
+    ensures { result ≡ meets (assignment_of assignment.now.truths) clause.now }
+{
+    let truths = assignment.truths.as_slice();
+    clause
+        .literals()
+        .iter()
+        .any(|literal| truths[literal.index()] == literal.is_positive())
+}
