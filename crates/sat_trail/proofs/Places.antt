@@ -1,0 +1,256 @@
+-- Entries by their places and by their variables.
+use Rattle.std.proofs.Common.{◌≡◌, ℕ, zero, suc, ◌+◌, ◌<◌, ◌≤◌, Bool, true, false, not, cond, ◌||◌, List, [], ◌∷◌, ◌++◌, length, set, map, take, drop, get_or, Option, Some, None, slice_get, sym, ap, ◌∙◌, subst, refl, arith, eqb, inl, inr, ◌⊎◌}
+use Rattle.std.specs.List.{IsDistinct, AllByRecursion, list_any}
+use Rattle.std.proofs.lemmas.Bool.{true≢false, false≢true, or_cases, or_left, or_right, or_from, cases_Bool, cases_eq, cases_lt, eqb-true, eqb-false, eq-eqb, ne_eqb, false_from_ne_true, cond-true, cond-false}
+use Rattle.std.proofs.lemmas.Option.{none-some, same_Some, slice_get_within, slice_get-get_or, get_or_from_slice_get}
+use Rattle.std.proofs.lemmas.List.{length-take-le, get_or-set_same, get_or-set_other, length-set, take_at}
+use Rattle.std.proofs.lemmas.Map.Steps.{length-le_from_distinct_below}
+use Rattle.clause_core.specs.Literals.{Lit, negation, same, has}
+use Rattle.clause_core.proofs.Sets.{same_is, same_from}
+use Rattle.sat_trail.specs.declared.entries.Entry.{Entry}
+use Rattle.sat_trail.specs.Entries.{literals_of, place_from, place_of, value_of}
+use Rattle.sat_trail.specs.States.{IsTable}
+
+-- ---- lists by places
+
+pub split_at : {X : Type 0} (xs : List X) (k : ℕ) (x : X) → slice_get xs k ≡ Some x → xs ≡ take k xs ++ x ∷ drop (suc k) xs
+split_at [] k x h = absurd (none-some x h)
+split_at (y ∷ ys) zero x h = ap (λ z. z ∷ ys) (same_Some y x h)
+split_at (y ∷ ys) (suc k) x h = ap (λ zs. y ∷ zs) (split_at ys k x h)
+
+pub take_next : {X : Type 0} (xs : List X) (k : ℕ) (x : X) → slice_get xs k ≡ Some x → take (suc k) xs ≡ take k xs ++ x ∷ []
+take_next [] k x h = absurd (none-some x h)
+take_next (y ∷ ys) zero x h = ap (λ z. z ∷ []) (same_Some y x h)
+take_next (y ∷ ys) (suc k) x h = ap (λ zs. y ∷ zs) (take_next ys k x h)
+
+pub slice_get-front : {X : Type 0} (xs ys : List X) (k : ℕ) → k < length xs → slice_get (xs ++ ys) k ≡ slice_get xs k
+slice_get-front [] ys k h = absurd (omega arith)
+slice_get-front (x ∷ xs) ys zero h = refl
+slice_get-front (x ∷ xs) ys (suc k) h = slice_get-front xs ys k (omega arith)
+
+pub slice_get-behind : {X : Type 0} (xs : List X) (y : X) (ys : List X) → slice_get (xs ++ y ∷ ys) (length xs) ≡ Some y
+slice_get-behind [] y ys = refl
+slice_get-behind (x ∷ xs) y ys = slice_get-behind xs y ys
+
+pub slice_get_grown : {X : Type 0} (xs ys : List X) (k : ℕ) (x : X) → slice_get xs k ≡ Some x → slice_get (xs ++ ys) k ≡ Some x
+slice_get_grown xs ys k x h = slice_get-front xs ys k (slice_get_within xs k x h) ∙ h
+
+pub slice_get_push : {X : Type 0} (xs : List X) (y : X) (k : ℕ) (x : X) → slice_get (xs ++ y ∷ []) k ≡ Some x → ((k < length xs) × (slice_get xs k ≡ Some x)) ⊎ ((k ≡ length xs) × (y ≡ x))
+slice_get_push [] y zero x h = inr (refl, same_Some y x h)
+slice_get_push [] y (suc k) x h = absurd (none-some x h)
+slice_get_push (z ∷ xs) y zero x h = inl (omega arith, h)
+slice_get_push (z ∷ xs) y (suc k) x h =
+    elim (slice_get_push xs y k x h) [
+      | inl p ↦ inl (omega (arith, p.0), p.1)
+      | inr p ↦ inr (ap suc p.0, p.1)
+    ]
+
+pub slice_get-take : {X : Type 0} (n : ℕ) (xs : List X) (k : ℕ) (x : X) → slice_get (take n xs) k ≡ Some x → (k < n) × (slice_get xs k ≡ Some x)
+slice_get-take zero xs k x h = absurd (none-some x h)
+slice_get-take (suc n) [] k x h = absurd (none-some x h)
+slice_get-take (suc n) (y ∷ ys) zero x h = (omega arith, h)
+slice_get-take (suc n) (y ∷ ys) (suc k) x h = let r = slice_get-take n ys k x h in (omega (arith, r.0), r.1)
+
+pub slice_get_taken : {X : Type 0} (n : ℕ) (xs : List X) (k : ℕ) (x : X) → k < n → slice_get xs k ≡ Some x → slice_get (take n xs) k ≡ Some x
+slice_get_taken zero xs k x l h = absurd (omega arith)
+slice_get_taken (suc n) [] k x l h = h
+slice_get_taken (suc n) (y ∷ ys) zero x l h = h
+slice_get_taken (suc n) (y ∷ ys) (suc k) x l h = slice_get_taken n ys k x (omega arith) h
+
+pub slice_get_some : {X : Type 0} (xs : List X) (k : ℕ) → k < length xs → (x : X) × (slice_get xs k ≡ Some x)
+slice_get_some [] k h = absurd (omega arith)
+slice_get_some (x ∷ xs) zero h = (x, refl)
+slice_get_some (x ∷ xs) (suc k) h = slice_get_some xs k (omega arith)
+
+pub slice_get_one : {X : Type 0} (xs : List X) (k : ℕ) (x y : X) → slice_get xs k ≡ Some x → slice_get xs k ≡ Some y → x ≡ y
+slice_get_one xs k x y h i = same_Some x y (sym h ∙ i)
+
+-- ---- the place of a variable
+
+-- an entry of this variable stands at this place
+pub record Stands (entries : List Entry) (place index : ℕ) : Type 0 where
+  pub entry : Entry
+  pub there : slice_get entries place ≡ Some entry
+  pub is : entry.literal.index ≡ index
+
+pub place_found : (n : ℕ) (es : List Entry) (i p : ℕ) → place_from n es i ≡ Some p → (k : ℕ) × (n + k ≡ p) × Stands es k i
+place_found n [] i p h = absurd (none-some p h)
+place_found n (e ∷ es) i p h = by_test (λ t. place_found (suc n) es i p t) (eqb e.literal.index i) refl h
+  where
+    by_test : (place_from (suc n) es i ≡ Some p → (k : ℕ) × (suc n + k ≡ p) × Stands es k i) → (b : Bool) → eqb e.literal.index i ≡ b → cond b (Some n) (place_from (suc n) es i) ≡ Some p → (k : ℕ) × (n + k ≡ p) × Stands (e ∷ es) k i
+    by_test later true t h = let is : n ≡ p = same_Some n p h in (0, omega arith, record { entry = e; there = refl; is = eqb-true e.literal.index i t })
+    by_test later false t h = let r = later h in (suc r.0, omega (arith, r.1), record { entry = r.2.entry; there = r.2.there; is = r.2.is })
+
+pub place_from-after : (n : ℕ) (xs ys : List Entry) (i : ℕ) → place_from n xs i ≡ None → place_from n (xs ++ ys) i ≡ place_from (n + length xs) ys i
+place_from-after n [] ys i h = ap (λ m. place_from m ys i) (omega arith)
+place_from-after n (x ∷ xs) ys i h = by_test (place_from-after (suc n) xs ys i) (eqb x.literal.index i) h
+  where
+    by_test : (place_from (suc n) xs i ≡ None → place_from (suc n) (xs ++ ys) i ≡ place_from (suc n + length xs) ys i) → (b : Bool) → cond b (Some n) (place_from (suc n) xs i) ≡ None → cond b (Some n) (place_from (suc n) (xs ++ ys) i) ≡ place_from (n + suc (length xs)) ys i
+    by_test later true h = absurd (none-some n (sym h))
+    by_test later false h = later h ∙ ap (λ m. place_from m ys i) (omega arith)
+
+pub place_from-front : (n : ℕ) (xs ys : List Entry) (i p : ℕ) → place_from n xs i ≡ Some p → place_from n (xs ++ ys) i ≡ Some p
+place_from-front n [] ys i p h = absurd (none-some p h)
+place_from-front n (x ∷ xs) ys i p h = by_test (place_from-front (suc n) xs ys i p) (eqb x.literal.index i) h
+  where
+    by_test : (place_from (suc n) xs i ≡ Some p → place_from (suc n) (xs ++ ys) i ≡ Some p) → (b : Bool) → cond b (Some n) (place_from (suc n) xs i) ≡ Some p → cond b (Some n) (place_from (suc n) (xs ++ ys) i) ≡ Some p
+    by_test later true h = h
+    by_test later false h = later h
+
+pub place_here : (n : ℕ) (e : Entry) (es : List Entry) (i : ℕ) → e.literal.index ≡ i → place_from n (e ∷ es) i ≡ Some n
+place_here n e es i h = cond-true (eqb e.literal.index i) (Some n) (place_from (suc n) es i) (eq-eqb e.literal.index i h)
+
+pub place_elsewhere : (n : ℕ) (e : Entry) (es : List Entry) (i : ℕ) → (e.literal.index ≡ i → ⊥) → place_from n (e ∷ es) i ≡ place_from (suc n) es i
+place_elsewhere n e es i h = cond-false (eqb e.literal.index i) (Some n) (place_from (suc n) es i) (ne_eqb e.literal.index i h)
+
+-- no variable is set twice
+abbrev pub AreApart : List Entry → Type 0
+AreApart entries = (k : ℕ) (e : Entry) → slice_get entries k ≡ Some e → place_of (take k entries) e.literal.index ≡ None
+
+pub place_of_entry : (es : List Entry) (k : ℕ) (e : Entry) → place_of (take k es) e.literal.index ≡ None → slice_get es k ≡ Some e → place_of es e.literal.index ≡ Some k
+place_of_entry es k e unset at =
+    ap (λ (xs : List Entry). place_of xs e.literal.index) (split_at es k e at) ∙ (place_from-after 0 (take k es) (e ∷ drop (suc k) es) e.literal.index unset ∙ (place_here (0 + length (take k es)) e (drop (suc k) es) e.literal.index refl ∙ ap Some (omega (arith, length-take-le k es (omega (arith, slice_get_within es k e at))))))
+
+-- ---- the literals that are set
+
+pub has_entry : (es : List Entry) (l : Lit) → has (literals_of es) l ≡ true → (k : ℕ) × (e : Entry) × (slice_get es k ≡ Some e) × (e.literal ≡ l)
+has_entry [] l h = absurd (false≢true h)
+has_entry (e ∷ es) l h =
+    elim (or_cases (same e.literal l) (has (literals_of es) l) h) [
+      | inl t ↦ (0, e, refl, same_is e.literal l t)
+      | inr t ↦ (let r = has_entry es l t in (suc r.0, r.1, r.2, r.3))
+    ]
+
+pub entry_has : (es : List Entry) (k : ℕ) (e : Entry) (l : Lit) → slice_get es k ≡ Some e → e.literal ≡ l → has (literals_of es) l ≡ true
+entry_has [] k e l h is = absurd (none-some e h)
+entry_has (x ∷ es) zero e l h is = or_left (same x.literal l) (has (literals_of es) l) (same_from x.literal l (ap (λ (y : Entry). y.literal) (same_Some x e h) ∙ is))
+entry_has (x ∷ es) (suc k) e l h is = or_right (same x.literal l) (has (literals_of es) l) (entry_has es k e l h is)
+
+pub unset_has : (n : ℕ) (es : List Entry) (l : Lit) → place_from n es l.index ≡ None → has (literals_of es) l ≡ false
+unset_has n [] l h = refl
+unset_has n (e ∷ es) l h = by_test (unset_has (suc n) es l) (eqb e.literal.index l.index) refl h
+  where
+    by_test : (place_from (suc n) es l.index ≡ None → has (literals_of es) l ≡ false) → (b : Bool) → eqb e.literal.index l.index ≡ b → cond b (Some n) (place_from (suc n) es l.index) ≡ None → has (literals_of (e ∷ es)) l ≡ false
+    by_test later true t h = absurd (none-some n (sym h))
+    by_test later false t h = or_from (same e.literal l) (has (literals_of es) l) (false_from_ne_true (same e.literal l) (λ s. eqb-false e.literal.index l.index t (ap (λ (m : Lit). m.index) (same_is e.literal l s)))) (later h)
+
+-- two literals of one variable are equal, or the first is the negation of the second
+pub one_variable : (a b : Lit) → a.index ≡ b.index → (a ≡ b) ⊎ (a ≡ negation b)
+one_variable a b e = by_sign a.index b.index e a.positive b.positive
+  where
+    by_sign : (i j : ℕ) → i ≡ j → (p q : Bool) → (◌≡◌ {A = Lit} (record { index = i; positive = p }) (record { index = j; positive = q })) ⊎ (◌≡◌ {A = Lit} (record { index = i; positive = p }) (record { index = j; positive = not q }))
+    by_sign i j e true true = inl (ap (λ (k : ℕ). record { index = k; positive = true }) e)
+    by_sign i j e true false = inr (ap (λ (k : ℕ). record { index = k; positive = true }) e)
+    by_sign i j e false true = inr (ap (λ (k : ℕ). record { index = k; positive = false }) e)
+    by_sign i j e false false = inl (ap (λ (k : ℕ). record { index = k; positive = false }) e)
+
+-- a variable has one entry
+pub one_entry : (es : List Entry) → AreApart es → (j k : ℕ) (d e : Entry) → slice_get es j ≡ Some d → slice_get es k ≡ Some e → d.literal.index ≡ e.literal.index → (j ≡ k) × (d ≡ e)
+one_entry es apart j k d e at_j at_k i =
+    let j_is : j ≡ k = same_Some j k (sym (place_of_entry es j d (apart j d at_j) at_j) ∙ (ap (place_of es) i ∙ place_of_entry es k e (apart k e at_k) at_k)) in
+    (j_is, slice_get_one es j d e at_j (ap (slice_get es) j_is ∙ at_k))
+
+pub value_unset : (es : List Entry) (l : Lit) → place_of es l.index ≡ None → value_of es l ≡ None
+value_unset es l h =
+    cond-false (has (literals_of es) l) (Some true) (cond (has (literals_of es) (negation l)) (Some false) None) (unset_has 0 es l h) ∙ cond-false (has (literals_of es) (negation l)) (Some false) None (unset_has 0 es (negation l) h)
+
+pub value_set : (es : List Entry) → AreApart es → (k : ℕ) (e : Entry) (l : Lit) → slice_get es k ≡ Some e → e.literal.index ≡ l.index → value_of es l ≡ Some (same e.literal l)
+value_set es apart k e l at is =
+    elim (cases_Bool (same e.literal l)) [
+      | inl t ↦ cond-true (has (literals_of es) l) (Some true) (cond (has (literals_of es) (negation l)) (Some false) None) (entry_has es k e l at (same_is e.literal l t)) ∙ ap Some (sym t)
+      | inr f ↦ (let absent : has (literals_of es) l ≡ false = false_from_ne_true (has (literals_of es) l) (λ h. other f h) in
+          cond-false (has (literals_of es) l) (Some true) (cond (has (literals_of es) (negation l)) (Some false) None) absent ∙ (cond-true (has (literals_of es) (negation l)) (Some false) None (entry_has es k e (negation l) at (turned f)) ∙ ap Some (sym f)))
+    ]
+  where
+    other : same e.literal l ≡ false → has (literals_of es) l ≡ true → ⊥
+    other f h =
+        let r = has_entry es l h in
+        let one = one_entry es apart r.0 k r.1 e r.2 at (ap (λ (m : Lit). m.index) r.3 ∙ sym is) in
+        true≢false (sym (same_from e.literal l (ap (λ (d : Entry). d.literal) (sym one.1) ∙ r.3)) ∙ f)
+
+    turned : same e.literal l ≡ false → e.literal ≡ negation l
+    turned f = elim (one_variable e.literal l is) [
+      | inl t ↦ absurd (true≢false (sym (same_from e.literal l t) ∙ f))
+      | inr t ↦ t
+    ]
+
+-- ---- how many entries there are
+
+distinct_from : (n : ℕ) (es : List Entry) → ((k : ℕ) (e : Entry) → slice_get es k ≡ Some e → place_from n es e.literal.index ≡ Some (n + k)) → IsDistinct eqb (map (λ e. e.literal.index) es)
+unfolding IsDistinct
+distinct_from n [] h = tt
+distinct_from n (x ∷ es) h = (others es (λ k e at. later k e at), distinct_from (suc n) es (λ k e at. sym (place_elsewhere n x es e.literal.index (later k e at)) ∙ (h (suc k) e at ∙ ap Some (omega arith))))
+  where
+    later : (k : ℕ) (e : Entry) → slice_get es k ≡ Some e → x.literal.index ≡ e.literal.index → ⊥
+    later k e at is =
+        let p : n ≡ n + suc k = same_Some n (n + suc k) (sym (place_here n x es e.literal.index is) ∙ h (suc k) e at) in
+        omega arith
+
+    others : (ys : List Entry) → ((k : ℕ) (e : Entry) → slice_get ys k ≡ Some e → x.literal.index ≡ e.literal.index → ⊥) → AllByRecursion (λ y. eqb x.literal.index y ≡ false) (map (λ e. e.literal.index) ys)
+    others [] f = tt
+    others (y ∷ ys) f = (ne_eqb x.literal.index y.literal.index (f 0 y refl), others ys (λ k e at. f (suc k) e at))
+
+indices_below : (es : List Entry) (n : ℕ) → ((k : ℕ) (e : Entry) → slice_get es k ≡ Some e → e.literal.index < n) → (q : ℕ) → list_any (eqb q) (map (λ e. e.literal.index) es) ≡ true → q < n
+indices_below [] n h q t = absurd (false≢true t)
+indices_below (e ∷ es) n h q t =
+    elim (or_cases (eqb q e.literal.index) (list_any (eqb q) (map (λ e. e.literal.index) es)) t) [
+      | inl s ↦ omega (arith, eqb-true q e.literal.index s, h 0 e refl)
+      | inr s ↦ indices_below es n (λ k d at. h (suc k) d at) q s
+    ]
+
+length_map : (es : List Entry) → length (map (λ (e : Entry). e.literal.index) es) ≡ length es
+length_map [] = refl
+length_map (e ∷ es) = ap suc (length_map es)
+
+pub few_entries : (es : List Entry) (n : ℕ) → AreApart es → ((k : ℕ) (e : Entry) → slice_get es k ≡ Some e → e.literal.index < n) → length es ≤ n
+few_entries es n apart below =
+    omega (arith, length_map es, length-le_from_distinct_below (map (λ e. e.literal.index) es) n (distinct_from 0 es (λ k e at. place_of_entry es k e (apart k e at) at ∙ ap Some (omega arith))) (indices_below es n below))
+
+-- ---- the table
+
+pub table_at : (variables : ℕ) (places : List (Option ℕ)) (es : List Entry) (i : ℕ) (o : Option ℕ) → IsTable variables places es → i < variables → o ≡ get_or places i o → place_of es i ≡ o
+table_at variables places es i o table below is = sym (is ∙ get_or_from_slice_get places i (place_of es i) o (table.each i below))
+
+pub slice_get_set : {X : Type 0} (xs : List X) (i j : ℕ) (y : X) → (j ≡ i → ⊥) → slice_get (set xs i y) j ≡ slice_get xs j
+slice_get_set [] i j y h = refl
+slice_get_set (x ∷ xs) zero zero y h = absurd (h refl)
+slice_get_set (x ∷ xs) zero (suc j) y h = refl
+slice_get_set (x ∷ xs) (suc i) zero y h = refl
+slice_get_set (x ∷ xs) (suc i) (suc j) y h = slice_get_set xs i j y (λ e. h (ap suc e))
+
+pub slice_get_set_same : {X : Type 0} (xs : List X) (i : ℕ) (y : X) → i < length xs → slice_get (set xs i y) i ≡ Some y
+slice_get_set_same [] i y h = absurd (omega arith)
+slice_get_set_same (x ∷ xs) zero y h = refl
+slice_get_set_same (x ∷ xs) (suc i) y h = slice_get_set_same xs i y (omega arith)
+
+pub table_push : (variables : ℕ) (places : List (Option ℕ)) (es : List Entry) (e : Entry) → IsTable variables places es → e.literal.index < variables → place_of es e.literal.index ≡ None → IsTable variables (set places e.literal.index (Some (length es))) (es ++ e ∷ [])
+table_push variables places es e table below unset = record {
+  all = length-set places e.literal.index (Some (length es)) ∙ table.all;
+  each = λ i in'. elim (cases_eq i e.literal.index) [
+    | inl is ↦ ap (slice_get (set places e.literal.index (Some (length es)))) is ∙ (slice_get_set_same places e.literal.index (Some (length es)) (omega (arith, table.all)) ∙ ap Some (sym (ap (place_of (es ++ e ∷ [])) is ∙ (place_from-after 0 es (e ∷ []) e.literal.index unset ∙ (place_here (0 + length es) e [] e.literal.index refl ∙ ap Some (omega arith))))))
+    | inr apart ↦ slice_get_set places e.literal.index i (Some (length es)) apart ∙ (table.each i in' ∙ ap Some (sym (kept i apart)))
+  ];
+}
+  where
+    kept : (i : ℕ) → (i ≡ e.literal.index → ⊥) → place_of (es ++ e ∷ []) i ≡ place_of es i
+    kept i apart = by_place (place_of es i) refl
+      where
+        by_place : (o : Option ℕ) → place_of es i ≡ o → place_of (es ++ e ∷ []) i ≡ o
+        by_place None is = place_from-after 0 es (e ∷ []) i is ∙ place_elsewhere (0 + length es) e [] i (λ h. apart (sym h))
+        by_place (Some p) is = place_from-front 0 es (e ∷ []) i p is
+
+pub table_pop : (variables : ℕ) (places : List (Option ℕ)) (es : List Entry) (e : Entry) → IsTable variables places (es ++ e ∷ []) → e.literal.index < variables → place_of es e.literal.index ≡ None → IsTable variables (set places e.literal.index None) es
+table_pop variables places es e table below unset = record {
+  all = length-set places e.literal.index None ∙ table.all;
+  each = λ i in'. elim (cases_eq i e.literal.index) [
+    | inl is ↦ ap (slice_get (set places e.literal.index None)) is ∙ (slice_get_set_same places e.literal.index None (omega (arith, table.all)) ∙ ap Some (sym (ap (place_of es) is ∙ unset)))
+    | inr apart ↦ slice_get_set places e.literal.index i None apart ∙ (table.each i in' ∙ ap Some (kept i apart))
+  ];
+}
+  where
+    kept : (i : ℕ) → (i ≡ e.literal.index → ⊥) → place_of (es ++ e ∷ []) i ≡ place_of es i
+    kept i apart = by_place (place_of es i) refl
+      where
+        by_place : (o : Option ℕ) → place_of es i ≡ o → place_of (es ++ e ∷ []) i ≡ o
+        by_place None is = place_from-after 0 es (e ∷ []) i is ∙ place_elsewhere (0 + length es) e [] i (λ h. apart (sym h))
+        by_place (Some p) is = place_from-front 0 es (e ∷ []) i p is
