@@ -1,0 +1,129 @@
+//! The texts of reports.
+//!
+//! `formula_text` gives the text of a formula: at Ok exactly the bytes that the definition of the same
+//! name gives. The one condition is that the names hold each number and that each conjunction and
+//! disjunction has two members at least. An `Err` says that memory ran out. The time is linear in the
+//! text; formulas in formulas are written by recursion, lists of members are gone along by a loop.
+#![tactic(auto)]
+
+ghost use Rattle.std.specs.Prelude.{◌≡◌, ◌++◌, IsTrue, OnOk, IfOk, codes};
+ghost use Rattle.tsl_terms.specs.FormulaTree.{formula_tree, formula_trees};
+ghost use Rattle.tsl_report.specs.FormulaText.{formula_text, members_text, others_text, can_be_written, all_can_be_written};
+
+use sequence::NoMemory;
+use std::alloc::Global;
+use term_text::{put_probe, put_update};
+use tsl_terms::{Formula, FormulaList, Names};
+
+/// The text of a formula.
+pub fn formula_text(alloc: Global, names: &Names, formula: &Formula) -> Result<Vec<u8>, NoMemory>
+    requires { IsTrue (can_be_written names.now (formula_tree formula.now)) }
+    ensures { IfOk result (λ text. text.items ≡ formula_text names.now (formula_tree formula.now)) }
+{
+    let mut out = Vec::new(alloc);
+    put_formula(&mut out, names, formula)?;
+    Ok(out)
+}
+
+/// Appends a formula.
+#[cycle(formulas)]
+fn put_formula(out: &mut Vec<u8>, names: &Names, formula: &Formula) -> Result<(), NoMemory>
+    requires { IsTrue (can_be_written names.now (formula_tree formula.now)) }
+    ensures { OnOk result (out.new.items ≡ out.old.items ++ formula_text names.now (formula_tree formula.now)) }
+{
+    match formula {
+        Formula::True => out.extend_from_slice(b"true"),
+        Formula::False => out.extend_from_slice(b"false"),
+        Formula::Test(probe) => put_probe(out, names, probe),
+        Formula::Update(signal, term) => put_update(out, names, *signal, term),
+        Formula::Not(a) => put_under(out, names, b"!", a),
+        Formula::All(members) => put_members(out, names, b" && ", members),
+        Formula::Any(members) => put_members(out, names, b" || ", members),
+        Formula::Implies(a, b) => {
+            put_under(out, names, b"(", a)?;
+            put_under(out, names, b" -> ", b)?;
+            out.extend_from_slice(b")")
+        }
+        Formula::Iff(a, b) => {
+            put_under(out, names, b"(", a)?;
+            put_under(out, names, b" <-> ", b)?;
+            out.extend_from_slice(b")")
+        }
+        Formula::Next(a) => put_under(out, names, b"X ", a),
+        Formula::Finally(a) => put_under(out, names, b"F ", a),
+        Formula::Globally(a) => put_under(out, names, b"G ", a),
+        Formula::Until(a, b) => {
+            put_under(out, names, b"(", a)?;
+            put_under(out, names, b" U ", b)?;
+            out.extend_from_slice(b")")
+        }
+        Formula::Weak(a, b) => {
+            put_under(out, names, b"(", a)?;
+            put_under(out, names, b" W ", b)?;
+            out.extend_from_slice(b")")
+        }
+        Formula::Release(a, b) => {
+            put_under(out, names, b"(", a)?;
+            put_under(out, names, b" R ", b)?;
+            out.extend_from_slice(b")")
+        }
+    }
+}
+
+/// Appends an operator, a bracket or a connective, and the formula behind it.
+#[cycle(formulas)]
+fn put_under(
+    out: &mut Vec<u8>,
+    names: &Names,
+    operator: &[u8],
+    formula: &Formula,
+) -> Result<(), NoMemory>
+    requires { IsTrue (can_be_written names.now (formula_tree formula.now)) }
+    ensures { OnOk result (out.new.items ≡ out.old.items ++ operator.now ++ formula_text names.now (formula_tree formula.now)) }
+{
+    out.extend_from_slice(operator)?;
+    put_formula(out, names, formula)
+}
+
+/// Appends the members in brackets, with a connective between each two.
+#[cycle(formulas)]
+fn put_members(
+    out: &mut Vec<u8>,
+    names: &Names,
+    connective: &[u8],
+    members: &FormulaList,
+) -> Result<(), NoMemory>
+    requires { IsTrue (all_can_be_written names.now (formula_trees members.now)) }
+    ensures { OnOk result (out.new.items ≡ out.old.items
+        ++ (codes "(" ++ members_text names.now connective.now (formula_trees members.now) ++ codes ")")) }
+{
+    out.extend_from_slice(b"(")?;
+    if let FormulaList::More(first, others) = members {
+        put_formula(out, names, first)?;
+        put_others(out, names, connective, others)?;
+    }
+    out.extend_from_slice(b")")
+}
+
+/// Appends further members, each with a connective before it.
+#[cycle(formulas)]
+fn put_others(
+    out: &mut Vec<u8>,
+    names: &Names,
+    connective: &[u8],
+    members: &FormulaList,
+) -> Result<(), NoMemory>
+    requires { IsTrue (all_can_be_written names.now (formula_trees members.now)) }
+    ensures { OnOk result (out.new.items ≡ out.old.items ++ others_text names.now connective.now (formula_trees members.now)) }
+{
+    let mut rest = members;
+    while let FormulaList::More(first, others) = rest {
+        out.extend_from_slice(connective)?;
+        put_formula(out, names, first)?;
+        rest = others;
+    }
+    Ok(())
+}
+
+#[cfg(test)]
+mod tests;
