@@ -154,11 +154,40 @@ fn signals_are_told_apart(rt: HostRuntime) -> Result<(), Fail> {
     Ok(())
 }
 
+/// The signals among some terms, in order.
+fn signals_among(alloc: Global, terms: &[Term]) -> Result<Vec<u32>, AllocError> {
+    let mut signals = Vec::new(alloc);
+    for term in terms {
+        if let Term::Signal(signal) = term {
+            signals.push(*signal)?;
+        }
+    }
+    Ok(signals)
+}
+
 #[test]
 fn choices_and_predicates_are_gathered(rt: HostRuntime) -> Result<(), Fail> {
-    let spec = example(rt.alloc())?;
-    assert_eq!(rt; choices(rt.alloc(), &spec, 0)?.len(), 2);
-    assert_eq!(rt; predicates(rt.alloc(), &spec)?.len(), 1);
+    let alloc = rt.alloc();
+    let spec = example(alloc)?;
+    let terms = choices(alloc, &spec, 0)?;
+    let signals = signals_among(alloc, terms.as_slice())?;
+    assert_eq!(rt; signals.as_slice(), [0, 1].as_slice());
+    assert_eq!(rt; predicates(alloc, &spec)?.len(), 1);
+    Ok(())
+}
+
+/// `always guarantee { p y; [y <- x]; }`
+fn cell_without_itself(alloc: Global) -> Result<Spec, AllocError> {
+    let always = both(alloc, Formula::Test(probe_of(alloc, 0)?), update(0, 1))?;
+    Ok(spec_of(names_of_example(alloc)?, always))
+}
+
+#[test]
+fn a_cell_that_no_update_gives_itself_is_its_own_last_choice(rt: HostRuntime) -> Result<(), Fail> {
+    let alloc = rt.alloc();
+    let terms = choices(alloc, &cell_without_itself(alloc)?, 0)?;
+    let signals = signals_among(alloc, terms.as_slice())?;
+    assert_eq!(rt; signals.as_slice(), [1, 0].as_slice());
     Ok(())
 }
 
