@@ -1,0 +1,223 @@
+-- The definitions on cases that were worked by hand: what they accept, and what they refuse.
+use Rattle.std.proofs.Common.{◌≡◌, ℕ, List, [], ◌∷◌, pos, negsuc, Some, None, refl}
+use Rattle.std.specs.Prelude.{codes}
+use Rattle.clause_core.specs.Literals.{Lit, literal_of}
+use Rattle.refutation_check.specs.declared.steps.Step.{Step}
+use Rattle.refutation_check.specs.Lines.{lines, words, data_lines}
+use Rattle.refutation_check.specs.Numbers.{number, signed_number}
+use Rattle.refutation_check.specs.CnfText.{cnf_answer, is_cnf, form_at, too_many_variables}
+use Rattle.refutation_check.specs.LogText.{log_answer, is_log, form_at as log_form_at}
+use Rattle.refutation_check.specs.Checking.{log_refusal, at_line, at_hint, unfinished}
+
+-- ---- lines and words
+
+two_lines : lines (codes "a\nb\n") ≡ codes "a" ∷ codes "b" ∷ []
+two_lines = refl
+
+-- a line without a line feed, and an empty line
+open_line : lines (codes "\nb") ≡ [] ∷ codes "b" ∷ []
+open_line = refl
+
+no_line : lines [] ≡ []
+no_line = refl
+
+three_words : words (codes " 1\t-2  x\r") ≡ codes "1" ∷ codes "-2" ∷ codes "x" ∷ []
+three_words = refl
+
+no_word : words (codes " \t") ≡ []
+no_word = refl
+
+-- a comment keeps its number
+numbered : data_lines (codes "c a\nb\ncnf\n d") ≡ (2, codes "b") ∷ (4, codes " d") ∷ []
+numbered = refl
+
+-- ---- numbers
+
+zeros_in_front : number (codes "007") ≡ Some 7
+zeros_in_front = refl
+
+eighteen_digits : number (codes "999999999999999999") ≡ Some 999999999999999999
+eighteen_digits = refl
+
+nineteen_digits : number (codes "0000000000000000001") ≡ None
+nineteen_digits = refl
+
+no_digits : number [] ≡ None
+no_digits = refl
+
+a_sign : number (codes "-1") ≡ None
+a_sign = refl
+
+negative : signed_number (codes "-12") ≡ Some (negsuc 11)
+negative = refl
+
+two_zeros : signed_number (codes "00") ≡ Some (pos 0)
+two_zeros = refl
+
+negative_zero : signed_number (codes "-0") ≡ None
+negative_zero = refl
+
+sign_alone : signed_number (codes "-") ≡ None
+sign_alone = refl
+
+two_signs : signed_number (codes "--1") ≡ None
+two_signs = refl
+
+plus : signed_number (codes "+1") ≡ None
+plus = refl
+
+-- ---- formulas
+
+abbrev a : Lit
+a = literal_of (pos 1)
+
+abbrev b : Lit
+b = literal_of (pos 2)
+
+abbrev na : Lit
+na = literal_of (negsuc 0)
+
+abbrev nb : Lit
+nb = literal_of (negsuc 1)
+
+-- a clause over two lines, a comment within it, a repeat, and an empty clause
+formula : cnf_answer (codes "c\n p cnf 2 3\n2 -1\nc 5\n2 0 00 1\n0") ≡ is_cnf 2 ((na ∷ b ∷ []) ∷ [] ∷ (a ∷ []) ∷ [])
+formula = refl
+
+no_clause : cnf_answer (codes "p cnf 0 0") ≡ is_cnf 0 []
+no_clause = refl
+
+empty_text : cnf_answer [] ≡ form_at 1
+empty_text = refl
+
+comments_alone : cnf_answer (codes "c\nc\n") ≡ form_at 3
+comments_alone = refl
+
+missing_clause : cnf_answer (codes "p cnf 2 5\n1 2 0\n1 -2 0\n-1 2 0\n-1 -2 0\n") ≡ form_at 6
+missing_clause = refl
+
+open_clause : cnf_answer (codes "p cnf 2 1\n1 2") ≡ form_at 3
+open_clause = refl
+
+empty_first_line : cnf_answer (codes "\np cnf 0 0\n") ≡ form_at 1
+empty_first_line = refl
+
+blank_comment : cnf_answer (codes " c\np cnf 0 0\n") ≡ form_at 1
+blank_comment = refl
+
+five_words : cnf_answer (codes "p cnf 0 0 0\n") ≡ form_at 1
+five_words = refl
+
+header_twice : cnf_answer (codes "p cnf 1 1\np cnf 1 1\n") ≡ form_at 2
+header_twice = refl
+
+past_variables : cnf_answer (codes "p cnf 2 2\n1 0\n-3 0\n") ≡ form_at 3
+past_variables = refl
+
+past_clauses : cnf_answer (codes "p cnf 2 1\n1 0\n\n2\n") ≡ form_at 4
+past_clauses = refl
+
+wrong_word : cnf_answer (codes "p cnf 2 1\n1x 0\n") ≡ form_at 2
+wrong_word = refl
+
+many_variables : cnf_answer (codes "p cnf 1048577 2000001\n") ≡ form_at 2
+many_variables = refl
+
+many_variables' : cnf_answer (codes "p cnf 1048577 1\n1048577 0\n") ≡ too_many_variables
+many_variables' = refl
+
+as_many_variables : cnf_answer (codes "p cnf 1048576 1\n0\n") ≡ is_cnf 1048576 ([] ∷ [])
+as_many_variables = refl
+
+-- ---- logs
+
+-- a comment, a deletion with a 0 among its numbers, a line without a word, a step, an empty clause
+steps : log_answer (codes "c\n5 d 0 3 0\n \n6 2 -1 0 1 2 0\n07 0 5 3 4 0") ≡ is_log (record { number = 6; clause = na ∷ b ∷ []; hints = 1 ∷ 2 ∷ [] } ∷ record { number = 7; clause = []; hints = 5 ∷ 3 ∷ 4 ∷ [] } ∷ [])
+steps = refl
+
+no_step : log_answer [] ≡ is_log []
+no_step = refl
+
+no_lists : log_answer (codes "5 1 0 1 0\n5\n") ≡ log_form_at 2
+no_lists = refl
+
+one_list : log_answer (codes "5 -1 0\n") ≡ log_form_at 1
+one_list = refl
+
+one_list_open : log_answer (codes "5 -1 0 1\n") ≡ log_form_at 1
+one_list_open = refl
+
+behind_the_end : log_answer (codes "5 1 0 1 0 1\n") ≡ log_form_at 1
+behind_the_end = refl
+
+negative_hint : log_answer (codes "5 1 0 -1 0\n") ≡ log_form_at 1
+negative_hint = refl
+
+least_literal : log_answer (codes "5 -2147483648 0 1 0\n") ≡ log_form_at 1
+least_literal = refl
+
+deletion_without_end : log_answer (codes "5 d 0 3\n") ≡ log_form_at 1
+deletion_without_end = refl
+
+deletion_without_number : log_answer (codes "d 3 0\n") ≡ log_form_at 1
+deletion_without_number = refl
+
+deletion_of_none : log_answer (codes "5 d 0\n") ≡ is_log []
+deletion_of_none = refl
+
+negative_step : log_answer (codes "-5 1 0 1 0\n") ≡ log_form_at 1
+negative_step = refl
+
+late_comment : log_answer (codes " c\n") ≡ log_form_at 1
+late_comment = refl
+
+-- ---- checks
+
+-- the clauses 1 2, 1 -2, -1 2 and -1 -2
+abbrev square : List (List Lit)
+square = (a ∷ b ∷ []) ∷ (nb ∷ a ∷ []) ∷ (na ∷ b ∷ []) ∷ (nb ∷ na ∷ []) ∷ []
+
+abbrev stated : ℕ → List Lit → List ℕ → Step
+stated number clause hints = record { number = number; clause = clause; hints = hints }
+
+abbrev last : Step
+last = stated 6 [] (5 ∷ 3 ∷ 4 ∷ [])
+
+refuted : log_refusal 2 square (stated 5 (a ∷ []) (1 ∷ 2 ∷ []) ∷ last ∷ []) ≡ None
+refuted = refl
+
+-- hints behind success are not looked at
+hints_left : log_refusal 2 square (stated 5 (a ∷ []) (1 ∷ 2 ∷ 9 ∷ []) ∷ last ∷ []) ≡ None
+hints_left = refl
+
+hints_end : log_refusal 2 square (stated 5 (a ∷ []) (1 ∷ []) ∷ last ∷ []) ≡ Some (at_hint 5 2)
+hints_end = refl
+
+number_taken : log_refusal 2 square (stated 4 (a ∷ []) (1 ∷ 2 ∷ []) ∷ last ∷ []) ≡ Some (at_line 4)
+number_taken = refl
+
+satisfied_hint : log_refusal 2 square (stated 5 (a ∷ []) (2 ∷ 3 ∷ []) ∷ last ∷ []) ≡ Some (at_hint 5 2)
+satisfied_hint = refl
+
+unknown_hint : log_refusal 2 square (stated 5 (a ∷ []) (5 ∷ []) ∷ last ∷ []) ≡ Some (at_hint 5 1)
+unknown_hint = refl
+
+two_open : log_refusal 2 square (stated 5 [] (1 ∷ []) ∷ []) ≡ Some (at_hint 5 1)
+two_open = refl
+
+pair : log_refusal 2 square (stated 5 (na ∷ a ∷ []) (1 ∷ []) ∷ []) ≡ Some (at_line 5)
+pair = refl
+
+past_variable : log_refusal 1 ((a ∷ []) ∷ (na ∷ []) ∷ []) (stated 3 (b ∷ []) (1 ∷ 2 ∷ []) ∷ []) ≡ Some (at_line 3)
+past_variable = refl
+
+no_empty_clause : log_refusal 2 square (stated 5 (a ∷ []) (1 ∷ 2 ∷ []) ∷ []) ≡ Some unfinished
+no_empty_clause = refl
+
+-- an empty clause of the formula is no step
+no_steps : log_refusal 2 ([] ∷ []) [] ≡ Some unfinished
+no_steps = refl
+
+-- a step behind the empty clause is still checked
+later_step : log_refusal 1 ((a ∷ []) ∷ (na ∷ []) ∷ []) (stated 3 [] (1 ∷ 2 ∷ []) ∷ stated 3 [] (1 ∷ []) ∷ []) ≡ Some (at_line 3)
+later_step = refl

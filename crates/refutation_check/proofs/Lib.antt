@@ -1,0 +1,9 @@
+pub mod Accepting
+pub mod CnfLemmas
+mod Examples
+pub mod LineLemmas
+pub mod LogLemmas
+pub mod Marking
+pub mod Naming
+pub mod NumberLemmas
+pub mod Refuting

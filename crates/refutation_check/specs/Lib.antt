@@ -1,0 +1,8 @@
+pub mod Checking
+pub mod Marks
+pub mod Accepted
+pub mod Lines
+pub mod Numbers
+pub mod CnfText
+pub mod LogText
+pub mod Reading
