@@ -1,0 +1,7 @@
+pub mod Marking
+pub mod Hints
+pub mod Stages
+pub mod Walking
+pub mod Counting
+pub mod Searching
+mod Examples

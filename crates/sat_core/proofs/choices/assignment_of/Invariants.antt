@@ -1,0 +1,5 @@
+use Rattle.sat_core.specs.Choices.{AreTruths}
+use Rattle.sat_core.proofs.choices.assignment_of.Given as goal
+
+abbrev pub invariant-loop-index : goal.invariant-loop-index
+invariant-loop-index l = AreTruths l.trail.entries l.index l.truths.items

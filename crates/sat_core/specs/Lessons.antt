@@ -1,0 +1,54 @@
+-- What is learnt from a conflict. The terms are those of N. Eén and N. Sörensson, An Extensible SAT-solver,
+-- 2003; hints are those of a log.
+use Rattle.std.specs.Prelude.{◌≡◌, ℕ, ◌+◌, ◌^◌, ◌<◌, ◌≤◌, true, List, [], ◌∷◌, ◌++◌, map, length, None}
+use Rattle.clause_core.specs.Literals.{Lit, negation, has}
+use Rattle.clause_core.specs.Clauses.{IsIncreasing}
+use Rattle.sat_trail.specs.Entries.{literals_of}
+use Rattle.sat_trail.specs.States.{TrailState, with_clause, undone}
+use Rattle.refutation_check.specs.declared.steps.Step.{Step}
+use Rattle.refutation_check.specs.declared.steps.Log.{Log}
+use Rattle.refutation_check.specs.Checking.{numbered_from, refused_hint}
+use Rattle.sat_core.specs.Levels.{IsSetAt}
+
+-- One literal of the clause is false at the present level. The others are false at lower levels, the largest of
+-- which is the level to go back to; that is 0 where there are no others.
+pub record IsAsserting (t : TrailState) (clause : List Lit) (back : ℕ) : Type 0 where
+  pub asserted : Lit
+  pub member : has clause asserted ≡ true
+  pub last : IsSetAt t.entries (negation asserted) t.level
+  pub others : (l : Lit) → has clause l ≡ true → (l ≡ asserted → ⊥) → (level : ℕ) × (level ≤ back) × IsSetAt t.entries (negation l) level
+  pub below : back < t.level
+  pub reached : 0 < back → (l : Lit) × (has clause l ≡ true) × IsSetAt t.entries (negation l) back
+
+-- A clause whose literals are false on the trail, and hints that show it. At level 0 it is the empty clause.
+pub record IsLesson (t : TrailState) (clause : List Lit) (hints : List ℕ) (back : ℕ) : Type 0 where
+  pub increasing : IsIncreasing clause
+  pub is_false : (l : Lit) → has clause l ≡ true → has (literals_of t.entries) (negation l) ≡ true
+  pub shown : refused_hint (numbered_from 1 t.clauses) (map negation clause) 1 hints ≡ None
+  pub few_hints : length hints + 1 < 2 ^ 32
+  pub empty_at_start : t.level ≡ 0 → clause ≡ []
+  pub asserting : 0 < t.level → IsAsserting t clause back
+
+-- a step of a log
+abbrev pub step_of : ℕ → List Lit → List ℕ → Step
+step_of number clause hints = record { number = number; clause = clause; hints = hints }
+
+-- the clauses of steps
+abbrev pub clauses_of : List Step → List (List Lit)
+clauses_of steps = map (λ step. step.clause) steps
+
+-- a clause is learnt: the trail goes back and takes the clause, and its step stands behind the others
+pub record HasLearnt (old : TrailState) (steps : List Step) (new : TrailState) (more : List Step) : Type 0 where
+  pub clause : List Lit
+  pub hints : List ℕ
+  pub back : ℕ
+  pub lesson : IsLesson old clause hints back
+  pub trail_is : new ≡ with_clause (undone old back) clause
+  pub steps_are : more ≡ steps ++ step_of (length old.clauses + 1) clause hints ∷ []
+
+-- a log of these steps and of one more with the empty clause, which hints show behind these clauses
+pub record IsRefuted (clauses : List (List Lit)) (steps : List Step) (log : Log) : Type 0 where
+  pub hints : List ℕ
+  pub shown : refused_hint (numbered_from 1 clauses) [] 1 hints ≡ None
+  pub few_hints : length hints + 1 < 2 ^ 32
+  pub steps_are : log.steps ≡ steps ++ step_of (length clauses + 1) [] hints ∷ []

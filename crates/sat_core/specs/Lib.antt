@@ -1,0 +1,5 @@
+pub mod Levels
+pub mod Lessons
+pub mod Walks
+pub mod Choices
+pub mod Answers

@@ -1,0 +1,84 @@
+-- The walk along a trail, from its end, that finds what a conflict teaches. An entry is marked while the clause
+-- that is found so far has the opposite of its literal and the walk is yet to pass it.
+use Rattle.std.specs.Prelude.{◌≡◌, ℕ, ◌+◌, ◌<◌, ◌≤◌, ◌==◌, nat_lt, Bool, true, false, cond, ◌&&◌, ◌||◌, ◌⊎◌, List, [], ◌∷◌, length, reverse, Option, Some, None, slice_get, set}
+use Rattle.clause_core.specs.Literals.{Lit, negation, has}
+use Rattle.sat_trail.specs.declared.entries.Entry.{Entry}
+use Rattle.sat_trail.specs.Entries.{literals_of, place_of}
+use Rattle.sat_trail.specs.States.{TrailState}
+use Rattle.refutation_check.specs.Checking.{numbered_from, refused_hint}
+use Rattle.sat_core.specs.declared.marks.Marks.{Marks}
+use Rattle.sat_core.specs.declared.walks.Walk.{Walk}
+use Rattle.sat_core.specs.Levels.{IsSetAt}
+
+-- how many marks there are
+abbrev pub count_marks : List Bool → ℕ
+count_marks [] = 0
+count_marks (m ∷ ms) = cond m 1 0 + count_marks ms
+
+-- how many marked entries are of this level
+abbrev pub count_at : ℕ → List Bool → List Entry → ℕ
+count_at level [] entries = 0
+count_at level (m ∷ ms) [] = 0
+count_at level (m ∷ ms) (e ∷ es) = cond (m && (e.level == level)) 1 0 + count_at level ms es
+
+-- the marks, and one at this place
+abbrev pub mark_at : Option ℕ → List Bool → List Bool
+mark_at None marks = marks
+mark_at (Some place) marks = set marks place true
+
+-- the marks, and those of the entries of a clause's variables
+abbrev pub marked_with : List Entry → List Lit → List Bool → List Bool
+marked_with entries [] marks = marks
+marked_with entries (l ∷ ls) marks = marked_with entries ls (mark_at (place_of entries l.index) marks)
+
+-- a mark or none for each place, the count of the marks, and that of the marked entries of the present level
+pub record AreMarks (t : TrailState) (marks : Marks) : Type 0 where
+  pub sized : length marks.by_place.items ≡ length t.entries
+  pub total : marks.all ≡ count_marks marks.by_place.items
+  pub counted : marks.waiting ≡ count_at t.level marks.by_place.items t.entries
+
+-- The reason that takes an entry's place in the clause: that of each entry at level 0, and that of an entry at the
+-- present level while another one there is marked.
+abbrev pub replacement_of : ℕ → ℕ → Entry → Option ℕ
+replacement_of level waiting e = cond ((e.level == 0) || ((e.level == level) && nat_lt 1 waiting)) e.reason None
+
+-- These literals are true on the trail. Those of the marked entries are among them; of the entries passed, those
+-- alone whose opposite is kept.
+pub record Carries (entries : List Entry) (place : ℕ) (marks : List Bool) (kept trues : List Lit) : Type 0 where
+  pub set_true : (l : Lit) → has trues l ≡ true → has (literals_of entries) l ≡ true
+  pub marked : (k : ℕ) (e : Entry) → slice_get entries k ≡ Some e → slice_get marks k ≡ Some true → has trues e.literal ≡ true
+  pub passed : (k : ℕ) (e : Entry) → slice_get entries k ≡ Some e → place ≤ k → has trues e.literal ≡ has kept (negation e.literal)
+
+-- from any such literals the hints lead to a false clause
+abbrev pub Shows : TrailState → ℕ → List Bool → List Lit → List ℕ → Type 0
+Shows t place marks kept hints =
+    (trues : List Lit) → Carries t.entries place marks kept trues → (position : ℕ) → refused_hint (numbered_from 1 t.clauses) trues position hints ≡ None
+
+-- nothing is kept yet, and a marked entry of the present level waits, but for level 0
+pub record IsEarly (t : TrailState) (w : Walk) : Type 0 where
+  pub empty : w.kept.items ≡ []
+  pub low : w.back ≡ 0
+  pub waits : (0 < w.marks.waiting) ⊎ (t.level ≡ 0)
+
+-- the first literal kept is false at the present level, and no marked entry of that level waits; the others are
+-- false at lower levels, the largest of which is the level to go back to
+pub record IsLate (t : TrailState) (w : Walk) : Type 0 where
+  pub asserted : Lit
+  pub others : List Lit
+  pub kept_is : w.kept.items ≡ asserted ∷ others
+  pub alone : w.marks.waiting ≡ 0
+  pub last : IsSetAt t.entries (negation asserted) t.level
+  pub lower : (l : Lit) → has others l ≡ true → (level : ℕ) × (level ≤ w.back) × IsSetAt t.entries (negation l) level
+  pub below : w.back < t.level
+  pub reached : 0 < w.back → (l : Lit) × (has others l ≡ true) × IsSetAt t.entries (negation l) w.back
+
+-- What holds of a walk that has passed the places from this one on: it marks places before that one alone, and keeps
+-- no literal whose entry is yet to be passed; each place passed gave one hint at most, and the conflict one; and the
+-- hints, first one first, show the clause that it has found.
+pub record IsWalk (t : TrailState) (place : ℕ) (w : Walk) : Type 0 where
+  pub marks : AreMarks t w.marks
+  pub ahead : (k : ℕ) → slice_get w.marks.by_place.items k ≡ Some true → k < place
+  pub fresh : (k : ℕ) (e : Entry) → slice_get t.entries k ≡ Some e → k < place → has w.kept.items (negation e.literal) ≡ false
+  pub few : length w.hints.items + place ≤ length t.entries + 1
+  pub shows : Shows t place w.marks.by_place.items w.kept.items (reverse w.hints.items)
+  pub stage : IsEarly t w ⊎ IsLate t w

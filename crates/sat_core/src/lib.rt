@@ -1,0 +1,24 @@
+//! A solver for formulas in conjunctive normal form, which learns clauses from conflicts.
+//!
+//! `solve` is the one call. Its answer is an assignment that meets all clauses, or a log that refutes
+//! them, or, where a budget of learnt clauses is spent, the clauses that were learnt: a trace, which
+//! shows that each of them told something that unit propagation had not found.
+//!
+//! The search is that of N. Eén and N. Sörensson, An Extensible SAT-solver, 2003. It propagates,
+//! decides the first variable that is not set, and from a conflict learns the clause of the first
+//! unique implication point. The hints of its log are the reasons of the entries that the clause was
+//! found by, in the order in which they were set.
+#![tactic(auto)]
+
+mod answers;
+mod choices;
+mod lessons;
+mod marks;
+mod solver;
+mod walks;
+
+pub use answers::Answer;
+pub use solver::solve;
+
+#[cfg(test)]
+mod tests;

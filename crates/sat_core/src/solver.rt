@@ -1,0 +1,83 @@
+//! The search.
+
+ghost use Rattle.std.specs.Prelude.{◌≡◌, ◌+◌, ◌-◌, ◌^◌, ◌<◌, false, length, All, IfOk};
+ghost use Rattle.clause_core.specs.Clauses.{has_pair};
+ghost use Rattle.sat_core.specs.Answers.{IsAnswer, IsEnd};
+ghost use Rattle.sat_core.specs.Lessons.{clauses_of};
+
+use crate::answers::Answer;
+use crate::choices::{assignment_of, next_decision};
+use crate::lessons::{learn, refute};
+use clause_core::{Clause, Cnf};
+use refutation_check::Step;
+use sat_trail::Trail;
+use sequence::NoMemory;
+use std::alloc::Global;
+
+/// Whether some assignment meets all clauses, where so many clauses may be learnt, the empty one not
+/// counted. `Spent` comes only once that many are learnt. No clause has a literal and its negation,
+/// the budget is at least 1, and clauses and budget together are fewer than 2^32 - 1. An `Err` says
+/// that memory ran out.
+pub fn solve(alloc: Global, cnf: &Cnf, budget: u64) -> Result<Answer, NoMemory>
+    requires no_tautology { All (λ clause. has_pair clause ≡ false) cnf.now.clauses }
+    requires positive { 0 < budget }
+    requires few { length cnf.now.clauses + budget < 2 ^ 32 - 1 }
+    ensures { IfOk result (IsAnswer cnf.now.variables cnf.now.clauses budget) }
+{
+    let Ok(mut trail) = Trail::new(alloc, cnf) else {
+        return Err(NoMemory);
+    };
+    let mut steps = Vec::new(alloc);
+    let mut first = 0;
+    loop {
+        let Some(conflict) = trail.propagate()? else {
+            match next_decision(&trail, first, cnf.variables) {
+                Some(literal) => {
+                    trail.decide(literal)?;
+                    first = literal.variable();
+                }
+                None => {
+                    let assignment = assignment_of(alloc, &trail, cnf.variables)?;
+                    return Ok(Answer::Sat(assignment));
+                }
+            }
+            continue;
+        };
+        if trail.level() == 0 {
+            let number = cnf.clauses.len() as u64 + steps.len() as u64 + 1;
+            let log = refute(alloc, &trail, steps, conflict, number)?;
+            return Ok(Answer::Unsat(log));
+        }
+        if steps.len() as u64 == budget {
+            let number = cnf.clauses.len() as u64 + budget + 1;
+            return end(alloc, trail, steps, number);
+        }
+        learn(alloc, &mut trail, &mut steps, conflict)?;
+        first = 0;
+    }
+}
+
+/// Ends a search that may learn no more: by a refutation where propagation at level 0 finds a clause
+/// that is false, the number being that of its last step. An `Err` says that memory ran out.
+fn end(alloc: Global, mut trail: Trail, steps: Vec<Step>, number: u64) -> Result<Answer, NoMemory>
+    requires usable { trail.broken ≡ false }
+    requires number { number ≡ length trail.clauses + 1 }
+    ensures { IfOk result (IsEnd trail.clauses steps.items) }
+{
+    trail.undo_to(0);
+    match trail.propagate()? {
+        Some(conflict) => Ok(Answer::Unsat(refute(alloc, &trail, steps, conflict, number)?)),
+        None => Ok(Answer::Spent(learnt_clauses(alloc, steps)?)),
+    }
+}
+
+/// The clauses of the steps. An `Err` says that memory ran out.
+fn learnt_clauses(alloc: Global, steps: Vec<Step>) -> Result<Vec<Clause>, NoMemory>
+    ensures { IfOk result (λ clauses. clauses.items ≡ clauses_of steps.items) }
+{
+    let mut clauses = Vec::with_capacity(alloc, steps.len())?;
+    for step in steps {
+        clauses.push(step.clause)?;
+    }
+    Ok(clauses)
+}

@@ -1,0 +1,286 @@
+ghost use Rattle.std.specs.Prelude.{IfOk};
+ghost use Rattle.sat_core.specs.Answers.{IsAnswer};
+
+use crate::{Answer, solve};
+use clause_core::{Assignment, Clause, Cnf, Literal, clause_of, is_tautology, meets};
+use refutation_check::check;
+use sequence::Sequence;
+use std::alloc::Global;
+use std::test::Fail;
+
+/// The clause of these numbers.
+fn clause(alloc: Global, numbers: &[i32]) -> Result<Clause, Fail> {
+    let mut literals = Vec::new(alloc);
+    for number in numbers {
+        literals.push(Literal::new(*number).ok_or("no literal")?)?;
+    }
+    Ok(clause_of(alloc, literals.as_slice())?)
+}
+
+/// The clauses of these numbers.
+fn clauses(alloc: Global, lists: &[&[i32]]) -> Result<Vec<Clause>, Fail> {
+    let mut clauses = Vec::new(alloc);
+    for numbers in lists {
+        clauses.push(clause(alloc, numbers)?)?;
+    }
+    Ok(clauses)
+}
+
+/// The formula of these clauses over the variables from 1 to a number.
+fn formula(variables: u32, clauses: Vec<Clause>) -> Result<Cnf, Fail> {
+    if variables > 1000 || !clauses.iter().all(|clause| clause.is_over(variables)) {
+        return Err("too many variables".into());
+    }
+    Ok(Cnf {
+        variables,
+        clauses: Sequence::from_vec(clauses),
+    })
+}
+
+/// The solver's answer, where the formula and the budget are small and no clause is a tautology.
+fn answer(alloc: Global, cnf: &Cnf, budget: u64) -> Result<Answer, Fail>
+    ensures { IfOk result (IsAnswer cnf.now.variables cnf.now.clauses budget) }
+{
+    let clauses = cnf.clauses.as_slice();
+    if clauses.len() > 1000 || budget == 0 || budget > 1000 {
+        return Err("too large".into());
+    }
+    if !clauses.iter().all(|clause| !is_tautology(clause)) {
+        return Err("a tautology".into());
+    }
+    Ok(solve(alloc, cnf, budget)?)
+}
+
+/// Whether the assignment has a truth for each variable and meets each clause.
+fn is_met(assignment: &Assignment, cnf: &Cnf) -> bool {
+    if assignment.truths.len() as u64 != u64::from(cnf.variables) {
+        return false;
+    }
+    for clause in cnf.clauses.as_slice() {
+        if !clause.is_over(cnf.variables) || !meets(assignment, clause) {
+            return false;
+        }
+    }
+    true
+}
+
+/// Whether one of the eight assignments of three variables meets each clause.
+fn is_satisfiable(alloc: Global, cnf: &Cnf) -> Result<bool, Fail> {
+    for first in [false, true] {
+        for second in [false, true] {
+            for third in [false, true] {
+                let assignment = Assignment {
+                    truths: Sequence::from_vec(vec![in alloc; first, second, third]?),
+                };
+                if is_met(&assignment, cnf) {
+                    return Ok(true);
+                }
+            }
+        }
+    }
+    Ok(false)
+}
+
+/// The clause over three variables whose signs are the digits of a number below 27: a variable stands
+/// in it as itself at the digit 1, negated at 2, and not at all at 0.
+fn numbered_clause(alloc: Global, number: u32) -> Result<Clause, Fail> {
+    let mut literals = Vec::new(alloc);
+    for (variable, digit) in [(1, number % 3), (2, number / 3 % 3), (3, number / 9 % 3)] {
+        if digit > 0 {
+            literals.push(Literal::of_variable(variable, digit == 1))?;
+        }
+    }
+    Ok(clause_of(alloc, literals.as_slice())?)
+}
+
+/// The clauses 1 2, 1 -2, -1 2 and -1 -2, those alone that are wanted.
+fn square(alloc: Global, wanted: [bool; 4]) -> Result<Cnf, Fail> {
+    let [first, second, third, fourth] = wanted;
+    let mut kept = Vec::new(alloc);
+    for (is_wanted, numbers) in [
+        (first, [1, 2]),
+        (second, [1, -2]),
+        (third, [-1, 2]),
+        (fourth, [-1, -2]),
+    ] {
+        if is_wanted {
+            kept.push(clause(alloc, &numbers)?)?;
+        }
+    }
+    formula(2, kept)
+}
+
+/// The literal that a pigeon is in a hole, or that it is not.
+fn place(pigeon: u32, hole: u32, holes: u32, is_in: bool) -> Result<Literal, Fail> {
+    let variable = pigeon
+        .wrapping_mul(holes)
+        .wrapping_add(hole)
+        .wrapping_add(1);
+    if variable == 0 || variable > 1000 {
+        return Err("too many variables".into());
+    }
+    Ok(Literal::of_variable(variable, is_in))
+}
+
+/// One pigeon more than there are holes: each is in a hole, and no two are in one.
+fn pigeons(alloc: Global, holes: u32) -> Result<Cnf, Fail> {
+    let mut clauses = Vec::new(alloc);
+    for pigeon in 0..=holes {
+        let mut places = Vec::new(alloc);
+        for hole in 0..holes {
+            places.push(place(pigeon, hole, holes, true)?)?;
+        }
+        clauses.push(clause_of(alloc, places.as_slice())?)?;
+    }
+    for hole in 0..holes {
+        for second in 0..=holes {
+            for first in 0..second {
+                let pair = [
+                    place(first, hole, holes, false)?,
+                    place(second, hole, holes, false)?,
+                ];
+                clauses.push(clause_of(alloc, &pair)?)?;
+            }
+        }
+    }
+    formula(holes.wrapping_mul(holes).wrapping_add(holes), clauses)
+}
+
+/// Clauses over four variables that only assignments with 1 and 4 meet.
+fn chain(alloc: Global) -> Result<Cnf, Fail> {
+    formula(
+        4,
+        clauses(
+            alloc,
+            &[&[1, 2], &[1, -2, 3], &[1, -3, 4], &[1, -3, -4], &[-1, 4]],
+        )?,
+    )
+}
+
+/// Whether the answer is right for a formula of which it is known whether it is satisfiable.
+fn is_right(alloc: Global, cnf: &Cnf, budget: u64, is_satisfiable: bool) -> Result<bool, Fail> {
+    match answer(alloc, cnf, budget)? {
+        Answer::Sat(assignment) => Ok(is_satisfiable && is_met(&assignment, cnf)),
+        Answer::Unsat(_) => Ok(!is_satisfiable),
+        Answer::Spent(learnt) => Ok(learnt.len() as u64 == budget),
+    }
+}
+
+/// Whether the answer is a log that is accepted.
+fn has_accepted_log(alloc: Global, cnf: &Cnf) -> Result<bool, Fail> {
+    match answer(alloc, cnf, 1000)? {
+        Answer::Unsat(log) => Ok(check(alloc, cnf, &log).is_ok()),
+        _ => Ok(false),
+    }
+}
+
+/// Whether the answer for these clauses over three variables is a log of one step.
+fn is_refuted_at_once(alloc: Global, lists: &[&[i32]]) -> Result<bool, Fail> {
+    let cnf = formula(3, clauses(alloc, lists)?)?;
+    match answer(alloc, &cnf, 1)? {
+        Answer::Unsat(log) => Ok(log.steps.len() == 1),
+        _ => Ok(false),
+    }
+}
+
+#[test]
+fn the_sets_of_four_clauses_but_for_the_whole_are_satisfiable(rt: HostRuntime) -> Result<(), Fail> {
+    let alloc = rt.alloc();
+    let both = [false, true];
+    for first in both {
+        for second in both {
+            for third in both {
+                for fourth in both {
+                    let cnf = square(alloc, [first, second, third, fourth])?;
+                    let is_whole = first && second && third && fourth;
+                    match answer(alloc, &cnf, 10)? {
+                        Answer::Sat(assignment) => {
+                            assert!(rt; !is_whole);
+                            assert!(rt; is_met(&assignment, &cnf));
+                        }
+                        Answer::Unsat(_) => assert!(rt; is_whole),
+                        Answer::Spent(_) => assert!(rt; false),
+                    }
+                }
+            }
+        }
+    }
+    Ok(())
+}
+
+#[test]
+fn a_clause_that_refutes_by_propagation_ends_a_budget_of_one(rt: HostRuntime) -> Result<(), Fail> {
+    let alloc = rt.alloc();
+    let cnf = square(alloc, [true, true, true, true])?;
+    assert!(rt; matches!(answer(alloc, &cnf, 1)?, Answer::Unsat(_)));
+    Ok(())
+}
+
+#[test]
+fn the_log_of_a_refutation_is_accepted(rt: HostRuntime) -> Result<(), Fail> {
+    let alloc = rt.alloc();
+    assert!(rt; has_accepted_log(alloc, &square(alloc, [true, true, true, true])?)?);
+    for holes in 1..=4 {
+        assert!(rt; has_accepted_log(alloc, &pigeons(alloc, holes)?)?);
+    }
+    Ok(())
+}
+
+#[test]
+fn no_budget_leads_to_a_wrong_answer(rt: HostRuntime) -> Result<(), Fail> {
+    let alloc = rt.alloc();
+    let pigeons = pigeons(alloc, 2)?;
+    let chain = chain(alloc)?;
+    for budget in 1..12 {
+        assert!(rt; is_right(alloc, &pigeons, budget, false)?);
+        assert!(rt; is_right(alloc, &chain, budget, true)?);
+    }
+    Ok(())
+}
+
+#[test]
+fn a_formula_without_clauses_is_satisfied(rt: HostRuntime) -> Result<(), Fail> {
+    let alloc = rt.alloc();
+    for variables in [0, 3] {
+        let cnf = formula(variables, Vec::new(alloc))?;
+        match answer(alloc, &cnf, 1)? {
+            Answer::Sat(assignment) => assert!(rt; is_met(&assignment, &cnf)),
+            _ => assert!(rt; false),
+        }
+    }
+    Ok(())
+}
+
+#[test]
+fn an_empty_clause_and_units_that_clash_are_refuted_by_one_step(
+    rt: HostRuntime,
+) -> Result<(), Fail> {
+    let alloc = rt.alloc();
+    assert!(rt; is_refuted_at_once(alloc, &[&[1, 2], &[]])?);
+    assert!(rt; is_refuted_at_once(alloc, &[&[-3], &[3]])?);
+    Ok(())
+}
+
+#[test]
+fn three_clauses_over_three_variables_are_told_as_by_enumeration(
+    rt: HostRuntime,
+) -> Result<(), Fail> {
+    let alloc = rt.alloc();
+    for first in 0..27 {
+        for second in first..27 {
+            for third in second..27 {
+                let mut clauses = Vec::new(alloc);
+                for number in [first, second, third] {
+                    clauses.push(numbered_clause(alloc, number)?)?;
+                }
+                let cnf = formula(3, clauses)?;
+                match answer(alloc, &cnf, 30)? {
+                    Answer::Sat(assignment) => assert!(rt; is_met(&assignment, &cnf)),
+                    Answer::Unsat(_) => assert!(rt; !is_satisfiable(alloc, &cnf)?),
+                    Answer::Spent(_) => assert!(rt; false),
+                }
+            }
+        }
+    }
+    Ok(())
+}
