@@ -1,7 +1,7 @@
 -- How formulas are written: `true`, `false`, tests and updates as they are, `!f`, `X f`, `F f`, `G f`, and the
 -- other connectives between their sides, with brackets always: `(f && g && h)`, `(f -> g)`, `(f U g)`.
 -- The spelling of operators is that of tsltools' specification format, in this project's profile.
-use Rattle.std.specs.Prelude.{ℕ, Bool, true, ◌&&◌, List, [], ◌∷◌, ◌++◌, codes}
+use Rattle.std.specs.Prelude.{ℕ, Bool, true, ◌&&◌, List, [], ◌++◌, codes}
 use Rattle.tsl_terms.specs.Name.{Name}
 use Rattle.tsl_terms.specs.FormulaTree.{FormulaTree, FormulaTrees, top, bottom, test, update, negation, conjunction, disjunction, implication, equivalence, next, finally, globally, until, weak_until, release, no_formulas, more_formulas}
 use Rattle.tsl_terms.specs.WellFormed.{has_two}

@@ -1,5 +1,8 @@
 //! The texts of reports.
 //!
+//! `fault_text` gives the line that says why a text or the words were refused: at Ok exactly the bytes
+//! that the definition of the same name gives for the fault, which is a table of its cases.
+//!
 //! `formula_text` gives the text of a formula: at Ok exactly the bytes that the definition of the same
 //! name gives. The one condition is that the names hold each number and that each conjunction and
 //! disjunction has two members at least. An `Err` says that memory ran out. The time is linear in the
@@ -10,6 +13,9 @@ ghost use Rattle.std.specs.Prelude.{◌≡◌, ◌++◌, IsTrue, OnOk, IfOk, cod
 ghost use Rattle.tsl_terms.specs.FormulaTree.{formula_tree, formula_trees};
 ghost use Rattle.tsl_report.specs.FormulaText.{formula_text, members_text, others_text, can_be_written, all_can_be_written};
 
+mod fault;
+
+pub use fault::{Fault, Head, LimitName, TokenPart, fault_text};
 use sequence::NoMemory;
 use std::alloc::Global;
 use term_text::{put_probe, put_update};
@@ -125,5 +131,7 @@ fn put_others(
     Ok(())
 }
 
+#[cfg(test)]
+mod fault_tests;
 #[cfg(test)]
 mod tests;

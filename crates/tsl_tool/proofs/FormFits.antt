@@ -2,14 +2,13 @@
 use Rattle.std.specs.Str.{bytes_eq}
 use Rattle.std.proofs.lemmas.List.{length-map}
 use Rattle.std.proofs.lemmas.List.Quantifiers.{position-Some}
-use Rattle.std.proofs.Common.{◌≡◌, ℕ, zero, suc, ◌+◌, ◌<◌, ◌≤◌, Bool, true, false, cond, ◌&&◌, ◌==◌, List, [], ◌∷◌, ◌++◌, length, refl, ap, sym, ◌∙◌, map, get_or, arith}
-use Rattle.std.specs.Prelude.{Option, Some, None, fold, flat_map, slice_get, position, IsTrue, nat_le}
+use Rattle.std.proofs.Common.{◌≡◌, ℕ, zero, suc, ◌<◌, Bool, true, false, ◌&&◌, ◌==◌, List, [], ◌∷◌, ◌++◌, length, refl, ap, sym, ◌∙◌, arith}
+use Rattle.std.specs.Prelude.{Option, Some, None, fold, flat_map, slice_get}
 use Rattle.std.specs.List.{list_all}
 use Rattle.tsl_terms.specs.declared.names.NameKind.TheVariants.{Signal}
 use Rattle.tsl_terms.specs.Name.{Name, number_of, texts, is_name, is_usable, same_kind}
-use Rattle.tsl_terms.specs.TermTree.{TermTree, signal}
-use Rattle.tsl_terms.specs.FormulaTree.{FormulaTree, update, formulas_in, formulas_of}
-use Rattle.tsl_terms.specs.WellFormed.{formula_fits, formulas_fit, is_usable_at}
+use Rattle.tsl_terms.specs.FormulaTree.{FormulaTree, formulas_in, formulas_of}
+use Rattle.tsl_terms.specs.WellFormed.{formulas_fit, is_usable_at}
 use Rattle.tsl_tool.specs.Form.{Pair, sides, with_signal, added_unless_found, signal_named, names_of, AreUpdates, has_usable_names}
 
 -- the name is that of a signal, and usable

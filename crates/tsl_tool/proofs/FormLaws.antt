@@ -1,6 +1,6 @@
 -- What is read by the form is spelled so, and what is spelled so is read.
-use Rattle.std.proofs.Common.{◌≡◌, ℕ, Bool, true, false, cond, ◌&&◌, List, [], ◌∷◌, ◌++◌, length, refl, ap, sym, ◌∙◌, map, append_assoc, ◌≤◌, arith}
-use Rattle.std.specs.Prelude.{Option, Some, None, Result, Ok, Err, option_map, flat_map, codes, nat_le, IsTrue, if◌then◌else◌, All, IfSome, IfNone}
+use Rattle.std.proofs.Common.{◌≡◌, ℕ, Bool, true, false, ◌&&◌, List, [], ◌∷◌, ◌++◌, length, refl, ap, sym, ◌∙◌, arith}
+use Rattle.std.specs.Prelude.{Option, Some, None, Ok, Err, option_map, flat_map, codes, nat_le, if◌then◌else◌, All, IfSome, IfNone}
 use Rattle.std.specs.List.{list_all, AllByRecursion}
 use Rattle.std.specs.Str.{bytes_eq}
 use Rattle.std.proofs.lemmas.Bool.{leb-true, le-leb}
@@ -9,7 +9,7 @@ use Rattle.std.proofs.lemmas.Slice.Eq.{bytes_eq-Decides}
 use Rattle.tsl_text.specs.declared.Token.{Token}
 use Rattle.tsl_text.specs.declared.TokenKind.TheVariants.{OpenBrace, CloseBrace, OpenSquare, CloseSquare, Semicolon, LeftArrow}
 use Rattle.tsl_text.specs.Division.{Part, Divides, AreTokens, IsAnswer, IsTokenOf, lexemes_of, tokens_from}
-use Rattle.tsl_text.specs.Lexeme.{Lexeme, name, symbol, lexeme_of}
+use Rattle.tsl_text.specs.Lexeme.{Lexeme, name, symbol}
 use Rattle.tsl_text.proofs.Parts.{one_division, one_answer, lexemes as lexemes_of_tokens}
 use Rattle.tsl_tool.specs.Form.{Pair, update_lexemes, form_lexemes, has_usable_names, most_updates, is_no_slash, IsForm}
 use Rattle.tsl_text.specs.declared.TextError.{TextError}

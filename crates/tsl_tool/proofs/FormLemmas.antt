@@ -1,8 +1,8 @@
 -- The updates of the built form, one after another.
-use Rattle.std.proofs.Common.{◌≡◌, ℕ, Bool, true, false, List, [], ◌∷◌, ◌++◌, refl, ap, sym, ◌∙◌, map, append_assoc}
+use Rattle.std.proofs.Common.{◌≡◌, Bool, true, false, List, [], ◌∷◌, ◌++◌, refl, ap, sym, ◌∙◌, append_assoc}
 use Rattle.std.proofs.lemmas.List.{append-nil}
 use Rattle.std.specs.Prelude.{Option, Some, None, option_map}
-use Rattle.tsl_text.specs.declared.TokenKind.TheVariants.{OpenBrace, CloseBrace, OpenSquare, CloseSquare, Semicolon, LeftArrow}
+use Rattle.tsl_text.specs.declared.TokenKind.TheVariants.{CloseBrace, OpenSquare, CloseSquare, Semicolon, LeftArrow}
 use Rattle.tsl_text.specs.Lexeme.{Lexeme, name, symbol}
 use Rattle.tsl_tool.specs.Form.{Pair}
 use Rattle.tsl_tool.specs.Reading.{first_update, is_end, pairs_before_brace}

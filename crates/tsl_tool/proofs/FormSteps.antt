@@ -1,12 +1,12 @@
 -- One step of the loop over the updates of the built form.
-use Rattle.std.proofs.Common.{◌≡◌, ℕ, ◌+◌, ◌<◌, List, [], ◌∷◌, ◌++◌, length, get_or, take, drop, refl, ap, sym, ◌∙◌, map}
-use Rattle.std.specs.Prelude.{Option, Some, fold, flat_map}
+use Rattle.std.proofs.Common.{◌≡◌, ℕ, ◌+◌, ◌<◌, List, [], ◌∷◌, ◌++◌, length, get_or, take, drop, ap, sym, ◌∙◌, map}
+use Rattle.std.specs.Prelude.{Some, fold, flat_map}
 use Rattle.std.proofs.lemmas.List.{map-append, take_more, drop_more}
 use Rattle.tsl_terms.specs.declared.formula.Formula.{Formula}
 use Rattle.tsl_terms.specs.declared.formula.Formula.TheVariants.{Update}
 use Rattle.tsl_terms.specs.declared.term.Term.TheVariants.{Signal}
 use Rattle.tsl_terms.specs.Name.{Name, number_of}
-use Rattle.tsl_terms.specs.FormulaTree.{FormulaTree, formula_tree}
+use Rattle.tsl_terms.specs.FormulaTree.{formula_tree}
 use Rattle.tsl_tool.specs.declared.form.NamePair.{NamePair}
 use Rattle.tsl_tool.specs.Form.{with_signal, sides, AreUpdates}
 use Rattle.tsl_tool.specs.PairView.{pair_of}

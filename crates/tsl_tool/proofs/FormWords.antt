@@ -1,12 +1,12 @@
 -- Tests of words and of lists.
-use Rattle.std.proofs.Common.{◌≡◌, ℕ, Bool, ◌&&◌, ◌||◌, List, length, ◌≤◌, ap, map}
+use Rattle.std.proofs.Common.{◌≡◌, ℕ, ◌||◌, List, length, ◌≤◌, map}
 use Rattle.std.specs.List.{list_any, list_all}
 use Rattle.std.specs.Str.{bytes_eq}
 use Rattle.std.proofs.lemmas.Bool.{le-leb}
 use Rattle.std.proofs.lemmas.List.{length-map}
 use Rattle.std.proofs.lemmas.List.Folds.{list_any-append, list_all-map}
 use Rattle.tsl_terms.specs.Name.{is_reserved}
-use Rattle.tsl_tool.specs.Form.{Pair, has_usable_names, most_updates}
+use Rattle.tsl_tool.specs.Form.{has_usable_names, most_updates}
 use Rattle.tsl_tool.specs.Reading.{are_allowed}
 use Rattle.tsl_tool.specs.PairView.{pair_of}
 use Rattle.tsl_tool.specs.Words.{section_words, formula_words}

@@ -11,5 +11,7 @@ pub mod FormNames
 pub mod FormOne
 pub mod FormSteps
 pub mod FormWords
+pub mod RecheckExamples
+pub mod RecheckLaws
 pub mod SynthLaws
 pub mod TopLaws

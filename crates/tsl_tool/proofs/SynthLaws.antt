@@ -1,16 +1,14 @@
 -- What the command `synth` writes.
-use Rattle.std.proofs.Common.{◌≡◌, ℕ, List, refl, ap, sym, ◌∙◌, subst}
+use Rattle.std.proofs.Common.{◌≡◌, ℕ, List, sym, subst}
 use Rattle.tsl_terms.specs.declared.spec.Spec.{Spec}
 use Rattle.tsl_terms.specs.SpecTree.{SpecTree}
 use Rattle.tsl_terms.specs.SpecView.{spec_tree}
-use Rattle.flow_program.specs.declared.program.Program.{Program}
 use Rattle.flow_program.specs.ProgramTree.{ProgramTree}
-use Rattle.flow_program.specs.ProgramView.{program_tree}
 use Rattle.flow_program.specs.ProgramText.{ProgramText, IsWritable}
 use Rattle.tsl_meaning.specs.Promise.{Realizes}
 use Rattle.tsl_tool.specs.Fixed.{IsFixed, fixed_program}
 use Rattle.tsl_tool.specs.Form.{Spells}
-use Rattle.tsl_tool.specs.Outcome.{IsWritten, IsUnbuilt}
+use Rattle.tsl_tool.specs.Synth.{IsWritten, IsUnbuilt}
 use Rattle.tsl_tool.proofs.FixedCode.{spec_fits}
 use Rattle.tsl_tool.proofs.FixedLaws.{SpecFits, fixed_is_writable, fixed_realizes}
 use Rattle.tsl_tool.proofs.FormOne.{one_spec, names_fit}

@@ -1,111 +1,138 @@
--- What stands in the sinks after a run.
-use Rattle.std.proofs.Common.{◌≡◌, ℕ, Bool, true, List, [], ◌∷◌, ◌++◌, length, ◌≤◌, refl, ap, sym, ◌∙◌, subst, inl, inr}
-use Rattle.std.specs.Prelude.{Option, Some, None, Result, Ok, Err, IfOk, OnOk, OnErr, IsTrue, ◌⊎◌}
+-- What a run replies, and what stands in the sinks after it.
+use Rattle.std.proofs.Common.{◌≡◌, ℕ, Bool, true, false, List, refl, ap, sym, ◌∙◌, subst, inl, inr}
+use Rattle.std.specs.Prelude.{Option, Some, None, Result, Ok, Err, IfOk, codes, cond, []}
 use Rattle.std.proofs.lemmas.List.{append-nil}
-use Rattle.tsl_io.specs.Told.{after, AddsPrefix, WhereTold}
-use Rattle.tsl_io.specs.Faults.{Faulted}
+use Rattle.tsl_io.specs.Told.{after, WhereTold}
 use Rattle.tsl_tool.specs.declared.status.Status.{Status}
 use Rattle.tsl_tool.specs.declared.status.Status.TheVariants.{Done, No, Usage, Reading, Large, Spent, ReadFault, WriteFault, Memory}
-use Rattle.tsl_tool.specs.declared.top.Reply.{Reply}
-use Rattle.tsl_tool.specs.declared.top.Reply.TheVariants.{Program, Line}
-use Rattle.tsl_tool.specs.Outcome.{is_synth, most_bytes, Outcome, AnswersBytes, IsWritten, IsAdded, IsCutOff, Told, Answers}
-use Rattle.tsl_tool.specs.ReplyView.{reply_status, reply_out, reply_err}
+use Rattle.tsl_tool.specs.declared.words.Command.{Command}
+use Rattle.tsl_tool.specs.declared.words.Command.TheVariants.{Synth, Recheck}
+use Rattle.tsl_tool.specs.declared.reply.Reply.{Reply}
+use Rattle.tsl_tool.specs.Statuses.{is_answer}
+use Rattle.tsl_tool.specs.Causes.{is_replied}
+use Rattle.tsl_tool.specs.Commands.{command_of}
+use Rattle.tsl_tool.specs.Replies.{out_text, err_text}
+use Rattle.tsl_tool.specs.Synth.{IsWritten}
+use Rattle.tsl_tool.specs.Recheck.{cnf_part, log_part, IsRefutation, IsRefused, OfParts}
+use Rattle.tsl_tool.specs.Outcome.{Replies, Told, Answers, IsAdded, IsSent}
+use Rattle.tsl_tool.proofs.RecheckLaws.{yes_text, no_exactly}
+use Rattle.refutation_check.specs.CnfText.{cnf_answer}
+use Rattle.refutation_check.specs.LogText.{log_answer}
 
--- what the bytes lead to is an outcome
-outcome_of_bytes : (words : List (List ℕ)) (bytes : List ℕ) (status : Status) (out err : List ℕ) → is_synth words ≡ true →
-    length bytes ≤ most_bytes → AnswersBytes bytes status out err → Outcome words bytes status out err
-outcome_of_bytes words bytes Done out err is few h = (is, few, h)
-outcome_of_bytes words bytes Reading out err is few h = (is, few, h)
-outcome_of_bytes words bytes No out err is few h = absurd h
-outcome_of_bytes words bytes Usage out err is few h = absurd h
-outcome_of_bytes words bytes Large out err is few h = absurd h
-outcome_of_bytes words bytes Spent out err is few h = absurd h
-outcome_of_bytes words bytes ReadFault out err is few h = absurd h
-outcome_of_bytes words bytes WriteFault out err is few h = absurd h
-outcome_of_bytes words bytes Memory out err is few h = absurd h
+status_along : {a b : Reply} → a ≡ b → a.status ≡ b.status
+status_along h = ap (λ (r : Reply). r.status) h
 
-pub reply_outcome : {E : Type 0} (words : List (List ℕ)) (text : List ℕ) (told : Option (List ℕ)) (r : Result Reply E) →
-    is_synth words ≡ true → length text ≤ most_bytes → WhereTold told (λ bytes. text ≡ bytes) →
-    IfOk r (λ reply. AnswersBytes text (reply_status reply) (reply_out reply) (reply_err reply)) →
-    IfOk r (λ reply. WhereTold told (λ bytes. Outcome words bytes (reply_status reply) (reply_out reply) (reply_err reply)))
-reply_outcome words text told (Ok reply) is few known h =
-    λ bytes tells. subst (λ (b : List ℕ). Outcome words b (reply_status reply) (reply_out reply) (reply_err reply)) (known bytes tells)
-    (outcome_of_bytes words text (reply_status reply) (reply_out reply) (reply_err reply) is few h)
-reply_outcome words text told (Err e) is few known h = tt
+-- a refutation that was read is one of the bytes that are told
+pub refuted_bytes : {E : Type 0} (words : List (List ℕ)) (command : Command) (told : Option (List ℕ)) (text lent : List ℕ) (r : Result Reply E) →
+    command_of words ≡ Some command → WhereTold told (λ bytes. text ≡ bytes) → lent ≡ text →
+    IfOk r (λ reply. reply.status ≡ Done → command ≡ Recheck → OfParts lent IsRefutation) →
+    IfOk r (λ reply. reply.status ≡ Done → command_of words ≡ Some Recheck → WhereTold told (λ bytes. OfParts bytes IsRefutation))
+refuted_bytes words command told text lent (Ok reply) is known same h = λ done recheck bytes tells.
+    let both : Some command ≡ Some Recheck = sym is ∙ recheck in
+    let e : command ≡ Recheck = cc in
+    subst (λ (b : List ℕ). OfParts b IsRefutation) (same ∙ known bytes tells) (h done e)
+refuted_bytes words command told text lent (Err e) is known same h = tt
+
+-- what a yes says
+synth_yes : (bytes : List ℕ) (reply : Reply) → Replies (Some Synth) bytes reply → reply.status ≡ Done → IsWritten bytes reply.text
+synth_yes bytes reply (inl h) is_yes = let e = status_along h in cc
+synth_yes bytes reply (inr (inl h)) is_yes = let e = status_along h.1 in cc
+synth_yes bytes reply (inr (inr (few, inl h))) is_yes = h.1
+synth_yes bytes reply (inr (inr (few, inr h))) is_yes = let e = status_along h.1 in cc
+
+recheck_yes : (bytes : List ℕ) (reply : Reply) → Replies (Some Recheck) bytes reply → reply.status ≡ Done → reply.text ≡ codes "verified\n"
+recheck_yes bytes reply (inl h) is_yes = let e = status_along h in cc
+recheck_yes bytes reply (inr (inl h)) is_yes = let e = status_along h.1 in cc
+recheck_yes bytes reply (inr (inr (few, inl h))) is_yes = let e = status_along h.1 in cc
+recheck_yes bytes reply (inr (inr (few, inr h))) is_yes =
+    ap (λ (r : Reply). r.text) h.2
+    ∙ yes_text (cnf_answer (cnf_part bytes h.0)) (log_answer (log_part bytes h.0)) (sym (status_along h.2) ∙ is_yes)
+
+recheck_no : (bytes : List ℕ) (reply : Reply) → Replies (Some Recheck) bytes reply → reply.status ≡ No → OfParts bytes IsRefused
+recheck_no bytes reply (inl h) is_no = let e = status_along h in cc
+recheck_no bytes reply (inr (inl h)) is_no = let e = status_along h.1 in cc
+recheck_no bytes reply (inr (inr (few, inl h))) is_no = let e = status_along h.1 in cc
+recheck_no bytes reply (inr (inr (few, inr h))) is_no =
+    (h.0, h.1, (no_exactly (cnf_part bytes h.0) (log_part bytes h.0)).0 (sym (status_along h.2) ∙ is_no))
+
+-- a yes is that of the reply, whose text was added
+sent_yes : (status result : Status) (text : List ℕ) (old new : Option (List ℕ)) → IsSent status text old new result → result ≡ Done →
+    (status ≡ Done) × (new ≡ after text old)
+sent_yes status result text old new (inl sent) is_yes = (sym sent.0 ∙ is_yes, sent.1)
+sent_yes status result text old new (inr cut) is_yes = let clash : WriteFault ≡ Done = sym cut.0 ∙ is_yes in cc
+
+pub done_was_sent : (status result : Status) (text : List ℕ) (old new : Option (List ℕ)) → IsSent status text old new result → result ≡ Done →
+    status ≡ Done
+done_was_sent status result text old new sent is_yes = (sent_yes status result text old new sent is_yes).0
+
+pub synth_headline : (words : List (List ℕ)) (bytes : List ℕ) (reply : Reply) (result : Status) (old new : Option (List ℕ)) →
+    Replies (command_of words) bytes reply → IsSent reply.status reply.text old new result → result ≡ Done → command_of words ≡ Some Synth →
+    (text : List ℕ) × IsWritten bytes text × (new ≡ after text old)
+synth_headline words bytes reply result old new h sent is_yes is =
+    let whole : (reply.status ≡ Done) × (new ≡ after reply.text old) = sent_yes reply.status result reply.text old new sent is_yes in
+    (reply.text, synth_yes bytes reply (subst (λ (c : Option Command). Replies c bytes reply) is h) whole.0, whole.1)
+
+pub recheck_headline : (words : List (List ℕ)) (bytes : List ℕ) (reply : Reply) (result : Status) (old new : Option (List ℕ)) →
+    Replies (command_of words) bytes reply → IsSent reply.status reply.text old new result → result ≡ Done → command_of words ≡ Some Recheck →
+    new ≡ after (codes "verified\n") old
+recheck_headline words bytes reply result old new h sent is_yes is =
+    let whole : (reply.status ≡ Done) × (new ≡ after reply.text old) = sent_yes reply.status result reply.text old new sent is_yes in
+    whole.1 ∙ ap (λ (text : List ℕ). after text old) (recheck_yes bytes reply (subst (λ (c : Option Command). Replies c bytes reply) is h) whole.0)
+
+pub recheck_refused : (words : List (List ℕ)) (bytes : List ℕ) (reply : Reply) (result : Status) (old new : Option (List ℕ)) →
+    Replies (command_of words) bytes reply → IsSent reply.status reply.text old new result → result ≡ No → command_of words ≡ Some Recheck →
+    OfParts bytes IsRefused
+recheck_refused words bytes reply result old new h (inl sent) is_no is =
+    recheck_no bytes reply (subst (λ (c : Option Command). Replies c bytes reply) is h) (sym sent.0 ∙ is_no)
+recheck_refused words bytes reply result old new h (inr cut) is_no is =
+    let clash : WriteFault ≡ No = sym cut.0 ∙ is_no in cc
 
 -- what two sinks tell before and after
 abbrev pub told_of : {O E : Type 0} → (O → Option (List ℕ)) → (E → Option (List ℕ)) → O → O → E → E → Told
 told_of out err a b c d = record { out_old = out a; out_new = out b; err_old = err c; err_new = err d }
 
 -- nothing added is as before
-pub after_nothing : (told : Option (List ℕ)) → told ≡ after [] told
+after_nothing : (told : Option (List ℕ)) → told ≡ after [] told
 after_nothing None = refl
 after_nothing (Some bytes) = ap Some (sym (append-nil bytes))
 
--- an outcome whose texts were added is the answer
-pub all_added : (words : List (List ℕ)) (bytes : List ℕ) (told : Told) (status : Status) (out err : List ℕ) →
-    Outcome words bytes status out err → told.out_new ≡ after out told.out_old → told.err_new ≡ after err told.err_old →
-    Answers words bytes told status
-all_added words bytes told Done out err h o e = (out, err, h, o, e)
-all_added words bytes told No out err h o e = absurd h
-all_added words bytes told Usage out err h o e = (out, err, h, o, e)
-all_added words bytes told Reading out err h o e = (out, err, h, o, e)
-all_added words bytes told Large out err h o e = (out, err, h, o, e)
-all_added words bytes told Spent out err h o e = absurd h
-all_added words bytes told ReadFault out err h o e = (out, err, h, o, e)
-all_added words bytes told WriteFault out err h o e = absurd h
-all_added words bytes told Memory out err h o e = absurd h
+-- texts of an outcome that were added are the answer
+all_added : (words : List (List ℕ)) (bytes : List ℕ) (told : Told) (status : Status) → is_replied status ≡ true →
+    IsAdded words bytes told status → Answers words bytes told status
+all_added words bytes told Done is h = h
+all_added words bytes told No is h = h
+all_added words bytes told Usage is h = h
+all_added words bytes told Reading is h = h
+all_added words bytes told Large is h = h
+all_added words bytes told Spent is h = h
+all_added words bytes told ReadFault is h = h
+all_added words bytes told WriteFault is h = cc
+all_added words bytes told Memory is h = cc
 
--- after a write the text was added, or some first bytes of it
-abbrev pub Written : Status → Status → List ℕ → Option (List ℕ) → Option (List ℕ) → Type 0
-Written status result text old new =
-    ((result ≡ status) × (new ≡ after text old)) ⊎ ((result ≡ WriteFault) × AddsPrefix text old new)
+-- a reply that went to the first sink
+pub out_answers : (words : List (List ℕ)) (bytes : List ℕ) (told : Told) (reply : Reply) (result : Status) →
+    Replies (command_of words) bytes reply → is_replied reply.status ≡ true → is_answer reply.status ≡ true →
+    IsSent reply.status reply.text told.out_old told.out_new result → told.err_new ≡ told.err_old → Answers words bytes told result
+out_answers words bytes told reply result h replied answer (inl sent) same =
+    let out : out_text reply ≡ reply.text = ap (λ (b : Bool). cond b reply.text []) answer in
+    let err : err_text reply ≡ [] = ap (λ (b : Bool). cond b [] reply.text) answer in
+    subst (Answers words bytes told) (sym sent.0) (all_added words bytes told reply.status replied
+    (reply.text, [], (reply, h, refl, out, err), sent.1, same ∙ after_nothing told.err_old))
+out_answers words bytes told reply result h replied answer (inr cut) same =
+    let out : out_text reply ≡ reply.text = ap (λ (b : Bool). cond b reply.text []) answer in
+    let err : err_text reply ≡ [] = ap (λ (b : Bool). cond b [] reply.text) answer in
+    subst (Answers words bytes told) (sym cut.0) (reply.status, reply.text, [], (reply, h, refl, out, err), inl (cut.1, same))
 
-pub written : {F : Type 0} (w : Result (Unit {0}) F) (status result : Status) (text : List ℕ) (old new : Option (List ℕ)) →
-    OnOk w (result ≡ status) → OnErr w (result ≡ WriteFault) → OnOk w (new ≡ after text old) → OnErr w (AddsPrefix text old new) →
-    Written status result text old new
-written (Ok u) status result text old new ok err added cut = inl (ok, added)
-written (Err e) status result text old new ok err added cut = inr (err, cut)
-
--- a program's text that went to the first sink
-pub program_answers : (words : List (List ℕ)) (bytes : List ℕ) (told : Told) (result : Status) (text : List ℕ) →
-    Outcome words bytes Done text [] → Written Done result text told.out_old told.out_new → told.err_new ≡ told.err_old →
-    Answers words bytes told result
-program_answers words bytes told result text h (inl w) same =
-    subst (Answers words bytes told) (sym w.0) (all_added words bytes told Done text [] h w.1 (same ∙ after_nothing told.err_old))
-program_answers words bytes told result text h (inr w) same =
-    subst (Answers words bytes told) (sym w.0) (Done, text, [], h, inl (w.1, same))
-
-pub program_headline : (words : List (List ℕ)) (bytes : List ℕ) (result : Status) (text : List ℕ) (old new : Option (List ℕ)) →
-    Outcome words bytes Done text [] → Written Done result text old new → result ≡ Done →
-    (t : List ℕ) × IsWritten bytes t × (new ≡ after t old)
-program_headline words bytes result text old new h (inl w) is = (text, h.2.0, w.1)
-program_headline words bytes result text old new h (inr w) is =
-    let clash : WriteFault ≡ Done = sym w.0 ∙ is in
-    cc
-
--- a line that went to the second sink
-pub line_answers : (words : List (List ℕ)) (bytes : List ℕ) (told : Told) (status result : Status) (text : List ℕ) →
-    Outcome words bytes status [] text → Written status result text told.err_old told.err_new → told.out_new ≡ told.out_old →
-    Answers words bytes told result
-line_answers words bytes told status result text h (inl w) same =
-    subst (Answers words bytes told) (sym w.0) (all_added words bytes told status [] text h (same ∙ after_nothing told.out_old) w.1)
-line_answers words bytes told status result text h (inr w) same =
-    subst (Answers words bytes told) (sym w.0) (status, [], text, h, inr (same, w.1))
-
-pub line_headline : (words : List (List ℕ)) (bytes : List ℕ) (status result : Status) (text : List ℕ) (out err_old err_new : Option (List ℕ)) →
-    Outcome words bytes status [] text → Written status result text err_old err_new → result ≡ Done →
-    (t : List ℕ) × IsWritten bytes t × (out ≡ after t out)
-line_headline words bytes status result text out err_old err_new h (inl w) is =
-    let done : Outcome words bytes Done [] text = subst (λ (s : Status). Outcome words bytes s [] text) (sym w.0 ∙ is) h in
-    ([], done.2.0, after_nothing out)
-line_headline words bytes status result text out err_old err_new h (inr w) is =
-    let clash : WriteFault ≡ Done = sym w.0 ∙ is in
-    cc
-
--- a fault of writing has its cause
-pub line_fault : {F : Type 0} (w : Result (Unit {0}) F) (status result : Status) (out err_old err_new : ℕ) →
-    (status ≡ WriteFault → ⊥) → OnOk w (result ≡ status) → OnErr w (Faulted err_old err_new) → result ≡ WriteFault →
-    Faulted out out ⊎ Faulted err_old err_new
-line_fault (Ok u) status result out err_old err_new other ok cause is = absurd (other (sym ok ∙ is))
-line_fault (Err e) status result out err_old err_new other ok cause is = inr cause
+-- a reply that went to the second sink
+pub err_answers : (words : List (List ℕ)) (bytes : List ℕ) (told : Told) (reply : Reply) (result : Status) →
+    Replies (command_of words) bytes reply → is_replied reply.status ≡ true → is_answer reply.status ≡ false →
+    IsSent reply.status reply.text told.err_old told.err_new result → told.out_new ≡ told.out_old → Answers words bytes told result
+err_answers words bytes told reply result h replied answer (inl sent) same =
+    let out : out_text reply ≡ [] = ap (λ (b : Bool). cond b reply.text []) answer in
+    let err : err_text reply ≡ reply.text = ap (λ (b : Bool). cond b [] reply.text) answer in
+    subst (Answers words bytes told) (sym sent.0) (all_added words bytes told reply.status replied
+    ([], reply.text, (reply, h, refl, out, err), same ∙ after_nothing told.out_old, sent.1))
+err_answers words bytes told reply result h replied answer (inr cut) same =
+    let out : out_text reply ≡ [] = ap (λ (b : Bool). cond b reply.text []) answer in
+    let err : err_text reply ≡ reply.text = ap (λ (b : Bool). cond b [] reply.text) answer in
+    subst (Answers words bytes told) (sym cut.0) (reply.status, [], reply.text, (reply, h, refl, out, err), inr (same, cut.1))

@@ -1,6 +1,6 @@
 -- The built form of specifications: `always guarantee { [y <- x]; [z <- y]; }`, with up to 1,000 updates
 -- of signals by signals. Blanks may stand anywhere between the tokens.
-use Rattle.std.specs.Prelude.{◌≡◌, ℕ, ◌≤◌, Bool, true, false, not, ◌&&◌, ◌==◌, List, [], ◌∷◌, ◌++◌, length, map, fold, flat_map, codes, Option, Some, None, IsTrue}
+use Rattle.std.specs.Prelude.{◌≡◌, ℕ, ◌≤◌, Bool, not, ◌&&◌, ◌==◌, List, [], ◌∷◌, ◌++◌, length, fold, flat_map, codes, Option, Some, None, IsTrue}
 use Rattle.std.specs.List.{list_all}
 use Rattle.tsl_text.specs.declared.TokenKind.TheVariants.{OpenBrace, CloseBrace, OpenSquare, CloseSquare, Semicolon, LeftArrow}
 use Rattle.tsl_text.specs.Division.{Part, Divides, lexemes_of}

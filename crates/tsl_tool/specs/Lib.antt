@@ -1,10 +1,13 @@
 pub mod Causes
+pub mod Commands
 pub mod Fixed
 pub mod FixedSlots
 pub mod Form
 pub mod Outcome
 pub mod PairView
 pub mod Reading
-pub mod ReplyView
+pub mod Recheck
+pub mod Replies
 pub mod Statuses
+pub mod Synth
 pub mod Words

@@ -1,62 +1,44 @@
 -- What a run answers.
-use Rattle.std.specs.Prelude.{◌≡◌, ℕ, ◌<◌, ◌≤◌, ◌⊎◌, Bool, false, ◌&&◌, List, [], ◌∷◌, ◌++◌, length, codes, Option, IsTrue}
-use Rattle.std.specs.Str.{bytes_eq}
+use Rattle.std.specs.Prelude.{◌≡◌, ℕ, ◌<◌, ◌≤◌, ◌⊎◌, List, length, Option, Some, None}
 use Rattle.tsl_io.specs.Told.{after, AddsPrefix}
-use Rattle.tsl_terms.specs.SpecTree.{SpecTree}
-use Rattle.flow_program.specs.ProgramTree.{ProgramTree}
-use Rattle.flow_program.specs.ProgramText.{ProgramText}
-use Rattle.tsl_meaning.specs.Promise.{Realizes}
+use Rattle.tsl_report.specs.declared.fault.LimitName.TheVariants.{Text}
+use Rattle.tsl_report.specs.declared.fault.Fault.TheVariants.{Usage, Read, Large}
 use Rattle.tsl_tool.specs.declared.status.Status.{Status}
-use Rattle.tsl_tool.specs.declared.status.Status.TheVariants.{Done, No, Usage, Reading, Large, Spent, ReadFault, WriteFault, Memory}
-use Rattle.tsl_tool.specs.Fixed.{IsFixed, fixed_program}
-use Rattle.tsl_tool.specs.Form.{Spells}
-use Rattle.tsl_tool.specs.Statuses.{line_of}
+use Rattle.tsl_tool.specs.declared.status.Status.TheVariants.{WriteFault, Memory}
+use Rattle.tsl_tool.specs.declared.words.Command.{Command}
+use Rattle.tsl_tool.specs.declared.words.Command.TheVariants.{Synth, Recheck}
+use Rattle.tsl_tool.specs.declared.reply.Reply.{Reply}
+use Rattle.tsl_tool.specs.Commands.{command_of, most_bytes}
+use Rattle.tsl_tool.specs.Replies.{fault_reply, out_text, err_text}
+use Rattle.tsl_tool.specs.Synth.{SynthReplies}
+use Rattle.tsl_tool.specs.Recheck.{RecheckReplies}
 
--- the words are `synth`, or `synth --states 1`
-abbrev pub is_synth : List (List ℕ) → Bool
-is_synth (command ∷ []) = bytes_eq command (codes "synth")
-is_synth (command ∷ option ∷ value ∷ []) =
-    bytes_eq command (codes "synth") && (bytes_eq option (codes "--states") && bytes_eq value (codes "1"))
-is_synth _ = false
+-- what a command replies to bytes that are not too many
+abbrev pub RepliesToBytes : Command → List ℕ → Reply → Type 0
+RepliesToBytes Synth bytes reply = SynthReplies bytes reply
+RepliesToBytes Recheck bytes reply = RecheckReplies bytes reply
 
--- the most bytes of a specification
-abbrev pub most_bytes : ℕ
-most_bytes = 1048576
+-- What a command replies. That the source fails may come on all bytes.
+abbrev pub CommandReplies : Command → List ℕ → Reply → Type 0
+CommandReplies command bytes reply =
+    (reply ≡ fault_reply Read)
+    ⊎ (((most_bytes command < length bytes) × (reply ≡ fault_reply (Large Text (most_bytes command))))
+    ⊎ ((length bytes ≤ most_bytes command) × RepliesToBytes command bytes reply))
 
--- The text that is written spells a program over the names of the specification that the bytes spell, and this
--- program realizes the specification: every closed run of it, under every finite interpretation and every input
--- loop, meets the whole formula. It is the program of one node that the specification's updates give.
-pub record IsWritten (bytes text : List ℕ) : Type 0 where
-  pub spec : SpecTree
-  pub spells : Spells bytes spec
-  pub program : ProgramTree
-  pub spelled : ProgramText text spec.names program
-  pub realizes : Realizes spec program
-  pub is_fixed : IsFixed spec
-  pub is_fixed_program : program ≡ fixed_program spec
+-- what a run replies: other words than those of a command are refused
+abbrev pub Replies : Option Command → List ℕ → Reply → Type 0
+Replies None bytes reply = reply ≡ fault_reply Usage
+Replies (Some command) bytes reply = CommandReplies command bytes reply
 
--- the bytes spell no specification of fixed updates
-abbrev pub IsUnbuilt : List ℕ → Type 0
-IsUnbuilt bytes = (spec : SpecTree) → Spells bytes spec → IsFixed spec → ⊥
-
--- what bytes that are not too many lead to: a program, or the line that they are not built
-abbrev pub AnswersBytes : List ℕ → Status → List ℕ → List ℕ → Type 0
-AnswersBytes bytes Done out err = IsWritten bytes out × (err ≡ [])
-AnswersBytes bytes Reading out err = IsUnbuilt bytes × (out ≡ []) × (err ≡ line_of Reading)
-AnswersBytes bytes _ out err = ⊥
-
--- What the words and the bytes of the source may lead to: a status, and the texts for the two sinks. That the
--- source fails may come on all bytes.
+-- What the words and the bytes of the source may lead to: a status, and the texts for the two sinks.
 abbrev pub Outcome : List (List ℕ) → List ℕ → Status → List ℕ → List ℕ → Type 0
-Outcome words bytes Done out err = IsTrue (is_synth words) × (length bytes ≤ most_bytes) × AnswersBytes bytes Done out err
-Outcome words bytes Usage out err = (IsTrue (is_synth words) → ⊥) × (out ≡ []) × (err ≡ line_of Usage)
-Outcome words bytes Reading out err = IsTrue (is_synth words) × (length bytes ≤ most_bytes) × AnswersBytes bytes Reading out err
-Outcome words bytes Large out err = IsTrue (is_synth words) × (most_bytes < length bytes) × (out ≡ []) × (err ≡ line_of Large)
-Outcome words bytes ReadFault out err = IsTrue (is_synth words) × (out ≡ []) × (err ≡ line_of ReadFault)
-Outcome words bytes No out err = ⊥
-Outcome words bytes Spent out err = ⊥
-Outcome words bytes WriteFault out err = ⊥
-Outcome words bytes Memory out err = ⊥
+Outcome words bytes status out err =
+    (reply : Reply) × Replies (command_of words) bytes reply × (reply.status ≡ status) × (out_text reply ≡ out) × (err_text reply ≡ err)
+
+-- A text that goes with a status was added, or some first bytes of it were, and the write failed.
+abbrev pub IsSent : Status → List ℕ → Option (List ℕ) → Option (List ℕ) → Status → Type 0
+IsSent status text old new result =
+    ((result ≡ status) × (new ≡ after text old)) ⊎ ((result ≡ WriteFault) × AddsPrefix text old new)
 
 -- the bytes that the sinks tell, before the run and after it
 pub record Told : Type 0 where

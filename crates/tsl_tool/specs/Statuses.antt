@@ -1,5 +1,5 @@
--- The numbers of statuses, and the lines that go with them.
-use Rattle.std.specs.Prelude.{ℕ, List, [], codes}
+-- The numbers of statuses, and the sink of what goes with them.
+use Rattle.std.specs.Prelude.{ℕ, Bool, true, false}
 use Rattle.tsl_tool.specs.declared.status.Status.{Status}
 use Rattle.tsl_tool.specs.declared.status.Status.TheVariants.{Done, No, Usage, Reading, Large, Spent, ReadFault, WriteFault, Memory}
 
@@ -14,10 +14,14 @@ status_number ReadFault = 6
 status_number WriteFault = 7
 status_number Memory = 8
 
--- the line that says why nothing was written
-abbrev pub line_of : Status → List ℕ
-line_of Usage = codes "usage: tsl synth|check|run|prove|recheck|gen\n"
-line_of Reading = codes "fault unbuilt\n"
-line_of Large = codes "large text 1048576\n"
-line_of ReadFault = codes "fault read\n"
-line_of _ = []
+-- whether it is the answer to a question, whose text goes to the first sink
+abbrev pub is_answer : Status → Bool
+is_answer Done = true
+is_answer No = true
+is_answer Spent = true
+is_answer Usage = false
+is_answer Reading = false
+is_answer Large = false
+is_answer ReadFault = false
+is_answer WriteFault = false
+is_answer Memory = false

@@ -1,10 +1,22 @@
 //! Laws of the definitions that the contracts cite.
 
-ghost use Rattle.std.specs.Prelude.{◌≡◌, ℕ, List};
+ghost use Rattle.std.specs.Prelude.{◌≡◌, ◌↔◌, ℕ, List};
+ghost use Rattle.refutation_check.specs.CnfText.{cnf_answer};
+ghost use Rattle.refutation_check.specs.LogText.{log_answer};
 ghost use Rattle.tsl_terms.specs.SpecTree.{SpecTree};
 ghost use Rattle.tsl_tool.specs.Form.{Spells};
+ghost use Rattle.tsl_tool.specs.Recheck.{IsAccepted, IsRefused, parts_reply};
+
+use crate::status::Status;
 
 /// A text spells at most one specification.
 pub fn one_specification()
     ensures { (bytes : List ℕ) (a b : SpecTree) → Spells bytes a → Spells bytes b → a ≡ b }
+{}
+
+/// `recheck` says yes exactly where its parts are a formula and a log that is accepted, and no exactly
+/// where they are a formula and a log that is refused.
+pub fn verdicts_are_those_of_logs()
+    ensures yes { (cnf log : List ℕ) → ((parts_reply (cnf_answer cnf) (log_answer log)).status ≡ Status.Done) ↔ IsAccepted cnf log }
+    ensures no { (cnf log : List ℕ) → ((parts_reply (cnf_answer cnf) (log_answer log)).status ≡ Status.No) ↔ IsRefused cnf log }
 {}

@@ -1,18 +1,18 @@
 //! How a run ends.
 
 ghost use Rattle.std.specs.Prelude.{◌≡◌};
-ghost use Rattle.tsl_tool.specs.Statuses.{status_number, line_of};
+ghost use Rattle.tsl_tool.specs.Statuses.{status_number, is_answer};
 
 /// How a run ends.
 #[derive(Clone, Copy, Debug, PartialEq, Eq)]
 pub enum Status {
-    /// A program was written.
+    /// The answer is yes, or what was asked for was written.
     Done,
     /// The answer is no.
     No,
     /// The words are refused.
     Usage,
-    /// The text is refused.
+    /// The text is refused at a place.
     Reading,
     /// A counted quantity passes its limit.
     Large,
@@ -43,17 +43,11 @@ impl Status {
             Status::Memory => 8,
         }
     }
-}
 
-/// The line that says why nothing was written.
-pub(crate) fn line(status: Status) -> &'static [u8]
-    ensures { result.now ≡ line_of status }
-{
-    match status {
-        Status::Usage => b"usage: tsl synth|check|run|prove|recheck|gen\n",
-        Status::Reading => b"fault unbuilt\n",
-        Status::Large => b"large text 1048576\n",
-        Status::ReadFault => b"fault read\n",
-        _ => b"",
+    /// Whether it is the answer to a question, whose text goes to the first sink.
+    pub(crate) fn is_answer(self) -> bool
+        ensures { result ≡ is_answer self }
+    {
+        matches!(self, Status::Done | Status::No | Status::Spent)
     }
 }

@@ -12,6 +12,10 @@ const COPIED: &[u8] =
 
 const USAGE: &[u8] = b"usage: tsl synth|check|run|prove|recheck|gen\n";
 
+/// A formula whose four clauses are all signs of two variables, and a log that refutes it.
+const REFUTED: &[u8] =
+    b"p cnf 2 4\n1 2 0\n1 -2 0\n-1 2 0\n-1 -2 0\nlrat\n5 1 0 1 2 0\n6 0 5 3 4 0\n";
+
 /// What a run left behind.
 #[derive(Drop)]
 struct Ran {
@@ -72,7 +76,7 @@ fn run(
 #[test]
 fn each_status_has_its_texts(rt: HostRuntime) -> Result<(), Fail> {
     let synth: &[&str] = &["synth"];
-    let table: [(&[&str], &[u8], Status, &[u8], &[u8]); 16] = [
+    let table: [(&[&str], &[u8], Status, &[u8], &[u8]); 18] = [
         (&["synth", "--states", "1"], COPY, Status::Done, COPIED, b""),
         (synth, COPY, Status::Done, COPIED, b""),
         (
@@ -93,6 +97,14 @@ fn each_status_has_its_texts(rt: HostRuntime) -> Result<(), Fail> {
         (&["frob"], COPY, Status::Usage, b"", USAGE),
         (&["synth", "--states", "9"], COPY, Status::Usage, b"", USAGE),
         (&["synth", "--states"], COPY, Status::Usage, b"", USAGE),
+        (&["recheck", "x"], REFUTED, Status::Usage, b"", USAGE),
+        (
+            &["recheck", "--states", "1"],
+            REFUTED,
+            Status::Usage,
+            b"",
+            USAGE,
+        ),
         (synth, b"", Status::Reading, b"", b"fault unbuilt\n"),
         (
             synth,
@@ -150,6 +162,145 @@ fn each_status_has_its_texts(rt: HostRuntime) -> Result<(), Fail> {
         assert_eq!(rt; ran.out.as_slice(), out);
         assert_eq!(rt; ran.err.as_slice(), err);
     }
+    Ok(())
+}
+
+/// The formula of `REFUTED`, the line `lrat` and this log.
+fn with_log(alloc: Global, log: &[u8]) -> Result<Vec<u8>, AllocError> {
+    let mut text = Vec::from_slice(alloc, b"p cnf 2 4\n1 2 0\n1 -2 0\n-1 2 0\n-1 -2 0\nlrat\n")?;
+    text.extend_from_slice(log)?;
+    Ok(text)
+}
+
+#[test]
+fn each_log_has_its_verdict(rt: HostRuntime) -> Result<(), Fail> {
+    let alloc = rt.alloc();
+    let table: [(&[u8], Status, &[u8], &[u8]); 10] = [
+        (
+            b"5 1 0 1 2 0\n6 0 5 3 4 0\n",
+            Status::Done,
+            b"verified\n",
+            b"",
+        ),
+        (
+            b"5 1 0 1 0\n6 0 5 3 4 0\n",
+            Status::No,
+            b"refused hint 5 2\n",
+            b"",
+        ),
+        (
+            b"5 1 0 2 3 0\n6 0 5 3 4 0\n",
+            Status::No,
+            b"refused hint 5 2\n",
+            b"",
+        ),
+        (b"5 1 0 1 2 0\n", Status::No, b"refused unfinished\n", b""),
+        (b"", Status::No, b"refused unfinished\n", b""),
+        (
+            b"4 1 0 1 2 0\n6 0 5 3 4 0\n",
+            Status::No,
+            b"refused line 4\n",
+            b"",
+        ),
+        (
+            b"5 1 0 1 2 0\n5 d 1 2 0\nc lrat\n6 0 5 3 4 0",
+            Status::Done,
+            b"verified\n",
+            b"",
+        ),
+        (
+            b"5 1 0 -1 0\n6 0 5 3 4 0\n",
+            Status::Reading,
+            b"",
+            b"fault log 1 form\n",
+        ),
+        (
+            b"5 1 0 1 2 0\nlrat\n6 0 5 3 4 0\n",
+            Status::Reading,
+            b"",
+            b"fault log 2 form\n",
+        ),
+        (
+            b"5 1 0 1 2 0\n6 0 5 3 4\n",
+            Status::Reading,
+            b"",
+            b"fault log 2 form\n",
+        ),
+    ];
+    for (log, status, out, err) in table {
+        let text = with_log(alloc, log)?;
+        let ran = run(alloc, &["recheck"], &text, PLAIN, PLAIN, PLAIN)?;
+        assert_eq!(rt; ran.status, status);
+        assert_eq!(rt; ran.out.as_slice(), out);
+        assert_eq!(rt; ran.err.as_slice(), err);
+    }
+    Ok(())
+}
+
+#[test]
+fn each_formula_has_its_fault(rt: HostRuntime) -> Result<(), Fail> {
+    let alloc = rt.alloc();
+    let table: [(&[u8], Status, &[u8], &[u8]); 9] = [
+        (REFUTED, Status::Done, b"verified\n", b""),
+        (
+            b"p cnf 2 5\n1 2 0\n1 -2 0\n-1 2 0\n-1 -2 0\nlrat\n5 1 0 1 2 0\n6 0 5 3 4 0\n",
+            Status::Reading,
+            b"",
+            b"fault cnf 6 form\n",
+        ),
+        (
+            b"p cnf 1 2\n1 0\n-1 0\n3 0 1 2 0\n",
+            Status::Reading,
+            b"",
+            b"fault parts lrat\n",
+        ),
+        (
+            b"p cnf 1 x\n lrat\nlrat \n",
+            Status::Reading,
+            b"",
+            b"fault parts lrat\n",
+        ),
+        (b"", Status::Reading, b"", b"fault parts lrat\n"),
+        (b"lrat", Status::Reading, b"", b"fault cnf 1 form\n"),
+        (
+            b"p cnf 1048577 2000001\nlrat\n",
+            Status::Reading,
+            b"",
+            b"fault cnf 2 form\n",
+        ),
+        (
+            b"p cnf 1048577 0\nlrat\nx",
+            Status::Large,
+            b"",
+            b"large variables 1048576\n",
+        ),
+        (
+            b"p cnf 1048576 0\nlrat\nx",
+            Status::Reading,
+            b"",
+            b"fault log 1 form\n",
+        ),
+    ];
+    for (text, status, out, err) in table {
+        let ran = run(alloc, &["recheck"], text, PLAIN, PLAIN, PLAIN)?;
+        assert_eq!(rt; ran.status, status);
+        assert_eq!(rt; ran.out.as_slice(), out);
+        assert_eq!(rt; ran.err.as_slice(), err);
+    }
+    Ok(())
+}
+
+#[test]
+fn a_verdict_that_cannot_be_written_is_a_write_fault(rt: HostRuntime) -> Result<(), Fail> {
+    let alloc = rt.alloc();
+    let to = Device {
+        piece: 1,
+        fails_at: 5,
+    };
+    let ran = run(alloc, &["recheck"], REFUTED, PLAIN, to, PLAIN)?;
+    assert_eq!(rt; ran.status, Status::WriteFault);
+    assert_eq!(rt; ran.out.as_slice(), b"veri".as_slice());
+    assert_eq!(rt; ran.err.is_empty(), true);
     Ok(())
 }
 

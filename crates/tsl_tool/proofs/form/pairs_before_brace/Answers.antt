@@ -1,6 +1,6 @@
-use Rattle.std.proofs.Common.{◌≡◌, ap, sym, ◌∙◌, refl}
+use Rattle.std.proofs.Common.{sym, ◌∙◌}
 use Rattle.std.proofs.lemmas.List.{map-append}
-use Rattle.tsl_tool.proofs.FormLemmas.{with_front_none, after_update, found_at_end}
+use Rattle.tsl_tool.proofs.FormLemmas.{with_front_none, after_update}
 use Rattle.tsl_tool.proofs.form.pairs_before_brace.Goals as goal
 
 pub loop-pair-init : goal.loop-pair-init

@@ -1,6 +1,5 @@
-use Rattle.std.proofs.Common.{◌≡◌, map, ap, sym, ◌∙◌}
+use Rattle.std.proofs.Common.{map, sym, ◌∙◌}
 use Rattle.tsl_tool.specs.PairView.{pair_of}
-use Rattle.tsl_tool.specs.Reading.{lexemes_at, pairs_of_form}
 use Rattle.tsl_tool.proofs.FormLaws.{form_of, no_form_of}
 use Rattle.tsl_tool.proofs.form.pairs_of_text.Goals as goal
 

@@ -1,4 +1,3 @@
-use Rattle.std.proofs.Common.{◌≡◌}
 use Rattle.tsl_tool.proofs.form.read_form.Goals as goal
 
 pub returns-in-None-clause-none : goal.returns-in-None-clause-none

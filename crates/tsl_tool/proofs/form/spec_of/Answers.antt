@@ -1,5 +1,5 @@
-use Rattle.std.proofs.Common.{◌≡◌, ap, sym, ◌∙◌, refl, map}
-use Rattle.tsl_terms.specs.FormulaTree.{formulas_in, formula_tree}
+use Rattle.std.proofs.Common.{refl, map}
+use Rattle.tsl_terms.specs.FormulaTree.{formula_tree}
 use Rattle.tsl_tool.specs.PairView.{pair_of}
 use Rattle.tsl_tool.proofs.FormFits.{signals_fit, updates_fit, members_of}
 use Rattle.tsl_tool.proofs.form.spec_of.Goals as goal

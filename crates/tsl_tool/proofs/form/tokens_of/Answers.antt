@@ -1,4 +1,3 @@
-use Rattle.std.proofs.Common.{◌≡◌}
 use Rattle.tsl_text.specs.declared.TextError.TheVariants.{Byte, OpenComment}
 use Rattle.tsl_tool.proofs.FormLaws.{are_within, no_division}
 use Rattle.tsl_tool.proofs.form.tokens_of.Goals as goal

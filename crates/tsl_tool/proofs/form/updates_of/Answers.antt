@@ -1,4 +1,4 @@
-use Rattle.std.proofs.Common.{◌≡◌, arith}
+use Rattle.std.proofs.Common.{arith}
 use Rattle.tsl_tool.proofs.FormSteps.{names_step, updates_step}
 use Rattle.tsl_tool.proofs.form.updates_of.Goals as goal
 

@@ -1,4 +1,3 @@
-use Rattle.std.proofs.Common.{◌≡◌}
 use Rattle.tsl_tool.proofs.SynthLaws.{can_write, is_written, is_unbuilt, is_no_form}
 use Rattle.tsl_tool.proofs.synth.synthesise.Goals as goal
 

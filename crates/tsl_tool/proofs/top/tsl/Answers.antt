@@ -1,37 +1,33 @@
-use Rattle.std.proofs.Common.{◌≡◌, refl, map, Global}
+use Rattle.std.proofs.Common.{refl, sym, ◌∙◌, map, Global}
 use Rattle.std.specs.Prelude.{string_bytes}
-use Rattle.tsl_tool.specs.declared.status.Status.TheVariants.{Done}
-use Rattle.tsl_tool.proofs.TopLaws.{told_of, Written, written, program_answers, program_headline, line_answers, line_headline}
+use Rattle.tsl_tool.proofs.TopLaws.{told_of, synth_headline, recheck_headline, recheck_refused, done_was_sent, out_answers, err_answers}
 use Rattle.tsl_tool.proofs.top.tsl.Goals as goal
 
-pub returns-in-Ok-Program-clause-headline : goal.returns-in-Ok-Program-clause-headline
-returns-in-Ok-Program-clause-headline g c = λ is bytes tells.
-    let outcome = rw c.in-Ok-Program.field-0-is at c.in-Ok-Program.ensures.outcome in
-    let went : Written Done c.after_writing.result c.in-Ok-Program.text.items (g.O.Sink.written c.args.out.now) (g.O.Sink.written c.write_all_of.new.sink) =
-    written c.write_all_of.result _ _ _ _ _ c.after_writing.ensures.ok c.after_writing.ensures.err
-    (rw c.deref.ensures.value at c.write_all_of.ensures.ok) (rw c.deref.ensures.value at c.write_all_of.ensures.err) in
-    program_headline (map (string_bytes {Z = Global}) c.args.words.now) bytes _ _ _ _ (outcome bytes tells) went is
+pub returns-in-Ok-clause-headline : goal.returns-in-Ok-clause-headline
+returns-in-Ok-clause-headline g c = λ done is bytes tells.
+    synth_headline (map (string_bytes {Z = Global}) c.args.words.now) bytes c.in-Ok.reply c.send.result _ _
+    (c.in-Ok.ensures.replies bytes tells) c.send.ensures.sent done is
 
-pub returns-in-Ok-Program-clause-answers : goal.returns-in-Ok-Program-clause-answers
-returns-in-Ok-Program-clause-answers g c = λ bytes tells.
-    let outcome = rw c.in-Ok-Program.field-0-is at c.in-Ok-Program.ensures.outcome in
-    let went : Written Done c.after_writing.result c.in-Ok-Program.text.items (g.O.Sink.written c.args.out.now) (g.O.Sink.written c.write_all_of.new.sink) =
-    written c.write_all_of.result _ _ _ _ _ c.after_writing.ensures.ok c.after_writing.ensures.err
-    (rw c.deref.ensures.value at c.write_all_of.ensures.ok) (rw c.deref.ensures.value at c.write_all_of.ensures.err) in
-    program_answers (map (string_bytes {Z = Global}) c.args.words.now) bytes (told_of g.O.Sink.written g.E.Sink.written c.args.out.now c.write_all_of.new.sink c.args.err.now c.args.err.now) _ _ (outcome bytes tells) went refl
+pub returns-in-Ok-clause-verified : goal.returns-in-Ok-clause-verified
+returns-in-Ok-clause-verified g c = λ done is bytes tells. (
+  c.in-Ok.ensures.verified (done_was_sent _ _ _ _ _ c.send.ensures.sent done) is bytes tells,
+  recheck_headline (map (string_bytes {Z = Global}) c.args.words.now) bytes c.in-Ok.reply c.send.result _ _
+      (c.in-Ok.ensures.replies bytes tells) c.send.ensures.sent done is,
+)
 
-pub returns-in-Ok-Line-clause-headline : goal.returns-in-Ok-Line-clause-headline
-returns-in-Ok-Line-clause-headline g c = λ is bytes tells.
-    let outcome = rw (c.in-Ok-Line.field-0-is) at c.in-Ok-Line.ensures.outcome in
-    let went : Written c.in-Ok-Line.status c.after_writing-in-Ok-Line.result c.line.result.now (g.E.Sink.written c.args.err.now) (g.E.Sink.written c.write_all_of-in-Ok-Line.new.sink) =
-    written c.write_all_of-in-Ok-Line.result _ _ _ _ _ c.after_writing-in-Ok-Line.ensures.ok c.after_writing-in-Ok-Line.ensures.err
-    c.write_all_of-in-Ok-Line.ensures.ok c.write_all_of-in-Ok-Line.ensures.err in
-    line_headline (map (string_bytes {Z = Global}) c.args.words.now) bytes _ _ _ _ _ _ (outcome bytes tells) (rw c.line.ensures at went) is
+pub returns-in-Ok-clause-refused : goal.returns-in-Ok-clause-refused
+returns-in-Ok-clause-refused g c = λ is_no is bytes tells.
+    recheck_refused (map (string_bytes {Z = Global}) c.args.words.now) bytes c.in-Ok.reply c.send.result _ _
+    (c.in-Ok.ensures.replies bytes tells) c.send.ensures.sent is_no is
 
-pub returns-in-Ok-Line-clause-answers : goal.returns-in-Ok-Line-clause-answers
-returns-in-Ok-Line-clause-answers g c = λ bytes tells.
-    let outcome = rw (c.in-Ok-Line.field-0-is) at c.in-Ok-Line.ensures.outcome in
-    let went : Written c.in-Ok-Line.status c.after_writing-in-Ok-Line.result c.line.result.now (g.E.Sink.written c.args.err.now) (g.E.Sink.written c.write_all_of-in-Ok-Line.new.sink) =
-    written c.write_all_of-in-Ok-Line.result _ _ _ _ _ c.after_writing-in-Ok-Line.ensures.ok c.after_writing-in-Ok-Line.ensures.err
-    c.write_all_of-in-Ok-Line.ensures.ok c.write_all_of-in-Ok-Line.ensures.err in
-    line_answers (map (string_bytes {Z = Global}) c.args.words.now) bytes (told_of g.O.Sink.written g.E.Sink.written c.args.out.now c.args.out.now c.args.err.now c.write_all_of-in-Ok-Line.new.sink) _ _ _ (outcome bytes tells) (rw c.line.ensures at went) refl
+pub returns-in-Ok-clause-answers : goal.returns-in-Ok-clause-answers
+returns-in-Ok-clause-answers g c = λ bytes tells.
+    out_answers (map (string_bytes {Z = Global}) c.args.words.now) bytes
+    (told_of g.O.Sink.written g.E.Sink.written c.args.out.now c.send.new.sink c.args.err.now c.args.err.now) c.in-Ok.reply c.send.result
+    (c.in-Ok.ensures.replies bytes tells) c.in-Ok.ensures.replied (sym c.is_answer.ensures ∙ c.if-is_answer.true) c.send.ensures.sent refl
+
+pub returns-in-Ok-2-clause-answers : goal.returns-in-Ok-2-clause-answers
+returns-in-Ok-2-clause-answers g c = λ bytes tells.
+    err_answers (map (string_bytes {Z = Global}) c.args.words.now) bytes
+    (told_of g.O.Sink.written g.E.Sink.written c.args.out.now c.args.out.now c.args.err.now c.send-in-Ok-2.new.sink) c.in-Ok.reply c.send-in-Ok-2.result
+    (c.in-Ok.ensures.replies bytes tells) c.in-Ok.ensures.replied (sym c.is_answer.ensures ∙ c.if-is_answer.false) c.send-in-Ok-2.ensures.sent refl

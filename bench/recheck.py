@@ -1,0 +1,99 @@
+#!/usr/bin/env python3
+"""Times `tsl recheck` on refutations of doubling sizes, beside a plain checker in C. The first argument is the largest
+size in MiB, 4 if there is none."""
+import pathlib
+import subprocess
+import sys
+import tempfile
+
+HERE = pathlib.Path(__file__).resolve().parent
+PROGRAM = HERE.parent / "crates" / "tsl" / "out" / "tsl"
+
+
+def measured(measure, text, command):
+    """The least seconds of the runs, and the peak KiB."""
+    with tempfile.NamedTemporaryFile() as file:
+        file.write(text)
+        file.flush()
+        done = subprocess.run([measure, file.name, *command], capture_output=True, text=True)
+    if done.returncode != 0:
+        raise SystemExit("a run failed")
+    nanoseconds, peak = done.stdout.split()
+    return int(nanoseconds) / 1e9, int(peak)
+
+
+def text_of(variables, clauses, steps):
+    lines = [f"p cnf {variables} {len(clauses)}"]
+    lines += [f"{' '.join(map(str, clause))} 0" for clause in clauses]
+    lines += ["lrat"]
+    lines += [
+        " ".join(map(str, [len(clauses) + 1 + i, *literals, 0, *hints, 0])) for i, (literals, hints) in enumerate(steps)
+    ]
+    return ("\n".join(lines) + "\n").encode()
+
+
+def chain(size):
+    """Each variable implies the next; the first holds and the last does not. Each step shows one variable."""
+    count = max(2, size // 55)
+    clauses = [[1]] + [[-i, i + 1] for i in range(1, count)] + [[-count]]
+    first = len(clauses) + 1
+    steps = [([i + 1], [first + i - 2 if i > 1 else 1, i + 1]) for i in range(1, count)]
+    steps += [([], [first + count - 2, len(clauses)])]
+    return text_of(count, clauses, steps)
+
+
+def long_clauses(size, length=500):
+    """Long clauses over variables that are all false, each with a variable of its own; each step shows one of those."""
+    count = max(1, size // (9 * length))
+    facts = [[-i] for i in range(1, length + 1)]
+    clauses = facts + [[*range(1, length + 1), length + j] for j in range(1, count + 1)]
+    clauses += [[-(length + count)]]
+    steps = [([length + j], [*range(1, length + 1), length + j]) for j in range(1, count + 1)]
+    steps += [([], [len(clauses) + count, len(clauses)])]
+    return text_of(length + count, clauses, steps)
+
+
+def pairs(size):
+    """All signs of three variables, again and again over new ones; each step shows a clause of two, or of one literal."""
+    count = max(1, size // 270)
+    clauses, steps = [], []
+    for i in range(count):
+        a, b, c = 3 * i + 1, 3 * i + 2, 3 * i + 3
+        clauses += [[a * x, b * y, c * z] for x in (1, -1) for y in (1, -1) for z in (1, -1)]
+    for i in range(count):
+        a, b, first, own = 3 * i + 1, 3 * i + 2, 8 * i + 1, 8 * count + 7 * i + 1
+        for k, (x, y) in enumerate(((1, 1), (1, -1), (-1, 1), (-1, -1))):
+            steps += [([a * x, b * y], [first + 2 * k, first + 2 * k + 1])]
+        steps += [([a], [own, own + 1]), ([-a], [own + 2, own + 3]), ([], [own + 4, own + 5])]
+    return text_of(3 * count, clauses, steps)
+
+
+def table(measure, reference, title, family, sizes):
+    print(title)
+    print(f"{'bytes':>10} {'seconds':>9} {'growth':>7} {'peak KiB':>9} {'a byte':>7} {'plain C':>9} {'ratio':>6}")
+    before = None
+    for size in sizes:
+        text = family(size)
+        seconds, peak = measured(measure, text, [PROGRAM, "recheck"])
+        plain, _ = measured(measure, text, [reference])
+        growth = f"{seconds / before:7.2f}" if before else "      -"
+        each = peak * 1024 / len(text)
+        print(f"{len(text):10} {seconds:9.4f} {growth} {peak:9} {each:7.1f} {plain:9.4f} {seconds / plain:6.2f}")
+        before = seconds
+
+
+def main():
+    if not PROGRAM.exists():
+        raise SystemExit("build the program first: ./tsl synth < examples/copy.tsl")
+    largest = float(sys.argv[1]) if len(sys.argv) > 1 else 4
+    sizes = [int(largest * 2**20 / 2**k) for k in reversed(range(6))]
+    with tempfile.TemporaryDirectory() as folder:
+        measure, reference = (pathlib.Path(folder) / name for name in ("measure", "reference"))
+        for program in (measure, reference):
+            subprocess.run(["cc", "-O2", "-o", program, HERE / f"{program.name}.c"], check=True)
+        table(measure, reference, "chains of units", chain, sizes)
+        table(measure, reference, "long clauses", long_clauses, sizes)
+        table(measure, reference, "clauses of three, two and one literals", pairs, sizes)
+
+
+main()

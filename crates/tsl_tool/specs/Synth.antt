@@ -1,0 +1,33 @@
+-- What the command `synth` replies.
+use Rattle.std.specs.Prelude.{◌≡◌, ℕ, ◌⊎◌, List}
+use Rattle.tsl_terms.specs.SpecTree.{SpecTree}
+use Rattle.flow_program.specs.ProgramTree.{ProgramTree}
+use Rattle.flow_program.specs.ProgramText.{ProgramText}
+use Rattle.tsl_meaning.specs.Promise.{Realizes}
+use Rattle.tsl_report.specs.declared.fault.Fault.TheVariants.{Unbuilt}
+use Rattle.tsl_tool.specs.declared.status.Status.TheVariants.{Done}
+use Rattle.tsl_tool.specs.declared.reply.Reply.{Reply}
+use Rattle.tsl_tool.specs.Fixed.{IsFixed, fixed_program}
+use Rattle.tsl_tool.specs.Form.{Spells}
+use Rattle.tsl_tool.specs.Replies.{fault_reply}
+
+-- The text that is written spells a program over the names of the specification that the bytes spell, and this
+-- program realizes the specification: every closed run of it, under every finite interpretation and every input
+-- loop, meets the whole formula. It is the program of one node that the specification's updates give.
+pub record IsWritten (bytes text : List ℕ) : Type 0 where
+  pub spec : SpecTree
+  pub spells : Spells bytes spec
+  pub program : ProgramTree
+  pub spelled : ProgramText text spec.names program
+  pub realizes : Realizes spec program
+  pub is_fixed : IsFixed spec
+  pub is_fixed_program : program ≡ fixed_program spec
+
+-- the bytes spell no specification of fixed updates
+abbrev pub IsUnbuilt : List ℕ → Type 0
+IsUnbuilt bytes = (spec : SpecTree) → Spells bytes spec → IsFixed spec → ⊥
+
+-- a program is written, or the line says that it is not built
+abbrev pub SynthReplies : List ℕ → Reply → Type 0
+SynthReplies bytes reply =
+    ((reply.status ≡ Done) × IsWritten bytes reply.text) ⊎ (IsUnbuilt bytes × (reply ≡ fault_reply Unbuilt))
