@@ -1,0 +1,243 @@
+-- The faults of a text, by the tokens where they stand, and that each cause leaves no specification.
+use Rattle.std.proofs.Common.{◌≡◌, ℕ, zero, suc, ◌-◌, ◌<◌, ◌≤◌, List, [], ◌∷◌, ◌++◌, length, refl, ap, sym, ◌∙◌, subst, ⊎_elim, inl, inr, length-append, append_assoc, arith}
+use Rattle.std.proofs.lemmas.List.{map-append, append-nil}
+use Rattle.std.proofs.lemmas.Option.{slice_get_past}
+use Rattle.std.specs.Prelude.{Option, Some, None, Ok, Err, slice_get}
+use Rattle.tsl_text.specs.declared.Token.{Token}
+use Rattle.tsl_text.specs.declared.TextError.{TextError}
+use Rattle.tsl_text.specs.declared.TextError.TheVariants.{Byte, OpenComment}
+use Rattle.tsl_text.specs.Division.{AreTokens, IsAnswer}
+use Rattle.tsl_text.proofs.Parts.{one_answer}
+use Rattle.tsl_terms.specs.Name.{Name}
+use Rattle.tsl_terms.specs.FormulaTree.{FormulaTree}
+use Rattle.tsl_terms.specs.SpecTree.{SpecTree, whole_formula}
+use Rattle.tsl_terms.specs.Nodes.{nodes}
+use Rattle.tsl_reader.specs.declared.SpecError.{SpecError}
+use Rattle.tsl_reader.specs.declared.SpecError.TheVariants as error
+use Rattle.tsl_reader.specs.declared.syntax.Part.{Part}
+use Rattle.tsl_reader.specs.declared.syntax.Part.TheVariants.{AssumeFirst, AssumeAlways, GuaranteeFirst, GuaranteeAlways}
+use Rattle.tsl_reader.specs.Syntax.{SectionSyntax}
+use Rattle.tsl_reader.specs.Grammar.{AreSections}
+use Rattle.tsl_reader.specs.Reading.{form, deep, sections}
+use Rattle.tsl_reader.specs.Naming.{written_uses, names_of, numbered_list, formulas_in, alike_in_kind, same_arity}
+use Rattle.tsl_reader.specs.Spells.{deepest, most_nodes, terminal_at, terminals, Derives, HasNoClash, IsDerived, Spells, NoTextBegins, HasWrongToken, EndsTooEarly, HasFormFault, HasDeepFault, HasClashAt, HasTooManyNodes, HasCause, IsRefused}
+use Rattle.tsl_reader.proofs.AgainSections.{one_tree}
+use Rattle.tsl_reader.proofs.Faults.{form_is_within, deep_is_within, form_stops_all, form_begins, deep_stops, deep_begins, deep_goes_on, no_text}
+
+-- the tokens before one at a place, and those behind it
+pub record Split (tokens : List Token) (at : ℕ) (token : Token) : Type 0 where
+  pub before : List Token
+  pub after : List Token
+  pub split : tokens ≡ before ++ token ∷ after
+  pub place : length before ≡ at
+
+pub split_at : (tokens : List Token) (at : ℕ) (token : Token) → slice_get tokens at ≡ Some token → Split tokens at token
+split_at [] at token h = cc
+split_at (t ∷ tokens) zero token h =
+    let same : t ≡ token = cc in
+    record { before = []; after = tokens; split = ap (λ s. s ∷ tokens) same; place = refl }
+split_at (t ∷ tokens) (suc at) token h =
+    let s : Split tokens at token = split_at tokens at token h in
+    record { before = t ∷ s.before; after = s.after; split = ap (λ ts. t ∷ ts) s.split; place = ap suc s.place }
+
+-- the terminals of tokens before and behind one
+terminals_split : (text : List ℕ) (before : List Token) (token : Token) (after : List Token) →
+    terminals text (before ++ token ∷ after) ≡ terminals text before ++ terminal_at text token ∷ terminals text after
+terminals_split text before token after = map-append (terminal_at text) before (token ∷ after)
+
+length_terminals : (text : List ℕ) (tokens : List Token) → length (terminals text tokens) ≡ length tokens
+length_terminals text [] = refl
+length_terminals text (t ∷ tokens) = ap suc (length_terminals text tokens)
+
+-- the place of a token with so many tokens from it on
+left_at : (tokens : List Token) (left : ℕ) (token : Token) → 0 < left → left ≤ length tokens → (s : Split tokens (length tokens - left) token) → left ≡ suc (length s.after)
+left_at tokens left token some few s =
+    let whole : length tokens ≡ length (s.before ++ token ∷ s.after) = ap length s.split in
+    omega (arith, whole, s.place, some, few, length-append s.before (token ∷ s.after))
+
+-- a fault at a token
+record Stop (text : List ℕ) (tokens : List Token) (left : ℕ) (token : Token) : Type 0 where
+  pub before : List Token
+  pub after : List Token
+  pub split : tokens ≡ before ++ token ∷ after
+  pub terminals_are : terminals text tokens ≡ terminals text before ++ terminal_at text token ∷ terminals text after
+  pub here : left ≡ suc (length (terminals text after))
+
+stop_at : (text : List ℕ) (tokens : List Token) (left : ℕ) (token : Token) → slice_get tokens (length tokens - left) ≡ Some token → 0 < left → left ≤ length tokens → Stop text tokens left token
+stop_at text tokens left token there some few =
+    let s : Split tokens (length tokens - left) token = split_at tokens (length tokens - left) token there in
+    record {
+      before = s.before;
+      after = s.after;
+      split = s.split;
+      terminals_are = ap (terminals text) s.split ∙ terminals_split text s.before token s.after;
+      here = left_at tokens left token some few s ∙ ap suc (sym (length_terminals text s.after));
+    }
+
+wrong_token : (text : List ℕ) (tokens : List Token) → AreTokens text tokens → (left : ℕ) → sections deepest (terminals text tokens) ≡ Err (form left) →
+    (token : Token) → slice_get tokens (length tokens - left) ≡ Some token → 0 < left → HasWrongToken text token.start
+wrong_token text tokens are left h token there some =
+    let few : left ≤ length tokens = omega (arith, form_is_within deepest (terminals text tokens) left h, length_terminals text tokens) in
+    let s : Stop text tokens left token = stop_at text tokens left token there some few in
+    record {
+      before = s.before;
+      token = token;
+      after = s.after;
+      tokens_are = subst (AreTokens text) s.split are;
+      place = refl;
+      begins = form_begins deepest (terminals text tokens) left h (terminals text s.before) (terminal_at text token ∷ terminals text s.after) s.terminals_are s.here;
+      stops = λ room. rw (terminals_split text s.before token [])
+          (form_stops_all deepest (terminals text tokens) left h (terminals text s.before) (terminal_at text token) (terminals text s.after) s.terminals_are s.here room);
+    }
+
+-- a form fault at a token
+pub form_at_token : (text : List ℕ) (tokens : List Token) → AreTokens text tokens → (left : ℕ) → sections deepest (terminals text tokens) ≡ Err (form left) →
+    (token : Token) → slice_get tokens (length tokens - left) ≡ Some token → HasFormFault text token.start
+form_at_token text tokens are zero h token there = no_token (slice_get_past tokens (length tokens - 0) (omega arith)) where
+  no_token : slice_get tokens (length tokens - 0) ≡ None → HasFormFault text token.start
+  no_token none = cc
+form_at_token text tokens are (suc left) h token there = inl (wrong_token text tokens are (suc left) h token there (omega arith))
+
+-- a form fault at the end of the text
+pub form_at_end : (text : List ℕ) (tokens : List Token) → AreTokens text tokens → (left : ℕ) → sections deepest (terminals text tokens) ≡ Err (form left) → left ≡ 0 →
+    HasFormFault text (length text)
+form_at_end text tokens are left h none =
+    inr (record {
+      tokens = tokens;
+      tokens_are = are;
+      place = refl;
+      begins = form_begins deepest (terminals text tokens) left h (terminals text tokens) [] (sym (append-nil (terminals text tokens))) none;
+      no_text = λ room. no_text deepest (terminals text tokens) left h room;
+    })
+
+-- a level too many, at a token
+pub deep_at_token : (text : List ℕ) (tokens : List Token) → AreTokens text tokens → (left : ℕ) → sections deepest (terminals text tokens) ≡ Err (deep left) →
+    (token : Token) → slice_get tokens (length tokens - left) ≡ Some token → HasDeepFault text token.start
+deep_at_token text tokens are left h token there =
+    let within = deep_is_within deepest (terminals text tokens) left h in
+    let few : left ≤ length tokens = omega (arith, within.1, length_terminals text tokens) in
+    let s : Stop text tokens left token = stop_at text tokens left token there within.0 few in
+    record {
+      before = s.before;
+      token = token;
+      after = s.after;
+      tokens_are = subst (AreTokens text) s.split are;
+      place = refl;
+      begins = deep_begins deepest (terminals text tokens) left h (terminals text s.before) (terminal_at text token) (terminals text s.after) s.terminals_are s.here;
+      stops = rw (terminals_split text s.before token [])
+          (deep_stops deepest (terminals text tokens) left h (terminals text s.before) (terminal_at text token) (terminals text s.after) s.terminals_are s.here);
+      room = suc (suc deepest);
+      goes_on = rw (terminals_split text s.before token [])
+          (deep_goes_on deepest (terminals text tokens) left h (terminals text s.before) (terminal_at text token) (terminals text s.after) s.terminals_are s.here);
+    }
+
+-- no token stands at the place of a form fault where none is left
+pub none_left : (text : List ℕ) (tokens : List Token) (left : ℕ) → sections deepest (terminals text tokens) ≡ Err (form left) → slice_get tokens (length tokens - left) ≡ None → left ≡ 0
+none_left text tokens zero h none = refl
+none_left text tokens (suc left) h none =
+    let few : suc left ≤ length tokens = omega (arith, form_is_within deepest (terminals text tokens) (suc left) h, length_terminals text tokens) in
+    absurd (some_within tokens (length tokens - suc left) (omega (arith, few)) none)
+  where
+    some_within : (ts : List Token) (at : ℕ) → at < length ts → slice_get ts at ≡ None → ⊥
+    some_within [] at less none = omega (arith, less)
+    some_within (t ∷ ts) zero less none = cc
+    some_within (t ∷ ts) (suc at) less none = some_within ts at (omega (arith, less)) none
+
+-- a level too many has a token
+pub deep_has_token : (text : List ℕ) (tokens : List Token) (left : ℕ) → sections deepest (terminals text tokens) ≡ Err (deep left) → (0 < left) × (left ≤ length tokens)
+deep_has_token text tokens left h =
+    let within = deep_is_within deepest (terminals text tokens) left h in
+    (within.0, omega (arith, within.1, length_terminals text tokens))
+
+-- a text has one list of tokens
+pub one_list : (text : List ℕ) (a b : List Token) → AreTokens text a → AreTokens text b → a ≡ b
+one_list text a b h k =
+    let same : Ok a ≡ Ok b = one_answer text (Ok a) (Ok b) h k in
+    cc
+
+no_tokens : (text : List ℕ) (fault : TextError) → IsAnswer text (Err fault) → (tokens : List Token) → AreTokens text tokens → ⊥
+no_tokens text fault h tokens are =
+    let same : Err fault ≡ Ok tokens = one_answer text (Err fault) (Ok tokens) h are in
+    cc
+
+-- a text derives from one list of sections
+pub one_derivation : (text : List ℕ) (a b : List Token) (ss rs : List SectionSyntax) → Derives text a ss → Derives text b rs → ss ≡ rs
+one_derivation text a b ss rs h k =
+    let same : a ≡ b = one_list text a b h.tokens_are k.tokens_are in
+    one_tree deepest (terminals text b) ss rs (subst (λ tokens. AreSections deepest (terminals text tokens) ss) same h.derived) k.derived
+
+token_refuses : (text : List ℕ) (before : List Token) (token : Token) (after : List Token) → AreTokens text (before ++ token ∷ after) →
+    NoTextBegins deepest (terminals text (before ++ token ∷ [])) → (spec : SpecTree) → Spells text spec → ⊥
+token_refuses text before token after are stops spec spelled =
+    let d : Derives text spelled.derived.tokens spelled.derived.sections = spelled.derived.derives in
+    let same : spelled.derived.tokens ≡ before ++ token ∷ after = one_list text spelled.derived.tokens (before ++ token ∷ after) d.tokens_are are in
+    let whole : terminals text spelled.derived.tokens ≡ terminals text (before ++ token ∷ []) ++ terminals text after =
+    ap (terminals text) (same ∙ sym (append_assoc before (token ∷ []) after)) ∙ map-append (terminal_at text) (before ++ token ∷ []) after in
+    stops (terminals text after) spelled.derived.sections (subst (λ xs. AreSections deepest xs spelled.derived.sections) whole d.derived)
+
+ends_refuses : (text : List ℕ) (at : ℕ) → EndsTooEarly text at → (spec : SpecTree) → Spells text spec → ⊥
+ends_refuses text at h spec spelled =
+    let d : Derives text spelled.derived.tokens spelled.derived.sections = spelled.derived.derives in
+    let same : spelled.derived.tokens ≡ h.tokens = one_list text spelled.derived.tokens h.tokens d.tokens_are h.tokens_are in
+    h.no_text deepest spelled.derived.sections (subst (λ tokens. AreSections deepest (terminals text tokens) spelled.derived.sections) same d.derived)
+
+clash_refuses : (text : List ℕ) (tokens : List Token) (ss : List SectionSyntax) (start end : ℕ) → Derives text tokens ss →
+    HasClashAt alike_in_kind text tokens ss start end → (spec : SpecTree) → Spells text spec → ⊥
+clash_refuses text tokens ss start end d h spec spelled =
+    let same : spelled.derived.sections ≡ ss = one_derivation text spelled.derived.tokens tokens spelled.derived.sections ss spelled.derived.derives d in
+    let none : HasNoClash alike_in_kind (written_uses ss) = subst (λ rs. HasNoClash alike_in_kind (written_uses rs)) same spelled.derived.one_kind in
+    none h.at h.clash.clash
+
+arity_refuses : (text : List ℕ) (tokens : List Token) (ss : List SectionSyntax) (start end : ℕ) → Derives text tokens ss →
+    HasClashAt same_arity text tokens ss start end → (spec : SpecTree) → Spells text spec → ⊥
+arity_refuses text tokens ss start end d h spec spelled =
+    let same : spelled.derived.sections ≡ ss = one_derivation text spelled.derived.tokens tokens spelled.derived.sections ss spelled.derived.derives d in
+    let none : HasNoClash same_arity (written_uses ss) = subst (λ rs. HasNoClash same_arity (written_uses rs)) same spelled.derived.one_arity in
+    none h.at h.clash.clash
+
+-- the parts of a specification make it
+abbrev spec_from : List Name → List FormulaTree → List FormulaTree → List FormulaTree → List FormulaTree → SpecTree
+spec_from names a b c d = record { names = names; assume_first = a; assume_always = b; guarantee_first = c; guarantee_always = d }
+
+one_numbering : {X : Type 0} (found : Option X) (x y : X) → found ≡ Some x → found ≡ Some y → x ≡ y
+one_numbering found x y h k = cc
+
+numbered_alike : (m n : List Name) (ss rs : List SectionSyntax) (part : Part) (x y : List FormulaTree) → m ≡ n → ss ≡ rs →
+    numbered_list m (formulas_in part ss) ≡ Some x → numbered_list n (formulas_in part rs) ≡ Some y → x ≡ y
+numbered_alike m n ss rs part x y names sections h k =
+    let same : numbered_list n (formulas_in part rs) ≡ Some x =
+    sym (ap (λ names. numbered_list names (formulas_in part ss)) names ∙ ap (λ s. numbered_list n (formulas_in part s)) sections) ∙ h in
+    one_numbering (numbered_list n (formulas_in part rs)) x y same k
+
+-- a text derives from one specification
+pub one_derived : (text : List ℕ) (a b : SpecTree) → IsDerived text a → IsDerived text b → a ≡ b
+one_derived text a b x y =
+    let sections : x.sections ≡ y.sections = one_derivation text x.tokens y.tokens x.sections y.sections x.derives y.derives in
+    let names : a.names ≡ b.names = x.names ∙ ap names_of sections ∙ sym y.names in
+    let assume_first : a.assume_first ≡ b.assume_first = numbered_alike a.names b.names x.sections y.sections AssumeFirst a.assume_first b.assume_first names sections x.assume_first y.assume_first in
+    let assume_always : a.assume_always ≡ b.assume_always = numbered_alike a.names b.names x.sections y.sections AssumeAlways a.assume_always b.assume_always names sections x.assume_always y.assume_always in
+    let guarantee_first : a.guarantee_first ≡ b.guarantee_first = numbered_alike a.names b.names x.sections y.sections GuaranteeFirst a.guarantee_first b.guarantee_first names sections x.guarantee_first y.guarantee_first in
+    let guarantee_always : a.guarantee_always ≡ b.guarantee_always = numbered_alike a.names b.names x.sections y.sections GuaranteeAlways a.guarantee_always b.guarantee_always names sections x.guarantee_always y.guarantee_always in
+    λ i. spec_from (names i) (assume_first i) (assume_always i) (guarantee_first i) (guarantee_always i)
+
+-- a text spells one specification
+pub one_spec : (text : List ℕ) (a b : SpecTree) → Spells text a → Spells text b → a ≡ b
+one_spec text a b x y = one_derived text a b x.derived y.derived
+
+nodes_refuse : (text : List ℕ) → HasTooManyNodes text → (spec : SpecTree) → Spells text spec → ⊥
+nodes_refuse text h spec spelled =
+    let same : spec ≡ h.spec = one_derived text spec h.spec spelled.derived h.derived in
+    let few : nodes (whole_formula h.spec) ≤ most_nodes = subst (λ s. nodes (whole_formula s) ≤ most_nodes) same spelled.few_nodes in
+    omega (arith, few, h.many_nodes)
+
+-- where a refusal has its cause, the text spells no specification
+pub cause_refuses : (text : List ℕ) (e : SpecError) → HasCause text e → IsRefused text e
+cause_refuses text (error.Byte at) h = λ spec spelled. no_tokens text (Byte at) h spelled.derived.tokens spelled.derived.derives.tokens_are
+cause_refuses text (error.OpenComment at) h = λ spec spelled. no_tokens text (OpenComment at) h spelled.derived.tokens spelled.derived.derives.tokens_are
+cause_refuses text (error.Form at) h = λ spec spelled.
+    ⊎_elim (λ wrong. token_refuses text wrong.before wrong.token wrong.after wrong.tokens_are (wrong.stops deepest) spec spelled) (λ ends. ends_refuses text at ends spec spelled) h
+cause_refuses text (error.Deep at) h = λ spec spelled. token_refuses text h.before h.token h.after h.tokens_are h.stops spec spelled
+cause_refuses text (error.Kind start end) h = λ spec spelled. clash_refuses text h.tokens h.sections start end h.derives h.clash spec spelled
+cause_refuses text (error.Arity start end) h = λ spec spelled. arity_refuses text h.tokens h.sections start end h.derives h.clash spec spelled
+cause_refuses text error.Nodes h = λ spec spelled. nodes_refuse text h spec spelled
+cause_refuses text error.NoMemory h = tt

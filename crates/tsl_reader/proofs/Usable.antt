@@ -1,0 +1,55 @@
+-- The names of a text's tokens are usable where they are no reserved words.
+use Rattle.std.proofs.Common.{◌≡◌, ℕ, Bool, true, false, ◌||◌, List, [], ◌∷◌, refl}
+use Rattle.std.specs.Prelude.{Option, Some, None, codes, if◌then◌else◌}
+use Rattle.std.specs.List.{AllByRecursion}
+use Rattle.std.specs.Str.{bytes_eq}
+use Rattle.std.proofs.lemmas.List.Elements.{recursion_from_All}
+use Rattle.tsl_text.specs.declared.Token.{Token}
+use Rattle.tsl_text.specs.declared.TokenKind.{TokenKind}
+use Rattle.tsl_text.specs.declared.TokenKind.TheVariants.{Name}
+use Rattle.tsl_text.specs.Division.{AreTokens, IsTokenOf}
+use Rattle.tsl_text.specs.Lexeme.{IsName, IsTokenText, lexeme_from, token_text}
+use Rattle.tsl_text.proofs.Parts.{each_token}
+use Rattle.tsl_terms.specs.Name.{is_name_text, is_reserved}
+use Rattle.tsl_reader.specs.declared.syntax.Word.{Word}
+use Rattle.tsl_reader.specs.declared.syntax.Word.TheVariants.{Assume, Guarantee, Always, Initially, True, False, X, F, G, U, W, R, A}
+use Rattle.tsl_reader.specs.Syntax.{Terminal, free, word, mark, word_of, free_unless, terminal_of}
+use Rattle.tsl_reader.specs.Spells.{terminal_at, terminals}
+use Rattle.tsl_reader.proofs.Fine.{AreUsable}
+
+one_word : (is : Bool) (w : Word) (rest : Option Word) (others : Bool) → (rest ≡ None → others ≡ false) → (if is then Some w else rest) ≡ None → (is || others) ≡ false
+one_word true w rest others further h = cc
+one_word false w rest others further h = further h
+
+-- what is no word is not reserved
+pub not_reserved : (text : List ℕ) → word_of text ≡ None → is_reserved text ≡ false
+not_reserved text h =
+    one_word (bytes_eq text (codes "assume")) Assume _ _ (one_word (bytes_eq text (codes "guarantee")) Guarantee _ _ (one_word (bytes_eq text (codes "always")) Always _ _
+    (one_word (bytes_eq text (codes "initially")) Initially _ _ (one_word (bytes_eq text (codes "true")) True _ _ (one_word (bytes_eq text (codes "false")) False _ _
+    (one_word (bytes_eq text (codes "X")) X _ _ (one_word (bytes_eq text (codes "F")) F _ _ (one_word (bytes_eq text (codes "G")) G _ _ (one_word (bytes_eq text (codes "U")) U _ _
+    (one_word (bytes_eq text (codes "W")) W _ _ (one_word (bytes_eq text (codes "R")) R _ _ (one_word (bytes_eq text (codes "A")) A None false (λ e. refl))))))))))))) h
+
+name_text : (text : List ℕ) → IsName text → is_name_text text ≡ true
+name_text [] h = absurd h
+name_text (first ∷ rest) h = rw (h.0, h.1) refl
+
+usable_name : (text : List ℕ) → IsName text → (found : Option Word) → word_of text ≡ found → AreUsable (free_unless text found ∷ [])
+usable_name text h None e = (rw (name_text text h, not_reserved text e) refl, tt)
+usable_name text h (Some w) e = tt
+
+usable_token : (kind : TokenKind) (text : List ℕ) → IsTokenText kind text → AreUsable (terminal_of (lexeme_from kind text) ∷ [])
+usable_token Name text h = usable_name text h (word_of text) refl
+usable_token _ text h = tt
+
+in_front : (x : Terminal) (xs : List Terminal) → AreUsable (x ∷ []) → AreUsable xs → AreUsable (x ∷ xs)
+in_front (free x) xs h k = (h.0, k)
+in_front (word w) xs h k = k
+in_front (mark m) xs h k = k
+
+usable_each : (text : List ℕ) (tokens : List Token) → AllByRecursion (IsTokenOf text) tokens → AreUsable (terminals text tokens)
+usable_each text [] h = tt
+usable_each text (t ∷ tokens) h = in_front (terminal_at text t) (terminals text tokens) (usable_token t.kind (token_text text t) h.0.spelled) (usable_each text tokens h.1)
+
+-- the names of a text are usable
+pub usable_terminals : (text : List ℕ) (tokens : List Token) → AreTokens text tokens → AreUsable (terminals text tokens)
+usable_terminals text tokens are = usable_each text tokens (recursion_from_All (IsTokenOf text) tokens (each_token text tokens are))

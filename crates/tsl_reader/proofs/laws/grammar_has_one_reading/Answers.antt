@@ -1,0 +1,9 @@
+use Rattle.tsl_reader.proofs.AgainSections.{one_tree}
+use Rattle.tsl_reader.proofs.Faults.{more_room}
+use Rattle.tsl_reader.proofs.laws.grammar_has_one_reading.Goals as goal
+
+pub returns-clause-one : goal.returns-clause-one
+returns-clause-one c = one_tree
+
+pub returns-clause-more : goal.returns-clause-more
+returns-clause-more c = more_room

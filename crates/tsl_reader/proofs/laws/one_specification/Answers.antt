@@ -1,0 +1,5 @@
+use Rattle.tsl_reader.proofs.Causes.{one_spec}
+use Rattle.tsl_reader.proofs.laws.one_specification.Goals as goal
+
+pub returns : goal.returns
+returns c = one_spec

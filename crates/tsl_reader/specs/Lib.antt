@@ -1,0 +1,11 @@
+pub mod Syntax
+pub mod Grammar
+pub mod Reading
+pub mod Naming
+pub mod Spells
+pub mod SyntaxView
+pub mod Forms
+pub mod Few
+pub mod UseView
+pub mod Quality
+pub mod Numbering

@@ -1,0 +1,85 @@
+-- What the code reads, without where it lies in memory.
+use Rattle.std.specs.Prelude.{◌≡◌, ℕ, List, map, codes, Option, Some, None, option_map, Err, Vec, if◌then◌else◌}
+use Rattle.std.specs.Str.{bytes_eq}
+use Rattle.std.specs.declared.alloc.Global.{Global}
+use Rattle.tsl_reader.specs.declared.fault.ReadFault.{ReadFault}
+use Rattle.tsl_reader.specs.declared.fault.ReadFault.TheVariants.{Form, Deep, NoMemory}
+use Rattle.tsl_reader.specs.declared.syntax.Word.{Word}
+use Rattle.tsl_reader.specs.declared.syntax.Word.TheVariants.{X, F, G, U, W, R, A}
+use Rattle.tsl_reader.specs.declared.terminals.Terminal.{Terminal as LentTerminal}
+use Rattle.tsl_reader.specs.declared.terminals.Terminal.TheVariants.{Free, Word as WordOf, Mark}
+use Rattle.tsl_reader.specs.declared.trees.ReadTerm.{ReadTerm}
+use Rattle.tsl_reader.specs.declared.trees.ReadTerm.TheVariants.{Alone, Applied}
+use Rattle.tsl_reader.specs.declared.trees.ReadTerms.{ReadTerms}
+use Rattle.tsl_reader.specs.declared.trees.ReadTerms.TheVariants.{Empty as NoTerms, More' as MoreTerms'}
+use Rattle.tsl_reader.specs.declared.trees.ReadFormula.{ReadFormula}
+use Rattle.tsl_reader.specs.declared.trees.ReadFormula.TheVariants.{True, False, Bare, Tested, Updated, Under', Between', All, Any}
+use Rattle.tsl_reader.specs.declared.trees.ReadFormulas.{ReadFormulas}
+use Rattle.tsl_reader.specs.declared.trees.ReadFormulas.TheVariants.{Empty, More'}
+use Rattle.tsl_reader.specs.declared.trees.ReadSection.{ReadSection}
+use Rattle.tsl_reader.specs.Syntax.{Terminal, free, word, mark, TermSyntax, alone, applied, TermsSyntax, no_terms, more_terms, FormulaSyntax, truth, falsehood, bare, tested, updated, under, between, all, any, FormulasSyntax, no_formulas, more_formulas, SectionSyntax}
+use Rattle.tsl_reader.specs.Reading.{Answer, form, deep}
+
+abbrev pub terminal_view : LentTerminal → Terminal
+terminal_view (Free text) = free text.now
+terminal_view (WordOf w) = word w
+terminal_view (Mark kind) = mark kind
+
+abbrev pub terminals_view : List LentTerminal → List Terminal
+terminals_view terminals = map terminal_view terminals
+
+abbrev mutual
+  pub term_syntax : ReadTerm → TermSyntax
+  term_syntax (Alone name) = alone name.now
+  term_syntax (Applied name arguments) = applied name.now (terms_syntax arguments)
+
+  pub terms_syntax : ReadTerms → TermsSyntax
+  terms_syntax NoTerms = no_terms
+  terms_syntax (MoreTerms' p head q rest) = more_terms (term_syntax head) (terms_syntax rest)
+
+abbrev mutual
+  pub formula_syntax : ReadFormula → FormulaSyntax
+  formula_syntax True = truth
+  formula_syntax False = falsehood
+  formula_syntax (Bare name) = bare name.now
+  formula_syntax (Tested name arguments) = tested name.now (terms_syntax arguments)
+  formula_syntax (Updated name term) = updated name.now (term_syntax term)
+  formula_syntax (Under' op p a) = under op (formula_syntax a)
+  formula_syntax (Between' op p a q b) = between op (formula_syntax a) (formula_syntax b)
+  formula_syntax (All fs) = all (formulas_syntax fs)
+  formula_syntax (Any fs) = any (formulas_syntax fs)
+
+  pub formulas_syntax : ReadFormulas → FormulasSyntax
+  formulas_syntax Empty = no_formulas
+  formulas_syntax (More' p head q rest) = more_formulas (formula_syntax head) (formulas_syntax rest)
+
+abbrev pub section_syntax : ReadSection → SectionSyntax
+section_syntax s = record { part = s.part; formulas = map formula_syntax s.formulas.items }
+
+-- the fault is the answer's, unless memory ran out
+abbrev pub HasFault : {V : Type 0} → Answer V → ReadFault → Type 0
+HasFault answer (Form left) = answer ≡ Err (form left)
+HasFault answer (Deep left) = answer ≡ Err (deep left)
+HasFault answer NoMemory = Unit {0}
+
+-- what stands behind a name: nothing, or arguments
+abbrev pub arguments_syntax : Option (Vec ReadTerm Global) → Option (List TermSyntax)
+arguments_syntax arguments = option_map (λ ts. map term_syntax ts.items) arguments
+
+-- the fault is that of the member at the front, unless memory ran out
+abbrev pub HasFaultOfMember : {V : Type 0} → Option (Answer V) → ReadFault → Type 0
+HasFaultOfMember member (Form left) = member ≡ Some (Err (form left))
+HasFaultOfMember member (Deep left) = member ≡ Some (Err (deep left))
+HasFaultOfMember member NoMemory = Unit {0}
+
+-- the reserved words of one letter
+abbrev pub letter_of : List ℕ → Option Word
+letter_of text =
+    if bytes_eq text (codes "X") then Some X
+    else (if bytes_eq text (codes "F") then Some F
+    else (if bytes_eq text (codes "G") then Some G
+    else (if bytes_eq text (codes "U") then Some U
+    else (if bytes_eq text (codes "W") then Some W
+    else (if bytes_eq text (codes "R") then Some R
+    else (if bytes_eq text (codes "A") then Some A
+    else None))))))

@@ -1,0 +1,503 @@
+//! Reading formulas.
+
+ghost use Rattle.std.specs.Prelude.{◌≡◌, ◌<◌, ◌≤◌, length, map, Option, Some, None, Ok, IfOk, IfErr, IfSome, IfNone};
+ghost use Rattle.tsl_reader.specs.Syntax.{FormulaSyntax, between, all_of, any_of};
+ghost use Rattle.tsl_reader.specs.Forms.{reader_of, form_with};
+ghost use Rattle.tsl_reader.specs.Reading.{Level, lower, below, bracketed, made, chain, close_square, atom_named, update_with, atom_with, unary_in, prefix_with, conjunct, and_behind, and_with, disjunct, or_behind_and, or_behind, imp_behind_or, imp_behind, iff_behind_imp, iff_behind, temporal_in, formula_behind};
+ghost use Rattle.tsl_reader.specs.SyntaxView.{terminals_view, arguments_syntax, formula_syntax, HasFault};
+
+use crate::fault::ReadFault;
+use crate::syntax::{Binary, Unary, Word};
+use crate::terminals::{Left, Terminal};
+use crate::terms::{Answer, behind_name, close_round, level_below, term_with};
+use crate::trees::{ReadFormula, ReadFormulas, ReadTerm, ReadTerms};
+use sequence::NoMemory;
+use std::alloc::Global;
+use tsl_text::TokenKind;
+
+/// A form of the grammar that begins with a prefix.
+#[derive(Clone, Copy, Debug)]
+pub(crate) enum Form {
+    /// A prefix and nothing else.
+    Prefix,
+    /// The right side of an implication.
+    Implication,
+    /// The right side of an equivalence.
+    Equivalence,
+    /// A whole formula.
+    Formula,
+}
+
+/// The terminals behind the closing bracket.
+#[tactic(auto, unfolding(crate::specs::Reading::close_square))]
+fn close_square<'a, 'b>(xs: &'b [Terminal<'a>]) -> Result<&'b [Terminal<'a>], ReadFault>
+    ensures ok { IfOk result (λ rest.
+        close_square (tt {0}) (terminals_view xs.now) ≡ Ok (tt {0}, terminals_view rest.now)) }
+    ensures fault { IfErr result (HasFault (close_square (tt {0}) (terminals_view xs.now))) }
+    ensures shorter { IfOk result (λ rest. length rest.now < length xs.now) }
+{
+    match xs {
+        [Terminal::Mark(TokenKind::CloseSquare), rest @ ..] => Ok(rest),
+        _ => Err(ReadFault::Form(xs.len())),
+    }
+}
+
+/// The operator at the front that stands before its operand.
+fn unary_in(xs: &[Terminal]) -> Option<Unary>
+    ensures { result ≡ unary_in (terminals_view xs.now) }
+{
+    match xs {
+        [Terminal::Mark(TokenKind::Not), ..] => Some(Unary::Negation),
+        [Terminal::Word(Word::X), ..] => Some(Unary::Next),
+        [Terminal::Word(Word::F), ..] => Some(Unary::Finally),
+        [Terminal::Word(Word::G), ..] => Some(Unary::Globally),
+        _ => None,
+    }
+}
+
+/// The operator `U`, `W` or `R` at the front.
+fn temporal_in(xs: &[Terminal]) -> Option<Binary>
+    ensures { result ≡ temporal_in (terminals_view xs.now) }
+{
+    match xs {
+        [Terminal::Word(Word::U), ..] => Some(Binary::Until),
+        [Terminal::Word(Word::W), ..] => Some(Binary::WeakUntil),
+        [Terminal::Word(Word::R), ..] => Some(Binary::Release),
+        _ => None,
+    }
+}
+
+/// The terminals behind `&&` at the front.
+#[tactic(auto, unfolding(crate::specs::Reading::conjunct))]
+fn behind_and<'a, 'b>(xs: &'b [Terminal<'a>]) -> Option<&'b [Terminal<'a>]>
+    ensures some { IfSome result (λ rest. (l : Option Level) →
+        conjunct l (terminals_view xs.now) ≡ Some (prefix_with l (terminals_view rest.now))) }
+    ensures none { IfNone result ((l : Option Level) → conjunct l (terminals_view xs.now) ≡ None) }
+    ensures shorter { IfSome result (λ rest. length rest.now < length xs.now) }
+{
+    match xs {
+        [Terminal::Mark(TokenKind::And), rest @ ..] => Some(rest),
+        _ => None,
+    }
+}
+
+/// The terminals behind `||` at the front.
+#[tactic(auto, unfolding(crate::specs::Reading::disjunct))]
+fn behind_or<'a, 'b>(xs: &'b [Terminal<'a>]) -> Option<&'b [Terminal<'a>]>
+    ensures some { IfSome result (λ rest. (l : Option Level) →
+        disjunct l (terminals_view xs.now) ≡ Some (and_with l (terminals_view rest.now))) }
+    ensures none { IfNone result ((l : Option Level) → disjunct l (terminals_view xs.now) ≡ None) }
+    ensures shorter { IfSome result (λ rest. length rest.now < length xs.now) }
+{
+    match xs {
+        [Terminal::Mark(TokenKind::Or), rest @ ..] => Some(rest),
+        _ => None,
+    }
+}
+
+/// A name with what stands behind it.
+fn atom_named<'a>(
+    alloc: Global,
+    name: &'a [u8],
+    arguments: Option<Vec<ReadTerm<'a>>>,
+) -> Result<ReadFormula<'a>, NoMemory>
+    ensures { IfOk result (λ formula. formula_syntax formula ≡ atom_named name.now (arguments_syntax arguments.entry)) }
+{
+    match arguments {
+        None => Ok(ReadFormula::Bare(name)),
+        Some(terms) => Ok(ReadFormula::Tested(name, ReadTerms::from_vec(alloc, terms)?)),
+    }
+}
+
+/// Two formulas with an operator between them.
+fn between<'a>(
+    alloc: Global,
+    op: Binary,
+    left: ReadFormula<'a>,
+    right: ReadFormula<'a>,
+) -> Result<ReadFormula<'a>, NoMemory>
+    ensures { IfOk result (λ formula. formula_syntax formula
+        ≡ between op (formula_syntax left.entry) (formula_syntax right.entry)) }
+{
+    Ok(ReadFormula::Between(op, Box::new(alloc, left)?, Box::new(alloc, right)?))
+}
+
+/// The operands of `&&` as one formula: one operand stands for itself.
+fn all_of<'a>(
+    alloc: Global,
+    first: ReadFormula<'a>,
+    others: Vec<ReadFormula<'a>>,
+) -> Result<ReadFormula<'a>, NoMemory>
+    ensures { IfOk result (λ formula. formula_syntax formula
+        ≡ all_of (formula_syntax first.entry) (map formula_syntax others.entry.items)) }
+{
+    if others.is_empty() {
+        return Ok(first);
+    }
+    let others = ReadFormulas::from_vec(alloc, others)?;
+    Ok(ReadFormula::All(ReadFormulas::More(Box::new(alloc, first)?, Box::new(alloc, others)?)))
+}
+
+/// The operands of `||` as one formula: one operand stands for itself.
+fn any_of<'a>(
+    alloc: Global,
+    first: ReadFormula<'a>,
+    others: Vec<ReadFormula<'a>>,
+) -> Result<ReadFormula<'a>, NoMemory>
+    ensures { IfOk result (λ formula. formula_syntax formula
+        ≡ any_of (formula_syntax first.entry) (map formula_syntax others.entry.items)) }
+{
+    if others.is_empty() {
+        return Ok(first);
+    }
+    let others = ReadFormulas::from_vec(alloc, others)?;
+    Ok(ReadFormula::Any(ReadFormulas::More(Box::new(alloc, first)?, Box::new(alloc, others)?)))
+}
+
+/// An update behind its opening bracket.
+#[tactic(auto, unfolding(crate::specs::Reading::update_with))]
+fn update_with<'a, 'b>(
+    alloc: Global,
+    room: u32,
+    xs: &'b [Terminal<'a>],
+) -> Answer<'a, 'b, ReadFormula<'a>>
+    ensures ok { IfOk result (λ read. update_with (lower room) (terminals_view xs.now)
+        ≡ Ok (formula_syntax read.0, terminals_view read.1.now)) }
+    ensures fault { IfErr result (HasFault (update_with (lower room) (terminals_view xs.now))) }
+    ensures shorter { IfOk result (λ read. length read.1.now ≤ length xs.now) }
+{
+    match xs {
+        [
+            Terminal::Free(name),
+            Terminal::Mark(TokenKind::LeftArrow),
+            rest @ ..,
+        ] => {
+            let (term, rest) = term_with(alloc, room, rest)?;
+            let rest = close_square(rest)?;
+            Ok((ReadFormula::Updated(name, term), rest))
+        }
+        [Terminal::Free(_), rest @ ..] => Err(ReadFault::Form(rest.len())),
+        _ => Err(ReadFault::Form(xs.len())),
+    }
+}
+
+/// What a form of the level below reads behind the first terminal, which is a level too many where
+/// there is no level below.
+#[cycle(read)]
+fn form_below<'a, 'b>(
+    alloc: Global,
+    room: u32,
+    form: Form,
+    xs: &'b [Terminal<'a>],
+) -> Answer<'a, 'b, ReadFormula<'a>>
+    ensures ok { IfOk result (λ read. below (lower room) (reader_of form) (terminals_view xs.now)
+        ≡ Ok (formula_syntax read.0, terminals_view read.1.now)) }
+    ensures fault { IfErr result (HasFault (below (lower room) (reader_of form) (terminals_view xs.now))) }
+    ensures shorter { IfOk result (λ read. length read.1.now < length xs.now) }
+{
+    let below = level_below(room, xs)?;
+    match xs {
+        [] => Err(ReadFault::Form(0)),
+        [_, rest @ ..] => form_with(alloc, below, form, rest),
+    }
+}
+
+/// A form above this level.
+#[cycle(read)]
+#[tactic(auto, unfolding(crate::specs::Reading::imp_with, crate::specs::Reading::iff_with, crate::specs::Reading::formula_with))]
+pub(crate) fn form_with<'a, 'b>(
+    alloc: Global,
+    room: u32,
+    form: Form,
+    xs: &'b [Terminal<'a>],
+) -> Answer<'a, 'b, ReadFormula<'a>>
+    ensures ok { IfOk result (λ read. form_with form (lower room) (terminals_view xs.now)
+        ≡ Ok (formula_syntax read.0, terminals_view read.1.now)) }
+    ensures fault { IfErr result (HasFault (form_with form (lower room) (terminals_view xs.now))) }
+    ensures shorter { IfOk result (λ read. length read.1.now < length xs.now) }
+{
+    let (first, rest) = prefix_with(alloc, room, xs)?;
+    match form {
+        Form::Prefix => Ok((first, rest)),
+        Form::Implication => imp_behind(alloc, room, first, rest),
+        Form::Equivalence => iff_behind(alloc, room, first, rest),
+        Form::Formula => formula_behind(alloc, room, first, rest),
+    }
+}
+
+/// A formula in brackets, of which the opening one stands at the front.
+#[cycle(read)]
+fn bracketed_formula<'a, 'b>(
+    alloc: Global,
+    room: u32,
+    xs: &'b [Terminal<'a>],
+) -> Answer<'a, 'b, ReadFormula<'a>>
+    ensures ok { IfOk result (λ read. below (lower room) (λ l. bracketed l.formula) (terminals_view xs.now)
+        ≡ Ok (formula_syntax read.0, terminals_view read.1.now)) }
+    ensures fault { IfErr result (HasFault (below (lower room) (λ l. bracketed l.formula) (terminals_view xs.now))) }
+    ensures shorter { IfOk result (λ read. length read.1.now < length xs.now) }
+{
+    let (formula, rest) = form_below(alloc, room, Form::Formula, xs)?;
+    let rest = close_round(rest)?;
+    Ok((formula, rest))
+}
+
+/// An atom.
+#[cycle(read)]
+#[tactic(auto, unfolding(crate::specs::Reading::atom_with))]
+fn atom_with<'a, 'b>(
+    alloc: Global,
+    room: u32,
+    xs: &'b [Terminal<'a>],
+) -> Answer<'a, 'b, ReadFormula<'a>>
+    ensures ok { IfOk result (λ read. atom_with (lower room) (terminals_view xs.now)
+        ≡ Ok (formula_syntax read.0, terminals_view read.1.now)) }
+    ensures fault { IfErr result (HasFault (atom_with (lower room) (terminals_view xs.now))) }
+    ensures shorter { IfOk result (λ read. length read.1.now < length xs.now) }
+{
+    match xs {
+        [Terminal::Word(Word::True), rest @ ..] => Ok((ReadFormula::True, rest)),
+        [Terminal::Word(Word::False), rest @ ..] => Ok((ReadFormula::False, rest)),
+        [Terminal::Mark(TokenKind::OpenRound), ..] => bracketed_formula(alloc, room, xs),
+        [Terminal::Mark(TokenKind::OpenSquare), rest @ ..] => update_with(alloc, room, rest),
+        [Terminal::Free(name), rest @ ..] => {
+            let (arguments, rest) = behind_name(alloc, room, rest)?;
+            let atom = atom_named(alloc, name, arguments)?;
+            Ok((atom, rest))
+        }
+        _ => Err(ReadFault::Form(xs.len())),
+    }
+}
+
+/// The operand of an operator that stands in front of it, or an atom where none does.
+#[cycle(read)]
+#[tactic(auto, unfolding(crate::specs::Reading::prefix_with, crate::specs::Reading::prefix_from))]
+fn prefix_with<'a, 'b>(
+    alloc: Global,
+    room: u32,
+    xs: &'b [Terminal<'a>],
+) -> Answer<'a, 'b, ReadFormula<'a>>
+    ensures ok { IfOk result (λ read. prefix_with (lower room) (terminals_view xs.now)
+        ≡ Ok (formula_syntax read.0, terminals_view read.1.now)) }
+    ensures fault { IfErr result (HasFault (prefix_with (lower room) (terminals_view xs.now))) }
+    ensures shorter { IfOk result (λ read. length read.1.now < length xs.now) }
+{
+    match unary_in(xs) {
+        Some(op) => {
+            let (operand, rest) = form_below(alloc, room, Form::Prefix, xs)?;
+            Ok((ReadFormula::Under(op, Box::new(alloc, operand)?), rest))
+        }
+        None => atom_with(alloc, room, xs),
+    }
+}
+
+/// The further operands of `&&`.
+#[cycle(read)]
+fn conjuncts<'a, 'b>(
+    alloc: Global,
+    room: u32,
+    xs: &'b [Terminal<'a>],
+) -> Answer<'a, 'b, Vec<ReadFormula<'a>>>
+    ensures ok { IfOk result (λ read. chain (conjunct (lower room)) (terminals_view xs.now)
+        ≡ Ok (map formula_syntax read.0.items, terminals_view read.1.now)) }
+    ensures fault { IfErr result (HasFault (chain (conjunct (lower room)) (terminals_view xs.now))) }
+    ensures shorter { IfOk result (λ read. length read.1.now ≤ length xs.now) }
+{
+    let mut operands = Vec::new(alloc);
+    let mut left = Left { terminals: xs };
+    while let Some(rest) = behind_and(left.terminals) {
+        let (operand, rest) = prefix_with(alloc, room, rest)?;
+        operands.push(operand)?;
+        left = Left { terminals: rest };
+    }
+    Ok((operands, left.terminals))
+}
+
+/// The operands of `&&` behind the first one.
+#[cycle(read)]
+#[tactic(auto, unfolding(crate::specs::Reading::and_behind))]
+fn and_behind<'a, 'b>(
+    alloc: Global,
+    room: u32,
+    first: ReadFormula<'a>,
+    xs: &'b [Terminal<'a>],
+) -> Answer<'a, 'b, ReadFormula<'a>>
+    ensures ok { IfOk result (λ read. and_behind (lower room) (formula_syntax first.entry) (terminals_view xs.now)
+        ≡ Ok (formula_syntax read.0, terminals_view read.1.now)) }
+    ensures fault { IfErr result (HasFault (and_behind (lower room) (formula_syntax first.entry) (terminals_view xs.now))) }
+    ensures shorter { IfOk result (λ read. length read.1.now ≤ length xs.now) }
+{
+    let (operands, rest) = conjuncts(alloc, room, xs)?;
+    let formula = all_of(alloc, first, operands)?;
+    Ok((formula, rest))
+}
+
+/// Operands of `&&`, from the first one on.
+#[cycle(read)]
+#[tactic(auto, unfolding(crate::specs::Reading::and_with))]
+fn and_with<'a, 'b>(
+    alloc: Global,
+    room: u32,
+    xs: &'b [Terminal<'a>],
+) -> Answer<'a, 'b, ReadFormula<'a>>
+    ensures ok { IfOk result (λ read. and_with (lower room) (terminals_view xs.now)
+        ≡ Ok (formula_syntax read.0, terminals_view read.1.now)) }
+    ensures fault { IfErr result (HasFault (and_with (lower room) (terminals_view xs.now))) }
+    ensures shorter { IfOk result (λ read. length read.1.now < length xs.now) }
+{
+    let (first, rest) = prefix_with(alloc, room, xs)?;
+    and_behind(alloc, room, first, rest)
+}
+
+/// The further operands of `||`.
+#[cycle(read)]
+fn disjuncts<'a, 'b>(
+    alloc: Global,
+    room: u32,
+    xs: &'b [Terminal<'a>],
+) -> Answer<'a, 'b, Vec<ReadFormula<'a>>>
+    ensures ok { IfOk result (λ read. chain (disjunct (lower room)) (terminals_view xs.now)
+        ≡ Ok (map formula_syntax read.0.items, terminals_view read.1.now)) }
+    ensures fault { IfErr result (HasFault (chain (disjunct (lower room)) (terminals_view xs.now))) }
+    ensures shorter { IfOk result (λ read. length read.1.now ≤ length xs.now) }
+{
+    let mut operands = Vec::new(alloc);
+    let mut left = Left { terminals: xs };
+    while let Some(rest) = behind_or(left.terminals) {
+        let (operand, rest) = and_with(alloc, room, rest)?;
+        operands.push(operand)?;
+        left = Left { terminals: rest };
+    }
+    Ok((operands, left.terminals))
+}
+
+/// A form of `||` whose first prefix was read.
+#[cycle(read)]
+#[tactic(auto, unfolding(crate::specs::Reading::or_behind, crate::specs::Reading::or_behind_and))]
+fn or_behind<'a, 'b>(
+    alloc: Global,
+    room: u32,
+    first: ReadFormula<'a>,
+    xs: &'b [Terminal<'a>],
+) -> Answer<'a, 'b, ReadFormula<'a>>
+    ensures ok { IfOk result (λ read. or_behind (lower room) (formula_syntax first.entry) (terminals_view xs.now)
+        ≡ Ok (formula_syntax read.0, terminals_view read.1.now)) }
+    ensures fault { IfErr result (HasFault (or_behind (lower room) (formula_syntax first.entry) (terminals_view xs.now))) }
+    ensures shorter { IfOk result (λ read. length read.1.now ≤ length xs.now) }
+{
+    let (operand, rest) = and_behind(alloc, room, first, xs)?;
+    let (operands, rest) = disjuncts(alloc, room, rest)?;
+    let formula = any_of(alloc, operand, operands)?;
+    Ok((formula, rest))
+}
+
+/// `->` and its right side, where they follow.
+#[cycle(read)]
+#[tactic(auto, unfolding(crate::specs::Reading::imp_behind_or))]
+fn imp_behind_or<'a, 'b>(
+    alloc: Global,
+    room: u32,
+    left: ReadFormula<'a>,
+    xs: &'b [Terminal<'a>],
+) -> Answer<'a, 'b, ReadFormula<'a>>
+    ensures ok { IfOk result (λ read. imp_behind_or (lower room) (formula_syntax left.entry) (terminals_view xs.now)
+        ≡ Ok (formula_syntax read.0, terminals_view read.1.now)) }
+    ensures fault { IfErr result (HasFault (imp_behind_or (lower room) (formula_syntax left.entry) (terminals_view xs.now))) }
+    ensures shorter { IfOk result (λ read. length read.1.now ≤ length xs.now) }
+{
+    match xs {
+        [Terminal::Mark(TokenKind::Arrow), ..] => {
+            let (right, rest) = form_below(alloc, room, Form::Implication, xs)?;
+            let formula = between(alloc, Binary::Implication, left, right)?;
+            Ok((formula, rest))
+        }
+        _ => Ok((left, xs)),
+    }
+}
+
+/// A form of `->` whose first prefix was read.
+#[cycle(read)]
+#[tactic(auto, unfolding(crate::specs::Reading::imp_behind))]
+fn imp_behind<'a, 'b>(
+    alloc: Global,
+    room: u32,
+    first: ReadFormula<'a>,
+    xs: &'b [Terminal<'a>],
+) -> Answer<'a, 'b, ReadFormula<'a>>
+    ensures ok { IfOk result (λ read. imp_behind (lower room) (formula_syntax first.entry) (terminals_view xs.now)
+        ≡ Ok (formula_syntax read.0, terminals_view read.1.now)) }
+    ensures fault { IfErr result (HasFault (imp_behind (lower room) (formula_syntax first.entry) (terminals_view xs.now))) }
+    ensures shorter { IfOk result (λ read. length read.1.now ≤ length xs.now) }
+{
+    let (left, rest) = or_behind(alloc, room, first, xs)?;
+    imp_behind_or(alloc, room, left, rest)
+}
+
+/// `<->` and its right side, where they follow.
+#[cycle(read)]
+#[tactic(auto, unfolding(crate::specs::Reading::iff_behind_imp))]
+fn iff_behind_imp<'a, 'b>(
+    alloc: Global,
+    room: u32,
+    left: ReadFormula<'a>,
+    xs: &'b [Terminal<'a>],
+) -> Answer<'a, 'b, ReadFormula<'a>>
+    ensures ok { IfOk result (λ read. iff_behind_imp (lower room) (formula_syntax left.entry) (terminals_view xs.now)
+        ≡ Ok (formula_syntax read.0, terminals_view read.1.now)) }
+    ensures fault { IfErr result (HasFault (iff_behind_imp (lower room) (formula_syntax left.entry) (terminals_view xs.now))) }
+    ensures shorter { IfOk result (λ read. length read.1.now ≤ length xs.now) }
+{
+    match xs {
+        [Terminal::Mark(TokenKind::BothArrow), ..] => {
+            let (right, rest) = form_below(alloc, room, Form::Equivalence, xs)?;
+            let formula = between(alloc, Binary::Equivalence, left, right)?;
+            Ok((formula, rest))
+        }
+        _ => Ok((left, xs)),
+    }
+}
+
+/// A form of `<->` whose first prefix was read.
+#[cycle(read)]
+#[tactic(auto, unfolding(crate::specs::Reading::iff_behind))]
+fn iff_behind<'a, 'b>(
+    alloc: Global,
+    room: u32,
+    first: ReadFormula<'a>,
+    xs: &'b [Terminal<'a>],
+) -> Answer<'a, 'b, ReadFormula<'a>>
+    ensures ok { IfOk result (λ read. iff_behind (lower room) (formula_syntax first.entry) (terminals_view xs.now)
+        ≡ Ok (formula_syntax read.0, terminals_view read.1.now)) }
+    ensures fault { IfErr result (HasFault (iff_behind (lower room) (formula_syntax first.entry) (terminals_view xs.now))) }
+    ensures shorter { IfOk result (λ read. length read.1.now ≤ length xs.now) }
+{
+    let (left, rest) = imp_behind(alloc, room, first, xs)?;
+    iff_behind_imp(alloc, room, left, rest)
+}
+
+/// A whole formula whose first prefix was read.
+#[cycle(read)]
+#[tactic(auto, unfolding(crate::specs::Reading::formula_behind, crate::specs::Reading::formula_from))]
+fn formula_behind<'a, 'b>(
+    alloc: Global,
+    room: u32,
+    first: ReadFormula<'a>,
+    xs: &'b [Terminal<'a>],
+) -> Answer<'a, 'b, ReadFormula<'a>>
+    ensures ok { IfOk result (λ read. formula_behind (lower room) (formula_syntax first.entry) (terminals_view xs.now)
+        ≡ Ok (formula_syntax read.0, terminals_view read.1.now)) }
+    ensures fault { IfErr result (HasFault (formula_behind (lower room) (formula_syntax first.entry) (terminals_view xs.now))) }
+    ensures shorter { IfOk result (λ read. length read.1.now ≤ length xs.now) }
+{
+    let Some(op) = temporal_in(xs) else {
+        return iff_behind(alloc, room, first, xs);
+    };
+    match xs {
+        [] => Err(ReadFault::Form(0)),
+        [_, rest @ ..] => {
+            let (right, rest) = prefix_with(alloc, room, rest)?;
+            let formula = between(alloc, op, first, right)?;
+            Ok((formula, rest))
+        }
+    }
+}

@@ -1,0 +1,241 @@
+//! Formulas with numbers in the place of names.
+
+ghost use Rattle.std.specs.Prelude.{◌≡◌, ◌++◌, Some, map, option_map, IfOk, OnOk, IsTrue};
+ghost use Rattle.std.specs.Option.{is_some};
+ghost use Rattle.tsl_terms.specs.Name.{number_of, question};
+ghost use Rattle.tsl_terms.specs.TermTree.{term_tree, term_trees};
+ghost use Rattle.tsl_terms.specs.FormulaTree.{formula_tree, formula_trees, member_trees};
+ghost use Rattle.tsl_reader.specs.Naming.{numbered_term, numbered_terms, numbered, numbered_members, numbered_list, unary_tree, binary_tree, same_part, formulas_in};
+ghost use Rattle.tsl_reader.specs.Syntax.{bare};
+ghost use Rattle.tsl_reader.specs.Numbering.{numbered_after, formulas_if};
+ghost use Rattle.tsl_reader.specs.SyntaxView.{term_syntax, terms_syntax, formula_syntax, formulas_syntax, section_syntax};
+
+use crate::syntax::{Binary, Part, Unary};
+use crate::trees::{ReadFormula, ReadFormulas, ReadSection, ReadTerm, ReadTerms};
+use sequence::NoMemory;
+use std::alloc::Global;
+use tsl_terms::{Formula, FormulaList, Names, Probe, Term, TermList};
+
+/// The number of the name with a text.
+fn number_of(names: &Names, text: &[u8]) -> u32
+    requires { IsTrue (is_some (number_of names.now text.now)) }
+    ensures { number_of names.now text.now ≡ Some result }
+{
+    names.find(text).unwrap()
+}
+
+/// A term with numbers. An `Err` says that memory ran out.
+#[cycle(number_terms)]
+fn numbered_term(alloc: Global, names: &Names, term: &ReadTerm) -> Result<Term, NoMemory>
+    requires { IsTrue (is_some (numbered_term names.now (term_syntax term.now))) }
+    ensures { IfOk result
+        (λ tree. numbered_term names.now (term_syntax term.now) ≡ Some (term_tree tree)) }
+{
+    match term {
+        ReadTerm::Alone(name) => Ok(Term::Signal(number_of(names, name))),
+        ReadTerm::Applied(name, arguments) => {
+            let number = number_of(names, name);
+            let arguments = numbered_terms(alloc, names, arguments)?;
+            Ok(Term::Apply(number, arguments))
+        }
+    }
+}
+
+/// A list of terms with numbers. An `Err` says that memory ran out.
+#[cycle(number_terms)]
+fn numbered_terms(alloc: Global, names: &Names, terms: &ReadTerms) -> Result<TermList, NoMemory>
+    requires { IsTrue (is_some (numbered_terms names.now (terms_syntax terms.now))) }
+    ensures { IfOk result
+        (λ trees. numbered_terms names.now (terms_syntax terms.now) ≡ Some (term_trees trees)) }
+{
+    let mut trees = Vec::new(alloc);
+    let mut rest = terms;
+    while let ReadTerms::More(term, next) = rest {
+        let tree = numbered_term(alloc, names, term)?;
+        trees.push(tree)?;
+        rest = next;
+    }
+    TermList::from_vec(alloc, trees)
+}
+
+/// The test of a Boolean signal.
+fn numbered_bare(alloc: Global, names: &Names, name: &[u8]) -> Result<Formula, NoMemory>
+    requires signal { IsTrue (is_some (number_of names.now name.now)) }
+    requires test { IsTrue (is_some (number_of names.now question)) }
+    ensures { IfOk result (λ tree. numbered names.now (bare name.now) ≡ Some (formula_tree tree)) }
+{
+    let signal = Box::new(alloc, Term::Signal(number_of(names, name)))?;
+    Ok(Formula::Test(Probe {
+        predicate: number_of(names, b"?"),
+        arguments: TermList::More(signal, Box::new(alloc, TermList::Empty)?),
+    }))
+}
+
+/// An operator with its operand.
+fn unary_tree(alloc: Global, op: Unary, part: Formula) -> Result<Formula, NoMemory>
+    ensures { IfOk result (λ tree. formula_tree tree ≡ unary_tree op (formula_tree part)) }
+{
+    let part = Box::new(alloc, part)?;
+    Ok(match op {
+        Unary::Negation => Formula::Not(part),
+        Unary::Next => Formula::Next(part),
+        Unary::Finally => Formula::Finally(part),
+        Unary::Globally => Formula::Globally(part),
+    })
+}
+
+/// An operator between its operands.
+fn binary_tree(
+    alloc: Global,
+    op: Binary,
+    left: Formula,
+    right: Formula,
+) -> Result<Formula, NoMemory>
+    ensures { IfOk result (λ tree. formula_tree tree
+        ≡ binary_tree op (formula_tree left) (formula_tree right)) }
+{
+    let left = Box::new(alloc, left)?;
+    let right = Box::new(alloc, right)?;
+    Ok(match op {
+        Binary::Implication => Formula::Implies(left, right),
+        Binary::Equivalence => Formula::Iff(left, right),
+        Binary::Until => Formula::Until(left, right),
+        Binary::WeakUntil => Formula::Weak(left, right),
+        Binary::Release => Formula::Release(left, right),
+    })
+}
+
+/// A formula with numbers. An `Err` says that memory ran out.
+#[cycle(number_formulas)]
+fn numbered(alloc: Global, names: &Names, formula: &ReadFormula) -> Result<Formula, NoMemory>
+    requires { IsTrue (is_some (numbered names.now (formula_syntax formula.now))) }
+    ensures { IfOk result
+        (λ tree. numbered names.now (formula_syntax formula.now) ≡ Some (formula_tree tree)) }
+{
+    match formula {
+        ReadFormula::True => Ok(Formula::True),
+        ReadFormula::False => Ok(Formula::False),
+        ReadFormula::Bare(name) => numbered_bare(alloc, names, name),
+        ReadFormula::Tested(name, arguments) => {
+            let predicate = number_of(names, name);
+            let arguments = numbered_terms(alloc, names, arguments)?;
+            Ok(Formula::Test(Probe {
+                predicate,
+                arguments,
+            }))
+        }
+        ReadFormula::Updated(name, term) => {
+            let signal = number_of(names, name);
+            let term = numbered_term(alloc, names, term)?;
+            Ok(Formula::Update(signal, term))
+        }
+        ReadFormula::Under(op, part) => {
+            let part = numbered(alloc, names, part)?;
+            unary_tree(alloc, *op, part)
+        }
+        ReadFormula::Between(op, left, right) => {
+            let left = numbered(alloc, names, left)?;
+            let right = numbered(alloc, names, right)?;
+            binary_tree(alloc, *op, left, right)
+        }
+        ReadFormula::All(members) => {
+            let members = numbered_members(alloc, names, members)?;
+            Ok(Formula::All(members))
+        }
+        ReadFormula::Any(members) => {
+            let members = numbered_members(alloc, names, members)?;
+            Ok(Formula::Any(members))
+        }
+    }
+}
+
+/// A list of formulas with numbers. An `Err` says that memory ran out.
+#[cycle(number_formulas)]
+fn numbered_members(
+    alloc: Global,
+    names: &Names,
+    formulas: &ReadFormulas,
+) -> Result<FormulaList, NoMemory>
+    requires { IsTrue (is_some (numbered_members names.now (formulas_syntax formulas.now))) }
+    ensures { IfOk result (λ trees. numbered_members names.now (formulas_syntax formulas.now)
+        ≡ Some (formula_trees trees)) }
+{
+    let mut trees = Vec::new(alloc);
+    let mut rest = formulas;
+    while let ReadFormulas::More(formula, next) = rest {
+        let tree = numbered(alloc, names, formula)?;
+        trees.push(tree)?;
+        rest = next;
+    }
+    FormulaList::from_vec(alloc, trees)
+}
+
+/// Adds the formulas of a section with numbers. An `Err` says that memory ran out.
+fn add_formulas(
+    alloc: Global,
+    names: &Names,
+    trees: &mut Vec<Formula>,
+    formulas: &[ReadFormula],
+) -> Result<(), NoMemory>
+    requires { IsTrue (is_some (numbered_list names.now (map formula_syntax formulas.now))) }
+    ensures { OnOk result
+        (numbered_after (map formula_tree trees.old.items) (numbered_list names.now (map formula_syntax formulas.now))
+        ≡ Some (map formula_tree trees.new.items)) }
+{
+    for formula in formulas {
+        let tree = numbered(alloc, names, formula)?;
+        trees.push(tree)?;
+    }
+    Ok(())
+}
+
+/// Whether two parts are the same one.
+fn same_part(left: Part, right: Part) -> bool
+    ensures { result ≡ same_part left right }
+{
+    match (left, right) {
+        (Part::AssumeFirst, Part::AssumeFirst)
+        | (Part::AssumeAlways, Part::AssumeAlways)
+        | (Part::GuaranteeFirst, Part::GuaranteeFirst)
+        | (Part::GuaranteeAlways, Part::GuaranteeAlways) => true,
+        _ => false,
+    }
+}
+
+/// Adds the formulas of a section with numbers, where they go to this list. An `Err` says that memory
+/// ran out.
+fn add_section(
+    alloc: Global,
+    names: &Names,
+    part: Part,
+    trees: &mut Vec<Formula>,
+    section: &ReadSection,
+) -> Result<(), NoMemory>
+    requires { IsTrue (is_some (numbered_list names.now (formulas_if part (section_syntax section.now)))) }
+    ensures { OnOk result
+        (numbered_after (map formula_tree trees.old.items) (numbered_list names.now (formulas_if part (section_syntax section.now)))
+        ≡ Some (map formula_tree trees.new.items)) }
+{
+    if same_part(part, section.part) {
+        add_formulas(alloc, names, trees, &section.formulas)?;
+    }
+    Ok(())
+}
+
+/// The formulas of the sections that go to one list, with numbers. An `Err` says that memory ran out.
+pub(crate) fn formulas_in(
+    alloc: Global,
+    names: &Names,
+    part: Part,
+    sections: &[ReadSection],
+) -> Result<FormulaList, NoMemory>
+    requires { IsTrue (is_some (numbered_list names.now (formulas_in part (map section_syntax sections.now)))) }
+    ensures { IfOk result (λ trees. numbered_list names.now (formulas_in part (map section_syntax sections.now))
+        ≡ Some (member_trees trees)) }
+{
+    let mut trees = Vec::new(alloc);
+    for section in sections {
+        add_section(alloc, names, part, &mut trees, section)?;
+    }
+    FormulaList::from_vec(alloc, trees)
+}

@@ -1,0 +1,215 @@
+//! The stages of reading a specification.
+
+ghost use Rattle.std.specs.Prelude.{◌≡◌, ◌-◌, ◌≤◌, ◌<◌, ◌^◌, length, map, slice_get, nat_le, filter, option_and_then, Some, All, IsTrue, IfOk, IfErr, OnOk, MatchOption};
+ghost use Rattle.tsl_reader.specs.declared.syntax.Part.{Part};
+ghost use Rattle.tsl_reader.specs.declared.syntax.Part.TheVariants.{AssumeFirst, AssumeAlways, GuaranteeFirst, GuaranteeAlways};
+ghost use Rattle.tsl_text.specs.Division.{AreTokens, IsTokenOf};
+ghost use Rattle.tsl_terms.specs.FormulaTree.{formula_trees, member_trees};
+ghost use Rattle.tsl_terms.specs.Nodes.{nodes};
+ghost use Rattle.tsl_terms.specs.WellFormed.{formulas_fit};
+ghost use Rattle.tsl_terms.specs.SpecTree.{whole_formula};
+ghost use Rattle.tsl_terms.specs.SpecView.{spec_tree};
+ghost use Rattle.tsl_reader.specs.Naming.{is_written, written_uses, names_of, first_clash, alike_in_kind, same_arity, numbered_list, formulas_in};
+ghost use Rattle.tsl_reader.specs.Numbering.{HasNumbers};
+ghost use Rattle.tsl_reader.specs.Quality.{alike_in};
+ghost use Rattle.tsl_reader.specs.UseView.{name_use};
+ghost use Rattle.tsl_reader.specs.Spells.{most_nodes, terminal_at, is_free, name_tokens, Derives, HasNoClash, IsDerived, HasCause};
+ghost use Rattle.tsl_reader.specs.SyntaxView.{section_syntax};
+
+use crate::SpecError;
+use crate::fault::ReadFault;
+use crate::naming::{Quality, first_clash, names_of};
+use crate::numbering::formulas_in;
+use crate::sections::sections;
+use crate::syntax::Part;
+use crate::terminals::{Terminal, terminal_at, terminals};
+use crate::trees::ReadSection;
+use crate::uses::{NameUse, all_uses};
+use sequence::NoMemory;
+use std::alloc::Global;
+use tsl_terms::{FormulaList, Names, Spec, node_count, whole};
+use tsl_text::{TextError, Token, tokens};
+
+/// The deepest level.
+const DEEPEST: u32 = 200;
+
+/// The most nodes of the whole formula.
+const MOST_NODES: u64 = 10_000;
+
+/// The tokens of a text.
+fn tokens_of(alloc: Global, text: &[u8]) -> Result<Vec<Token>, SpecError>
+    requires { length text.now < 2 ^ 32 - 1 }
+    ensures tokens { IfOk result (λ tokens. AreTokens text.now tokens.items) }
+    ensures each { IfOk result (λ tokens. All (IsTokenOf text.now) tokens.items) }
+    ensures cause { IfErr result (HasCause text.now) }
+{
+    match tokens(alloc, text) {
+        Ok(tokens) => Ok(tokens),
+        Err(TextError::Byte(at)) => Err(SpecError::Byte(at)),
+        Err(TextError::OpenComment(at)) => Err(SpecError::OpenComment(at)),
+        Err(TextError::NoMemory) => Err(SpecError::NoMemory),
+    }
+}
+
+/// Where the token begins behind which so many are left, with itself; at the end the text's length.
+fn place_of(text: &[u8], tokens: &[Token], left: usize) -> u32
+    requires text { length text.now < 2 ^ 32 - 1 }
+    requires left { left ≤ length tokens.now }
+    ensures { MatchOption (slice_get tokens.now (length tokens.now - left)) (result ≡ length text.now) (λ token. result ≡ token.start) }
+{
+    match tokens.get(tokens.len() - left) {
+        Some(token) => token.start,
+        None => text.len() as u32,
+    }
+}
+
+/// The sections that the tokens of a text derive from.
+fn sections_of<'a>(
+    alloc: Global,
+    text: &'a [u8],
+    tokens: &[Token],
+) -> Result<Vec<ReadSection<'a>>, SpecError>
+    requires text { length text.now < 2 ^ 32 - 1 }
+    requires tokens { AreTokens text.now tokens.now }
+    requires each { All (IsTokenOf text.now) tokens.now }
+    ensures derived { IfOk result (λ read. Derives text.now tokens.now (map section_syntax read.items)) }
+    ensures cause { IfErr result (HasCause text.now) }
+{
+    let terminals = terminals(alloc, text, tokens)?;
+    match sections(alloc, DEEPEST, &terminals) {
+        Ok((sections, _)) => Ok(sections),
+        Err(ReadFault::Form(left)) => Err(SpecError::Form(place_of(text, tokens, left))),
+        Err(ReadFault::Deep(left)) => Err(SpecError::Deep(place_of(text, tokens, left))),
+        Err(ReadFault::NoMemory) => Err(SpecError::NoMemory),
+    }
+}
+
+/// Whether a token is a name that is no reserved word.
+fn is_free(text: &[u8], token: &Token) -> bool
+    requires { (token.now.start ≤ token.now.end) × (token.now.end ≤ length text.now) }
+    ensures { result ≡ is_free (terminal_at text.now token.now) }
+{
+    matches!(terminal_at(text, token), Terminal::Free(_))
+}
+
+/// The token at a place among those that are names and no reserved words.
+fn name_token(text: &[u8], tokens: &[Token], place: usize) -> Option<Token>
+    requires { All (IsTokenOf text.now) tokens.now }
+    ensures { result ≡ slice_get (name_tokens text.now tokens.now) place }
+{
+    let mut left = place;
+    for token in tokens {
+        if is_free(text, token) {
+            if left == 0 {
+                return Some(*token);
+            }
+            left -= 1;
+        }
+    }
+    None
+}
+
+/// The specification that a text derives, however many nodes its whole formula has.
+pub(crate) fn derived_spec(alloc: Global, text: &[u8]) -> Result<Spec, SpecError>
+    requires { length text.now < 2 ^ 32 - 1 }
+    ensures derived { IfOk result (λ spec. IsDerived text.now (spec_tree spec)) }
+    ensures cause { IfErr result (HasCause text.now) }
+{
+    let tokens = tokens_of(alloc, text)?;
+    let sections = sections_of(alloc, text, &tokens)?;
+    let names = names_of_sections(alloc, text, &tokens, &sections)?;
+    let spec = spec_of(alloc, names, &sections)?;
+    Ok(spec)
+}
+
+/// Whether the whole formula has few enough nodes. An `Err` says that memory ran out.
+pub(crate) fn has_few_nodes(alloc: Global, spec: &Spec) -> Result<bool, NoMemory>
+    ensures { IfOk result (λ few. few ≡ nat_le (nodes (whole_formula (spec_tree spec.now))) most_nodes) }
+{
+    let formula = whole(alloc, spec)?;
+    Ok(node_count(&formula) <= MOST_NODES)
+}
+
+/// The token of the first use that differs from the first use of its name.
+fn clash_token(
+    text: &[u8],
+    tokens: &[Token],
+    names: &Names,
+    uses: &[NameUse],
+    quality: Quality,
+) -> Option<Token>
+    requires { All (IsTokenOf text.now) tokens.now }
+    ensures { result ≡ option_and_then (slice_get (name_tokens text.now tokens.now))
+        (first_clash (alike_in quality) names.now (filter is_written (map name_use uses.now))) }
+{
+    let place = first_clash(names, uses, quality)?;
+    name_token(text, tokens, place)
+}
+
+/// The names of the sections of a text, where none is used in two kinds or with two numbers of
+/// arguments.
+fn names_of_sections(
+    alloc: Global,
+    text: &[u8],
+    tokens: &[Token],
+    sections: &[ReadSection],
+) -> Result<Names, SpecError>
+    requires text { length text.now < 2 ^ 32 - 1 }
+    requires each { All (IsTokenOf text.now) tokens.now }
+    requires derived { Derives text.now tokens.now (map section_syntax sections.now) }
+    ensures names { IfOk result (λ names. names ≡ names_of (map section_syntax sections.now)) }
+    ensures one_kind { OnOk result (HasNoClash alike_in_kind (written_uses (map section_syntax sections.now))) }
+    ensures one_arity { OnOk result (HasNoClash same_arity (written_uses (map section_syntax sections.now))) }
+    ensures cause { IfErr result (HasCause text.now) }
+{
+    let uses = all_uses(alloc, sections)?;
+    let names = names_of(alloc, &uses)?;
+    if let Some(token) = clash_token(text, tokens, &names, &uses, Quality::Kind) {
+        return Err(SpecError::Kind(token.start, token.end));
+    }
+    if let Some(token) = clash_token(text, tokens, &names, &uses, Quality::Arity) {
+        return Err(SpecError::Arity(token.start, token.end));
+    }
+    Ok(names)
+}
+
+/// The formulas of the sections that go to one list.
+fn list_of(
+    alloc: Global,
+    names: &Names,
+    part: Part,
+    sections: &[ReadSection],
+) -> Result<FormulaList, NoMemory>
+    requires { HasNumbers names.now (formulas_in part (map section_syntax sections.now)) }
+    ensures numbered { IfOk result (λ list. numbered_list names.now (formulas_in part (map section_syntax sections.now))
+        ≡ Some (member_trees list)) }
+    ensures fit { IfOk result (λ list. IsTrue (formulas_fit names.now (formula_trees list))) }
+{
+    formulas_in(alloc, names, part, sections)
+}
+
+/// The specification of sections with these names.
+fn spec_of(alloc: Global, names: Names, sections: &[ReadSection]) -> Result<Spec, NoMemory>
+    requires { (part : Part) → HasNumbers names (formulas_in part (map section_syntax sections.now)) }
+    ensures names { IfOk result (λ spec. spec.names ≡ names) }
+    ensures assume_first { IfOk result (λ spec.
+        numbered_list names (formulas_in AssumeFirst (map section_syntax sections.now)) ≡ Some (member_trees spec.assume_first)) }
+    ensures assume_always { IfOk result (λ spec.
+        numbered_list names (formulas_in AssumeAlways (map section_syntax sections.now)) ≡ Some (member_trees spec.assume_always)) }
+    ensures guarantee_first { IfOk result (λ spec.
+        numbered_list names (formulas_in GuaranteeFirst (map section_syntax sections.now)) ≡ Some (member_trees spec.guarantee_first)) }
+    ensures guarantee_always { IfOk result (λ spec.
+        numbered_list names (formulas_in GuaranteeAlways (map section_syntax sections.now)) ≡ Some (member_trees spec.guarantee_always)) }
+{
+    let assume_first = list_of(alloc, &names, Part::AssumeFirst, sections)?;
+    let assume_always = list_of(alloc, &names, Part::AssumeAlways, sections)?;
+    let guarantee_first = list_of(alloc, &names, Part::GuaranteeFirst, sections)?;
+    let guarantee_always = list_of(alloc, &names, Part::GuaranteeAlways, sections)?;
+    Ok(Spec {
+        names,
+        assume_first,
+        assume_always,
+        guarantee_first,
+        guarantee_always,
+    })
+}

@@ -1,0 +1,73 @@
+//! What the grammar of specifications is made of.
+
+/// A reserved word.
+#[derive(Clone, Copy, Debug)]
+pub(crate) enum Word {
+    /// `assume`
+    Assume,
+    /// `guarantee`
+    Guarantee,
+    /// `always`
+    Always,
+    /// `initially`
+    Initially,
+    /// `true`
+    True,
+    /// `false`
+    False,
+    /// `X`: at the next position.
+    X,
+    /// `F`: at some position from here on.
+    F,
+    /// `G`: at every position from here on.
+    G,
+    /// `U`: until.
+    U,
+    /// `W`: weak until.
+    W,
+    /// `R`: release.
+    R,
+    /// `A`, which no form of the grammar has.
+    A,
+}
+
+/// An operator before its operand.
+#[derive(Clone, Copy, Debug)]
+pub(crate) enum Unary {
+    /// `!`
+    Negation,
+    /// `X`
+    Next,
+    /// `F`
+    Finally,
+    /// `G`
+    Globally,
+}
+
+/// An operator between two operands.
+#[derive(Clone, Copy, Debug)]
+pub(crate) enum Binary {
+    /// `->`
+    Implication,
+    /// `<->`
+    Equivalence,
+    /// `U`
+    Until,
+    /// `W`
+    WeakUntil,
+    /// `R`
+    Release,
+}
+
+/// One of the four lists of formulas of a specification.
+#[derive(Clone, Copy, Debug)]
+pub(crate) enum Part {
+    /// What is assumed at first.
+    AssumeFirst,
+    /// What is assumed at every position.
+    AssumeAlways,
+    /// What is guaranteed at first.
+    GuaranteeFirst,
+    /// What is guaranteed at every position.
+    GuaranteeAlways,
+}

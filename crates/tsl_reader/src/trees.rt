@@ -1,0 +1,131 @@
+//! What is read, with names as they stand in the text.
+
+ghost use Rattle.std.specs.Prelude.{◌≡◌, map, IfOk};
+ghost use Rattle.tsl_reader.specs.Syntax.{terms_of, formulas_of};
+ghost use Rattle.tsl_reader.specs.SyntaxView.{term_syntax, terms_syntax, formula_syntax, formulas_syntax};
+
+use crate::syntax::{Binary, Part, Unary};
+use sequence::NoMemory;
+use std::alloc::Global;
+
+/// A term: a name alone, or a name and its arguments.
+#[cycle(read_terms)]
+#[derive(Debug, Drop)]
+pub(crate) enum ReadTerm<'a> {
+    /// A name alone.
+    Alone(&'a [u8]),
+    /// A name and its arguments, which may be none.
+    Applied(&'a [u8], ReadTerms<'a>),
+}
+
+/// A list of terms, in order.
+#[cycle(read_terms)]
+#[derive(Debug)]
+pub(crate) enum ReadTerms<'a> {
+    /// No term.
+    Empty,
+    /// A first term and those after it.
+    More(Box<ReadTerm<'a>>, Box<ReadTerms<'a>>),
+}
+
+impl<'a> Drop for ReadTerms<'a> {
+    #[cycle(read_terms)]
+    fn drop(mut self) {
+        loop {
+            match self {
+                ReadTerms::Empty => return,
+                ReadTerms::More(_, rest) => self = Box::into_inner(rest),
+            }
+        }
+    }
+}
+
+impl<'a> ReadTerms<'a> {
+    /// The list of these terms, in their order. An `Err` says that memory ran out.
+    #[tactic(auto, using(crate::proofs::TreeLemmas::with_front_none, crate::proofs::TreeLemmas::with_front_push))]
+    pub(crate) fn from_vec(
+        alloc: Global,
+        mut terms: Vec<ReadTerm<'a>>,
+    ) -> Result<ReadTerms<'a>, NoMemory>
+        ensures { IfOk result (λ list. terms_syntax list ≡ terms_of (map term_syntax terms.entry.items)) }
+    {
+        let mut list = ReadTerms::Empty;
+        while let Some(term) = terms.pop() {
+            list = ReadTerms::More(Box::new(alloc, term)?, Box::new(alloc, list)?);
+        }
+        Ok(list)
+    }
+}
+
+/// A formula.
+#[cycle(read_formulas)]
+#[derive(Debug, Drop)]
+pub(crate) enum ReadFormula<'a> {
+    /// `true`
+    True,
+    /// `false`
+    False,
+    /// A name alone: the test of a Boolean signal.
+    Bare(&'a [u8]),
+    /// A predicate and its arguments, which may be none.
+    Tested(&'a [u8], ReadTerms<'a>),
+    /// An update of a signal by a term.
+    Updated(&'a [u8], ReadTerm<'a>),
+    /// An operator and its operand.
+    Under(Unary, Box<ReadFormula<'a>>),
+    /// An operator between its operands.
+    Between(Binary, Box<ReadFormula<'a>>, Box<ReadFormula<'a>>),
+    /// The operands of `&&`.
+    All(ReadFormulas<'a>),
+    /// The operands of `||`.
+    Any(ReadFormulas<'a>),
+}
+
+/// A list of formulas, in order.
+#[cycle(read_formulas)]
+#[derive(Debug)]
+pub(crate) enum ReadFormulas<'a> {
+    /// No formula.
+    Empty,
+    /// A first formula and those after it.
+    More(Box<ReadFormula<'a>>, Box<ReadFormulas<'a>>),
+}
+
+impl<'a> Drop for ReadFormulas<'a> {
+    #[cycle(read_formulas)]
+    fn drop(mut self) {
+        loop {
+            match self {
+                ReadFormulas::Empty => return,
+                ReadFormulas::More(_, rest) => self = Box::into_inner(rest),
+            }
+        }
+    }
+}
+
+impl<'a> ReadFormulas<'a> {
+    /// The list of these formulas, in their order. An `Err` says that memory ran out.
+    #[tactic(auto, using(crate::proofs::TreeLemmas::formulas_none, crate::proofs::TreeLemmas::formulas_push))]
+    pub(crate) fn from_vec(
+        alloc: Global,
+        mut formulas: Vec<ReadFormula<'a>>,
+    ) -> Result<ReadFormulas<'a>, NoMemory>
+        ensures { IfOk result
+            (λ list. formulas_syntax list ≡ formulas_of (map formula_syntax formulas.entry.items)) }
+    {
+        let mut list = ReadFormulas::Empty;
+        while let Some(formula) = formulas.pop() {
+            list = ReadFormulas::More(Box::new(alloc, formula)?, Box::new(alloc, list)?);
+        }
+        Ok(list)
+    }
+}
+
+/// A section: its formulas, and the list that they go to.
+#[derive(Debug, Drop)]
+pub(crate) struct ReadSection<'a> {
+    /// The list that its formulas go to.
+    pub(crate) part: Part,
+    /// Its formulas, in order.
+    pub(crate) formulas: Vec<ReadFormula<'a>>,
+}
