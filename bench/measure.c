@@ -1,5 +1,6 @@
 /* Runs a program on a file as its standard input, as often as half a second allows and five times at least, and
-   prints the least nanoseconds of a run and the peak KiB. A small process starts it, so that the peak is its own. */
+   prints the least nanoseconds of a run, the peak KiB and the status, which each run must share. A small process starts
+   it, so that the peak is its own. */
 #include <fcntl.h>
 #include <stdio.h>
 #include <stdlib.h>
@@ -17,6 +18,7 @@ static long long now(void) {
 int main(int count, char **words) {
     long long least = -1, begin = now();
     long peak = 0;
+    int answer = -1;
     if (count < 3) return 2;
     for (int runs = 0; runs < 5 || now() - begin < 500000000LL; runs++) {
         int status;
@@ -26,14 +28,17 @@ int main(int count, char **words) {
         if (child == 0) {
             dup2(open(words[1], O_RDONLY), 0);
             dup2(open("/dev/null", O_WRONLY), 1);
+            dup2(1, 2);
             execv(words[2], words + 2);
             _exit(127);
         }
-        if (child < 0 || wait4(child, &status, 0, &usage) < 0 || !WIFEXITED(status) || WEXITSTATUS(status) != 0) return 1;
+        if (child < 0 || wait4(child, &status, 0, &usage) < 0 || !WIFEXITED(status)) return 1;
+        if (answer >= 0 && WEXITSTATUS(status) != answer) return 1;
+        answer = WEXITSTATUS(status);
         long long taken = now() - start;
         if (least < 0 || taken < least) least = taken;
         if (usage.ru_maxrss > peak) peak = usage.ru_maxrss;
     }
-    printf("%lld %ld\n", least, peak);
+    printf("%lld %ld %d\n", least, peak, answer);
     return 0;
 }

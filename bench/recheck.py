@@ -16,9 +16,9 @@ def measured(measure, text, command):
         file.write(text)
         file.flush()
         done = subprocess.run([measure, file.name, *command], capture_output=True, text=True)
-    if done.returncode != 0:
+    nanoseconds, peak, status = done.stdout.split() if done.returncode == 0 else (0, 0, "none")
+    if status != "0":
         raise SystemExit("a run failed")
-    nanoseconds, peak = done.stdout.split()
     return int(nanoseconds) / 1e9, int(peak)
 
 

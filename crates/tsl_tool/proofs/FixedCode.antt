@@ -17,8 +17,9 @@ use Rattle.tsl_terms.specs.Signals.{inputs_of, cells_of, outputs_of}
 use Rattle.flow_program.specs.NodeTree.{node_tree, assign}
 use Rattle.flow_program.specs.ProgramTree.{ProgramTree}
 use Rattle.flow_program.specs.ProgramText.{IsProgram}
-use Rattle.tsl_tool.specs.Fixed.{NamesFit, IsFixed, first_term, fixed_program}
+use Rattle.tsl_tool.specs.Fixed.{IsFixed, first_term, fixed_program}
 use Rattle.tsl_tool.specs.FixedSlots.{noted_term, noted_all, HasOnlyAlwaysGuarantees}
+use Rattle.tsl_tool.proofs.FixedTerms.{NamesFit}
 use Rattle.tsl_tool.proofs.FixedSteps.{noted_tells, noted_when_agreed, free_allow, first_noted}
 use Rattle.tsl_tool.proofs.FixedLaws.{SpecFits, terms_are, is_program, update_fits}
 

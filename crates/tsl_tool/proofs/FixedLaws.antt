@@ -22,9 +22,9 @@ use Rattle.tsl_meaning.specs.Run.{Closed}
 use Rattle.tsl_meaning.specs.Lasso.{Lasso, meets, meets_all, closed_run}
 use Rattle.tsl_meaning.specs.Promise.{Realizes}
 use Rattle.tsl_meaning.proofs.OneAction.{one_action_meets}
-use Rattle.tsl_tool.specs.Fixed.{NamesFit, is_update, IsFixed, first_term, fixed_program}
+use Rattle.tsl_tool.specs.Fixed.{is_update, IsFixed, first_term, fixed_program}
 use Rattle.tsl_tool.proofs.FixedLists.{eqb_self, Contains_first, Contains_next, Contains_cases, Contains_none, list_all_at, list_all_from, list_any_at, list_all_filter, list_all_flat_map, among_filter, among_numbers, apart_numbers, apart_filter, apart_append, distinct_from_apart, length_one_each, beside_one_each}
-use Rattle.tsl_tool.proofs.FixedTerms.{reads_only_from, named_if_read, named_below, signal_fits_if_named}
+use Rattle.tsl_tool.proofs.FixedTerms.{NamesFit, reads_only_from, named_if_read, named_below, signal_fits_if_named}
 
 -- what every specification keeps, on its tree
 pub record SpecFits (spec : SpecTree) : Type 0 where

@@ -1,5 +1,6 @@
 -- Terms and names: what a term reads, what the numbers of a fitting term name, and which names are usable.
-use Rattle.std.proofs.Common.{◌≡◌, ℕ, ◌<◌, ◌==◌, true, false, ◌&&◌, ◌||◌, List, length, Option, Some, None, slice_get, inl, inr, refl, subst}
+use Rattle.std.proofs.Common.{◌≡◌, ℕ, ◌<◌, ◌==◌, Bool, true, false, ◌&&◌, ◌||◌, IsTrue, List, length, Option, Some, None, slice_get, inl, inr, refl, subst}
+use Rattle.std.specs.List.{list_all}
 use Rattle.std.specs.Option.{option_map_or}
 use Rattle.std.specs.Str.{bytes_eq}
 use Rattle.std.proofs.lemmas.Option.{slice_get_within}
@@ -13,7 +14,6 @@ use Rattle.tsl_terms.specs.Signals.{term_reads, some_term_reads}
 use Rattle.tsl_terms.specs.WellFormed.{is_usable_at, term_fits, terms_fit}
 use Rattle.flow_program.specs.Fits.{is_among, reads_only, read_only}
 use Rattle.flow_program.specs.ProgramText.{signal_fits}
-use Rattle.tsl_tool.specs.Fixed.{name_fits, NamesFit}
 use Rattle.tsl_tool.proofs.FixedLists.{eqb_self, list_all_member}
 
 -- a term reads these signals only where each one that it reads is among them
@@ -56,13 +56,18 @@ named_below names s kind arity named = by (slice_get names s) refl named
     by None is named = absurd (false≢true named)
     by (Some n) is named = slice_get_within names s n is
 
+-- a name may be written: a usable one, or the test of a Boolean signal
+abbrev pub name_fits : Name → Bool
+name_fits n = is_usable n.text || ((bytes_eq n.text question && same_kind n.kind Predicate) && (n.arity == 1))
+
+abbrev pub NamesFit : List Name → Type 0
+NamesFit names = IsTrue (list_all name_fits names)
+
 -- a name that fits and is a signal is usable
 usable_if_signal : (n : Name) (kind : NameKind) → n.kind ≡ kind → name_fits n ≡ true → same_kind kind Signal ≡ true → is_usable n.text ≡ true
 usable_if_signal n Signal is fits signal_is =
-    elim (or_cases
-    (is_usable n.text && ((same_kind n.kind Function || same_kind n.kind Predicate) || (same_kind n.kind Signal && (n.arity == 0))))
-    ((bytes_eq n.text question && same_kind n.kind Predicate) && (n.arity == 1)) fits) [
-      | inl usable ↦ (and_parts (is_usable n.text) ((same_kind n.kind Function || same_kind n.kind Predicate) || (same_kind n.kind Signal && (n.arity == 0))) usable).0
+    elim (or_cases (is_usable n.text) ((bytes_eq n.text question && same_kind n.kind Predicate) && (n.arity == 1)) fits) [
+      | inl usable ↦ usable
       | inr tests ↦
           let test = and_parts (bytes_eq n.text question && same_kind n.kind Predicate) (n.arity == 1) tests in
           let predicate = and_parts (bytes_eq n.text question) (same_kind n.kind Predicate) test.0 in

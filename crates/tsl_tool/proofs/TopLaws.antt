@@ -5,13 +5,15 @@ use Rattle.std.proofs.lemmas.List.{append-nil}
 use Rattle.tsl_io.specs.Told.{after, WhereTold}
 use Rattle.tsl_tool.specs.declared.status.Status.{Status}
 use Rattle.tsl_tool.specs.declared.status.Status.TheVariants.{Done, No, Usage, Reading, Large, Spent, ReadFault, WriteFault, Memory}
+use Rattle.tsl_report.specs.declared.fault.Fault.{Fault}
+use Rattle.tsl_report.specs.declared.fault.Fault.TheVariants.{Usage as WrongWords, Read, Large as PastLimit}
 use Rattle.tsl_tool.specs.declared.words.Command.{Command}
 use Rattle.tsl_tool.specs.declared.words.Command.TheVariants.{Synth, Recheck}
 use Rattle.tsl_tool.specs.declared.reply.Reply.{Reply}
-use Rattle.tsl_tool.specs.Statuses.{is_answer}
-use Rattle.tsl_tool.specs.Causes.{is_replied}
+use Rattle.tsl_tool.specs.Statuses.{is_answer, is_refused}
+use Rattle.tsl_tool.specs.Causes.{CountsReads, is_replied}
 use Rattle.tsl_tool.specs.Commands.{command_of}
-use Rattle.tsl_tool.specs.Replies.{out_text, err_text}
+use Rattle.tsl_tool.specs.Replies.{fault_status, fault_reply, out_text, err_text}
 use Rattle.tsl_tool.specs.Synth.{IsWritten}
 use Rattle.tsl_tool.specs.Recheck.{cnf_part, log_part, IsRefutation, IsRefused, OfParts}
 use Rattle.tsl_tool.specs.Outcome.{Replies, Told, Answers, IsAdded, IsSent}
@@ -33,12 +35,21 @@ refuted_bytes words command told text lent (Ok reply) is known same h = λ done 
     subst (λ (b : List ℕ). OfParts b IsRefutation) (same ∙ known bytes tells) (h done e)
 refuted_bytes words command told text lent (Err e) is known same h = tt
 
+-- no fault has the status of a yes
+fault_is_no_yes : (fault : Fault) → fault_status fault ≡ Done → ⊥
+fault_is_no_yes WrongWords h = cc
+fault_is_no_yes Read h = cc
+fault_is_no_yes (PastLimit name limit) h = cc
+fault_is_no_yes _ h = cc
+
 -- what a yes says
 synth_yes : (bytes : List ℕ) (reply : Reply) → Replies (Some Synth) bytes reply → reply.status ≡ Done → IsWritten bytes reply.text
 synth_yes bytes reply (inl h) is_yes = let e = status_along h in cc
 synth_yes bytes reply (inr (inl h)) is_yes = let e = status_along h.1 in cc
 synth_yes bytes reply (inr (inr (few, inl h))) is_yes = h.1
-synth_yes bytes reply (inr (inr (few, inr h))) is_yes = let e = status_along h.1 in cc
+synth_yes bytes reply (inr (inr (few, inr (inl h)))) is_yes = let e = status_along h.1 in cc
+synth_yes bytes reply (inr (inr (few, inr (inr h)))) is_yes =
+    absurd (fault_is_no_yes h.fault (sym (status_along h.is_reply) ∙ is_yes))
 
 recheck_yes : (bytes : List ℕ) (reply : Reply) → Replies (Some Recheck) bytes reply → reply.status ≡ Done → reply.text ≡ codes "verified\n"
 recheck_yes bytes reply (inl h) is_yes = let e = status_along h in cc
@@ -87,9 +98,10 @@ recheck_refused words bytes reply result old new h (inl sent) is_no is =
 recheck_refused words bytes reply result old new h (inr cut) is_no is =
     let clash : WriteFault ≡ No = sym cut.0 ∙ is_no in cc
 
--- what two sinks tell before and after
-abbrev pub told_of : {O E : Type 0} → (O → Option (List ℕ)) → (E → Option (List ℕ)) → O → O → E → E → Told
-told_of out err a b c d = record { out_old = out a; out_new = out b; err_old = err c; err_new = err d }
+-- what the source counts, and two sinks tell, before and after
+abbrev pub told_of : {S O E : Type 0} → (S → ℕ) → (O → Option (List ℕ)) → (E → Option (List ℕ)) → S → S → O → O → E → E → Told
+told_of reads out err s t a b c d =
+    record { reads_old = reads s; reads_new = reads t; out_old = out a; out_new = out b; err_old = err c; err_new = err d }
 
 -- nothing added is as before
 after_nothing : (told : Option (List ℕ)) → told ≡ after [] told
@@ -112,27 +124,64 @@ all_added words bytes told Memory is h = cc
 -- a reply that went to the first sink
 pub out_answers : (words : List (List ℕ)) (bytes : List ℕ) (told : Told) (reply : Reply) (result : Status) →
     Replies (command_of words) bytes reply → is_replied reply.status ≡ true → is_answer reply.status ≡ true →
+    CountsReads reply.status told.reads_old told.reads_new →
     IsSent reply.status reply.text told.out_old told.out_new result → told.err_new ≡ told.err_old → Answers words bytes told result
-out_answers words bytes told reply result h replied answer (inl sent) same =
+out_answers words bytes told reply result h replied answer counts (inl sent) same =
     let out : out_text reply ≡ reply.text = ap (λ (b : Bool). cond b reply.text []) answer in
     let err : err_text reply ≡ [] = ap (λ (b : Bool). cond b [] reply.text) answer in
     subst (Answers words bytes told) (sym sent.0) (all_added words bytes told reply.status replied
     (reply.text, [], (reply, h, refl, out, err), sent.1, same ∙ after_nothing told.err_old))
-out_answers words bytes told reply result h replied answer (inr cut) same =
+out_answers words bytes told reply result h replied answer counts (inr cut) same =
     let out : out_text reply ≡ reply.text = ap (λ (b : Bool). cond b reply.text []) answer in
     let err : err_text reply ≡ [] = ap (λ (b : Bool). cond b [] reply.text) answer in
-    subst (Answers words bytes told) (sym cut.0) (reply.status, reply.text, [], (reply, h, refl, out, err), inl (cut.1, same))
+    subst (Answers words bytes told) (sym cut.0) (reply.status, reply.text, [], (reply, h, refl, out, err), counts, inl (cut.1, same))
 
 -- a reply that went to the second sink
 pub err_answers : (words : List (List ℕ)) (bytes : List ℕ) (told : Told) (reply : Reply) (result : Status) →
     Replies (command_of words) bytes reply → is_replied reply.status ≡ true → is_answer reply.status ≡ false →
+    CountsReads reply.status told.reads_old told.reads_new →
     IsSent reply.status reply.text told.err_old told.err_new result → told.out_new ≡ told.out_old → Answers words bytes told result
-err_answers words bytes told reply result h replied answer (inl sent) same =
+err_answers words bytes told reply result h replied answer counts (inl sent) same =
     let out : out_text reply ≡ [] = ap (λ (b : Bool). cond b reply.text []) answer in
     let err : err_text reply ≡ reply.text = ap (λ (b : Bool). cond b [] reply.text) answer in
     subst (Answers words bytes told) (sym sent.0) (all_added words bytes told reply.status replied
     ([], reply.text, (reply, h, refl, out, err), same ∙ after_nothing told.out_old, sent.1))
-err_answers words bytes told reply result h replied answer (inr cut) same =
+err_answers words bytes told reply result h replied answer counts (inr cut) same =
     let out : out_text reply ≡ [] = ap (λ (b : Bool). cond b reply.text []) answer in
     let err : err_text reply ≡ reply.text = ap (λ (b : Bool). cond b [] reply.text) answer in
-    subst (Answers words bytes told) (sym cut.0) (reply.status, [], reply.text, (reply, h, refl, out, err), inr (same, cut.1))
+    subst (Answers words bytes told) (sym cut.0) (reply.status, [], reply.text, (reply, h, refl, out, err), counts, inr (same, cut.1))
+
+-- the reply to other words than those of a command is the same on all bytes
+pub usage_replies : (command : Option Command) (bytes : List ℕ) (reply : Reply) → command ≡ None → reply ≡ fault_reply WrongWords →
+    Replies command bytes reply
+usage_replies None bytes reply none is = is
+usage_replies (Some command) bytes reply none is = cc
+
+-- what is answered or refused is replied
+pub answer_is_replied : (status : Status) → is_answer status ≡ true → is_replied status ≡ true
+answer_is_replied Done h = refl
+answer_is_replied No h = refl
+answer_is_replied Spent h = refl
+answer_is_replied _ h = cc
+
+pub refusal_is_replied : (status : Status) → is_refused status ≡ true → is_replied status ≡ true
+refusal_is_replied WriteFault h = cc
+refusal_is_replied Memory h = cc
+refusal_is_replied _ h = refl
+
+refused_is_no_answer : (status : Status) → is_refused status ≡ true → is_answer status ≡ true → ⊥
+refused_is_no_answer Done h k = cc
+refused_is_no_answer No h k = cc
+refused_is_no_answer Spent h k = cc
+refused_is_no_answer _ h k = cc
+
+-- a reply that is an answer never ends as a refusal, nor one that is none as an answer
+pub answer_stays : (status result : Status) (text : List ℕ) (old new : Option (List ℕ)) → IsSent status text old new result →
+    is_answer status ≡ true → is_refused result ≡ true → ⊥
+answer_stays status result text old new (inl sent) answer refused = refused_is_no_answer status (ap is_refused (sym sent.0) ∙ refused) answer
+answer_stays status result text old new (inr cut) answer refused = let e : is_refused WriteFault ≡ true = ap is_refused (sym cut.0) ∙ refused in cc
+
+pub other_stays : (status result : Status) (text : List ℕ) (old new : Option (List ℕ)) → IsSent status text old new result →
+    is_answer status ≡ false → is_answer result ≡ true → ⊥
+other_stays status result text old new (inl sent) other answer = let e : false ≡ true = sym other ∙ ap is_answer (sym sent.0) ∙ answer in cc
+other_stays status result text old new (inr cut) other answer = let e : is_answer WriteFault ≡ true = ap is_answer (sym cut.0) ∙ answer in cc

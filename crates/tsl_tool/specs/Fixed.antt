@@ -1,24 +1,12 @@
 -- Specifications of fixed updates, and the program of one node that each of them has.
-use Rattle.std.specs.Prelude.{◌≡◌, ℕ, Bool, true, false, ◌&&◌, ◌||◌, ◌==◌, List, [], ◌∷◌, ◌++◌, take, flat_map, Contains, IsTrue}
+use Rattle.std.specs.Prelude.{◌≡◌, ℕ, Bool, true, false, List, [], ◌∷◌, ◌++◌, take, flat_map, Contains, IsTrue}
 use Rattle.std.specs.List.{list_all}
-use Rattle.std.specs.Str.{bytes_eq}
-use Rattle.tsl_terms.specs.declared.names.NameKind.TheVariants.{Signal, Function, Predicate}
-use Rattle.tsl_terms.specs.Name.{Name, same_kind, is_usable, question}
 use Rattle.tsl_terms.specs.TermTree.{TermTree}
 use Rattle.tsl_terms.specs.FormulaTree.{FormulaTree, update}
 use Rattle.tsl_terms.specs.SpecTree.{SpecTree, whole_formula}
 use Rattle.tsl_terms.specs.Signals.{inputs_of, cells_of, outputs_of, terms_for}
 use Rattle.flow_program.specs.NodeTree.{assign}
 use Rattle.flow_program.specs.ProgramTree.{ProgramTree}
-
--- a name may be written: a usable one, where a signal takes no argument, or the test of a Boolean signal
-abbrev pub name_fits : Name → Bool
-name_fits n =
-    (is_usable n.text && ((same_kind n.kind Function || same_kind n.kind Predicate) || (same_kind n.kind Signal && (n.arity == 0))))
-    || ((bytes_eq n.text question && same_kind n.kind Predicate) && (n.arity == 1))
-
-abbrev pub NamesFit : List Name → Type 0
-NamesFit names = IsTrue (list_all name_fits names)
 
 abbrev pub is_update : FormulaTree → Bool
 is_update (update s t) = true

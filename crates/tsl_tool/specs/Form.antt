@@ -1,5 +1,5 @@
--- The built form of specifications: `always guarantee { [y <- x]; [z <- y]; }`, with up to 1,000 updates
--- of signals by signals. Blanks may stand anywhere between the tokens.
+-- The form of plain updates: `always guarantee { [y <- x]; [z <- y]; }`, with up to 1,000 updates of signals by
+-- signals. Blanks may stand anywhere between the tokens. Its definition stands on nothing of the grammar.
 use Rattle.std.specs.Prelude.{◌≡◌, ℕ, ◌≤◌, Bool, not, ◌&&◌, ◌==◌, List, [], ◌∷◌, ◌++◌, length, fold, flat_map, codes, Option, Some, None, IsTrue}
 use Rattle.std.specs.List.{list_all}
 use Rattle.tsl_text.specs.declared.TokenKind.TheVariants.{OpenBrace, CloseBrace, OpenSquare, CloseSquare, Semicolon, LeftArrow}
@@ -60,7 +60,7 @@ AreUpdates names (pair ∷ pairs) [] = ⊥
 abbrev pub is_no_slash : ℕ → Bool
 is_no_slash byte = not (byte == 47)
 
--- the most updates of the built form
+-- the most updates of the form
 abbrev pub most_updates : ℕ
 most_updates = 1000
 
@@ -75,7 +75,7 @@ pub record IsForm (bytes : List ℕ) (pairs : List Pair) : Type 0 where
   pub usable : IsTrue (list_all has_usable_names pairs)
   pub few : length pairs ≤ most_updates
 
--- the text is of the built form, and the specification always guarantees its updates and nothing else
+-- the text is of the form, and the specification always guarantees its updates and nothing else
 pub record Spells (bytes : List ℕ) (spec : SpecTree) : Type 0 where
   pub pairs : List Pair
   pub form : IsForm bytes pairs

@@ -4,10 +4,8 @@ pub mod Fixed
 pub mod FixedSlots
 pub mod Form
 pub mod Outcome
-pub mod PairView
-pub mod Reading
 pub mod Recheck
+pub mod Refusals
 pub mod Replies
 pub mod Statuses
 pub mod Synth
-pub mod Words

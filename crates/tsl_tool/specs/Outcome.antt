@@ -8,6 +8,7 @@ use Rattle.tsl_tool.specs.declared.status.Status.TheVariants.{WriteFault, Memory
 use Rattle.tsl_tool.specs.declared.words.Command.{Command}
 use Rattle.tsl_tool.specs.declared.words.Command.TheVariants.{Synth, Recheck}
 use Rattle.tsl_tool.specs.declared.reply.Reply.{Reply}
+use Rattle.tsl_tool.specs.Causes.{CountsReads}
 use Rattle.tsl_tool.specs.Commands.{command_of, most_bytes}
 use Rattle.tsl_tool.specs.Replies.{fault_reply, out_text, err_text}
 use Rattle.tsl_tool.specs.Synth.{SynthReplies}
@@ -40,8 +41,10 @@ abbrev pub IsSent : Status → List ℕ → Option (List ℕ) → Option (List �
 IsSent status text old new result =
     ((result ≡ status) × (new ≡ after text old)) ⊎ ((result ≡ WriteFault) × AddsPrefix text old new)
 
--- the bytes that the sinks tell, before the run and after it
+-- the source's count of faults and the bytes that the sinks tell, before the run and after it
 pub record Told : Type 0 where
+  pub reads_old : ℕ
+  pub reads_new : ℕ
   pub out_old : Option (List ℕ)
   pub out_new : Option (List ℕ)
   pub err_old : Option (List ℕ)
@@ -52,9 +55,11 @@ abbrev pub IsAdded : List (List ℕ) → List ℕ → Told → Status → Type 0
 IsAdded words bytes told status = (out : List ℕ) × (err : List ℕ) × Outcome words bytes status out err
     × (told.out_new ≡ after out told.out_old) × (told.err_new ≡ after err told.err_old)
 
--- of the texts of an outcome some first bytes of one were added
+-- Of the texts of an outcome some first bytes of one were added. The outcome is a fault of the source exactly where
+-- the source counted one.
 abbrev pub IsCutOff : List (List ℕ) → List ℕ → Told → Type 0
 IsCutOff words bytes told = (status : Status) × (out : List ℕ) × (err : List ℕ) × Outcome words bytes status out err
+    × CountsReads status told.reads_old told.reads_new
     × ((AddsPrefix out told.out_old told.out_new × (told.err_new ≡ told.err_old))
     ⊎ ((told.out_new ≡ told.out_old) × AddsPrefix err told.err_old told.err_new))
 

@@ -1,14 +1,17 @@
 -- What the command `synth` replies.
 use Rattle.std.specs.Prelude.{◌≡◌, ℕ, ◌⊎◌, List}
 use Rattle.tsl_terms.specs.SpecTree.{SpecTree}
+use Rattle.tsl_reader.specs.declared.SpecError.{SpecError}
+use Rattle.tsl_reader.specs.Spells.{Spells, HasCause, IsRefused}
 use Rattle.flow_program.specs.ProgramTree.{ProgramTree}
 use Rattle.flow_program.specs.ProgramText.{ProgramText}
 use Rattle.tsl_meaning.specs.Promise.{Realizes}
+use Rattle.tsl_report.specs.declared.fault.Fault.{Fault}
 use Rattle.tsl_report.specs.declared.fault.Fault.TheVariants.{Unbuilt}
 use Rattle.tsl_tool.specs.declared.status.Status.TheVariants.{Done}
 use Rattle.tsl_tool.specs.declared.reply.Reply.{Reply}
 use Rattle.tsl_tool.specs.Fixed.{IsFixed, fixed_program}
-use Rattle.tsl_tool.specs.Form.{Spells}
+use Rattle.tsl_tool.specs.Refusals.{IsFaultOf}
 use Rattle.tsl_tool.specs.Replies.{fault_reply}
 
 -- The text that is written spells a program over the names of the specification that the bytes spell, and this
@@ -23,11 +26,22 @@ pub record IsWritten (bytes text : List ℕ) : Type 0 where
   pub is_fixed : IsFixed spec
   pub is_fixed_program : program ≡ fixed_program spec
 
--- the bytes spell no specification of fixed updates
+-- the bytes spell a specification, and it is not one of fixed updates
 abbrev pub IsUnbuilt : List ℕ → Type 0
-IsUnbuilt bytes = (spec : SpecTree) → Spells bytes spec → IsFixed spec → ⊥
+IsUnbuilt bytes = (spec : SpecTree) × Spells bytes spec × (IsFixed spec → ⊥)
 
--- a program is written, or the line says that it is not built
+-- the bytes spell no specification for a cause, and the reply is the line of its fault
+pub record IsRefusal (bytes : List ℕ) (reply : Reply) : Type 0 where
+  pub error : SpecError
+  pub fault : Fault
+  pub cause : HasCause bytes error
+  pub spells_none : IsRefused bytes error
+  pub is_fault : IsFaultOf bytes error fault
+  pub is_reply : reply ≡ fault_reply fault
+
+-- a program is written, or the line says that it is not built, or why the bytes are refused
 abbrev pub SynthReplies : List ℕ → Reply → Type 0
 SynthReplies bytes reply =
-    ((reply.status ≡ Done) × IsWritten bytes reply.text) ⊎ (IsUnbuilt bytes × (reply ≡ fault_reply Unbuilt))
+    ((reply.status ≡ Done) × IsWritten bytes reply.text)
+    ⊎ ((IsUnbuilt bytes × (reply ≡ fault_reply Unbuilt))
+    ⊎ IsRefusal bytes reply)

@@ -4,7 +4,8 @@ ghost use Rattle.std.specs.Prelude.{◌≡◌, ◌↔◌, ℕ, List};
 ghost use Rattle.refutation_check.specs.CnfText.{cnf_answer};
 ghost use Rattle.refutation_check.specs.LogText.{log_answer};
 ghost use Rattle.tsl_terms.specs.SpecTree.{SpecTree};
-ghost use Rattle.tsl_tool.specs.Form.{Spells};
+ghost use Rattle.tsl_reader.specs.Spells.{Spells};
+ghost use Rattle.tsl_tool.specs.Form.{Spells as SpellsUpdates};
 ghost use Rattle.tsl_tool.specs.Recheck.{IsAccepted, IsRefused, parts_reply};
 
 use crate::status::Status;
@@ -12,6 +13,11 @@ use crate::status::Status;
 /// A text spells at most one specification.
 pub fn one_specification()
     ensures { (bytes : List ℕ) (a b : SpecTree) → Spells bytes a → Spells bytes b → a ≡ b }
+{}
+
+/// A text of the form of plain updates spells the same specification by the grammar.
+pub fn plain_updates_are_spelled()
+    ensures { (bytes : List ℕ) (spec : SpecTree) → SpellsUpdates bytes spec → Spells bytes spec }
 {}
 
 /// `recheck` says yes exactly where its parts are a formula and a log that is accepted, and no exactly

@@ -10,6 +10,9 @@ const COPY: &[u8] = b"always guarantee { [y <- x]; }";
 const COPIED: &[u8] =
     b"tslprogram 1\ninput x\noutput y\nnode 0 set [y <- x] go 0\nstate 0 at 0\nend\n";
 
+/// The program without signals.
+const EMPTY: &[u8] = b"tslprogram 1\nnode 0 set go 0\nstate 0 at 0\nend\n";
+
 const USAGE: &[u8] = b"usage: tsl synth|check|run|prove|recheck|gen\n";
 
 /// A formula whose four clauses are all signs of two variables, and a log that refutes it.
@@ -76,16 +79,10 @@ fn run(
 #[test]
 fn each_status_has_its_texts(rt: HostRuntime) -> Result<(), Fail> {
     let synth: &[&str] = &["synth"];
-    let table: [(&[&str], &[u8], Status, &[u8], &[u8]); 18] = [
+    let table: [(&[&str], &[u8], Status, &[u8], &[u8]); 13] = [
         (&["synth", "--states", "1"], COPY, Status::Done, COPIED, b""),
         (synth, COPY, Status::Done, COPIED, b""),
-        (
-            synth,
-            b"always guarantee {}",
-            Status::Done,
-            b"tslprogram 1\nnode 0 set go 0\nstate 0 at 0\nend\n",
-            b"",
-        ),
+        (synth, b"always guarantee {}", Status::Done, EMPTY, b""),
         (
             synth,
             b"\talways\r\nguarantee{[y<-x];[z<-y];[w <- z] ; [v <- v];[ y <- x ];}\n",
@@ -105,7 +102,7 @@ fn each_status_has_its_texts(rt: HostRuntime) -> Result<(), Fail> {
             b"",
             USAGE,
         ),
-        (synth, b"", Status::Reading, b"", b"fault unbuilt\n"),
+        (synth, b"", Status::Done, EMPTY, b""),
         (
             synth,
             b"guarantee { a; }",
@@ -115,45 +112,10 @@ fn each_status_has_its_texts(rt: HostRuntime) -> Result<(), Fail> {
         ),
         (
             synth,
-            b"always guarantee { [y <- x]; [y <- z]; }",
+            b"} guarantee",
             Status::Reading,
             b"",
-            b"fault unbuilt\n",
-        ),
-        (
-            synth,
-            b"always guarantee { [X <- x]; }",
-            Status::Reading,
-            b"",
-            b"fault unbuilt\n",
-        ),
-        (
-            synth,
-            b"always guarantee { [y <- x] }",
-            Status::Reading,
-            b"",
-            b"fault unbuilt\n",
-        ),
-        (
-            synth,
-            b"always guarantee { [y <- x]; } // copies",
-            Status::Reading,
-            b"",
-            b"fault unbuilt\n",
-        ),
-        (
-            synth,
-            b"always guarantee { [y <- 7]; }",
-            Status::Reading,
-            b"",
-            b"fault unbuilt\n",
-        ),
-        (
-            synth,
-            b"alwaysguarantee { [y <- x]; }",
-            Status::Reading,
-            b"",
-            b"fault unbuilt\n",
+            b"fault spec 1:1 form\n",
         ),
     ];
     for (words, text, status, out, err) in table {
@@ -162,6 +124,177 @@ fn each_status_has_its_texts(rt: HostRuntime) -> Result<(), Fail> {
         assert_eq!(rt; ran.out.as_slice(), out);
         assert_eq!(rt; ran.err.as_slice(), err);
     }
+    Ok(())
+}
+
+/// What `synth` leaves behind.
+fn synth(alloc: Global, text: &[u8]) -> Result<Ran, AllocError> {
+    run(alloc, &["synth"], text, PLAIN, PLAIN, PLAIN)
+}
+
+#[test]
+fn each_specification_of_fixed_updates_has_its_program(rt: HostRuntime) -> Result<(), Fail> {
+    let table: [(&[u8], &[u8]); 9] = [
+        (COPY, COPIED),
+        (b"always guarantee { [y <- x]; } // copies", COPIED),
+        (b"/* a /* b */ { */ always guarantee{[y<-/**/x];}", COPIED),
+        (b"always guarantee { [y <- x] }", COPIED),
+        (b"always guarantee { [y <- (x)]; }", COPIED),
+        (
+            b"always guarantee { [y <- x]; } guarantee {} always guarantee { [y <- x]; }",
+            COPIED,
+        ),
+        (
+            b"always guarantee { [y <- f x (g y) c()]; }",
+            b"tslprogram 1\ninput x\ncell y\nnode 0 set [y <- f x (g y) c()] go 0\nstate 0 at 0\nend\n",
+        ),
+        (b"assume {} initially guarantee {}", EMPTY),
+        (b"// nothing", EMPTY),
+    ];
+    for (text, program) in table {
+        let ran = synth(rt.alloc(), text)?;
+        assert_eq!(rt; ran.status, Status::Done);
+        assert_eq!(rt; ran.out.as_slice(), program);
+        assert_eq!(rt; ran.err.is_empty(), true);
+    }
+    Ok(())
+}
+
+#[test]
+fn each_other_specification_is_unbuilt(rt: HostRuntime) -> Result<(), Fail> {
+    let table: [&[u8]; 8] = [
+        b"guarantee { a; }",
+        b"guarantee { [y <- x]; }",
+        b"assume { a; }",
+        b"always assume { [y <- x]; }",
+        b"always guarantee { true; }",
+        b"always guarantee { [y <- x]; [y <- z]; }",
+        b"always guarantee { [y <- x] && [z <- x]; }",
+        b"always guarantee { [y <- x]; } always guarantee { [z <- y]; [y <- f x]; }",
+    ];
+    for text in table {
+        let ran = synth(rt.alloc(), text)?;
+        assert_eq!(rt; ran.status, Status::Reading);
+        assert_eq!(rt; ran.out.is_empty(), true);
+        assert_eq!(rt; ran.err.as_slice(), b"fault unbuilt\n".as_slice());
+    }
+    Ok(())
+}
+
+#[test]
+fn each_refusal_has_its_place_and_its_name(rt: HostRuntime) -> Result<(), Fail> {
+    let table: [(&[u8], &[u8]); 13] = [
+        (b"guarantee { a U b && c; }", b"fault spec 1:19 form\n"),
+        (b"guarantee { p x; p x z; }", b"fault spec 1:18 arity p\n"),
+        (
+            b"guarantee { f x; [y <- f x]; }",
+            b"fault spec 1:24 kind f\n",
+        ),
+        (b"guarantee { /* a; }", b"fault spec 1:13 comment\n"),
+        (b"guarantee { a\x80; }", b"fault spec 1:14 byte\n"),
+        (b"guarantee { a; } }", b"fault spec 1:18 form\n"),
+        (b"guarantee {", b"fault spec 1:12 form\n"),
+        (b"guarantee {\n  a;\n}  }", b"fault spec 3:4 form\n"),
+        (b"guarantee {\n  a;\n", b"fault spec 3:1 form\n"),
+        (
+            b"guarantee {\n long_er' x;\n\n  [y <- long_er' x];\n}",
+            b"fault spec 4:9 kind long_er'\n",
+        ),
+        (b"always guarantee { [X <- x]; }", b"fault spec 1:21 form\n"),
+        (b"always guarantee { [y <- 7]; }", b"fault spec 1:26 form\n"),
+        (b"alwaysguarantee { [y <- x]; }", b"fault spec 1:1 form\n"),
+    ];
+    for (text, line) in table {
+        let ran = synth(rt.alloc(), text)?;
+        assert_eq!(rt; ran.status, Status::Reading);
+        assert_eq!(rt; ran.out.is_empty(), true);
+        assert_eq!(rt; ran.err.as_slice(), line);
+    }
+    Ok(())
+}
+
+#[test]
+fn of_two_refusals_one_goes_first(rt: HostRuntime) -> Result<(), Fail> {
+    let table: [(&[u8], &[u8]); 5] = [
+        // A bad byte before a fault of form that stands in front of it.
+        (b"} \x80", b"fault spec 1:3 byte\n"),
+        (b"} /*", b"fault spec 1:3 comment\n"),
+        // A fault of form before one of kind.
+        (
+            b"guarantee { f x; [y <- f x]; } }",
+            b"fault spec 1:32 form\n",
+        ),
+        // A fault of kind before one of arity.
+        (
+            b"guarantee { p x; p x z; [y <- p]; }",
+            b"fault spec 1:31 kind p\n",
+        ),
+        // A refusal before what is not built.
+        (b"guarantee { a; } guarantee {", b"fault spec 1:29 form\n"),
+    ];
+    for (text, line) in table {
+        let ran = synth(rt.alloc(), text)?;
+        assert_eq!(rt; ran.status, Status::Reading);
+        assert_eq!(rt; ran.err.as_slice(), line);
+    }
+    Ok(())
+}
+
+/// A text with a piece so many times between its front and its end.
+fn repeated(
+    alloc: Global,
+    front: &[u8],
+    piece: &[u8],
+    count: u32,
+    end: &[u8],
+) -> Result<Vec<u8>, AllocError> {
+    let mut text = Vec::from_slice(alloc, front)?;
+    for _ in 0..count {
+        text.extend_from_slice(piece)?;
+    }
+    text.extend_from_slice(end)?;
+    Ok(text)
+}
+
+/// What `synth` leaves behind for a text with a piece so many times in the braces of a section.
+fn synth_repeated(alloc: Global, piece: &[u8], count: u32, end: &[u8]) -> Result<Ran, AllocError> {
+    synth(alloc, &repeated(alloc, b"guarantee { ", piece, count, end)?)
+}
+
+#[test]
+fn level_200_is_read_and_level_201_is_deep(rt: HostRuntime) -> Result<(), Fail> {
+    let alloc = rt.alloc();
+    let ran = synth_repeated(alloc, b"!", 200, b"a; }")?;
+    assert_eq!(rt; ran.status, Status::Reading);
+    assert_eq!(rt; ran.err.as_slice(), b"fault unbuilt\n".as_slice());
+    let ran = synth_repeated(alloc, b"!", 201, b"a; }")?;
+    assert_eq!(rt; ran.status, Status::Reading);
+    assert_eq!(rt; ran.err.as_slice(), b"fault spec 1:213 deep\n".as_slice());
+    Ok(())
+}
+
+#[test]
+fn more_than_10000_nodes_are_large(rt: HostRuntime) -> Result<(), Fail> {
+    let alloc = rt.alloc();
+    // The conjunction, two nodes for each name and one for `true`.
+    let ran = synth_repeated(alloc, b"a; ", 4_999, b"true; }")?;
+    assert_eq!(rt; ran.status, Status::Reading);
+    assert_eq!(rt; ran.err.as_slice(), b"fault unbuilt\n".as_slice());
+    let ran = synth_repeated(alloc, b"a; ", 5_000, b"}")?;
+    assert_eq!(rt; ran.status, Status::Large);
+    assert_eq!(rt; ran.out.is_empty(), true);
+    assert_eq!(rt; ran.err.as_slice(), b"large nodes 10000\n".as_slice());
+    Ok(())
+}
+
+#[test]
+fn a_fault_of_arity_goes_before_too_many_nodes(rt: HostRuntime) -> Result<(), Fail> {
+    let ran = synth_repeated(rt.alloc(), b"a; ", 5_000, b"p x; p x z; }")?;
+    assert_eq!(rt; ran.status, Status::Reading);
+    assert_eq!(rt;
+        ran.err.as_slice(),
+        b"fault spec 1:15018 arity p\n".as_slice()
+    );
     Ok(())
 }
 
@@ -304,7 +437,7 @@ fn a_verdict_that_cannot_be_written_is_a_write_fault(rt: HostRuntime) -> Result<
     Ok(())
 }
 
-/// So many spaces, in which no specification stands.
+/// So many spaces, which are a specification without signals.
 fn spaces(alloc: Global, count: usize) -> Result<Vec<u8>, AllocError> {
     vec![in alloc; b' '; count]
 }
@@ -312,24 +445,10 @@ fn spaces(alloc: Global, count: usize) -> Result<Vec<u8>, AllocError> {
 #[test]
 fn a_text_of_the_limit_is_read_and_a_longer_one_is_large(rt: HostRuntime) -> Result<(), Fail> {
     let alloc = rt.alloc();
-    let ran = run(
-        alloc,
-        &["synth"],
-        &spaces(alloc, 1_048_576)?,
-        PLAIN,
-        PLAIN,
-        PLAIN,
-    )?;
-    assert_eq!(rt; ran.status, Status::Reading);
-    assert_eq!(rt; ran.err.as_slice(), b"fault unbuilt\n".as_slice());
-    let ran = run(
-        alloc,
-        &["synth"],
-        &spaces(alloc, 1_048_577)?,
-        PLAIN,
-        PLAIN,
-        PLAIN,
-    )?;
+    let ran = synth(alloc, &spaces(alloc, 1_048_576)?)?;
+    assert_eq!(rt; ran.status, Status::Done);
+    assert_eq!(rt; ran.out.as_slice(), EMPTY);
+    let ran = synth(alloc, &spaces(alloc, 1_048_577)?)?;
     assert_eq!(rt; ran.status, Status::Large);
     assert_eq!(rt; ran.out.is_empty(), true);
     assert_eq!(rt; ran.err.as_slice(), b"large text 1048576\n".as_slice());

@@ -1,11 +1,14 @@
 //! The top call.
 
-ghost use Rattle.std.specs.Prelude.{◌≡◌, ℕ, List, ◌≤◌, ◌<◌, ◌⊎◌, length, map, codes, string_bytes, IsTrue, IfOk, Some, None};
+ghost use Rattle.std.specs.Prelude.{◌≡◌, ◌≢◌, [], ℕ, List, ◌≤◌, ◌<◌, ◌⊎◌, length, map, codes, string_bytes, IsTrue, IfOk, Some, None};
 ghost use Rattle.tsl_io.specs.Told.{WhereTold, after};
 ghost use Rattle.tsl_io.specs.Faults.{Faulted};
 ghost use Rattle.tsl_tool.specs.Causes.{CountsReads, comes_of_bytes, is_replied};
 ghost use Rattle.tsl_tool.specs.Commands.{command_of, most_bytes};
+ghost use Rattle.tsl_report.specs.declared.fault.Fault.{Fault};
 ghost use Rattle.tsl_tool.specs.Outcome.{Replies, RepliesToBytes, Answers, IsSent};
+ghost use Rattle.tsl_tool.specs.Replies.{fault_reply};
+ghost use Rattle.tsl_tool.specs.Statuses.{is_answer, is_refused};
 ghost use Rattle.tsl_tool.specs.Synth.{IsWritten};
 ghost use Rattle.tsl_tool.specs.Recheck.{IsRefutation, IsRefused, OfParts};
 
@@ -29,6 +32,8 @@ fn reply_to<S: Source>(alloc: Global, words: &[String], source: &mut S) -> Resul
     ensures other_words { command_of (map string_bytes words.now) ≡ None →
         IfOk result (λ reply. reply.status ≡ Status.Usage)
         × (S.left source.new ≡ S.left source.old) × (S.faults source.new ≡ S.faults source.old) }
+    ensures usage_reply { command_of (map string_bytes words.now) ≡ None → IfOk result (λ reply. reply ≡ fault_reply Fault.Usage) }
+    ensures says { IfOk result (λ reply. reply.text ≢ []) }
     ensures replied { IfOk result (λ reply. IsTrue (is_replied reply.status)) }
     ensures counts { IfOk result (λ reply. CountsReads reply.status (S.faults source.old) (S.faults source.new)) }
 {
@@ -52,6 +57,7 @@ fn reply_to_bytes(alloc: Global, command: Command, bytes: &[u8]) -> Result<Reply
     ensures replies { IfOk result (λ reply. RepliesToBytes command bytes.now reply) }
     ensures verified { IfOk result (λ reply. reply.status ≡ Status.Done → command ≡ Command.Recheck → OfParts bytes.now IsRefutation) }
     ensures status { IfOk result (λ reply. IsTrue (comes_of_bytes reply.status)) }
+    ensures says { IfOk result (λ reply. reply.text ≢ []) }
 {
     match command {
         Command::Synth => synth(alloc, bytes),
@@ -90,13 +96,34 @@ pub fn tsl<S: Source, O: Sink, E: Sink>(
 
     // The status and what stands in the sinks are those of an outcome.
     ensures answers { WhereTold (S.left source.old) (λ bytes. Answers (map string_bytes words.now) bytes
-        (record { out_old = O.written out.old; out_new = O.written out.new; err_old = E.written err.old; err_new = E.written err.new }) result) }
+        (record {
+          reads_old = S.faults source.old;
+          reads_new = S.faults source.new;
+          out_old = O.written out.old;
+          out_new = O.written out.new;
+          err_old = E.written err.old;
+          err_new = E.written err.new;
+        }) result) }
 
     // Other words are refused, and then the source is not called.
     ensures usage { result ≡ Status.Usage → command_of (map string_bytes words.now) ≡ None }
     ensures other_words { command_of (map string_bytes words.now) ≡ None →
         ((result ≡ Status.Usage) ⊎ ((result ≡ Status.WriteFault) ⊎ (result ≡ Status.Memory)))
         × (S.left source.new ≡ S.left source.old) × (S.faults source.new ≡ S.faults source.old) }
+
+    ensures usage_line { command_of (map string_bytes words.now) ≡ None → Answers (map string_bytes words.now) []
+        (record {
+          reads_old = S.faults source.old;
+          reads_new = S.faults source.new;
+          out_old = O.written out.old;
+          out_new = O.written out.new;
+          err_old = E.written err.old;
+          err_new = E.written err.new;
+        }) result }
+
+    // What was answered was handed on.
+    ensures out_flushed { IsTrue (is_answer result) → O.flushed out.new }
+    ensures err_flushed { IsTrue (is_refused result) → E.flushed err.new }
 
     // Each fault has its cause.
     ensures read_fault { result ≡ Status.ReadFault → Faulted (S.faults source.old) (S.faults source.new) }
@@ -121,8 +148,10 @@ pub fn tsl<S: Source, O: Sink, E: Sink>(
 
 /// Writes a reply to its sink, and gives the status of the run.
 fn send<K: Sink>(sink: &mut K, reply: &Reply) -> Status
-    requires { IsTrue (is_replied reply.now.status) }
+    requires replied { IsTrue (is_replied reply.now.status) }
+    requires says { reply.now.text ≢ [] }
     ensures sent { IsSent reply.now.status reply.now.text (K.written sink.old) (K.written sink.new) result }
+    ensures flushed { IsTrue (is_replied result) → K.flushed sink.new }
     ensures replied { result ≡ Status.Memory → ⊥ }
     ensures fault { result ≡ Status.WriteFault → Faulted (K.faults sink.old) (K.faults sink.new) }
     ensures rise { K.faults sink.old < K.faults sink.new → result ≡ Status.WriteFault }

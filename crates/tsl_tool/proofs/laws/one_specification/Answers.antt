@@ -1,4 +1,4 @@
-use Rattle.tsl_tool.proofs.FormOne.{one_spec}
+use Rattle.tsl_reader.proofs.Causes.{one_spec}
 use Rattle.tsl_tool.proofs.laws.one_specification.Goals as goal
 
 pub returns : goal.returns

@@ -1,0 +1,56 @@
+//! The fault of each refusal of a specification.
+
+ghost use Rattle.std.specs.Prelude.{◌≡◌, ◌-◌, ◌<◌, ◌≤◌, ◌^◌, length, IfOk};
+ghost use Rattle.tsl_tool.specs.Refusals.{IsPlaceOf, IsFaultOf, StandsIn, name_between};
+
+use sequence::{NoMemory, Sequence};
+use std::alloc::Global;
+use tsl_reader::SpecError;
+use tsl_report::{Fault, LimitName, TokenPart};
+use tsl_text::{Place, place_of};
+
+/// The most nodes of a specification's whole formula.
+const MOST_NODES: u32 = 10_000;
+
+/// The fault of a refusal of this text. An `Err` says that memory ran out, here or at the reading.
+pub(crate) fn fault_of(alloc: Global, text: &[u8], error: &SpecError) -> Result<Fault, NoMemory>
+    requires short { length text.now < 2 ^ 32 - 1 }
+    requires stands { StandsIn text.now error.now }
+    ensures { IfOk result (λ fault. IsFaultOf text.now error.now fault) }
+{
+    match error {
+        SpecError::Byte(at) => Ok(Fault::Byte(TokenPart::Spec, place_in(text, *at))),
+        SpecError::OpenComment(at) => Ok(Fault::Comment(TokenPart::Spec, place_in(text, *at))),
+        SpecError::Form(at) => Ok(Fault::Form(TokenPart::Spec, place_in(text, *at))),
+        SpecError::Deep(at) => Ok(Fault::Deep(place_in(text, *at))),
+        SpecError::Kind(start, end) => Ok(Fault::Kind(
+            place_in(text, *start),
+            name_between(alloc, text, *start, *end)?,
+        )),
+        SpecError::Arity(start, end) => Ok(Fault::Arity(
+            place_in(text, *start),
+            name_between(alloc, text, *start, *end)?,
+        )),
+        SpecError::Nodes => Ok(Fault::Large(LimitName::Nodes, MOST_NODES)),
+        SpecError::NoMemory => Err(NoMemory),
+    }
+}
+
+/// The place of an offset of the text.
+fn place_in(text: &[u8], offset: u32) -> Place
+    requires inside { offset ≤ length text.now }
+    requires short { length text.now < 2 ^ 32 - 1 }
+    ensures { IsPlaceOf text.now offset result }
+{
+    place_of(text, offset)
+}
+
+/// A copy of the name between two offsets of the text.
+fn name_between(alloc: Global, text: &[u8], start: u32, end: u32) -> Result<Sequence<u8>, NoMemory>
+    requires in_order { start ≤ end }
+    requires inside { end ≤ length text.now }
+    ensures { IfOk result (λ name. name ≡ name_between text.now start end) }
+{
+    let name = Vec::from_slice(alloc, &text[start as usize..end as usize])?;
+    Ok(Sequence::from_vec(name))
+}
