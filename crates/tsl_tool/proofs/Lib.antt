@@ -13,3 +13,4 @@ pub mod RefusalLaws
 pub mod SaysLaws
 pub mod SynthLaws
 pub mod TopLaws
+pub mod WholeTexts

@@ -9,3 +9,4 @@ pub mod Refusals
 pub mod Replies
 pub mod Statuses
 pub mod Synth
+pub mod WholeTexts

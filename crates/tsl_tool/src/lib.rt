@@ -29,7 +29,10 @@ mod synth;
 mod top;
 mod words;
 
-pub use laws::{one_specification, plain_updates_are_spelled, verdicts_are_those_of_logs};
+pub use laws::{
+    one_specification, plain_updates_are_spelled, verdicts_are_those_of_logs,
+    whole_formulas_can_be_written,
+};
 pub use status::Status;
 pub use top::tsl;
 

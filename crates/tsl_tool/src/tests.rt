@@ -1,9 +1,13 @@
 //! Runs of the top call over memory.
 
 use crate::{Status, tsl};
+use sequence::NoMemory;
 use std::alloc::{AllocError, Global};
 use std::test::Fail;
 use tsl_io::{MemorySink, MemorySource};
+use tsl_reader::read_spec;
+use tsl_report::formula_text;
+use tsl_terms::{Spec, whole};
 
 const COPY: &[u8] = b"always guarantee { [y <- x]; }";
 
@@ -157,6 +161,26 @@ fn each_specification_of_fixed_updates_has_its_program(rt: HostRuntime) -> Resul
         assert_eq!(rt; ran.out.as_slice(), program);
         assert_eq!(rt; ran.err.is_empty(), true);
     }
+    Ok(())
+}
+
+/// The text of the whole formula of a specification.
+#[tactic(auto, using(crate::proofs::WholeTexts::spec_written))]
+fn whole_text(alloc: Global, spec: &Spec) -> Result<Vec<u8>, NoMemory> {
+    let formula = whole(alloc, spec)?;
+    formula_text(alloc, &spec.names, &formula)
+}
+
+#[test]
+fn arrows_and_until_are_written_with_brackets(rt: HostRuntime) -> Result<(), Fail> {
+    let text = b"guarantee { a -> b -> c; a U (b || c); }";
+    let Ok(spec) = read_spec(rt.alloc(), text) else {
+        return Err("refused".into());
+    };
+    assert_eq!(rt;
+        whole_text(rt.alloc(), &spec)?.as_slice(),
+        b"((a -> (b -> c)) && (a U (b || c)))".as_slice()
+    );
     Ok(())
 }
 
