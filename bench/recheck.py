@@ -1,6 +1,7 @@
 #!/usr/bin/env python3
 """Times `tsl recheck` on refutations of doubling sizes, beside a plain checker in C. The first argument is the largest
 size in MiB, 4 if there is none."""
+import itertools
 import pathlib
 import subprocess
 import sys
@@ -68,6 +69,33 @@ def pairs(size):
     return text_of(3 * count, clauses, steps)
 
 
+def pigeons(holes):
+    """One pigeon more than there are holes. For the first k pigeons, and any holes of which there is one more than the
+    others leave room for, each clause of a step says that some of these pigeons is in one of these holes."""
+    seat = lambda pigeon, hole: pigeon * holes + hole + 1
+    clauses = [[seat(pigeon, hole) for hole in range(holes)] for pigeon in range(holes + 1)]
+    apart = {}
+    for low, high in itertools.combinations(range(holes + 1), 2):
+        for hole in range(holes):
+            clauses.append([-seat(low, hole), -seat(high, hole)])
+            apart[low, high, hole] = len(clauses)
+    steps, some = [], {frozenset(range(holes)): 1}
+    for pigeon in range(1, holes + 1):
+        later = {}
+        for chosen in itertools.combinations(range(holes), holes - pigeon):
+            among = frozenset(chosen)
+            before = [seat(other, hole) for other in range(pigeon) for hole in chosen]
+            shown = []
+            for hole in set(range(holes)) - among:
+                hints = [apart[other, pigeon, hole] for other in range(pigeon)] + [some[among | {hole}]]
+                steps.append(([-seat(pigeon, hole)] + before, hints))
+                shown.append(len(clauses) + len(steps))
+            steps.append((before + [seat(pigeon, hole) for hole in chosen], shown + [pigeon + 1]))
+            later[among] = len(clauses) + len(steps)
+        some = later
+    return text_of((holes + 1) * holes, clauses, steps)
+
+
 def table(measure, reference, title, family, sizes):
     print(title)
     print(f"{'bytes':>10} {'seconds':>9} {'growth':>7} {'peak KiB':>9} {'a byte':>7} {'plain C':>9} {'ratio':>6}")
@@ -94,6 +122,8 @@ def main():
         table(measure, reference, "chains of units", chain, sizes)
         table(measure, reference, "long clauses", long_clauses, sizes)
         table(measure, reference, "clauses of three, two and one literals", pairs, sizes)
+        holes = [n for n in range(7, 16) if 2**n * n**3 / 2 <= largest * 2**20]
+        table(measure, reference, "pigeons, with a hole more each time", pigeons, holes)
 
 
 main()
