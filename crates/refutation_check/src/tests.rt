@@ -152,6 +152,8 @@ fn a_log_refutes_four_clauses(rt: HostRuntime) -> Result<(), Fail> {
             "c\n5 1 0 1 2 99 0\n5 d 1 0 2 0\n\n9 0 5 3 4 77 0",
             Verdict::Verified,
         ),
+        // A hint may name a clause that was deleted.
+        ("5 1 0 1 2 0\n5 d 3 5 0\n6 0 5 3 4 0\n", Verdict::Verified),
         // A hint that names no clause before it, none at all, or one that is true.
         ("5 1 0 5 0\n6 0 5 3 4 0\n", Verdict::Hint(5, 1)),
         ("5 1 0 0\n", Verdict::Hint(5, 1)),
