@@ -4,4 +4,5 @@ pub mod Stages
 pub mod Walking
 pub mod Counting
 pub mod Searching
+pub mod Closing
 mod Examples

@@ -22,3 +22,5 @@ pub use solver::solve;
 
 #[cfg(test)]
 mod tests;
+#[cfg(test)]
+mod traces;

@@ -1,6 +1,7 @@
 ghost use Rattle.std.specs.Prelude.{IfOk};
 ghost use Rattle.sat_core.specs.Answers.{IsAnswer};
 
+use crate::traces::is_trace;
 use crate::{Answer, solve};
 use clause_core::{Assignment, Clause, Cnf, Literal, clause_of, is_tautology, meets};
 use refutation_check::check;
@@ -110,16 +111,21 @@ fn square(alloc: Global, wanted: [bool; 4]) -> Result<Cnf, Fail> {
     formula(2, kept)
 }
 
+/// The literal of a variable, if the variable is not too large.
+fn literal(variable: u32, is_positive: bool) -> Result<Literal, Fail> {
+    if variable == 0 || variable > 1000 {
+        return Err("too many variables".into());
+    }
+    Ok(Literal::of_variable(variable, is_positive))
+}
+
 /// The literal that a pigeon is in a hole, or that it is not.
 fn place(pigeon: u32, hole: u32, holes: u32, is_in: bool) -> Result<Literal, Fail> {
     let variable = pigeon
         .wrapping_mul(holes)
         .wrapping_add(hole)
         .wrapping_add(1);
-    if variable == 0 || variable > 1000 {
-        return Err("too many variables".into());
-    }
-    Ok(Literal::of_variable(variable, is_in))
+    literal(variable, is_in)
 }
 
 /// One pigeon more than there are holes: each is in a hole, and no two are in one.
@@ -157,13 +163,63 @@ fn chain(alloc: Global) -> Result<Cnf, Fail> {
     )
 }
 
-/// Whether the answer is right for a formula of which it is known whether it is satisfiable.
-fn is_right(alloc: Global, cnf: &Cnf, budget: u64, is_satisfiable: bool) -> Result<bool, Fail> {
-    match answer(alloc, cnf, budget)? {
-        Answer::Sat(assignment) => Ok(is_satisfiable && is_met(&assignment, cnf)),
-        Answer::Unsat(_) => Ok(!is_satisfiable),
-        Answer::Spent(learnt) => Ok(learnt.len() as u64 == budget),
+/// The clauses with one more literal in each, that of a new first variable: true, it meets all of them,
+/// and false, it leaves them as they were.
+fn unless_first(alloc: Global, cnf: &Cnf) -> Result<Cnf, Fail> {
+    let mut clauses = Vec::new(alloc);
+    for clause in cnf.clauses.as_slice() {
+        let mut literals = vec![in alloc; literal(1, true)?]?;
+        for old in clause.literals() {
+            literals.push(literal(old.variable() + 1, old.is_positive())?)?;
+        }
+        clauses.push(clause_of(alloc, literals.as_slice())?)?;
     }
+    formula(cnf.variables + 1, clauses)
+}
+
+/// Whether the clauses are a trace behind the others over so many variables.
+fn is_trace_of(
+    alloc: Global,
+    variables: u32,
+    known: &[&[i32]],
+    trace: &[&[i32]],
+) -> Result<bool, Fail> {
+    let cnf = formula(variables, clauses(alloc, known)?)?;
+    let trace = clauses(alloc, trace)?;
+    Ok(is_trace(alloc, &cnf, trace.as_slice())?)
+}
+
+/// Whether the answer is that the budget is spent. It is an error if the answer is wrong for a formula
+/// of which it is known whether it is satisfiable.
+fn is_spent(alloc: Global, cnf: &Cnf, budget: u64, is_satisfiable: bool) -> Result<bool, Fail> {
+    let (is_right, is_spent) = match answer(alloc, cnf, budget)? {
+        Answer::Sat(assignment) => (is_satisfiable && is_met(&assignment, cnf), false),
+        Answer::Unsat(log) => (!is_satisfiable && check(alloc, cnf, &log).is_ok(), false),
+        Answer::Spent(learnt) => {
+            let is_whole = learnt.len() as u64 == budget;
+            (is_whole && is_trace(alloc, cnf, learnt.as_slice())?, true)
+        }
+    };
+    if !is_right {
+        return Err("a wrong answer".into());
+    }
+    Ok(is_spent)
+}
+
+/// How many budgets are spent: each from 1 up to this number, and none of the four above it. It is an
+/// error if that is not so, or if the answer for one of these budgets is wrong.
+fn budgets_spent(alloc: Global, cnf: &Cnf, is_satisfiable: bool) -> Result<u64, Fail> {
+    for budget in 1..900 {
+        if !is_spent(alloc, cnf, budget, is_satisfiable)? {
+            for more in 1..=3 {
+                if is_spent(alloc, cnf, budget + more, is_satisfiable)? {
+                    return Err("a budget is spent, and a smaller one is not".into());
+                }
+            }
+            return Ok(budget - 1);
+        }
+    }
+    Err("all budgets are spent".into())
 }
 
 /// Whether the answer is a log that is accepted.
@@ -227,14 +283,63 @@ fn the_log_of_a_refutation_is_accepted(rt: HostRuntime) -> Result<(), Fail> {
 }
 
 #[test]
-fn no_budget_leads_to_a_wrong_answer(rt: HostRuntime) -> Result<(), Fail> {
+fn no_budget_leads_to_a_wrong_answer_on_clauses_that_are_refuted(
+    rt: HostRuntime,
+) -> Result<(), Fail> {
     let alloc = rt.alloc();
-    let pigeons = pigeons(alloc, 2)?;
-    let chain = chain(alloc)?;
-    for budget in 1..12 {
-        assert!(rt; is_right(alloc, &pigeons, budget, false)?);
-        assert!(rt; is_right(alloc, &chain, budget, true)?);
+    for holes in 3..=4 {
+        let spent = budgets_spent(alloc, &pigeons(alloc, holes)?, false)?;
+        assert!(rt; spent > 2);
     }
+    Ok(())
+}
+
+#[test]
+fn no_budget_leads_to_a_wrong_answer_on_clauses_that_can_be_met(
+    rt: HostRuntime,
+) -> Result<(), Fail> {
+    let alloc = rt.alloc();
+    budgets_spent(alloc, &chain(alloc)?, true)?;
+    for holes in 3..=4 {
+        let cnf = unless_first(alloc, &pigeons(alloc, holes)?)?;
+        let spent = budgets_spent(alloc, &cnf, true)?;
+        assert!(rt; spent > 2);
+    }
+    Ok(())
+}
+
+#[test]
+fn the_clauses_of_a_trace_tell_what_propagation_had_not_found(rt: HostRuntime) -> Result<(), Fail> {
+    let alloc = rt.alloc();
+    let pair: [&[i32]; 2] = [&[1, 2], &[1, -2]];
+    assert!(rt; is_trace_of(alloc, 2, &pair, &[&[1]])?);
+    assert!(rt; is_trace_of(alloc, 2, &pair, &[])?);
+    assert!(rt; is_trace_of(alloc, 3, &pair, &[&[1, 3], &[1]])?);
+    Ok(())
+}
+
+#[test]
+fn what_is_no_trace_is_refused(rt: HostRuntime) -> Result<(), Fail> {
+    let alloc = rt.alloc();
+    let pair: [&[i32]; 2] = [&[1, 2], &[1, -2]];
+    let square: [&[i32]; 4] = [&[1, 2], &[1, -2], &[-1, 2], &[-1, -2]];
+    // propagation refutes the formula
+    assert!(rt; !is_trace_of(alloc, 1, &[&[1], &[-1]], &[])?);
+    // it refutes the formula with the trace
+    assert!(rt; !is_trace_of(alloc, 2, &square, &[&[1]])?);
+    // the empty clause
+    assert!(rt; !is_trace_of(alloc, 2, &pair, &[&[]])?);
+    // a copy of a clause, and a clause with one in it
+    assert!(rt; !is_trace_of(alloc, 2, &pair, &[&[1, 2]])?);
+    assert!(rt; !is_trace_of(alloc, 3, &pair, &[&[1, 2, 3]])?);
+    // a clause twice
+    assert!(rt; !is_trace_of(alloc, 2, &pair, &[&[1], &[1]])?);
+    // a variable above those of the formula
+    assert!(rt; !is_trace_of(alloc, 2, &pair, &[&[1, 3]])?);
+    // a literal and its negation
+    assert!(rt; !is_trace_of(alloc, 3, &pair, &[&[1, 3, -3]])?);
+    // a clause that does not follow
+    assert!(rt; !is_trace_of(alloc, 2, &[&[1, 2]], &[&[1]])?);
     Ok(())
 }
 
