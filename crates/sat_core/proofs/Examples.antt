@@ -1,5 +1,6 @@
 -- Small cases of the definitions, accepted and refused.
 use Rattle.std.proofs.Common.{◌≡◌, ℕ, zero, suc, ◌+◌, ◌^◌, ◌<◌, inl, inr, Bool, true, false, List, [], ◌∷◌, length, Some, None, slice_get, pos, negsuc, refl, sym, ap, arith, lit<}
+use Rattle.std.specs.Prelude.{nat_lt, map}
 use Rattle.std.proofs.lemmas.Bool.{false≢true, or_cases, or_left}
 use Rattle.std.proofs.lemmas.Option.{none-some, same_Some}
 use Rattle.std.proofs.lemmas.List.Elements.{All-from_recursion}
@@ -14,10 +15,12 @@ use Rattle.sat_trail.specs.Entries.{entry_of, look_of}
 use Rattle.sat_trail.proofs.Steps.{quiet_from}
 use Rattle.refutation_check.specs.declared.steps.Step.{Step}
 use Rattle.sat_core.specs.Lessons.{step_of}
-use Rattle.sat_core.specs.Walks.{count_at, marked_with, replacement_of}
+use Rattle.sat_core.specs.declared.marks.Marks.{Marks}
+use Rattle.sat_core.specs.Walks.{is_marked, count_at, is_of_clause, AreMarks, replacement_of}
 use Rattle.sat_core.specs.Answers.{AreSatisfying, AreRefuting, IsWholeTrace}
 use Rattle.sat_core.proofs.Counting.{word, not_within}
 use Rattle.sat_core.proofs.Searching.{quiet_reaches}
+use Rattle.sat_core.proofs.Walking.{reach_has}
 
 abbrev a : Lit
 a = literal_of (pos 1)
@@ -144,11 +147,30 @@ no_signs = refl
 abbrev entries : List Entry
 entries = entry_of a 0 (Some 0) ∷ entry_of b 1 None ∷ entry_of (literal_of (negsuc 2)) 1 (Some 1) ∷ []
 
-one_of_the_level : count_at 1 (true ∷ true ∷ false ∷ []) entries ≡ 1
+-- the entries at the first two places are marked
+abbrev first_two : ℕ → Bool
+first_two place = nat_lt place 2
+
+one_of_the_level : count_at 1 first_two entries ≡ 1
 one_of_the_level = refl
 
-marked : marked_with entries (negation a ∷ literal_of (pos 3) ∷ []) (false ∷ false ∷ false ∷ []) ≡ true ∷ false ∷ true ∷ []
-marked = refl
+-- the clause -1 3 has the entries at the places 0 and 2
+of_the_clause : map (is_of_clause entries (negation a ∷ literal_of (pos 3) ∷ [])) (0 ∷ 1 ∷ 2 ∷ 3 ∷ []) ≡ true ∷ false ∷ true ∷ false ∷ []
+of_the_clause = refl
+
+-- a variable that is not set has no entry
+of_no_entry : map (is_of_clause entries (literal_of (pos 4) ∷ [])) (0 ∷ 1 ∷ 2 ∷ []) ≡ false ∷ false ∷ false ∷ []
+of_no_entry = refl
+
+-- of the marked places 0 and 2 the last one is 2
+abbrev marks : Marks
+marks = record { places = record { keys = 0 ∷ 2 ∷ [] }; waiting = 1 }
+
+are_marks : AreMarks (record { variables = 3; clauses = []; entries = entries; level = 1; broken = false }) marks
+are_marks = record { within = among; counted = refl }
+  where
+    among : (place : ℕ) → is_marked marks place ≡ true → place < 3
+    among place h = omega (arith, reach_has (0 ∷ 2 ∷ []) place h)
 
 -- an entry at level 0 gives way to its reason, one at the present level where another is marked
 at_start : replacement_of 1 1 (entry_of a 0 (Some 0)) ≡ Some 0

@@ -1,19 +1,17 @@
 -- Hints lead to a false clause from the literals that a walk has found.
-use Rattle.std.proofs.Common.{◌≡◌, ℕ, zero, suc, ◌+◌, Bool, true, false, not, cond, ◌||◌, List, [], ◌∷◌, ◌++◌, length, map, take, set, replicate, Option, Some, slice_get, sym, ap, ◌∙◌, refl, arith, eqb, inl, inr}
+use Rattle.std.proofs.Common.{◌≡◌, ℕ, zero, suc, ◌+◌, Bool, true, false, not, cond, ◌||◌, List, [], ◌∷◌, ◌++◌, map, take, Option, Some, slice_get, sym, ap, ◌∙◌, refl, arith, eqb, inl, inr}
 use Rattle.std.proofs.lemmas.Bool.{false≢true, or_cases, or_left, or_right, cases_Bool, cases_eq, eq-eqb, ne_eqb, cond-true, cond-false, false_from_ne_true}
-use Rattle.std.proofs.lemmas.Option.{slice_get_within}
-use Rattle.std.proofs.lemmas.List.{length-replicate}
 use Rattle.clause_core.specs.Literals.{Lit, negation, same, has}
 use Rattle.clause_core.specs.Propagation.{not_false}
 use Rattle.clause_core.proofs.Sets.{same_tests, same_is, same_from, negation-negation, negation_differs, has-append}
 use Rattle.sat_trail.specs.declared.entries.Entry.{Entry}
 use Rattle.sat_trail.specs.Entries.{literals_of, place_of}
 use Rattle.sat_trail.specs.States.{TrailState}
-use Rattle.sat_trail.proofs.Places.{AreApart, slice_get_one, slice_get-take, slice_get_set, place_of_entry, has_entry, entry_has, one_entry}
+use Rattle.sat_trail.proofs.Places.{AreApart, slice_get_one, slice_get-take, place_of_entry, has_entry, entry_has, one_entry}
 use Rattle.refutation_check.specs.Checking.{numbered_from, clause_named, effect_of_open, effect_of_named, led_to, refused_hint}
 use Rattle.refutation_check.specs.Checking.Effect.{makes, shows_nothing}
-use Rattle.sat_core.specs.Walks.{marked_with, Carries, Shows}
-use Rattle.sat_core.proofs.Marking.{marked_with_keeps, marked_with_has}
+use Rattle.sat_core.specs.Walks.{is_of_clause, Carries, Shows}
+use Rattle.sat_core.proofs.Marking.{is_of_clause_has}
 
 -- ---- clauses by the numbers of a log
 
@@ -61,10 +59,8 @@ has_without xs x l n h = has-append xs (x ∷ []) l ∙ (ap (λ b. b || (same x 
 
 -- ---- entries that a clause is false by
 
-pub false_by : (es : List Entry) → AreApart es → (clause : List Lit) (ms : List Bool) → length ms ≡ length es → (l : Lit) → has clause l ≡ true → (k : ℕ) (e : Entry) → slice_get es k ≡ Some e → e.literal ≡ negation l → slice_get (marked_with es clause ms) k ≡ Some true
-false_by es apart clause ms sized l member k e at is =
-    let placed : place_of es l.index ≡ Some k = ap (λ (z : Lit). place_of es z.index) (sym is) ∙ place_of_entry es k e (apart k e at) at in
-    marked_with_has es clause ms l k member placed (omega (arith, slice_get_within es k e at, sized))
+pub false_by : (es : List Entry) → AreApart es → (clause : List Lit) (l : Lit) → has clause l ≡ true → (k : ℕ) (e : Entry) → slice_get es k ≡ Some e → e.literal ≡ negation l → is_of_clause es clause k ≡ true
+false_by es apart clause l member k e at is = is_of_clause_has es clause l k member (ap (λ (z : Lit). place_of es z.index) (sym is) ∙ place_of_entry es k e (apart k e at) at)
 
 -- the literals of two entries at different places are different
 pub entries_differ : (es : List Entry) → AreApart es → (j k : ℕ) (d e : Entry) → slice_get es j ≡ Some d → slice_get es k ≡ Some e → (j ≡ k → ⊥) → same d.literal e.literal ≡ false
@@ -78,27 +74,23 @@ opposites_differ es apart j k d e at_j at_k n =
 -- ---- the hints of a walk
 
 -- a false clause ends the hints
-pub shows_start : (t : TrailState) → AreApart t.entries → (clause : List Lit) (number n : ℕ) → slice_get t.clauses number ≡ Some clause → not_false (literals_of t.entries) clause ≡ [] → Shows t n (marked_with t.entries clause (replicate (length t.entries) false)) [] ((number + 1) ∷ [])
-shows_start t apart clause number n named is_false trues carries position =
+pub shows_start : (t : TrailState) → AreApart t.entries → (clause : List Lit) (number n : ℕ) (ms : ℕ → Bool) → slice_get t.clauses number ≡ Some clause → not_false (literals_of t.entries) clause ≡ [] → ((k : ℕ) → is_of_clause t.entries clause k ≡ true → ms k ≡ true) → Shows t n ms [] ((number + 1) ∷ [])
+shows_start t apart clause number n ms named is_false marked trues carries position =
     let agree : not_false trues clause ≡ not_false (literals_of t.entries) clause = not_false_same trues (literals_of t.entries) clause (λ l member. same_tests (has trues (negation l)) (has (literals_of t.entries) (negation l)) (carries.set_true (negation l)) (back l member)) in
     ap (λ (o : Option (List Lit)). led_to position (λ l. refused_hint (numbered_from 1 t.clauses) (l ∷ trues) (suc position) []) (effect_of_named trues o)) (named_one t.clauses number ∙ named) ∙ ap (λ (ls : List Lit). led_to position (λ l. refused_hint (numbered_from 1 t.clauses) (l ∷ trues) (suc position) []) (effect_of_open trues ls)) (agree ∙ is_false)
   where
     back : (l : Lit) → has clause l ≡ true → has (literals_of t.entries) (negation l) ≡ true → has trues (negation l) ≡ true
     back l member h =
         let r = has_entry t.entries (negation l) h in
-        ap (has trues) (sym r.3) ∙ carries.marked r.0 r.1 r.2 (false_by t.entries apart clause (replicate (length t.entries) false) (length-replicate (length t.entries) false) l member r.0 r.1 r.2 r.3)
+        ap (has trues) (sym r.3) ∙ carries.marked r.0 r.1 r.2 (marked r.0 (false_by t.entries apart clause l member r.0 r.1 r.2 r.3))
 
-pub shows_unmarked : (t : TrailState) (q : ℕ) (ms : List Bool) (kept : List Lit) (hints : List ℕ) → Shows t (q + 1) ms kept hints → Shows t q ms kept hints
-shows_unmarked t q ms kept hints shows trues carries position =
-    shows trues (record { set_true = carries.set_true; marked = carries.marked; passed = λ k d at_k below. carries.passed k d at_k (omega arith) }) position
-
-pub shows_kept : (t : TrailState) → AreApart t.entries → (q : ℕ) (e : Entry) (ms : List Bool) (kept : List Lit) (hints : List ℕ) → slice_get t.entries q ≡ Some e → Shows t (q + 1) ms kept hints → Shows t q (set ms q false) (kept ++ negation e.literal ∷ []) hints
-shows_kept t apart q e ms kept hints at shows trues carries position = shows trues (record {
+pub shows_kept : (t : TrailState) → AreApart t.entries → (q : ℕ) (e : Entry) (ms ns : ℕ → Bool) (kept : List Lit) (hints : List ℕ) → slice_get t.entries q ≡ Some e → ((k : ℕ) → (k ≡ q → ⊥) → ms k ≡ true → ns k ≡ true) → Shows t (q + 1) ms kept hints → Shows t q ns (kept ++ negation e.literal ∷ []) hints
+shows_kept t apart q e ms ns kept hints at others shows trues carries position = shows trues (record {
   set_true = carries.set_true;
   marked = λ k d at_k m. elim (cases_eq k q) [
     | inl i ↦ (let d_is : d ≡ e = slice_get_one t.entries q d e (ap (slice_get t.entries) (sym i) ∙ at_k) at in
         ap (λ (x : Entry). has trues x.literal) d_is ∙ (carries.passed q e at (omega arith) ∙ (has-append kept (negation e.literal ∷ []) (negation e.literal) ∙ or_right (has kept (negation e.literal)) (has (negation e.literal ∷ []) (negation e.literal)) (or_left (same (negation e.literal) (negation e.literal)) false (same_from (negation e.literal) (negation e.literal) refl)))))
-    | inr n ↦ carries.marked k d at_k (slice_get_set ms q k false n ∙ m)
+    | inr n ↦ carries.marked k d at_k (others k n m)
   ];
   passed = λ k d at_k below. carries.passed k d at_k (omega arith) ∙ (has-append kept (negation e.literal ∷ []) (negation d.literal) ∙ without (has kept (negation d.literal)) (same (negation e.literal) (negation d.literal)) (opposites_differ t.entries apart q k e d at at_k (λ i. omega arith)));
 }) position
@@ -107,8 +99,8 @@ shows_kept t apart q e ms kept hints at shows trues carries position = shows tru
     without true b h = refl
     without false b h = ap (λ z. z || false) h
 
-pub shows_replaced : (t : TrailState) → AreApart t.entries → (q : ℕ) (e : Entry) (reason : ℕ) (clause : List Lit) (ms : List Bool) (kept : List Lit) (hints : List ℕ) → length ms ≡ length t.entries → slice_get t.entries q ≡ Some e → slice_get t.clauses reason ≡ Some clause → not_false (literals_of (take q t.entries)) clause ≡ e.literal ∷ [] → has kept (negation e.literal) ≡ false → Shows t (q + 1) ms kept hints → Shows t q (set (marked_with t.entries clause ms) q false) kept ((reason + 1) ∷ hints)
-shows_replaced t apart q e reason clause ms kept hints sized at named forced fresh shows trues carries position =
+pub shows_replaced : (t : TrailState) → AreApart t.entries → (q : ℕ) (e : Entry) (reason : ℕ) (clause : List Lit) (ms ns : ℕ → Bool) (kept : List Lit) (hints : List ℕ) → slice_get t.entries q ≡ Some e → slice_get t.clauses reason ≡ Some clause → not_false (literals_of (take q t.entries)) clause ≡ e.literal ∷ [] → has kept (negation e.literal) ≡ false → ((k : ℕ) → (k ≡ q → ⊥) → ms k ≡ true → ns k ≡ true) → ((k : ℕ) → (k ≡ q → ⊥) → is_of_clause t.entries clause k ≡ true → ns k ≡ true) → Shows t (q + 1) ms kept hints → Shows t q ns kept ((reason + 1) ∷ hints)
+shows_replaced t apart q e reason clause ms ns kept hints at named forced fresh others added shows trues carries position =
     let unit : not_false trues clause ≡ e.literal ∷ [] = not_false_same trues (literals_of (take q t.entries)) clause agree ∙ forced in
     let unset : has trues e.literal ≡ false = carries.passed q e at (omega arith) ∙ fresh in
     ap (λ (o : Option (List Lit)). led_to position later (effect_of_named trues o)) (named_one t.clauses reason ∙ named) ∙ (ap (λ (ls : List Lit). led_to position later (effect_of_open trues ls)) unit ∙ (ap (λ (b : Bool). led_to position later (cond b shows_nothing (makes e.literal))) unset ∙ shows (e.literal ∷ trues) more (suc position)))
@@ -132,8 +124,7 @@ shows_replaced t apart q e reason clause ms kept hints sized at named forced fre
         back h =
             let r = has_entry (take q t.entries) (negation l) h in
             let at_k = slice_get-take q t.entries r.0 r.1 r.2 in
-            let m = false_by t.entries apart clause ms sized l member r.0 r.1 at_k.1 r.3 in
-            ap (has trues) (sym r.3) ∙ carries.marked r.0 r.1 at_k.1 (slice_get_set (marked_with t.entries clause ms) q r.0 false (λ i. omega (arith, at_k.0)) ∙ m)
+            ap (has trues) (sym r.3) ∙ carries.marked r.0 r.1 at_k.1 (added r.0 (λ i. omega (arith, at_k.0)) (false_by t.entries apart clause l member r.0 r.1 at_k.1 r.3))
 
     more : Carries t.entries (q + 1) ms kept (e.literal ∷ trues)
     more = record {
@@ -144,7 +135,7 @@ shows_replaced t apart q e reason clause ms kept hints sized at named forced fre
       marked = λ k d at_k m. elim (cases_eq k q) [
         | inl i ↦ (let d_is : d ≡ e = slice_get_one t.entries q d e (ap (slice_get t.entries) (sym i) ∙ at_k) at in
             or_left (same e.literal d.literal) (has trues d.literal) (same_from e.literal d.literal (ap (λ (x : Entry). x.literal) (sym d_is))))
-        | inr n ↦ or_right (same e.literal d.literal) (has trues d.literal) (carries.marked k d at_k (slice_get_set (marked_with t.entries clause ms) q k false n ∙ marked_with_keeps t.entries clause ms k m))
+        | inr n ↦ or_right (same e.literal d.literal) (has trues d.literal) (carries.marked k d at_k (others k n m))
       ];
       passed = λ k d at_k below. ap (λ b. b || has trues d.literal) (entries_differ t.entries apart q k e d at at_k (λ i. omega arith)) ∙ carries.passed k d at_k (omega arith);
     }

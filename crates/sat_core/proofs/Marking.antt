@@ -1,67 +1,89 @@
 -- Marks of entries, and the count of the marked ones of one level.
-use Rattle.std.proofs.Common.{◌≡◌, ℕ, zero, suc, ◌+◌, ◌-◌, ◌<◌, ◌≤◌, ◌^◌, Bool, true, false, cond, ◌&&◌, List, [], ◌∷◌, length, set, replicate, Option, Some, None, slice_get, sym, ap, ◌∙◌, refl, arith, eqb, inl, inr, ◌⊎◌}
+use Rattle.std.proofs.Common.{◌≡◌, ℕ, zero, suc, ◌+◌, ◌-◌, ◌<◌, ◌≤◌, ◌^◌, Bool, true, false, not, cond, ◌&&◌, List, [], ◌∷◌, length, Option, Some, None, slice_get, sym, ap, ◌∙◌, refl, arith, eqb, ltb, inl, inr, ◌⊎◌}
 use mir.Val.{bool_byte}
-use Rattle.std.proofs.lemmas.Bool.{false≢true, or_cases, or_left, or_right, and_parts, cases_eq, eqb-true, eq-eqb, ne_eqb}
+use Rattle.std.specs.BTreeMap.{is_at}
+use Rattle.std.specs.BTreeSet.{BTreeSet, contains, Updates}
+use Rattle.std.specs.Ordering.{nat_cmp, is_eq}
+use Rattle.std.specs.declared.cmp.Ordering.TheVariants.{Less, Equal, Greater}
+use Rattle.std.proofs.lemmas.Bool.{false≢true, or_cases, or_left, or_right, and_parts, cases_eq, eqb-true, eq-eqb, ne_eqb, ltb-true}
 use Rattle.std.proofs.lemmas.Option.{none-some, same_Some, slice_get_within}
-use Rattle.std.proofs.lemmas.List.{length-set}
 use Rattle.clause_core.specs.Literals.{Lit, same, has}
 use Rattle.clause_core.proofs.Sets.{same_is, same_from}
 use Rattle.sat_trail.specs.declared.entries.Entry.{Entry}
 use Rattle.sat_trail.specs.Entries.{place_of}
-use Rattle.sat_trail.proofs.Places.{place_found, slice_get_set, slice_get_set_same}
+use Rattle.sat_trail.proofs.Places.{place_found}
 use Rattle.sat_trail.specs.States.{TrailState, IsSound}
 use Rattle.sat_trail.proofs.Soundness.{length_entries}
 use Rattle.sat_core.specs.declared.marks.Marks.{Marks}
-use Rattle.sat_core.specs.Walks.{count_marks, count_at, mark_at, marked_with, AreMarks}
+use Rattle.sat_core.specs.Walks.{is_marked, count_from, count_at, stands_at, is_of_clause, AreMarks}
 
 -- what one entry counts
 abbrev pub one_at : ℕ → Bool → Entry → ℕ
 one_at level m e = cond (m && eqb e.level level) 1 0
 
--- the count after a mark is written
-pub count_set : (level : ℕ) (ms : List Bool) (es : List Entry) (k : ℕ) (a b : Bool) (e : Entry) → slice_get ms k ≡ Some a → slice_get es k ≡ Some e → count_at level (set ms k b) es + one_at level a e ≡ count_at level ms es + one_at level b e
-count_set level [] es k a b e m at = absurd (none-some a m)
-count_set level (x ∷ ms) [] k a b e m at = absurd (none-some e at)
-count_set level (x ∷ ms) (d ∷ es) zero a b e m at =
-    let p : one_at level x d ≡ one_at level a e = ap (λ (z : Bool). one_at level z d) (same_Some x a m) ∙ ap (λ (z : Entry). one_at level a z) (same_Some d e at) in
-    let q : one_at level b d ≡ one_at level b e = ap (λ (z : Entry). one_at level b z) (same_Some d e at) in
-    swapped (one_at level x d) (one_at level a e) (one_at level b d) (one_at level b e) (count_at level ms es) p q
+-- ---- the count
+
+-- marks that agree from a place on
+count_same : (level n : ℕ) (ms ns : ℕ → Bool) (es : List Entry) → ((j : ℕ) → n ≤ j → ns j ≡ ms j) → count_from n level ns es ≡ count_from n level ms es
+count_same level n ms ns [] h = refl
+count_same level n ms ns (e ∷ es) h = both (one_at level (ns n) e) (one_at level (ms n) e) (count_from (suc n) level ns es) (count_from (suc n) level ms es) (ap (λ b. one_at level b e) (h n (omega arith))) (count_same level (suc n) ms ns es (λ j above. h j (omega arith)))
   where
-    swapped : (x a b c n : ℕ) → x ≡ a → b ≡ c → (b + n) + a ≡ (x + n) + c
-    swapped x a b c n p q = omega arith
-count_set level (x ∷ ms) (d ∷ es) (suc k) a b e m at = moved (one_at level x d) (count_at level (set ms k b) es) (one_at level a e) (count_at level ms es) (one_at level b e) (count_set level ms es k a b e m at)
+    both : (a b c d : ℕ) → a ≡ b → c ≡ d → a + c ≡ b + d
+    both a b c d p q = omega arith
+
+-- the count after the mark of one place changes
+count_changed : (level n p : ℕ) (ms ns : ℕ → Bool) (es : List Entry) (k : ℕ) (e : Entry) → p ≡ n + k → slice_get es k ≡ Some e → ((j : ℕ) → (j ≡ p → ⊥) → ns j ≡ ms j) → count_from n level ns es + one_at level (ms p) e ≡ count_from n level ms es + one_at level (ns p) e
+count_changed level n p ms ns [] k e is at h = absurd (none-some e at)
+count_changed level n p ms ns (d ∷ es) zero e is at h =
+    let here : p ≡ n = omega arith in
+    let same_entry : d ≡ e = same_Some d e at in
+    let a : one_at level (ns n) d ≡ one_at level (ns p) e = ap (λ (j : ℕ). one_at level (ns j) d) (sym here) ∙ ap (λ (z : Entry). one_at level (ns p) z) same_entry in
+    let b : one_at level (ms n) d ≡ one_at level (ms p) e = ap (λ (j : ℕ). one_at level (ms j) d) (sym here) ∙ ap (λ (z : Entry). one_at level (ms p) z) same_entry in
+    swapped (one_at level (ns n) d) (one_at level (ns p) e) (one_at level (ms n) d) (one_at level (ms p) e) (count_from (suc n) level ns es) (count_from (suc n) level ms es) a b (count_same level (suc n) ms ns es (λ j above. h j (λ i. omega arith)))
   where
-    moved : (x m a n b : ℕ) → m + a ≡ n + b → (x + m) + a ≡ (x + n) + b
-    moved x m a n b h = omega arith
+    swapped : (x a y b c d : ℕ) → x ≡ a → y ≡ b → c ≡ d → (x + c) + b ≡ (y + d) + a
+    swapped x a y b c d p q r = omega arith
+count_changed level n p ms ns (d ∷ es) (suc k) e is at h =
+    moved (one_at level (ns n) d) (one_at level (ms n) d) (count_from (suc n) level ns es) (one_at level (ms p) e) (count_from (suc n) level ms es) (one_at level (ns p) e) (ap (λ b. one_at level b d) (h n (λ i. omega arith))) (count_changed level (suc n) p ms ns es k e (omega arith) at h)
+  where
+    moved : (x y c a d b : ℕ) → x ≡ y → c + a ≡ d + b → (x + c) + a ≡ (y + d) + b
+    moved x y c a d b p q = omega arith
+
+pub count_set : (level : ℕ) (ms ns : ℕ → Bool) (es : List Entry) (k : ℕ) (e : Entry) → slice_get es k ≡ Some e → ((j : ℕ) → (j ≡ k → ⊥) → ns j ≡ ms j) → count_at level ns es + one_at level (ms k) e ≡ count_at level ms es + one_at level (ns k) e
+count_set level ms ns es k e at h = count_changed level 0 k ms ns es k e (omega arith) at h
 
 one_le : (b : Bool) → cond b 1 0 ≤ 1
 one_le true = omega arith
 one_le false = omega arith
 
-pub count_le : (level : ℕ) (ms : List Bool) (es : List Entry) → count_at level ms es ≤ length es
-count_le level [] es = omega arith
-count_le level (m ∷ ms) [] = omega arith
-count_le level (m ∷ ms) (e ∷ es) = more (cond (m && eqb e.level level) 1 0) (count_at level ms es) (length es) (one_le (m && eqb e.level level)) (count_le level ms es)
+count_le : (level n : ℕ) (ms : ℕ → Bool) (es : List Entry) → count_from n level ms es ≤ length es
+count_le level n ms [] = omega arith
+count_le level n ms (e ∷ es) = more (one_at level (ms n) e) (count_from (suc n) level ms es) (length es) (one_le (ms n && eqb e.level level)) (count_le level (suc n) ms es)
   where
     more : (x n k : ℕ) → x ≤ 1 → n ≤ k → x + n ≤ suc k
     more x n k p q = omega arith
 
 -- a marked entry of the level
-pub record HasMarked (level : ℕ) (ms : List Bool) (es : List Entry) : Type 0 where
+pub record HasMarked (level : ℕ) (ms : ℕ → Bool) (es : List Entry) : Type 0 where
   pub place : ℕ
   pub entry : Entry
-  pub is_marked : slice_get ms place ≡ Some true
+  pub is_marked : ms place ≡ true
   pub there : slice_get es place ≡ Some entry
   pub same_level : entry.level ≡ level
 
-pub count_some : (level : ℕ) (ms : List Bool) (es : List Entry) → 0 < count_at level ms es → HasMarked level ms es
-count_some level [] es h = absurd (omega arith)
-count_some level (m ∷ ms) [] h = absurd (omega arith)
-count_some level (m ∷ ms) (e ∷ es) h = by_test (m && eqb e.level level) refl (count_some level ms es) h
+some_from : (level n : ℕ) (ms : ℕ → Bool) (es : List Entry) → 0 < count_from n level ms es → (k : ℕ) × (e : Entry) × (p : ℕ) × (p ≡ n + k) × (ms p ≡ true) × (slice_get es k ≡ Some e) × (e.level ≡ level)
+some_from level n ms [] h = absurd (omega arith)
+some_from level n ms (e ∷ es) h = by_test (ms n && eqb e.level level) refl (some_from level (suc n) ms es) h
   where
-    by_test : (b : Bool) → (m && eqb e.level level) ≡ b → (0 < count_at level ms es → HasMarked level ms es) → 0 < cond b 1 0 + count_at level ms es → HasMarked level (m ∷ ms) (e ∷ es)
-    by_test true t later h = let parts = and_parts m (eqb e.level level) t in record { place = 0; entry = e; is_marked = ap Some parts.0; there = refl; same_level = eqb-true e.level level parts.1 }
-    by_test false t later h = let r = later (omega arith) in record { place = suc r.place; entry = r.entry; is_marked = r.is_marked; there = r.there; same_level = r.same_level }
+    by_test : (b : Bool) → (ms n && eqb e.level level) ≡ b → (0 < count_from (suc n) level ms es → (k : ℕ) × (d : Entry) × (p : ℕ) × (p ≡ suc n + k) × (ms p ≡ true) × (slice_get es k ≡ Some d) × (d.level ≡ level)) → 0 < cond b 1 0 + count_from (suc n) level ms es → (k : ℕ) × (d : Entry) × (p : ℕ) × (p ≡ n + k) × (ms p ≡ true) × (slice_get (e ∷ es) k ≡ Some d) × (d.level ≡ level)
+    by_test true t later h = let parts = and_parts (ms n) (eqb e.level level) t in (0, e, n, omega arith, parts.0, refl, eqb-true e.level level parts.1)
+    by_test false t later h = let r = later (omega arith) in (suc r.0, r.1, r.2, omega (arith, r.3), r.4, r.5, r.6)
+
+pub count_some : (level : ℕ) (ms : ℕ → Bool) (es : List Entry) → 0 < count_at level ms es → HasMarked level ms es
+count_some level ms es h =
+    let r = some_from level 0 ms es h in
+    let here : r.2 ≡ r.0 = omega (arith, r.3) in
+    record { place = r.0; entry = r.1; is_marked = ap ms (sym here) ∙ r.4; there = r.5; same_level = r.6 }
 
 pub one_same : (level : ℕ) (e : Entry) → e.level ≡ level → one_at level true e ≡ 1
 one_same level e h = ap (λ (b : Bool). cond b 1 0) (eq-eqb e.level level h)
@@ -70,108 +92,112 @@ pub one_other : (level : ℕ) (m : Bool) (e : Entry) → (e.level ≡ level → 
 one_other level true e h = ap (λ (b : Bool). cond b 1 0) (ne_eqb e.level level h)
 one_other level false e h = refl
 
-pub count_has : (level : ℕ) (ms : List Bool) (es : List Entry) (k : ℕ) (e : Entry) → slice_get ms k ≡ Some true → slice_get es k ≡ Some e → e.level ≡ level → 0 < count_at level ms es
-count_has level ms es k e m at h =
-    let s = count_set level ms es k true false e m at in
-    let o = one_same level e h in
-    taken (count_at level (set ms k false) es) (one_at level true e) (count_at level ms es) s o
+has_from : (level n p : ℕ) (ms : ℕ → Bool) (es : List Entry) (k : ℕ) (e : Entry) → p ≡ n + k → ms p ≡ true → slice_get es k ≡ Some e → e.level ≡ level → 0 < count_from n level ms es
+has_from level n p ms [] k e is m at h = absurd (none-some e at)
+has_from level n p ms (d ∷ es) zero e is m at h =
+    let here : p ≡ n = omega arith in
+    let one : one_at level (ms n) d ≡ 1 = ap (λ (j : ℕ). one_at level (ms j) d) (sym here) ∙ (ap (λ b. one_at level b d) m ∙ (ap (λ (z : Entry). one_at level true z) (same_Some d e at) ∙ one_same level e h)) in
+    positive (one_at level (ms n) d) (count_from (suc n) level ms es) one
   where
-    taken : (n x m : ℕ) → n + x ≡ m + 0 → x ≡ 1 → 0 < m
-    taken n x m s o = omega arith
-
-pub count_none : (level n : ℕ) (es : List Entry) → count_at level (replicate n false) es ≡ 0
-count_none level zero es = refl
-count_none level (suc n) [] = refl
-count_none level (suc n) (e ∷ es) = let h = count_none level n es in omega arith
-
--- ---- all marks
-
-pub marks_set : (ms : List Bool) (k : ℕ) (a b : Bool) → slice_get ms k ≡ Some a → count_marks (set ms k b) + cond a 1 0 ≡ count_marks ms + cond b 1 0
-marks_set [] k a b m = absurd (none-some a m)
-marks_set (x ∷ ms) zero a b m = swapped (cond x 1 0) (cond a 1 0) (cond b 1 0) (count_marks ms) (ap (λ (z : Bool). cond z 1 0) (same_Some x a m))
+    positive : (x c : ℕ) → x ≡ 1 → 0 < x + c
+    positive x c q = omega arith
+has_from level n p ms (d ∷ es) (suc k) e is m at h = behind (one_at level (ms n) d) (count_from (suc n) level ms es) (has_from level (suc n) p ms es k e (omega arith) m at h)
   where
-    swapped : (x a b n : ℕ) → x ≡ a → (b + n) + a ≡ (x + n) + b
-    swapped x a b n p = omega arith
-marks_set (x ∷ ms) (suc k) a b m = moved (cond x 1 0) (count_marks (set ms k b)) (cond a 1 0) (count_marks ms) (cond b 1 0) (marks_set ms k a b m)
+    behind : (x c : ℕ) → 0 < c → 0 < x + c
+    behind x c q = omega arith
+
+pub count_has : (level : ℕ) (ms : ℕ → Bool) (es : List Entry) (k : ℕ) (e : Entry) → ms k ≡ true → slice_get es k ≡ Some e → e.level ≡ level → 0 < count_at level ms es
+count_has level ms es k e m at h = has_from level 0 k ms es k e (omega arith) m at h
+
+none_from : (level n : ℕ) (ms : ℕ → Bool) (es : List Entry) → ((j : ℕ) → ms j ≡ false) → count_from n level ms es ≡ 0
+none_from level n ms [] h = refl
+none_from level n ms (e ∷ es) h = both (one_at level (ms n) e) (count_from (suc n) level ms es) (ap (λ b. one_at level b e) (h n)) (none_from level (suc n) ms es h)
   where
-    moved : (x m a n b : ℕ) → m + a ≡ n + b → (x + m) + a ≡ (x + n) + b
-    moved x m a n b h = omega arith
+    both : (x c : ℕ) → x ≡ 0 → c ≡ 0 → x + c ≡ 0
+    both x c p q = omega arith
 
-pub marks_le : (ms : List Bool) → count_marks ms ≤ length ms
-marks_le [] = omega arith
-marks_le (m ∷ ms) = more (cond m 1 0) (count_marks ms) (length ms) (one_le m) (marks_le ms)
+pub count_none : (level : ℕ) (ms : ℕ → Bool) (es : List Entry) → ((j : ℕ) → ms j ≡ false) → count_at level ms es ≡ 0
+count_none level ms es h = none_from level 0 ms es h
+
+-- ---- marks without one
+
+-- these marks but for the one at a place
+abbrev pub without : (ℕ → Bool) → ℕ → ℕ → Bool
+without ms q k = ms k && not (eqb k q)
+
+pub without_here : (ms : ℕ → Bool) (q : ℕ) → without ms q q ≡ false
+without_here ms q = ap (λ b. ms q && not b) (eq-eqb q q refl) ∙ and_false (ms q)
   where
-    more : (x n k : ℕ) → x ≤ 1 → n ≤ k → x + n ≤ suc k
-    more x n k p q = omega arith
+    and_false : (b : Bool) → (b && false) ≡ false
+    and_false true = refl
+    and_false false = refl
 
-pub marks_none : (n : ℕ) → count_marks (replicate n false) ≡ 0
-marks_none zero = refl
-marks_none (suc n) = let h = marks_none n in omega arith
+pub without_other : (ms : ℕ → Bool) (q k : ℕ) → (k ≡ q → ⊥) → without ms q k ≡ ms k
+without_other ms q k n = ap (λ b. ms k && not b) (ne_eqb k q n) ∙ and_true (ms k)
+  where
+    and_true : (b : Bool) → (b && true) ≡ b
+    and_true true = refl
+    and_true false = refl
 
-pub marks_has : (ms : List Bool) (k : ℕ) → slice_get ms k ≡ Some true → 0 < count_marks ms
-marks_has ms k m = let s = marks_set ms k true false m in omega arith
+-- a mark that is left is another one
+pub without_from : (ms : ℕ → Bool) (q k : ℕ) → without ms q k ≡ true → (k ≡ q → ⊥) × (ms k ≡ true)
+without_from ms q k h = (λ i. false≢true (sym (without_here ms q) ∙ (ap (without ms q) (sym i) ∙ h)), (and_parts (ms k) (not (eqb k q)) h).0)
 
-pub marks_some : (ms : List Bool) → 0 < count_marks ms → (k : ℕ) × (slice_get ms k ≡ Some true)
-marks_some [] h = absurd (omega arith)
-marks_some (true ∷ ms) h = (0, refl)
-marks_some (false ∷ ms) h = let r = marks_some ms (omega arith) in (suc r.0, r.1)
+pub count_without : (level : ℕ) (ms ns : ℕ → Bool) (es : List Entry) (q : ℕ) (e : Entry) → slice_get es q ≡ Some e → ms q ≡ true → ((k : ℕ) → ns k ≡ without ms q k) → count_at level ns es + one_at level true e ≡ count_at level ms es
+count_without level ms ns es q e at marked is =
+    summed (count_at level ns es) (one_at level (ms q) e) (one_at level true e) (count_at level ms es) (one_at level (ns q) e) (count_set level ms ns es q e at (λ k n. is k ∙ without_other ms q k n)) (ap (λ b. one_at level b e) marked) (ap (λ b. one_at level b e) (is q ∙ without_here ms q))
+  where
+    summed : (n a x m b : ℕ) → n + a ≡ m + b → a ≡ x → b ≡ 0 → n + x ≡ m
+    summed n a x m b s p q = omega arith
 
--- ---- marks that are written
+-- ---- places in a set
 
-pub set_same : {X : Type 0} (xs : List X) (i : ℕ) (x : X) → slice_get xs i ≡ Some x → set xs i x ≡ xs
-set_same [] i x h = refl
-set_same {X = X} (y ∷ ys) zero x h = ap (λ (z : X). z ∷ ys) (sym (same_Some y x h))
-set_same {X = X} (y ∷ ys) (suc i) x h = ap (λ (zs : List X). y ∷ zs) (set_same ys i x h)
+-- another place is not the one that is looked for
+pub apart_at : (p k : ℕ) → (k ≡ p → ⊥) → is_at (nat_cmp p) k ≡ false
+apart_at p k n = by_test (ltb p k)
+  where
+    by_test : (b : Bool) → is_eq (cond b Less (cond (eqb p k) Equal Greater)) ≡ false
+    by_test true = refl
+    by_test false = ap (λ b. is_eq (cond b Equal Greater)) (ne_eqb p k (λ e. n (sym e)))
 
-pub length-mark_at : (o : Option ℕ) (ms : List Bool) → length (mark_at o ms) ≡ length ms
-length-mark_at None ms = refl
-length-mark_at (Some p) ms = length-set ms p true
+-- the one that is looked for is found
+pub same_at : (k : ℕ) → is_at (nat_cmp k) k ≡ true
+same_at k = by_test (ltb k k) refl
+  where
+    by_test : (b : Bool) → ltb k k ≡ b → is_eq (cond b Less (cond (eqb k k) Equal Greater)) ≡ true
+    by_test true h = absurd (omega (arith, ltb-true k k h))
+    by_test false h = ap (λ b. is_eq (cond b Equal Greater)) (eq-eqb k k refl)
 
-pub length-marked_with : (es : List Entry) (ls : List Lit) (ms : List Bool) → length (marked_with es ls ms) ≡ length ms
-length-marked_with es [] ms = refl
-length-marked_with es (l ∷ ls) ms = length-marked_with es ls (mark_at (place_of es l.index) ms) ∙ length-mark_at (place_of es l.index) ms
+pub at_is : (p k : ℕ) → is_at (nat_cmp p) k ≡ true → k ≡ p
+at_is p k h = elim (cases_eq k p) [ inl e ↦ e | inr n ↦ absurd (false≢true (sym (apart_at p k n) ∙ h)) ]
 
-mark_at_keeps : (o : Option ℕ) (ms : List Bool) (k : ℕ) → slice_get ms k ≡ Some true → slice_get (mark_at o ms) k ≡ Some true
-mark_at_keeps None ms k h = h
-mark_at_keeps (Some p) ms k h =
-    elim (cases_eq k p) [
-      | inl e ↦ ap (slice_get (set ms p true)) e ∙ slice_get_set_same ms p true (omega (arith, slice_get_within ms k true h))
-      | inr n ↦ slice_get_set ms p k true n ∙ h
-    ]
+-- ---- the entries of a clause
 
-pub marked_with_keeps : (es : List Entry) (ls : List Lit) (ms : List Bool) (k : ℕ) → slice_get ms k ≡ Some true → slice_get (marked_with es ls ms) k ≡ Some true
-marked_with_keeps es [] ms k h = h
-marked_with_keeps es (l ∷ ls) ms k h = marked_with_keeps es ls (mark_at (place_of es l.index) ms) k (mark_at_keeps (place_of es l.index) ms k h)
-
-pub marked_with_has : (es : List Entry) (ls : List Lit) (ms : List Bool) (l : Lit) (k : ℕ) → has ls l ≡ true → place_of es l.index ≡ Some k → k < length ms → slice_get (marked_with es ls ms) k ≡ Some true
-marked_with_has es [] ms l k h at below = absurd (false≢true h)
-marked_with_has es (x ∷ xs) ms l k h at below =
+pub is_of_clause_has : (es : List Entry) (ls : List Lit) (l : Lit) (k : ℕ) → has ls l ≡ true → place_of es l.index ≡ Some k → is_of_clause es ls k ≡ true
+is_of_clause_has es [] l k h at = absurd (false≢true h)
+is_of_clause_has es (x ∷ xs) l k h at =
     elim (or_cases (same x l) (has xs l) h) [
-      | inl t ↦ marked_with_keeps es xs (mark_at (place_of es x.index) ms) k (ap (λ (o : Option ℕ). slice_get (mark_at o ms) k) (ap (λ (z : Lit). place_of es z.index) (same_is x l t) ∙ at) ∙ slice_get_set_same ms k true below)
-      | inr t ↦ marked_with_has es xs (mark_at (place_of es x.index) ms) l k t at (omega (arith, length-mark_at (place_of es x.index) ms))
+      | inl t ↦ or_left (stands_at (place_of es x.index) k) (is_of_clause es xs k) (ap (λ (z : Lit). stands_at (place_of es z.index) k) (same_is x l t) ∙ (ap (λ (o : Option ℕ). stands_at o k) at ∙ eq-eqb k k refl))
+      | inr t ↦ or_right (stands_at (place_of es x.index) k) (is_of_clause es xs k) (is_of_clause_has es xs l k t at)
     ]
 
--- where a mark comes from
+-- where an entry of a clause comes from
 pub record IsOfClause (es : List Entry) (ls : List Lit) (k : ℕ) : Type 0 where
   pub literal : Lit
   pub member : has ls literal ≡ true
   pub placed : place_of es literal.index ≡ Some k
 
-pub marked_with_from : (es : List Entry) (ls : List Lit) (ms : List Bool) (k : ℕ) → slice_get (marked_with es ls ms) k ≡ Some true → (slice_get ms k ≡ Some true) ⊎ IsOfClause es ls k
-marked_with_from es [] ms k h = inl h
-marked_with_from es (x ∷ xs) ms k h =
-    elim (marked_with_from es xs (mark_at (place_of es x.index) ms) k h) [
-      | inl m ↦ by_place (place_of es x.index) refl m
-      | inr r ↦ inr (record { literal = r.literal; member = or_right (same x r.literal) (has xs r.literal) r.member; placed = r.placed })
+pub stands_is : (o : Option ℕ) (k : ℕ) → stands_at o k ≡ true → o ≡ Some k
+stands_is None k h = absurd (false≢true h)
+stands_is (Some p) k h = ap Some (sym (eqb-true k p h))
+
+pub is_of_clause_from : (es : List Entry) (ls : List Lit) (k : ℕ) → is_of_clause es ls k ≡ true → IsOfClause es ls k
+is_of_clause_from es [] k h = absurd (false≢true h)
+is_of_clause_from es (x ∷ xs) k h =
+    elim (or_cases (stands_at (place_of es x.index) k) (is_of_clause es xs k) h) [
+      | inl t ↦ record { literal = x; member = or_left (same x x) (has xs x) (same_from x x refl); placed = stands_is (place_of es x.index) k t }
+      | inr t ↦ (let r = is_of_clause_from es xs k t in record { literal = r.literal; member = or_right (same x r.literal) (has xs r.literal) r.member; placed = r.placed })
     ]
-  where
-    by_place : (o : Option ℕ) → place_of es x.index ≡ o → slice_get (mark_at o ms) k ≡ Some true → (slice_get ms k ≡ Some true) ⊎ IsOfClause es (x ∷ xs) k
-    by_place None is m = inl m
-    by_place (Some p) is m =
-        elim (cases_eq k p) [
-          | inl e ↦ inr (record { literal = x; member = or_left (same x x) (has xs x) (same_from x x refl); placed = is ∙ ap Some (sym e) })
-          | inr n ↦ inl (sym (slice_get_set ms p k true n) ∙ m)
-        ]
 
 -- ---- the count that is kept
 
@@ -185,27 +211,61 @@ place_within es variable index place is h =
     let r = place_found 0 es index place at in
     (at, omega (arith, r.1, slice_get_within es r.0 r.2.entry r.2.there))
 
-pub clears : (t : TrailState) (m : Marks) (k : ℕ) (e : Entry) (present : Bool) (byte : ℕ) → AreMarks t m → slice_get m.by_place.items k ≡ Some true → slice_get t.entries k ≡ Some e → present ≡ eqb e.level t.level → byte ≡ bool_byte present → m.waiting ≡ count_at t.level (set m.by_place.items k false) t.entries + byte
-clears t m k e present byte marks marked at is read =
-    let s = count_set t.level m.by_place.items t.entries k true false e marked at in
+pub count_fits : (t : TrailState) → IsSound t → (ms : ℕ → Bool) → count_at t.level ms t.entries < 2 ^ 32
+count_fits t sound ms = omega (arith, count_le t.level 0 ms t.entries, length_entries t.variables t.clauses t.entries sound.stand, sound.few_variables)
+
+-- the count falls with a mark that is taken away
+counts_less : (t : TrailState) (waiting : ℕ) (ms ns : ℕ → Bool) (k : ℕ) (e : Entry) (present : Bool) (byte : ℕ) → waiting ≡ count_at t.level ms t.entries → ms k ≡ true → ns k ≡ false → ((j : ℕ) → (j ≡ k → ⊥) → ns j ≡ ms j) → slice_get t.entries k ≡ Some e → present ≡ eqb e.level t.level → byte ≡ bool_byte present → waiting ≡ count_at t.level ns t.entries + byte
+counts_less t waiting ms ns k e present byte counted marked cleared others at is read =
+    let s = count_set t.level ms ns t.entries k e at others in
     let p : byte ≡ one_at t.level true e = read ∙ (byte_is present ∙ ap (λ (b : Bool). cond b 1 0) is) in
-    summed m.waiting (count_at t.level m.by_place.items t.entries) (count_at t.level (set m.by_place.items k false) t.entries) (one_at t.level true e) byte marks.counted s p
+    let m : one_at t.level (ms k) e ≡ one_at t.level true e = ap (λ b. one_at t.level b e) marked in
+    let n : one_at t.level (ns k) e ≡ 0 = ap (λ b. one_at t.level b e) cleared in
+    summed waiting (count_at t.level ms t.entries) (count_at t.level ns t.entries) (one_at t.level true e) (one_at t.level (ms k) e) (one_at t.level (ns k) e) byte counted s p m n
   where
-    summed : (w n c x p : ℕ) → w ≡ n → c + x ≡ n + 0 → p ≡ x → w ≡ c + p
-    summed w n c x p h s e = omega arith
+    summed : (w n c x a b p : ℕ) → w ≡ n → c + a ≡ n + b → p ≡ x → a ≡ x → b ≡ 0 → w ≡ c + p
+    summed w n c x a b p h s e f g = omega arith
 
-pub adds : (t : TrailState) (m : Marks) (k : ℕ) (e : Entry) (present : Bool) (byte : ℕ) → AreMarks t m → slice_get m.by_place.items k ≡ Some false → slice_get t.entries k ≡ Some e → present ≡ eqb e.level t.level → byte ≡ bool_byte present → m.waiting + byte ≡ count_at t.level (set m.by_place.items k true) t.entries
-adds t m k e present byte marks marked at is read =
-    let s = count_set t.level m.by_place.items t.entries k false true e marked at in
+-- the count rises with a new mark
+counts_more : (t : TrailState) (waiting : ℕ) (ms ns : ℕ → Bool) (k : ℕ) (e : Entry) (present : Bool) (byte : ℕ) → waiting ≡ count_at t.level ms t.entries → ms k ≡ false → ns k ≡ true → ((j : ℕ) → (j ≡ k → ⊥) → ns j ≡ ms j) → slice_get t.entries k ≡ Some e → present ≡ eqb e.level t.level → byte ≡ bool_byte present → waiting + byte ≡ count_at t.level ns t.entries
+counts_more t waiting ms ns k e present byte counted unmarked marked others at is read =
+    let s = count_set t.level ms ns t.entries k e at others in
     let p : byte ≡ one_at t.level true e = read ∙ (byte_is present ∙ ap (λ (b : Bool). cond b 1 0) is) in
-    summed m.waiting (count_at t.level m.by_place.items t.entries) (count_at t.level (set m.by_place.items k true) t.entries) (one_at t.level true e) byte marks.counted s p
+    let m : one_at t.level (ms k) e ≡ 0 = ap (λ b. one_at t.level b e) unmarked in
+    let n : one_at t.level (ns k) e ≡ one_at t.level true e = ap (λ b. one_at t.level b e) marked in
+    summed waiting (count_at t.level ms t.entries) (count_at t.level ns t.entries) (one_at t.level true e) (one_at t.level (ms k) e) (one_at t.level (ns k) e) byte counted s p m n
   where
-    summed : (w n c x p : ℕ) → w ≡ n → c + 0 ≡ n + x → p ≡ x → w + p ≡ c
-    summed w n c x p h s e = omega arith
+    summed : (w n c x a b p : ℕ) → w ≡ n → c + a ≡ n + b → p ≡ x → a ≡ 0 → b ≡ x → w + p ≡ c
+    summed w n c x a b p h s e f g = omega arith
 
-pub count_fits : (t : TrailState) → IsSound t → (ms : List Bool) → count_at t.level ms t.entries < 2 ^ 32
-count_fits t sound ms = omega (arith, count_le t.level ms t.entries, length_entries t.variables t.clauses t.entries sound.stand, sound.few_variables)
+-- a mark is taken away
+pub clears : (t : TrailState) (m : Marks) (places : BTreeSet ℕ) (k : ℕ) (e : Entry) (present : Bool) (byte : ℕ) → AreMarks t m → is_marked m k ≡ true → Updates nat_cmp m.places places k false → slice_get t.entries k ≡ Some e → present ≡ eqb e.level t.level → byte ≡ bool_byte present → (byte ≤ m.waiting) × AreMarks t (record { places = places; waiting = m.waiting - byte })
+clears t m places k e present byte marks marked updates at is read =
+    let less = counts_less t m.waiting (is_marked m) (contains nat_cmp places) k e present byte marks.counted marked updates.1 others at is read in
+    (omega arith, record { within = λ j h. within j h (cases_eq j k); counted = omega arith })
+  where
+    others : (j : ℕ) → (j ≡ k → ⊥) → contains nat_cmp places j ≡ is_marked m j
+    others j n = updates.2 j (apart_at k j n)
 
--- the marks of a trail can be counted
-pub marks_fit : (t : TrailState) → IsSound t → (ms : List Bool) → length ms ≡ length t.entries → count_marks ms < 2 ^ 32
-marks_fit t sound ms sized = omega (arith, marks_le ms, length_entries t.variables t.clauses t.entries sound.stand, sound.few_variables)
+    within : (j : ℕ) → contains nat_cmp places j ≡ true → (j ≡ k) ⊎ (j ≡ k → ⊥) → j < length t.entries
+    within j h (inl is) = absurd (false≢true (sym updates.1 ∙ (ap (contains nat_cmp places) (sym is) ∙ h)))
+    within j h (inr n) = marks.within j (sym (others j n) ∙ h)
+
+-- a mark is set
+pub adds : (t : TrailState) (m : Marks) (places : BTreeSet ℕ) (k : ℕ) (e : Entry) (present : Bool) (byte : ℕ) → AreMarks t m → is_marked m k ≡ false → Updates nat_cmp m.places places k true → slice_get t.entries k ≡ Some e → present ≡ eqb e.level t.level → byte ≡ bool_byte present → AreMarks t (record { places = places; waiting = m.waiting + byte })
+adds t m places k e present byte marks unmarked updates at is read =
+    record { within = λ j h. within j h (cases_eq j k); counted = counts_more t m.waiting (is_marked m) (contains nat_cmp places) k e present byte marks.counted unmarked updates.1 others at is read }
+  where
+    others : (j : ℕ) → (j ≡ k → ⊥) → contains nat_cmp places j ≡ is_marked m j
+    others j n = updates.2 j (apart_at k j n)
+
+    within : (j : ℕ) → contains nat_cmp places j ≡ true → (j ≡ k) ⊎ (j ≡ k → ⊥) → j < length t.entries
+    within j h (inl is) = omega (arith, slice_get_within t.entries k e at)
+    within j h (inr n) = marks.within j (sym (others j n) ∙ h)
+
+-- marks at the same places are counted alike
+pub marks_same : (t : TrailState) (m n : Marks) → ((k : ℕ) → is_marked n k ≡ is_marked m k) → n.waiting ≡ m.waiting → AreMarks t m → AreMarks t n
+marks_same t m n h w marks = record {
+  within = λ k marked. marks.within k (sym (h k) ∙ marked);
+  counted = w ∙ (marks.counted ∙ sym (count_same t.level 0 (is_marked m) (is_marked n) t.entries (λ k above. h k)));
+}

@@ -1,20 +1,20 @@
 -- The clause of a walk has one literal of the present level in the end.
-use Rattle.std.proofs.Common.{◌≡◌, ℕ, suc, ◌+◌, ◌<◌, ◌≤◌, Bool, true, false, cond, ◌&&◌, ◌||◌, List, [], ◌∷◌, ◌++◌, length, take, set, Option, Some, None, slice_get, sym, ap, ◌∙◌, subst, refl, arith, eqb, ltb, inl, inr, ◌⊎◌, MatchOption, max}
+use Rattle.std.proofs.Common.{◌≡◌, ℕ, suc, ◌+◌, ◌<◌, ◌≤◌, Bool, true, false, cond, ◌&&◌, ◌||◌, List, [], ◌∷◌, ◌++◌, take, Option, Some, None, slice_get, sym, ap, ◌∙◌, subst, refl, arith, eqb, ltb, inl, inr, ◌⊎◌, MatchOption, max}
 use Rattle.std.proofs.lemmas.Bool.{false≢true, or_cases, or_left, or_right, cases_Bool, cases_lt, eqb-true, eqb-false, ltb-true, ltb-false, le-ltb, lt-ltb, cond-true, cond-false}
-use Rattle.std.proofs.lemmas.Option.{none-some, same_Some, slice_get_within}
+use Rattle.std.proofs.lemmas.Option.{none-some, same_Some}
 use Rattle.std.specs.Prelude.{nat_lt}
 use Rattle.clause_core.specs.Literals.{Lit, negation, same, has}
 use Rattle.clause_core.proofs.Sets.{same_from, negation-negation, has-append}
 use Rattle.sat_trail.specs.declared.entries.Entry.{Entry}
 use Rattle.sat_trail.specs.Entries.{literals_of, level_of, place_of, IsForced}
 use Rattle.sat_trail.specs.States.{TrailState, IsSound}
-use Rattle.sat_trail.proofs.Places.{AreApart, slice_get-take, slice_get_set, slice_get_set_same, place_of_entry, has_entry}
+use Rattle.sat_trail.proofs.Places.{AreApart, slice_get-take, place_of_entry, has_entry}
 use Rattle.sat_trail.proofs.Soundness.{apart_from, level_at_next, levels_rise, level_within}
 use Rattle.sat_core.specs.declared.walks.Walk.{Walk}
 use Rattle.sat_core.specs.Levels.{IsSetAt}
-use Rattle.sat_core.specs.Walks.{count_at, marked_with, AreMarks, replacement_of, IsEarly, IsLate}
+use Rattle.sat_core.specs.Walks.{is_marked, is_of_clause, count_at, AreMarks, replacement_of, IsEarly, IsLate}
 use Rattle.sat_core.proofs.Hints.{has_one, has_not_false}
-use Rattle.sat_core.proofs.Marking.{one_at, count_set, count_some, count_has, HasMarked, one_same, one_other, length-marked_with, marked_with_keeps, marked_with_from}
+use Rattle.sat_core.proofs.Marking.{one_at, count_some, count_has, HasMarked, one_same, one_other, is_of_clause_from, without, without_other, without_from, count_without}
 
 -- ---- levels of entries
 
@@ -73,39 +73,30 @@ kept_is level waiting e h = by_tests (eqb e.level 0) (eqb e.level level) (ltb 1 
 
 -- ---- one entry is passed
 
-module _ (t : TrailState) (sound : IsSound t) (q : ℕ) (e : Entry) (at : slice_get t.entries q ≡ Some e) (ms : List Bool) (marked : slice_get ms q ≡ Some true) (ahead : (k : ℕ) → slice_get ms k ≡ Some true → k < q + 1) where
+module _ (t : TrailState) (sound : IsSound t) (q : ℕ) (e : Entry) (at : slice_get t.entries q ≡ Some e) (ms : ℕ → Bool) (marked : ms q ≡ true) (ahead : (k : ℕ) → ms k ≡ true → k < q + 1) where
   -- where a marked entry of the present level waits, this one is of that level
   top_level : 0 < count_at t.level ms t.entries → e.level ≡ t.level
   top_level h =
       let r = count_some t.level ms t.entries h in
       omega (arith, entry_levels t sound r.place q r.entry e r.there at (let b = ahead r.place r.is_marked in omega arith), r.same_level, entry_low t sound q e at)
 
-  -- where two do, it was forced
-  crowded_forced : 1 < count_at t.level ms t.entries → e.reason ≡ None → ⊥
-  crowded_forced h none =
-      let top = top_level (omega arith) in
-      let s = count_set t.level ms t.entries q true false e marked at in
-      let r = count_some t.level (set ms q false) t.entries (left (count_at t.level (set ms q false) t.entries) (one_at t.level true e) (count_at t.level ms t.entries) s (one_same t.level e top) h) in
-      let apart : r.place ≡ q → ⊥ = λ i. cleared r.place i r.is_marked in
-      let m : slice_get ms r.place ≡ Some true = sym (slice_get_set ms q r.place false apart) ∙ r.is_marked in
-      let d = decided_above t sound r.place q r.entry e r.there at (let b = ahead r.place m in omega arith) none in
-      omega (arith, r.same_level)
+  -- where two do, another one waits
+  another_waits : 1 < count_at t.level ms t.entries → e.level ≡ t.level → HasMarked t.level (without ms q) t.entries
+  another_waits h top = count_some t.level (without ms q) t.entries (left (count_at t.level (without ms q) t.entries) (one_at t.level true e) (count_at t.level ms t.entries) (count_without t.level ms (without ms q) t.entries q e at marked (λ k. refl)) (one_same t.level e top) h)
     where
-      left : (n x m : ℕ) → n + x ≡ m + 0 → x ≡ 1 → 1 < m → 0 < n
+      left : (n x m : ℕ) → n + x ≡ m → x ≡ 1 → 1 < m → 0 < n
       left n x m s o h = omega arith
 
-      cleared : (k : ℕ) → k ≡ q → slice_get (set ms q false) k ≡ Some true → ⊥
-      cleared k i h = false≢true (same_Some false true (sym (slice_get_set_same ms q false (slice_get_within ms q true marked)) ∙ (ap (slice_get (set ms q false)) (sym i) ∙ h)))
+  -- and this one was forced
+  crowded_forced : 1 < count_at t.level ms t.entries → e.reason ≡ None → ⊥
+  crowded_forced h none =
+      let r = another_waits h (top_level (omega arith)) in
+      let o = without_from ms q r.place r.is_marked in
+      let d = decided_above t sound r.place q r.entry e r.there at (let b = ahead r.place o.1 in let n = o.0 in omega arith) none in
+      omega (arith, r.same_level, top_level (omega arith))
 
-  -- a mark that is left when this one is taken away is another one
-  another : (more : List Bool) → length more ≡ length ms → (k : ℕ) → slice_get (set more q false) k ≡ Some true → (k ≡ q → ⊥) × (slice_get more k ≡ Some true)
-  another more sized k h = (apart, sym (slice_get_set more q k false apart) ∙ h)
-    where
-      apart : k ≡ q → ⊥
-      apart i = false≢true (same_Some false true (sym (slice_get_set_same more q false (omega (arith, slice_get_within ms q true marked))) ∙ (ap (slice_get (set more q false)) (sym i) ∙ h)))
-
-  pub ahead_cleared : (k : ℕ) → slice_get (set ms q false) k ≡ Some true → k < q
-  ahead_cleared k h = let r = another ms refl k h in let b = ahead k r.1 in let n = r.0 in omega arith
+  pub ahead_cleared : (k : ℕ) → without ms q k ≡ true → k < q
+  ahead_cleared k h = let r = without_from ms q k h in let b = ahead k r.1 in let n = r.0 in omega arith
 
   module _ (reason : ℕ) (forced : IsForced t.clauses (take q t.entries) reason e.literal) where
     -- the variables of the reason are set no later
@@ -124,26 +115,24 @@ module _ (t : TrailState) (sound : IsSound t) (q : ℕ) (e : Entry) (at : slice_
         apart : AreApart t.entries
         apart = apart_from t.variables t.clauses t.entries sound.stand
 
-    pub ahead_replaced : (k : ℕ) → slice_get (set (marked_with t.entries forced.clause ms) q false) k ≡ Some true → k < q
+    pub ahead_replaced : (k : ℕ) → without (λ j. ms j || is_of_clause t.entries forced.clause j) q k ≡ true → k < q
     ahead_replaced k h =
-        let r = another (marked_with t.entries forced.clause ms) (length-marked_with t.entries forced.clause ms) k h in
+        let r = without_from (λ j. ms j || is_of_clause t.entries forced.clause j) q k h in
         let n = r.0 in
-        elim (marked_with_from t.entries forced.clause ms k r.1) [
+        elim (or_cases (ms k) (is_of_clause t.entries forced.clause k) r.1) [
           | inl m ↦ (let b = ahead k m in omega arith)
-          | inr o ↦ (let b = place_before o.literal k o.member o.placed in omega arith)
+          | inr i ↦ (let o = is_of_clause_from t.entries forced.clause k i in
+              let b = place_before o.literal k o.member o.placed in omega arith)
         ]
 
 -- the opposite of an entry's literal stays
-pub stage_kept : (t : TrailState) → IsSound t → (q : ℕ) (e : Entry) → slice_get t.entries q ≡ Some e → (w v : Walk) → AreMarks t w.marks → slice_get w.marks.by_place.items q ≡ Some true → ((k : ℕ) → slice_get w.marks.by_place.items k ≡ Some true → k < q + 1) → AreMarks t v.marks → v.marks.by_place.items ≡ set w.marks.by_place.items q false → v.kept.items ≡ w.kept.items ++ negation e.literal ∷ [] → v.back ≡ cond (nat_lt e.level t.level) (max w.back e.level) w.back → None ≡ replacement_of t.level w.marks.waiting e → IsEarly t w ⊎ IsLate t w → IsLate t v
+pub stage_kept : (t : TrailState) → IsSound t → (q : ℕ) (e : Entry) → slice_get t.entries q ≡ Some e → (w v : Walk) → AreMarks t w.marks → is_marked w.marks q ≡ true → ((k : ℕ) → is_marked w.marks k ≡ true → k < q + 1) → AreMarks t v.marks → ((k : ℕ) → is_marked v.marks k ≡ without (is_marked w.marks) q k) → v.kept.items ≡ w.kept.items ++ negation e.literal ∷ [] → v.back ≡ cond (nat_lt e.level t.level) (max w.back e.level) w.back → None ≡ replacement_of t.level w.marks.waiting e → IsEarly t w ⊎ IsLate t w → IsLate t v
 stage_kept t sound q e at w v marks marked ahead after cleared kept back stays stage = elim stage [ inl early ↦ first early | inr late ↦ next late ]
   where
     counts : v.marks.waiting + one_at t.level true e ≡ w.marks.waiting
-    counts =
-        let s = count_set t.level w.marks.by_place.items t.entries q true false e marked at in
-        let a : v.marks.waiting ≡ count_at t.level (set w.marks.by_place.items q false) t.entries = after.counted ∙ ap (λ (bs : List Bool). count_at t.level bs t.entries) cleared in
-        summed v.marks.waiting (count_at t.level (set w.marks.by_place.items q false) t.entries) (one_at t.level true e) (count_at t.level w.marks.by_place.items t.entries) w.marks.waiting a s marks.counted
+    counts = summed v.marks.waiting (count_at t.level (is_marked v.marks) t.entries) (one_at t.level true e) (count_at t.level (is_marked w.marks) t.entries) w.marks.waiting after.counted (count_without t.level (is_marked w.marks) (is_marked v.marks) t.entries q e at marked cleared) marks.counted
       where
-        summed : (v n x m w : ℕ) → v ≡ n → n + x ≡ m + 0 → w ≡ m → v + x ≡ w
+        summed : (v n x m w : ℕ) → v ≡ n → n + x ≡ m → w ≡ m → v + x ≡ w
         summed v n x m w a s c = omega arith
 
     set_here : (l : Lit) (level : ℕ) → negation e.literal ≡ l → e.level ≡ level → IsSetAt t.entries (negation l) level
@@ -152,7 +141,7 @@ stage_kept t sound q e at w v marks marked ahead after cleared kept back stays s
     first : IsEarly t w → IsLate t v
     first early =
         let top : e.level ≡ t.level = elim early.waits [
-          | inl h ↦ top_level t sound q e at w.marks.by_place.items marked ahead (omega (arith, marks.counted))
+          | inl h ↦ top_level t sound q e at (is_marked w.marks) marked ahead (omega (arith, marks.counted))
           | inr h ↦ (let low = entry_low t sound q e at in omega arith)
         ] in
         let positive : 0 < e.level = elim (kept_is t.level w.marks.waiting e stays) [
@@ -161,7 +150,7 @@ stage_kept t sound q e at w v marks marked ahead after cleared kept back stays s
         ] in
         let few : w.marks.waiting ≤ 1 = elim (cases_lt 1 w.marks.waiting) [
           | inl many ↦ elim (kept_is t.level w.marks.waiting e stays) [
-            | inl none ↦ absurd (crowded_forced t sound q e at w.marks.by_place.items marked ahead (omega (arith, marks.counted)) none)
+            | inl none ↦ absurd (crowded_forced t sound q e at (is_marked w.marks) marked ahead (omega (arith, marks.counted)) none)
             | inr r ↦ elim r.1 [ inl n ↦ absurd (n top) | inr h ↦ h ]
           ]
           | inr h ↦ h
@@ -181,7 +170,7 @@ stage_kept t sound q e at w v marks marked ahead after cleared kept back stays s
 
     next : IsLate t w → IsLate t v
     next late =
-        let other : e.level ≡ t.level → ⊥ = λ top. (let h = count_has t.level w.marks.by_place.items t.entries q e marked at top in omega (arith, marks.counted, late.alone)) in
+        let other : e.level ≡ t.level → ⊥ = λ top. (let h = count_has t.level (is_marked w.marks) t.entries q e marked at top in omega (arith, marks.counted, late.alone)) in
         let low : e.level < t.level = (let h = entry_low t sound q e at in omega arith) in
         let none = one_other t.level true e other in
         let back_is : v.back ≡ max w.back e.level = back ∙ cond-true (nat_lt e.level t.level) (max w.back e.level) w.back (lt-ltb e.level t.level low) in
@@ -205,32 +194,25 @@ stage_kept t sound q e at w v marks marked ahead after cleared kept back stays s
         }
 
 -- the reason takes the place of an entry
-pub stage_replaced : (t : TrailState) → IsSound t → (q : ℕ) (e : Entry) → slice_get t.entries q ≡ Some e → (w v : Walk) → AreMarks t w.marks → slice_get w.marks.by_place.items q ≡ Some true → ((k : ℕ) → slice_get w.marks.by_place.items k ≡ Some true → k < q + 1) → AreMarks t v.marks → (reason : ℕ) (forced : IsForced t.clauses (take q t.entries) reason e.literal) → v.marks.by_place.items ≡ set (marked_with t.entries forced.clause w.marks.by_place.items) q false → v.kept.items ≡ w.kept.items → v.back ≡ w.back → IsReplaced t.level w.marks.waiting e reason → IsEarly t w ⊎ IsLate t w → IsEarly t v ⊎ IsLate t v
+pub stage_replaced : (t : TrailState) → IsSound t → (q : ℕ) (e : Entry) → slice_get t.entries q ≡ Some e → (w v : Walk) → AreMarks t w.marks → is_marked w.marks q ≡ true → ((k : ℕ) → is_marked w.marks k ≡ true → k < q + 1) → AreMarks t v.marks → (reason : ℕ) (forced : IsForced t.clauses (take q t.entries) reason e.literal) → ((k : ℕ) → is_marked v.marks k ≡ without (λ j. is_marked w.marks j || is_of_clause t.entries forced.clause j) q k) → v.kept.items ≡ w.kept.items → v.back ≡ w.back → IsReplaced t.level w.marks.waiting e reason → IsEarly t w ⊎ IsLate t w → IsEarly t v ⊎ IsLate t v
 stage_replaced t sound q e at w v marks marked ahead after reason forced cleared kept back replaced stage = elim stage [ inl early ↦ inl (still early) | inr late ↦ inr (later late) ]
   where
-    counts : v.marks.waiting ≡ count_at t.level (set (marked_with t.entries forced.clause w.marks.by_place.items) q false) t.entries
-    counts = after.counted ∙ ap (λ (bs : List Bool). count_at t.level bs t.entries) cleared
-
     still : IsEarly t w → IsEarly t v
     still early = record {
       empty = kept ∙ early.empty;
       low = back ∙ early.low;
       waits = elim replaced.why [
         | inl zero_level ↦ elim early.waits [
-          | inl h ↦ (let top = top_level t sound q e at w.marks.by_place.items marked ahead (omega (arith, marks.counted)) in inr (omega arith))
+          | inl h ↦ (let top = top_level t sound q e at (is_marked w.marks) marked ahead (omega (arith, marks.counted)) in inr (omega arith))
           | inr h ↦ inr h
         ]
-        | inr crowded ↦ inl (let s = count_set t.level w.marks.by_place.items t.entries q true false e marked at in
-            let r = count_some t.level (set w.marks.by_place.items q false) t.entries (left (count_at t.level (set w.marks.by_place.items q false) t.entries) (one_at t.level true e) (count_at t.level w.marks.by_place.items t.entries) w.marks.waiting s (one_same t.level e crowded.0) marks.counted crowded.1) in
-            let o = another t sound q e at w.marks.by_place.items marked ahead w.marks.by_place.items refl r.place r.is_marked in
-            let m = slice_get_set (marked_with t.entries forced.clause w.marks.by_place.items) q r.place false o.0 ∙ marked_with_keeps t.entries forced.clause w.marks.by_place.items r.place o.1 in
-            let h = count_has t.level (set (marked_with t.entries forced.clause w.marks.by_place.items) q false) t.entries r.place r.entry m r.there r.same_level in
-            omega (arith, counts, h))
+        | inr crowded ↦ inl (let r = another_waits t sound q e at (is_marked w.marks) marked ahead (omega (arith, marks.counted, crowded.1)) crowded.0 in
+            let o = without_from (is_marked w.marks) q r.place r.is_marked in
+            let m = cleared r.place ∙ (without_other (λ j. is_marked w.marks j || is_of_clause t.entries forced.clause j) q r.place o.0 ∙ or_left (is_marked w.marks r.place) (is_of_clause t.entries forced.clause r.place) o.1) in
+            let h = count_has t.level (is_marked v.marks) t.entries r.place r.entry m r.there r.same_level in
+            omega (arith, after.counted, h))
       ];
     }
-      where
-        left : (n x m w : ℕ) → n + x ≡ m + 0 → x ≡ 1 → w ≡ m → 1 < w → 0 < n
-        left n x m w s o c h = omega arith
 
     later : IsLate t w → IsLate t v
     later late = record {
@@ -238,7 +220,7 @@ stage_replaced t sound q e at w v marks marked ahead after reason forced cleared
       others = late.others;
       kept_is = kept ∙ late.kept_is;
       alone = elim (cases_lt 0 v.marks.waiting) [
-        | inl some ↦ absurd (none (count_some t.level (set (marked_with t.entries forced.clause w.marks.by_place.items) q false) t.entries (omega (arith, counts))))
+        | inl some ↦ absurd (none (count_some t.level (is_marked v.marks) t.entries (omega (arith, after.counted))))
         | inr h ↦ omega arith
       ];
       last = late.last;
@@ -248,10 +230,9 @@ stage_replaced t sound q e at w v marks marked ahead after reason forced cleared
           (r.0, r.1, record { place = r.2.place; entry = r.2.entry; there = r.2.there; same_literal = r.2.same_literal; same_level = r.2.same_level ∙ sym back }));
     }
       where
-        none : HasMarked t.level (set (marked_with t.entries forced.clause w.marks.by_place.items) q false) t.entries → ⊥
+        none : HasMarked t.level (is_marked v.marks) t.entries → ⊥
         none r =
-            let o = another t sound q e at w.marks.by_place.items marked ahead (marked_with t.entries forced.clause w.marks.by_place.items) (length-marked_with t.entries forced.clause w.marks.by_place.items) r.place r.is_marked in
-            let before = ahead_replaced t sound q e at w.marks.by_place.items marked ahead reason forced r.place r.is_marked in
+            let before = ahead_replaced t sound q e at (is_marked w.marks) marked ahead reason forced r.place (sym (cleared r.place) ∙ r.is_marked) in
             let low = entry_levels t sound r.place q r.entry e r.there at (omega arith) in
             elim replaced.why [
               | inl zero_level ↦ omega (arith, low, r.same_level, late.below)

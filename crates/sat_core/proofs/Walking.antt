@@ -1,9 +1,12 @@
 -- A walk from its beginning, over one entry after another, to what is learnt.
-use Rattle.std.proofs.Common.{◌≡◌, ℕ, zero, suc, ◌+◌, ◌<◌, ◌≤◌, ◌-◌, Bool, true, false, not, cond, ◌||◌, List, [], ◌∷◌, ◌++◌, length, map, set, replicate, Some, None, slice_get, sym, ap, ◌∙◌, subst, refl, arith, leb, inl, inr, ◌⊎◌, max}
-use Rattle.std.specs.Prelude.{nat_lt, reverse}
-use Rattle.std.proofs.lemmas.Bool.{true≢false, false≢true, or_cases, or_left, or_right, cases_lt, le-leb, leb-true, ltb-true}
-use Rattle.std.proofs.lemmas.Option.{none-some, same_Some, slice_get_within}
-use Rattle.std.proofs.lemmas.List.{length-replicate, reverse-append, length-reverse, length_push}
+use Rattle.std.proofs.Common.{◌≡◌, ℕ, zero, suc, ◌+◌, ◌<◌, ◌≤◌, ◌-◌, Bool, true, false, not, cond, ◌||◌, List, [], ◌∷◌, ◌++◌, length, map, Some, None, slice_get, sym, ap, ◌∙◌, subst, refl, arith, leb, inl, inr, ◌⊎◌, max}
+use Rattle.std.specs.BTreeMap.{is_at}
+use Rattle.std.specs.List.{list_any}
+use Rattle.std.specs.Ordering.{nat_cmp}
+use Rattle.std.specs.Prelude.{nat_lt, reverse, Result, Ok, Err, OnOk}
+use Rattle.std.proofs.lemmas.Bool.{true≢false, false≢true, or_cases, or_left, or_right, cases_lt, le-leb, leb-true}
+use Rattle.std.proofs.lemmas.Option.{none-some, same_Some}
+use Rattle.std.proofs.lemmas.List.{reverse-append, length-reverse, length_push}
 use Rattle.clause_core.specs.Literals.{Lit, negation, same, has}
 use Rattle.clause_core.specs.Clauses.{in_order}
 use Rattle.clause_core.specs.Propagation.{not_false}
@@ -17,9 +20,9 @@ use Rattle.sat_trail.proofs.Steps.{contains_at}
 use Rattle.sat_core.specs.declared.walks.Walk.{Walk}
 use Rattle.sat_core.specs.Levels.{IsSetAt, AreQuietBelow}
 use Rattle.sat_core.specs.Lessons.{IsLesson, IsAsserting}
-use Rattle.sat_core.specs.Walks.{marked_with, AreMarks, replacement_of, Shows, IsLate, IsWalk}
-use Rattle.sat_core.proofs.Marking.{marks_has, marks_some, count_has, count_some}
-use Rattle.sat_core.proofs.Hints.{false_by, opposites_differ, has-map-negation, shows_start, shows_unmarked, shows_kept, shows_replaced, has_without}
+use Rattle.sat_core.specs.Walks.{is_marked, is_of_clause, AreMarks, replacement_of, Shows, IsLate, IsWalk}
+use Rattle.sat_core.proofs.Marking.{count_has, count_some, same_at, at_is, without, without_other}
+use Rattle.sat_core.proofs.Hints.{false_by, opposites_differ, has-map-negation, shows_start, shows_kept, shows_replaced, has_without}
 use Rattle.sat_core.proofs.Stages.{forced_by, entry_low, replaced_is, stage_kept, stage_replaced, ahead_cleared, ahead_replaced}
 
 -- ---- levels of the trail
@@ -74,15 +77,21 @@ at_present t sound clause positive is_false before = go clause is_false before
             let high : r.1.level ≤ t.level - 1 → ⊥ = λ h. true≢false (sym (up_to_has (t.level - 1) t.entries r.0 r.1 r.2 h) ∙ (ap (has (literals_of (up_to (t.level - 1) t.entries))) r.3 ∙ q)) in
             (x, or_left (same x x) (has xs x) (same_from x x refl), record { place = r.0; entry = r.1; there = r.2; same_literal = r.3; same_level = omega arith })
 
+-- ---- clauses on an answer
+
+pub on_ok_three : {T E P Q R S : Type 0} (r : Result T E) → (P → Q → R → S) → OnOk r P → OnOk r Q → OnOk r R → OnOk r S
+on_ok_three (Ok x) h p q r = h p q r
+on_ok_three (Err e) h p q r = tt
+
 -- ---- the beginning
 
-pub walk_begins : (t : TrailState) → IsSound t → (conflict : ℕ) (false_at : IsFalseAt t conflict) → AreQuietBelow t t.level → (w : Walk) → AreMarks t w.marks → w.marks.by_place.items ≡ marked_with t.entries false_at.clause (replicate (length t.entries) false) → w.kept.items ≡ [] → w.hints.items ≡ (conflict + 1) ∷ [] → w.back ≡ 0 → IsWalk t (length t.entries) w
+pub walk_begins : (t : TrailState) → IsSound t → (conflict : ℕ) (false_at : IsFalseAt t conflict) → AreQuietBelow t t.level → (w : Walk) → AreMarks t w.marks → ((k : ℕ) → is_of_clause t.entries false_at.clause k ≡ true → is_marked w.marks k ≡ true) → w.kept.items ≡ [] → w.hints.items ≡ (conflict + 1) ∷ [] → w.back ≡ 0 → IsWalk t (length t.entries) w
 walk_begins t sound conflict false_at quiet w marks marked kept hints back = record {
   marks = marks;
-  ahead = λ k h. omega (arith, slice_get_within w.marks.by_place.items k true h, marks.sized);
+  ahead = marks.within;
   fresh = λ k e at below. ap (λ (ls : List Lit). has ls (negation e.literal)) kept;
   few = omega (arith, ap length hints);
-  shows = subst (λ (bs : List Bool). Shows t (length t.entries) bs w.kept.items (reverse w.hints.items)) (sym marked) (subst (λ (ls : List Lit). Shows t (length t.entries) (marked_with t.entries false_at.clause (replicate (length t.entries) false)) ls (reverse w.hints.items)) (sym kept) (subst (λ (hs : List ℕ). Shows t (length t.entries) (marked_with t.entries false_at.clause (replicate (length t.entries) false)) [] (reverse hs)) (sym hints) (shows_start t apart false_at.clause conflict (length t.entries) false_at.named false_at.is_false)));
+  shows = subst (λ (ls : List Lit). Shows t (length t.entries) (is_marked w.marks) ls (reverse w.hints.items)) (sym kept) (subst (λ (hs : List ℕ). Shows t (length t.entries) (is_marked w.marks) [] (reverse hs)) (sym hints) (shows_start t apart false_at.clause conflict (length t.entries) (is_marked w.marks) false_at.named false_at.is_false marked));
   stage = inl (record { empty = kept; low = back; waits = waits });
 }
   where
@@ -92,68 +101,70 @@ walk_begins t sound conflict false_at quiet w marks marked kept hints back = rec
     waits : (0 < w.marks.waiting) ⊎ (t.level ≡ 0)
     waits = elim (cases_lt 0 t.level) [
       | inl positive ↦ (let r = at_present t sound false_at.clause positive false_at.is_false (λ f. (quiet (t.level - 1) (omega arith)).none_false (false_at.clause, contains_at t.clauses conflict false_at.clause false_at.named, f)) in
-          let m = false_by t.entries apart false_at.clause (replicate (length t.entries) false) (length-replicate (length t.entries) false) r.0 r.1 r.2.place r.2.entry r.2.there r.2.same_literal in
-          let h = count_has t.level w.marks.by_place.items t.entries r.2.place r.2.entry (ap (λ (bs : List Bool). slice_get bs r.2.place) marked ∙ m) r.2.there r.2.same_level in
+          let m = marked r.2.place (false_by t.entries apart false_at.clause r.0 r.1 r.2.place r.2.entry r.2.there r.2.same_literal) in
+          let h = count_has t.level (is_marked w.marks) t.entries r.2.place r.2.entry m r.2.there r.2.same_level in
           inl (omega (arith, marks.counted, h)))
       | inr h ↦ inr (omega arith)
     ]
 
 -- ---- one entry
 
-pub walk_unmarked : (t : TrailState) (q : ℕ) (w : Walk) → IsWalk t (q + 1) w → slice_get w.marks.by_place.items q ≡ Some false → IsWalk t q w
-walk_unmarked t q w walk unmarked = record {
-  marks = walk.marks;
-  ahead = λ k h. (let b = walk.ahead k h in
-      let n : k ≡ q → ⊥ = λ i. false≢true (same_Some false true (sym unmarked ∙ (ap (slice_get w.marks.by_place.items) (sym i) ∙ h))) in
-      omega arith);
-  fresh = λ k e at below. walk.fresh k e at (omega arith);
-  few = (let f = walk.few in omega arith);
-  shows = shows_unmarked t q w.marks.by_place.items w.kept.items (reverse w.hints.items) walk.shows;
-  stage = walk.stage;
-}
-
-pub walk_kept : (t : TrailState) → IsSound t → (q : ℕ) (e : Entry) → slice_get t.entries q ≡ Some e → (w v : Walk) → IsWalk t (q + 1) w → slice_get w.marks.by_place.items q ≡ Some true → AreMarks t v.marks → v.marks.by_place.items ≡ set w.marks.by_place.items q false → v.kept.items ≡ w.kept.items ++ negation e.literal ∷ [] → v.hints.items ≡ w.hints.items → v.back ≡ cond (nat_lt e.level t.level) (max w.back e.level) w.back → None ≡ replacement_of t.level w.marks.waiting e → IsWalk t q v
+pub walk_kept : (t : TrailState) → IsSound t → (q : ℕ) (e : Entry) → slice_get t.entries q ≡ Some e → (w v : Walk) → IsWalk t (q + 1) w → is_marked w.marks q ≡ true → AreMarks t v.marks → ((k : ℕ) → is_marked v.marks k ≡ without (is_marked w.marks) q k) → v.kept.items ≡ w.kept.items ++ negation e.literal ∷ [] → v.hints.items ≡ w.hints.items → v.back ≡ cond (nat_lt e.level t.level) (max w.back e.level) w.back → None ≡ replacement_of t.level w.marks.waiting e → IsWalk t q v
 walk_kept t sound q e at w v walk marked after cleared kept hints back stays = record {
   marks = after;
-  ahead = λ k h. ahead_cleared t sound q e at w.marks.by_place.items marked walk.ahead k (ap (λ (bs : List Bool). slice_get bs k) (sym cleared) ∙ h);
+  ahead = λ k h. ahead_cleared t sound q e at (is_marked w.marks) marked walk.ahead k (sym (cleared k) ∙ h);
   fresh = λ k d at_k below. ap (λ (ls : List Lit). has ls (negation d.literal)) kept ∙ has_without w.kept.items (negation e.literal) (negation d.literal) (opposites_differ t.entries apart q k e d at at_k (λ i. omega arith)) (walk.fresh k d at_k (omega arith));
   few = (let f = walk.few in omega (arith, ap length hints));
-  shows = subst (λ (bs : List Bool). Shows t q bs v.kept.items (reverse v.hints.items)) (sym cleared) (subst (λ (ls : List Lit). Shows t q (set w.marks.by_place.items q false) ls (reverse v.hints.items)) (sym kept) (subst (λ (hs : List ℕ). Shows t q (set w.marks.by_place.items q false) (w.kept.items ++ negation e.literal ∷ []) (reverse hs)) (sym hints) (shows_kept t apart q e w.marks.by_place.items w.kept.items (reverse w.hints.items) at walk.shows)));
+  shows = subst (λ (ls : List Lit). Shows t q (is_marked v.marks) ls (reverse v.hints.items)) (sym kept) (subst (λ (hs : List ℕ). Shows t q (is_marked v.marks) (w.kept.items ++ negation e.literal ∷ []) (reverse hs)) (sym hints) (shows_kept t apart q e (is_marked w.marks) (is_marked v.marks) w.kept.items (reverse w.hints.items) at (λ k n m. cleared k ∙ (without_other (is_marked w.marks) q k n ∙ m)) walk.shows));
   stage = inr (stage_kept t sound q e at w v walk.marks marked walk.ahead after cleared kept back stays walk.stage);
 }
   where
     apart : AreApart t.entries
     apart = apart_from t.variables t.clauses t.entries sound.stand
 
-pub walk_replaced : (t : TrailState) → IsSound t → (q : ℕ) (e : Entry) → slice_get t.entries q ≡ Some e → (reason : ℕ) (w v : Walk) → IsWalk t (q + 1) w → slice_get w.marks.by_place.items q ≡ Some true → AreMarks t v.marks → ((clause : List Lit) → slice_get t.clauses reason ≡ Some clause → v.marks.by_place.items ≡ set (marked_with t.entries clause w.marks.by_place.items) q false) → v.kept.items ≡ w.kept.items → v.hints.items ≡ w.hints.items ++ (reason + 1) ∷ [] → v.back ≡ w.back → Some reason ≡ replacement_of t.level w.marks.waiting e → IsWalk t q v
+pub walk_replaced : (t : TrailState) → IsSound t → (q : ℕ) (e : Entry) → slice_get t.entries q ≡ Some e → (reason : ℕ) (w v : Walk) → IsWalk t (q + 1) w → is_marked w.marks q ≡ true → AreMarks t v.marks → ((clause : List Lit) → slice_get t.clauses reason ≡ Some clause → (k : ℕ) → is_marked v.marks k ≡ without (λ j. is_marked w.marks j || is_of_clause t.entries clause j) q k) → v.kept.items ≡ w.kept.items → v.hints.items ≡ w.hints.items ++ (reason + 1) ∷ [] → v.back ≡ w.back → Some reason ≡ replacement_of t.level w.marks.waiting e → IsWalk t q v
 walk_replaced t sound q e at reason w v walk marked after cleared kept hints back chosen =
     let why = replaced_is t.level w.marks.waiting e reason chosen in
     let forced = forced_by t sound q e reason at why.has_reason in
     let clear = cleared forced.clause forced.named in
     let turned : reverse v.hints.items ≡ (reason + 1) ∷ reverse w.hints.items = ap reverse hints ∙ reverse-append w.hints.items ((reason + 1) ∷ []) in
-    let shown = shows_replaced t apart q e reason forced.clause w.marks.by_place.items w.kept.items (reverse w.hints.items) walk.marks.sized at forced.named forced.others_false (walk.fresh q e at (omega arith)) walk.shows in
+    let both : ℕ → Bool = λ j. is_marked w.marks j || is_of_clause t.entries forced.clause j in
+    let others : (k : ℕ) → (k ≡ q → ⊥) → is_marked w.marks k ≡ true → is_marked v.marks k ≡ true = λ k n m. clear k ∙ (without_other both q k n ∙ or_left (is_marked w.marks k) (is_of_clause t.entries forced.clause k) m) in
+    let added : (k : ℕ) → (k ≡ q → ⊥) → is_of_clause t.entries forced.clause k ≡ true → is_marked v.marks k ≡ true = λ k n m. clear k ∙ (without_other both q k n ∙ or_right (is_marked w.marks k) (is_of_clause t.entries forced.clause k) m) in
+    let shown = shows_replaced t apart q e reason forced.clause (is_marked w.marks) (is_marked v.marks) w.kept.items (reverse w.hints.items) at forced.named forced.others_false (walk.fresh q e at (omega arith)) others added walk.shows in
     record {
       marks = after;
-      ahead = λ k h. ahead_replaced t sound q e at w.marks.by_place.items marked walk.ahead reason forced k (ap (λ (bs : List Bool). slice_get bs k) (sym clear) ∙ h);
+      ahead = λ k h. ahead_replaced t sound q e at (is_marked w.marks) marked walk.ahead reason forced k (sym (clear k) ∙ h);
       fresh = λ k d at_k below. ap (λ (ls : List Lit). has ls (negation d.literal)) kept ∙ walk.fresh k d at_k (omega arith);
       few = (let f = walk.few in omega (arith, ap length hints, length_push w.hints.items (reason + 1)));
-      shows = subst (λ (bs : List Bool). Shows t q bs v.kept.items (reverse v.hints.items)) (sym clear) (subst (λ (ls : List Lit). Shows t q (set (marked_with t.entries forced.clause w.marks.by_place.items) q false) ls (reverse v.hints.items)) (sym kept) (subst (λ (hs : List ℕ). Shows t q (set (marked_with t.entries forced.clause w.marks.by_place.items) q false) w.kept.items hs) (sym turned) shown));
+      shows = subst (λ (ls : List Lit). Shows t q (is_marked v.marks) ls (reverse v.hints.items)) (sym kept) (subst (λ (hs : List ℕ). Shows t q (is_marked v.marks) w.kept.items hs) (sym turned) shown);
       stage = stage_replaced t sound q e at w v walk.marks marked walk.ahead after reason forced clear kept back why walk.stage;
     }
   where
     apart : AreApart t.entries
     apart = apart_from t.variables t.clauses t.entries sound.stand
 
+-- ---- how far the marks reach
+
+-- one place past the last of these; 0 where there are none
+abbrev pub reach : List ℕ → ℕ
+reach [] = 0
+reach (k ∷ ks) = max (suc k) (reach ks)
+
+pub reach_within : (ks : List ℕ) (n : ℕ) → ((k : ℕ) → list_any (is_at (nat_cmp k)) ks ≡ true → k < n) → reach ks ≤ n
+reach_within [] n h = omega arith
+reach_within (x ∷ ks) n h = omega (arith, h x (or_left (is_at (nat_cmp x) x) (list_any (is_at (nat_cmp x)) ks) (same_at x)), reach_within ks n (λ k m. h k (or_right (is_at (nat_cmp k) x) (list_any (is_at (nat_cmp k)) ks) m)))
+
+pub reach_has : (ks : List ℕ) (k : ℕ) → list_any (is_at (nat_cmp k)) ks ≡ true → k < reach ks
+reach_has [] k h = absurd (false≢true h)
+reach_has (x ∷ ks) k h = elim (or_cases (is_at (nat_cmp k) x) (list_any (is_at (nat_cmp k)) ks) h) [
+  | inl t ↦ (let e : x ≡ k = at_is k x t in omega arith)
+  | inr t ↦ omega (arith, reach_has ks k t)
+]
+
 -- ---- the end
 
--- a walk with a mark has a place before it
-pub place_left : (t : TrailState) (place : ℕ) (w : Walk) → IsWalk t place w → (any : Bool) → any ≡ nat_lt 0 w.marks.all → any ≡ true → 0 < place
-place_left t place w walk any is h =
-    let r = marks_some w.marks.by_place.items (omega (arith, walk.marks.total, ltb-true 0 w.marks.all (sym is ∙ h))) in
-    let b = walk.ahead r.0 r.1 in
-    omega arith
-
-pub walk_ends : (t : TrailState) → IsSound t → (place : ℕ) (w : Walk) → IsWalk t place w → w.marks.all ≡ 0 → IsLesson t (in_order w.kept.items) (reverse w.hints.items) w.back
+pub walk_ends : (t : TrailState) → IsSound t → (place : ℕ) (w : Walk) → IsWalk t place w → ((k : ℕ) → is_marked w.marks k ≡ false) → IsLesson t (in_order w.kept.items) (reverse w.hints.items) w.back
 walk_ends t sound place w walk done = record {
   increasing = IsIncreasing-in_order w.kept.items;
   is_false = is_false;
@@ -169,7 +180,7 @@ walk_ends t sound place w walk done = record {
   ];
   asserting = λ above. elim walk.stage [
     | inl early ↦ absurd (elim early.waits [
-      | inl some ↦ (let r = count_some t.level w.marks.by_place.items t.entries (omega (arith, walk.marks.counted)) in
+      | inl some ↦ (let r = count_some t.level (is_marked w.marks) t.entries (omega (arith, walk.marks.counted)) in
           none r.place r.is_marked)
       | inr h ↦ omega arith
     ])
@@ -177,8 +188,8 @@ walk_ends t sound place w walk done = record {
   ];
 }
   where
-    none : (k : ℕ) → slice_get w.marks.by_place.items k ≡ Some true → ⊥
-    none k m = omega (arith, marks_has w.marks.by_place.items k m, walk.marks.total)
+    none : (k : ℕ) → is_marked w.marks k ≡ true → ⊥
+    none k m = false≢true (sym (done k) ∙ m)
 
     kept_has : (late : IsLate t w) (l : Lit) → has (in_order w.kept.items) l ≡ (same late.asserted l || has late.others l)
     kept_has late l = has-in_order w.kept.items l ∙ ap (λ (ls : List Lit). has ls l) late.kept_is

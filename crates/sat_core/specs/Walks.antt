@@ -1,6 +1,9 @@
 -- The walk along a trail, from its end, that finds what a conflict teaches. An entry is marked while the clause
 -- that is found so far has the opposite of its literal and the walk is yet to pass it.
-use Rattle.std.specs.Prelude.{◌≡◌, ℕ, ◌+◌, ◌<◌, ◌≤◌, ◌==◌, nat_lt, Bool, true, false, cond, ◌&&◌, ◌||◌, ◌⊎◌, List, [], ◌∷◌, length, reverse, Option, Some, None, slice_get, set}
+use Rattle.std.specs.Prelude.{◌≡◌, ℕ, suc, ◌+◌, ◌<◌, ◌≤◌, ◌==◌, nat_lt, Bool, true, false, cond, ◌&&◌, ◌||◌, ◌⊎◌, List, [], ◌∷◌, length, reverse, Option, Some, None, slice_get}
+use Rattle.std.specs.BTreeSet.{contains}
+use Rattle.std.specs.List.{list_any}
+use Rattle.std.specs.Ordering.{nat_cmp}
 use Rattle.clause_core.specs.Literals.{Lit, negation, has}
 use Rattle.sat_trail.specs.declared.entries.Entry.{Entry}
 use Rattle.sat_trail.specs.Entries.{literals_of, place_of}
@@ -10,32 +13,37 @@ use Rattle.sat_core.specs.declared.marks.Marks.{Marks}
 use Rattle.sat_core.specs.declared.walks.Walk.{Walk}
 use Rattle.sat_core.specs.Levels.{IsSetAt}
 
--- how many marks there are
-abbrev pub count_marks : List Bool → ℕ
-count_marks [] = 0
-count_marks (m ∷ ms) = cond m 1 0 + count_marks ms
+-- whether the entry at a place is marked
+abbrev pub is_marked : Marks → ℕ → Bool
+is_marked marks place = contains nat_cmp marks.places place
 
--- how many marked entries are of this level
-abbrev pub count_at : ℕ → List Bool → List Entry → ℕ
-count_at level [] entries = 0
-count_at level (m ∷ ms) [] = 0
-count_at level (m ∷ ms) (e ∷ es) = cond (m && (e.level == level)) 1 0 + count_at level ms es
+-- the entry at this place is marked, and none behind it is
+pub record IsLastMark (marks : Marks) (place : ℕ) : Type 0 where
+  pub marked : is_marked marks place ≡ true
+  pub last : (other : ℕ) → is_marked marks other ≡ true → other ≤ place
 
--- the marks, and one at this place
-abbrev pub mark_at : Option ℕ → List Bool → List Bool
-mark_at None marks = marks
-mark_at (Some place) marks = set marks place true
+-- how many entries of this level are marked, where the first entry stands at this place
+abbrev pub count_from : ℕ → ℕ → (ℕ → Bool) → List Entry → ℕ
+count_from place level marks [] = 0
+count_from place level marks (e ∷ es) = cond (marks place && (e.level == level)) 1 0 + count_from (suc place) level marks es
 
--- the marks, and those of the entries of a clause's variables
-abbrev pub marked_with : List Entry → List Lit → List Bool → List Bool
-marked_with entries [] marks = marks
-marked_with entries (l ∷ ls) marks = marked_with entries ls (mark_at (place_of entries l.index) marks)
+-- how many entries of this level are marked
+abbrev pub count_at : ℕ → (ℕ → Bool) → List Entry → ℕ
+count_at level marks entries = count_from 0 level marks entries
 
--- a mark or none for each place, the count of the marks, and that of the marked entries of the present level
+-- whether this is the place that was found
+abbrev pub stands_at : Option ℕ → ℕ → Bool
+stands_at None place = false
+stands_at (Some found) place = place == found
+
+-- whether the entry at a place is that of one of a clause's variables
+abbrev pub is_of_clause : List Entry → List Lit → ℕ → Bool
+is_of_clause entries clause place = list_any (λ l. stands_at (place_of entries l.index) place) clause
+
+-- the marks are those of entries, and the marked entries of the present level are counted
 pub record AreMarks (t : TrailState) (marks : Marks) : Type 0 where
-  pub sized : length marks.by_place.items ≡ length t.entries
-  pub total : marks.all ≡ count_marks marks.by_place.items
-  pub counted : marks.waiting ≡ count_at t.level marks.by_place.items t.entries
+  pub within : (place : ℕ) → is_marked marks place ≡ true → place < length t.entries
+  pub counted : marks.waiting ≡ count_at t.level (is_marked marks) t.entries
 
 -- The reason that takes an entry's place in the clause: that of each entry at level 0, and that of an entry at the
 -- present level while another one there is marked.
@@ -44,13 +52,13 @@ replacement_of level waiting e = cond ((e.level == 0) || ((e.level == level) && 
 
 -- These literals are true on the trail. Those of the marked entries are among them; of the entries passed, those
 -- alone whose opposite is kept.
-pub record Carries (entries : List Entry) (place : ℕ) (marks : List Bool) (kept trues : List Lit) : Type 0 where
+pub record Carries (entries : List Entry) (place : ℕ) (marks : ℕ → Bool) (kept trues : List Lit) : Type 0 where
   pub set_true : (l : Lit) → has trues l ≡ true → has (literals_of entries) l ≡ true
-  pub marked : (k : ℕ) (e : Entry) → slice_get entries k ≡ Some e → slice_get marks k ≡ Some true → has trues e.literal ≡ true
+  pub marked : (k : ℕ) (e : Entry) → slice_get entries k ≡ Some e → marks k ≡ true → has trues e.literal ≡ true
   pub passed : (k : ℕ) (e : Entry) → slice_get entries k ≡ Some e → place ≤ k → has trues e.literal ≡ has kept (negation e.literal)
 
 -- from any such literals the hints lead to a false clause
-abbrev pub Shows : TrailState → ℕ → List Bool → List Lit → List ℕ → Type 0
+abbrev pub Shows : TrailState → ℕ → (ℕ → Bool) → List Lit → List ℕ → Type 0
 Shows t place marks kept hints =
     (trues : List Lit) → Carries t.entries place marks kept trues → (position : ℕ) → refused_hint (numbered_from 1 t.clauses) trues position hints ≡ None
 
@@ -77,8 +85,8 @@ pub record IsLate (t : TrailState) (w : Walk) : Type 0 where
 -- hints, first one first, show the clause that it has found.
 pub record IsWalk (t : TrailState) (place : ℕ) (w : Walk) : Type 0 where
   pub marks : AreMarks t w.marks
-  pub ahead : (k : ℕ) → slice_get w.marks.by_place.items k ≡ Some true → k < place
+  pub ahead : (k : ℕ) → is_marked w.marks k ≡ true → k < place
   pub fresh : (k : ℕ) (e : Entry) → slice_get t.entries k ≡ Some e → k < place → has w.kept.items (negation e.literal) ≡ false
   pub few : length w.hints.items + place ≤ length t.entries + 1
-  pub shows : Shows t place w.marks.by_place.items w.kept.items (reverse w.hints.items)
+  pub shows : Shows t place (is_marked w.marks) w.kept.items (reverse w.hints.items)
   pub stage : IsEarly t w ⊎ IsLate t w

@@ -84,9 +84,7 @@ fn lesson_of(alloc: Global, trail: &Trail, conflict: u32) -> Result<Lesson, NoMe
     ensures { IfOk result (λ lesson. IsLesson trail.now lesson.clause lesson.hints.items lesson.back) }
 {
     let mut walk = Walk::new(alloc, trail, conflict)?;
-    let mut place = trail.set_count();
-    while walk.marks.is_any() {
-        place -= 1;
+    while let Some(place) = walk.marks.last() {
         walk.pass(trail, place)?;
     }
     let mut hints = walk.hints;

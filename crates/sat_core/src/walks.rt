@@ -1,11 +1,11 @@
 //! The walk along a trail, from its end, that finds what a conflict teaches.
 
-ghost use Rattle.std.specs.Prelude.{◌≡◌, ℕ, ◌+◌, ◌<◌, max, cond, nat_lt, false, true, List, [], ◌∷◌, ◌++◌, length, set, Some, slice_get, OnOk, IfOk};
+ghost use Rattle.std.specs.Prelude.{◌≡◌, ◌==◌, ◌&&◌, ◌||◌, ℕ, ◌+◌, ◌<◌, max, cond, nat_lt, false, true, not, List, [], ◌∷◌, ◌++◌, length, Some, slice_get, OnOk, IfOk};
 ghost use Rattle.clause_core.specs.Literals.{Lit, negation};
 ghost use Rattle.sat_trail.specs.declared.entries.Entry.{Entry};
 ghost use Rattle.sat_trail.specs.States.{IsSound, IsFalseAt};
 ghost use Rattle.sat_core.specs.Levels.{AreQuietBelow};
-ghost use Rattle.sat_core.specs.Walks.{AreMarks, IsWalk, marked_with, replacement_of};
+ghost use Rattle.sat_core.specs.Walks.{is_marked, is_of_clause, AreMarks, IsWalk, replacement_of};
 
 use crate::marks::Marks;
 use clause_core::Literal;
@@ -35,8 +35,8 @@ impl Walk {
         requires quiet { AreQuietBelow trail.now trail.now.level }
         ensures { IfOk result (IsWalk trail.now (length trail.now.entries)) }
     {
-        let mut marks = Marks::new(alloc, trail)?;
-        marks.mark_clause(trail, conflict);
+        let mut marks = Marks::new(alloc);
+        marks.mark_clause(trail, conflict)?;
         let mut hints = Vec::new(alloc);
         hints.push(u64::from(conflict) + 1)?;
         Ok(Walk {
@@ -47,18 +47,16 @@ impl Walk {
         })
     }
 
-    /// Passes the entry at a place: where it is marked, its reason takes its place in the clause, or the
-    /// opposite of its literal stays. An `Err` says that memory ran out.
+    /// Passes a marked entry: its reason takes its place in the clause, or the opposite of its literal
+    /// stays. An `Err` says that memory ran out.
     pub fn pass(&mut self, trail: &Trail, place: u32) -> Result<(), NoMemory>
         requires usable { trail.now.broken ≡ false }
         requires sound { IsSound trail.now }
         requires within { place < length trail.now.entries }
+        requires marked { is_marked self.old.marks place ≡ true }
         requires walk { IsWalk trail.now (place + 1) self.old }
         ensures { OnOk result (IsWalk trail.now place self.new) }
     {
-        if !self.marks.is_marked(place) {
-            return Ok(());
-        }
         match self.replacement(trail, place) {
             Some(reason) => self.replace(trail, place, reason),
             None => self.keep(trail, place),
@@ -86,16 +84,16 @@ impl Walk {
         requires within { place < length trail.now.entries }
         requires sound { IsSound trail.now }
         requires given { reason < length trail.now.clauses }
-        requires marked { slice_get self.old.marks.by_place.items place ≡ Some true }
+        requires marked { is_marked self.old.marks place ≡ true }
         requires marks { AreMarks trail.now self.old.marks }
-        ensures marked { (clause : List Lit) → slice_get trail.now.clauses reason ≡ Some clause →
-            self.new.marks.by_place.items ≡ set (marked_with trail.now.entries clause self.old.marks.by_place.items) place false }
-        ensures marks { AreMarks trail.now self.new.marks }
+        ensures marked { OnOk result ((clause : List Lit) → slice_get trail.now.clauses reason ≡ Some clause →
+            (other : ℕ) → is_marked self.new.marks other ≡ ((is_marked self.old.marks other || is_of_clause trail.now.entries clause other) && not (other == place))) }
+        ensures marks { OnOk result (AreMarks trail.now self.new.marks) }
         ensures kept { self.new.kept.items ≡ self.old.kept.items }
         ensures hints { OnOk result (self.new.hints.items ≡ self.old.hints.items ++ (reason + 1) ∷ []) }
         ensures back { self.new.back ≡ self.old.back }
     {
-        self.marks.mark_clause(trail, reason);
+        self.marks.mark_clause(trail, reason)?;
         self.marks.clear(trail, place);
         self.hints.push(u64::from(reason) + 1)?;
         Ok(())
@@ -105,9 +103,9 @@ impl Walk {
     fn keep(&mut self, trail: &Trail, place: u32) -> Result<(), NoMemory>
         requires usable { trail.now.broken ≡ false }
         requires within { place < length trail.now.entries }
-        requires marked { slice_get self.old.marks.by_place.items place ≡ Some true }
+        requires marked { is_marked self.old.marks place ≡ true }
         requires marks { AreMarks trail.now self.old.marks }
-        ensures marked { self.new.marks.by_place.items ≡ set self.old.marks.by_place.items place false }
+        ensures marked { (other : ℕ) → is_marked self.new.marks other ≡ (is_marked self.old.marks other && not (other == place)) }
         ensures marks { AreMarks trail.now self.new.marks }
         ensures kept { (entry : Entry) → slice_get trail.now.entries place ≡ Some entry →
             OnOk result (self.new.kept.items ≡ self.old.kept.items ++ negation entry.literal ∷ []) }

@@ -1,12 +1,10 @@
-use Rattle.std.proofs.Common.{◌≤◌, length}
+use Rattle.std.proofs.Common.{ℕ}
 use Rattle.sat_core.specs.Walks.{IsWalk}
+use Rattle.sat_core.proofs.Walking.{reach}
 use Rattle.sat_core.proofs.lessons.lesson_of.Given as goal
 
 abbrev pub invariant-loop-place : goal.invariant-loop-place
-invariant-loop-place l = record {
-  walk : IsWalk l.trail l.place l.walk;
-  within : l.place ≤ length l.trail.entries;
-}
+invariant-loop-place l = (passed : ℕ) × IsWalk l.trail passed l.walk
 
 abbrev pub decreases-loop-place : goal.decreases-loop-place
-decreases-loop-place l = l.place
+decreases-loop-place l = reach l.walk.marks.places.keys

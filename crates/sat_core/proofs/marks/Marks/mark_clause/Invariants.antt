@@ -1,9 +1,9 @@
-use Rattle.std.proofs.Common.{◌≡◌, drop}
-use Rattle.sat_core.specs.Walks.{AreMarks, marked_with}
+use Rattle.std.proofs.Common.{◌≡◌, ◌||◌, ℕ, drop}
+use Rattle.sat_core.specs.Walks.{is_marked, is_of_clause, AreMarks}
 use Rattle.sat_core.proofs.marks.Marks.mark_clause.Given as goal
 
 abbrev pub invariant-loop-literal : goal.invariant-loop-literal
 invariant-loop-literal l = record {
   marks : AreMarks l.trail l.self;
-  so_far : marked_with l.trail.entries (drop l.literal-index l.literal-items) l.self.by_place.items ≡ marked_with l.trail.entries l.literal-items l.fn.self.by_place.items;
+  so_far : (place : ℕ) → (is_marked l.self place || is_of_clause l.trail.entries (drop l.literal-index l.literal-items) place) ≡ (is_marked l.fn.self place || is_of_clause l.trail.entries l.literal-items place);
 }

@@ -1,13 +1,10 @@
-use Rattle.std.proofs.Common.{Some, ap, sym, ◌∙◌}
+use Rattle.std.proofs.Common.{sym, ◌∙◌}
 use Rattle.std.proofs.lemmas.Result.{on_ok_weaker}
 use Rattle.std.proofs.lemmas.Option.{slice_get_within}
 use Rattle.sat_trail.proofs.Places.{slice_get_some}
 use Rattle.sat_core.proofs.Stages.{replaced_is, forced_by}
-use Rattle.sat_core.proofs.Walking.{walk_unmarked, walk_kept, walk_replaced}
+use Rattle.sat_core.proofs.Walking.{on_ok_three, walk_kept, walk_replaced}
 use Rattle.sat_core.proofs.walks.Walk.pass.Goals as goal
-
-pub returns-then-not-is_marked : goal.returns-then-not-is_marked
-returns-then-not-is_marked c = walk_unmarked c.args.trail.now c.args.place c.args.self.now c.requires.walk (c.is_marked.ensures ∙ ap Some c.if-not-is_marked.true)
 
 pub replace-requires-clause-given : goal.replace-requires-clause-given
 replace-requires-clause-given c =
@@ -21,10 +18,10 @@ pub returns-in-Some : goal.returns-in-Some
 returns-in-Some c =
     let t = c.args.trail.now in
     let r = slice_get_some t.entries c.args.place c.requires.within in
-    on_ok_weaker c.replace.result (λ hints. walk_replaced t c.requires.sound c.args.place r.0 r.1 c.in-Some.reason c.args.self.now c.replace.new.self c.requires.walk (c.is_marked.ensures ∙ ap Some c.if-not-is_marked.false) c.replace.ensures.marks c.replace.ensures.marked c.replace.ensures.kept hints c.replace.ensures.back (sym c.in-Some.is ∙ c.replacement.ensures r.0 r.1)) c.replace.ensures.hints
+    on_ok_three c.replace.result (λ hints marked marks. walk_replaced t c.requires.sound c.args.place r.0 r.1 c.in-Some.reason c.args.self.now c.replace.new.self c.requires.walk c.requires.marked marks marked c.replace.ensures.kept hints c.replace.ensures.back (sym c.in-Some.is ∙ c.replacement.ensures r.0 r.1)) c.replace.ensures.hints c.replace.ensures.marked c.replace.ensures.marks
 
 pub returns-in-None : goal.returns-in-None
 returns-in-None c =
     let t = c.args.trail.now in
     let r = slice_get_some t.entries c.args.place c.requires.within in
-    on_ok_weaker c.keep.result (λ kept. walk_kept t c.requires.sound c.args.place r.0 r.1 c.args.self.now c.keep.new.self c.requires.walk (c.is_marked.ensures ∙ ap Some c.if-not-is_marked.false) c.keep.ensures.marks c.keep.ensures.marked kept c.keep.ensures.hints (c.keep.ensures.back r.0 r.1) (sym c.in-None.is ∙ c.replacement.ensures r.0 r.1)) (c.keep.ensures.kept r.0 r.1)
+    on_ok_weaker c.keep.result (λ kept. walk_kept t c.requires.sound c.args.place r.0 r.1 c.args.self.now c.keep.new.self c.requires.walk c.requires.marked c.keep.ensures.marks c.keep.ensures.marked kept c.keep.ensures.hints (c.keep.ensures.back r.0 r.1) (sym c.in-None.is ∙ c.replacement.ensures r.0 r.1)) (c.keep.ensures.kept r.0 r.1)
