@@ -1,10 +1,10 @@
 -- What holds of a search between its steps.
-use Rattle.std.proofs.Common.{◌≡◌, ℕ, zero, suc, ◌+◌, ◌-◌, ◌*◌, ◌<◌, ◌≤◌, ◌^◌, Bool, true, false, not, cond, ◌||◌, List, [], ◌∷◌, ◌++◌, length, map, filter, Option, Some, None, slice_get, sym, ap, ◌∙◌, subst, refl, arith, eqb, leb, inl, inr, Contains, All}
+use Rattle.std.proofs.Common.{◌≡◌, ℕ, zero, suc, ◌+◌, ◌-◌, ◌*◌, ◌<◌, ◌≤◌, ◌^◌, Bool, true, false, not, cond, ◌||◌, List, [], ◌∷◌, ◌++◌, length, map, filter, take, min, Option, Some, None, slice_get, sym, ap, ◌∙◌, subst, refl, arith, eqb, leb, inl, inr, Contains, All}
 use Rattle.std.specs.Prelude.{option_map, IsSome, slice_index_or}
 use Rattle.std.specs.List.{AllByRecursion, list_any}
 use Rattle.std.proofs.lemmas.Bool.{true≢false, false≢true, or_cases, or_left, or_right, cases_Bool, cases_eq, cases_lt, cond-true, cond-false, false_from_ne_true, lt-leb, leb-false, and_from}
-use Rattle.std.proofs.lemmas.Option.{none-some, same_Some}
-use Rattle.std.proofs.lemmas.List.{append_assoc, append-nil, map-append, length-append, length_push, length-map}
+use Rattle.std.proofs.lemmas.Option.{none-some, same_Some, slice_get_within}
+use Rattle.std.proofs.lemmas.List.{append_assoc, append-nil, map-append, length-append, length_push, length-map, length-take-le}
 use Rattle.std.proofs.lemmas.List.Elements.{All-push, All-nil, All-from_recursion, recursion_from_All, Contains-append_cases, Contains-append_left}
 use Rattle.clause_core.specs.Literals.{Lit, negation, same, has}
 use Rattle.clause_core.specs.Clauses.{IsIncreasing, in_order, IsOver, has_pair, is_true, meets, meets_all, assignment_of}
@@ -15,7 +15,7 @@ use Rattle.clause_core.proofs.Semantics.{reached_within, none_false_within}
 use Rattle.sat_trail.specs.declared.entries.Entry.{Entry}
 use Rattle.sat_trail.specs.Entries.{literals_of, place_of, entry_of}
 use Rattle.sat_trail.specs.States.{TrailState, IsSound, started, decided, with_clause, undone, up_to, Propagates}
-use Rattle.sat_trail.proofs.Places.{AreApart, place_from-front, place_from-after, place_here, has_entry, one_entry}
+use Rattle.sat_trail.proofs.Places.{AreApart, slice_get_push, slice_get-take, place_from-front, place_from-after, place_here, has_entry, one_entry}
 use Rattle.sat_trail.proofs.Soundness.{apart_from, level_within}
 use Rattle.sat_trail.proofs.Steps.{up_to_all, up_to-push, unset_from}
 use Rattle.refutation_check.specs.declared.steps.Step.{Step}
@@ -25,7 +25,8 @@ use Rattle.refutation_check.specs.Checking.Effect.{makes, shows_nothing}
 use Rattle.refutation_check.specs.Checking.Refusal.{at_line, at_hint, unfinished}
 use Rattle.sat_core.specs.Levels.{IsSetAt, AreQuietBelow}
 use Rattle.sat_core.specs.Lessons.{IsAsserting, IsLesson, step_of, clauses_of, HasLearnt, IsRefuted}
-use Rattle.sat_core.specs.Choices.{AreSet, AreTruths}
+use Rattle.sat_core.specs.declared.choices.Decisions.{Decisions}
+use Rattle.sat_core.specs.Choices.{AreSet, AreDecisions, AreTruths}
 use Rattle.sat_core.specs.declared.answers.Answer.{Answer}
 use Rattle.sat_core.specs.declared.answers.Answer.TheVariants.{Sat, Unsat, Spent}
 use Rattle.sat_core.specs.Answers.{AreSatisfying, AreRefuting, IsWholeTrace, IsAnswer, IsEnd}
@@ -433,3 +434,40 @@ set_decided u w l n is all unset next index below = subst (λ (s : TrailState). 
   where
     e : Entry
     e = entry_of l (u.level + 1) None
+
+-- ---- the decisions
+
+pub decisions_propagated : (t u : TrailState) (d : Decisions) → Propagates t u → AreDecisions t d → AreDecisions u d
+decisions_propagated t u d grows are = record {
+  so_far = set_propagated t u d.first grows are.so_far;
+  one_each = are.one_each ∙ ap (λ (s : TrailState). s.level) (sym grows.rest_stays);
+  each = λ level f at. subst (λ (s : TrailState). AreSet (up_to level s.entries) f) (sym grows.rest_stays) (subst (λ (es : List Entry). AreSet es f) (sym (up_to_added t.level level t.entries grows.added (recursion_from_All (λ (e : Entry). (e.level ≡ t.level) × IsSome e.reason) grows.added grows.forced) (omega (arith, are.one_each, slice_get_within d.by_level.items level f at)))) (are.each level f at));
+}
+
+pub decisions_decided : (t u : TrailState) (d n : Decisions) (l : Lit) → IsSound t → AreDecisions t d → u ≡ decided t l → AreSet t.entries l.index → place_of t.entries l.index ≡ None → n.first ≡ l.index + 1 → n.by_level.items ≡ d.by_level.items ++ l.index ∷ [] → AreDecisions u n
+decisions_decided t u d n l sound are is all unset first more = record {
+  so_far = set_decided t u l n.first is all unset first;
+  one_each = omega (arith, ap length more, length_push d.by_level.items l.index, are.one_each, ap (λ (s : TrailState). s.level) is);
+  each = λ level f at. elim (slice_get_push d.by_level.items l.index level f (sym (ap (λ (fs : List ℕ). slice_get fs level) more) ∙ at)) [
+    | inl old ↦ below level f (omega (arith, are.one_each, old.0)) (are.each level f old.1)
+    | inr new ↦ below level f (omega (arith, are.one_each, new.0)) (subst (λ (i : ℕ). AreSet (up_to level t.entries) i) new.1 (subst (λ (es : List Entry). AreSet es l.index) (sym (up_to_all level t.entries (λ k e there. (let h = level_within t.variables t.clauses t.entries sound.stand k e there in omega (arith, sound.level_reached, are.one_each, new.0))))) all))
+  ];
+}
+  where
+    below : (level f : ℕ) → level ≤ t.level → AreSet (up_to level t.entries) f → AreSet (up_to level u.entries) f
+    below level f low set = subst (λ (s : TrailState). AreSet (up_to level s.entries) f) (sym is) (subst (λ (es : List Entry). AreSet es f) (sym (up_to-push level t.entries (entry_of l (t.level + 1) None) (omega arith))) set)
+
+pub decisions_learnt : (t u : TrailState) (d n : Decisions) (back : ℕ) (clause : List Lit) → AreDecisions t d → u ≡ with_clause (undone t back) clause → back < t.level → slice_get d.by_level.items u.level ≡ Some n.first → n.by_level.items ≡ take u.level d.by_level.items → AreDecisions u n
+decisions_learnt t u d n back clause are is below first fewer = record {
+  so_far = subst (λ (es : List Entry). AreSet es n.first) (sym entries) (are.each back n.first (ap (slice_get d.by_level.items) (sym level_is) ∙ first));
+  one_each = ap length fewer ∙ length-take-le u.level d.by_level.items (omega (arith, are.one_each, level_is));
+  each = λ level f at.
+      (let r = slice_get-take u.level d.by_level.items level f (sym (ap (λ (fs : List ℕ). slice_get fs level) fewer) ∙ at) in
+      subst (λ (es : List Entry). AreSet (up_to level es) f) (sym entries) (subst (λ (es : List Entry). AreSet es f) (sym (up_to-up_to level back t.entries (omega (arith, r.0, level_is)))) (are.each level f r.1)));
+}
+  where
+    entries : u.entries ≡ up_to back t.entries
+    entries = ap (λ (s : TrailState). s.entries) is
+
+    level_is : u.level ≡ back
+    level_is = let e : u.level ≡ min back t.level = ap (λ (s : TrailState). s.level) is in omega arith

@@ -1,8 +1,10 @@
--- What is read off a trail: the variable to decide, and the assignment.
+-- The order of decisions, and the assignment that is read off a trail.
 use Rattle.std.specs.Prelude.{◌≡◌, ◌≢◌, ℕ, ◌<◌, Bool, true, false, List, length, Some, None, slice_get}
 use Rattle.clause_core.specs.Literals.{Lit, has}
 use Rattle.sat_trail.specs.declared.entries.Entry.{Entry}
 use Rattle.sat_trail.specs.Entries.{literals_of, place_of}
+use Rattle.sat_trail.specs.States.{TrailState, IsSound, decided, up_to}
+use Rattle.sat_core.specs.declared.choices.Decisions.{Decisions}
 
 -- all of the first variables are set
 abbrev pub AreSet : List Entry → ℕ → Type 0
@@ -14,6 +16,26 @@ pub record IsNext (entries : List Entry) (variables : ℕ) (l : Lit) : Type 0 wh
   pub unset : place_of entries l.index ≡ None
   pub first : AreSet entries l.index
   pub negative : l.positive ≡ false
+
+-- The first variables are set, so many as the decisions say; for each level an index was decided there, and the
+-- variables before it are set below that level.
+pub record AreDecisions (t : TrailState) (d : Decisions) : Type 0 where
+  pub so_far : AreSet t.entries d.first
+  pub one_each : length d.by_level.items ≡ t.level
+  pub each : (level first : ℕ) → slice_get d.by_level.items level ≡ Some first → AreSet (up_to level t.entries) first
+
+-- the next variable is decided
+pub record HasDecided (old new : TrailState) (d : Decisions) : Type 0 where
+  pub literal : Lit
+  pub next : IsNext old.entries old.variables literal
+  pub trail_is : new ≡ decided old literal
+  pub sound : IsSound new
+  pub decisions : AreDecisions new d
+
+-- what a decision comes to: a variable is decided, or all are set and nothing changes
+abbrev pub Decides : TrailState → TrailState → Decisions → Bool → Type 0
+Decides old new d true = HasDecided old new d
+Decides old new d false = AreSet old.entries old.variables × (new ≡ old)
 
 -- one truth for each variable: whether its positive literal is set
 pub record AreTruths (entries : List Entry) (variables : ℕ) (truths : List Bool) : Type 0 where

@@ -6,7 +6,7 @@ ghost use Rattle.sat_core.specs.Answers.{IsAnswer, IsEnd};
 ghost use Rattle.sat_core.specs.Lessons.{clauses_of};
 
 use crate::answers::Answer;
-use crate::choices::{assignment_of, next_decision};
+use crate::choices::{Decisions, assignment_of};
 use crate::lessons::{learn, refute};
 use clause_core::{Clause, Cnf};
 use refutation_check::Step;
@@ -28,20 +28,14 @@ pub fn solve(alloc: Global, cnf: &Cnf, budget: u64) -> Result<Answer, NoMemory>
         return Err(NoMemory);
     };
     let mut steps = Vec::new(alloc);
-    let mut first = 0;
+    let mut decisions = Decisions::new(alloc);
     loop {
         let Some(conflict) = trail.propagate()? else {
-            match next_decision(&trail, first, cnf.variables) {
-                Some(literal) => {
-                    trail.decide(literal)?;
-                    first = literal.variable();
-                }
-                None => {
-                    let assignment = assignment_of(alloc, &trail, cnf.variables)?;
-                    return Ok(Answer::Sat(assignment));
-                }
+            if decisions.decide(&mut trail, cnf.variables)? {
+                continue;
             }
-            continue;
+            let assignment = assignment_of(alloc, &trail, cnf.variables)?;
+            return Ok(Answer::Sat(assignment));
         };
         if trail.level() == 0 {
             let number = cnf.clauses.len() as u64 + steps.len() as u64 + 1;
@@ -53,7 +47,7 @@ pub fn solve(alloc: Global, cnf: &Cnf, budget: u64) -> Result<Answer, NoMemory>
             return end(alloc, trail, steps, number);
         }
         learn(alloc, &mut trail, &mut steps, conflict)?;
-        first = 0;
+        decisions.undo_to(trail.level());
     }
 }
 
