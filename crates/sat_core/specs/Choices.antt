@@ -1,5 +1,5 @@
 -- The order of decisions, and the assignment that is read off a trail.
-use Rattle.std.specs.Prelude.{◌≡◌, ◌≢◌, ℕ, ◌<◌, Bool, true, false, List, length, Some, None, slice_get}
+use Rattle.std.specs.Prelude.{◌≡◌, ◌≢◌, ℕ, ◌+◌, ◌<◌, Bool, true, false, List, [], ◌∷◌, ◌++◌, length, Some, None, slice_get}
 use Rattle.clause_core.specs.Literals.{Lit, has}
 use Rattle.sat_trail.specs.declared.entries.Entry.{Entry}
 use Rattle.sat_trail.specs.Entries.{literals_of, place_of}
@@ -24,18 +24,20 @@ pub record AreDecisions (t : TrailState) (d : Decisions) : Type 0 where
   pub one_each : length d.by_level.items ≡ t.level
   pub each : (level first : ℕ) → slice_get d.by_level.items level ≡ Some first → AreSet (up_to level t.entries) first
 
--- the next variable is decided
-pub record HasDecided (old new : TrailState) (d : Decisions) : Type 0 where
+-- The next variable is decided. The search for one goes on behind it, and will go back to it.
+pub record HasDecided (old new : TrailState) (before after : Decisions) : Type 0 where
   pub literal : Lit
   pub next : IsNext old.entries old.variables literal
   pub trail_is : new ≡ decided old literal
   pub sound : IsSound new
-  pub decisions : AreDecisions new d
+  pub behind : after.first ≡ literal.index + 1
+  pub opened : after.by_level.items ≡ before.by_level.items ++ literal.index ∷ []
+  pub decisions : AreDecisions new after
 
 -- what a decision comes to: a variable is decided, or all are set and nothing changes
-abbrev pub Decides : TrailState → TrailState → Decisions → Bool → Type 0
-Decides old new d true = HasDecided old new d
-Decides old new d false = AreSet old.entries old.variables × (new ≡ old)
+abbrev pub Decides : TrailState → TrailState → Decisions → Decisions → Bool → Type 0
+Decides old new before after true = HasDecided old new before after
+Decides old new before after false = AreSet old.entries old.variables × (new ≡ old)
 
 -- one truth for each variable: whether its positive literal is set
 pub record AreTruths (entries : List Entry) (variables : ℕ) (truths : List Bool) : Type 0 where

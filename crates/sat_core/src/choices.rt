@@ -35,7 +35,7 @@ impl Decisions {
         requires sound { IsSound trail.old }
         requires variables { variables ≡ trail.old.variables }
         requires decisions { AreDecisions trail.old self.old }
-        ensures { IfOk result (Decides trail.old trail.new self.new) }
+        ensures { IfOk result (Decides trail.old trail.new self.old self.new) }
     {
         let Some(literal) = next_decision(trail, self.first, variables) else {
             return Ok(false);

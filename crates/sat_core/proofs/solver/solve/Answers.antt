@@ -29,7 +29,7 @@ returns-in_default-2 c =
     let w = c.decide.new.trail in
     let search = search_propagated cnf.variables cnf.clauses c.loop-decisions.trail u c.loop-decisions.steps.items c.loop-decisions.invariant.search c.in_ok-conflict.ensures.ok c.in_ok-conflict.ensures.sound in
     let quiet : IsQuiet u.clauses (literals_of u.entries) = subst (λ (o : Option ℕ). EndsWith o u) c.in_default-2.is c.in_ok-conflict.ensures.ends in
-    let all : Decides u w c.decide.new.self false = subst (Decides u w c.decide.new.self) c.if-branch.false c.in_ok-decide.ensures in
+    let all : Decides u w c.loop-decisions.decisions c.decide.new.self false = subst (Decides u w c.loop-decisions.decisions c.decide.new.self) c.if-branch.false c.in_ok-decide.ensures in
     search_satisfied cnf.variables cnf.clauses u c.loop-decisions.steps.items c.in_ok-assignment.assignment.truths search cnf.over quiet (subst (AreSet u.entries) search.same_variables all.0) (subst (λ (s : TrailState). AreTruths s.entries cnf.variables c.in_ok-assignment.assignment.truths) all.1 c.in_ok-assignment.ensures)
 
 pub loop-decisions-preserved-then-branch : goal.loop-decisions-preserved-then-branch
@@ -39,7 +39,7 @@ loop-decisions-preserved-then-branch c =
     let w = c.decide.new.trail in
     let search = search_propagated cnf.variables cnf.clauses c.loop-decisions.trail u c.loop-decisions.steps.items c.loop-decisions.invariant.search c.in_ok-conflict.ensures.ok c.in_ok-conflict.ensures.sound in
     let quiet : IsQuiet u.clauses (literals_of u.entries) = subst (λ (o : Option ℕ). EndsWith o u) c.in_default-2.is c.in_ok-conflict.ensures.ends in
-    let decided : HasDecided u w c.decide.new.self = subst (Decides u w c.decide.new.self) c.if-branch.true c.in_ok-decide.ensures in
+    let decided : HasDecided u w c.loop-decisions.decisions c.decide.new.self = subst (Decides u w c.loop-decisions.decisions c.decide.new.self) c.if-branch.true c.in_ok-decide.ensures in
     record {
       search = search_decided cnf.variables cnf.clauses u w c.loop-decisions.steps.items decided.literal search quiet decided.trail_is decided.sound;
       decisions = decided.decisions;
@@ -51,7 +51,7 @@ loop-decisions-smaller-then-branch c =
     let cnf = c.args.cnf.now in
     let u = c.propagate.new.self in
     let w = c.decide.new.trail in
-    let decided : HasDecided u w c.decide.new.self = subst (Decides u w c.decide.new.self) c.if-branch.true c.in_ok-decide.ensures in
+    let decided : HasDecided u w c.loop-decisions.decisions c.decide.new.self = subst (Decides u w c.loop-decisions.decisions c.decide.new.self) c.if-branch.true c.in_ok-decide.ensures in
     let longer = decided_longer c.loop-decisions.trail u w decided.literal c.in_ok-conflict.ensures.ok decided.trail_is in
     let same : w.variables ≡ cnf.variables = ap (λ (s : TrailState). s.variables) decided.trail_is ∙ (ap (λ (s : TrailState). s.variables) c.in_ok-conflict.ensures.ok.rest_stays ∙ c.loop-decisions.invariant.search.same_variables) in
     let short : length w.entries ≤ cnf.variables = omega (arith, length_entries w.variables w.clauses w.entries decided.sound.stand) in
