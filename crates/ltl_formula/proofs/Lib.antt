@@ -1,0 +1,4 @@
+pub mod DerivedOrder
+pub mod ListLemmas
+pub mod LtlOrderLaws
+pub mod Places

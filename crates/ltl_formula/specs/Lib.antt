@@ -1,0 +1,5 @@
+pub mod LtlTree
+pub mod LtlOrder
+pub mod Increasing
+pub mod Dual
+pub mod Cubes
