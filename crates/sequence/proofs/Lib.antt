@@ -1,0 +1,12 @@
+pub mod Booleans
+pub mod Options
+pub mod Results
+pub mod Lists
+pub mod Places
+pub mod Each
+pub mod Passes
+pub mod Numbers
+pub mod Kept
+pub mod Bytes
+pub mod Orders
+mod Examples

@@ -1,0 +1,126 @@
+-- Numbers among others, the numbers from a first one on, and lists in which no number stands twice.
+use Rattle.std.proofs.Common.{◌≡◌, ℕ, zero, suc, ◌+◌, ◌<◌, ◌≤◌, ◌==◌, Bool, true, false, ◌&&◌, ◌||◌, cond, List, [], ◌∷◌, ◌++◌, length, Some, slice_get, refl, sym, ap, ◌∙◌, subst, inl, inr, add-one, arith}
+use Rattle.std.specs.List.{filter, flat_map}
+use Rattle.std.proofs.lemmas.Bool.{false≢true}
+use Rattle.std.proofs.lemmas.Bool.Decides.{eqb_tells}
+use Rattle.std.proofs.lemmas.List.{length-append}
+use Rattle.std.proofs.lemmas.List.Folds.{list_any-append}
+use Rattle.std.proofs.Math.Bool.{or-true, and-false}
+use Rattle.sequence.specs.Numbers.{is_among, IsDistinct, numbers_from}
+use Rattle.sequence.proofs.Booleans.{eqb_self}
+use Rattle.sequence.proofs.Passes.{filter_push}
+
+-- what stands among others
+pub among_first : (n : ℕ) (ns : List ℕ) → is_among (n ∷ ns) n ≡ true
+among_first n ns = rw (eqb_self n) refl
+
+pub among_next : (m n : ℕ) (ns : List ℕ) → is_among ns n ≡ true → is_among (m ∷ ns) n ≡ true
+among_next m n ns stands = rw stands (or-true (m == n))
+
+pub among_at : (ns : List ℕ) (i n : ℕ) → slice_get ns i ≡ Some n → is_among ns n ≡ true
+among_at [] i n is = absurd cc
+among_at (m ∷ ns) zero n is =
+    let same : m ≡ n = cc in
+    subst (λ k. is_among (m ∷ ns) k ≡ true) same (among_first m ns)
+among_at (m ∷ ns) (suc i) n is = among_next m n ns (among_at ns i n is)
+
+pub among_place : (ns : List ℕ) (n : ℕ) → is_among ns n ≡ true → (i : ℕ) × (slice_get ns i ≡ Some n)
+among_place [] n stands = absurd (false≢true stands)
+among_place (m ∷ ns) n stands = elim (eqb_tells m n) [
+  | inl same ↦ (0, ap Some same.1)
+  | inr other ↦ (let r = among_place ns n (rw other.0 at stands) in (suc r.0, r.1))
+]
+
+-- among those that pass a test are those that pass it
+pub among_filter : (p : ℕ → Bool) (n : ℕ) (ns : List ℕ) → is_among (filter p ns) n ≡ (is_among ns n && p n)
+among_filter p n [] = refl
+among_filter p n (m ∷ ns) = by (p m) refl (among_filter p n ns)
+  where
+    by : (b : Bool) → p m ≡ b → is_among (filter p ns) n ≡ (is_among ns n && p n) →
+        is_among (cond b (m ∷ filter p ns) (filter p ns)) n ≡ (is_among (m ∷ ns) n && p n)
+    by true passes rest = elim (eqb_tells m n) [
+      | inl same ↦ rw (same.0, sym (ap p same.1) ∙ passes) refl
+      | inr other ↦ rw other.0 rest
+    ]
+    by false fails rest = elim (eqb_tells m n) [
+      | inl same ↦ rw (same.0, rest, sym (ap p same.1) ∙ fails) (and-false (is_among ns n))
+      | inr other ↦ rw other.0 rest
+    ]
+
+-- the numbers from a first one on
+pub numbers_more : (first count last : ℕ) → first + count ≡ last → numbers_from first (suc count) ≡ numbers_from first count ++ last ∷ []
+numbers_more first zero last e = let same : first ≡ last = omega arith in ap (λ m. m ∷ []) same
+numbers_more first (suc count) last e = ap (λ rest. first ∷ rest) (numbers_more (suc first) count last (omega arith))
+
+pub numbers_passed_more : (p : ℕ → Bool) (n : ℕ) (old new : List ℕ) (here : Bool) → old ≡ filter p (numbers_from 0 n) → new ≡ old ++ cond here (n ∷ []) [] → here ≡ p n → new ≡ filter p (numbers_from 0 (n + 1))
+numbers_passed_more p n old new here so_far step is =
+    step ∙ (λ i. so_far i ++ cond (is i) (n ∷ []) [])
+    ∙ sym (filter_push p (numbers_from 0 n) n)
+    ∙ ap (filter p) (sym (numbers_more 0 n n (omega arith)))
+    ∙ ap (λ m. filter p (numbers_from 0 m)) (sym (add-one n))
+
+pub length-numbers : (first count : ℕ) → length (numbers_from first count) ≡ count
+length-numbers first zero = refl
+length-numbers first (suc count) = ap suc (length-numbers (suc first) count)
+
+pub numbers_at : (first count i : ℕ) → i < count → slice_get (numbers_from first count) i ≡ Some (first + i)
+numbers_at first zero i below = absurd (omega arith)
+numbers_at first (suc count) zero below = let e : first ≡ first + 0 = omega arith in ap Some e
+numbers_at first (suc count) (suc i) below = numbers_at (suc first) count i (omega arith) ∙ ap Some (let e : suc first + i ≡ first + suc i = omega arith in e)
+
+pub among_numbers : (first count n : ℕ) → first ≤ n → n < first + count → is_among (numbers_from first count) n ≡ true
+among_numbers first zero n from below = absurd (omega arith)
+among_numbers first (suc count) n from below = elim (eqb_tells first n) [
+  | inl same ↦ rw same.0 refl
+  | inr other ↦ among_next first n _ (among_numbers (suc first) count n (omega (arith, other.1)) (omega arith))
+]
+
+pub not_among_numbers : (first count n : ℕ) → n < first → is_among (numbers_from first count) n ≡ false
+not_among_numbers first zero n below = refl
+not_among_numbers first (suc count) n below = elim (eqb_tells first n) [
+  | inl same ↦ absurd (omega (arith, same.1))
+  | inr other ↦ rw other.0 (not_among_numbers (suc first) count n (omega arith))
+]
+
+-- no number stands among those after it, which says by recursion that no number stands twice
+abbrev pub AreApart : List ℕ → Type 0
+AreApart [] = Unit {0}
+AreApart (n ∷ ns) = (is_among ns n ≡ false) × AreApart ns
+
+pub apart_numbers : (first count : ℕ) → AreApart (numbers_from first count)
+apart_numbers first zero = tt
+apart_numbers first (suc count) = (not_among_numbers (suc first) count first (omega arith), apart_numbers (suc first) count)
+
+pub apart_filter : (p : ℕ → Bool) (ns : List ℕ) → AreApart ns → AreApart (filter p ns)
+apart_filter p [] apart = tt
+apart_filter p (n ∷ ns) apart = by (p n) (apart_filter p ns apart.1)
+  where
+    by : (b : Bool) → AreApart (filter p ns) → AreApart (cond b (n ∷ filter p ns) (filter p ns))
+    by true rest = (among_filter p n ns ∙ ap (λ b. b && p n) apart.0, rest)
+    by false rest = rest
+
+pub apart_append : (ns ms : List ℕ) → AreApart ns → AreApart ms → ((n : ℕ) → is_among ns n ≡ true → is_among ms n ≡ false) → AreApart (ns ++ ms)
+apart_append [] ms apart others disjoint = others
+apart_append (n ∷ ns) ms apart others disjoint = (
+  list_any-append (λ m. m == n) ns ms ∙ (λ i. apart.0 i || disjoint n (among_first n ns) i),
+  apart_append ns ms apart.1 others (λ m stands. disjoint m (among_next n m ns stands)),
+)
+
+pub distinct_from_apart : (ns : List ℕ) → AreApart ns → IsDistinct ns
+distinct_from_apart [] apart i j n at_i at_j = absurd cc
+distinct_from_apart (m ∷ ns) apart zero zero n at_i at_j = refl
+distinct_from_apart (m ∷ ns) apart zero (suc j) n at_i at_j =
+    let same : n ≡ m = cc in
+    absurd (false≢true (sym apart.0 ∙ ap (is_among ns) (sym same) ∙ among_at ns j n at_j))
+distinct_from_apart (m ∷ ns) apart (suc i) zero n at_i at_j =
+    let same : n ≡ m = cc in
+    absurd (false≢true (sym apart.0 ∙ ap (is_among ns) (sym same) ∙ among_at ns i n at_i))
+distinct_from_apart (m ∷ ns) apart (suc i) (suc j) n at_i at_j = ap suc (distinct_from_apart ns apart.1 i j n at_i at_j)
+
+-- one thing for each number makes a list of the same length
+pub length_one_each : {V : Type 0} (f : ℕ → List V) (ns : List ℕ) → ((n : ℕ) → is_among ns n ≡ true → length (f n) ≡ 1) → length (flat_map f ns) ≡ length ns
+length_one_each f [] one = refl
+length_one_each f (n ∷ ns) one =
+    let first = one n (among_first n ns) in
+    let rest = length_one_each f ns (λ m stands. one m (among_next n m ns stands)) in
+    length-append (f n) (flat_map f ns) ∙ (λ i. first i + rest i) ∙ omega arith
