@@ -8,7 +8,7 @@ use Rattle.tsl_text.specs.declared.Token.{Token}
 use Rattle.tsl_text.specs.declared.TokenKind.{TokenKind}
 use Rattle.tsl_text.specs.declared.TokenKind.TheVariants.{Name}
 use Rattle.tsl_text.specs.Division.{AreTokens, IsTokenOf}
-use Rattle.tsl_text.specs.Lexeme.{IsName, IsTokenText, lexeme_from, token_text}
+use Rattle.tsl_text.specs.Lexeme.{IsTokenText, lexeme_from, token_text}
 use Rattle.tsl_text.proofs.Parts.{each_token}
 use Rattle.tsl_terms.specs.Name.{is_name_text, is_reserved}
 use Rattle.tsl_reader.specs.declared.syntax.Word.{Word}
@@ -29,12 +29,8 @@ not_reserved text h =
     (one_word (bytes_eq text (codes "X")) X _ _ (one_word (bytes_eq text (codes "F")) F _ _ (one_word (bytes_eq text (codes "G")) G _ _ (one_word (bytes_eq text (codes "U")) U _ _
     (one_word (bytes_eq text (codes "W")) W _ _ (one_word (bytes_eq text (codes "R")) R _ _ (one_word (bytes_eq text (codes "A")) A None false (λ e. refl))))))))))))) h
 
-name_text : (text : List ℕ) → IsName text → is_name_text text ≡ true
-name_text [] h = absurd h
-name_text (first ∷ rest) h = rw (h.0, h.1) refl
-
-usable_name : (text : List ℕ) → IsName text → (found : Option Word) → word_of text ≡ found → AreUsable (free_unless text found ∷ [])
-usable_name text h None e = (rw (name_text text h, not_reserved text e) refl, tt)
+usable_name : (text : List ℕ) → is_name_text text ≡ true → (found : Option Word) → word_of text ≡ found → AreUsable (free_unless text found ∷ [])
+usable_name text h None e = (rw (h, not_reserved text e) refl, tt)
 usable_name text h (Some w) e = tt
 
 usable_token : (kind : TokenKind) (text : List ℕ) → IsTokenText kind text → AreUsable (terminal_of (lexeme_from kind text) ∷ [])

@@ -1,15 +1,17 @@
 -- Each use that stands in a text has its token, in the same order.
 use Rattle.std.proofs.Common.{◌≡◌, ℕ, zero, suc, Bool, true, false, not, List, [], ◌∷◌, map, refl, ap, sym, ◌∙◌}
 use Rattle.std.proofs.lemmas.List.Elements.{recursion_from_All}
+use Rattle.std.proofs.lemmas.Bool.{and_parts}
 use Rattle.std.proofs.lemmas.Slice.Eq.{bytes_eq-Decides}
 use Rattle.std.specs.Prelude.{Option, Some, None, filter, cond, slice_get}
-use Rattle.std.specs.List.{AllByRecursion}
+use Rattle.std.specs.List.{AllByRecursion, list_all}
 use Rattle.std.specs.Str.{bytes_eq}
 use Rattle.tsl_text.specs.declared.Token.{Token}
 use Rattle.tsl_text.specs.declared.TokenKind.{TokenKind}
 use Rattle.tsl_text.specs.declared.TokenKind.TheVariants.{Name, Number, OpenBrace, CloseBrace, OpenRound, CloseRound, OpenSquare, CloseSquare, Semicolon, Not, And, Or, Arrow, BothArrow, LeftArrow, Question}
 use Rattle.tsl_text.specs.Division.{IsTokenOf}
-use Rattle.tsl_text.specs.Lexeme.{is_name_start, IsName, IsTokenText, lexeme_from, token_text}
+use Rattle.tsl_text.specs.Names.{is_name_start, is_name_byte, is_name_text}
+use Rattle.tsl_text.specs.Lexeme.{IsTokenText, lexeme_from, token_text}
 use Rattle.tsl_text.proofs.Parts.{each_token}
 use Rattle.tsl_terms.specs.Name.{Name as Use, question}
 use Rattle.tsl_reader.specs.declared.syntax.Word.{Word}
@@ -52,11 +54,11 @@ not_question first rest h e =
     let starts : is_name_start 63 ≡ true = ap is_name_start (sym same) ∙ h in
     cc
 
-name_is_other : (text : List ℕ) → IsName text → is_other text ≡ true
-name_is_other [] h = absurd h
+name_is_other : (text : List ℕ) → is_name_text text ≡ true → is_other text ≡ true
+name_is_other [] h = absurd cc
 name_is_other (first ∷ rest) h = by (bytes_eq (first ∷ rest) question) refl where
   by : (is : Bool) → bytes_eq (first ∷ rest) question ≡ is → not is ≡ true
-  by true e = absurd (not_question first rest h.0 ((bytes_eq-Decides (first ∷ rest) question).0 e))
+  by true e = absurd (not_question first rest (and_parts (is_name_start first) (list_all is_name_byte rest) h).0 ((bytes_eq-Decides (first ∷ rest) question).0 e))
   by false e = refl
 
 -- a name that is no reserved word is not `?`

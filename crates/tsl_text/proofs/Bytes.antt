@@ -4,9 +4,9 @@ use Rattle.std.specs.Char.{is_ascii_digit, is_ascii_alphabetic}
 use Rattle.std.specs.Int.{is_in_range}
 use Rattle.std.specs.List.{list_all, prefix_len}
 use Rattle.std.proofs.lemmas.Bool.{or_cases, or_from, and_parts, and_from, leb-true, ne_eqb, cond-true, cond-false, eqb-true, false_from_ne_true}
-use Rattle.tsl_text.specs.Division.{is_blank}
-use Rattle.tsl_text.specs.Lexeme.{is_name_start}
-use Rattle.tsl_text.specs.Lines.{is_line_byte, IsLineEnd}
+use Rattle.tsl_text.specs.Lines.{is_blank, is_line_byte}
+use Rattle.tsl_text.specs.Names.{is_name_start}
+use Rattle.tsl_text.specs.Places.{IsLineEnd}
 
 -- a name begins above the digits, the blanks and `/`
 name_start_above : (byte : ℕ) → is_name_start byte ≡ true → 65 ≤ byte

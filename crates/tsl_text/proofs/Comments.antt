@@ -3,7 +3,7 @@ use Rattle.std.proofs.Common.{◌≡◌, ℕ, zero, suc, ◌+◌, ◌-◌, ◌<�
 use Rattle.std.proofs.lemmas.Bool.{and_parts, and_from, eqb-true, eq-eqb, ne_eqb, cases_Bool, cond-false, false_from_ne_true}
 use Rattle.std.proofs.lemmas.List.{drop_more}
 use Rattle.tsl_text.specs.Division.{ClosesComment, close, skip, nest, IsNoMark}
-use Rattle.tsl_text.specs.Front.{opens, closes, after_comment}
+use Rattle.tsl_text.specs.internal.Front.{opens, closes, after_comment}
 
 -- the rest from a place with two bytes on
 drop_two : (text : List ℕ) (at : ℕ) → at + 1 < length text → drop at text ≡ get_or text at 0 ∷ get_or text (at + 1) 0 ∷ drop (at + 2) text

@@ -2,9 +2,9 @@
 use Rattle.std.proofs.Common.{◌≡◌, ℕ, List, [], ◌∷◌, ◌++◌, length, Some, refl, sym, ◌∙◌, ap, inl, inr, arith, lit<}
 use Rattle.std.specs.Prelude.{codes}
 use Rattle.tsl_text.specs.Division.{Part, comment, lexeme, Stands, Divides, tokens_from, lexemes_of, ClosesComment, close, skip, nest, HasBadByte, HasOpenComment}
-use Rattle.tsl_text.specs.Front.{piece_of, after_comment}
+use Rattle.tsl_text.specs.internal.Front.{piece_of, after_comment}
 use Rattle.tsl_text.specs.Lexeme.{IsTokenText, name, symbol}
-use Rattle.tsl_text.specs.Lines.{IsLineAt, IsLineEnd, IsColumn}
+use Rattle.tsl_text.specs.Places.{IsBetweenFeeds, IsLineEnd, IsColumn}
 use Rattle.tsl_text.specs.declared.TokenKind.{TokenKind}
 use Rattle.tsl_text.specs.declared.TokenKind.TheVariants.{Name, Number, BothArrow, LeftArrow}
 use Rattle.tsl_text.specs.declared.front.Piece.TheVariants.{Longest, Nothing}
@@ -15,10 +15,10 @@ use Rattle.tsl_text.proofs.Pieces.{finds, found_longest, found_nothing, found_op
 
 -- `a'b` and `_` are names, `007` is a number, `<->` an arrow
 name_quote : IsTokenText Name (codes "a'b")
-name_quote = (refl, refl)
+name_quote = refl
 
 name_underscore : IsTokenText Name (codes "_")
-name_underscore = (refl, refl)
+name_underscore = refl
 
 number_zeros : IsTokenText Number (codes "007")
 number_zeros = refl
@@ -28,10 +28,10 @@ both_arrow = refl
 
 -- `1a` and `'a` are no names, `1a` is no number
 name_digit : IsTokenText Name (codes "1a") → ⊥
-name_digit h = let never = h.0 in absurd cc
+name_digit h = absurd cc
 
 name_starts_quote : IsTokenText Name (codes "'a") → ⊥
-name_starts_quote h = let never = h.0 in absurd cc
+name_starts_quote h = absurd cc
 
 number_letter : IsTokenText Number (codes "1a") → ⊥
 number_letter h = absurd cc
@@ -96,7 +96,7 @@ unfolding arrow_parts
 arrow_divides = (
   codes "<->b//x",
   refl,
-  stands Name (codes "a") (codes "<->b//x") refl (refl, refl),
+  stands Name (codes "a") (codes "<->b//x") refl refl,
   (
     codes "b//x",
     refl,
@@ -104,7 +104,7 @@ arrow_divides = (
     (
       codes "//x",
       refl,
-      stands Name (codes "b") (codes "//x") refl (refl, refl),
+      stands Name (codes "b") (codes "//x") refl refl,
       (
         [],
         refl,
@@ -145,7 +145,7 @@ open_fault : HasOpenComment (codes "a/*/**/") 1
 open_fault = record {
   parts = lexeme Name (codes "a") ∷ [];
   rest = codes "/*/**/";
-  divides = (codes "/*/**/", refl, stands Name (codes "a") (codes "/*/**/") refl (refl, refl), refl);
+  divides = (codes "/*/**/", refl, stands Name (codes "a") (codes "/*/**/") refl refl, refl);
   place = refl;
   unclosed = found_open (codes "/*/**/") refl;
 }
@@ -157,7 +157,7 @@ column_three : IsColumn (97 ∷ 10 ∷ 98 ∷ 99 ∷ []) 3
 column_three = record { lines = 97 ∷ 10 ∷ []; line = 98 ∷ 99 ∷ []; split = refl; begins = inr (97 ∷ [], refl); whole = refl; count = refl }
 
 -- `b` is a line of `a`, line feed, `b`; it begins at 2
-last_line : IsLineAt (97 ∷ 10 ∷ 98 ∷ []) (98 ∷ []) 2
+last_line : IsBetweenFeeds (97 ∷ 10 ∷ 98 ∷ []) (98 ∷ []) 2
 last_line = record { before = 97 ∷ 10 ∷ []; after = []; split = refl; place = refl; begins = inr (97 ∷ [], refl); ends = tt; whole = refl }
 
 -- `a` is no line of `ab`, and `a`, line feed, `b` is no line at all
@@ -166,8 +166,8 @@ begins_only_at [] [] split place ends = absurd cc
 begins_only_at [] (byte ∷ after) split place ends = let second : byte ≡ 98 = cc in omega (arith, ends)
 begins_only_at (byte ∷ before) after split place ends = omega arith
 
-begins_only : IsLineAt (97 ∷ 98 ∷ []) (97 ∷ []) 0 → ⊥
+begins_only : IsBetweenFeeds (97 ∷ 98 ∷ []) (97 ∷ []) 0 → ⊥
 begins_only h = begins_only_at h.before h.after h.split h.place h.ends
 
-two_lines : (text : List ℕ) (at : ℕ) → IsLineAt text (97 ∷ 10 ∷ 98 ∷ []) at → ⊥
+two_lines : (text : List ℕ) (at : ℕ) → IsBetweenFeeds text (97 ∷ 10 ∷ 98 ∷ []) at → ⊥
 two_lines text at h = let never = h.whole in absurd cc

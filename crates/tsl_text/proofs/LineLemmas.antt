@@ -8,7 +8,8 @@ use Rattle.std.proofs.lemmas.Slice.Eq.{slice_eq-Decides}
 use Rattle.std.proofs.lemmas.Bool.{and_parts, and_from, eqb-true, not-false, not_from_false, cases_eq, cases_lt, ne_eqb}
 use Rattle.std.proofs.lemmas.List.{take_more, drop_at, take_at, get_or_at, take_rest}
 use Rattle.std.proofs.lemmas.List.Sums.{prefix_len-le-length, prefix_len_passes, prefix_len_stops, count_by_more_yes, count_by_more_no}
-use Rattle.tsl_text.specs.Lines.{is_line_byte, HasNoLineFeed, IsLineStart, IsLineAt, IsColumn}
+use Rattle.tsl_text.specs.Lines.{is_line_byte, HasNoLineFeed}
+use Rattle.tsl_text.specs.Places.{IsLineStart, IsBetweenFeeds, IsColumn}
 use Rattle.tsl_text.proofs.Bytes.{list_all-prefix, prefix_len-line, line_end-prefix}
 
 -- ---- columns
@@ -66,7 +67,7 @@ module _ (text line : List ℕ) (start : ℕ) (inside : start ≤ length text) w
   fits = omega (arith, prefix_len-le-length is_line_byte (drop start text), length-drop start text)
 
   -- the line that begins here is found
-  pub line_here : IsLineStart (take start text) → take (len_at text start) (drop start text) ≡ line → IsLineAt text line start
+  pub line_here : IsLineStart (take start text) → take (len_at text start) (drop start text) ≡ line → IsBetweenFeeds text line start
   line_here begins same = record {
     before = take start text;
     after = drop (len_at text start) (drop start text);
@@ -88,14 +89,14 @@ module _ (text line : List ℕ) (start : ℕ) (inside : start ≤ length text) w
       inr (take (start + n) text, ap (λ k. take k text) there ∙ take_more text (start + n) 0 (omega arith) ∙ ap (λ b. take (start + n) text ++ b ∷ []) feed)
 
   -- a line that begins here is the one that the code compares
-  same_line : IsLineAt text line start → take (len_at text start) (drop start text) ≡ line
+  same_line : IsBetweenFeeds text line start → take (len_at text start) (drop start text) ≡ line
   same_line h =
       let rest : drop start text ≡ line ++ h.after = ap (drop start) h.split ∙ drop_at h.before (line ++ h.after) start h.place in
       let len : len_at text start ≡ length line = ap (prefix_len is_line_byte) rest ∙ prefix_len-line line h.after h.whole h.ends in
       (λ i. take (len i) (rest i)) ∙ take_at line h.after (length line) refl
 
 -- a line that begins later begins behind a line feed
-behind_feed : (text line : List ℕ) (at : ℕ) → IsLineAt text line at → 0 < at → (get_or text (at - 1) 0 ≡ 10) × (at ≤ length text)
+behind_feed : (text line : List ℕ) (at : ℕ) → IsBetweenFeeds text line at → 0 < at → (get_or text (at - 1) 0 ≡ 10) × (at ≤ length text)
 behind_feed text line at h some =
     let within : at ≤ length text = omega (arith, h.place, ap length h.split ∙ length-append h.before (line ++ h.after)) in
     ⊎_elim
@@ -107,10 +108,10 @@ behind_feed text line at h some =
     h.begins
 
 -- a line that is another than the one here begins behind it
-pub later_line : (text line : List ℕ) (start at : ℕ) → start ≤ length text → (take (len_at text start) (drop start text) ≡ line → ⊥) → IsLineAt text line at → start ≤ at → start + (len_at text start + 1) ≤ at
+pub later_line : (text line : List ℕ) (start at : ℕ) → start ≤ length text → (take (len_at text start) (drop start text) ≡ line → ⊥) → IsBetweenFeeds text line at → start ≤ at → start + (len_at text start + 1) ≤ at
 later_line text line start at inside other h from =
     ⊎_elim
-    (λ here. absurd (other (same_line text line start inside (subst (IsLineAt text line) here h))))
+    (λ here. absurd (other (same_line text line start inside (subst (IsBetweenFeeds text line) here h))))
     (λ apart.
     let feed = behind_feed text line at h (omega arith) in
     ⊎_elim
@@ -126,7 +127,7 @@ later_line text line start at inside other h from =
     (cases_eq at start)
 
 -- every line begins within the text
-pub line_within : (text line : List ℕ) (at : ℕ) → IsLineAt text line at → at ≤ length text
+pub line_within : (text line : List ℕ) (at : ℕ) → IsBetweenFeeds text line at → at ≤ length text
 line_within text line at h = omega (arith, h.place, ap length h.split ∙ length-append h.before (line ++ h.after))
 
 -- what the code measures and compares is the line that begins here

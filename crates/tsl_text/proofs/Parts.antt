@@ -4,8 +4,9 @@ use Rattle.std.specs.List.{All, AllPairs, AllByRecursion}
 use Rattle.std.proofs.lemmas.Bool.{cases_lt}
 use Rattle.std.proofs.lemmas.List.{drop_at, drop-drop, drop_all, take_at, take_rest}
 use Rattle.std.proofs.lemmas.List.Elements.{All-from_recursion}
-use Rattle.tsl_text.specs.Division.{is_blank, Part, blank, comment, lexeme, bytes_of, Stands, Divides, tokens_from, lexemes_of, AreTokens, BeginsNothing, IsUnclosed, HasBadByte, HasOpenComment, IsAnswer, IsTokenOf, StandsBefore}
-use Rattle.tsl_text.specs.Front.{piece_of, gap_before, after_comment}
+use Rattle.tsl_text.specs.Lines.{is_blank}
+use Rattle.tsl_text.specs.Division.{Part, blank, comment, lexeme, bytes_of, Stands, Divides, tokens_from, lexemes_of, AreTokens, BeginsNothing, IsUnclosed, HasBadByte, HasOpenComment, IsAnswer, IsTokenOf, StandsBefore}
+use Rattle.tsl_text.specs.internal.Front.{piece_of, gap_before, after_comment}
 use Rattle.tsl_text.specs.Lexeme.{IsTokenText, lexeme_from, lexeme_of}
 use Rattle.tsl_text.specs.declared.TextError.{TextError}
 use Rattle.tsl_text.specs.declared.TextError.TheVariants.{Byte, NoMemory}

@@ -1,13 +1,16 @@
 -- What stands at the front of a text is what the definitions say.
-use Rattle.std.proofs.Common.{◌≡◌, ℕ, ◌+◌, ◌-◌, ◌<◌, ◌≤◌, Bool, true, false, cond, eqb, List, [], ◌∷◌, ◌++◌, length, take, drop, Option, Some, None, refl, sym, ◌∙◌, ap, subst, inl, inr, ⊎_elim, arith, lit<, length-append, length-take-le, take-append-drop}
+use Rattle.std.proofs.Common.{◌≡◌, ℕ, ◌+◌, ◌-◌, ◌<◌, ◌≤◌, Bool, true, false, cond, eqb, List, [], ◌∷◌, ◌++◌, length, take, drop, Option, Some, None, IsTrue, refl, sym, ◌∙◌, ap, subst, inl, inr, ⊎_elim, arith, lit<, length-append, length-take-le, take-append-drop}
 use Rattle.std.specs.Char.{is_ascii_digit}
 use Rattle.std.specs.List.{list_all, prefix_len}
 use Rattle.std.proofs.lemmas.Bool.{and_parts, and_from, eqb-true, cond-true, cond-false}
 use Rattle.std.proofs.lemmas.List.Sums.{prefix_len-le-length}
-use Rattle.tsl_text.specs.Division.{is_blank, Part, blank, comment, lexeme, bytes_of, Stands, IsLongest, IsLineComment, IsBlockComment, BeginsNothing, IsUnclosed}
-use Rattle.tsl_text.specs.Front.{piece_of, symbol_of, comment_of, gap_before, after_comment, pair_of, left_of, begins_with}
-use Rattle.tsl_text.specs.Lexeme.{is_name_start, is_name_byte, IsTokenText, IsName, IsNumber}
-use Rattle.tsl_text.specs.Lines.{is_line_byte, IsLineEnd}
+use Rattle.tsl_text.specs.Lines.{is_blank, is_line_byte}
+use Rattle.tsl_text.specs.Division.{Part, blank, comment, lexeme, bytes_of, Stands, IsLongest, IsLineComment, IsBlockComment, BeginsNothing, IsUnclosed}
+use Rattle.tsl_text.specs.internal.Front.{piece_of, symbol_of, comment_of, gap_before, after_comment, pair_of, left_of, begins_with}
+use Rattle.tsl_text.specs.Names.{is_name_start, is_name_byte, is_name_text}
+use Rattle.tsl_text.specs.Lexeme.{IsTokenText}
+use Rattle.tsl_text.specs.Numbers.{is_digits}
+use Rattle.tsl_text.specs.Places.{IsLineEnd}
 use Rattle.tsl_text.specs.declared.TokenKind.{TokenKind}
 use Rattle.tsl_text.specs.declared.TokenKind.TheVariants.{Name, Number, OpenBrace, CloseBrace, OpenRound, CloseRound, OpenSquare, CloseSquare, Semicolon, Not, And, Or, Arrow, BothArrow, LeftArrow, Question}
 use Rattle.tsl_text.specs.declared.front.Piece.{Piece}
@@ -61,20 +64,21 @@ at_name byte rest h = rw (name_start-no_blank byte h, name_start-no_slash byte h
 at_number : (byte : ℕ) (rest : List ℕ) → is_ascii_digit byte ≡ true → piece_of (byte ∷ rest) ≡ Longest Number (1 + prefix_len is_ascii_digit rest)
 at_number byte rest h = rw (digit-no_blank byte h, digit-no_slash byte h, digit-no_name_start byte h, h) refl
 
-finds_name : (text more : List ℕ) → IsName text → Finds Name text more
-finds_name [] more h = absurd h
+finds_name : (text more : List ℕ) → IsTrue (is_name_text text) → Finds Name text more
+finds_name [] more h = absurd (cc)
 finds_name (byte ∷ rest) more h =
-    let front = prefix_len-front is_name_byte rest more h.1 in
+    let parts = and_parts (is_name_start byte) (list_all is_name_byte rest) h in
+    let front = prefix_len-front is_name_byte rest more parts.1 in
     record {
       found = Name;
       len = 1 + prefix_len is_name_byte (rest ++ more);
-      piece = at_name byte (rest ++ more) h.0;
+      piece = at_name byte (rest ++ more) parts.0;
       long = omega arith;
       same = λ _. refl;
     }
 
-finds_number : (text more : List ℕ) → IsNumber text → Finds Number text more
-finds_number [] more h = absurd h
+finds_number : (text more : List ℕ) → IsTrue (is_digits text) → Finds Number text more
+finds_number [] more h = absurd (cc)
 finds_number (byte ∷ rest) more h =
     let parts = and_parts (is_ascii_digit byte) (list_all is_ascii_digit rest) h in
     let front = prefix_len-front is_ascii_digit rest more parts.1 in
@@ -265,7 +269,7 @@ sound (first ∷ rest) =
     let bytes = first ∷ rest in
     pick bytes (is_blank first) _ _ (λ h. record { part = blank first; after = rest; gap = tt; split = refl; count = refl; stands = h }) (λ _.
     pick bytes (eqb first 47) _ _ (comment_sound first rest) (λ _.
-    pick bytes (is_name_start first) _ _ (λ h. run_sound Name is_name_byte first rest (h, list_all-prefix is_name_byte rest)) (λ _.
+    pick bytes (is_name_start first) _ _ (λ h. run_sound Name is_name_byte first rest (and_from (is_name_start first) _ h (list_all-prefix is_name_byte rest))) (λ _.
     pick bytes (is_ascii_digit first) _ _ (λ h. run_sound Number is_ascii_digit first rest (and_from (is_ascii_digit first) _ h (list_all-prefix is_ascii_digit rest))) (λ _.
     symbol_sound first rest))))
 
@@ -362,9 +366,9 @@ comment_two text after h = ⊎_elim (λ line. omega (arith, ap length line.0.1))
 
 -- a token is not empty
 pub token_not_empty : (kind : TokenKind) (text : List ℕ) → IsTokenText kind text → 0 < length text
-token_not_empty Name [] h = absurd h
+token_not_empty Name [] h = absurd (cc)
 token_not_empty Name (byte ∷ rest) h = omega arith
-token_not_empty Number [] h = absurd h
+token_not_empty Number [] h = absurd (cc)
 token_not_empty Number (byte ∷ rest) h = omega arith
 token_not_empty OpenBrace text h = omega (arith, ap length h)
 token_not_empty CloseBrace text h = omega (arith, ap length h)

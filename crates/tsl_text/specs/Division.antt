@@ -1,15 +1,12 @@
 -- How a text divides into blanks, comments and tokens, and where it does not.
-use Rattle.std.specs.Prelude.{◌≡◌, ℕ, ◌+◌, ◌<◌, ◌≤◌, ◌==◌, ◌||◌, Bool, List, [], ◌∷◌, ◌++◌, ◌⊎◌, length, IsTrue, codes, Result, Ok, Err}
+use Rattle.std.specs.Prelude.{◌≡◌, ℕ, ◌+◌, ◌<◌, ◌≤◌, List, [], ◌∷◌, ◌++◌, ◌⊎◌, length, IsTrue, codes, Result, Ok, Err}
 use Rattle.tsl_text.specs.declared.TextError.{TextError}
 use Rattle.tsl_text.specs.declared.TextError.TheVariants.{Byte, OpenComment, NoMemory}
 use Rattle.tsl_text.specs.declared.Token.{Token}
 use Rattle.tsl_text.specs.declared.TokenKind.{TokenKind}
 use Rattle.tsl_text.specs.Lexeme.{Lexeme, lexeme_from, IsTokenText, token_text}
-use Rattle.tsl_text.specs.Lines.{HasNoLineFeed, IsLineEnd}
-
--- space, tab, carriage return and line feed
-abbrev pub is_blank : ℕ → Bool
-is_blank byte = (byte == 32) || ((byte == 9) || ((byte == 13) || (byte == 10)))
+use Rattle.tsl_text.specs.Lines.{is_blank, HasNoLineFeed}
+use Rattle.tsl_text.specs.Places.{IsLineEnd}
 
 -- `//` and no line feed
 abbrev pub IsLineComment : List ℕ → Type 0

@@ -1,7 +1,7 @@
 -- What a token of each kind looks like.
-use Rattle.std.specs.Prelude.{◌≡◌, ℕ, ◌-◌, ◌==◌, ◌||◌, Bool, List, [], ◌∷◌, IsTrue, take, drop, codes}
-use Rattle.std.specs.Char.{is_ascii_alphabetic, is_ascii_alphanumeric, is_ascii_digit}
-use Rattle.std.specs.List.{list_all}
+use Rattle.std.specs.Prelude.{◌≡◌, ℕ, ◌-◌, List, IsTrue, take, drop, codes}
+use Rattle.tsl_text.specs.Names.{is_name_text}
+use Rattle.tsl_text.specs.Numbers.{is_digits}
 use Rattle.tsl_text.specs.declared.Token.{Token}
 use Rattle.tsl_text.specs.declared.TokenKind.{TokenKind}
 use Rattle.tsl_text.specs.declared.TokenKind.TheVariants.{Name, Number, OpenBrace, CloseBrace, OpenRound, CloseRound, OpenSquare, CloseSquare, Semicolon, Not, And, Or, Arrow, BothArrow, LeftArrow, Question}
@@ -17,28 +17,10 @@ lexeme_from Name text = name text
 lexeme_from Number text = number text
 lexeme_from kind text = symbol kind
 
--- an ASCII letter or `_`
-abbrev pub is_name_start : ℕ → Bool
-is_name_start byte = is_ascii_alphabetic byte || (byte == 95)
-
--- an ASCII letter, a digit, `_` or `'`
-abbrev pub is_name_byte : ℕ → Bool
-is_name_byte byte = is_ascii_alphanumeric byte || ((byte == 95) || (byte == 39))
-
--- an ASCII letter or `_`, and then letters, digits, `_` and `'`
-abbrev pub IsName : List ℕ → Type 0
-IsName [] = ⊥
-IsName (first ∷ rest) = IsTrue (is_name_start first) × IsTrue (list_all is_name_byte rest)
-
--- a run of digits
-abbrev pub IsNumber : List ℕ → Type 0
-IsNumber [] = ⊥
-IsNumber (first ∷ rest) = IsTrue (list_all is_ascii_digit (first ∷ rest))
-
 -- the bytes are a token of this kind
 abbrev pub IsTokenText : TokenKind → List ℕ → Type 0
-IsTokenText Name text = IsName text
-IsTokenText Number text = IsNumber text
+IsTokenText Name text = IsTrue (is_name_text text)
+IsTokenText Number text = IsTrue (is_digits text)
 IsTokenText OpenBrace text = text ≡ codes "{"
 IsTokenText CloseBrace text = text ≡ codes "}"
 IsTokenText OpenRound text = text ≡ codes "("

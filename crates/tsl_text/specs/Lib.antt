@@ -1,4 +1,7 @@
+pub mod Names
+pub mod Numbers
+pub mod Lines
+pub mod Places
 pub mod Lexeme
 pub mod Division
-pub mod Front
-pub mod Lines
+pub mod internal

@@ -1,6 +1,10 @@
--- Lines and places of a text.
-use Rattle.std.specs.Prelude.{◌≡◌, ℕ, ◌+◌, ◌==◌, Bool, not, List, [], ◌∷◌, ◌++◌, ◌⊎◌, length, IsTrue}
-use Rattle.std.specs.List.{list_all}
+-- The lines of a text, and what stands in a line: words between blanks, or fields between single spaces.
+use Rattle.std.specs.Prelude.{ℕ, ◌==◌, Bool, true, false, not, cond, ◌||◌, List, [], ◌∷◌, filter, IsTrue}
+use Rattle.std.specs.List.{list_all, slice_split, onto_first, enumerate_from}
+
+-- space, tab, carriage return and line feed
+abbrev pub is_blank : ℕ → Bool
+is_blank byte = (byte == 32) || ((byte == 9) || ((byte == 13) || (byte == 10)))
 
 -- a byte within a line: any but a line feed
 abbrev pub is_line_byte : ℕ → Bool
@@ -9,30 +13,33 @@ is_line_byte byte = not (byte == 10)
 abbrev pub HasNoLineFeed : List ℕ → Type 0
 HasNoLineFeed bytes = IsTrue (list_all is_line_byte bytes)
 
--- a line begins behind these bytes: they are none, or the last of them is a line feed
-abbrev pub IsLineStart : List ℕ → Type 0
-IsLineStart before = (before ≡ []) ⊎ ((lines : List ℕ) × (before ≡ lines ++ 10 ∷ []))
+-- The lines of a text: each line feed ends one, and so does the text's end where bytes stand before it. After a
+-- final line feed there is no line.
+abbrev pub lines : List ℕ → List (List ℕ)
+lines [] = []
+lines (byte ∷ bytes) = cond (byte == 10) ([] ∷ lines bytes) (onto_first byte (lines bytes))
 
--- a line ends before these bytes: they are none, or the first of them is a line feed
-abbrev pub IsLineEnd : List ℕ → Type 0
-IsLineEnd [] = Unit {0}
-IsLineEnd (byte ∷ rest) = byte ≡ 10
+-- each line beside its number, from 1
+abbrev pub numbered_lines : List ℕ → List (ℕ × List ℕ)
+numbered_lines text = enumerate_from 1 (lines text)
 
--- a whole line that equals this one begins at this offset of the text
-pub record IsLineAt (text line : List ℕ) (at : ℕ) : Type 0 where
-  pub before : List ℕ
-  pub after : List ℕ
-  pub split : text ≡ before ++ (line ++ after)
-  pub place : length before ≡ at
-  pub begins : IsLineStart before
-  pub ends : IsLineEnd after
-  pub whole : HasNoLineFeed line
+-- whether each line of the text has its line feed: the text is empty, or its last byte is one
+abbrev pub is_ended : List ℕ → Bool
+is_ended [] = true
+is_ended (byte ∷ []) = byte == 10
+is_ended (byte ∷ next ∷ bytes) = is_ended (next ∷ bytes)
 
--- The column behind these bytes, counted from 1: one more than the bytes of the last line among them.
-pub record IsColumn (front : List ℕ) (column : ℕ) : Type 0 where
-  pub lines : List ℕ
-  pub line : List ℕ
-  pub split : front ≡ lines ++ line
-  pub begins : IsLineStart lines
-  pub whole : HasNoLineFeed line
-  pub count : column ≡ 1 + length line
+abbrev pub has_bytes : List ℕ → Bool
+has_bytes [] = false
+has_bytes (byte ∷ bytes) = true
+
+-- the words of a line: its parts between blanks that have a byte
+abbrev pub words : List ℕ → List (List ℕ)
+words line = filter has_bytes (slice_split is_blank line)
+
+abbrev pub is_space : ℕ → Bool
+is_space byte = byte == 32
+
+-- the fields of a line: its parts between single spaces, so that two spaces in a row have an empty field between them
+abbrev pub fields : List ℕ → List (List ℕ)
+fields line = slice_split is_space line

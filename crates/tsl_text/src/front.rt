@@ -3,8 +3,8 @@
 ghost use Rattle.std.specs.Prelude.{◌≡◌, ◌≤◌, length, drop, IfSome, IfNone};
 ghost use Rattle.std.specs.Char.{is_ascii_digit};
 ghost use Rattle.std.specs.List.{prefix_len};
-ghost use Rattle.tsl_text.specs.Front.{symbol_of, opens, closes, after_comment, piece_of};
-ghost use Rattle.tsl_text.specs.Lexeme.{is_name_start, is_name_byte};
+ghost use Rattle.tsl_text.specs.internal.Front.{symbol_of, opens, closes, after_comment, piece_of};
+ghost use Rattle.tsl_text.specs.Names.{is_name_start, is_name_byte};
 ghost use Rattle.tsl_text.specs.Lines.{is_line_byte};
 
 use crate::TokenKind;

@@ -1,7 +1,7 @@
 //! Lines and places of a text.
 
 ghost use Rattle.std.specs.Prelude.{◌≡◌, ℕ, ◌+◌, ◌-◌, ◌<◌, ◌≤◌, ◌==◌, ◌^◌, length, take, count_by, IfSome, IfNone};
-ghost use Rattle.tsl_text.specs.Lines.{IsLineAt, IsColumn};
+ghost use Rattle.tsl_text.specs.Places.{IsBetweenFeeds, IsColumn};
 
 use crate::front::line_len;
 
@@ -38,9 +38,9 @@ pub fn place_of(text: &[u8], offset: u32) -> Place
 /// feed, and ends at a line feed or at the end. `None` where no line equals it. It takes no memory.
 pub fn line_at(text: &[u8], line: &[u8]) -> Option<u32>
     requires { length text.now < 2 ^ 32 - 1 }
-    ensures found { IfSome result (IsLineAt text.now line.now) }
-    ensures first { IfSome result (λ at. (other : ℕ) → IsLineAt text.now line.now other → at ≤ other) }
-    ensures none { IfNone result ((at : ℕ) → IsLineAt text.now line.now at → ⊥) }
+    ensures found { IfSome result (IsBetweenFeeds text.now line.now) }
+    ensures first { IfSome result (λ at. (other : ℕ) → IsBetweenFeeds text.now line.now other → at ≤ other) }
+    ensures none { IfNone result ((at : ℕ) → IsBetweenFeeds text.now line.now at → ⊥) }
 {
     let mut start = 0;
     while start <= text.len() {

@@ -1,7 +1,7 @@
 -- Which replies of `recheck` say yes and which say no.
 use Rattle.std.proofs.Common.{◌≡◌, ℕ, List, refl, ap, sym, ◌∙◌, subst, ◌↔◌}
 use Rattle.std.specs.Prelude.{◌+◌, ◌≤◌, take, drop, Option, Some, None, Result, Ok, Err, IfOk, codes}
-use Rattle.tsl_text.specs.Lines.{IsLineAt}
+use Rattle.tsl_text.specs.Places.{IsBetweenFeeds}
 use Rattle.clause_core.specs.Literals.{Lit}
 use Rattle.clause_core.specs.Clauses.{AreUnsatisfiable}
 use Rattle.refutation_check.specs.declared.steps.Step.{Step}
@@ -87,8 +87,8 @@ refutations (Ok reply) cnf log variables clauses spelled is unsatisfiable =
 refutations (Err e) cnf log variables clauses spelled is unsatisfiable = tt
 
 -- so are the parts of the bytes
-pub refuted_parts : {E : Type 0} (r : Result Reply E) (bytes log : List ℕ) (at : ℕ) → IsLineAt bytes head_line at →
-    ((other : ℕ) → IsLineAt bytes head_line other → at ≤ other) → log ≡ drop (at + 5) bytes →
+pub refuted_parts : {E : Type 0} (r : Result Reply E) (bytes log : List ℕ) (at : ℕ) → IsBetweenFeeds bytes head_line at →
+    ((other : ℕ) → IsBetweenFeeds bytes head_line other → at ≤ other) → log ≡ drop (at + 5) bytes →
     IfOk r (λ reply. reply.status ≡ Done → IsRefutation (take at bytes) log) → IfOk r (λ reply. reply.status ≡ Done → OfParts bytes IsRefutation)
 refuted_parts (Ok reply) bytes log at line first behind h = λ done.
     (at, record { is_line = line; first = first }, subst (IsRefutation (take at bytes)) behind (h done))

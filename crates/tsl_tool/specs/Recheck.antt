@@ -1,6 +1,6 @@
 -- What the command `recheck` replies.
 use Rattle.std.specs.Prelude.{◌≡◌, ℕ, ◌+◌, ◌≤◌, ◌⊎◌, List, ◌++◌, take, drop, codes, decimal, Option, Some, None}
-use Rattle.tsl_text.specs.Lines.{IsLineAt}
+use Rattle.tsl_text.specs.Places.{IsBetweenFeeds}
 use Rattle.clause_core.specs.Literals.{Lit}
 use Rattle.clause_core.specs.Clauses.{AreUnsatisfiable}
 use Rattle.refutation_check.specs.declared.steps.Step.{Step}
@@ -20,12 +20,12 @@ head_line = codes "lrat"
 
 -- the first line of the text that equals this one begins at this offset
 pub record IsFirstLineAt (text line : List ℕ) (at : ℕ) : Type 0 where
-  pub is_line : IsLineAt text line at
-  pub first : (other : ℕ) → IsLineAt text line other → at ≤ other
+  pub is_line : IsBetweenFeeds text line at
+  pub first : (other : ℕ) → IsBetweenFeeds text line other → at ≤ other
 
 -- no line of the text equals this one
 abbrev pub HasNoLine : List ℕ → List ℕ → Type 0
-HasNoLine text line = (at : ℕ) → IsLineAt text line at → ⊥
+HasNoLine text line = (at : ℕ) → IsBetweenFeeds text line at → ⊥
 
 -- All before the line `lrat` that begins at this offset, and all behind that line.
 abbrev pub cnf_part : List ℕ → ℕ → List ℕ

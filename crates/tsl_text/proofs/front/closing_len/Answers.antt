@@ -1,6 +1,6 @@
 use Rattle.std.proofs.Common.{◌≡◌, ◌+◌, ◌-◌, false, cond, eqb, drop, Some, sym, ◌∙◌, ap, arith, length-drop}
 use Rattle.std.proofs.lemmas.Bool.{ne_eqb}
-use Rattle.tsl_text.specs.Front.{after_comment}
+use Rattle.tsl_text.specs.internal.Front.{after_comment}
 use Rattle.tsl_text.proofs.Comments.{step_close, step_open, step_other, after_comment-short}
 use Rattle.tsl_text.proofs.front.closing_len.Goals as goal
 

@@ -1,5 +1,5 @@
 use Rattle.std.proofs.Common.{◌≡◌, ◌≤◌, ◌-◌, length, drop}
-use Rattle.tsl_text.specs.Front.{after_comment}
+use Rattle.tsl_text.specs.internal.Front.{after_comment}
 use Rattle.tsl_text.proofs.front.closing_len.Given as goal
 
 -- what is left to find is what was to be found at first, and each open comment took two bytes

@@ -1,6 +1,6 @@
 use Rattle.std.proofs.Common.{◌+◌, take, sym, ap, ◌∙◌, subst, arith}
 use Rattle.std.proofs.lemmas.Bool.{false≢true}
-use Rattle.tsl_text.specs.Lines.{IsLineStart}
+use Rattle.tsl_text.specs.Places.{IsLineStart}
 use Rattle.tsl_text.proofs.LineLemmas.{compared, line_here, next_begins, later_line, line_within, fits}
 use Rattle.tsl_text.proofs.lines.line_at.Goals as goal
 

@@ -1,6 +1,6 @@
 use Rattle.std.proofs.Common.{◌≡◌, ◌+◌, ◌≤◌, take, eqb}
 use Rattle.std.specs.List.{count_by}
-use Rattle.tsl_text.specs.Lines.{IsColumn}
+use Rattle.tsl_text.specs.Places.{IsColumn}
 use Rattle.tsl_text.proofs.lines.place_of.Given as goal
 
 -- the place behind the bytes so far

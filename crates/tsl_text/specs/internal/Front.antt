@@ -1,4 +1,4 @@
--- What stands at the front of a text, as functions that compute it.
+-- Internal: what stands at the front of a text, as functions that compute it.
 use Rattle.std.specs.Prelude.{ℕ, ◌+◌, ◌-◌, ◌==◌, ◌&&◌, Bool, false, List, [], ◌∷◌, length, if◌then◌else◌, Option, Some, None}
 use Rattle.std.specs.Char.{is_ascii_digit}
 use Rattle.std.specs.List.{prefix_len}
@@ -6,9 +6,8 @@ use Rattle.tsl_text.specs.declared.TokenKind.{TokenKind}
 use Rattle.tsl_text.specs.declared.TokenKind.TheVariants.{Name, Number, OpenBrace, CloseBrace, OpenRound, CloseRound, OpenSquare, CloseSquare, Semicolon, Not, And, Or, Arrow, BothArrow, LeftArrow, Question}
 use Rattle.tsl_text.specs.declared.front.Piece.{Piece}
 use Rattle.tsl_text.specs.declared.front.Piece.TheVariants.{Gap, Longest, OpenComment, Nothing}
-use Rattle.tsl_text.specs.Lexeme.{is_name_start, is_name_byte}
-use Rattle.tsl_text.specs.Division.{is_blank}
-use Rattle.tsl_text.specs.Lines.{is_line_byte}
+use Rattle.tsl_text.specs.Names.{is_name_start, is_name_byte}
+use Rattle.tsl_text.specs.Lines.{is_blank, is_line_byte}
 
 abbrev pub begins_with : ℕ → List ℕ → Bool
 begins_with byte [] = false
@@ -50,7 +49,7 @@ opens first second = (first == 47) && (second == 42)
 abbrev pub closes : ℕ → ℕ → Bool
 closes first second = (first == 42) && (second == 47)
 
--- what is left behind the `*/` of a comment, within which so many others are open
+-- what is left after the `*/` of a comment, within which so many others are open
 abbrev pub after_comment : ℕ → List ℕ → Option (List ℕ)
 after_comment depth [] = None
 after_comment depth (byte ∷ []) = None
@@ -59,7 +58,7 @@ after_comment depth (first ∷ second ∷ rest) =
     else (if opens first second then after_comment (depth + 1) rest
     else after_comment depth (second ∷ rest))
 
--- a comment whose text behind its `/*` is this, and what is left behind it
+-- a comment whose text after its `/*` is this, and what is left after it
 abbrev pub gap_before : List ℕ → Option (List ℕ) → Piece
 gap_before text None = OpenComment
 gap_before text (Some after) = Gap (2 + (length text - length after))
