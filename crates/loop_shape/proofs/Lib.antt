@@ -1,0 +1,4 @@
+pub mod Steps
+pub mod Untils
+pub mod Words
+mod Examples

@@ -1,0 +1,2 @@
+pub mod LoopShape
+pub mod AlongLoop
