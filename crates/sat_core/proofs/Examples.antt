@@ -1,9 +1,9 @@
 -- Small cases of the definitions, accepted and refused.
-use Rattle.std.proofs.Common.{◌≡◌, ℕ, zero, suc, ◌+◌, ◌^◌, ◌<◌, inl, inr, Bool, true, false, List, [], ◌∷◌, length, Some, None, slice_get, pos, negsuc, refl, sym, ap, arith, lit<}
+use Rattle.std.proofs.Common.{◌≡◌, ℕ, zero, suc, ◌+◌, ◌^◌, ◌<◌, ◌≤◌, inl, inr, Bool, true, false, List, [], ◌∷◌, length, Some, None, slice_get, pos, negsuc, refl, sym, ap, arith, lit<}
 use Rattle.std.specs.Prelude.{nat_lt, map}
 use Rattle.std.proofs.lemmas.Bool.{false≢true, or_cases, or_left}
 use Rattle.std.proofs.lemmas.Option.{none-some, same_Some}
-use Rattle.std.proofs.lemmas.List.Elements.{All-from_recursion}
+use Rattle.std.proofs.lemmas.List.Elements.{All-from_recursion, recursion_from_All}
 use Rattle.clause_core.specs.Literals.{Lit, literal_of, negation, same, has}
 use Rattle.clause_core.specs.Propagation.{IsQuiet, IsLearnt, IsNotFound, IsTrace, HasReversePropagation}
 use Rattle.clause_core.specs.Propagation.Reaches.{done, turn}
@@ -14,6 +14,7 @@ use Rattle.sat_trail.specs.declared.entries.Look.TheVariants.{Neither}
 use Rattle.sat_trail.specs.Entries.{entry_of, look_of}
 use Rattle.sat_trail.proofs.Steps.{quiet_from}
 use Rattle.refutation_check.specs.declared.steps.Step.{Step}
+use Rattle.sat_core.proofs.Numbering.{is_numbered}
 use Rattle.sat_core.specs.Lessons.{step_of}
 use Rattle.sat_core.specs.declared.marks.Marks.{Marks}
 use Rattle.sat_core.specs.Walks.{is_marked, count_at, is_of_clause, AreMarks, replacement_of}
@@ -54,7 +55,22 @@ abbrev log : List Step
 log = step_of 5 (a ∷ []) (1 ∷ 2 ∷ []) ∷ step_of 6 [] (5 ∷ 3 ∷ 4 ∷ []) ∷ []
 
 refuting : AreRefuting 2 square log
-refuting = record { accepted = refl; few_hints = All-from_recursion (λ (s : Step). length s.hints + 1 < 2 ^ 32) log (lit< tt, (lit< tt, tt)) }
+refuting = record {
+  accepted = refl;
+  few_hints = All-from_recursion (λ (s : Step). length s.hints + 1 < 2 ^ 32) log (lit< tt, (lit< tt, tt));
+  numbered = (
+    is_numbered (step_of 5 (a ∷ []) (1 ∷ 2 ∷ [])) 4 refl (All-from_recursion (λ hint. (1 ≤ hint) × (hint ≤ 4)) (1 ∷ 2 ∷ []) ((omega arith, omega arith), ((omega arith, omega arith), tt))),
+    (is_numbered (step_of 6 [] (5 ∷ 3 ∷ 4 ∷ [])) 5 refl (All-from_recursion (λ hint. (1 ≤ hint) × (hint ≤ 5)) (5 ∷ 3 ∷ 4 ∷ []) ((omega arith, omega arith), ((omega arith, omega arith), ((omega arith, omega arith), tt)))), tt),
+  );
+}
+
+-- a hint after the one that ends them names a clause too
+hint_zero : AreRefuting 2 square (step_of 5 (a ∷ []) (1 ∷ 2 ∷ 0 ∷ []) ∷ step_of 6 [] (5 ∷ 3 ∷ 4 ∷ []) ∷ []) → ⊥
+hint_zero h = let n = (recursion_from_All (λ hint. (1 ≤ hint) × (hint < 5)) (1 ∷ 2 ∷ 0 ∷ []) h.numbered.0.hints_earlier).1.1.0.0 in omega arith
+
+-- the numbers of steps follow one another
+number_left_out : AreRefuting 2 square (step_of 5 (a ∷ []) (1 ∷ 2 ∷ []) ∷ step_of 7 [] (5 ∷ 3 ∷ 4 ∷ []) ∷ []) → ⊥
+number_left_out h = let n = h.numbered.1.0.number_is in omega arith
 
 -- the last step without the clause in conflict
 no_conflict : AreRefuting 2 square (step_of 5 (a ∷ []) (1 ∷ 2 ∷ []) ∷ step_of 6 [] (5 ∷ 3 ∷ []) ∷ []) → ⊥

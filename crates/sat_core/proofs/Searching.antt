@@ -24,6 +24,7 @@ use Rattle.refutation_check.specs.Checking.{Numbered, numbered_from, clause_name
 use Rattle.refutation_check.specs.Checking.Effect.{makes, shows_nothing}
 use Rattle.refutation_check.specs.Checking.Refusal.{at_line, at_hint, unfinished}
 use Rattle.sat_core.specs.Levels.{IsSetAt, AreQuietBelow}
+use Rattle.sat_core.specs.Numbering.{AreHints, AreNumbered}
 use Rattle.sat_core.specs.Lessons.{IsAsserting, IsLesson, step_of, clauses_of, HasLearnt, IsRefuted}
 use Rattle.sat_core.specs.declared.choices.Decisions.{Decisions}
 use Rattle.sat_core.specs.Choices.{AreSet, AreDecisions, AreTruths}
@@ -31,6 +32,7 @@ use Rattle.sat_core.specs.declared.answers.Answer.{Answer}
 use Rattle.sat_core.specs.declared.answers.Answer.TheVariants.{Sat, Unsat, Spent}
 use Rattle.sat_core.specs.Answers.{AreSatisfying, AreRefuting, IsWholeTrace, IsAnswer, IsEnd}
 use Rattle.sat_core.proofs.Hints.{has-map-negation, has_not_false, has_one}
+use Rattle.sat_core.proofs.Numbering.{is_numbered, numbered_more}
 use Rattle.sat_core.proofs.Walking.{up_to_has, up_to_from}
 use Rattle.sat_core.proofs.Counting.{trace_is_short, filter-has}
 
@@ -42,6 +44,7 @@ pub record IsSearch (variables : ℕ) (clauses : List (List Lit)) (t : TrailStat
   pub stands : t.clauses ≡ clauses ++ clauses_of steps
   pub logged : (later : List Step) → steps_refusal variables (length t.clauses) (numbered_from 1 t.clauses) later ≡ None → steps_refusal variables (length clauses) (numbered_from 1 clauses) (steps ++ later) ≡ None
   pub few_hints : HaveFewHints steps
+  pub numbered : AreNumbered (length clauses + 1) steps
   pub traced : (later : List (List Lit)) → IsTrace variables t.clauses later → IsTrace variables clauses (clauses_of steps ++ later)
   pub increasing : AllByRecursion IsIncreasing (clauses_of steps)
   pub quiet : AreQuietBelow t t.level
@@ -56,6 +59,7 @@ search_begins variables clauses t is sound = subst (λ (s : TrailState). IsSearc
   stands = sym (append-nil clauses);
   logged = λ later h. h;
   few_hints = All-nil (λ (step : Step). length step.hints + 1 < 2 ^ 32);
+  numbered = tt;
   traced = λ later h. h;
   increasing = tt;
   quiet = λ level below. absurd (omega arith);
@@ -76,6 +80,7 @@ search_propagated variables clauses t u steps search grows sound = subst (λ (s 
   stands = search.stands;
   logged = search.logged;
   few_hints = search.few_hints;
+  numbered = search.numbered;
   traced = search.traced;
   increasing = search.increasing;
   quiet = λ level below. subst (λ (es : List Entry). IsQuiet t.clauses (literals_of es)) (sym (up_to_added t.level level t.entries grows.added (recursion_from_All (λ (e : Entry). (e.level ≡ t.level) × IsSome e.reason) grows.added grows.forced) below)) (search.quiet level below);
@@ -91,6 +96,7 @@ search_decided variables clauses t u steps l search quiet is sound = subst (λ (
   stands = search.stands;
   logged = search.logged;
   few_hints = search.few_hints;
+  numbered = search.numbered;
   traced = search.traced;
   increasing = search.increasing;
   quiet = λ level below. subst (λ (es : List Entry). IsQuiet t.clauses (literals_of es)) (sym (up_to-push level t.entries (entry_of l (t.level + 1) None) below)) (at_level level below);
@@ -283,6 +289,11 @@ up_to-up_to low high (e ∷ es) h = by_tests (leb e.level high) refl (up_to-up_t
 pub clauses_of_push : (steps : List Step) (s : Step) → clauses_of (steps ++ s ∷ []) ≡ clauses_of steps ++ s.clause ∷ []
 clauses_of_push steps s = map-append (λ (step : Step). step.clause) steps (s ∷ [])
 
+-- the steps with one more, whose number is the next
+search_numbered : (variables : ℕ) (clauses : List (List Lit)) (t : TrailState) (steps : List Step) → IsSearch variables clauses t steps → (step : Step) → step.number ≡ length t.clauses + 1 → AreHints (length t.clauses) step.hints → AreNumbered (length clauses + 1) (steps ++ step ∷ [])
+search_numbered variables clauses t steps search step is hints =
+    numbered_more (length clauses + 1) steps step (length t.clauses + 1) (omega (arith, ap length search.stands, length-append clauses (clauses_of steps), length-map steps (λ (s : Step). s.clause))) search.numbered (is_numbered step (length t.clauses) is hints)
+
 pub search_learnt : (variables : ℕ) (clauses : List (List Lit)) (t u : TrailState) (steps more : List Step) → IsSearch variables clauses t steps → HasLearnt t steps u more → IsSound u → 0 < t.level → IsSearch variables clauses u more
 search_learnt variables clauses t u steps more search learnt sound above = subst (λ (s : TrailState). IsSearch variables clauses s more) (sym learnt.trail_is) (subst (λ (ss : List Step). IsSearch variables clauses (with_clause (undone t back) clause) ss) (sym learnt.steps_are) (record {
   usable = search.usable;
@@ -291,6 +302,7 @@ search_learnt variables clauses t u steps more search learnt sound above = subst
   stands = ap (λ (cs : List (List Lit)). cs ++ clause ∷ []) search.stands ∙ (append_assoc clauses (clauses_of steps) (clause ∷ []) ∙ ap (λ (cs : List (List Lit)). clauses ++ cs) (sym (clauses_of_push steps step)));
   logged = λ later h. ap (λ (ss : List Step). steps_refusal variables (length clauses) (numbered_from 1 clauses) ss) (append_assoc steps (step ∷ []) later) ∙ search.logged (step ∷ later) (follows later h);
   few_hints = All-push (λ (s : Step). length s.hints + 1 < 2 ^ 32) steps step search.few_hints learnt.lesson.few_hints;
+  numbered = search_numbered variables clauses t steps search step refl learnt.lesson.named;
   traced = λ later h. subst (λ (cs : List (List Lit)). IsTrace variables clauses cs) (sym (ap (λ (cs : List (List Lit)). cs ++ later) (clauses_of_push steps step) ∙ append_assoc (clauses_of steps) (clause ∷ []) later)) (search.traced (clause ∷ later) (subst (λ (v : ℕ). IsLearnt v t.clauses clause) search.same_variables (lesson_learnt t search.sound clause hints back learnt.lesson search.quiet above), h));
   increasing = subst (AllByRecursion IsIncreasing) (sym (clauses_of_push steps step)) (all_push (clauses_of steps) search.increasing);
   quiet = λ level below. subst (λ (es : List Entry). IsQuiet (t.clauses ++ clause ∷ []) (literals_of es)) (sym (up_to-up_to level back t.entries (omega arith))) (lesson_quiet t search.sound clause hints back learnt.lesson search.quiet above level (omega arith));
@@ -324,6 +336,7 @@ pub search_refuted : (variables : ℕ) (clauses : List (List Lit)) (t : TrailSta
 search_refuted variables clauses t steps log search refuted = subst (AreRefuting variables clauses) (sym refuted.steps_are) (record {
   accepted = ap (λ (o : Option Refusal). first_of o (end_refusal (steps ++ last ∷ []))) (search.logged (last ∷ []) accepted) ∙ ended steps;
   few_hints = All-push (λ (s : Step). length s.hints + 1 < 2 ^ 32) steps last search.few_hints refuted.few_hints;
+  numbered = search_numbered variables clauses t steps search last refl refuted.named;
 })
   where
     last : Step
@@ -398,7 +411,7 @@ search_satisfied variables clauses t steps truths search over quiet all read = r
 pub search_ended : (variables : ℕ) (clauses : List (List Lit)) (t : TrailState) (steps : List Step) (budget : ℕ) → IsSearch variables clauses t steps → length steps ≡ budget → (answer : Answer) → IsEnd t.clauses steps answer → IsAnswer variables clauses budget answer
 search_ended variables clauses t steps budget search spent (Sat assignment) end' = absurd end'
 search_ended variables clauses t steps budget search spent (Unsat log) end' = search_refuted variables clauses t steps log search end'
-search_ended variables clauses t steps budget search spent (Spent trace) end' = search_spent variables clauses t steps budget trace.items search spent end'.0 end'.1
+search_ended variables clauses t steps budget search spent (Spent trace) end' = search_spent variables clauses t steps budget trace search spent end'.0 end'.1
 
 -- ---- the measure
 

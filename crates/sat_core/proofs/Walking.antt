@@ -5,8 +5,9 @@ use Rattle.std.specs.List.{list_any}
 use Rattle.std.specs.Ordering.{nat_cmp}
 use Rattle.std.specs.Prelude.{nat_lt, reverse, Result, Ok, Err, OnOk}
 use Rattle.std.proofs.lemmas.Bool.{true≢false, false≢true, or_cases, or_left, or_right, cases_lt, le-leb, leb-true}
-use Rattle.std.proofs.lemmas.Option.{none-some, same_Some}
+use Rattle.std.proofs.lemmas.Option.{none-some, same_Some, slice_get_within}
 use Rattle.std.proofs.lemmas.List.{reverse-append, length-reverse, length_push}
+use Rattle.std.proofs.lemmas.List.Elements.{All-nil}
 use Rattle.clause_core.specs.Literals.{Lit, negation, same, has}
 use Rattle.clause_core.specs.Clauses.{in_order}
 use Rattle.clause_core.specs.Propagation.{not_false}
@@ -19,10 +20,12 @@ use Rattle.sat_trail.proofs.Soundness.{apart_from, length_entries}
 use Rattle.sat_trail.proofs.Steps.{contains_at}
 use Rattle.sat_core.specs.declared.walks.Walk.{Walk}
 use Rattle.sat_core.specs.Levels.{IsSetAt, AreQuietBelow}
+use Rattle.sat_core.specs.Numbering.{AreHints}
 use Rattle.sat_core.specs.Lessons.{IsLesson, IsAsserting}
 use Rattle.sat_core.specs.Walks.{is_marked, is_of_clause, AreMarks, replacement_of, Shows, IsLate, IsWalk}
 use Rattle.sat_core.proofs.Marking.{count_has, count_some, same_at, at_is, without, without_other}
 use Rattle.sat_core.proofs.Hints.{false_by, opposites_differ, has-map-negation, shows_start, shows_kept, shows_replaced, has_without}
+use Rattle.sat_core.proofs.Numbering.{hints_push, hints_reversed}
 use Rattle.sat_core.proofs.Stages.{forced_by, entry_low, replaced_is, stage_kept, stage_replaced, ahead_cleared, ahead_replaced}
 
 -- ---- levels of the trail
@@ -91,6 +94,7 @@ walk_begins t sound conflict false_at quiet w marks marked kept hints back = rec
   ahead = marks.within;
   fresh = λ k e at below. ap (λ (ls : List Lit). has ls (negation e.literal)) kept;
   few = omega (arith, ap length hints);
+  named = subst (AreHints (length t.clauses)) (sym hints) (hints_push (length t.clauses) [] conflict (All-nil (λ hint. (1 ≤ hint) × (hint ≤ length t.clauses))) (slice_get_within t.clauses conflict false_at.clause false_at.named));
   shows = subst (λ (ls : List Lit). Shows t (length t.entries) (is_marked w.marks) ls (reverse w.hints.items)) (sym kept) (subst (λ (hs : List ℕ). Shows t (length t.entries) (is_marked w.marks) [] (reverse hs)) (sym hints) (shows_start t apart false_at.clause conflict (length t.entries) (is_marked w.marks) false_at.named false_at.is_false marked));
   stage = inl (record { empty = kept; low = back; waits = waits });
 }
@@ -115,6 +119,7 @@ walk_kept t sound q e at w v walk marked after cleared kept hints back stays = r
   ahead = λ k h. ahead_cleared t sound q e at (is_marked w.marks) marked walk.ahead k (sym (cleared k) ∙ h);
   fresh = λ k d at_k below. ap (λ (ls : List Lit). has ls (negation d.literal)) kept ∙ has_without w.kept.items (negation e.literal) (negation d.literal) (opposites_differ t.entries apart q k e d at at_k (λ i. omega arith)) (walk.fresh k d at_k (omega arith));
   few = (let f = walk.few in omega (arith, ap length hints));
+  named = subst (AreHints (length t.clauses)) (sym hints) walk.named;
   shows = subst (λ (ls : List Lit). Shows t q (is_marked v.marks) ls (reverse v.hints.items)) (sym kept) (subst (λ (hs : List ℕ). Shows t q (is_marked v.marks) (w.kept.items ++ negation e.literal ∷ []) (reverse hs)) (sym hints) (shows_kept t apart q e (is_marked w.marks) (is_marked v.marks) w.kept.items (reverse w.hints.items) at (λ k n m. cleared k ∙ (without_other (is_marked w.marks) q k n ∙ m)) walk.shows));
   stage = inr (stage_kept t sound q e at w v walk.marks marked walk.ahead after cleared kept back stays walk.stage);
 }
@@ -137,6 +142,7 @@ walk_replaced t sound q e at reason w v walk marked after cleared kept hints bac
       ahead = λ k h. ahead_replaced t sound q e at (is_marked w.marks) marked walk.ahead reason forced k (sym (clear k) ∙ h);
       fresh = λ k d at_k below. ap (λ (ls : List Lit). has ls (negation d.literal)) kept ∙ walk.fresh k d at_k (omega arith);
       few = (let f = walk.few in omega (arith, ap length hints, length_push w.hints.items (reason + 1)));
+      named = subst (AreHints (length t.clauses)) (sym hints) (hints_push (length t.clauses) w.hints.items reason walk.named (slice_get_within t.clauses reason forced.clause forced.named));
       shows = subst (λ (ls : List Lit). Shows t q (is_marked v.marks) ls (reverse v.hints.items)) (sym kept) (subst (λ (hs : List ℕ). Shows t q (is_marked v.marks) w.kept.items hs) (sym turned) shown);
       stage = stage_replaced t sound q e at w v walk.marks marked walk.ahead after reason forced clear kept back why walk.stage;
     }
@@ -174,6 +180,7 @@ walk_ends t sound place w walk done = record {
     passed = λ k e at below. has-map-negation (in_order w.kept.items) e.literal ∙ has-in_order w.kept.items (negation e.literal);
   }) 1;
   few_hints = (let f = walk.few in omega (arith, length-reverse w.hints.items, length_entries t.variables t.clauses t.entries sound.stand, sound.few_variables));
+  named = hints_reversed (length t.clauses) w.hints.items walk.named;
   empty_at_start = λ start. elim walk.stage [
     | inl early ↦ ap in_order early.empty
     | inr late ↦ absurd (omega (arith, late.below))

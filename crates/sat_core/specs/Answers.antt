@@ -1,5 +1,5 @@
 -- What an answer of the solver says.
-use Rattle.std.specs.Prelude.{◌≡◌, ℕ, ◌<◌, ◌^◌, Bool, true, List, [], length, None}
+use Rattle.std.specs.Prelude.{◌≡◌, ℕ, ◌+◌, ◌<◌, ◌^◌, Bool, true, List, [], length, None}
 use Rattle.clause_core.specs.Literals.{Lit}
 use Rattle.clause_core.specs.Clauses.{assignment_of, meets_all}
 use Rattle.clause_core.specs.Propagation.{IsTrace, ReachesFalse}
@@ -7,6 +7,7 @@ use Rattle.refutation_check.specs.declared.steps.Step.{Step}
 use Rattle.refutation_check.specs.Checking.{log_refusal, HaveFewHints}
 use Rattle.sat_core.specs.declared.answers.Answer.{Answer}
 use Rattle.sat_core.specs.declared.answers.Answer.TheVariants.{Sat, Unsat, Spent}
+use Rattle.sat_core.specs.Numbering.{AreNumbered}
 use Rattle.sat_core.specs.Lessons.{clauses_of, IsRefuted}
 
 -- one truth for each variable, and with these each clause is met
@@ -14,10 +15,12 @@ pub record AreSatisfying (variables : ℕ) (clauses : List (List Lit)) (truths :
   pub one_each : length truths ≡ variables
   pub all_met : meets_all (assignment_of truths) clauses ≡ true
 
--- the steps are accepted as the log of a refutation
+-- The steps are accepted as the log of a refutation. Their numbers are those after the clauses, one after another, and
+-- each hint is at least 1 and below its step's number.
 pub record AreRefuting (variables : ℕ) (clauses : List (List Lit)) (steps : List Step) : Type 0 where
   pub accepted : log_refusal variables clauses steps ≡ None
   pub few_hints : HaveFewHints steps
+  pub numbered : AreNumbered (length clauses + 1) steps
 
 -- So many clauses were learnt, which are a trace. That many there can be only below 3 to the number of variables,
 -- for each variable that stands in a clause stands there with one sign, and no clause is learnt twice.
@@ -30,10 +33,10 @@ pub record IsWholeTrace (variables : ℕ) (clauses : List (List Lit)) (budget : 
 abbrev pub IsAnswer : ℕ → List (List Lit) → ℕ → Answer → Type 0
 IsAnswer variables clauses budget (Sat assignment) = AreSatisfying variables clauses assignment.truths
 IsAnswer variables clauses budget (Unsat log) = AreRefuting variables clauses log.steps
-IsAnswer variables clauses budget (Spent trace) = IsWholeTrace variables clauses budget trace.items
+IsAnswer variables clauses budget (Spent trace) = IsWholeTrace variables clauses budget trace
 
 -- how the search ends where no more may be learnt, behind the clauses of a trail
 abbrev pub IsEnd : List (List Lit) → List Step → Answer → Type 0
 IsEnd clauses steps (Sat assignment) = ⊥
 IsEnd clauses steps (Unsat log) = IsRefuted clauses steps log
-IsEnd clauses steps (Spent trace) = (trace.items ≡ clauses_of steps) × (ReachesFalse clauses [] → ⊥)
+IsEnd clauses steps (Spent trace) = (trace ≡ clauses_of steps) × (ReachesFalse clauses [] → ⊥)

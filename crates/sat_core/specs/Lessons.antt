@@ -9,6 +9,7 @@ use Rattle.refutation_check.specs.declared.steps.Step.{Step}
 use Rattle.refutation_check.specs.declared.steps.Log.{Log}
 use Rattle.refutation_check.specs.Checking.{numbered_from, refused_hint}
 use Rattle.sat_core.specs.Levels.{IsSetAt}
+use Rattle.sat_core.specs.Numbering.{AreHints}
 
 -- One literal of the clause is false at the present level. The others are false at lower levels, the largest of
 -- which is the level to go back to; that is 0 where there are no others.
@@ -26,6 +27,7 @@ pub record IsLesson (t : TrailState) (clause : List Lit) (hints : List ℕ) (bac
   pub is_false : (l : Lit) → has clause l ≡ true → has (literals_of t.entries) (negation l) ≡ true
   pub shown : refused_hint (numbered_from 1 t.clauses) (map negation clause) 1 hints ≡ None
   pub few_hints : length hints + 1 < 2 ^ 32
+  pub named : AreHints (length t.clauses) hints
   pub empty_at_start : t.level ≡ 0 → clause ≡ []
   pub asserting : 0 < t.level → IsAsserting t clause back
 
@@ -51,4 +53,5 @@ pub record IsRefuted (clauses : List (List Lit)) (steps : List Step) (log : Log)
   pub hints : List ℕ
   pub shown : refused_hint (numbered_from 1 clauses) [] 1 hints ≡ None
   pub few_hints : length hints + 1 < 2 ^ 32
+  pub named : AreHints (length clauses) hints
   pub steps_are : log.steps ≡ steps ++ step_of (length clauses + 1) [] hints ∷ []

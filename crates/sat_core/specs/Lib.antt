@@ -1,4 +1,5 @@
 pub mod Levels
+pub mod Numbering
 pub mod Lessons
 pub mod Walks
 pub mod Choices

@@ -12,6 +12,7 @@ use Rattle.refutation_check.specs.Checking.{numbered_from, refused_hint}
 use Rattle.sat_core.specs.declared.marks.Marks.{Marks}
 use Rattle.sat_core.specs.declared.walks.Walk.{Walk}
 use Rattle.sat_core.specs.Levels.{IsSetAt}
+use Rattle.sat_core.specs.Numbering.{AreHints}
 
 -- whether the entry at a place is marked
 abbrev pub is_marked : Marks → ℕ → Bool
@@ -88,5 +89,6 @@ pub record IsWalk (t : TrailState) (place : ℕ) (w : Walk) : Type 0 where
   pub ahead : (k : ℕ) → is_marked w.marks k ≡ true → k < place
   pub fresh : (k : ℕ) (e : Entry) → slice_get t.entries k ≡ Some e → k < place → has w.kept.items (negation e.literal) ≡ false
   pub few : length w.hints.items + place ≤ length t.entries + 1
+  pub named : AreHints (length t.clauses) w.hints.items
   pub shows : Shows t place (is_marked w.marks) w.kept.items (reverse w.hints.items)
   pub stage : IsEarly t w ⊎ IsLate t w

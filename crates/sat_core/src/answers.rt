@@ -2,6 +2,7 @@
 
 use clause_core::{Assignment, Clause};
 use refutation_check::Log;
+use sequence::Sequence;
 
 /// What a search came to.
 #[derive(Debug, Drop)]
@@ -11,5 +12,5 @@ pub enum Answer {
     /// This log refutes the clauses.
     Unsat(Log),
     /// As many clauses as allowed were learnt, and these are they, in order: a trace.
-    Spent(Vec<Clause>),
+    Spent(Sequence<Clause>),
 }

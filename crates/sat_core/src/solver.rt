@@ -11,7 +11,7 @@ use crate::lessons::{learn, refute};
 use clause_core::{Clause, Cnf};
 use refutation_check::Step;
 use sat_trail::Trail;
-use sequence::NoMemory;
+use sequence::{NoMemory, Sequence};
 use std::alloc::Global;
 
 /// Whether some assignment meets all clauses, where so many clauses may be learnt, the empty one not
@@ -66,12 +66,12 @@ fn end(alloc: Global, mut trail: Trail, steps: Vec<Step>, number: u64) -> Result
 }
 
 /// The clauses of the steps. An `Err` says that memory ran out.
-fn learnt_clauses(alloc: Global, steps: Vec<Step>) -> Result<Vec<Clause>, NoMemory>
-    ensures { IfOk result (λ clauses. clauses.items ≡ clauses_of steps.items) }
+fn learnt_clauses(alloc: Global, steps: Vec<Step>) -> Result<Sequence<Clause>, NoMemory>
+    ensures { IfOk result (λ clauses. clauses ≡ clauses_of steps.items) }
 {
     let mut clauses = Vec::with_capacity(alloc, steps.len())?;
     for step in steps {
         clauses.push(step.clause)?;
     }
-    Ok(clauses)
+    Ok(Sequence::from_vec(clauses))
 }

@@ -1,0 +1,36 @@
+-- The numbers of steps and hints.
+use Rattle.std.proofs.Common.{◌≡◌, ℕ, zero, suc, ◌+◌, ◌<◌, ◌≤◌, List, [], ◌∷◌, ◌++◌, length, sym, subst, arith, All}
+use Rattle.std.specs.Prelude.{reverse}
+use Rattle.std.specs.List.{AllByRecursion}
+use Rattle.std.proofs.lemmas.List.{reverse-append}
+use Rattle.std.proofs.lemmas.List.Elements.{All-push, All-nil, All-from_recursion, recursion_from_All}
+use Rattle.refutation_check.specs.declared.steps.Step.{Step}
+use Rattle.sat_core.specs.Numbering.{AreHints, IsNumbered, AreNumbered}
+
+-- what holds of each member holds of each member in the opposite order
+all_reverse : {X : Type 0} (P : X → Type 0) (xs : List X) → AllByRecursion P xs → All P (reverse xs)
+all_reverse P [] all = All-nil P
+all_reverse P (x ∷ xs) all =
+    subst (All P) (sym (reverse-append (x ∷ []) xs)) (All-push P (reverse xs) x (all_reverse P xs all.1) all.0)
+
+pub hints_reversed : (last : ℕ) (hints : List ℕ) → AreHints last hints → AreHints last (reverse hints)
+hints_reversed last hints all =
+    all_reverse (λ hint. (1 ≤ hint) × (hint ≤ last)) hints (recursion_from_All (λ hint. (1 ≤ hint) × (hint ≤ last)) hints all)
+
+pub hints_push : (last : ℕ) (hints : List ℕ) (clause : ℕ) → AreHints last hints → clause < last → AreHints last (hints ++ (clause + 1) ∷ [])
+hints_push last hints clause all below = All-push (λ hint. (1 ≤ hint) × (hint ≤ last)) hints (clause + 1) all (omega arith, omega arith)
+
+-- a step whose hints are at most the number before its own
+pub is_numbered : (step : Step) (last : ℕ) → step.number ≡ last + 1 → AreHints last step.hints → IsNumbered (last + 1) step
+is_numbered step last is all = record {
+  number_is = is;
+  hints_earlier = All-from_recursion (λ hint. (1 ≤ hint) × (hint < last + 1)) step.hints (each step.hints (recursion_from_All (λ hint. (1 ≤ hint) × (hint ≤ last)) step.hints all));
+}
+  where
+    each : (hints : List ℕ) → AllByRecursion (λ hint. (1 ≤ hint) × (hint ≤ last)) hints → AllByRecursion (λ hint. (1 ≤ hint) × (hint < last + 1)) hints
+    each [] h = tt
+    each (hint ∷ hints) h = ((h.0.0, omega (arith, h.0.1)), each hints h.1)
+
+pub numbered_more : (number : ℕ) (steps : List Step) (step : Step) (n : ℕ) → n ≡ number + length steps → AreNumbered number steps → IsNumbered n step → AreNumbered number (steps ++ step ∷ [])
+numbered_more number [] step n at all is = (subst (λ k. IsNumbered k step) (let e : n ≡ number = omega arith in e) is, tt)
+numbered_more number (s ∷ steps) step n at all is = (all.0, numbered_more (suc number) steps step n (omega arith) all.1 is)
