@@ -9,3 +9,4 @@ pub mod SameLemmas
 pub mod SignalLemmas
 pub mod TermLemmas
 pub mod WholeLemmas
+pub mod FirstUses

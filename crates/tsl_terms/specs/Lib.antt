@@ -13,3 +13,5 @@ pub mod TermTree
 pub mod Value
 pub mod WellFormed
 pub mod WindowTree
+pub mod Clashes
+pub mod internal

@@ -7,6 +7,8 @@
 //! `spec_tree`, `window_tree`. Contracts speak of these trees, since values may lie anywhere in memory.
 //!
 //! - `Names` keeps names by first appearance: each call gives its part of the list of names.
+//! - `first_uses` gives the names of a list of uses, each as it is used first, and `first_clash` the first
+//!   use that is not like the first use of its name.
 //! - `copy_term`, `copy_probe` and `copy_formula` give a value of the same tree, and `same_term` and
 //!   `same_probe` say whether two trees are equal; that the test of trees is equality is a law.
 //! - `whole` gives the formula that a specification stands for, `signals` its inputs, cells and outputs,
@@ -19,6 +21,7 @@
 #![tactic(auto)]
 
 mod choosing;
+mod clash;
 mod copy;
 mod counting;
 mod formula;
@@ -34,6 +37,7 @@ mod term;
 mod window;
 
 pub use choosing::choices;
+pub use clash::{NameUse, Quality, first_clash, first_uses};
 pub use copy::{copy_formula, copy_probe, copy_term};
 pub use counting::node_count;
 pub use formula::{Formula, FormulaList};
