@@ -1,0 +1,4 @@
+pub mod Examples
+pub mod NumberLemmas
+pub mod ReducingLemmas
+pub mod SetLemmas

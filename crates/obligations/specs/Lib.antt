@@ -1,0 +1,3 @@
+pub mod Choices
+pub mod Expansion
+pub mod Numbers

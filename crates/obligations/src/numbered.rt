@@ -1,0 +1,52 @@
+//! Choices over the numbers of formulas.
+
+ghost use Rattle.std.specs.Prelude.{◌≡◌, IfOk, nat_eq};
+ghost use Rattle.obligations.specs.Numbers.{choice_key};
+ghost use Rattle.obligations.specs.Choices.{is_subset, is_within};
+
+use sequence::NoMemory;
+use std::alloc::Global;
+
+/// What one step asks of the letter, and the numbers of the formulas that it leaves.
+#[derive(Debug, PartialEq, Eq, Hash, Drop)]
+pub struct NumberedChoice {
+    /// The bits that it asks for.
+    pub care: u64,
+    /// Those of them that are to be set.
+    pub want: u64,
+    /// What the next step has to meet, by rising numbers.
+    pub next: Vec<u32>,
+    /// The untils that are put off, by rising numbers.
+    pub postponed: Vec<u32>,
+}
+
+impl NumberedChoice {
+    /// An equal choice. An `Err` says that memory ran out.
+    pub fn copy(&self, alloc: Global) -> Result<NumberedChoice, NoMemory>
+        ensures { IfOk result (λ copy. choice_key copy ≡ choice_key self.now) }
+    {
+        Ok(NumberedChoice {
+            care: self.care,
+            want: self.want,
+            next: self.next.to_vec(alloc)?,
+            postponed: self.postponed.to_vec(alloc)?,
+        })
+    }
+
+    /// Whether this choice asks for no more than another one and leaves no more.
+    pub fn is_within(&self, large: &NumberedChoice) -> bool
+        ensures { result ≡ is_within nat_eq (choice_key self.now) (choice_key large.now) }
+    {
+        self.care & large.care == self.care
+            && large.want & self.care == self.want
+            && is_subset(&self.next, &large.next)
+            && is_subset(&self.postponed, &large.postponed)
+    }
+}
+
+/// Whether each number of a list is in another.
+fn is_subset(small: &[u32], large: &[u32]) -> bool
+    ensures { result ≡ is_subset nat_eq small.now large.now }
+{
+    small.iter().all(|number| large.contains(number))
+}

@@ -1,0 +1,86 @@
+//! Lists of choices without repeats, and without choices that another one lies within.
+
+ghost use Rattle.std.specs.Prelude.{◌≡◌, ◌∷◌, ◌++◌, [], IfOk, OnOk, nat_eq, cond, not, ◌&&◌};
+ghost use Rattle.obligations.specs.Choices.{is_within, same_choice, with_new, is_larger, without_larger, reduced};
+ghost use Rattle.obligations.specs.Numbers.{choice_key, choice_keys};
+
+use crate::numbered::NumberedChoice;
+use indexmap::IndexSet;
+use sequence::NoMemory;
+use std::alloc::Global;
+
+/// The choices of a list, equal ones once, in the order in which they first appear.
+fn without_repeats(
+    alloc: Global,
+    choices: Vec<NumberedChoice>,
+) -> Result<IndexSet<NumberedChoice>, NoMemory>
+    ensures { IfOk result (λ kept. choice_keys kept.keys ≡ with_new nat_eq [] (choice_keys choices.items)) }
+{
+    let mut kept = IndexSet::new(alloc);
+    for choice in choices {
+        kept.insert(choice)?;
+    }
+    Ok(kept)
+}
+
+/// Whether a choice lies within another one and differs from it.
+fn lies_within(small: &NumberedChoice, large: &NumberedChoice) -> bool
+    ensures { result ≡ (is_within nat_eq (choice_key small.now) (choice_key large.now)
+        && not (same_choice nat_eq (choice_key small.now) (choice_key large.now))) }
+{
+    small.is_within(large) && small != large
+}
+
+/// Whether a different choice of a list lies within one.
+fn is_larger(choices: &[NumberedChoice], choice: &NumberedChoice) -> bool
+    ensures { result ≡ is_larger nat_eq (choice_keys choices.now) (choice_key choice.now) }
+{
+    for other in choices {
+        if lies_within(other, choice) {
+            return true;
+        }
+    }
+    false
+}
+
+/// Adds an equal choice at the end of a list where a test says so.
+fn add_if(
+    alloc: Global,
+    list: &mut Vec<NumberedChoice>,
+    choice: &NumberedChoice,
+    test: bool,
+) -> Result<(), NoMemory>
+    ensures { OnOk result (choice_keys list.new.items
+        ≡ choice_keys list.old.items ++ cond test (choice_key choice.now ∷ []) []) }
+{
+    if test {
+        list.push(choice.copy(alloc)?)?;
+    }
+    Ok(())
+}
+
+/// The choices of a list that no different one lies within.
+fn without_larger(
+    alloc: Global,
+    choices: &[NumberedChoice],
+) -> Result<Vec<NumberedChoice>, NoMemory>
+    ensures { IfOk result (λ kept. choice_keys kept.items ≡ without_larger nat_eq (choice_keys choices.now)) }
+{
+    let mut kept = Vec::new(alloc);
+    for choice in choices {
+        add_if(alloc, &mut kept, choice, !is_larger(choices, choice))?;
+    }
+    Ok(kept)
+}
+
+/// The choices of a list, equal ones once, that no different one lies within. An `Err` says that
+/// memory ran out.
+pub(crate) fn reduced(
+    alloc: Global,
+    choices: Vec<NumberedChoice>,
+) -> Result<Vec<NumberedChoice>, NoMemory>
+    ensures { IfOk result (λ kept. choice_keys kept.items ≡ reduced nat_eq (choice_keys choices.items)) }
+{
+    let distinct = without_repeats(alloc, choices)?;
+    without_larger(alloc, distinct.as_slice())
+}

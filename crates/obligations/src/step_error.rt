@@ -1,0 +1,38 @@
+//! Why a set has no choices.
+
+use sequence::NoMemory;
+use std::alloc::AllocFailed;
+
+/// How many choices a list may have.
+pub const MOST_CHOICES: usize = 65_536;
+
+/// Why a set has no choices.
+#[derive(Debug, PartialEq, Eq, Clone, Copy)]
+pub enum StepError {
+    /// A list that is formed on the way has more than 65,536 members before it is reduced.
+    Choices,
+    /// Memory ran out.
+    NoMemory,
+}
+
+impl From<NoMemory> for StepError {
+    ghost from_gives = { λ _ e. e ≡ StepError.NoMemory };
+
+    ghost use Rattle.std.specs.Prelude.{◌≡◌};
+    ghost use Rattle.obligations.specs.declared.step_error.StepError.{StepError};
+
+    fn from(_: NoMemory) -> StepError {
+        StepError::NoMemory
+    }
+}
+
+impl<T: Drop> From<AllocFailed<T>> for StepError {
+    ghost from_gives = { λ _ e. e ≡ StepError.NoMemory };
+
+    ghost use Rattle.std.specs.Prelude.{◌≡◌};
+    ghost use Rattle.obligations.specs.declared.step_error.StepError.{StepError};
+
+    fn from(_: AllocFailed<T>) -> StepError {
+        StepError::NoMemory
+    }
+}
