@@ -3,3 +3,4 @@ pub mod LtlOrder
 pub mod Increasing
 pub mod Dual
 pub mod Cubes
+pub mod LetterLoop

@@ -1,12 +1,24 @@
 //! The formula that holds where another one fails.
 
-ghost use Rattle.std.specs.Prelude.{◌≡◌, map, IfOk};
+ghost use Rattle.std.specs.Prelude.{◌≡◌, ℕ, map, not, IfOk};
 ghost use Rattle.ltl_formula.specs.LtlTree.{ltl_tree, ltl_trees, formulas_in};
 ghost use Rattle.ltl_formula.specs.Dual.{dual, duals};
+ghost use Rattle.ltl_formula.specs.LetterLoop.{LetterLoop, holds};
 
 use crate::formula::{Ltl, LtlList};
 use sequence::NoMemory;
 use std::alloc::Global;
+
+/// The formula that holds on exactly the letter loops, and at exactly the positions, at which this one
+/// fails: each form is exchanged with its opposite. An `Err` says that memory ran out.
+pub fn negate(alloc: Global, formula: &Ltl) -> Result<Ltl, NoMemory>
+    ensures dual { IfOk result (λ made. ltl_tree made ≡ dual (ltl_tree formula.now)) }
+    ensures fails { IfOk result (λ made. (loop : LetterLoop) (i : ℕ) →
+        holds loop (ltl_tree made) i ≡ not (holds loop (ltl_tree formula.now) i)) }
+{
+    let made = dual_of(alloc, formula)?;
+    Ok(made)
+}
 
 /// Each form exchanged with its opposite. An `Err` says that memory ran out.
 #[cycle(dual)]

@@ -9,5 +9,6 @@ mod laws;
 
 pub use copy::copy_ltl;
 pub use cube::Cube;
+pub use dual::negate;
 pub use formula::{Ltl, LtlList, compare};
 pub use laws::formulas_are_ordered;
