@@ -1,0 +1,7 @@
+pub mod Runs
+pub mod Then
+pub mod Terminals
+pub mod Levels
+pub mod Iterates
+pub mod Lists
+pub mod Whole

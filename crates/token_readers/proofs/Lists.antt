@@ -1,0 +1,63 @@
+-- A list of members.
+use Rattle.std.proofs.Common.{◌≡◌, ℕ, suc, Bool, true, false, List, [], ◌∷◌, ◌++◌, refl, ap, sym, ◌∙◌, append_assoc}
+use Rattle.std.proofs.lemmas.List.{append-nil}
+use Rattle.std.specs.Prelude.{Option, Some, None}
+use Rattle.token_readers.specs.Readers.{Answer, Reader, map_read, push, push_read, members}
+use Rattle.token_readers.specs.Exact.{Grammar, Exact}
+use Rattle.token_readers.proofs.Runs.{exact_map, exact_as}
+use Rattle.token_readers.proofs.Iterates.{Steps, stop, more, Stepping, iterate_exact}
+
+module _ {T V : Type 0} where
+  -- members one after another
+  pub data AreAll (Is : Grammar T V) (r : ℕ) : List T → List V → Type 0 where
+    none : AreAll Is r [] []
+    some : {f g : List T} {v : V} {vs : List V} → Is r f v → AreAll Is r g vs → AreAll Is r (f ++ g) (v ∷ vs)
+
+  -- A member is decided by the first terminal, and read exactly.
+  pub record Member (Is : Grammar T V) (each ends : T → Type 0) (room : ℕ) (member : List T → Option (Answer T V)) (starts : T → Bool) (reader : Reader T V) : Type 0 where
+    pub at_end : member [] ≡ None
+    pub none : (x : T) (rest : List T) → starts x ≡ false → member (x ∷ rest) ≡ None
+    pub some : (x : T) (rest : List T) → starts x ≡ true → member (x ∷ rest) ≡ Some (reader (x ∷ rest))
+    pub begins : (r : ℕ) (xs : List T) (v : V) → Is r xs v → (x : T) × (ys : List T) × (xs ≡ x ∷ ys) × (starts x ≡ true)
+    pub lift : (r : ℕ) (xs : List T) (v : V) → Is r xs v → Is (suc (suc r)) xs v
+    pub follows : (x : T) → starts x ≡ true → each x
+    pub stops : (x : T) → ends x → starts x ≡ false
+    pub weaker : (x : T) → ends x → each x
+    pub exact : Exact Is each room reader
+
+  -- a member after those that were read
+  abbrev IsPushed : Grammar T V → List V → Grammar T (List V)
+  IsPushed Is vs r xs ws = (v : V) × Is r xs v × (ws ≡ vs ++ v ∷ [])
+
+  module _ {Is : Grammar T V} {each ends : T → Type 0} {room : ℕ} {member : List T → Option (Answer T V)} {starts : T → Bool} {reader : Reader T V} where
+    pub stepping : Member Is each ends room member starts reader →
+        Stepping (IsPushed Is) (λ vs. each) ends room (push member) (λ vs. starts) (λ vs xs. map_read (λ v. vs ++ v ∷ []) (reader xs))
+    stepping k = record {
+      at_end = λ vs. ap (push_read vs) k.at_end;
+      none = λ vs x rest e. ap (push_read vs) (k.none x rest e);
+      some = λ vs x rest e. ap (push_read vs) (k.some x rest e);
+      begins = λ vs r xs ws h. k.begins r xs h.0 h.1;
+      lift = λ vs r xs ws h. (h.0, k.lift r xs h.0 h.1, h.2);
+      follows = λ vs r xs ws h. k.follows;
+      stops = λ vs. k.stops;
+      weaker = λ vs. k.weaker;
+      exact = λ vs. exact_map (λ v. vs ++ v ∷ []) (λ r xs v h. (v, h, refl)) (λ r xs ws h. h) k.exact;
+    }
+
+  listed : (Is : Grammar T V) (r : ℕ) (vs : List V) (xs : List T) (ws : List V) → Steps (IsPushed Is) r vs xs ws → (us : List V) × AreAll Is r xs us × (ws ≡ vs ++ us)
+  listed Is r vs xs ws stop = ([], none, sym (append-nil vs))
+  listed Is r vs xs ws (more {t = ts} {f = f} {g = g} h m) =
+      let further = listed Is r ts g ws m in
+      (h.0 ∷ further.0, some h.1 further.1, further.2 ∙ ap (λ us. us ++ further.0) h.2 ∙ append_assoc vs (h.0 ∷ []) further.0)
+
+  stepped : (Is : Grammar T V) (r : ℕ) (vs : List V) (xs : List T) (us : List V) → AreAll Is r xs us → Steps (IsPushed Is) r vs xs (vs ++ us)
+  stepped Is r vs xs us none = rw append-nil stop
+  stepped Is r vs xs us (some {f = f} {g = g} {v = v} {vs = ws} h k) =
+      let further : Steps (IsPushed Is) r (vs ++ v ∷ []) g ((vs ++ v ∷ []) ++ ws) = stepped Is r (vs ++ v ∷ []) g ws k in
+      more (v, h, refl) (rw append_assoc at further)
+
+  -- a list of members
+  pub members_exact : {Is : Grammar T V} {each ends : T → Type 0} {room : ℕ} {member : List T → Option (Answer T V)} {starts : T → Bool} {reader : Reader T V} →
+      Member Is each ends room member starts reader → Exact (AreAll Is) ends room (members member)
+  members_exact {Is = Is} k =
+      exact_as (λ r xs ws h. let is = listed Is r [] xs ws h in rw is.2 is.1) (λ r xs us h. stepped Is r [] xs us h) (λ x h. h) (iterate_exact (stepping k) [])

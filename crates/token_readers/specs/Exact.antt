@@ -1,0 +1,69 @@
+-- When a reader reads exactly a grammar. A grammar tells from which lists of terminals a value derives, with room for so
+-- many levels below.
+use Rattle.std.specs.Prelude.{◌≡◌, ℕ, suc, ◌<◌, List, [], ◌∷◌, ◌++◌, Ok, Err}
+use Rattle.token_readers.specs.Readers.{form, deep, Answer, Reader, form_at, deep_at}
+
+-- which values derive from which terminals, with this room
+abbrev pub Grammar : Type 0 → Type 0 → Type 1
+Grammar T V = ℕ → List T → V → Type 0
+
+module _ {T : Type 0} where
+  -- both lists are empty, or they have the same first terminal
+  pub data SameFirst : List T → List T → Type 0 where
+    both_end : SameFirst [] []
+    both_begin : (x : T) (xs ys : List T) → SameFirst (x ∷ xs) (x ∷ ys)
+
+  -- the terminals are none, or this holds of the first one
+  abbrev pub Before : (T → Type 0) → List T → Type 0
+  Before Holds [] = Unit {0}
+  Before Holds (x ∷ rest) = Holds x
+
+-- how reading ends
+pub data Outcome (V : Type 0) : Type 0 where
+  gives : V → Outcome V
+  wrong : Outcome V
+  too_deep : Outcome V
+
+module _ {T V : Type 0} where
+  -- the answer of reading that ends so before these terminals
+  abbrev pub ends_with : Outcome V → Reader T V
+  ends_with (gives v) rest = Ok (v, rest)
+  ends_with wrong rest = form_at rest
+  ends_with too_deep rest = deep_at rest
+
+  -- something derives from terminals that begin so
+  pub record Begins (Is : List T → V → Type 0) (front : List T) : Type 0 where
+    pub ending : List T
+    pub value : V
+    pub derives : Is (front ++ ending) value
+
+  -- What the grammar says where reading ends: the value derives from what was taken. Before a wrong terminal, something
+  -- derives from terminals that begin so. Before a level too many too, and with two levels more from those up to and
+  -- with it.
+  abbrev pub Says : Grammar T V → ℕ → Outcome V → List T → List T → Type 0
+  Says Is room (gives v) front rest = Is room front v
+  Says Is room wrong front rest = Begins (Is room) front
+  Says Is room too_deep front [] = ⊥
+  Says Is room too_deep front (x ∷ rest) = Begins (Is room) front × Begins (Is (suc (suc room))) (front ++ x ∷ [])
+
+  -- Reading ends in one way for all terminals that agree up to and with the first one that is left, and the grammar
+  -- says so.
+  pub record Run (Is : Grammar T V) (room : ℕ) (reader : Reader T V) (xs : List T) : Type 0 where
+    pub front : List T
+    pub rest : List T
+    pub outcome : Outcome V
+    pub split : xs ≡ front ++ rest
+    pub reads : (other : List T) → SameFirst rest other → reader (front ++ other) ≡ ends_with outcome other
+    pub says : Says Is room outcome front rest
+
+  -- the answer to terminals of which a value derives with room `needed`: it is the value, unless there was less room
+  abbrev pub Agrees : ℕ → ℕ → V → List T → Answer T V → Type 0
+  Agrees room needed v rest (Ok (w, left)) = (w ≡ v) × (left ≡ rest)
+  Agrees room needed v rest (Err (form left)) = ⊥
+  Agrees room needed v rest (Err (deep left)) = room < needed
+
+  -- The reader reads exactly the grammar, where such a terminal or none follows.
+  pub record Exact (Is : Grammar T V) (ends : T → Type 0) (room : ℕ) (reader : Reader T V) : Type 0 where
+    pub run : (xs : List T) → Run Is room reader xs
+    pub again : (r : ℕ) (xs : List T) (v : V) → Is r xs v → (rest : List T) → Before ends rest →
+        Agrees room r v rest (reader (xs ++ rest))
