@@ -5,7 +5,10 @@ use Rattle.tsl_terms.specs.declared.names.NameKind.{NameKind}
 use Rattle.tsl_terms.specs.declared.names.NameKind.TheVariants.{Signal, Function, Predicate}
 use Rattle.tsl_terms.specs.Name.{Name, number_of, is_usable}
 use Rattle.tsl_terms.specs.TermTree.{TermTree, signal, apply, TermTrees, no_terms, more_terms, ProbeTree}
-use Rattle.tsl_terms.specs.FormulaTree.{FormulaTree, top, test, update, conjunction, disjunction, implication, equivalence, next, globally, until, weak_until, no_formulas, more_formulas}
+use Rattle.tsl_terms.specs.declared.operator.UnaryOperator.TheVariants.{Next, Globally}
+use Rattle.tsl_terms.specs.declared.operator.BinaryOperator.TheVariants.{Implication, Equivalence, Until, WeakUntil}
+use Rattle.tsl_terms.specs.declared.operator.ManyOperator.TheVariants.{Conjunction, Disjunction}
+use Rattle.tsl_terms.specs.FormulaTree.{FormulaTree, test, update, constant, atom, unary, binary, many, no_formulas, more_formulas}
 use Rattle.tsl_terms.specs.SameTree.{same_tree, same_probe_tree}
 use Rattle.tsl_terms.specs.SpecTree.{SpecTree, whole_formula}
 use Rattle.tsl_terms.specs.Signals.{inputs_of, cells_of, outputs_of, choices_of}
@@ -119,33 +122,33 @@ spec_of assume_first assume_always guarantee_first guarantee_always = record {
 }
 
 abbrev px : FormulaTree
-px = test (probe 2 x)
+px = atom (test (probe 2 x))
 
 abbrev py : FormulaTree
-py = test (probe 2 y)
+py = atom (test (probe 2 y))
 
 abbrev y_takes_x : FormulaTree
-y_takes_x = update 0 x
+y_takes_x = atom (update 0 x)
 
-whole_of_nothing : whole_formula (spec_of [] [] [] []) ≡ top
+whole_of_nothing : whole_formula (spec_of [] [] [] []) ≡ constant true
 whole_of_nothing = refl
 
-whole_of_one : whole_formula (spec_of [] [] [] (y_takes_x ∷ [])) ≡ globally y_takes_x
+whole_of_one : whole_formula (spec_of [] [] [] (y_takes_x ∷ [])) ≡ unary Globally y_takes_x
 whole_of_one = refl
 
-whole_of_two : whole_formula (spec_of [] [] (px ∷ []) (y_takes_x ∷ [])) ≡ conjunction (more_formulas px (more_formulas (globally y_takes_x) no_formulas))
+whole_of_two : whole_formula (spec_of [] [] (px ∷ []) (y_takes_x ∷ [])) ≡ many Conjunction (more_formulas px (more_formulas (unary Globally y_takes_x) no_formulas))
 whole_of_two = refl
 
-whole_under_one : whole_formula (spec_of [] (py ∷ []) (px ∷ []) []) ≡ implication (globally py) px
+whole_under_one : whole_formula (spec_of [] (py ∷ []) (px ∷ []) []) ≡ binary Implication (unary Globally py) px
 whole_under_one = refl
 
-whole_under_two : whole_formula (spec_of (px ∷ []) (py ∷ []) [] []) ≡ implication (conjunction (more_formulas px (more_formulas (globally py) no_formulas))) top
+whole_under_two : whole_formula (spec_of (px ∷ []) (py ∷ []) [] []) ≡ binary Implication (many Conjunction (more_formulas px (more_formulas (unary Globally py) no_formulas))) (constant true)
 whole_under_two = refl
 
 -- signals: y is updated and read by a bare name alone, z is updated and never read, x is only read
 
 abbrev mixed : SpecTree
-mixed = spec_of [] [] (test (probe 6 y) ∷ []) (y_takes_x ∷ update 7 (g_of x) ∷ [])
+mixed = spec_of [] [] (atom (test (probe 6 y)) ∷ []) (y_takes_x ∷ atom (update 7 (g_of x)) ∷ [])
 
 bare_name_makes_a_cell : cells_of mixed ≡ 0 ∷ []
 bare_name_makes_a_cell = refl
@@ -164,13 +167,13 @@ updated_signal_does_not_read_itself = refl
 -- choices
 
 abbrev named_first : SpecTree
-named_first = spec_of [] [] [] (disjunction (more_formulas (update 0 y) (more_formulas y_takes_x (more_formulas (update 0 y) no_formulas))) ∷ [])
+named_first = spec_of [] [] [] (many Disjunction (more_formulas (atom (update 0 y)) (more_formulas y_takes_x (more_formulas (atom (update 0 y)) no_formulas))) ∷ [])
 
 cell_that_is_named_stays_in_its_place : choices_of named_first 0 ≡ y ∷ x ∷ []
 cell_that_is_named_stays_in_its_place = refl
 
 abbrev named_later : SpecTree
-named_later = spec_of (py ∷ []) [] [] (y_takes_x ∷ update 0 (g_of x) ∷ y_takes_x ∷ [])
+named_later = spec_of (py ∷ []) [] [] (y_takes_x ∷ atom (update 0 (g_of x)) ∷ y_takes_x ∷ [])
 
 cell_that_is_not_named_comes_last : choices_of named_later 0 ≡ x ∷ g_of x ∷ y ∷ []
 cell_that_is_not_named_comes_last = refl
@@ -191,34 +194,34 @@ constants_stand_alone = refl
 
 -- what fits
 
-update_fits : formula_fits names (update 0 (f_of (g_of x) c)) ≡ true
+update_fits : formula_fits names (atom (update 0 (f_of (g_of x) c))) ≡ true
 update_fits = refl
 
-two_members_fit : formula_fits names (conjunction (more_formulas px (more_formulas (next py) no_formulas))) ≡ true
+two_members_fit : formula_fits names (many Conjunction (more_formulas px (more_formulas (unary Next py) no_formulas))) ≡ true
 two_members_fit = refl
 
-bare_name_fits : formula_fits names (test (probe 6 y)) ≡ true
+bare_name_fits : formula_fits names (atom (test (probe 6 y))) ≡ true
 bare_name_fits = refl
 
-wrong_arity_does_not_fit : formula_fits names (update 0 (apply 3 (one x))) ≡ false
+wrong_arity_does_not_fit : formula_fits names (atom (update 0 (apply 3 (one x)))) ≡ false
 wrong_arity_does_not_fit = refl
 
-wrong_kind_does_not_fit : formula_fits names (update 2 x) ≡ false
+wrong_kind_does_not_fit : formula_fits names (atom (update 2 x)) ≡ false
 wrong_kind_does_not_fit = refl
 
-unknown_number_does_not_fit : formula_fits names (update 0 (signal 9)) ≡ false
+unknown_number_does_not_fit : formula_fits names (atom (update 0 (signal 9))) ≡ false
 unknown_number_does_not_fit = refl
 
-reserved_word_does_not_fit : formula_fits names (update 8 x) ≡ false
+reserved_word_does_not_fit : formula_fits names (atom (update 8 x)) ≡ false
 reserved_word_does_not_fit = refl
 
-bare_term_does_not_fit : formula_fits names (test (probe 6 (g_of x))) ≡ false
+bare_term_does_not_fit : formula_fits names (atom (test (probe 6 (g_of x)))) ≡ false
 bare_term_does_not_fit = refl
 
-one_member_does_not_fit : formula_fits names (conjunction (more_formulas px no_formulas)) ≡ false
+one_member_does_not_fit : formula_fits names (many Conjunction (more_formulas px no_formulas)) ≡ false
 one_member_does_not_fit = refl
 
-no_member_does_not_fit : formula_fits names (disjunction no_formulas) ≡ false
+no_member_does_not_fit : formula_fits names (many Disjunction no_formulas) ≡ false
 no_member_does_not_fit = refl
 
 -- terms that are the same, and terms that are not
@@ -240,7 +243,7 @@ predicates_differ = refl
 
 -- predicates: each stands where it stood first in the whole formula, where what holds always comes after what holds at first
 
-predicates_have_no_repeats : predicates_of (spec_of [] (py ∷ []) (px ∷ []) (equivalence py (test (probe 6 y)) ∷ px ∷ [])) ≡ probe 2 y ∷ probe 2 x ∷ probe 6 y ∷ []
+predicates_have_no_repeats : predicates_of (spec_of [] (py ∷ []) (px ∷ []) (binary Equivalence py (atom (test (probe 6 y))) ∷ px ∷ [])) ≡ probe 2 y ∷ probe 2 x ∷ probe 6 y ∷ []
 predicates_have_no_repeats = refl
 
 update_has_no_predicate : predicates_of (spec_of [] [] [] (y_takes_x ∷ [])) ≡ []
@@ -251,17 +254,17 @@ update_has_no_predicate = refl
 test_counts_itself_and_its_arguments : nodes px ≡ 2
 test_counts_itself_and_its_arguments = refl
 
-update_counts_itself_and_its_term : nodes (update 0 (f_of (g_of x) c)) ≡ 5
+update_counts_itself_and_its_term : nodes (atom (update 0 (f_of (g_of x) c))) ≡ 5
 update_counts_itself_and_its_term = refl
 
-conjunction_counts_its_members : nodes (conjunction (more_formulas px (more_formulas top (more_formulas y_takes_x no_formulas)))) ≡ 6
+conjunction_counts_its_members : nodes (many Conjunction (more_formulas px (more_formulas (constant true) (more_formulas y_takes_x no_formulas)))) ≡ 6
 conjunction_counts_its_members = refl
 
-equivalence_counts_both_sides_twice : nodes (equivalence px (next py)) ≡ 11
+equivalence_counts_both_sides_twice : nodes (binary Equivalence px (unary Next py)) ≡ 11
 equivalence_counts_both_sides_twice = refl
 
-weak_until_counts_its_right_side_twice : nodes (weak_until px (next py)) ≡ 9
+weak_until_counts_its_right_side_twice : nodes (binary WeakUntil px (unary Next py)) ≡ 9
 weak_until_counts_its_right_side_twice = refl
 
-until_counts_each_side_once : nodes (until px (next py)) ≡ 6
+until_counts_each_side_once : nodes (binary Until px (unary Next py)) ≡ 6
 until_counts_each_side_once = refl

@@ -1,12 +1,12 @@
+pub mod AtomLoops
+pub mod CountLemmas
 pub mod DistinctLemmas
 pub mod Examples
 pub mod FormulaLemmas
-pub mod GatherLemmas
 pub mod MarkLemmas
-pub mod MarkWhole
 pub mod NameLemmas
 pub mod SameLemmas
 pub mod SignalLemmas
 pub mod TermLemmas
-pub mod WholeLemmas
 pub mod FirstUses
+pub mod WholeAtoms

@@ -1,12 +1,11 @@
 -- Marks that are set one after another.
-use Rattle.std.proofs.Common.{◌≡◌, ℕ, zero, suc, ◌<◌, ◌≤◌, ◌==◌, Bool, true, false, ◌||◌, cond, List, [], ◌∷◌, ◌++◌, length, replicate, set, get_or, refl, sym, ap, ◌∙◌, arith}
+use Rattle.std.proofs.Common.{◌≡◌, ℕ, zero, suc, ◌<◌, ◌≤◌, ◌==◌, Bool, true, false, ◌||◌, List, [], ◌∷◌, length, replicate, set, get_or, refl, sym, ap, ◌∙◌, arith}
 use Rattle.std.proofs.lemmas.List.{length-replicate}
 use Rattle.std.proofs.Math.Bool.{or_assoc, or-true, or-false}
 use Rattle.std.proofs.Math.Dec.{eqb-suc-zero, eqb-zero-suc, eqb-suc-suc}
 use Rattle.tsl_terms.specs.TermTree.{TermTree, TermTrees, no_terms, more_terms}
 use Rattle.tsl_terms.specs.Marked.{marked}
-use Rattle.tsl_terms.specs.FormulaTree.{FormulaTree, FormulaTrees, update, more_formulas}
-use Rattle.tsl_terms.specs.Signals.{term_reads, some_term_reads, formula_reads, some_formula_reads, formula_updates, terms_for, all_terms_for, is_some_term}
+use Rattle.tsl_terms.specs.Signals.{term_reads, some_term_reads}
 
 -- a test that nothing passes
 pub mark_none : (marks : List Bool) → marked (λ _. false) marks ≡ marks
@@ -57,34 +56,6 @@ mark_terms_more old new all t ts before step =
 
 pub mark_terms_end : (old all : List Bool) → marked (λ s. some_term_reads s no_terms) old ≡ all → old ≡ all
 mark_terms_end old all before = sym (mark_none old) ∙ before
-
--- some term of two lists is one of the first or of the second
-pub is_some_term-append : (xs ys : List TermTree) → is_some_term (xs ++ ys) ≡ (is_some_term xs || is_some_term ys)
-is_some_term-append [] ys = refl
-is_some_term-append (x ∷ xs) ys = refl
-
--- the updates of two parts, one after another
-pub mark_updates_two : (a b : ℕ → List TermTree) (marks : List Bool) → marked (λ s. is_some_term (b s)) (marked (λ s. is_some_term (a s)) marks) ≡ marked (λ s. is_some_term (a s ++ b s)) marks
-mark_updates_two a b marks =
-    mark_two (λ s. is_some_term (a s)) (λ s. is_some_term (b s)) marks
-    ∙ mark_same _ _ marks (λ s. sym (is_some_term-append (a s) (b s)))
-
--- the mark of an update
-pub mark_update : (r : ℕ) (t : TermTree) (marks : List Bool) → marked (λ s. r == s) marks ≡ marked (λ s. formula_updates s (update r t)) marks
-mark_update r t marks = mark_same _ _ marks (λ s. by (r == s))
-  where
-    by : (b : Bool) → b ≡ is_some_term (cond b (t ∷ []) [])
-    by true = refl
-    by false = refl
-
--- the marks of a first formula, and then those of the rest
-pub mark_updates_more : (old new all : List Bool) (f : FormulaTree) (fs : FormulaTrees) → marked (λ s. is_some_term (all_terms_for s (more_formulas f fs))) old ≡ all → new ≡ marked (λ s. formula_updates s f) old → marked (λ s. is_some_term (all_terms_for s fs)) new ≡ all
-mark_updates_more old new all f fs before step =
-    ap (marked (λ s. is_some_term (all_terms_for s fs))) step ∙ mark_updates_two (λ s. terms_for s f) (λ s. all_terms_for s fs) old ∙ before
-
-pub mark_reads_more : (old new all : List Bool) (f : FormulaTree) (fs : FormulaTrees) → marked (λ s. some_formula_reads s (more_formulas f fs)) old ≡ all → new ≡ marked (λ s. formula_reads s f) old → marked (λ s. some_formula_reads s fs) new ≡ all
-mark_reads_more old new all f fs before step =
-    ap (marked (λ s. some_formula_reads s fs)) step ∙ mark_two (λ s. formula_reads s f) (λ s. some_formula_reads s fs) old ∙ before
 
 pub mark_end : (old all : List Bool) → marked (λ _. false) old ≡ all → old ≡ all
 mark_end old all before = sym (mark_none old) ∙ before

@@ -1,13 +1,18 @@
--- Lists that grow by what did not stand in them before.
-use Rattle.std.specs.Prelude.{Bool, List, [], ◌∷◌, ◌++◌, if◌then◌else◌}
+-- Lists without repeats.
+use Rattle.std.specs.Prelude.{Bool, not, List, [], ◌∷◌, ◌++◌, filter, if◌then◌else◌}
 use Rattle.std.specs.List.{list_any}
 
 module _ {A : Type 0} (same : A → A → Bool) where
+  -- a list without repeats: each member stands where it stood first
+  abbrev pub without_repeats : List A → List A
+  without_repeats [] = []
+  without_repeats (x ∷ xs) = x ∷ filter (λ y. not (same x y)) (without_repeats xs)
+
   -- whether a member of a list is the same
-  abbrev pub is_among : List A → A → Bool
-  is_among kept x = list_any (λ k. same k x) kept
+  abbrev pub has_same : List A → A → Bool
+  has_same kept x = list_any (λ k. same k x) kept
 
   -- a list, and then the members of another, each where it did not stand before
   abbrev pub with_new : List A → List A → List A
   with_new kept [] = kept
-  with_new kept (x ∷ xs) = with_new (if is_among kept x then kept else kept ++ x ∷ []) xs
+  with_new kept (x ∷ xs) = with_new (if has_same kept x then kept else kept ++ x ∷ []) xs

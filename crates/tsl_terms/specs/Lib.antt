@@ -1,11 +1,15 @@
+pub mod AtomView
+pub mod Atoms
 pub mod Distinct
 pub mod FormulaTree
+pub mod ListLengths
 pub mod Marked
 pub mod Name
 pub mod Named
 pub mod Nodes
 pub mod Predicates
 pub mod SameTree
+pub mod SignalLists
 pub mod Signals
 pub mod SpecTree
 pub mod SpecView

@@ -1,12 +1,15 @@
 -- Inputs, cells, outputs, and the terms that a signal may take.
 -- Source: Finkbeiner, Klein, Piskac, Santolucito: Temporal Stream Logic: Synthesis Beyond the Bools
 -- (CAV 2019), inputs, outputs and cells. Which signal is which is this project's own rule.
-use Rattle.std.specs.Prelude.{ℕ, zero, suc, Bool, true, false, not, ◌&&◌, ◌||◌, ◌==◌, List, [], ◌∷◌, ◌++◌, length, filter, if◌then◌else◌}
+use Rattle.std.specs.Prelude.{ℕ, zero, suc, Bool, false, not, ◌&&◌, ◌||◌, ◌==◌, List, [], ◌∷◌, ◌++◌, length, filter, flat_map, if◌then◌else◌}
+use Rattle.std.specs.List.{list_any}
 use Rattle.tsl_terms.specs.declared.names.NameKind.TheVariants.{Signal}
 use Rattle.tsl_terms.specs.Name.{is_name}
 use Rattle.tsl_terms.specs.TermTree.{TermTree, signal, apply, TermTrees, no_terms, more_terms}
-use Rattle.tsl_terms.specs.FormulaTree.{FormulaTree, FormulaTrees, top, bottom, test, update, negation, conjunction, disjunction, implication, equivalence, next, finally, globally, until, weak_until, release, no_formulas, more_formulas}
+use Rattle.tsl_terms.specs.FormulaTree.{Atom, test, update, FormulaTree}
+use Rattle.tsl_terms.specs.Atoms.{atoms}
 use Rattle.tsl_terms.specs.SameTree.{same_tree}
+use Rattle.tsl_terms.specs.Distinct.{without_repeats}
 use Rattle.tsl_terms.specs.SpecTree.{SpecTree, whole_formula}
 
 -- whether a term reads a signal
@@ -19,59 +22,32 @@ abbrev mutual
   some_term_reads s no_terms = false
   some_term_reads s (more_terms t ts) = term_reads s t || some_term_reads s ts
 
+-- whether an atom reads a signal: by its term or its arguments, not by the left side of an update
+abbrev pub atom_reads : ℕ → Atom → Bool
+atom_reads s (test p) = some_term_reads s p.arguments
+atom_reads s (update r t) = term_reads s t
+
 -- whether some term or bare name of a formula reads a signal
-abbrev mutual
-  pub formula_reads : ℕ → FormulaTree → Bool
-  formula_reads s top = false
-  formula_reads s bottom = false
-  formula_reads s (test p) = some_term_reads s p.arguments
-  formula_reads s (update r t) = term_reads s t
-  formula_reads s (negation a) = formula_reads s a
-  formula_reads s (conjunction fs) = some_formula_reads s fs
-  formula_reads s (disjunction fs) = some_formula_reads s fs
-  formula_reads s (implication a b) = formula_reads s a || formula_reads s b
-  formula_reads s (equivalence a b) = formula_reads s a || formula_reads s b
-  formula_reads s (next a) = formula_reads s a
-  formula_reads s (finally a) = formula_reads s a
-  formula_reads s (globally a) = formula_reads s a
-  formula_reads s (until a b) = formula_reads s a || formula_reads s b
-  formula_reads s (weak_until a b) = formula_reads s a || formula_reads s b
-  formula_reads s (release a b) = formula_reads s a || formula_reads s b
+abbrev pub formula_reads : ℕ → FormulaTree → Bool
+formula_reads s f = list_any (atom_reads s) (atoms f)
 
-  pub some_formula_reads : ℕ → FormulaTrees → Bool
-  some_formula_reads s no_formulas = false
-  some_formula_reads s (more_formulas f fs) = formula_reads s f || some_formula_reads s fs
-
--- the terms that the updates of a signal name in a formula, from the left
-abbrev mutual
-  pub terms_for : ℕ → FormulaTree → List TermTree
-  terms_for s top = []
-  terms_for s bottom = []
-  terms_for s (test p) = []
-  terms_for s (update r t) = if r == s then t ∷ [] else []
-  terms_for s (negation a) = terms_for s a
-  terms_for s (conjunction fs) = all_terms_for s fs
-  terms_for s (disjunction fs) = all_terms_for s fs
-  terms_for s (implication a b) = terms_for s a ++ terms_for s b
-  terms_for s (equivalence a b) = terms_for s a ++ terms_for s b
-  terms_for s (next a) = terms_for s a
-  terms_for s (finally a) = terms_for s a
-  terms_for s (globally a) = terms_for s a
-  terms_for s (until a b) = terms_for s a ++ terms_for s b
-  terms_for s (weak_until a b) = terms_for s a ++ terms_for s b
-  terms_for s (release a b) = terms_for s a ++ terms_for s b
-
-  pub all_terms_for : ℕ → FormulaTrees → List TermTree
-  all_terms_for s no_formulas = []
-  all_terms_for s (more_formulas f fs) = terms_for s f ++ all_terms_for s fs
-
-abbrev pub is_some_term : List TermTree → Bool
-is_some_term [] = false
-is_some_term (t ∷ ts) = true
+-- whether an atom is an update of a signal
+abbrev pub atom_updates : ℕ → Atom → Bool
+atom_updates s (test p) = false
+atom_updates s (update r t) = r == s
 
 -- whether a formula updates a signal
 abbrev pub formula_updates : ℕ → FormulaTree → Bool
-formula_updates s f = is_some_term (terms_for s f)
+formula_updates s f = list_any (atom_updates s) (atoms f)
+
+-- the term that an update of a signal names
+abbrev pub term_for : ℕ → Atom → List TermTree
+term_for s (test p) = []
+term_for s (update r t) = if r == s then t ∷ [] else []
+
+-- the terms that the updates of a signal name in a formula, from the left
+abbrev pub terms_for : ℕ → FormulaTree → List TermTree
+terms_for s f = flat_map (term_for s) (atoms f)
 
 -- a signal on the left of an update is a cell where a term or a bare name reads it, and else an output
 abbrev pub is_cell : SpecTree → ℕ → Bool
@@ -102,12 +78,7 @@ cells_of spec = filter (is_cell spec) (numbers spec)
 abbrev pub outputs_of : SpecTree → List ℕ
 outputs_of spec = filter (is_output spec) (numbers spec)
 
--- a list without repeats: each term stands where it stood first
-abbrev pub without_repeats : List TermTree → List TermTree
-without_repeats [] = []
-without_repeats (t ∷ ts) = t ∷ filter (λ u. not (same_tree t u)) (without_repeats ts)
-
 -- the choices of a cell or an output: the terms that its updates name, and for a cell the cell itself
 abbrev pub choices_of : SpecTree → ℕ → List TermTree
 choices_of spec s =
-    without_repeats (terms_for s (whole_formula spec) ++ (if is_cell spec s then signal s ∷ [] else []))
+    without_repeats same_tree (terms_for s (whole_formula spec) ++ (if is_cell spec s then signal s ∷ [] else []))

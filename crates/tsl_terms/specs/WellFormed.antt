@@ -1,12 +1,15 @@
 -- What every specification keeps: its numbers name what they are used as, its names may be written,
 -- its conjunctions and disjunctions have members, and its terms can be written as program text.
-use Rattle.std.specs.Prelude.{ℕ, ◌+◌, Bool, true, false, ◌&&◌, ◌||◌, nat_le, max, List, slice_get}
+use Rattle.std.specs.Prelude.{ℕ, ◌+◌, Bool, true, false, ◌&&◌, ◌||◌, ◌==◌, nat_le, max, List, slice_get, IsTrue}
+use Rattle.std.specs.List.{list_all}
 use Rattle.std.specs.Option.{option_map_or}
 use Rattle.std.specs.Str.{bytes_eq}
 use Rattle.tsl_terms.specs.declared.names.NameKind.TheVariants.{Signal, Function, Predicate}
-use Rattle.tsl_terms.specs.Name.{Name, is_name, is_usable, question}
+use Rattle.tsl_terms.specs.Name.{Name, AreDistinct, same_kind, is_name, is_usable, question}
 use Rattle.tsl_terms.specs.TermTree.{TermTree, signal, apply, TermTrees, no_terms, more_terms, ProbeTree, count_of_terms}
-use Rattle.tsl_terms.specs.FormulaTree.{FormulaTree, FormulaTrees, top, bottom, test, update, negation, conjunction, disjunction, implication, equivalence, next, finally, globally, until, weak_until, release, no_formulas, more_formulas}
+use Rattle.tsl_terms.specs.FormulaTree.{Atom, test, update, FormulaTree, FormulaTrees, formulas_in}
+use Rattle.tsl_terms.specs.Atoms.{is_made_of}
+use Rattle.tsl_terms.specs.SpecTree.{SpecTree, all_formulas}
 
 -- whether the text at a number may be a name of a specification
 abbrev pub is_usable_at : List Name → ℕ → Bool
@@ -55,30 +58,26 @@ abbrev mutual
 abbrev pub deepest : ℕ
 deepest = 200
 
--- whether a list has two members or more
-abbrev pub has_two : FormulaTrees → Bool
-has_two (more_formulas f (more_formulas g fs)) = true
-has_two _ = false
+-- the terms of an atom fit the names, and nest in brackets at most so deep
+abbrev pub atom_fits : List Name → Atom → Bool
+atom_fits names (test p) = probe_fits names p && nat_le (brackets_of_arguments p.arguments) deepest
+atom_fits names (update s t) =
+    (is_name names s Signal 0 && is_usable_at names s) && (term_fits names t && nat_le (brackets t) deepest)
 
-abbrev mutual
-  pub formula_fits : List Name → FormulaTree → Bool
-  formula_fits names top = true
-  formula_fits names bottom = true
-  formula_fits names (test p) = probe_fits names p && nat_le (brackets_of_arguments p.arguments) deepest
-  formula_fits names (update s t) =
-      (is_name names s Signal 0 && is_usable_at names s) && (term_fits names t && nat_le (brackets t) deepest)
-  formula_fits names (negation a) = formula_fits names a
-  formula_fits names (conjunction fs) = has_two fs && formulas_fit names fs
-  formula_fits names (disjunction fs) = has_two fs && formulas_fit names fs
-  formula_fits names (implication a b) = formula_fits names a && formula_fits names b
-  formula_fits names (equivalence a b) = formula_fits names a && formula_fits names b
-  formula_fits names (next a) = formula_fits names a
-  formula_fits names (finally a) = formula_fits names a
-  formula_fits names (globally a) = formula_fits names a
-  formula_fits names (until a b) = formula_fits names a && formula_fits names b
-  formula_fits names (weak_until a b) = formula_fits names a && formula_fits names b
-  formula_fits names (release a b) = formula_fits names a && formula_fits names b
+-- each atom fits, and each conjunction and disjunction has two members or more
+abbrev pub formula_fits : List Name → FormulaTree → Bool
+formula_fits names = is_made_of (atom_fits names)
 
-  pub formulas_fit : List Name → FormulaTrees → Bool
-  formulas_fit names no_formulas = true
-  formulas_fit names (more_formulas f fs) = formula_fits names f && formulas_fit names fs
+abbrev pub formulas_fit : List Name → FormulaTrees → Bool
+formulas_fit names fs = list_all (formula_fits names) (formulas_in fs)
+
+-- a name that may be written: a usable one, or the test of a Boolean signal
+abbrev pub name_fits : Name → Bool
+name_fits n = is_usable n.text || ((bytes_eq n.text question && same_kind n.kind Predicate) && (n.arity == 1))
+
+-- what every specification that is read keeps: no text stands twice among its names, each of them may be written,
+-- and each formula fits them
+pub record SpecFits (spec : SpecTree) : Type 0 where
+  pub distinct : AreDistinct spec.names
+  pub names : IsTrue (list_all name_fits spec.names)
+  pub formulas : IsTrue (list_all (formula_fits spec.names) (all_formulas spec))

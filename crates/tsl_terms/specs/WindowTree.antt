@@ -6,7 +6,9 @@ use Rattle.std.specs.Prelude.{ℕ, zero, suc, List, [], ◌∷◌, map}
 use Rattle.tsl_terms.specs.declared.window.Listed.{Listed}
 use Rattle.tsl_terms.specs.declared.window.Window.{Window}
 use Rattle.tsl_terms.specs.TermTree.{TermTree, ProbeTree, term_tree, probe_tree}
-use Rattle.tsl_terms.specs.FormulaTree.{FormulaTree, test, update, implication, equivalence, next, globally}
+use Rattle.tsl_terms.specs.declared.operator.UnaryOperator.TheVariants.{Next, Globally}
+use Rattle.tsl_terms.specs.declared.operator.BinaryOperator.TheVariants.{Implication, Equivalence}
+use Rattle.tsl_terms.specs.FormulaTree.{FormulaTree, test, update, atom, unary, binary}
 use Rattle.tsl_terms.specs.SpecTree.{conjunction_of}
 
 -- an update that is listed at an offset from the window's first step
@@ -38,15 +40,19 @@ window_tree w = record {
 -- a formula so many steps later
 abbrev pub later : ℕ → FormulaTree → FormulaTree
 later zero f = f
-later (suc n) f = next (later n f)
+later (suc n) f = unary Next (later n f)
+
+-- an update, as many steps later as its offset
+abbrev pub listed_formula : ListedTree → FormulaTree
+listed_formula u = later u.offset (atom (update u.signal u.term))
 
 -- always: if each listed update holds at its offset, then the left probe at its step is as the right one at the last
 abbrev pub window_formula_of : WindowTree → FormulaTree
-window_formula_of w = globally (implication
-    (conjunction_of (map (λ u. later u.offset (update u.signal u.term)) w.updates))
-    (equivalence (later w.left_at (test w.left)) (later w.length (test w.right))))
+window_formula_of w = unary Globally (binary Implication
+    (conjunction_of (map listed_formula w.updates))
+    (binary Equivalence (later w.left_at (atom (test w.left))) (later w.length (atom (test w.right)))))
 
 -- a formula under the assumption of windows, where there are some
 abbrev pub under_windows : List WindowTree → FormulaTree → FormulaTree
 under_windows [] f = f
-under_windows (w ∷ ws) f = implication (conjunction_of (map window_formula_of (w ∷ ws))) f
+under_windows (w ∷ ws) f = binary Implication (conjunction_of (map window_formula_of (w ∷ ws))) f

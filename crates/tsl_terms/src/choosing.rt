@@ -1,16 +1,16 @@
 //! The choices of a signal.
 
-ghost use Rattle.std.specs.Prelude.{◌≡◌, ◌&&◌, ◌||◌, [], ◌∷◌, map, if◌then◌else◌, IfOk, OnOk};
+ghost use Rattle.std.specs.Prelude.{◌≡◌, ◌&&◌, [], ◌∷◌, map, flat_map, if◌then◌else◌, IfOk, OnOk};
 ghost use Rattle.std.specs.List.{list_any};
 ghost use Rattle.tsl_terms.specs.TermTree.{signal, term_tree, term_trees};
-ghost use Rattle.tsl_terms.specs.FormulaTree.{formula_tree, formula_trees};
+ghost use Rattle.tsl_terms.specs.AtomView.{atom_tree};
 ghost use Rattle.tsl_terms.specs.SameTree.{same_tree};
 ghost use Rattle.tsl_terms.specs.SpecView.{spec_tree};
-ghost use Rattle.tsl_terms.specs.Signals.{term_reads, some_term_reads, formula_reads, some_formula_reads, terms_for, all_terms_for, is_some_term, choices_of};
+ghost use Rattle.tsl_terms.specs.Signals.{term_reads, some_term_reads, atom_reads, atom_updates, term_for, choices_of};
 ghost use Rattle.tsl_terms.specs.Distinct.{with_new};
 
+use crate::atom::{AtomRef, atoms_of_spec};
 use crate::copy::copy_term;
-use crate::formula::{Formula, FormulaList};
 use crate::same::same_term;
 use crate::spec::Spec;
 use crate::term::{Term, TermList};
@@ -25,112 +25,49 @@ pub fn choices(alloc: Global, spec: &Spec, signal: u32) -> Result<Vec<Term>, NoM
     ensures { IfOk result
         (λ terms. map term_tree terms.items ≡ choices_of (spec_tree spec.now) signal) }
 {
-    let mut found = Found {
-        signal,
-        terms: Vec::new(alloc),
-        read: false,
-    };
-    found.gather_members(alloc, &spec.assume_first)?;
-    found.gather_members(alloc, &spec.assume_always)?;
-    found.gather_members(alloc, &spec.guarantee_first)?;
-    found.gather_members(alloc, &spec.guarantee_always)?;
-    found.add_cell(alloc)?;
-    Ok(found.terms)
+    let atoms = atoms_of_spec(alloc, spec)?;
+    let mut terms = terms_for(alloc, &atoms, signal)?;
+    add_cell(alloc, &mut terms, signal, is_cell(&atoms, signal))?;
+    Ok(terms)
 }
 
-/// What was found of a signal: the terms that its updates name, and whether it is read.
-#[derive(Drop)]
-struct Found {
+/// The terms that the updates of a signal name, without repeats.
+fn terms_for(alloc: Global, atoms: &[AtomRef], signal: u32) -> Result<Vec<Term>, NoMemory>
+    ensures { IfOk result (λ terms. map term_tree terms.items
+        ≡ with_new same_tree [] (flat_map (term_for signal) (map atom_tree atoms.now))) }
+{
+    let mut terms = Vec::new(alloc);
+    for atom in atoms {
+        add_term_for(alloc, &mut terms, atom, signal)?;
+    }
+    Ok(terms)
+}
+
+/// Adds the term that an update of a signal names, where it was not found before.
+fn add_term_for(
+    alloc: Global,
+    terms: &mut Vec<Term>,
+    atom: &AtomRef,
     signal: u32,
-    terms: Vec<Term>,
-    read: bool,
+) -> Result<(), NoMemory>
+    ensures { OnOk result (map term_tree terms.new.items
+        ≡ with_new same_tree (map term_tree terms.old.items) (term_for signal (atom_tree atom.now))) }
+{
+    match atom {
+        AtomRef::Update(updated, term) if *updated == signal => add_term(alloc, terms, term),
+        _ => Ok(()),
+    }
 }
 
-impl Found {
-    /// Finds what a formula has.
-    #[cycle(find_choices)]
-    fn gather(&mut self, alloc: Global, formula: &Formula) -> Result<(), NoMemory>
-        ensures terms { OnOk result (map term_tree self.new.terms.items
-            ≡ with_new same_tree (map term_tree self.old.terms.items)
-            (terms_for self.old.signal (formula_tree formula.now))) }
-        ensures read { OnOk result (self.new.read
-            ≡ (self.old.read || formula_reads self.old.signal (formula_tree formula.now))) }
-        ensures signal { self.new.signal ≡ self.old.signal }
-    {
-        match formula {
-            Formula::True | Formula::False => {}
-            Formula::Test(probe) => {
-                self.read = self.read || some_reads(&probe.arguments, self.signal);
-            }
-            Formula::Update(signal, term) => {
-                self.read = self.read || reads(term, self.signal);
-                if *signal == self.signal {
-                    self.add(alloc, term)?;
-                }
-            }
-            Formula::Not(part)
-            | Formula::Next(part)
-            | Formula::Finally(part)
-            | Formula::Globally(part) => self.gather(alloc, part)?,
-            Formula::All(members) | Formula::Any(members) => {
-                self.gather_members(alloc, members)?;
-            }
-            Formula::Implies(left, right)
-            | Formula::Iff(left, right)
-            | Formula::Until(left, right)
-            | Formula::Weak(left, right)
-            | Formula::Release(left, right) => {
-                self.gather(alloc, left)?;
-                self.gather(alloc, right)?;
-            }
-        }
-        Ok(())
+/// Adds a term, where it was not found before.
+fn add_term(alloc: Global, terms: &mut Vec<Term>, term: &Term) -> Result<(), NoMemory>
+    ensures { OnOk result (map term_tree terms.new.items
+        ≡ with_new same_tree (map term_tree terms.old.items) (term_tree term.now ∷ [])) }
+{
+    if !is_term_among(terms, term) {
+        terms.push(copy_term(alloc, term)?)?;
     }
-
-    /// Finds what the members of a list have.
-    #[cycle(find_choices)]
-    fn gather_members(&mut self, alloc: Global, formulas: &FormulaList) -> Result<(), NoMemory>
-        ensures terms { OnOk result (map term_tree self.new.terms.items
-            ≡ with_new same_tree (map term_tree self.old.terms.items)
-            (all_terms_for self.old.signal (formula_trees formulas.now))) }
-        ensures read { OnOk result (self.new.read
-            ≡ (self.old.read || some_formula_reads self.old.signal (formula_trees formulas.now))) }
-        ensures signal { self.new.signal ≡ self.old.signal }
-    {
-        let mut rest = formulas;
-        while let FormulaList::More(formula, next) = rest {
-            self.gather(alloc, formula)?;
-            rest = next;
-        }
-        Ok(())
-    }
-
-    /// Adds the signal itself, where it is updated and read.
-    fn add_cell(&mut self, alloc: Global) -> Result<(), NoMemory>
-        ensures { OnOk result (map term_tree self.new.terms.items
-            ≡ with_new same_tree (map term_tree self.old.terms.items)
-            (if is_some_term (map term_tree self.old.terms.items) && self.old.read
-            then signal self.old.signal ∷ [] else [])) }
-    {
-        if self.terms.is_empty() || !self.read {
-            return Ok(());
-        }
-        let cell = Term::Signal(self.signal);
-        self.add(alloc, &cell)
-    }
-
-    /// Adds a term, where it was not found before.
-    fn add(&mut self, alloc: Global, term: &Term) -> Result<(), NoMemory>
-        ensures terms { OnOk result (map term_tree self.new.terms.items
-            ≡ with_new same_tree (map term_tree self.old.terms.items) (term_tree term.now ∷ [])) }
-        ensures read { self.new.read ≡ self.old.read }
-        ensures signal { self.new.signal ≡ self.old.signal }
-    {
-        if !is_term_among(&self.terms, term) {
-            self.terms.push(copy_term(alloc, term)?)?;
-        }
-        Ok(())
-    }
+    Ok(())
 }
 
 /// Whether a term is among some.
@@ -140,25 +77,79 @@ fn is_term_among(terms: &[Term], term: &Term) -> bool
     terms.iter().any(|t| same_term(t, term))
 }
 
+/// Adds the signal itself where it is a cell, unless it was found before.
+fn add_cell(alloc: Global, terms: &mut Vec<Term>, cell: u32, is_cell: bool) -> Result<(), NoMemory>
+    ensures { OnOk result (map term_tree terms.new.items
+        ≡ with_new same_tree (map term_tree terms.old.items)
+        (if is_cell then signal cell ∷ [] else [])) }
+{
+    if !is_cell {
+        return Ok(());
+    }
+    add_term(alloc, terms, &Term::Signal(cell))
+}
+
+/// Whether some atom updates a signal and some reads it.
+fn is_cell(atoms: &[AtomRef], signal: u32) -> bool
+    ensures { result ≡ (list_any (λ a. atom_updates signal (atom_tree a)) atoms.now
+        && list_any (λ a. atom_reads signal (atom_tree a)) atoms.now) }
+{
+    is_updated(atoms, signal) && is_read(atoms, signal)
+}
+
+/// Whether some atom updates a signal.
+fn is_updated(atoms: &[AtomRef], signal: u32) -> bool
+    ensures { result ≡ list_any (λ a. atom_updates signal (atom_tree a)) atoms.now }
+{
+    atoms.iter().any(|atom| updates(atom, signal))
+}
+
+/// Whether some atom reads a signal.
+fn is_read(atoms: &[AtomRef], signal: u32) -> bool
+    ensures { result ≡ list_any (λ a. atom_reads signal (atom_tree a)) atoms.now }
+{
+    atoms.iter().any(|atom| reads(atom, signal))
+}
+
+/// Whether an atom updates a signal.
+fn updates(atom: &AtomRef, signal: u32) -> bool
+    ensures { result ≡ atom_updates signal (atom_tree atom.now) }
+{
+    match atom {
+        AtomRef::Test(_) => false,
+        AtomRef::Update(updated, _) => *updated == signal,
+    }
+}
+
+/// Whether an atom reads a signal.
+fn reads(atom: &AtomRef, signal: u32) -> bool
+    ensures { result ≡ atom_reads signal (atom_tree atom.now) }
+{
+    match atom {
+        AtomRef::Test(probe) => some_term_reads(&probe.arguments, signal),
+        AtomRef::Update(_, term) => term_reads(term, signal),
+    }
+}
+
 /// Whether a term reads a signal.
 #[cycle(term_reads)]
-fn reads(term: &Term, signal: u32) -> bool
+fn term_reads(term: &Term, signal: u32) -> bool
     ensures { result ≡ term_reads signal (term_tree term.now) }
 {
     match term {
         Term::Signal(read) => *read == signal,
-        Term::Apply(_, arguments) => some_reads(arguments, signal),
+        Term::Apply(_, arguments) => some_term_reads(arguments, signal),
     }
 }
 
 /// Whether some term of a list reads a signal.
 #[cycle(term_reads)]
-fn some_reads(terms: &TermList, signal: u32) -> bool
+fn some_term_reads(terms: &TermList, signal: u32) -> bool
     ensures { result ≡ some_term_reads signal (term_trees terms.now) }
 {
     let mut rest = terms;
     while let TermList::More(term, next) = rest {
-        if reads(term, signal) {
+        if term_reads(term, signal) {
             return true;
         }
         rest = next;

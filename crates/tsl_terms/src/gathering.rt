@@ -1,16 +1,16 @@
 //! The predicate terms of a specification.
 
-ghost use Rattle.std.specs.Prelude.{◌≡◌, [], ◌∷◌, map, IfOk, OnOk};
+ghost use Rattle.std.specs.Prelude.{◌≡◌, ◌∷◌, [], map, IfOk, OnOk};
 ghost use Rattle.std.specs.List.{list_any};
 ghost use Rattle.tsl_terms.specs.TermTree.{probe_tree};
-ghost use Rattle.tsl_terms.specs.FormulaTree.{formula_tree, formula_trees};
+ghost use Rattle.tsl_terms.specs.AtomView.{atom_tree};
 ghost use Rattle.tsl_terms.specs.SameTree.{same_probe_tree};
 ghost use Rattle.tsl_terms.specs.SpecView.{spec_tree};
-ghost use Rattle.tsl_terms.specs.Predicates.{probes_in, all_probes_in, predicates_of};
+ghost use Rattle.tsl_terms.specs.Predicates.{probe_of, predicates_of};
 ghost use Rattle.tsl_terms.specs.Distinct.{with_new};
 
+use crate::atom::{AtomRef, atoms_of_spec};
 use crate::copy::copy_probe;
-use crate::formula::{Formula, FormulaList};
 use crate::same::same_probe;
 use crate::spec::Spec;
 use crate::term::Probe;
@@ -23,59 +23,24 @@ pub fn predicates(alloc: Global, spec: &Spec) -> Result<Vec<Probe>, NoMemory>
     ensures { IfOk result
         (λ probes. map probe_tree probes.items ≡ predicates_of (spec_tree spec.now)) }
 {
+    let atoms = atoms_of_spec(alloc, spec)?;
     let mut probes = Vec::new(alloc);
-    gather_from_members(alloc, &mut probes, &spec.assume_first)?;
-    gather_from_members(alloc, &mut probes, &spec.assume_always)?;
-    gather_from_members(alloc, &mut probes, &spec.guarantee_first)?;
-    gather_from_members(alloc, &mut probes, &spec.guarantee_always)?;
+    for atom in &atoms {
+        add_probe_of(alloc, &mut probes, atom)?;
+    }
     Ok(probes)
 }
 
-/// Adds the probes of a formula that did not stand before.
-#[cycle(gather_probes)]
-fn gather_from(alloc: Global, probes: &mut Vec<Probe>, formula: &Formula) -> Result<(), NoMemory>
+/// Adds the probe that an atom tests, where it did not stand before.
+fn add_probe_of(alloc: Global, probes: &mut Vec<Probe>, atom: &AtomRef) -> Result<(), NoMemory>
     ensures { OnOk result (map probe_tree probes.new.items
         ≡ with_new same_probe_tree (map probe_tree probes.old.items)
-        (probes_in (formula_tree formula.now))) }
+        (probe_of (atom_tree atom.now))) }
 {
-    match formula {
-        Formula::True | Formula::False | Formula::Update(_, _) => Ok(()),
-        Formula::Test(probe) => add_probe(alloc, probes, probe),
-        Formula::Not(part)
-        | Formula::Next(part)
-        | Formula::Finally(part)
-        | Formula::Globally(part) => gather_from(alloc, probes, part),
-        Formula::All(members) | Formula::Any(members) => {
-            gather_from_members(alloc, probes, members)
-        }
-        Formula::Implies(left, right)
-        | Formula::Iff(left, right)
-        | Formula::Until(left, right)
-        | Formula::Weak(left, right)
-        | Formula::Release(left, right) => {
-            gather_from(alloc, probes, left)?;
-            gather_from(alloc, probes, right)
-        }
+    match atom {
+        AtomRef::Test(probe) => add_probe(alloc, probes, probe),
+        AtomRef::Update(_, _) => Ok(()),
     }
-}
-
-/// Adds the probes of a list's members that did not stand before.
-#[cycle(gather_probes)]
-fn gather_from_members(
-    alloc: Global,
-    probes: &mut Vec<Probe>,
-    formulas: &FormulaList,
-) -> Result<(), NoMemory>
-    ensures { OnOk result (map probe_tree probes.new.items
-        ≡ with_new same_probe_tree (map probe_tree probes.old.items)
-        (all_probes_in (formula_trees formulas.now))) }
-{
-    let mut rest = formulas;
-    while let FormulaList::More(formula, next) = rest {
-        gather_from(alloc, probes, formula)?;
-        rest = next;
-    }
-    Ok(())
 }
 
 /// Adds a probe, where it did not stand before.

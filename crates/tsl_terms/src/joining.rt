@@ -1,7 +1,8 @@
 //! The whole formula of a specification.
 
 ghost use Rattle.std.specs.Prelude.{◌≡◌, ◌++◌, map, IfOk};
-ghost use Rattle.tsl_terms.specs.FormulaTree.{globally, formula_tree, member_trees};
+ghost use Rattle.tsl_terms.specs.declared.operator.UnaryOperator.TheVariants.{Globally};
+ghost use Rattle.tsl_terms.specs.FormulaTree.{unary, formula_tree, member_trees};
 ghost use Rattle.tsl_terms.specs.SpecTree.{conjunction_of, under_assumptions, whole_formula};
 ghost use Rattle.tsl_terms.specs.SpecView.{spec_tree};
 
@@ -61,7 +62,7 @@ fn section(
     always: &FormulaList,
 ) -> Result<Vec<Formula>, NoMemory>
     ensures { IfOk result (λ formulas. map formula_tree formulas.items
-        ≡ member_trees first.now ++ map globally (member_trees always.now)) }
+        ≡ member_trees first.now ++ map (unary Globally) (member_trees always.now)) }
 {
     let mut formulas = copy_members(alloc, first)?;
     let mut rest = always;

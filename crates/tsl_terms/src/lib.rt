@@ -20,6 +20,7 @@
 //! A crate above may rely on the fields of a `Spec`: each of its formulas fits its names.
 #![tactic(auto)]
 
+mod atom;
 mod choosing;
 mod clash;
 mod copy;
@@ -30,21 +31,24 @@ mod joining;
 mod laws;
 mod marks;
 mod names;
+mod operator;
 mod same;
 mod signal_lists;
 mod spec;
 mod term;
 mod window;
 
+pub use atom::{AtomRef, atoms, atoms_of_spec};
 pub use choosing::choices;
 pub use clash::{NameUse, Quality, first_clash, first_uses};
 pub use copy::{copy_formula, copy_probe, copy_term};
-pub use counting::node_count;
+pub use counting::{node_count, whole_node_count};
 pub use formula::{Formula, FormulaList};
 pub use gathering::predicates;
 pub use joining::whole;
 pub use laws::same_tree_is_equality;
 pub use names::{NameKind, Names};
+pub use operator::{BinaryOperator, ManyOperator, UnaryOperator};
 pub use same::{same_probe, same_term};
 pub use signal_lists::{SignalLists, signals};
 pub use spec::Spec;

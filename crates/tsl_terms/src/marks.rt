@@ -2,13 +2,13 @@
 
 ghost use Rattle.std.specs.Prelude.{◌≡◌, ◌==◌, false, length, replicate, IfOk};
 ghost use Rattle.tsl_terms.specs.TermTree.{term_tree, term_trees};
-ghost use Rattle.tsl_terms.specs.FormulaTree.{formula_tree, formula_trees};
+ghost use Rattle.tsl_terms.specs.AtomView.{atom_tree};
 ghost use Rattle.tsl_terms.specs.SpecTree.{whole_formula};
 ghost use Rattle.tsl_terms.specs.SpecView.{spec_tree};
 ghost use Rattle.tsl_terms.specs.Marked.{marked};
-ghost use Rattle.tsl_terms.specs.Signals.{term_reads, some_term_reads, formula_reads, some_formula_reads, formula_updates, is_some_term, all_terms_for};
+ghost use Rattle.tsl_terms.specs.Signals.{term_reads, some_term_reads, atom_reads, atom_updates, formula_reads, formula_updates};
 
-use crate::formula::{Formula, FormulaList};
+use crate::atom::{AtomRef, atoms_of_spec};
 use crate::spec::Spec;
 use crate::term::{Term, TermList};
 use sequence::NoMemory;
@@ -35,58 +35,27 @@ pub(crate) fn marks_of(alloc: Global, spec: &Spec) -> Result<Marks, NoMemory>
         updated: vec![in alloc; false; count]?,
         read: vec![in alloc; false; count]?,
     };
-    marks.mark_formulas(&spec.assume_first);
-    marks.mark_formulas(&spec.assume_always);
-    marks.mark_formulas(&spec.guarantee_first);
-    marks.mark_formulas(&spec.guarantee_always);
+    let atoms = atoms_of_spec(alloc, spec)?;
+    for atom in &atoms {
+        marks.mark_atom(atom);
+    }
     Ok(marks)
 }
 
 impl Marks {
-    /// Marks what a formula updates and what it reads.
-    #[cycle(mark_formulas)]
-    fn mark_formula(&mut self, formula: &Formula)
+    /// Marks what an atom updates and what it reads.
+    fn mark_atom(&mut self, atom: &AtomRef)
         ensures updated { self.new.updated.items
-            ≡ marked (λ s. formula_updates s (formula_tree formula.now)) self.old.updated.items }
+            ≡ marked (λ s. atom_updates s (atom_tree atom.now)) self.old.updated.items }
         ensures read { self.new.read.items
-            ≡ marked (λ s. formula_reads s (formula_tree formula.now)) self.old.read.items }
+            ≡ marked (λ s. atom_reads s (atom_tree atom.now)) self.old.read.items }
     {
-        match formula {
-            Formula::True | Formula::False => {}
-            Formula::Test(probe) => mark_terms(&mut self.read, &probe.arguments),
-            Formula::Update(signal, term) => {
+        match atom {
+            AtomRef::Test(probe) => mark_terms(&mut self.read, &probe.arguments),
+            AtomRef::Update(signal, term) => {
                 mark(&mut self.updated, *signal);
                 mark_term(&mut self.read, term);
             }
-            Formula::Not(part)
-            | Formula::Next(part)
-            | Formula::Finally(part)
-            | Formula::Globally(part) => self.mark_formula(part),
-            Formula::All(members) | Formula::Any(members) => self.mark_formulas(members),
-            Formula::Implies(left, right)
-            | Formula::Iff(left, right)
-            | Formula::Until(left, right)
-            | Formula::Weak(left, right)
-            | Formula::Release(left, right) => {
-                self.mark_formula(left);
-                self.mark_formula(right);
-            }
-        }
-    }
-
-    /// Marks what the members of a list update and what they read.
-    #[cycle(mark_formulas)]
-    fn mark_formulas(&mut self, formulas: &FormulaList)
-        ensures updated { self.new.updated.items
-            ≡ marked (λ s. is_some_term (all_terms_for s (formula_trees formulas.now)))
-            self.old.updated.items }
-        ensures read { self.new.read.items
-            ≡ marked (λ s. some_formula_reads s (formula_trees formulas.now)) self.old.read.items }
-    {
-        let mut rest = formulas;
-        while let FormulaList::More(formula, next) = rest {
-            self.mark_formula(formula);
-            rest = next;
         }
     }
 }

@@ -1,6 +1,6 @@
 ghost use Rattle.std.specs.Prelude.{◌≡◌, ◌∷◌, [], codes, IsTrue, IfOk};
 ghost use Rattle.tsl_terms.specs.TermTree.{signal, no_terms, more_terms, probe_tree};
-ghost use Rattle.tsl_terms.specs.FormulaTree.{update, no_formulas, more_formulas, formula_tree, formula_trees};
+ghost use Rattle.tsl_terms.specs.FormulaTree.{atom, update, no_formulas, more_formulas, formula_tree, formula_trees};
 ghost use Rattle.tsl_terms.specs.WellFormed.{formulas_fit};
 
 use crate::{
@@ -76,7 +76,7 @@ fn names_are_found_where_they_were_added(rt: HostRuntime) -> Result<(), Fail> {
 
 /// `[left <- right]`
 fn update(left: u32, right: u32) -> Formula
-    ensures { formula_tree result ≡ update left (signal right) }
+    ensures { formula_tree result ≡ atom (update left (signal right)) }
 {
     Formula::Update(left, Term::Signal(right))
 }

@@ -5,7 +5,7 @@ use Rattle.tsl_terms.specs.Signals.{some_term_reads}
 use Rattle.tsl_terms.proofs.choosing.+term_reads.Given as goal
 
 -- no term so far reads the signal
-abbrev pub invariant-some_reads-loop-rest : goal.invariant-some_reads-loop-rest
-invariant-some_reads-loop-rest l =
+abbrev pub invariant-some_term_reads-loop-rest : goal.invariant-some_term_reads-loop-rest
+invariant-some_term_reads-loop-rest l =
     (some_term_reads l.signal (term_trees l.rest) ≡ some_term_reads l.signal (term_trees l.fn.terms))
     × (size-TermList l.rest ≤ size-TermList l.initial.rest)

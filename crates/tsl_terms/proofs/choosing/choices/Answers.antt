@@ -1,29 +1,30 @@
-use Rattle.std.proofs.Common.{◌≡◌, map, refl, ap, ◌∙◌}
-use Rattle.tsl_terms.specs.TermTree.{term_tree}
-use Rattle.tsl_terms.specs.FormulaTree.{formula_trees}
-use Rattle.tsl_terms.proofs.GatherLemmas.{terms_whole, read_whole, choices_whole}
+use Rattle.std.proofs.Common.{◌≡◌, ◌&&◌, cond, [], ◌∷◌, ◌++◌, map, sym, ap, ◌∙◌}
+use Rattle.std.specs.List.{flat_map, list_any}
+use Rattle.tsl_terms.specs.TermTree.{signal, term_tree}
+use Rattle.tsl_terms.specs.Atoms.{atoms}
+use Rattle.tsl_terms.specs.AtomView.{atom_tree}
+use Rattle.tsl_terms.specs.SameTree.{same_tree}
+use Rattle.tsl_terms.specs.SpecTree.{whole_formula}
+use Rattle.tsl_terms.specs.SpecView.{spec_tree}
+use Rattle.tsl_terms.specs.Signals.{atom_reads, atom_updates, term_for, is_cell}
+use Rattle.tsl_terms.specs.Distinct.{with_new}
+use Rattle.tsl_terms.proofs.SameLemmas.{same_tree_is}
+use Rattle.tsl_terms.proofs.DistinctLemmas.{list_any-map, with_new-append, with_new-from_none}
 use Rattle.tsl_terms.proofs.choosing.choices.Goals as goal
 
 pub returns : goal.returns
 returns c =
-    let spec = c.args.spec.now in
     let s = c.args.signal in
-    let first = formula_trees spec.assume_first in
-    let always = formula_trees spec.assume_always in
-    let ensured = formula_trees spec.guarantee_first in
-    let ensured_always = formula_trees spec.guarantee_always in
-    let s1 : c.gather_members.new.self.signal ≡ s = c.gather_members.ensures.signal in
-    let s2 : c.gather_members-2.new.self.signal ≡ s = c.gather_members-2.ensures.signal ∙ s1 in
-    let s3 : c.gather_members-3.new.self.signal ≡ s = c.gather_members-3.ensures.signal ∙ s2 in
-    let s4 : c.gather_members-4.new.self.signal ≡ s = c.gather_members-4.ensures.signal ∙ s3 in
-    let terms = terms_whole spec.names first always ensured ensured_always s _ _ _ _ _ (ap (map term_tree) c.new.ensures.items)
-    c.in_ok-gather_members.ensures.terms
-    (rw s1 at c.in_ok-gather_members-2.ensures.terms)
-    (rw s2 at c.in_ok-gather_members-3.ensures.terms)
-    (rw s3 at c.in_ok-gather_members-4.ensures.terms) in
-    let read = read_whole spec.names first always ensured ensured_always s _ _ _ _ _ refl
-    c.in_ok-gather_members.ensures.read
-    (rw s1 at c.in_ok-gather_members-2.ensures.read)
-    (rw s2 at c.in_ok-gather_members-3.ensures.read)
-    (rw s3 at c.in_ok-gather_members-4.ensures.read) in
-    choices_whole spec.names first always ensured ensured_always s _ _ _ terms read (rw s4 at c.in_ok-add_cell.ensures)
+    let spec = spec_tree c.args.spec.now in
+    let items = c.in_ok-atoms.atoms.items in
+    let are : map atom_tree items ≡ atoms (whole_formula spec) = c.in_ok-atoms.ensures in
+    let cell : c.is_cell.result ≡ is_cell spec s =
+    rw c.deref-2.ensures.value at c.is_cell.ensures
+    ∙ (λ i. (sym (list_any-map atom_tree (atom_updates s) items) ∙ ap (list_any (atom_updates s)) are) i && (sym (list_any-map atom_tree (atom_reads s) items) ∙ ap (list_any (atom_reads s)) are) i) in
+    let terms = flat_map (term_for s) (atoms (whole_formula spec)) in
+    let found : map term_tree c.in_ok-terms.terms.items ≡ with_new same_tree [] terms =
+    rw (c.deref.ensures.value, are) at c.in_ok-terms.ensures in
+    c.in_ok-add_cell.ensures
+    ∙ (λ i. with_new same_tree (found i) (cond (cell i) (signal s ∷ []) []))
+    ∙ with_new-append same_tree [] terms (cond (is_cell spec s) (signal s ∷ []) [])
+    ∙ with_new-from_none same_tree same_tree_is (terms ++ cond (is_cell spec s) (signal s ∷ []) [])
