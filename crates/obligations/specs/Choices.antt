@@ -2,10 +2,11 @@
 -- of any type, which an order sorts: here formulas are their own names, and the code names them by numbers.
 -- Source: Gerth, Peled, Vardi, Wolper: Simple On-the-fly Automatic Verification of Linear Temporal Logic (PSTV 1995),
 -- the expansion of a node. Here choices that another one lies within are dropped, and untils that are put off are kept.
-use Rattle.std.specs.Prelude.{ℕ, ◌^◌, Bool, true, false, not, ◌&&◌, ◌==◌, List, [], ◌∷◌, ◌++◌, cond, length, filter, nat_lt, bit_and, bit_or, bit_xor, Option, None, Some, if◌then◌else◌}
+use Rattle.std.specs.Prelude.{ℕ, ◌^◌, Bool, true, false, not, ◌&&◌, ◌==◌, List, [], ◌∷◌, ◌++◌, cond, length, filter, nat_lt, bit_and, bit_or, bit_xor, Option, None, Some}
 use Rattle.std.specs.List.{list_any, list_all, filter_map}
 use Rattle.std.specs.declared.cmp.Ordering.{Ordering}
 use Rattle.std.specs.Cmp.Lexicographic.{pointwise}
+use Rattle.sequence.specs.Kept.{with_new}
 use Rattle.ltl_formula.specs.Increasing.{union}
 use Rattle.obligations.specs.declared.expanding.TheConstants.{LETTER_BITS}
 use Rattle.obligations.specs.declared.step_error.TheConstants.{MOST_CHOICES}
@@ -66,10 +67,9 @@ module _ {A : Type 0} (same : A → A → Bool) where
       (bit_and c.care d.care == c.care) && (bit_and d.want c.care == c.want)
       && is_subset c.next_set d.next_set && is_subset c.postponed d.postponed
 
-  -- a list, and then the members of another that are not yet in it
-  abbrev pub with_new : List (ChoiceOf A) → List (ChoiceOf A) → List (ChoiceOf A)
-  with_new kept [] = kept
-  with_new kept (c ∷ cs) = with_new (if list_any (same_choice c) kept then kept else kept ++ c ∷ []) cs
+  -- the choices of a list, equal ones once, in the order in which they first appear
+  abbrev pub without_repeats : List (ChoiceOf A) → List (ChoiceOf A)
+  without_repeats cs = with_new (λ kept c. same_choice c kept) [] cs
 
   -- whether a different choice of a list lies within one
   abbrev pub is_larger : List (ChoiceOf A) → ChoiceOf A → Bool
@@ -81,7 +81,7 @@ module _ {A : Type 0} (same : A → A → Bool) where
 
   -- equal choices once, and no choice that another one lies within
   abbrev pub reduced : List (ChoiceOf A) → List (ChoiceOf A)
-  reduced cs = without_larger (with_new [] cs)
+  reduced cs = without_larger (without_repeats cs)
 
   -- a list that was formed, reduced; nothing where it has too many members
   abbrev pub formed : List (ChoiceOf A) → Option (List (ChoiceOf A))

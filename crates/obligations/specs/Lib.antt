@@ -1,3 +1,4 @@
 pub mod Choices
 pub mod Expansion
 pub mod Numbers
+pub mod Obligations

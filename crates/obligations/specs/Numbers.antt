@@ -6,8 +6,8 @@ use Rattle.std.specs.Ordering.{nat_cmp}
 use Rattle.ltl_formula.specs.declared.formula.Ltl.{Ltl}
 use Rattle.ltl_formula.specs.LtlTree.{LtlTree, ltl_tree, LtlTrees}
 use Rattle.obligations.specs.declared.numbered.NumberedChoice.{NumberedChoice}
-use Rattle.obligations.specs.Choices.{ChoiceOf, joins, formed, product, with_new, without_larger}
-use Rattle.obligations.specs.Expansion.{expansion_by, all_choices_by, any_choices_by, choices_from, same_formula}
+use Rattle.obligations.specs.Choices.{ChoiceOf}
+use Rattle.obligations.specs.Expansion.{expansion_by, same_formula}
 
 -- a choice over numbers
 abbrev pub ChoiceKey : Type 0

@@ -3,6 +3,7 @@
 
 mod expanding;
 mod joining;
+mod naming;
 mod numbered;
 mod products;
 mod reducing;
@@ -10,5 +11,6 @@ mod sets;
 mod step_error;
 
 pub use expanding::{LETTER_BITS, expand, number_of};
+pub use naming::{names_of, names_of_formula};
 pub use numbered::NumberedChoice;
 pub use step_error::{MOST_CHOICES, StepError};

@@ -1,7 +1,7 @@
 //! Lists of choices without repeats, and without choices that another one lies within.
 
 ghost use Rattle.std.specs.Prelude.{◌≡◌, ◌∷◌, ◌++◌, [], IfOk, OnOk, nat_eq, cond, not, ◌&&◌};
-ghost use Rattle.obligations.specs.Choices.{is_within, same_choice, with_new, is_larger, without_larger, reduced};
+ghost use Rattle.obligations.specs.Choices.{is_within, same_choice, without_repeats, is_larger, without_larger, reduced};
 ghost use Rattle.obligations.specs.Numbers.{choice_key, choice_keys};
 
 use crate::numbered::NumberedChoice;
@@ -14,7 +14,7 @@ fn without_repeats(
     alloc: Global,
     choices: Vec<NumberedChoice>,
 ) -> Result<IndexSet<NumberedChoice>, NoMemory>
-    ensures { IfOk result (λ kept. choice_keys kept.keys ≡ with_new nat_eq [] (choice_keys choices.items)) }
+    ensures { IfOk result (λ kept. choice_keys kept.keys ≡ without_repeats nat_eq (choice_keys choices.items)) }
 {
     let mut kept = IndexSet::new(alloc);
     for choice in choices {

@@ -1,0 +1,110 @@
+//! The formulas that steps may leave, in order: their places are their numbers.
+
+ghost use Rattle.std.specs.Prelude.{◌≡◌, ◌≤◌, ◌∷◌, ◌++◌, [], take, drop, IfOk, IfSome, OnOk, MatchOption, length, map};
+ghost use Rattle.ltl_formula.specs.LtlTree.{ltl_tree, ltl_trees};
+ghost use Rattle.ltl_formula.specs.LtlOrder.{tree_cmp};
+ghost use Rattle.ltl_formula.specs.Increasing.{with_member, union};
+ghost use Rattle.obligations.specs.Numbers.{lent_trees};
+ghost use Rattle.obligations.specs.Obligations.{obligations, obligations_of_all, reachable, names_of};
+
+use ltl_formula::{Ltl, LtlList, compare};
+use sequence::NoMemory;
+use std::alloc::Global;
+use std::cmp::Ordering;
+
+/// The place of a new formula among rising ones, or `None` where it is there.
+fn place_for(names: &[&Ltl], formula: &Ltl) -> Option<usize>
+    ensures place { MatchOption result
+        (with_member tree_cmp (ltl_tree formula.now) (lent_trees names.now) ≡ lent_trees names.now)
+        (λ place. with_member tree_cmp (ltl_tree formula.now) (lent_trees names.now)
+            ≡ lent_trees (take place names.now) ++ ltl_tree formula.now ∷ lent_trees (drop place names.now)) }
+    ensures within { IfSome result (λ place. place ≤ length names.now) }
+{
+    for (place, name) in names.iter().enumerate() {
+        match compare(formula, name) {
+            Ordering::Less => return Some(place),
+            Ordering::Equal => return None,
+            Ordering::Greater => {}
+        }
+    }
+    Some(names.len())
+}
+
+/// Puts a formula in its place among rising ones, unless it is there.
+fn insert_name<'a>(names: &mut Vec<&'a Ltl>, formula: &'a Ltl) -> Result<(), NoMemory>
+    ensures { OnOk result (lent_trees names.new.items ≡ with_member tree_cmp (ltl_tree formula.now) (lent_trees names.old.items)) }
+{
+    if let Some(place) = place_for(names, formula) {
+        names.insert(place, formula)?;
+    }
+    Ok(())
+}
+
+/// Adds what steps from a formula may leave.
+#[cycle(naming)]
+#[tactic(auto, using(crate::proofs::NamingLemmas::names_append))]
+fn add_obligations<'a>(formula: &'a Ltl, names: &mut Vec<&'a Ltl>) -> Result<(), NoMemory>
+    ensures { OnOk result (lent_trees names.new.items ≡ union tree_cmp (lent_trees names.old.items) (obligations (ltl_tree formula.now))) }
+{
+    match formula {
+        Ltl::True | Ltl::False | Ltl::Bit(_) | Ltl::NotBit(_) => Ok(()),
+        Ltl::All(members) | Ltl::Any(members) => add_obligations_of_all(members, names),
+        Ltl::Next(part) => {
+            insert_name(names, part)?;
+            add_obligations(part, names)
+        }
+        Ltl::Until(left, right) | Ltl::Release(left, right) => {
+            insert_name(names, formula)?;
+            add_obligations(left, names)?;
+            add_obligations(right, names)
+        }
+    }
+}
+
+/// Adds what steps from the members of a list may leave.
+#[cycle(naming)]
+#[tactic(auto, using(crate::proofs::NamingLemmas::names_append))]
+fn add_obligations_of_all<'a>(
+    formulas: &'a LtlList,
+    names: &mut Vec<&'a Ltl>,
+) -> Result<(), NoMemory>
+    ensures { OnOk result (lent_trees names.new.items ≡ union tree_cmp (lent_trees names.old.items) (obligations_of_all (ltl_trees formulas.now))) }
+{
+    let mut rest = formulas;
+    while let LtlList::More(formula, next) = rest {
+        add_obligations(formula, names)?;
+        rest = next;
+    }
+    Ok(())
+}
+
+/// Adds a formula and what steps from it may leave.
+fn add_formula<'a>(formula: &'a Ltl, names: &mut Vec<&'a Ltl>) -> Result<(), NoMemory>
+    ensures { OnOk result (lent_trees names.new.items
+        ≡ union tree_cmp (lent_trees names.old.items) (ltl_tree formula.now ∷ obligations (ltl_tree formula.now))) }
+{
+    insert_name(names, formula)?;
+    add_obligations(formula, names)
+}
+
+/// A formula and what steps from it may leave, in order, each once. An `Err` says that memory ran out.
+pub fn names_of_formula(alloc: Global, formula: &Ltl) -> Result<Vec<&Ltl>, NoMemory>
+    ensures { IfOk result (λ names. lent_trees names.items ≡ names_of (ltl_tree formula.now ∷ [])) }
+{
+    let mut names = Vec::new(alloc);
+    add_formula(formula, &mut names)?;
+    Ok(names)
+}
+
+/// Some formulas and what steps from them may leave, in order, each once. An `Err` says that memory
+/// ran out.
+#[tactic(auto, using(crate::proofs::NamingLemmas::names_append))]
+pub fn names_of(alloc: Global, formulas: &[Ltl]) -> Result<Vec<&Ltl>, NoMemory>
+    ensures { IfOk result (λ names. lent_trees names.items ≡ names_of (map ltl_tree formulas.now)) }
+{
+    let mut names = Vec::new(alloc);
+    for formula in formulas {
+        add_formula(formula, &mut names)?;
+    }
+    Ok(names)
+}
