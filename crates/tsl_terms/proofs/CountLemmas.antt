@@ -4,7 +4,7 @@ use Rattle.tsl_terms.specs.declared.operator.UnaryOperator.TheVariants.{Globally
 use Rattle.tsl_terms.specs.FormulaTree.{FormulaTree, FormulaTrees, unary, no_formulas, more_formulas, formulas_in, formulas_of}
 use Rattle.tsl_terms.specs.Nodes.{nodes, nodes_of_members}
 use Rattle.tsl_terms.specs.SpecTree.{conjunction_of}
-use Rattle.tsl_terms.specs.ListLengths.{is_one}
+use Rattle.tsl_terms.specs.internal.ListLengths.{is_one}
 
 -- the formulas of a list, each under `Globally`
 abbrev pub always_of : FormulaTrees → List FormulaTree

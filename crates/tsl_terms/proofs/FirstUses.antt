@@ -13,7 +13,7 @@ use Rattle.sequence.proofs.Bytes.{bytes_same, same_bytes}
 use Rattle.sequence.proofs.Places.{slice_get_one, slice_get_push}
 use Rattle.tsl_terms.specs.declared.clash.NameUse.{NameUse}
 use Rattle.tsl_terms.specs.Name.{Name, number_of, texts, AreDistinct}
-use Rattle.tsl_terms.specs.Clashes.{name_use, added_unless_found, with_use, with_uses, first_uses, IsClash, IsFirstClash, HasNoClash}
+use Rattle.tsl_terms.specs.Clashes.{name_use, added_unless_found, with_use, with_uses, first_uses, IsClash}
 use Rattle.tsl_terms.specs.internal.FirstUse.{named, differs_from}
 
 -- the first place that passes

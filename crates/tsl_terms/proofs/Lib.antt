@@ -1,12 +1,10 @@
 pub mod AtomLoops
 pub mod CountLemmas
-pub mod DistinctLemmas
 pub mod Examples
+pub mod FirstUses
 pub mod FormulaLemmas
 pub mod MarkLemmas
 pub mod NameLemmas
 pub mod SameLemmas
-pub mod SignalLemmas
 pub mod TermLemmas
-pub mod FirstUses
 pub mod WholeAtoms

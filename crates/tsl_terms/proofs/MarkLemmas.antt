@@ -4,7 +4,7 @@ use Rattle.std.proofs.lemmas.List.{length-replicate}
 use Rattle.std.proofs.Math.Bool.{or_assoc, or-true, or-false}
 use Rattle.std.proofs.Math.Dec.{eqb-suc-zero, eqb-zero-suc, eqb-suc-suc}
 use Rattle.tsl_terms.specs.TermTree.{TermTree, TermTrees, no_terms, more_terms}
-use Rattle.tsl_terms.specs.Marked.{marked}
+use Rattle.tsl_terms.specs.internal.Marked.{marked}
 use Rattle.tsl_terms.specs.Signals.{term_reads, some_term_reads}
 
 -- a test that nothing passes

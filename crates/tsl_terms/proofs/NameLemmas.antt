@@ -5,28 +5,21 @@ use Rattle.std.specs.Str.{bytes_eq}
 use Rattle.std.specs.Cmp.Lexicographic.{pointwise}
 use Rattle.std.specs.Map.{keys_of}
 use Rattle.std.specs.declared.alloc.Global.{Global}
-use Rattle.std.proofs.lemmas.Slice.Eq.{bytes_eq-Decides}
 use Rattle.std.proofs.lemmas.List.{map_push}
 use Rattle.std.proofs.lemmas.Option.{none-some, same_Some}
 use Rattle.std.proofs.lemmas.Bool.{ltb-false, le-ltb}
 use Rattle.indexmap.specs.IndexMap.{insert_entry}
+use Rattle.sequence.proofs.Bytes.{same_bytes, bytes_same}
 use Rattle.tsl_terms.specs.declared.names.NameKind.{NameKind}
 use Rattle.tsl_terms.specs.declared.names.Meaning.{Meaning}
 use Rattle.tsl_terms.specs.Name.{Name, texts, number_of, AreDistinct}
-use Rattle.tsl_terms.specs.Named.{named}
+use Rattle.tsl_terms.specs.internal.Named.{named}
 
 abbrev Key : Type 0
 Key = Vec ℕ Global
 
 abbrev pub same_key : Key → Key → Bool
 same_key a b = pointwise nat_eq a.items b.items
-
--- bytes that are equal at each place are equal
-pub same_bytes : (xs ys : List ℕ) → pointwise nat_eq xs ys ≡ true → xs ≡ ys
-same_bytes xs ys = (bytes_eq-Decides xs ys).0
-
-pub bytes_same : (xs ys : List ℕ) → xs ≡ ys → pointwise nat_eq xs ys ≡ true
-bytes_same xs ys = (bytes_eq-Decides xs ys).1
 
 -- where a text stands in the map is where it stands in the list
 place_of : (text : List ℕ) (es : List (Key × Meaning)) → position_or_len (bytes_eq text) (texts (map named es)) ≡ position_or_len (λ k. pointwise nat_eq text k.items) (keys_of es)

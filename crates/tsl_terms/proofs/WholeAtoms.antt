@@ -4,6 +4,7 @@ use Rattle.std.specs.List.{list_all, flat_map}
 use Rattle.std.proofs.lemmas.Grind.{flat_map-append}
 use Rattle.std.proofs.lemmas.List.Folds.{list_all-append, list_all-map}
 use Rattle.std.proofs.lemmas.Bool.{and_parts, and_from}
+use Rattle.sequence.proofs.Passes.{list_all_weaker}
 use Rattle.tsl_terms.specs.declared.operator.UnaryOperator.TheVariants.{Globally}
 use Rattle.tsl_terms.specs.FormulaTree.{Atom, FormulaTree, FormulaTrees, unary, no_formulas, more_formulas, formulas_in, formulas_of}
 use Rattle.tsl_terms.specs.Atoms.{atoms, atoms_of_members, joins_two, all_join_two, is_made_of}
@@ -112,15 +113,10 @@ whole_is_made_of passes spec h =
     and_from _ _ (ap (list_all passes) (whole_atoms spec) ∙ parts.0) (whole_joins_two spec parts.1)
 
 -- where each atom that passes one test passes another one
-pub list_all_then : {A : Type 0} (p q : A → Bool) → ((x : A) → p x ≡ true → q x ≡ true) → (xs : List A) → list_all p xs ≡ true → list_all q xs ≡ true
-list_all_then p q each [] h = refl
-list_all_then p q each (x ∷ xs) h =
-    let parts = and_parts (p x) (list_all p xs) h in and_from _ _ (each x parts.0) (list_all_then p q each xs parts.1)
-
 pub is_made_of_then : (p q : Atom → Bool) → ((a : Atom) → p a ≡ true → q a ≡ true) → (f : FormulaTree) → is_made_of p f ≡ true → is_made_of q f ≡ true
 is_made_of_then p q each f h =
     let parts = and_parts (list_all p (atoms f)) (joins_two f) h in
-    and_from _ _ (list_all_then p q each (atoms f) parts.0) parts.1
+    and_from _ _ (list_all_weaker p q each (atoms f) parts.0) parts.1
 
 -- what holds of each of the four lists holds of all formulas
 pub fits_all : (p : FormulaTree → Bool) (spec : SpecTree) → list_all p spec.assume_first ≡ true → list_all p spec.assume_always ≡ true →

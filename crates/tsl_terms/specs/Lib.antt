@@ -1,15 +1,13 @@
 pub mod AtomView
 pub mod Atoms
+pub mod Clashes
 pub mod Distinct
 pub mod FormulaTree
-pub mod ListLengths
-pub mod Marked
 pub mod Name
-pub mod Named
 pub mod Nodes
+pub mod OnlyThese
 pub mod Predicates
 pub mod SameTree
-pub mod SignalLists
 pub mod Signals
 pub mod SpecTree
 pub mod SpecView
@@ -17,5 +15,4 @@ pub mod TermTree
 pub mod Value
 pub mod WellFormed
 pub mod WindowTree
-pub mod Clashes
 pub mod internal

@@ -1,8 +1,9 @@
 -- Inputs, cells, outputs, and the terms that a signal may take.
 -- Source: Finkbeiner, Klein, Piskac, Santolucito: Temporal Stream Logic: Synthesis Beyond the Bools
 -- (CAV 2019), inputs, outputs and cells. Which signal is which is this project's own rule.
-use Rattle.std.specs.Prelude.{ℕ, zero, suc, Bool, false, not, ◌&&◌, ◌||◌, ◌==◌, List, [], ◌∷◌, ◌++◌, length, filter, flat_map, if◌then◌else◌}
+use Rattle.std.specs.Prelude.{ℕ, Bool, false, not, ◌&&◌, ◌||◌, ◌==◌, List, [], ◌∷◌, ◌++◌, length, filter, flat_map, if◌then◌else◌}
 use Rattle.std.specs.List.{list_any}
+use Rattle.sequence.specs.Numbers.{numbers_from}
 use Rattle.tsl_terms.specs.declared.names.NameKind.TheVariants.{Signal}
 use Rattle.tsl_terms.specs.Name.{is_name}
 use Rattle.tsl_terms.specs.TermTree.{TermTree, signal, apply, TermTrees, no_terms, more_terms}
@@ -59,11 +60,6 @@ is_output spec s = formula_updates s (whole_formula spec) && not (formula_reads 
 -- every other signal is an input
 abbrev pub is_input : SpecTree → ℕ → Bool
 is_input spec s = is_name spec.names s Signal 0 && not (formula_updates s (whole_formula spec))
-
--- the numbers from a first one on, so many of them
-abbrev pub numbers_from : ℕ → ℕ → List ℕ
-numbers_from first zero = []
-numbers_from first (suc n) = first ∷ numbers_from (suc first) n
 
 -- the numbers of the names, in order
 abbrev pub numbers : SpecTree → List ℕ

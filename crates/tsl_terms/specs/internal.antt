@@ -1,1 +1,4 @@
 pub mod FirstUse
+pub mod ListLengths
+pub mod Marked
+pub mod Named

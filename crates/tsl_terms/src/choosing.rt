@@ -7,7 +7,7 @@ ghost use Rattle.tsl_terms.specs.AtomView.{atom_tree};
 ghost use Rattle.tsl_terms.specs.SameTree.{same_tree};
 ghost use Rattle.tsl_terms.specs.SpecView.{spec_tree};
 ghost use Rattle.tsl_terms.specs.Signals.{term_reads, some_term_reads, atom_reads, atom_updates, term_for, choices_of};
-ghost use Rattle.tsl_terms.specs.Distinct.{with_new};
+ghost use Rattle.sequence.specs.Kept.{with_new};
 
 use crate::atom::{AtomRef, atoms_of_spec};
 use crate::copy::copy_term;

@@ -7,7 +7,7 @@ ghost use Rattle.tsl_terms.specs.FormulaTree.{unary, formulas_of, formula_tree, 
 ghost use Rattle.tsl_terms.specs.Nodes.{nodes, nodes_of_term, nodes_of_terms, nodes_of_members};
 ghost use Rattle.tsl_terms.specs.SpecTree.{conjunction_of, whole_formula};
 ghost use Rattle.tsl_terms.specs.SpecView.{spec_tree};
-ghost use Rattle.tsl_terms.specs.ListLengths.{is_empty, is_one};
+ghost use Rattle.tsl_terms.specs.internal.ListLengths.{is_empty, is_one};
 
 use crate::formula::{Formula, FormulaList};
 use crate::spec::Spec;

@@ -7,7 +7,7 @@ ghost use Rattle.tsl_terms.specs.AtomView.{atom_tree};
 ghost use Rattle.tsl_terms.specs.SameTree.{same_probe_tree};
 ghost use Rattle.tsl_terms.specs.SpecView.{spec_tree};
 ghost use Rattle.tsl_terms.specs.Predicates.{probe_of, predicates_of};
-ghost use Rattle.tsl_terms.specs.Distinct.{with_new};
+ghost use Rattle.sequence.specs.Kept.{with_new};
 
 use crate::atom::{AtomRef, atoms_of_spec};
 use crate::copy::copy_probe;

@@ -5,7 +5,7 @@ ghost use Rattle.tsl_terms.specs.TermTree.{term_tree, term_trees};
 ghost use Rattle.tsl_terms.specs.AtomView.{atom_tree};
 ghost use Rattle.tsl_terms.specs.SpecTree.{whole_formula};
 ghost use Rattle.tsl_terms.specs.SpecView.{spec_tree};
-ghost use Rattle.tsl_terms.specs.Marked.{marked};
+ghost use Rattle.tsl_terms.specs.internal.Marked.{marked};
 ghost use Rattle.tsl_terms.specs.Signals.{term_reads, some_term_reads, atom_reads, atom_updates, formula_reads, formula_updates};
 
 use crate::atom::{AtomRef, atoms_of_spec};

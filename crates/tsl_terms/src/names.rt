@@ -39,7 +39,7 @@ impl Model for Names {
 
     ghost Value = { List Name };
 
-    ghost use Rattle.tsl_terms.specs.Named.{named};
+    ghost use Rattle.tsl_terms.specs.internal.Named.{named};
 
     ghost view = { λ names. map named names.meanings.entries };
 

@@ -1,4 +1,4 @@
-use Rattle.std.proofs.Common.{◌≡◌, ◌&&◌, cond, [], ◌∷◌, ◌++◌, map, sym, ap, ◌∙◌}
+use Rattle.std.proofs.Common.{◌≡◌, ◌&&◌, cond, [], ◌∷◌, ◌++◌, map, refl, sym, ap, ◌∙◌}
 use Rattle.std.specs.List.{flat_map, list_any}
 use Rattle.tsl_terms.specs.TermTree.{signal, term_tree}
 use Rattle.tsl_terms.specs.Atoms.{atoms}
@@ -7,9 +7,11 @@ use Rattle.tsl_terms.specs.SameTree.{same_tree}
 use Rattle.tsl_terms.specs.SpecTree.{whole_formula}
 use Rattle.tsl_terms.specs.SpecView.{spec_tree}
 use Rattle.tsl_terms.specs.Signals.{atom_reads, atom_updates, term_for, is_cell}
-use Rattle.tsl_terms.specs.Distinct.{with_new}
+use Rattle.sequence.specs.Kept.{with_new}
+use Rattle.tsl_terms.specs.Distinct.{without_repeats}
 use Rattle.tsl_terms.proofs.SameLemmas.{same_tree_is}
-use Rattle.tsl_terms.proofs.DistinctLemmas.{list_any-map, with_new-append, with_new-from_none}
+use Rattle.sequence.proofs.Kept.{with_new-append, with_new-from_none}
+use Rattle.sequence.proofs.Passes.{list_any-map}
 use Rattle.tsl_terms.proofs.choosing.choices.Goals as goal
 
 pub returns : goal.returns
@@ -27,4 +29,4 @@ returns c =
     c.in_ok-add_cell.ensures
     ∙ (λ i. with_new same_tree (found i) (cond (cell i) (signal s ∷ []) []))
     ∙ with_new-append same_tree [] terms (cond (is_cell spec s) (signal s ∷ []) [])
-    ∙ with_new-from_none same_tree same_tree_is (terms ++ cond (is_cell spec s) (signal s ∷ []) [])
+    ∙ with_new-from_none same_tree same_tree_is (without_repeats same_tree) refl (λ _ _. refl) (terms ++ cond (is_cell spec s) (signal s ∷ []) [])

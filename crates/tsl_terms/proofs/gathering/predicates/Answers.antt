@@ -1,13 +1,14 @@
-use Rattle.std.proofs.Common.{[], map, sym, ap, ◌∙◌}
+use Rattle.std.proofs.Common.{[], map, refl, sym, ap, ◌∙◌}
 use Rattle.std.proofs.lemmas.List.Folds.{flat_map-map}
 use Rattle.std.specs.List.{flat_map}
 use Rattle.tsl_terms.specs.TermTree.{probe_tree}
 use Rattle.tsl_terms.specs.AtomView.{atom_tree}
 use Rattle.tsl_terms.specs.SameTree.{same_probe_tree}
 use Rattle.tsl_terms.specs.Predicates.{probe_of}
-use Rattle.tsl_terms.specs.Distinct.{with_new}
+use Rattle.sequence.specs.Kept.{with_new}
+use Rattle.tsl_terms.specs.Distinct.{without_repeats}
 use Rattle.tsl_terms.proofs.SameLemmas.{same_probe_is}
-use Rattle.tsl_terms.proofs.DistinctLemmas.{with_new-from_none}
+use Rattle.sequence.proofs.Kept.{with_new-from_none}
 use Rattle.tsl_terms.proofs.AtomLoops.{with_new-next, with_new-all}
 use Rattle.tsl_terms.proofs.gathering.predicates.Goals as goal
 
@@ -24,4 +25,4 @@ returns c =
     with_new-all same_probe_tree (λ a. probe_of (atom_tree a)) c.deref-atom-items.result.now c.loop-atom.atom-index _ c.loop-atom-test.false c.loop-atom.invariant
     ∙ ap (with_new same_probe_tree []) (sym (flat_map-map probe_of atom_tree c.deref-atom-items.result.now)
     ∙ ap (flat_map probe_of) (ap (map atom_tree) c.deref-atom-items.ensures.value ∙ c.in_ok-atoms.ensures))
-    ∙ with_new-from_none same_probe_tree same_probe_is _
+    ∙ with_new-from_none same_probe_tree same_probe_is (without_repeats same_probe_tree) refl (λ _ _. refl) _

@@ -1,7 +1,7 @@
 use Rattle.std.proofs.Common.{◌≡◌, ◌≤◌}
 use Rattle.tsl_terms.specs.declared.term.TermList.{size-TermList}
 use Rattle.tsl_terms.specs.TermTree.{term_trees}
-use Rattle.tsl_terms.specs.Marked.{marked}
+use Rattle.tsl_terms.specs.internal.Marked.{marked}
 use Rattle.tsl_terms.specs.Signals.{some_term_reads}
 use Rattle.tsl_terms.proofs.marks.+mark_terms.Given as goal
 

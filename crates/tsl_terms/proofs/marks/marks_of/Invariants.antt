@@ -1,7 +1,7 @@
 use Rattle.std.proofs.Common.{◌≡◌, false, length, replicate, take}
 use Rattle.std.specs.List.{list_any}
 use Rattle.tsl_terms.specs.AtomView.{atom_tree}
-use Rattle.tsl_terms.specs.Marked.{marked}
+use Rattle.tsl_terms.specs.internal.Marked.{marked}
 use Rattle.tsl_terms.specs.Signals.{atom_reads, atom_updates}
 use Rattle.tsl_terms.proofs.marks.marks_of.Given as goal
 

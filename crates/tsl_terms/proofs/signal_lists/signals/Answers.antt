@@ -5,7 +5,8 @@ use Rattle.tsl_terms.specs.SpecTree.{whole_formula}
 use Rattle.tsl_terms.specs.SpecView.{spec_tree}
 use Rattle.tsl_terms.specs.Signals.{formula_updates, formula_reads, is_input, is_cell, is_output}
 use Rattle.tsl_terms.proofs.MarkLemmas.{length-marks, mark_at}
-use Rattle.tsl_terms.proofs.SignalLemmas.{passed_more, and_then, and_else}
+use Rattle.sequence.proofs.Numbers.{numbers_passed_more}
+use Rattle.sequence.proofs.Booleans.{and_then, and_else}
 use Rattle.tsl_terms.proofs.signal_lists.signals.Goals as goal
 use Rattle.tsl_terms.proofs.signal_lists.signals.Goals.{then-is_signal, else-is_signal, then-updated, else-updated, then-updated-2, else-updated-2}
 
@@ -41,7 +42,7 @@ loop-id-preserved c =
       | then-updated-2 w ↦ and_then (formula_updates id (whole_formula spec)) (not (formula_reads id (whole_formula spec))) _ (sym updated ∙ w.if-updated-2.true) (w.push_if-is ∙ ap not read)
       | else-updated-2 w ↦ and_else (formula_updates id (whole_formula spec)) (not (formula_reads id (whole_formula spec))) _ (sym updated ∙ w.if-updated-2.false) (w.push_if-is ∙ w.if-updated-2.false)
     ] in (
-      passed_more (is_input spec) id _ _ _ c.loop-id.invariant.0 c.in_ok-push_if.ensures input,
-      passed_more (is_cell spec) id _ _ _ c.loop-id.invariant.1 c.in_ok-push_if-2.ensures cell,
-      passed_more (is_output spec) id _ _ _ c.loop-id.invariant.2 c.in_ok-push_if-3.ensures output,
+      numbers_passed_more (is_input spec) id _ _ _ c.loop-id.invariant.0 c.in_ok-push_if.ensures input,
+      numbers_passed_more (is_cell spec) id _ _ _ c.loop-id.invariant.1 c.in_ok-push_if-2.ensures cell,
+      numbers_passed_more (is_output spec) id _ _ _ c.loop-id.invariant.2 c.in_ok-push_if-3.ensures output,
     )

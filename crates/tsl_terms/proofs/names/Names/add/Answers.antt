@@ -1,5 +1,5 @@
 use Rattle.std.proofs.Common.{ap, ◌∙◌, map}
-use Rattle.tsl_terms.specs.Named.{named}
+use Rattle.tsl_terms.specs.internal.Named.{named}
 use Rattle.tsl_terms.proofs.NameLemmas.{name-added}
 use Rattle.tsl_terms.proofs.names.Names.add.Goals as goal
 

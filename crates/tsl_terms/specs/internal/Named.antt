@@ -1,3 +1,4 @@
+-- Internal: only private functions of this crate use these words.
 -- An entry of the map of names, as a name.
 use Rattle.std.specs.Prelude.{ℕ, Vec}
 use Rattle.std.specs.declared.alloc.Global.{Global}

@@ -1,17 +1,10 @@
--- Lists of signals, and what reads or updates only these.
-use Rattle.std.specs.Prelude.{◌≡◌, ℕ, Bool, true, ◌&&◌, ◌==◌, List, Some, slice_get}
-use Rattle.std.specs.List.{list_all, list_any}
+-- Terms and formulas that read or update only the signals of a list.
+use Rattle.std.specs.Prelude.{ℕ, Bool, true, ◌&&◌, List}
+use Rattle.std.specs.List.{list_all}
+use Rattle.sequence.specs.Numbers.{is_among}
 use Rattle.tsl_terms.specs.TermTree.{TermTree, signal, apply, TermTrees, no_terms, more_terms}
 use Rattle.tsl_terms.specs.FormulaTree.{Atom, test, update, FormulaTree}
 use Rattle.tsl_terms.specs.Atoms.{atoms}
-
--- whether a number stands in a list
-abbrev pub is_among : List ℕ → ℕ → Bool
-is_among ids s = list_any (λ r. r == s) ids
-
--- no number stands twice
-abbrev pub IsDistinct : List ℕ → Type 0
-IsDistinct ids = (i j s : ℕ) → slice_get ids i ≡ Some s → slice_get ids j ≡ Some s → i ≡ j
 
 -- a term reads these signals only
 abbrev mutual

@@ -1,3 +1,4 @@
+-- Internal: only private functions of this crate use these words.
 -- Marks at the places of a list that pass a test.
 use Rattle.std.specs.Prelude.{ℕ, suc, Bool, ◌||◌, List, [], ◌∷◌}
 
