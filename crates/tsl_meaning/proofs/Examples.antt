@@ -1,14 +1,17 @@
 -- The definitions on small examples, which compute.
-use Rattle.std.specs.Prelude.{◌≡◌, ℕ, zero, suc, ◌+◌, ◌*◌, ◌%◌, ◌==◌, ◌≤◌, ◌||◌, Bool, true, false, List, [], ◌∷◌, Option, Some, None, slice_get, unwrap_or, if◌then◌else◌, refl}
+use Rattle.std.specs.Prelude.{◌≡◌, ℕ, ◌==◌, Bool, true, false, List, [], ◌∷◌, Option, Some, None, slice_get, unwrap_or, if◌then◌else◌, refl}
 use Rattle.std.proofs.Common.{lit≤}
-use Rattle.tsl_terms.specs.TermTree.{TermTree, signal, apply, TermTrees, no_terms, more_terms, ProbeTree}
-use Rattle.tsl_terms.specs.FormulaTree.{FormulaTree, FormulaTrees, top, bottom, test, update, negation, conjunction, disjunction, implication, equivalence, next, finally, globally, until, weak_until, release, no_formulas, more_formulas}
-use Rattle.tsl_terms.specs.Value.{Meanings, value, truth, beside}
+use Rattle.tsl_terms.specs.TermTree.{TermTree, signal, apply, no_terms, more_terms}
+use Rattle.tsl_terms.specs.declared.operator.UnaryOperator.TheVariants.{Negation, Next, Finally, Globally}
+use Rattle.tsl_terms.specs.declared.operator.BinaryOperator.TheVariants.{Implication, Equivalence, Until, WeakUntil, Release}
+use Rattle.tsl_terms.specs.declared.operator.ManyOperator.TheVariants.{Conjunction, Disjunction}
+use Rattle.tsl_terms.specs.FormulaTree.{Atom, test, update, FormulaTree, atom, unary, binary, many, no_formulas, more_formulas}
+use Rattle.tsl_terms.specs.Value.{value, beside}
 use Rattle.flow_program.specs.NodeTree.{branch, assign}
 use Rattle.flow_program.specs.ProgramTree.{ProgramTree}
-use Rattle.tsl_meaning.specs.Interpretation.{Interpretation, InputRows, place_of_arguments, entry_at, meanings_of}
-use Rattle.tsl_meaning.specs.Run.{Configuration, Closed, configuration_at, place_after, assigned_at}
-use Rattle.tsl_meaning.specs.Lasso.{Lasso, after, reached, meets, closed_run}
+use Rattle.tsl_meaning.specs.Interpretation.{Interpretation, InputRows, place_of_arguments, entry_at, meanings_in}
+use Rattle.tsl_meaning.specs.Run.{Closed, configuration_at, place_after}
+use Rattle.tsl_meaning.specs.Lasso.{Lasso, meets, closed_run}
 
 -- Two cells that exchange their values: each takes the value that the other had before the step.
 exchange : ProgramTree
@@ -27,18 +30,18 @@ five_and_seven = record { domain = 8; tables = []; initial = 5 ∷ 7 ∷ [] }
 one_row : InputRows ℕ
 one_row = record { stem = []; cycle = [] ∷ [] }
 
-exchanged_once : configuration_at (meanings_of (0 ∷ 1 ∷ []) five_and_seven) exchange one_row 1
+exchanged_once : configuration_at (meanings_in [] exchange five_and_seven) exchange one_row 1
     ≡ Some (record { place = 0; state = 0; cells = 7 ∷ 5 ∷ [] })
 unfolding exchange five_and_seven one_row
 exchanged_once = refl
 
-exchanged_three_times : configuration_at (meanings_of (0 ∷ 1 ∷ []) five_and_seven) exchange one_row 3
+exchanged_three_times : configuration_at (meanings_in [] exchange five_and_seven) exchange one_row 3
     ≡ Some (record { place = 0; state = 0; cells = 7 ∷ 5 ∷ [] })
 unfolding exchange five_and_seven one_row
 exchanged_three_times = refl
 
 -- The run closes at its first pair, and at later ones too: here after one step, and four steps later again.
-closes_late : Closed (meanings_of (0 ∷ 1 ∷ []) five_and_seven) exchange one_row 1 4
+closes_late : Closed (meanings_in [] exchange five_and_seven) exchange one_row (record { start = 1; length = 4 })
 unfolding exchange five_and_seven one_row
 closes_late = record {
   goes_on = lit≤ tt;
@@ -46,6 +49,10 @@ closes_late = record {
   at_start = refl;
   at_end = refl;
 }
+
+-- no signals, for the values of terms alone
+no_program : ProgramTree
+no_program = record { inputs = []; cells = []; outputs = []; windows = []; nodes = []; states = [] }
 
 -- A term's value: 2 applied to 3 applied to the signals 0 and 1, in base 3.
 nested : TermTree
@@ -62,8 +69,8 @@ by_tables = record {
 two_then_one : ℕ → Option ℕ
 two_then_one s = beside s (0 ∷ 1 ∷ []) (2 ∷ 1 ∷ [])
 
-value_of_nested : value (meanings_of [] by_tables) two_then_one nested ≡ Some 1
-unfolding nested by_tables two_then_one
+value_of_nested : value (meanings_in [] no_program by_tables) two_then_one nested ≡ Some 1
+unfolding no_program nested by_tables two_then_one
 value_of_nested = refl
 
 -- the first argument is the most significant digit
@@ -78,102 +85,98 @@ what_is_no_value_has_the_entry_0 : entry_at by_tables 3 (0 ∷ 3 ∷ []) ≡ Som
 unfolding by_tables
 what_is_no_value_has_the_entry_0 = refl
 
-no_value_without_the_signal : value (meanings_of [] by_tables) (λ s. None) nested ≡ None
-unfolding nested by_tables
+no_value_without_the_signal : value (meanings_in [] no_program by_tables) (λ s. None) nested ≡ None
+unfolding no_program nested by_tables
 no_value_without_the_signal = refl
 
 -- Runs of four positions: 0 and 1 once, then 2 and 3 again and again.
 p : FormulaTree
-p = test (record { predicate = 9; arguments = no_terms })
+p = atom (test (record { predicate = 9; arguments = no_terms }))
 
 q : FormulaTree
-q = test (record { predicate = 8; arguments = no_terms })
+q = atom (test (record { predicate = 8; arguments = no_terms }))
 
 -- the truths of p and of q, position by position
 shown : List Bool → List Bool → Lasso
-shown ps qs = record {
-  start = 2;
-  length = 2;
-  holds = λ i probe. at i (if_nine probe.predicate);
-  assigns = λ i s t. false;
-} where
-  if_nine : ℕ → List Bool
-  if_nine n = if n == 9 then ps else qs
-
+shown ps qs = record { shape = record { start = 2; length = 2 }; holds = shows } where
   at : ℕ → List Bool → Bool
   at i bs = unwrap_or (slice_get bs i) false
 
-next_of_the_last_position_is_the_seam : meets (shown (false ∷ false ∷ true ∷ false ∷ []) []) (next p) 3 ≡ true
+  shows : ℕ → Atom → Bool
+  shows i (test probe) = at i (if probe.predicate == 9 then ps else qs)
+  shows i (update s t) = false
+
+next_of_the_last_position_is_the_seam : meets (shown (false ∷ false ∷ true ∷ false ∷ []) []) (unary Next p) 3 ≡ true
 unfolding p shown
 next_of_the_last_position_is_the_seam = refl
 
-next_does_not_stay : meets (shown (false ∷ false ∷ false ∷ true ∷ []) []) (next p) 3 ≡ false
+next_does_not_stay : meets (shown (false ∷ false ∷ false ∷ true ∷ []) []) (unary Next p) 3 ≡ false
 unfolding p shown
 next_does_not_stay = refl
 
-finally_sees_the_whole_loop : meets (shown (false ∷ false ∷ true ∷ false ∷ []) []) (finally p) 3 ≡ true
+finally_sees_the_whole_loop : meets (shown (false ∷ false ∷ true ∷ false ∷ []) []) (unary Finally p) 3 ≡ true
 unfolding p shown
 finally_sees_the_whole_loop = refl
 
-finally_never_goes_back_to_the_stem : meets (shown (true ∷ true ∷ false ∷ false ∷ []) []) (finally p) 2 ≡ false
+finally_never_goes_back_to_the_stem : meets (shown (true ∷ true ∷ false ∷ false ∷ []) []) (unary Finally p) 2 ≡ false
 unfolding p shown
 finally_never_goes_back_to_the_stem = refl
 
-globally_begins_here : meets (shown (false ∷ true ∷ true ∷ true ∷ []) []) (globally p) 1 ≡ true
+globally_begins_here : meets (shown (false ∷ true ∷ true ∷ true ∷ []) []) (unary Globally p) 1 ≡ true
 unfolding p shown
 globally_begins_here = refl
 
-globally_asks_each_position : meets (shown (true ∷ true ∷ true ∷ false ∷ []) []) (globally p) 0 ≡ false
+globally_asks_each_position : meets (shown (true ∷ true ∷ true ∷ false ∷ []) []) (unary Globally p) 0 ≡ false
 unfolding p shown
 globally_asks_each_position = refl
 
 -- q holds at position 2 alone, so from position 3 it comes only across the seam
-until_across_the_seam : meets (shown (false ∷ false ∷ false ∷ true ∷ []) (false ∷ false ∷ true ∷ false ∷ [])) (until p q) 3 ≡ true
+until_across_the_seam : meets (shown (false ∷ false ∷ false ∷ true ∷ []) (false ∷ false ∷ true ∷ false ∷ [])) (binary Until p q) 3 ≡ true
 unfolding p q shown
 until_across_the_seam = refl
 
-until_wants_its_right_side : meets (shown (true ∷ true ∷ true ∷ true ∷ []) []) (until p q) 0 ≡ false
+until_wants_its_right_side : meets (shown (true ∷ true ∷ true ∷ true ∷ []) []) (binary Until p q) 0 ≡ false
 unfolding p q shown
 until_wants_its_right_side = refl
 
-until_wants_its_left_side_before : meets (shown (true ∷ false ∷ true ∷ true ∷ []) (false ∷ false ∷ true ∷ false ∷ [])) (until p q) 0 ≡ false
+until_wants_its_left_side_before : meets (shown (true ∷ false ∷ true ∷ true ∷ []) (false ∷ false ∷ true ∷ false ∷ [])) (binary Until p q) 0 ≡ false
 unfolding p q shown
 until_wants_its_left_side_before = refl
 
-weak_until_that_is_never_fulfilled : meets (shown (true ∷ true ∷ true ∷ true ∷ []) []) (weak_until p q) 0 ≡ true
+weak_until_that_is_never_fulfilled : meets (shown (true ∷ true ∷ true ∷ true ∷ []) []) (binary WeakUntil p q) 0 ≡ true
 unfolding p q shown
 weak_until_that_is_never_fulfilled = refl
 
-weak_until_that_breaks : meets (shown (true ∷ false ∷ true ∷ true ∷ []) []) (weak_until p q) 0 ≡ false
+weak_until_that_breaks : meets (shown (true ∷ false ∷ true ∷ true ∷ []) []) (binary WeakUntil p q) 0 ≡ false
 unfolding p q shown
 weak_until_that_breaks = refl
 
 -- p releases q at position 1, where both hold
-release_with_both : meets (shown (false ∷ true ∷ false ∷ false ∷ []) (true ∷ true ∷ false ∷ false ∷ [])) (release p q) 0 ≡ true
+release_with_both : meets (shown (false ∷ true ∷ false ∷ false ∷ []) (true ∷ true ∷ false ∷ false ∷ [])) (binary Release p q) 0 ≡ true
 unfolding p q shown
 release_with_both = refl
 
-release_too_late : meets (shown (false ∷ false ∷ true ∷ false ∷ []) (true ∷ true ∷ false ∷ false ∷ [])) (release p q) 0 ≡ false
+release_too_late : meets (shown (false ∷ false ∷ true ∷ false ∷ []) (true ∷ true ∷ false ∷ false ∷ [])) (binary Release p q) 0 ≡ false
 unfolding p q shown
 release_too_late = refl
 
-implication_of_what_fails : meets (shown [] []) (implication p q) 0 ≡ true
+implication_of_what_fails : meets (shown [] []) (binary Implication p q) 0 ≡ true
 unfolding p q shown
 implication_of_what_fails = refl
 
-equivalence_of_two_that_differ : meets (shown (true ∷ []) []) (equivalence p q) 0 ≡ false
+equivalence_of_two_that_differ : meets (shown (true ∷ []) []) (binary Equivalence p q) 0 ≡ false
 unfolding p q shown
 equivalence_of_two_that_differ = refl
 
-both_of_two : meets (shown (true ∷ []) (true ∷ [])) (conjunction (more_formulas p (more_formulas q no_formulas))) 0 ≡ true
+both_of_two : meets (shown (true ∷ []) (true ∷ [])) (many Conjunction (more_formulas p (more_formulas q no_formulas))) 0 ≡ true
 unfolding p q shown
 both_of_two = refl
 
-none_of_two : meets (shown [] []) (disjunction (more_formulas p (more_formulas q no_formulas))) 0 ≡ false
+none_of_two : meets (shown [] []) (many Disjunction (more_formulas p (more_formulas q no_formulas))) 0 ≡ false
 unfolding p q shown
 none_of_two = refl
 
-not_what_holds : meets (shown (true ∷ []) []) (negation p) 0 ≡ false
+not_what_holds : meets (shown (true ∷ []) []) (unary Negation p) 0 ≡ false
 unfolding p shown
 not_what_holds = refl
 
@@ -198,16 +201,16 @@ constant_is_one = record { domain = 2; tables = [] ∷ [] ∷ (1 ∷ []) ∷ [];
 always_one : InputRows ℕ
 always_one = record { stem = []; cycle = (1 ∷ []) ∷ [] }
 
-equal_values : (value (meanings_of [] constant_is_one) (λ s. beside s (0 ∷ []) (1 ∷ [])) constant ≡ Some 1)
-    × (value (meanings_of [] constant_is_one) (λ s. beside s (0 ∷ []) (1 ∷ [])) (signal 0) ≡ Some 1)
-unfolding constant constant_is_one
+equal_values : (value (meanings_in [] takes_the_constant constant_is_one) (λ s. beside s (0 ∷ []) (1 ∷ [])) constant ≡ Some 1)
+    × (value (meanings_in [] takes_the_constant constant_is_one) (λ s. beside s (0 ∷ []) (1 ∷ [])) (signal 0) ≡ Some 1)
+unfolding constant takes_the_constant constant_is_one
 equal_values = (refl, refl)
 
-the_assigned_tree_holds : meets (closed_run (meanings_of [] constant_is_one) takes_the_constant always_one 0 1) (update 1 constant) 0 ≡ true
+the_assigned_tree_holds : meets (closed_run (meanings_in [] takes_the_constant constant_is_one) takes_the_constant always_one (record { start = 0; length = 1 })) (atom (update 1 constant)) 0 ≡ true
 unfolding constant takes_the_constant constant_is_one always_one
 the_assigned_tree_holds = refl
 
-an_equal_value_does_not : meets (closed_run (meanings_of [] constant_is_one) takes_the_constant always_one 0 1) (update 1 (signal 0)) 0 ≡ false
+an_equal_value_does_not : meets (closed_run (meanings_in [] takes_the_constant constant_is_one) takes_the_constant always_one (record { start = 0; length = 1 })) (atom (update 1 (signal 0))) 0 ≡ false
 unfolding constant takes_the_constant constant_is_one always_one
 an_equal_value_does_not = refl
 
@@ -234,7 +237,7 @@ truth_is_one = record { domain = 2; tables = [] ∷ [] ∷ (0 ∷ 1 ∷ []) ∷ 
 one_then_zeros : InputRows ℕ
 one_then_zeros = record { stem = (1 ∷ []) ∷ []; cycle = (0 ∷ []) ∷ [] }
 
-keeps_the_one : configuration_at (meanings_of (1 ∷ []) truth_is_one) remembers one_then_zeros 3
+keeps_the_one : configuration_at (meanings_in [] remembers truth_is_one) remembers one_then_zeros 3
     ≡ Some (record { place = 1; state = 0; cells = 1 ∷ [] })
 unfolding remembers truth_is_one one_then_zeros
 keeps_the_one = refl

@@ -1,2 +1,8 @@
 pub mod Examples
+mod WholeExample
 pub mod OneAction
+pub mod Values
+pub mod Walks
+pub mod Runs
+pub mod Naming
+pub mod PromisedFormulas

@@ -1,11 +1,12 @@
 -- Finite interpretations and eventually periodic inputs. Values are the numbers below the domain.
 -- Source: Finkbeiner, Klein, Piskac, Santolucito: Temporal Stream Logic: Synthesis Beyond the Bools
 -- (CAV 2019), the semantics of functions and predicates, and input streams.
-use Rattle.std.specs.Prelude.{◌≡◌, ◌≢◌, ℕ, ◌+◌, ◌*◌, ◌^◌, ◌<◌, ◌≤◌, ◌==◌, Bool, List, [], ◌∷◌, length, Option, Some, None, option_map, option_and_then, slice_get, fold, All, nat_lt, if◌then◌else◌}
+use Rattle.std.specs.Prelude.{◌≡◌, ◌≢◌, ℕ, ◌+◌, ◌*◌, ◌^◌, ◌<◌, ◌≤◌, ◌==◌, Bool, List, [], length, Option, Some, None, option_map, option_and_then, slice_get, fold, All, nat_lt, if◌then◌else◌}
 use Rattle.std.specs.List.{list_all}
 use Rattle.tsl_terms.specs.declared.names.NameKind.TheVariants.{Function, Predicate}
 use Rattle.tsl_terms.specs.Name.{Name}
 use Rattle.tsl_terms.specs.Value.{Meanings, beside}
+use Rattle.flow_program.specs.ProgramTree.{ProgramTree}
 
 -- how many values there are, the table of each function and predicate at the place of its number among
 -- the names, and the value of each cell at first, in the order of the cells
@@ -36,12 +37,12 @@ abbrev pub entry_at : Interpretation → ℕ → List ℕ → Option ℕ
 entry_at interpretation id arguments =
     option_and_then (entry_of interpretation.domain arguments) (slice_get interpretation.tables id)
 
--- what the symbols of a program with these cells mean: a predicate holds where its entry is 1
-abbrev pub meanings_of : List ℕ → Interpretation → Meanings ℕ
-meanings_of cells interpretation = record {
+-- what the symbols of a program over these names mean: a predicate holds where its entry is 1
+abbrev pub meanings_in : List Name → ProgramTree → Interpretation → Meanings ℕ
+meanings_in names program interpretation = record {
   function = entry_at interpretation;
   predicate = λ p arguments. option_map (λ entry. entry == 1) (entry_at interpretation p arguments);
-  initial = λ s. beside s cells interpretation.initial;
+  initial = λ s. beside s program.cells interpretation.initial;
 }
 
 -- a table for so many arguments, each entry of it below a limit

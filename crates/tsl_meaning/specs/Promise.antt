@@ -1,33 +1,33 @@
 -- What a written program promises.
 use Rattle.std.specs.Prelude.{◌≡◌, ℕ, List}
+use Rattle.std.specs.List.{AllByRecursion}
+use Rattle.loop_shape.specs.LoopShape.{LoopShape}
 use Rattle.tsl_terms.specs.Name.{Name}
 use Rattle.tsl_terms.specs.FormulaTree.{FormulaTree}
 use Rattle.tsl_terms.specs.SpecTree.{SpecTree, whole_formula}
 use Rattle.tsl_terms.specs.Signals.{inputs_of, cells_of, outputs_of}
-use Rattle.std.specs.List.{AllByRecursion}
 use Rattle.tsl_terms.specs.WindowTree.{window_formula_of}
 use Rattle.flow_program.specs.ProgramTree.{ProgramTree}
-use Rattle.flow_program.specs.ProgramText.{IsProgram, IsWritable}
-use Rattle.tsl_meaning.specs.Interpretation.{Interpretation, InputRows, IsInterpretation, IsInputLoop, meanings_of}
+use Rattle.tsl_meaning.specs.OverNames.{IsProgramOver}
+use Rattle.tsl_meaning.specs.Interpretation.{Interpretation, InputRows, IsInterpretation, IsInputLoop, meanings_in}
 use Rattle.tsl_meaning.specs.Run.{Closed}
 use Rattle.tsl_meaning.specs.Lasso.{Meets, closed_run}
 
 -- every closed run, for every closing pair, under every finite interpretation and every input loop, meets the formula
 abbrev pub EveryRunMeets : List Name → ProgramTree → FormulaTree → Type 0
 EveryRunMeets names program formula =
-    (interpretation : Interpretation) (rows : InputRows ℕ) (start length : ℕ) →
+    (interpretation : Interpretation) (rows : InputRows ℕ) (shape : LoopShape) →
     IsInterpretation names program.cells interpretation →
     IsInputLoop interpretation.domain program.inputs rows →
-    Closed (meanings_of program.cells interpretation) program rows start length →
-    Meets (closed_run (meanings_of program.cells interpretation) program rows start length) formula 0
+    Closed (meanings_in names program interpretation) program rows shape →
+    Meets (closed_run (meanings_in names program interpretation) program rows shape) formula 0
 
--- What a program that is written for a specification promises. It is a program over the specification's names,
--- so that each of its steps is there under every interpretation. It has exactly the inputs, cells and outputs of
--- the specification, so that every signal of its formula is one of the program's. Every run of it meets the whole
+-- What a program promises that realizes a specification. It is a program over the specification's names, so that
+-- each of its steps is there under every interpretation. It has exactly the inputs, cells and outputs of the
+-- specification, so that every signal of its formula is one of the program's. Every run of it meets the whole
 -- formula, and the formula of each window.
 pub record Realizes (spec : SpecTree) (program : ProgramTree) : Type 0 where
-  pub is_program : IsProgram program
-  pub is_writable : IsWritable spec.names program
+  pub over_names : IsProgramOver spec.names program
   pub inputs : program.inputs ≡ inputs_of spec
   pub cells : program.cells ≡ cells_of spec
   pub outputs : program.outputs ≡ outputs_of spec

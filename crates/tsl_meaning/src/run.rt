@@ -1,7 +1,7 @@
 //! Input loops, and runs that close.
 
 ghost use Rattle.std.specs.Prelude.{◌≡◌, ◌+◌, ◌<◌, ◌++◌, length as count_of};
-ghost use Rattle.flow_program.specs.Fits.{IsDistinct};
+ghost use Rattle.sequence.specs.Numbers.{IsDistinct};
 ghost use Rattle.tsl_meaning.specs.LoopFits.{PositionsFit};
 
 use sequence::Sequence;

@@ -19,7 +19,7 @@ atoms_of_joined : (fs : List FormulaTree) → atoms_of_members (formulas_of fs) 
 atoms_of_joined [] = refl
 atoms_of_joined (f ∷ fs) = ap (λ xs. atoms f ++ xs) (atoms_of_joined fs)
 
-conjunction_atoms : (fs : List FormulaTree) → atoms (conjunction_of fs) ≡ flat_map atoms fs
+pub conjunction_atoms : (fs : List FormulaTree) → atoms (conjunction_of fs) ≡ flat_map atoms fs
 conjunction_atoms [] = refl
 conjunction_atoms (f ∷ []) = sym (append-nil (atoms f))
 conjunction_atoms (f ∷ g ∷ fs) = atoms_of_joined (f ∷ g ∷ fs)
