@@ -139,7 +139,7 @@ mod tests {
         }
     }
 
-    #[derive(Clone, Copy, Debug, PartialEq, Eq)]
+    #[derive(Clone, Copy)]
     enum Trouble {
         Nowhere,
         AtWrite,
@@ -207,11 +207,11 @@ mod tests {
                 flushes: 0,
                 trouble,
             });
-            assert_eq!(rt; write_all_of(&mut sink, b"hello"), answer, "{trouble:?}");
-            assert_eq!(rt; sink.faults, faults, "{trouble:?}");
+            assert_eq!(rt; write_all_of(&mut sink, b"hello"), answer);
+            assert_eq!(rt; sink.faults, faults);
             let StdSink { writer, faults: _ } = sink;
-            assert_eq!(rt; writer.bytes.as_slice(), bytes, "{trouble:?}");
-            assert_eq!(rt; writer.flushes, flushes, "{trouble:?}");
+            assert_eq!(rt; writer.bytes.as_slice(), bytes);
+            assert_eq!(rt; writer.flushes, flushes);
         }
         Ok(())
     }
