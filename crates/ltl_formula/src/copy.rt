@@ -18,14 +18,8 @@ pub fn copy_ltl(alloc: Global, formula: &Ltl) -> Result<Ltl, NoMemory>
         Ltl::False => Ok(Ltl::False),
         Ltl::Bit(bit) => Ok(Ltl::Bit(*bit)),
         Ltl::NotBit(bit) => Ok(Ltl::NotBit(*bit)),
-        Ltl::All(members) => Ok(Ltl::All(LtlList::from_vec(
-            alloc,
-            copy_members(alloc, members)?,
-        )?)),
-        Ltl::Any(members) => Ok(Ltl::Any(LtlList::from_vec(
-            alloc,
-            copy_members(alloc, members)?,
-        )?)),
+        Ltl::All(members) => Ok(Ltl::All(LtlList::from_vec(alloc, copy_members(alloc, members)?)?)),
+        Ltl::Any(members) => Ok(Ltl::Any(LtlList::from_vec(alloc, copy_members(alloc, members)?)?)),
         Ltl::Next(part) => Ok(Ltl::Next(copy_part(alloc, part)?)),
         Ltl::Until(left, right) => Ok(Ltl::Until(
             copy_part(alloc, left)?,

@@ -31,14 +31,8 @@ fn dual_of(alloc: Global, formula: &Ltl) -> Result<Ltl, NoMemory>
         Ltl::False => Ok(Ltl::True),
         Ltl::Bit(bit) => Ok(Ltl::NotBit(*bit)),
         Ltl::NotBit(bit) => Ok(Ltl::Bit(*bit)),
-        Ltl::All(members) => Ok(Ltl::Any(LtlList::from_vec(
-            alloc,
-            dual_members(alloc, members)?,
-        )?)),
-        Ltl::Any(members) => Ok(Ltl::All(LtlList::from_vec(
-            alloc,
-            dual_members(alloc, members)?,
-        )?)),
+        Ltl::All(members) => Ok(Ltl::Any(LtlList::from_vec(alloc, dual_members(alloc, members)?)?)),
+        Ltl::Any(members) => Ok(Ltl::All(LtlList::from_vec(alloc, dual_members(alloc, members)?)?)),
         Ltl::Next(part) => Ok(Ltl::Next(dual_part(alloc, part)?)),
         Ltl::Until(left, right) => Ok(Ltl::Release(
             dual_part(alloc, left)?,

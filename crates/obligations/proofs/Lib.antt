@@ -1,5 +1,9 @@
+pub mod CubeJoins
 pub mod Examples
+pub mod FormulaNumbers
+pub mod NamedChoices
 pub mod NamingLemmas
 pub mod NumberLemmas
 pub mod ReducingLemmas
 pub mod SetLemmas
+pub mod StepLemmas

@@ -27,11 +27,11 @@ module _ (f : LtlTree) (names : List (Bor Ltl)) (i : ℕ) (n : Bor Ltl) (within 
 
   opened : (o : Ordering) → tree_cmp f (ltl_tree n.now) ≡ o → with_member tree_cmp f (lent_trees names)
       ≡ lent_trees (take i names) ++ match_ordering o (f ∷ (ltl_tree n.now ∷ lent_trees (drop (i + 1) names))) (ltl_tree n.now ∷ lent_trees (drop (i + 1) names))
-          (ltl_tree n.now ∷ with_member tree_cmp f (lent_trees (drop (i + 1) names)))
+      (ltl_tree n.now ∷ with_member tree_cmp f (lent_trees (drop (i + 1) names)))
   opened o is =
       before ∙ ap (λ w. lent_trees (take i names) ++ with_member tree_cmp f w) here
       ∙ ap (λ p. lent_trees (take i names) ++ match_ordering p (f ∷ (ltl_tree n.now ∷ lent_trees (drop (i + 1) names))) (ltl_tree n.now ∷ lent_trees (drop (i + 1) names))
-          (ltl_tree n.now ∷ with_member tree_cmp f (lent_trees (drop (i + 1) names)))) is
+      (ltl_tree n.now ∷ with_member tree_cmp f (lent_trees (drop (i + 1) names)))) is
 
   pub at_less : tree_cmp f (ltl_tree n.now) ≡ Less → with_member tree_cmp f (lent_trees names) ≡ lent_trees (take i names) ++ f ∷ lent_trees (drop i names)
   at_less is = opened Less is ∙ ap (λ w. lent_trees (take i names) ++ f ∷ w) (sym here)
@@ -47,8 +47,8 @@ module _ (f : LtlTree) (names : List (Bor Ltl)) (i : ℕ) (n : Bor Ltl) (within 
       opened Greater is
       ∙ sym (append_assoc (lent_trees (take i names)) (ltl_tree n.now ∷ []) (with_member tree_cmp f (lent_trees (drop (i + 1) names))))
       ∙ ap (λ w. w ++ with_member tree_cmp f (lent_trees (drop (i + 1) names)))
-          (sym (map-append (λ (g : Bor Ltl). ltl_tree g.now) (take i names) (n ∷ []))
-          ∙ ap (λ m. lent_trees (take i names ++ m ∷ [])) at ∙ ap lent_trees (sym (take_more names i n within)))
+      (sym (map-append (λ (g : Bor Ltl). ltl_tree g.now) (take i names) (n ∷ []))
+      ∙ ap (λ m. lent_trees (take i names ++ m ∷ [])) at ∙ ap lent_trees (sym (take_more names i n within)))
 
 pub inserted : (f : Bor Ltl) (names seen new : List (Bor Ltl)) (place : ℕ) → seen ≡ names → new ≡ insert names place f
     → with_member tree_cmp (ltl_tree f.now) (lent_trees seen) ≡ lent_trees (take place seen) ++ ltl_tree f.now ∷ lent_trees (drop place seen)

@@ -92,12 +92,13 @@ module _ {A : Type 0} (same : A → A → Bool) where
     abbrev pub joined : ChoiceOf A → ChoiceOf A → Option (ChoiceOf A)
     joined c d =
         cond (bit_and (bit_xor c.want d.want) (bit_and c.care d.care) == 0)
-          (Some (record {
-            care = bit_or c.care d.care;
-            want = bit_or c.want d.want;
-            next_set = union cmp c.next_set d.next_set;
-            postponed = union cmp c.postponed d.postponed }))
-          None
+        (Some (record {
+          care = bit_or c.care d.care;
+          want = bit_or c.want d.want;
+          next_set = union cmp c.next_set d.next_set;
+          postponed = union cmp c.postponed d.postponed;
+        }))
+        None
 
     -- each choice of the left list with each of the right one, left first
     abbrev pub joins : List (ChoiceOf A) → List (ChoiceOf A) → List (ChoiceOf A)

@@ -2,3 +2,4 @@ pub mod Choices
 pub mod Expansion
 pub mod Numbers
 pub mod Obligations
+pub mod Chosen

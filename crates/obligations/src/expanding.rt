@@ -55,7 +55,7 @@ fn one(alloc: Global, choice: NumberedChoice) -> Result<Vec<NumberedChoice>, NoM
 }
 
 /// The list of the choice that asks for these bits and leaves nothing.
-fn literal(alloc: Global, care: u64, want: u64) -> Result<Vec<NumberedChoice>, NoMemory>
+pub(crate) fn literal(alloc: Global, care: u64, want: u64) -> Result<Vec<NumberedChoice>, NoMemory>
     ensures { IfOk result (λ list. choice_keys list.items
         ≡ record { care = care; want = want; next_set = []; postponed = [] } ∷ []) }
 {

@@ -1,4 +1,15 @@
 //! What one step asks of the letter for a set of formulas to hold, and what it leaves for the next one.
+//!
+//! A choice is a cube, a set of formulas that have to hold at the next position, and the untils among
+//! them that are put off. `step` gives the choices of a set, exactly as `specs/Expansion` defines them:
+//! joins whose cubes contradict each other are dropped, and after each product and each joining of two
+//! lists equal choices are dropped, and those that a different one lies within. It is refused exactly
+//! where a list that is formed on the way has more than 65,536 members.
+//!
+//! The work is done over numbers: `names_of` lists the formulas that steps may leave, in their order, and
+//! a formula's number is its place there. `expand` gives the choices of one formula over numbers. The
+//! order, equality and sets of numbers are those of the formulas with these numbers, so what is made of
+//! numbers is what would be made of formulas; `proofs/NamedChoices` shows it.
 #![tactic(auto)]
 
 mod expanding;
@@ -7,10 +18,16 @@ mod naming;
 mod numbered;
 mod products;
 mod reducing;
+mod set;
 mod sets;
 mod step_error;
+mod stepping;
+#[cfg(test)]
+mod tests;
 
 pub use expanding::{LETTER_BITS, expand, number_of};
 pub use naming::{names_of, names_of_formula};
 pub use numbered::NumberedChoice;
+pub use set::Set;
 pub use step_error::{MOST_CHOICES, StepError};
+pub use stepping::{Choice, step};

@@ -17,7 +17,7 @@ fn place_for(names: &[&Ltl], formula: &Ltl) -> Option<usize>
     ensures place { MatchOption result
         (with_member tree_cmp (ltl_tree formula.now) (lent_trees names.now) ≡ lent_trees names.now)
         (λ place. with_member tree_cmp (ltl_tree formula.now) (lent_trees names.now)
-            ≡ lent_trees (take place names.now) ++ ltl_tree formula.now ∷ lent_trees (drop place names.now)) }
+        ≡ lent_trees (take place names.now) ++ ltl_tree formula.now ∷ lent_trees (drop place names.now)) }
     ensures within { IfSome result (λ place. place ≤ length names.now) }
 {
     for (place, name) in names.iter().enumerate() {

@@ -12,12 +12,12 @@ abbrev pub invariant-expand_all-loop-rest : goal.invariant-expand_all-loop-rest
 invariant-expand_all-loop-rest l = record {
   choices : all_choices_by nat_eq nat_cmp (number_in (lent_trees l.names)) (choice_keys l.so_far.items) (ltl_trees l.rest)
       ≡ all_choices_by nat_eq nat_cmp (number_in (lent_trees l.names)) (empty_choice ∷ []) (ltl_trees l.fn.formulas);
-  left : size-LtlList l.rest ≤ size-LtlList l.initial.rest
+  left : size-LtlList l.rest ≤ size-LtlList l.initial.rest;
 }
 
 abbrev pub invariant-expand_any-loop-rest : goal.invariant-expand_any-loop-rest
 invariant-expand_any-loop-rest l = record {
   choices : any_choices_by nat_eq nat_cmp (number_in (lent_trees l.names)) (choice_keys l.so_far.items) (ltl_trees l.rest)
       ≡ any_choices_by nat_eq nat_cmp (number_in (lent_trees l.names)) [] (ltl_trees l.fn.formulas);
-  left : size-LtlList l.rest ≤ size-LtlList l.initial.rest
+  left : size-LtlList l.rest ≤ size-LtlList l.initial.rest;
 }

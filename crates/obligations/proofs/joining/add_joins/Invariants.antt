@@ -10,5 +10,5 @@ abbrev pub invariant-loop-choice : goal.invariant-loop-choice
 invariant-loop-choice l = record {
   choices : choice_keys l.list.items ++ filter_map (joined nat_eq nat_cmp (choice_key l.left)) (choice_keys (drop l.choice-index l.right))
       ≡ choice_keys l.fn.list.items ++ filter_map (joined nat_eq nat_cmp (choice_key l.left)) (choice_keys l.right);
-  few : length l.list.items ≤ most_choices
+  few : length l.list.items ≤ most_choices;
 }

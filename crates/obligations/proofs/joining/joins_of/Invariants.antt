@@ -9,5 +9,5 @@ abbrev pub invariant-loop-choice : goal.invariant-loop-choice
 invariant-loop-choice l = record {
   choices : choice_keys l.list.items ++ joins nat_eq nat_cmp (choice_keys (drop l.choice-index l.left)) (choice_keys l.right)
       ≡ joins nat_eq nat_cmp (choice_keys l.left) (choice_keys l.right);
-  few : length l.list.items ≤ most_choices
+  few : length l.list.items ≤ most_choices;
 }

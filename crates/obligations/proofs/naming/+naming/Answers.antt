@@ -9,5 +9,5 @@ add_obligations_of_all-loop-rest-preserved t c = record {
   names = rest_step _ _ _ (ltl_tree c.deref.result.now) _ (ltl_trees c.deref-rest.result.now)
       (ap ltl_trees c.in-More.is ∙ (λ i. more_formulas (ltl_tree (sym c.deref.ensures i)) (ltl_trees (sym c.deref-rest.ensures i))))
       c.loop-rest.invariant.names c.in_ok-add_obligations.ensures;
-  left = search (rules, the_lemmas)
+  left = search (rules, the_lemmas);
 }

@@ -12,5 +12,5 @@ abbrev pub invariant-add_obligations_of_all-loop-rest : goal.invariant-add_oblig
 invariant-add_obligations_of_all-loop-rest l = record {
   names : union tree_cmp (lent_trees l.names.items) (obligations_of_all (ltl_trees l.rest))
       ≡ union tree_cmp (lent_trees l.fn.names.items) (obligations_of_all (ltl_trees l.fn.formulas));
-  left : size-LtlList l.rest ≤ size-LtlList l.fn.formulas
+  left : size-LtlList l.rest ≤ size-LtlList l.fn.formulas;
 }

@@ -1,0 +1,80 @@
+-- Lists that rise keep rising with one more member, and have the members that they should.
+use Rattle.std.proofs.Common.{◌≡◌, ◌∙◌, Bool, true, false, ◌||◌, List, [], ◌∷◌, refl, sym, ap}
+use Rattle.std.specs.List.{list_any, AllByRecursion}
+use Rattle.std.specs.declared.cmp.Ordering.{Ordering}
+use Rattle.std.specs.declared.cmp.Ordering.TheVariants.{Less, Equal, Greater}
+use Rattle.std.specs.Ordering.{match_ordering, ordering_reverse}
+use Rattle.std.specs.Cmp.{IsTotalOrder}
+use Rattle.ltl_formula.specs.Increasing.{IsIncreasing, with_member, union}
+
+or_again : (a b : Bool) → (a || b) ≡ (a || (a || b))
+or_again true b = refl
+or_again false b = refl
+
+or_swap : (a b c : Bool) → (b || (a || c)) ≡ (a || (b || c))
+or_swap true true c = refl
+or_swap true false c = refl
+or_swap false true c = refl
+or_swap false false c = refl
+
+or_assoc : (a b c : Bool) → ((a || b) || c) ≡ (b || (a || c))
+or_assoc true true c = refl
+or_assoc true false c = refl
+or_assoc false true c = refl
+or_assoc false false c = refl
+
+or_none : (a : Bool) → (a || false) ≡ a
+or_none true = refl
+or_none false = refl
+
+module _ {A : Type 0} (cmp : A → A → Ordering) where
+  -- what holds of a member and of each of a list holds of each with that member
+  pub each-with_member : (P : A → Type 0) (x : A) (ys : List A) → P x → AllByRecursion P ys → AllByRecursion P (with_member cmp x ys)
+  each-with_member P x [] here each = (here, each)
+  each-with_member P x (y ∷ ys) here each = by (cmp x y) (each-with_member P x ys here each.1)
+    where
+      by : (o : Ordering) → AllByRecursion P (with_member cmp x ys) → AllByRecursion P (match_ordering o (x ∷ (y ∷ ys)) (y ∷ ys) (y ∷ with_member cmp x ys))
+      by Less rest = (here, each)
+      by Equal rest = each
+      by Greater rest = (each.0, rest)
+
+  pub each-union : (P : A → Type 0) (xs ys : List A) → AllByRecursion P xs → AllByRecursion P ys → AllByRecursion P (union cmp xs ys)
+  each-union P xs [] left right = left
+  each-union P xs (y ∷ ys) left right = each-union P (with_member cmp y xs) ys (each-with_member P y xs right.0 left) right.1
+
+  module _ (total : IsTotalOrder cmp) where
+    below : (x y : A) (ys : List A) → cmp x y ≡ Less → AllByRecursion (λ z. cmp y z ≡ Less) ys → AllByRecursion (λ z. cmp x z ≡ Less) ys
+    below x y [] less each = tt
+    below x y (z ∷ ys) less each = (total.trans x y z less each.0, below x y ys less each.1)
+
+    pub rises-with_member : (x : A) (ys : List A) → IsIncreasing cmp ys → IsIncreasing cmp (with_member cmp x ys)
+    rises-with_member x [] up = (tt, tt)
+    rises-with_member x (y ∷ ys) up = by (cmp x y) refl (rises-with_member x ys up.1)
+      where
+        by : (o : Ordering) → cmp x y ≡ o → IsIncreasing cmp (with_member cmp x ys)
+            → IsIncreasing cmp (match_ordering o (x ∷ (y ∷ ys)) (y ∷ ys) (y ∷ with_member cmp x ys))
+        by Less is rest = ((is, below x y ys is up.0), up)
+        by Equal is rest = up
+        by Greater is rest = (each-with_member (λ z. cmp y z ≡ Less) x ys (total.antisymm y x ∙ ap ordering_reverse is) up.0, rest)
+
+    pub rises-union : (xs ys : List A) → IsIncreasing cmp xs → IsIncreasing cmp (union cmp xs ys)
+    rises-union xs [] up = up
+    rises-union xs (y ∷ ys) up = rises-union (with_member cmp y xs) ys (rises-with_member y xs up)
+
+  -- a test passes for some member of both lists exactly where it passes for some member of one
+  module _ (same : (x y : A) → cmp x y ≡ Equal → x ≡ y) (p : A → Bool) where
+    pub any-with_member : (x : A) (ys : List A) → list_any p (with_member cmp x ys) ≡ (p x || list_any p ys)
+    any-with_member x [] = refl
+    any-with_member x (y ∷ ys) = by (cmp x y) refl (any-with_member x ys)
+      where
+        by : (o : Ordering) → cmp x y ≡ o → list_any p (with_member cmp x ys) ≡ (p x || list_any p ys)
+            → list_any p (match_ordering o (x ∷ (y ∷ ys)) (y ∷ ys) (y ∷ with_member cmp x ys)) ≡ (p x || (p y || list_any p ys))
+        by Less is rest = refl
+        by Equal is rest = or_again (p y) (list_any p ys) ∙ ap (λ z. p z || (p y || list_any p ys)) (sym (same x y is))
+        by Greater is rest = ap (λ b. p y || b) rest ∙ or_swap (p x) (p y) (list_any p ys)
+
+    pub any-union : (xs ys : List A) → list_any p (union cmp xs ys) ≡ (list_any p xs || list_any p ys)
+    any-union xs [] = sym (or_none (list_any p xs))
+    any-union xs (y ∷ ys) =
+        any-union (with_member cmp y xs) ys ∙ ap (λ b. b || list_any p ys) (any-with_member y xs)
+        ∙ or_assoc (p y) (list_any p xs) (list_any p ys)
