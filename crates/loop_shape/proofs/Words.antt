@@ -15,7 +15,8 @@ not_any_is_all : (a : ℕ → Bool) (is : List ℕ) → not (list_any a is) ≡ 
 not_any_is_all a [] = refl
 not_any_is_all a (i ∷ is) = by (a i) (not_any_is_all a is)
   where
-    by : (b : Bool) → not (list_any a is) ≡ list_all (λ j. not (a j)) is → not (b || list_any a is) ≡ (not b && list_all (λ j. not (a j)) is)
+    by : (b : Bool) → not (list_any a is) ≡ list_all (λ j. not (a j)) is →
+        not (b || list_any a is) ≡ (not b && list_all (λ j. not (a j)) is)
     by true rest = refl
     by false rest = rest
 

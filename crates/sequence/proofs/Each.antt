@@ -1,5 +1,27 @@
 -- What holds of each member of a list, by recursion.
-use Rattle.std.proofs.Common.{◌≡◌, ℕ, zero, suc, Bool, true, false, cond, List, [], ◌∷◌, ◌++◌, Some, map, filter, flat_map, slice_get, Contains, refl, subst, arith}
+use Rattle.std.proofs.Common.{
+  ◌≡◌,
+  ℕ,
+  zero,
+  suc,
+  Bool,
+  true,
+  false,
+  cond,
+  List,
+  [],
+  ◌∷◌,
+  ◌++◌,
+  Some,
+  map,
+  filter,
+  flat_map,
+  slice_get,
+  Contains,
+  refl,
+  subst,
+  arith,
+}
 use Rattle.std.specs.List.{AllByRecursion}
 
 module _ {X : Type 0} (P : X → Type 0) where
@@ -51,7 +73,8 @@ module _ {X : Type 0} (P : X → Type 0) where
   each_map f [] each = tt
   each_map f (y ∷ ys) each = (each.0, each_map f ys each.1)
 
-  pub each_flat_map : {Y : Type 0} (f : Y → List X) (ys : List Y) → AllByRecursion (λ y. AllByRecursion P (f y)) ys → AllByRecursion P (flat_map f ys)
+  pub each_flat_map : {Y : Type 0} (f : Y → List X) (ys : List Y) → AllByRecursion (λ y. AllByRecursion P (f y)) ys →
+      AllByRecursion P (flat_map f ys)
   each_flat_map f [] each = tt
   each_flat_map f (y ∷ ys) each = each_joined (f y) (flat_map f ys) each.0 (each_flat_map f ys each.1)
 
@@ -60,6 +83,7 @@ pub each_weaker : {X : Type 0} (P Q : X → Type 0) → ((x : X) → P x → Q x
 each_weaker P Q f [] each = tt
 each_weaker P Q f (x ∷ xs) each = (f x each.0, each_weaker P Q f xs each.1)
 
-pub each_both : {X : Type 0} (P Q R : X → Type 0) → ((x : X) → P x → Q x → R x) → (xs : List X) → AllByRecursion P xs → AllByRecursion Q xs → AllByRecursion R xs
+pub each_both : {X : Type 0} (P Q R : X → Type 0) → ((x : X) → P x → Q x → R x) → (xs : List X) → AllByRecursion P xs →
+    AllByRecursion Q xs → AllByRecursion R xs
 each_both P Q R f [] first second = tt
 each_both P Q R f (x ∷ xs) first second = (f x first.0 second.0, each_both P Q R f xs first.1 second.1)

@@ -7,13 +7,15 @@ use Rattle.sequence.specs.Kept.{is_kept, with_new}
 use Rattle.sequence.proofs.Passes.{filter_filter, filter_true, list_any-map}
 
 -- one list after another
-pub with_new-append : {A : Type 0} (same : A → A → Bool) (kept xs ys : List A) → with_new same (with_new same kept xs) ys ≡ with_new same kept (xs ++ ys)
+pub with_new-append : {A : Type 0} (same : A → A → Bool) (kept xs ys : List A) →
+    with_new same (with_new same kept xs) ys ≡ with_new same kept (xs ++ ys)
 with_new-append same kept [] ys = refl
 with_new-append same kept (x ∷ xs) ys = with_new-append same (cond (is_kept same kept x) kept (kept ++ x ∷ [])) xs ys
 
 -- `firsts` gives each member where it stands first
 module _ {A : Type 0} (same : A → A → Bool) (is : (a b : A) → same a b ≡ true → a ≡ b)
-    (firsts : List A → List A) (firsts_none : firsts [] ≡ []) (firsts_more : (x : A) (xs : List A) → firsts (x ∷ xs) ≡ x ∷ filter (λ y. not (same x y)) (firsts xs)) where
+    (firsts : List A → List A) (firsts_none : firsts [] ≡ []) (firsts_more : (x : A) (xs : List A) →
+    firsts (x ∷ xs) ≡ x ∷ filter (λ y. not (same x y)) (firsts xs)) where
   -- what is not among a list with one more member
   not_kept_push : (kept : List A) (x y : A) → (not (same x y) && not (is_kept same kept y)) ≡ not (is_kept same (kept ++ x ∷ []) y)
   not_kept_push kept x y = by (same x y) (is_kept same kept y) ∙ ap not (sym (list_any-append (λ k. same k y) kept (x ∷ [])))
@@ -25,7 +27,8 @@ module _ {A : Type 0} (same : A → A → Bool) (is : (a b : A) → same a b ≡
       by false false = refl
 
   -- what is not among a list is not a member of it
-  not_kept_member : (kept : List A) (x y : A) → is_kept same kept x ≡ true → (not (same x y) && not (is_kept same kept y)) ≡ not (is_kept same kept y)
+  not_kept_member : (kept : List A) (x y : A) → is_kept same kept x ≡ true →
+      (not (same x y) && not (is_kept same kept y)) ≡ not (is_kept same kept y)
   not_kept_member kept x y member = by (same x y) refl
     where
       by : (b : Bool) → same x y ≡ b → (not b && not (is_kept same kept y)) ≡ not (is_kept same kept y)
@@ -49,7 +52,9 @@ module _ {A : Type 0} (same : A → A → Bool) (is : (a b : A) → same a b ≡
           ∙ dropped at
           ∙ ap (filter (λ y. not (is_kept same kept y))) (sym (firsts_more x xs)))
         where
-          dropped : is_kept same kept x ≡ true → filter (λ y. not (is_kept same kept y)) (filter (λ y. not (same x y)) (firsts xs)) ≡ filter (λ y. not (is_kept same kept y)) (x ∷ filter (λ y. not (same x y)) (firsts xs))
+          dropped : is_kept same kept x ≡ true →
+              filter (λ y. not (is_kept same kept y)) (filter (λ y. not (same x y)) (firsts xs))
+              ≡ filter (λ y. not (is_kept same kept y)) (x ∷ filter (λ y. not (same x y)) (firsts xs))
           dropped at = rw at refl
       by old new false at =
           new
@@ -61,7 +66,9 @@ module _ {A : Type 0} (same : A → A → Bool) (is : (a b : A) → same a b ≡
           ∙ kept_first at
           ∙ ap (filter (λ y. not (is_kept same kept y))) (sym (firsts_more x xs)))
         where
-          kept_first : is_kept same kept x ≡ false → x ∷ filter (λ y. not (is_kept same kept y)) (filter (λ y. not (same x y)) (firsts xs)) ≡ filter (λ y. not (is_kept same kept y)) (x ∷ filter (λ y. not (same x y)) (firsts xs))
+          kept_first : is_kept same kept x ≡ false →
+              x ∷ filter (λ y. not (is_kept same kept y)) (filter (λ y. not (same x y)) (firsts xs))
+              ≡ filter (λ y. not (is_kept same kept y)) (x ∷ filter (λ y. not (same x y)) (firsts xs))
           kept_first at = rw at refl
 
   -- from nothing on
@@ -70,22 +77,28 @@ module _ {A : Type 0} (same : A → A → Bool) (is : (a b : A) → same a b ≡
 
 module _ {A M : Type 0} (view : A → M) (same : M → M → Bool) (old : List A) (x : M) where
   -- what did not stand in a list is added
-  pub with_new-absent : (new : List A) (copy : A) (among : Bool) → among ≡ list_any (λ p. same (view p) x) old → among ≡ false → new ≡ old ++ copy ∷ [] → view copy ≡ x → map view new ≡ with_new same (map view old) (x ∷ [])
+  pub with_new-absent : (new : List A) (copy : A) (among : Bool) → among ≡ list_any (λ p. same (view p) x) old → among ≡ false →
+      new ≡ old ++ copy ∷ [] → view copy ≡ x → map view new ≡ with_new same (map view old) (x ∷ [])
   with_new-absent new copy among is absent push equal =
-      ap (map view) push ∙ map_push view old copy ∙ ap (λ y. map view old ++ y ∷ []) equal ∙ chosen (list_any-map view (λ k. same k x) old ∙ sym is ∙ absent)
+      ap (map view) push ∙ map_push view old copy ∙ ap (λ y. map view old ++ y ∷ []) equal
+      ∙ chosen (list_any-map view (λ k. same k x) old ∙ sym is ∙ absent)
     where
-      chosen : is_kept same (map view old) x ≡ false → map view old ++ x ∷ [] ≡ cond (is_kept same (map view old) x) (map view old) (map view old ++ x ∷ [])
+      chosen : is_kept same (map view old) x ≡ false →
+          map view old ++ x ∷ [] ≡ cond (is_kept same (map view old) x) (map view old) (map view old ++ x ∷ [])
       chosen at = rw at refl
 
   -- and what stood there is not
-  pub with_new-present : (among : Bool) → among ≡ list_any (λ p. same (view p) x) old → among ≡ true → map view old ≡ with_new same (map view old) (x ∷ [])
+  pub with_new-present : (among : Bool) → among ≡ list_any (λ p. same (view p) x) old → among ≡ true →
+      map view old ≡ with_new same (map view old) (x ∷ [])
   with_new-present among is present = chosen (list_any-map view (λ k. same k x) old ∙ sym is ∙ present)
     where
-      chosen : is_kept same (map view old) x ≡ true → map view old ≡ cond (is_kept same (map view old) x) (map view old) (map view old ++ x ∷ [])
+      chosen : is_kept same (map view old) x ≡ true →
+          map view old ≡ cond (is_kept same (map view old) x) (map view old) (map view old ++ x ∷ [])
       chosen at = rw at refl
 
 -- a step that takes a first part, where another is left
-pub with_new-step : {A : Type 0} (same : A → A → Bool) (kept new xs ys all : List A) → with_new same kept (xs ++ ys) ≡ all → new ≡ with_new same kept xs → with_new same new ys ≡ all
+pub with_new-step : {A : Type 0} (same : A → A → Bool) (kept new xs ys all : List A) → with_new same kept (xs ++ ys) ≡ all →
+    new ≡ with_new same kept xs → with_new same new ys ≡ all
 with_new-step same kept new xs ys all before step =
     ap (λ ks. with_new same ks ys) step ∙ with_new-append same kept xs ys ∙ before
 

@@ -1,5 +1,26 @@
 -- Lists that are joined, mapped, or taken apart.
-use Rattle.std.proofs.Common.{◌≡◌, ℕ, ◌+◌, ◌<◌, List, [], ◌∷◌, ◌++◌, length, take, drop, map, flat_map, get_or, refl, sym, ap, ◌∙◌, append_assoc, arith}
+use Rattle.std.proofs.Common.{
+  ◌≡◌,
+  ℕ,
+  ◌+◌,
+  ◌<◌,
+  List,
+  [],
+  ◌∷◌,
+  ◌++◌,
+  length,
+  take,
+  drop,
+  map,
+  flat_map,
+  get_or,
+  refl,
+  sym,
+  ap,
+  ◌∙◌,
+  append_assoc,
+  arith,
+}
 use Rattle.std.proofs.lemmas.List.{drop_more}
 
 -- two lists that begin with as many members and are equal have equal fronts and equal rests
@@ -33,7 +54,8 @@ pub flat_map_agree : {X Y : Type 0} (f g : X → List Y) → ((x : X) → f x �
 flat_map_agree f g same xs = λ i. flat_map (λ x. same x i) xs
 
 -- a loop that writes: what is written and what is left make the whole
-pub written_step : {X : Type 0} (before after piece left rest whole : List X) → before ++ left ≡ whole → left ≡ piece ++ rest → after ≡ before ++ piece → after ++ rest ≡ whole
+pub written_step : {X : Type 0} (before after piece left rest whole : List X) → before ++ left ≡ whole → left ≡ piece ++ rest →
+    after ≡ before ++ piece → after ++ rest ≡ whole
 written_step {X = X} before after piece left rest whole written splits more =
     ap (λ (ys : List X). ys ++ rest) more
     ∙ append_assoc before piece rest

@@ -1,5 +1,36 @@
 -- Numbers among others, the numbers from a first one on, and lists in which no number stands twice.
-use Rattle.std.proofs.Common.{◌≡◌, ℕ, zero, suc, ◌+◌, ◌<◌, ◌≤◌, ◌==◌, Bool, true, false, ◌&&◌, ◌||◌, cond, List, [], ◌∷◌, ◌++◌, length, Some, slice_get, refl, sym, ap, ◌∙◌, subst, inl, inr, add-one, arith}
+use Rattle.std.proofs.Common.{
+  ◌≡◌,
+  ℕ,
+  zero,
+  suc,
+  ◌+◌,
+  ◌<◌,
+  ◌≤◌,
+  ◌==◌,
+  Bool,
+  true,
+  false,
+  ◌&&◌,
+  ◌||◌,
+  cond,
+  List,
+  [],
+  ◌∷◌,
+  ◌++◌,
+  length,
+  Some,
+  slice_get,
+  refl,
+  sym,
+  ap,
+  ◌∙◌,
+  subst,
+  inl,
+  inr,
+  add-one,
+  arith,
+}
 use Rattle.std.specs.List.{filter, flat_map}
 use Rattle.std.proofs.lemmas.Bool.{false≢true}
 use Rattle.std.proofs.lemmas.Bool.Decides.{eqb_tells}
@@ -52,7 +83,8 @@ pub numbers_more : (first count last : ℕ) → first + count ≡ last → numbe
 numbers_more first zero last e = let same : first ≡ last = omega arith in ap (λ m. m ∷ []) same
 numbers_more first (suc count) last e = ap (λ rest. first ∷ rest) (numbers_more (suc first) count last (omega arith))
 
-pub numbers_passed_more : (p : ℕ → Bool) (n : ℕ) (old new : List ℕ) (here : Bool) → old ≡ filter p (numbers_from 0 n) → new ≡ old ++ cond here (n ∷ []) [] → here ≡ p n → new ≡ filter p (numbers_from 0 (n + 1))
+pub numbers_passed_more : (p : ℕ → Bool) (n : ℕ) (old new : List ℕ) (here : Bool) → old ≡ filter p (numbers_from 0 n) →
+    new ≡ old ++ cond here (n ∷ []) [] → here ≡ p n → new ≡ filter p (numbers_from 0 (n + 1))
 numbers_passed_more p n old new here so_far step is =
     step ∙ (λ i. so_far i ++ cond (is i) (n ∷ []) [])
     ∙ sym (filter_push p (numbers_from 0 n) n)
@@ -66,7 +98,8 @@ length-numbers first (suc count) = ap suc (length-numbers (suc first) count)
 pub numbers_at : (first count i : ℕ) → i < count → slice_get (numbers_from first count) i ≡ Some (first + i)
 numbers_at first zero i below = absurd (omega arith)
 numbers_at first (suc count) zero below = let e : first ≡ first + 0 = omega arith in ap Some e
-numbers_at first (suc count) (suc i) below = numbers_at (suc first) count i (omega arith) ∙ ap Some (let e : suc first + i ≡ first + suc i = omega arith in e)
+numbers_at first (suc count) (suc i) below = numbers_at (suc first) count i (omega arith)
+    ∙ ap Some (let e : suc first + i ≡ first + suc i = omega arith in e)
 
 pub among_numbers : (first count n : ℕ) → first ≤ n → n < first + count → is_among (numbers_from first count) n ≡ true
 among_numbers first zero n from below = absurd (omega arith)
@@ -99,7 +132,8 @@ apart_filter p (n ∷ ns) apart = by (p n) (apart_filter p ns apart.1)
     by true rest = (among_filter p n ns ∙ ap (λ b. b && p n) apart.0, rest)
     by false rest = rest
 
-pub apart_append : (ns ms : List ℕ) → AreApart ns → AreApart ms → ((n : ℕ) → is_among ns n ≡ true → is_among ms n ≡ false) → AreApart (ns ++ ms)
+pub apart_append : (ns ms : List ℕ) → AreApart ns → AreApart ms → ((n : ℕ) → is_among ns n ≡ true → is_among ms n ≡ false) →
+    AreApart (ns ++ ms)
 apart_append [] ms apart others disjoint = others
 apart_append (n ∷ ns) ms apart others disjoint = (
   list_any-append (λ m. m == n) ns ms ∙ (λ i. apart.0 i || disjoint n (among_first n ns) i),
@@ -118,7 +152,8 @@ distinct_from_apart (m ∷ ns) apart (suc i) zero n at_i at_j =
 distinct_from_apart (m ∷ ns) apart (suc i) (suc j) n at_i at_j = ap suc (distinct_from_apart ns apart.1 i j n at_i at_j)
 
 -- one thing for each number makes a list of the same length
-pub length_one_each : {V : Type 0} (f : ℕ → List V) (ns : List ℕ) → ((n : ℕ) → is_among ns n ≡ true → length (f n) ≡ 1) → length (flat_map f ns) ≡ length ns
+pub length_one_each : {V : Type 0} (f : ℕ → List V) (ns : List ℕ) → ((n : ℕ) → is_among ns n ≡ true → length (f n) ≡ 1) →
+    length (flat_map f ns) ≡ length ns
 length_one_each f [] one = refl
 length_one_each f (n ∷ ns) one =
     let first = one n (among_first n ns) in

@@ -9,7 +9,8 @@ pub one_value : {X : Type 0} (o : Option X) (x y : X) → o ≡ Some x → o ≡
 one_value o x y is too i = same_Some x y (sym is ∙ too) i
 
 -- a test that an option's value passes, and where there is none does not
-pub some_passes : {X : Type 0} (o : Option X) (test : X → Bool) → IsTrue (option_map_or test o false) → (x : X) × (o ≡ Some x) × IsTrue (test x)
+pub some_passes : {X : Type 0} (o : Option X) (test : X → Bool) → IsTrue (option_map_or test o false) →
+    (x : X) × (o ≡ Some x) × IsTrue (test x)
 some_passes None test passes = absurd cc
 some_passes (Some x) test passes = (x, refl, passes)
 

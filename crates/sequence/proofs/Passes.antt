@@ -1,5 +1,39 @@
 -- Tests that all members of a list pass, or some, and lists of those that pass.
-use Rattle.std.proofs.Common.{◌≡◌, ℕ, zero, suc, ◌+◌, ◌<◌, ◌≤◌, Bool, true, false, ◌&&◌, ◌||◌, cond, List, [], ◌∷◌, ◌++◌, length, map, filter, flat_map, take, get_or, Some, slice_get, Contains, refl, sym, ap, ◌∙◌, arith, inl, inr}
+use Rattle.std.proofs.Common.{
+  ◌≡◌,
+  ℕ,
+  zero,
+  suc,
+  ◌+◌,
+  ◌<◌,
+  ◌≤◌,
+  Bool,
+  true,
+  false,
+  ◌&&◌,
+  ◌||◌,
+  cond,
+  List,
+  [],
+  ◌∷◌,
+  ◌++◌,
+  length,
+  map,
+  filter,
+  flat_map,
+  take,
+  get_or,
+  Some,
+  slice_get,
+  Contains,
+  refl,
+  sym,
+  ap,
+  ◌∙◌,
+  arith,
+  inl,
+  inr,
+}
 use Rattle.std.specs.Prelude.{IsTrue}
 use Rattle.std.specs.Option.{option_map_or}
 use Rattle.std.specs.List.{AllByRecursion, list_all, list_any, prefix_len}
@@ -48,7 +82,8 @@ module _ {X : Type 0} (p : X → Bool) where
   pub list_any_contained : (xs : List X) (x : X) → Contains xs x → p x ≡ true → list_any p xs ≡ true
   list_any_contained [] x stands passes = absurd (omega (arith, stands.1))
   list_any_contained (y ∷ ys) x (zero, within, is) passes = or_left (p y) (list_any p ys) (ap p is ∙ passes)
-  list_any_contained (y ∷ ys) x (suc k, within, is) passes = or_right (p y) (list_any p ys) (list_any_contained ys x (k, omega arith, is) passes)
+  list_any_contained (y ∷ ys) x (suc k, within, is) passes =
+      or_right (p y) (list_any p ys) (list_any_contained ys x (k, omega arith, is) passes)
 
   pub list_any_place : (xs : List X) → list_any p xs ≡ true → (i : ℕ) × (x : X) × (slice_get xs i ≡ Some x) × (p x ≡ true)
   list_any_place [] some = absurd cc
@@ -84,7 +119,8 @@ module _ {X : Type 0} (p : X → Bool) where
       (0, ap (λ b. slice_get (cond b (y ∷ filter p ys) (filter p ys)) 0) (ap p same ∙ passes) ∙ ap Some same)
   filter_has (y ∷ ys) (suc i) x is passes = by (p y) (filter_has ys i x is passes)
     where
-      by : (b : Bool) → (k : ℕ) × (slice_get (filter p ys) k ≡ Some x) → (k : ℕ) × (slice_get (cond b (y ∷ filter p ys) (filter p ys)) k ≡ Some x)
+      by : (b : Bool) → (k : ℕ) × (slice_get (filter p ys) k ≡ Some x) →
+          (k : ℕ) × (slice_get (cond b (y ∷ filter p ys) (filter p ys)) k ≡ Some x)
       by true k = (suc k.0, k.1)
       by false k = k
 
@@ -100,7 +136,8 @@ module _ {X : Type 0} (p : X → Bool) where
   filter_push [] y = refl
   filter_push (x ∷ xs) y = rw (filter_push xs y) (by (p x))
     where
-      by : (b : Bool) → cond b (x ∷ (filter p xs ++ cond (p y) (y ∷ []) [])) (filter p xs ++ cond (p y) (y ∷ []) []) ≡ cond b (x ∷ filter p xs) (filter p xs) ++ cond (p y) (y ∷ []) []
+      by : (b : Bool) → cond b (x ∷ (filter p xs ++ cond (p y) (y ∷ []) [])) (filter p xs ++ cond (p y) (y ∷ []) [])
+          ≡ cond b (x ∷ filter p xs) (filter p xs) ++ cond (p y) (y ∷ []) []
       by true = refl
       by false = refl
 
@@ -109,7 +146,8 @@ module _ {X : Type 0} (p : X → Bool) where
   list_all-prefix [] = refl
   list_all-prefix (x ∷ xs) = by (p x) refl (list_all-prefix xs)
     where
-      by : (b : Bool) → p x ≡ b → list_all p (take (prefix_len p xs) xs) ≡ true → list_all p (take (cond b (1 + prefix_len p xs) 0) (x ∷ xs)) ≡ true
+      by : (b : Bool) → p x ≡ b → list_all p (take (prefix_len p xs) xs) ≡ true →
+          list_all p (take (cond b (1 + prefix_len p xs) 0) (x ∷ xs)) ≡ true
       by true passes rest =
           let next : 1 + prefix_len p xs ≡ suc (prefix_len p xs) = omega arith in
           ap (λ n. list_all p (take n (x ∷ xs))) next ∙ and_from (p x) _ passes rest
@@ -124,7 +162,8 @@ module _ {X : Type 0} (p : X → Bool) where
       omega arith
 
 -- a test of what stands at a place puts the place within the list
-pub within_from_test : {X : Type 0} (xs : List X) (i : ℕ) (test : X → Bool) → IsTrue (option_map_or test (slice_get xs i) false) → i < length xs
+pub within_from_test : {X : Type 0} (xs : List X) (i : ℕ) (test : X → Bool) → IsTrue (option_map_or test (slice_get xs i) false) →
+    i < length xs
 within_from_test [] i test passes = absurd cc
 within_from_test (x ∷ xs) zero test passes = omega arith
 within_from_test (x ∷ xs) (suc i) test passes = let deeper = within_from_test xs i test passes in omega arith
@@ -134,12 +173,14 @@ pub list_any-map : {X Y : Type 0} (f : X → Y) (p : Y → Bool) (xs : List X) �
 list_any-map f p [] = refl
 list_any-map f p (x ∷ xs) = ap (λ b. p (f x) || b) (list_any-map f p xs)
 
-pub map_passes_within : {X Y : Type 0} (f : X → Y) (p : Y → Bool) (xs : List X) (i : ℕ) (d : X) → list_all p (map f xs) ≡ true → i < length xs → p (f (get_or xs i d)) ≡ true
+pub map_passes_within : {X Y : Type 0} (f : X → Y) (p : Y → Bool) (xs : List X) (i : ℕ) (d : X) → list_all p (map f xs) ≡ true →
+    i < length xs → p (f (get_or xs i d)) ≡ true
 map_passes_within f p [] i d all within = absurd (omega arith)
 map_passes_within f p (x ∷ xs) zero d all within = (and_parts _ _ all).0
 map_passes_within f p (x ∷ xs) (suc i) d all within = map_passes_within f p xs i d (and_parts _ _ all).1 (omega arith)
 
-pub list_all_flat_map : {X Y : Type 0} (p : X → Bool) (f : Y → List X) → ((y : Y) → list_all p (f y) ≡ true) → (ys : List Y) → list_all p (flat_map f ys) ≡ true
+pub list_all_flat_map : {X Y : Type 0} (p : X → Bool) (f : Y → List X) → ((y : Y) → list_all p (f y) ≡ true) → (ys : List Y) →
+    list_all p (flat_map f ys) ≡ true
 list_all_flat_map p f each [] = refl
 list_all_flat_map p f each (y ∷ ys) =
     list_all-append p (f y) (flat_map f ys)
@@ -166,7 +207,8 @@ pub filter_filter : {X : Type 0} (p q : X → Bool) (xs : List X) → filter p (
 filter_filter p q [] = refl
 filter_filter p q (x ∷ xs) = let rest = filter_filter p q xs in by rest (q x) (p x) refl
   where
-    by : filter p (filter q xs) ≡ filter (λ y. q y && p y) xs → (b c : Bool) → p x ≡ c → filter p (cond b (x ∷ filter q xs) (filter q xs)) ≡ cond (b && p x) (x ∷ filter (λ y. q y && p y) xs) (filter (λ y. q y && p y) xs)
+    by : filter p (filter q xs) ≡ filter (λ y. q y && p y) xs → (b c : Bool) → p x ≡ c →
+        filter p (cond b (x ∷ filter q xs) (filter q xs)) ≡ cond (b && p x) (x ∷ filter (λ y. q y && p y) xs) (filter (λ y. q y && p y) xs)
     by rest false c at = rest
     by rest true true at = rw at (ap (λ r. x ∷ r) rest)
     by rest true false at = rw at rest

@@ -1,5 +1,32 @@
 -- What stands at a place of a list: after a member is added or set, in a front, and behind one.
-use Rattle.std.proofs.Common.{◌≡◌, ℕ, zero, suc, ◌+◌, ◌-◌, ◌<◌, List, [], ◌∷◌, ◌++◌, length, set, take, drop, Some, slice_get, Contains, refl, sym, ap, ◌∙◌, arith, inl, inr, ◌⊎◌}
+use Rattle.std.proofs.Common.{
+  ◌≡◌,
+  ℕ,
+  zero,
+  suc,
+  ◌+◌,
+  ◌-◌,
+  ◌<◌,
+  List,
+  [],
+  ◌∷◌,
+  ◌++◌,
+  length,
+  set,
+  take,
+  drop,
+  Some,
+  slice_get,
+  Contains,
+  refl,
+  sym,
+  ap,
+  ◌∙◌,
+  arith,
+  inl,
+  inr,
+  ◌⊎◌,
+}
 use Rattle.std.proofs.lemmas.Option.{none-some, same_Some, slice_get_within, get_or_from_slice_get}
 use Rattle.std.proofs.lemmas.List.{take_all}
 
@@ -57,13 +84,15 @@ slice_get_push (z ∷ xs) y (suc k) x at =
     ]
 
 -- in a front, and behind one
-pub slice_get-take : {X : Type 0} (n : ℕ) (xs : List X) (k : ℕ) (x : X) → slice_get (take n xs) k ≡ Some x → (k < n) × (slice_get xs k ≡ Some x)
+pub slice_get-take : {X : Type 0} (n : ℕ) (xs : List X) (k : ℕ) (x : X) → slice_get (take n xs) k ≡ Some x →
+    (k < n) × (slice_get xs k ≡ Some x)
 slice_get-take zero xs k x at = absurd (none-some x at)
 slice_get-take (suc n) [] k x at = absurd (none-some x at)
 slice_get-take (suc n) (y ∷ ys) zero x at = (omega arith, at)
 slice_get-take (suc n) (y ∷ ys) (suc k) x at = let r = slice_get-take n ys k x at in (omega (arith, r.0), r.1)
 
-pub slice_get_taken : {X : Type 0} (n : ℕ) (xs : List X) (k : ℕ) (x : X) → k < n → slice_get xs k ≡ Some x → slice_get (take n xs) k ≡ Some x
+pub slice_get_taken : {X : Type 0} (n : ℕ) (xs : List X) (k : ℕ) (x : X) → k < n → slice_get xs k ≡ Some x →
+    slice_get (take n xs) k ≡ Some x
 slice_get_taken zero xs k x below at = absurd (omega arith)
 slice_get_taken (suc n) [] k x below at = at
 slice_get_taken (suc n) (y ∷ ys) zero x below at = at

@@ -139,7 +139,8 @@ until_wants_its_right_side : meets (shown (true ∷ true ∷ true ∷ true ∷ [
 unfolding p q shown
 until_wants_its_right_side = refl
 
-until_wants_its_left_side_before : meets (shown (true ∷ false ∷ true ∷ true ∷ []) (false ∷ false ∷ true ∷ false ∷ [])) (binary Until p q) 0 ≡ false
+until_wants_its_left_side_before : meets (shown (true ∷ false ∷ true ∷ true ∷ []) (false ∷ false ∷ true ∷ false ∷ [])) (binary Until p q) 0
+    ≡ false
 unfolding p q shown
 until_wants_its_left_side_before = refl
 
@@ -206,11 +207,15 @@ equal_values : (value (meanings_in [] takes_the_constant constant_is_one) (λ s.
 unfolding constant takes_the_constant constant_is_one
 equal_values = (refl, refl)
 
-the_assigned_tree_holds : meets (closed_run (meanings_in [] takes_the_constant constant_is_one) takes_the_constant always_one (record { start = 0; length = 1 })) (atom (update 1 constant)) 0 ≡ true
+the_assigned_tree_holds : meets
+    (closed_run (meanings_in [] takes_the_constant constant_is_one) takes_the_constant always_one (record { start = 0; length = 1 }))
+    (atom (update 1 constant)) 0 ≡ true
 unfolding constant takes_the_constant constant_is_one always_one
 the_assigned_tree_holds = refl
 
-an_equal_value_does_not : meets (closed_run (meanings_in [] takes_the_constant constant_is_one) takes_the_constant always_one (record { start = 0; length = 1 })) (atom (update 1 (signal 0))) 0 ≡ false
+an_equal_value_does_not : meets
+    (closed_run (meanings_in [] takes_the_constant constant_is_one) takes_the_constant always_one (record { start = 0; length = 1 }))
+    (atom (update 1 (signal 0))) 0 ≡ false
 unfolding constant takes_the_constant constant_is_one always_one
 an_equal_value_does_not = refl
 

@@ -17,22 +17,26 @@ use Rattle.tsl_meaning.specs.Lasso.{Meets, meets, closed_run}
 
 module _ {V : Type 0} (meanings : Meanings V) (program : ProgramTree) (rows : InputRows V) where
   -- a step that another one follows is there
-  pub step_before : (t : ℕ) (c : Configuration V) → configuration_at meanings program rows (suc t) ≡ Some c → HasStep meanings program rows t
+  pub step_before : (t : ℕ) (c : Configuration V) → configuration_at meanings program rows (suc t) ≡ Some c →
+      HasStep meanings program rows t
   step_before t c h = option_and_then_some _ _ _ h (λ now is_now acts.
       option_and_then_some _ _ _ acts (λ action does follows.
       record { now = now; is_now = is_now; action = action; does = does }))
 
   -- so is each step before one that is there
-  pub steps_before : (n t : ℕ) (c : Configuration V) → configuration_at meanings program rows (suc n + t) ≡ Some c → HasStep meanings program rows t
+  pub steps_before : (n t : ℕ) (c : Configuration V) → configuration_at meanings program rows (suc n + t) ≡ Some c →
+      HasStep meanings program rows t
   steps_before zero t c h =
       let e : suc t ≡ suc zero + t = omega arith in
       step_before t c (ap (configuration_at meanings program rows) e ∙ h)
   steps_before (suc n) t c h =
       let e : suc (suc n + t) ≡ suc (suc n) + t = omega arith in
-      let last : HasStep meanings program rows (suc n + t) = step_before (suc n + t) c (ap (configuration_at meanings program rows) e ∙ h) in
+      let last : HasStep meanings program rows (suc n + t) =
+          step_before (suc n + t) c (ap (configuration_at meanings program rows) e ∙ h) in
       steps_before n t last.now last.is_now
 
-  pub steps_below : (limit t : ℕ) (c : Configuration V) → t < limit → configuration_at meanings program rows limit ≡ Some c → HasStep meanings program rows t
+  pub steps_below : (limit t : ℕ) (c : Configuration V) → t < limit → configuration_at meanings program rows limit ≡ Some c →
+      HasStep meanings program rows t
   steps_below limit t c below h =
       let e : suc (limit - suc t) + t ≡ limit = omega arith in
       steps_before (limit - suc t) t c (ap (configuration_at meanings program rows) e ∙ h)

@@ -1,5 +1,6 @@
 -- The values of terms and the truths of probes are there, under an interpretation of the names.
-use Rattle.std.proofs.Common.{◌≡◌, ◌∙◌, ℕ, suc, ◌+◌, ◌*◌, ◌^◌, ◌<◌, ◌≤◌, ◌==◌, Bool, true, false, ◌&&◌, List, [], ◌∷◌, length, Option, Some, None, slice_get, refl, sym, ap, arith, subst}
+use Rattle.std.proofs.Common.{◌≡◌, ◌∙◌, ℕ, suc, ◌+◌, ◌*◌, ◌^◌, ◌<◌, ◌≤◌, ◌==◌, Bool, true, false, ◌&&◌, List, [], ◌∷◌, length, Option, Some,
+    None, slice_get, refl, sym, ap, arith, subst}
 use Rattle.std.specs.Prelude.{option_map, option_and_then, fold, nat_lt}
 use Rattle.std.specs.Option.{option_map_or}
 use Rattle.std.proofs.lemmas.Bool.{and_parts, and_from, lt-ltb, ltb-true, eqb-true, eq-eqb, cond-true, false≢true}
@@ -16,7 +17,8 @@ use Rattle.flow_program.specs.ProgramTree.{ProgramTree}
 use Rattle.sequence.specs.Numbers.{is_among}
 use Rattle.tsl_terms.specs.SignalLists.{reads_only, read_only}
 use Rattle.tsl_meaning.specs.OverNames.{term_is_over, terms_are_over, probe_is_over}
-use Rattle.tsl_meaning.specs.Interpretation.{Interpretation, IsInterpretation, IsTable, entry_of, entry_at, are_values, place_of_arguments, meanings_in}
+use Rattle.tsl_meaning.specs.Interpretation.{Interpretation, IsInterpretation, IsTable, entry_of, entry_at, are_values, place_of_arguments,
+    meanings_in}
 
 -- a value that is there, and is one of so many
 pub record HasValue (domain : ℕ) (found : Option ℕ) : Type 0 where
@@ -45,7 +47,8 @@ same_kind_is Predicate Function same = absurd (false≢true same)
 name_of : (names : List Name) (id : ℕ) (kind : NameKind) (arity : ℕ) → is_name names id kind arity ≡ true → IsNameOf names id kind arity
 name_of names id kind arity is = by (slice_get names id) refl is
   where
-    by : (found : Option Name) → slice_get names id ≡ found → option_map_or (λ n. same_kind n.kind kind && (n.arity == arity)) found false ≡ true → IsNameOf names id kind arity
+    by : (found : Option Name) → slice_get names id ≡ found →
+        option_map_or (λ n. same_kind n.kind kind && (n.arity == arity)) found false ≡ true → IsNameOf names id kind arity
     by None there test = absurd (false≢true test)
     by (Some n) there test =
         let parts = and_parts (same_kind n.kind kind) (n.arity == arity) test in
@@ -58,16 +61,20 @@ place_below domain n (v ∷ vs) all =
     let parts = and_parts (nat_lt v domain) (are_values domain vs) all in
     let below : v < domain = ltb-true v domain parts.0 in
     let rest = place_below domain (n * domain + v) vs parts.1 in
-    let more : (n * domain + v + 1) * domain ^ length vs ≤ ((n + 1) * domain) * domain ^ length vs = mul-le-mul_right (domain ^ length vs) (wider below) in
-    let whole : ((n + 1) * domain) * domain ^ length vs ≡ (n + 1) * domain ^ suc (length vs) = mul_assoc (n + 1) domain (domain ^ length vs) ∙ ap (λ k. (n + 1) * k) (sym (pow-succ' domain (length vs))) in
+    let more : (n * domain + v + 1) * domain ^ length vs ≤ ((n + 1) * domain) * domain ^ length vs =
+        mul-le-mul_right (domain ^ length vs) (wider below) in
+    let whole : ((n + 1) * domain) * domain ^ length vs ≡ (n + 1) * domain ^ suc (length vs) = mul_assoc (n + 1) domain (domain ^ length vs)
+        ∙ ap (λ k. (n + 1) * k) (sym (pow-succ' domain (length vs))) in
     omega (arith, rest, more, whole)
   where
     wider : v < domain → n * domain + v + 1 ≤ (n + 1) * domain
     wider below = let e : (n + 1) * domain ≡ n * domain + domain = add-mul n 1 domain ∙ omega arith in omega (arith, below, e)
 
-module _ (names : List Name) (program : ProgramTree) (interpretation : Interpretation) (is : IsInterpretation names program.cells interpretation) where
+module _ (names : List Name) (program : ProgramTree) (interpretation : Interpretation)
+    (is : IsInterpretation names program.cells interpretation) where
   -- an entry of a table that is for so many arguments
-  entry_there : (id limit : ℕ) (table arguments : List ℕ) (arity : ℕ) → slice_get interpretation.tables id ≡ Some table → IsTable interpretation.domain arity limit table →
+  entry_there : (id limit : ℕ) (table arguments : List ℕ) (arity : ℕ) → slice_get interpretation.tables id ≡ Some table →
+      IsTable interpretation.domain arity limit table →
       length arguments ≡ arity → are_values interpretation.domain arguments ≡ true → HasValue limit (entry_at interpretation id arguments)
   entry_there id limit table arguments arity there fits count all =
       let size : length table ≡ interpretation.domain ^ length arguments = fits.0 ∙ ap (λ n. interpretation.domain ^ n) (sym count) in
@@ -81,10 +88,12 @@ module _ (names : List Name) (program : ProgramTree) (interpretation : Interpret
             ∙ cond-true (length table == (interpretation.domain ^ length arguments)) _ None (eq-eqb _ _ size)
             ∙ cond-true (are_values interpretation.domain arguments) (slice_get table place) (Some 0) all
             ∙ entry.1;
-        below = subst (λ n. n < limit) (get_or_from_slice_get table place entry.0 0 entry.1) (All-get_or (λ n. n < limit) table place 0 within fits.1);
+        below = subst (λ n. n < limit) (get_or_from_slice_get table place entry.0 0 entry.1)
+            (All-get_or (λ n. n < limit) table place 0 within fits.1);
       }
 
-  module _ (readable : List ℕ) (at : ℕ → Option ℕ) (known : (s : ℕ) → is_among readable s ≡ true → HasValue interpretation.domain (at s)) where
+  module _ (readable : List ℕ) (at : ℕ → Option ℕ) (known : (s : ℕ) → is_among readable s ≡ true →
+      HasValue interpretation.domain (at s)) where
     -- the values of arguments, as many as there are
     pub record HaveValues (ts : TermTrees) : Type 0 where
       pub members : List ℕ
@@ -94,14 +103,17 @@ module _ (names : List Name) (program : ProgramTree) (interpretation : Interpret
 
     mutual
       -- a term over the names that reads what is known has a value
-      pub value_there : (t : TermTree) → term_is_over names t ≡ true → reads_only readable t ≡ true → HasValue interpretation.domain (value (meanings_in names program interpretation) at t)
+      pub value_there : (t : TermTree) → term_is_over names t ≡ true → reads_only readable t ≡ true →
+          HasValue interpretation.domain (value (meanings_in names program interpretation) at t)
       value_there (signal s) over reads = known s reads
       value_there (apply f arguments) over reads =
           let parts = and_parts (is_name names f Function (count_of_terms arguments)) (terms_are_over names arguments) over in
           let vs = values_there arguments parts.1 reads in
           let name = name_of names f Function (count_of_terms arguments) parts.0 in
           let table = is.functions f name.name name.there name.kind_is in
-          let entry = entry_there f interpretation.domain table.0 vs.members name.name.arity table.1 table.2 (vs.count ∙ sym name.arity_is) vs.below in
+          let entry =
+              entry_there f interpretation.domain table.0 vs.members name.name.arity table.1 table.2 (vs.count ∙ sym name.arity_is)
+              vs.below in
           record { value = entry.value; is = ap (option_and_then (entry_at interpretation f)) vs.are ∙ entry.is; below = entry.below }
 
       pub values_there : (ts : TermTrees) → terms_are_over names ts ≡ true → read_only readable ts ≡ true → HaveValues ts
@@ -115,18 +127,19 @@ module _ (names : List Name) (program : ProgramTree) (interpretation : Interpret
             members = v.value ∷ vs.members;
             are = rw (v.is, vs.are) refl;
             count = omega (arith, vs.count);
-            below = and_from (nat_lt v.value interpretation.domain) (are_values interpretation.domain vs.members) (lt-ltb v.value interpretation.domain v.below) vs.below;
+            below = and_from (nat_lt v.value interpretation.domain) (are_values interpretation.domain vs.members)
+                (lt-ltb v.value interpretation.domain v.below) vs.below;
           }
 
     -- a probe over the names that reads what is known has a truth
-    pub truth_there : (p : ProbeTree) → probe_is_over names p ≡ true → read_only readable p.arguments ≡ true → (b : Bool) × (truth (meanings_in names program interpretation) at p ≡ Some b)
+    pub truth_there : (p : ProbeTree) → probe_is_over names p ≡ true → read_only readable p.arguments ≡ true →
+        (b : Bool) × (truth (meanings_in names program interpretation) at p ≡ Some b)
     truth_there p over reads =
         let parts = and_parts (is_name names p.predicate Predicate (count_of_terms p.arguments)) (terms_are_over names p.arguments) over in
         let vs = values_there p.arguments parts.1 reads in
         let name = name_of names p.predicate Predicate (count_of_terms p.arguments) parts.0 in
         let table = is.predicates p.predicate name.name name.there name.kind_is in
-        let entry = entry_there p.predicate 2 table.0 vs.members name.name.arity table.1 table.2 (vs.count ∙ sym name.arity_is) vs.below in (
-          entry.value == 1,
-          ap (option_and_then (λ arguments. option_map (λ entry. entry == 1) (entry_at interpretation p.predicate arguments))) vs.are
-              ∙ ap (option_map (λ entry. entry == 1)) entry.is,
-        )
+        let entry =
+            entry_there p.predicate 2 table.0 vs.members name.name.arity table.1 table.2 (vs.count ∙ sym name.arity_is) vs.below in
+        let meaning : List ℕ → Option Bool = λ arguments. option_map (λ entry. entry == 1) (entry_at interpretation p.predicate arguments) in
+        (entry.value == 1, ap (option_and_then meaning) vs.are ∙ ap (option_map (λ entry. entry == 1)) entry.is)

@@ -1,5 +1,6 @@
 -- A walk through a program over names ends, where each of its probes has a truth.
-use Rattle.std.proofs.Common.{◌≡◌, ◌∙◌, ℕ, zero, suc, ◌+◌, ◌<◌, Bool, true, false, cond, List, ◌++◌, length, Option, Some, slice_get, ap, arith}
+use Rattle.std.proofs.Common.{◌≡◌, ◌∙◌, ℕ, zero, suc, ◌+◌, ◌<◌, Bool, true, false, cond, List, ◌++◌, length, Option, Some, slice_get, ap,
+    arith}
 use Rattle.std.specs.Prelude.{option_and_then}
 use Rattle.std.specs.List.{list_all}
 use Rattle.sequence.proofs.Places.{slice_get_some}
@@ -27,26 +28,34 @@ module _ (names : List Name) (program : ProgramTree) (over : IsProgramOver names
     pub acts : Acts action
 
   module _ (truths : ProbeTree → Option Bool)
-      (judged : (t : ProbeTree) → probe_is_over names t ≡ true → read_only (program.inputs ++ program.cells) t.arguments ≡ true → (b : Bool) × (truths t ≡ Some b)) where
+      (judged : (t : ProbeTree) → probe_is_over names t ≡ true → read_only (program.inputs ++ program.cells) t.arguments ≡ true →
+          (b : Bool) × (truths t ≡ Some b)) where
     done_from : (n i : ℕ) → i < n → i < length program.nodes → IsDone (walk_from program.nodes truths n i)
     done_from zero i below within = absurd (omega arith)
     done_from (suc n) i below within =
         let node = slice_get_some program.nodes i within in
         here node.0 node.1 (λ j. done_from n j)
       where
-        here : (node : NodeTree) → slice_get program.nodes i ≡ Some node → ((j : ℕ) → j < n → j < length program.nodes → IsDone (walk_from program.nodes truths n j)) →
+        here : (node : NodeTree) → slice_get program.nodes i ≡ Some node →
+            ((j : ℕ) → j < n → j < length program.nodes → IsDone (walk_from program.nodes truths n j)) →
             IsDone (walk_from program.nodes truths (suc n) i)
         here (assign ts go) there smaller =
             let fits = over.is_program.assignments_fit i go ts there in
             record {
               action = record { updates = ts; go = go };
               is = ap (option_and_then (done_at truths (walk_from program.nodes truths n))) there;
-              acts = record { count = fits.0; go = fits.1; reads = fits.2; over_names = passes_at (node_is_over names) program.nodes i (assign ts go) over.nodes there };
+              acts = record {
+                count = fits.0;
+                go = fits.1;
+                reads = fits.2;
+                over_names = passes_at (node_is_over names) program.nodes i (assign ts go) over.nodes there;
+              };
             }
         here (branch t a b) there smaller =
             let fits = over.is_program.branches_fit i a b t there in
             let truth = judged t (passes_at (node_is_over names) program.nodes i (branch t a b) over.nodes there) fits.2 in
-            let rest = smaller (cond truth.0 a b) (chosen truth.0 fits.0 fits.1) (omega (arith, chosen_below truth.0 fits.0 fits.1, within)) in
+            let rest = smaller (cond truth.0 a b) (chosen truth.0 fits.0 fits.1)
+                (omega (arith, chosen_below truth.0 fits.0 fits.1, within)) in
             record {
               action = rest.action;
               is =

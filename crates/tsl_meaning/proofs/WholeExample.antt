@@ -1,8 +1,10 @@
 -- One program that meets every premise of what every run promises, with an input, a cell, a function and a predicate.
 -- Where p x is true, y takes f x, and else y stays.
-use Rattle.std.proofs.Common.{◌≡◌, ◌∙◌, ℕ, zero, suc, ◌<◌, true, false, List, [], ◌∷◌, length, Some, slice_get, refl, ap, arith, codes, lit<, lit≤}
+use Rattle.std.proofs.Common.{◌≡◌, ◌∙◌, ℕ, zero, suc, ◌<◌, true, false, List, [], ◌∷◌, length, Some, slice_get, refl, ap, arith, codes,
+    lit<, lit≤}
 use Rattle.std.specs.Prelude.{All, ◌≢◌}
 use Rattle.std.proofs.lemmas.List.Elements.{All-from_recursion}
+use Rattle.std.proofs.lemmas.Option.{same_Some}
 use Rattle.sequence.proofs.Numbers.{distinct_from_apart}
 use Rattle.loop_shape.specs.LoopShape.{LoopShape}
 use Rattle.tsl_terms.specs.declared.names.NameKind.{NameKind}
@@ -21,11 +23,20 @@ use Rattle.tsl_meaning.specs.Interpretation.{Interpretation, InputRows, IsInterp
 use Rattle.tsl_meaning.specs.Run.{Closed, truth_at, assigned_at}
 use Rattle.tsl_meaning.specs.Lasso.{Meets, closed_run}
 
-abbrev named : List ℕ → NameKind → ℕ → Name
-named text kind arity = record { text = text; kind = kind; arity = arity }
+abbrev x : Name
+x = record { text = codes "x"; kind = Signal; arity = 0 }
+
+abbrev y : Name
+y = record { text = codes "y"; kind = Signal; arity = 0 }
+
+abbrev f : Name
+f = record { text = codes "f"; kind = Function; arity = 1 }
+
+abbrev p : Name
+p = record { text = codes "p"; kind = Predicate; arity = 1 }
 
 abbrev names : List Name
-names = named (codes "x") Signal 0 ∷ named (codes "y") Signal 0 ∷ named (codes "f") Function 1 ∷ named (codes "p") Predicate 1 ∷ []
+names = x ∷ y ∷ f ∷ p ∷ []
 
 abbrev f_of_x : TermTree
 f_of_x = apply 2 (more_terms (signal 0) no_terms)
@@ -112,21 +123,25 @@ f_table = (refl, All-from_recursion (λ entry. entry < 3) (1 ∷ 2 ∷ 0 ∷ [])
 p_table : IsTable 3 1 2 (0 ∷ 1 ∷ 1 ∷ [])
 p_table = (refl, All-from_recursion (λ entry. entry < 2) (0 ∷ 1 ∷ 1 ∷ []) (lit< tt, (lit< tt, (lit< tt, tt))))
 
+-- a place has one name, of one kind
+kind_at : (n m : Name) (kind : NameKind) → Some n ≡ Some m → m.kind ≡ kind → n.kind ≡ kind
+kind_at n m kind at is = ap (λ (k : Name). k.kind) (same_Some n m at) ∙ is
+
 functions : (f : ℕ) (name : Name) → slice_get names f ≡ Some name → name.kind ≡ Function →
     (table : List ℕ) × (slice_get interpretation.tables f ≡ Some table) × IsTable 3 name.arity 3 table
-functions zero name is kind = let same : named (codes "x") Signal 0 ≡ name = cc in let never : Signal ≡ Function = ap (λ (n : Name). n.kind) same ∙ kind in absurd cc
-functions (suc zero) name is kind = let same : named (codes "y") Signal 0 ≡ name = cc in let never : Signal ≡ Function = ap (λ (n : Name). n.kind) same ∙ kind in absurd cc
-functions (suc (suc zero)) name is kind = let same : named (codes "f") Function 1 ≡ name = cc in rw (← same) (1 ∷ 2 ∷ 0 ∷ [], refl, f_table)
-functions (suc (suc (suc zero))) name is kind = let same : named (codes "p") Predicate 1 ≡ name = cc in let never : Predicate ≡ Function = ap (λ (n : Name). n.kind) same ∙ kind in absurd cc
-functions (suc (suc (suc (suc i)))) name is kind = absurd cc
+functions zero name at kind = let never : Signal ≡ Function = kind_at x name Function at kind in absurd cc
+functions (suc zero) name at kind = let never : Signal ≡ Function = kind_at y name Function at kind in absurd cc
+functions (suc (suc zero)) name at kind = rw (← same_Some f name at) (1 ∷ 2 ∷ 0 ∷ [], refl, f_table)
+functions (suc (suc (suc zero))) name at kind = let never : Predicate ≡ Function = kind_at p name Function at kind in absurd cc
+functions (suc (suc (suc (suc i)))) name at kind = absurd cc
 
 predicates : (p : ℕ) (name : Name) → slice_get names p ≡ Some name → name.kind ≡ Predicate →
     (table : List ℕ) × (slice_get interpretation.tables p ≡ Some table) × IsTable 3 name.arity 2 table
-predicates zero name is kind = let same : named (codes "x") Signal 0 ≡ name = cc in let never : Signal ≡ Predicate = ap (λ (n : Name). n.kind) same ∙ kind in absurd cc
-predicates (suc zero) name is kind = let same : named (codes "y") Signal 0 ≡ name = cc in let never : Signal ≡ Predicate = ap (λ (n : Name). n.kind) same ∙ kind in absurd cc
-predicates (suc (suc zero)) name is kind = let same : named (codes "f") Function 1 ≡ name = cc in let never : Function ≡ Predicate = ap (λ (n : Name). n.kind) same ∙ kind in absurd cc
-predicates (suc (suc (suc zero))) name is kind = let same : named (codes "p") Predicate 1 ≡ name = cc in rw (← same) (0 ∷ 1 ∷ 1 ∷ [], refl, p_table)
-predicates (suc (suc (suc (suc i)))) name is kind = absurd cc
+predicates zero name at kind = let never : Signal ≡ Predicate = kind_at x name Predicate at kind in absurd cc
+predicates (suc zero) name at kind = let never : Signal ≡ Predicate = kind_at y name Predicate at kind in absurd cc
+predicates (suc (suc zero)) name at kind = let never : Function ≡ Predicate = kind_at f name Predicate at kind in absurd cc
+predicates (suc (suc (suc zero))) name at kind = rw (← same_Some p name at) (0 ∷ 1 ∷ 1 ∷ [], refl, p_table)
+predicates (suc (suc (suc (suc i)))) name at kind = absurd cc
 
 interprets : IsInterpretation names (1 ∷ []) interpretation
 interprets = record {
