@@ -16,7 +16,7 @@ use Rattle.tsl_terms.specs.Name.{Name, is_name}
 use Rattle.tsl_terms.specs.TermTree.{TermTree, signal, apply, TermTrees, no_terms, more_terms}
 use Rattle.tsl_terms.specs.FormulaTree.{Atom, test, update, FormulaTree, atom}
 use Rattle.tsl_terms.specs.Atoms.{atoms}
-use Rattle.tsl_terms.specs.SignalLists.{reads_only, read_only, atom_reads_only, atom_updates_only}
+use Rattle.tsl_terms.specs.OnlyThese.{reads_only, read_only, atom_reads_only, atom_updates_only}
 use Rattle.tsl_terms.specs.Signals.{term_reads, some_term_reads, atom_reads, formula_reads, atom_updates, formula_updates, is_input,
     is_cell, is_output, numbers, inputs_of, cells_of, outputs_of}
 use Rattle.tsl_terms.specs.SpecTree.{SpecTree, whole_formula, conjunction_of}

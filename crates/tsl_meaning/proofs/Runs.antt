@@ -17,7 +17,7 @@ use Rattle.tsl_terms.specs.Name.{Name}
 use Rattle.tsl_terms.specs.TermTree.{TermTree, ProbeTree}
 use Rattle.tsl_terms.specs.FormulaTree.{Atom, test, update, FormulaTree}
 use Rattle.tsl_terms.specs.Atoms.{atoms}
-use Rattle.tsl_terms.specs.SignalLists.{reads_only, read_only, atom_reads_only, atom_updates_only}
+use Rattle.tsl_terms.specs.OnlyThese.{reads_only, read_only, atom_reads_only, atom_updates_only}
 use Rattle.tsl_terms.specs.Value.{Meanings, value, truth, beside}
 use Rattle.flow_program.specs.ProgramTree.{ProgramTree, controlled}
 use Rattle.sequence.specs.Numbers.{is_among}

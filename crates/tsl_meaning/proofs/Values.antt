@@ -15,7 +15,7 @@ use Rattle.tsl_terms.specs.TermTree.{TermTree, signal, apply, TermTrees, no_term
 use Rattle.tsl_terms.specs.Value.{value, values, truth}
 use Rattle.flow_program.specs.ProgramTree.{ProgramTree}
 use Rattle.sequence.specs.Numbers.{is_among}
-use Rattle.tsl_terms.specs.SignalLists.{reads_only, read_only}
+use Rattle.tsl_terms.specs.OnlyThese.{reads_only, read_only}
 use Rattle.tsl_meaning.specs.OverNames.{term_is_over, terms_are_over, probe_is_over}
 use Rattle.tsl_meaning.specs.Interpretation.{Interpretation, IsInterpretation, IsTable, entry_of, entry_at, are_values, place_of_arguments,
     meanings_in}

@@ -9,7 +9,7 @@ use Rattle.tsl_terms.specs.Name.{Name}
 use Rattle.tsl_terms.specs.TermTree.{ProbeTree}
 use Rattle.flow_program.specs.NodeTree.{NodeTree, branch, assign}
 use Rattle.flow_program.specs.ProgramTree.{ProgramTree}
-use Rattle.tsl_terms.specs.SignalLists.{reads_only, read_only}
+use Rattle.tsl_terms.specs.OnlyThese.{reads_only, read_only}
 use Rattle.flow_program.specs.Walk.{Action, done_at, walk_from, walk}
 use Rattle.tsl_meaning.specs.OverNames.{term_is_over, probe_is_over, node_is_over, IsProgramOver}
 

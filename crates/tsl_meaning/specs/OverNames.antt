@@ -7,7 +7,7 @@ use Rattle.tsl_terms.specs.Name.{Name, is_name}
 use Rattle.tsl_terms.specs.TermTree.{TermTree, signal, apply, TermTrees, no_terms, more_terms, ProbeTree, count_of_terms}
 use Rattle.tsl_terms.specs.FormulaTree.{Atom, test, update, FormulaTree}
 use Rattle.tsl_terms.specs.Atoms.{atoms}
-use Rattle.tsl_terms.specs.SignalLists.{formula_reads_only, formula_updates_only}
+use Rattle.tsl_terms.specs.OnlyThese.{formula_reads_only, formula_updates_only}
 use Rattle.tsl_terms.specs.WindowTree.{WindowTree, ListedTree}
 use Rattle.flow_program.specs.NodeTree.{NodeTree, branch, assign}
 use Rattle.flow_program.specs.ProgramTree.{ProgramTree, controlled}
