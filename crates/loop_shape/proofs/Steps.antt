@@ -36,12 +36,12 @@ module _ (shape : LoopShape) where
   turn : 1 ≤ shape.length → (r : ℕ) → r < shape.length → steps_on shape shape.length (shape.start + r) ≡ shape.start + r
   turn goes_on r below =
       let to_last : steps_on shape (shape.length - r - 1) (shape.start + r) ≡ shape.start + shape.length - 1 =
-          straight (shape.length - r - 1) (shape.start + r) (omega arith) ∙ omega arith in
+      straight (shape.length - r - 1) (shape.start + r) (omega arith) ∙ omega arith in
       let cut : (shape.length - r - 1) + (1 + r) ≡ shape.length = omega arith in
       let one : 1 + r ≡ suc r = omega arith in
       let round : after shape (shape.start + shape.length - 1) ≡ shape.start = last (shape.start + shape.length - 1) (omega arith) in
       ap (λ k. steps_on shape k (shape.start + r)) (sym cut) ∙ steps_on-add (shape.length - r - 1) (1 + r) (shape.start + r)
-          ∙ ap (steps_on shape (1 + r)) to_last
+      ∙ ap (steps_on shape (1 + r)) to_last
       ∙ ap (λ k. steps_on shape k (shape.start + shape.length - 1)) one ∙ ap (steps_on shape r) round ∙ straight r shape.start (omega arith)
 
   -- after as many steps as come once, the position is in the part that goes round
@@ -58,7 +58,7 @@ module _ (shape : LoopShape) where
       let there = in_turn n i p (omega arith) in
       let at : shape.start + (steps_on shape n i - shape.start) ≡ steps_on shape n i = omega (arith, there.0, there.1) in
       steps_on-add n shape.length i ∙ ap (steps_on shape shape.length) (sym at)
-          ∙ turn p.goes_on (steps_on shape n i - shape.start) (omega (arith, there.0, there.1)) ∙ at
+      ∙ turn p.goes_on (steps_on shape n i - shape.start) (omega (arith, there.0, there.1)) ∙ at
 
   -- what holds at each position holds at so many from a position on
   pub list_all-positions : (a : ℕ → Bool) (n i : ℕ) → IsPosition shape i → ((j : ℕ) → IsPosition shape j → a j ≡ true) →
@@ -66,4 +66,4 @@ module _ (shape : LoopShape) where
   list_all-positions a zero i p holds = refl
   list_all-positions a (suc n) i p holds =
       and_from (a i) (list_all a (positions_from shape n (after shape i))) (holds i p)
-          (list_all-positions a n (after shape i) (after_position i p) holds)
+      (list_all-positions a n (after shape i) (after_position i p) holds)

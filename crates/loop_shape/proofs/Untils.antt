@@ -29,7 +29,7 @@ module _ (shape : LoopShape) (a b : ℕ → Bool) where
   until_of zero (suc n) i less comes = or_left (b i) (a i && holds_until a b (positions_from shape n (after shape i))) comes.there
   until_of (suc m) (suc n) i less comes =
       let rest = until_of m n (after shape i) (omega arith)
-          (record { there = comes.there; before = λ k h. comes.before (suc k) (omega arith) }) in
+      (record { there = comes.there; before = λ k h. comes.before (suc k) (omega arith) }) in
       or_right (b i) (a i && holds_until a b (positions_from shape n (after shape i)))
       (and_from (a i) (holds_until a b (positions_from shape n (after shape i))) (comes.before 0 (omega arith)) rest)
 
@@ -42,7 +42,7 @@ module _ (shape : LoopShape) (a b : ℕ → Bool) where
     | inr late ↦
         let cut : (m - shape.length) + shape.length ≡ m = omega (arith, late) in
         let back : steps_on shape m i ≡ steps_on shape (m - shape.length) i = ap (λ n. steps_on shape n i) (sym cut)
-            ∙ turned shape (m - shape.length) i p (omega (arith, late)) in
+        ∙ turned shape (m - shape.length) i p (omega (arith, late)) in
         sooner room (m - shape.length) i p (omega (arith, late, p.goes_on))
         (record { there = ap b (sym back) ∙ comes.there; before = λ j before. comes.before j (omega (arith, before)) })
   ]

@@ -49,3 +49,13 @@ pub fn words_are_dual()
     ensures globally_is_release { (shape : LoopShape) (a : ℕ → Bool) (i : ℕ) →
         globally_at shape a i ≡ release_at shape (λ _. false) a i }
 {}
+
+/// An until is the least solution of its unrolling by a step, and a release the greatest.
+pub fn words_are_fixpoints()
+    ensures until { (shape : LoopShape) (a b u : ℕ → Bool) →
+        ((j : ℕ) → IsPosition shape j → IsTrue (b j || (a j && u (after shape j))) → IsTrue (u j)) →
+        (i : ℕ) → IsPosition shape i → IsTrue (until_at shape a b i) → IsTrue (u i) }
+    ensures release { (shape : LoopShape) (a b u : ℕ → Bool) →
+        ((j : ℕ) → IsPosition shape j → IsTrue (u j) → IsTrue (b j && (a j || u (after shape j)))) →
+        (i : ℕ) → IsPosition shape i → IsTrue (u i) → IsTrue (release_at shape a b i) }
+{}

@@ -5,4 +5,4 @@
 
 mod laws;
 
-pub use laws::{positions_stay, untils_come, words_are_dual, words_unroll};
+pub use laws::{positions_stay, untils_come, words_are_dual, words_are_fixpoints, words_unroll};
