@@ -4,7 +4,7 @@ use Rattle.std.specs.Char.{is_ascii_digit, is_ascii_alphabetic, is_ascii_alphanu
 use Rattle.std.specs.Int.{is_in_range}
 use Rattle.std.specs.List.{list_all}
 use Rattle.std.proofs.lemmas.Bool.{and_parts, and_from, or_cases, or_left, or_right, leb-true, eqb-true, false≢true}
-use Rattle.tsl_terms.specs.Name.{begins_name, continues_name, is_name_text}
+use Rattle.tsl_text.specs.Names.{is_name_start, is_name_byte, is_name_text}
 
 -- whether a text begins with a byte that passes a test
 abbrev pub begins : (ℕ → Bool) → List ℕ → Bool
@@ -45,7 +45,7 @@ one_run test (x ∷ a) (y ∷ b) u v p q h k e =
     (cc, more.1)
 
 -- a name begins above the digits
-name_above : (c : ℕ) → IsTrue (begins_name c) → 65 ≤ c
+name_above : (c : ℕ) → IsTrue (is_name_start c) → 65 ≤ c
 name_above c h =
     ⊎_elim
     (λ letter.
@@ -56,13 +56,13 @@ name_above c h =
     (λ underscore. omega (arith, eqb-true c 95 underscore))
     (or_cases (is_ascii_alphabetic c) (eqb c 95) h)
 
-pub no_digit_begins : (c : ℕ) → IsTrue (begins_name c) → IsTrue (is_ascii_digit c) → ⊥
+pub no_digit_begins : (c : ℕ) → IsTrue (is_name_start c) → IsTrue (is_ascii_digit c) → ⊥
 no_digit_begins c h d = omega (arith, name_above c h, leb-true c 57 (and_parts (leb 48 c) (leb c 57) d).1)
 
-pub no_bracket_begins : (c : ℕ) → IsTrue (begins_name c) → 40 ≡ c → ⊥
+pub no_bracket_begins : (c : ℕ) → IsTrue (is_name_start c) → 40 ≡ c → ⊥
 no_bracket_begins c h e = omega (arith, name_above c h)
 
-begun_continues : (c : ℕ) → IsTrue (begins_name c) → IsTrue (continues_name c)
+begun_continues : (c : ℕ) → IsTrue (is_name_start c) → IsTrue (is_name_byte c)
 begun_continues c h =
     ⊎_elim
     (λ letter.
@@ -75,12 +75,12 @@ begun_continues c h =
     (or_cases (is_ascii_alphabetic c) (eqb c 95) h)
 
 -- a name is a run of its letters, and begins with one that begins a name
-pub name_run : (text : List ℕ) → IsTrue (is_name_text text) → IsTrue (list_all continues_name text)
+pub name_run : (text : List ℕ) → IsTrue (is_name_text text) → IsTrue (list_all is_name_byte text)
 name_run [] h = refl
 name_run (c ∷ cs) h =
-    let parts = and_parts (begins_name c) (list_all continues_name cs) h in
-    and_from (continues_name c) (list_all continues_name cs) (begun_continues c parts.0) parts.1
+    let parts = and_parts (is_name_start c) (list_all is_name_byte cs) h in
+    and_from (is_name_byte c) (list_all is_name_byte cs) (begun_continues c parts.0) parts.1
 
-pub name_first : (text : List ℕ) → IsTrue (is_name_text text) → (c : ℕ) × (cs : List ℕ) × (text ≡ c ∷ cs) × IsTrue (begins_name c)
+pub name_first : (text : List ℕ) → IsTrue (is_name_text text) → (c : ℕ) × (cs : List ℕ) × (text ≡ c ∷ cs) × IsTrue (is_name_start c)
 name_first [] h = absurd (cc)
-name_first (c ∷ cs) h = (c, cs, refl, (and_parts (begins_name c) (list_all continues_name cs) h).0)
+name_first (c ∷ cs) h = (c, cs, refl, (and_parts (is_name_start c) (list_all is_name_byte cs) h).0)

@@ -8,7 +8,8 @@ use Rattle.std.proofs.lemmas.List.{append_cancel_left}
 use Rattle.std.specs.Str.{bytes_eq}
 use Rattle.std.proofs.lemmas.Slice.Eq.{bytes_eq-Decides}
 use Rattle.tsl_terms.specs.declared.names.NameKind.TheVariants.{Signal, Function, Predicate}
-use Rattle.tsl_terms.specs.Name.{Name, AreDistinct, begins_name, continues_name, is_name_text, is_usable, is_reserved, is_name, question}
+use Rattle.tsl_text.specs.Names.{is_name_start, is_name_byte, is_name_text, is_usable, is_reserved}
+use Rattle.tsl_terms.specs.Name.{Name, AreDistinct, is_name, question}
 use Rattle.tsl_terms.specs.TermTree.{TermTree, signal, apply, TermTrees, no_terms, more_terms, ProbeTree, count_of_terms}
 use Rattle.tsl_terms.specs.WellFormed.{is_usable_at, is_question, term_fits, terms_fit, probe_fits, are_one_signal}
 use Rattle.term_text.specs.TermText.{name_text, argument_text, applied_text, term_text, arguments_text, application_text, question_text, probe_text, update_text}
@@ -38,11 +39,11 @@ usable_at names id h =
     }
 
 -- A name ends where no letter follows, and it has one number.
-pub one_name : (names : List Name) → AreDistinct names → (r s : ℕ) (u v : List ℕ) → IsTrue (is_usable_at names r) → IsTrue (is_usable_at names s) → begins continues_name u ≡ false → begins continues_name v ≡ false → name_text names r ++ u ≡ name_text names s ++ v → (r ≡ s) × (u ≡ v)
+pub one_name : (names : List Name) → AreDistinct names → (r s : ℕ) (u v : List ℕ) → IsTrue (is_usable_at names r) → IsTrue (is_usable_at names s) → begins is_name_byte u ≡ false → begins is_name_byte v ≡ false → name_text names r ++ u ≡ name_text names s ++ v → (r ≡ s) × (u ≡ v)
 one_name names distinct r s u v p q h k e =
     let m = usable_at names r p in
     let n = usable_at names s q in
-    let run = one_run continues_name (name_text names r) (name_text names s) u v (name_run (name_text names r) m.letters) (name_run (name_text names s) n.letters) h k e in
+    let run = one_run is_name_byte (name_text names r) (name_text names s) u v (name_run (name_text names r) m.letters) (name_run (name_text names s) n.letters) h k e in
     (distinct r s m.name n.name m.is n.is (sym m.text ∙ run.0 ∙ n.text), run.1)
 
 -- what follows an argument: a space or a closing bracket
@@ -62,7 +63,7 @@ Ends-Follows square_ends = square
 Ends-Follows round_ends = round
 Ends-Follows (word_ends c w d u h k) = space
 
-pub no_letter_follows : {u : List ℕ} → Follows u → begins continues_name u ≡ false
+pub no_letter_follows : {u : List ℕ} → Follows u → begins is_name_byte u ≡ false
 no_letter_follows space = refl
 no_letter_follows square = refl
 no_letter_follows round = refl
@@ -156,7 +157,7 @@ module _ (names : List Name) (distinct : AreDistinct names) where
   digit_ends_no_list v d x (word_ends c w b y name other) digit e =
       let inner = tails 32 32 (d ∷ x) (c ∷ (w ++ 32 ∷ b ∷ y)) e in
       let head = heads d c x (w ++ 32 ∷ b ∷ y) inner in
-      no_digit_begins c (and_parts (begins_name c) (list_all continues_name w) name).0 (rw head at digit)
+      no_digit_begins c (and_parts (is_name_start c) (list_all is_name_byte w) name).0 (rw head at digit)
 
   digit_is_no_argument : (us : TermTrees) (v : List ℕ) (d : ℕ) (x : List ℕ) → IsTrue (terms_fit names us) → Ends v → IsTrue (is_ascii_digit d) → 32 ∷ d ∷ x ≡ arguments_text names us ++ v → ⊥
   digit_is_no_argument no_terms v d x h ends digit e = digit_ends_no_list v d x ends digit e
@@ -171,19 +172,19 @@ module _ (names : List Name) (distinct : AreDistinct names) where
   word_is_no_argument (signal s) us c w d x v h k name digit ends e =
       let usable = usable_at names s (signal_usable s h) in
       let rest : List ℕ = arguments_text names us ++ v in
-      let run = one_run continues_name (c ∷ w) (name_text names s) (32 ∷ d ∷ x) rest (name_run (c ∷ w) name) (name_run (name_text names s) usable.letters) refl (no_letter_follows (arguments_follow us v (Ends-Follows ends))) e in
+      let run = one_run is_name_byte (c ∷ w) (name_text names s) (32 ∷ d ∷ x) rest (name_run (c ∷ w) name) (name_run (name_text names s) usable.letters) refl (no_letter_follows (arguments_follow us v (Ends-Follows ends))) e in
       digit_is_no_argument us v d x k ends digit run.1
   word_is_no_argument (apply f no_terms) us c w d x v h k name digit ends e =
       let usable = usable_at names f (function_usable f no_terms h) in
       let rest : List ℕ = arguments_text names us ++ v in
-      let run = one_run continues_name (c ∷ w) (name_text names f) (32 ∷ d ∷ x) (codes "()" ++ rest) (name_run (c ∷ w) name) (name_run (name_text names f) usable.letters) refl refl (e ∙ append_assoc (name_text names f) (codes "()") rest) in
+      let run = one_run is_name_byte (c ∷ w) (name_text names f) (32 ∷ d ∷ x) (codes "()" ++ rest) (name_run (c ∷ w) name) (name_run (name_text names f) usable.letters) refl refl (e ∙ append_assoc (name_text names f) (codes "()") rest) in
       other_front is_space (codes "()" ++ rest) (32 ∷ d ∷ x) refl refl (sym run.1)
   word_is_no_argument (apply f (more_terms t ts)) us c w d x v h k name digit ends e =
-      other_front begins_name
+      other_front is_name_start
       (argument_text (apply f (more_terms t ts)) (term_text names (apply f (more_terms t ts))) ++ (arguments_text names us ++ v))
       ((c ∷ w) ++ 32 ∷ d ∷ x)
       refl
-      (and_parts (begins_name c) (list_all continues_name w) name).0
+      (and_parts (is_name_start c) (list_all is_name_byte w) name).0
       (sym e)
 
   -- what ends a list of arguments is no further argument

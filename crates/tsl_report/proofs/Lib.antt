@@ -1,1 +1,2 @@
 pub mod FaultExamples
+pub mod Written

@@ -11,7 +11,8 @@
 
 ghost use Rattle.std.specs.Prelude.{◌≡◌, ◌++◌, IsTrue, OnOk, IfOk, codes};
 ghost use Rattle.tsl_terms.specs.FormulaTree.{formula_tree, formula_trees};
-ghost use Rattle.tsl_report.specs.FormulaText.{formula_text, members_text, others_text, can_be_written, all_can_be_written};
+ghost use Rattle.tsl_terms.specs.Atoms.{members_are_made_of};
+ghost use Rattle.tsl_report.specs.FormulaText.{formula_text, members_text, others_text, atom_is_held, can_be_written};
 
 mod fault;
 
@@ -32,6 +33,7 @@ pub fn formula_text(alloc: Global, names: &Names, formula: &Formula) -> Result<V
 }
 
 /// Appends a formula.
+#[tactic(auto, using(crate::proofs::Written::left_written, crate::proofs::Written::right_written, crate::proofs::Written::members_written))]
 #[cycle(formulas)]
 fn put_formula(out: &mut Vec<u8>, names: &Names, formula: &Formula) -> Result<(), NoMemory>
     requires { IsTrue (can_be_written names.now (formula_tree formula.now)) }
@@ -76,7 +78,7 @@ fn put_formula(out: &mut Vec<u8>, names: &Names, formula: &Formula) -> Result<()
     }
 }
 
-/// Appends an operator, a bracket or a connective, and the formula behind it.
+/// Appends an operator, a bracket or a connective, and the formula after it.
 #[cycle(formulas)]
 fn put_under(
     out: &mut Vec<u8>,
@@ -92,6 +94,7 @@ fn put_under(
 }
 
 /// Appends the members in brackets, with a connective between each two.
+#[tactic(auto, using(crate::proofs::Written::first_written, crate::proofs::Written::rest_written))]
 #[cycle(formulas)]
 fn put_members(
     out: &mut Vec<u8>,
@@ -99,7 +102,7 @@ fn put_members(
     connective: &[u8],
     members: &FormulaList,
 ) -> Result<(), NoMemory>
-    requires { IsTrue (all_can_be_written names.now (formula_trees members.now)) }
+    requires { IsTrue (members_are_made_of (atom_is_held names.now) (formula_trees members.now)) }
     ensures { OnOk result (out.new.items ≡ out.old.items
         ++ (codes "(" ++ members_text names.now connective.now (formula_trees members.now) ++ codes ")")) }
 {
@@ -112,6 +115,7 @@ fn put_members(
 }
 
 /// Appends further members, each with a connective before it.
+#[tactic(auto, using(crate::proofs::Written::first_written, crate::proofs::Written::rest_written))]
 #[cycle(formulas)]
 fn put_others(
     out: &mut Vec<u8>,
@@ -119,7 +123,7 @@ fn put_others(
     connective: &[u8],
     members: &FormulaList,
 ) -> Result<(), NoMemory>
-    requires { IsTrue (all_can_be_written names.now (formula_trees members.now)) }
+    requires { IsTrue (members_are_made_of (atom_is_held names.now) (formula_trees members.now)) }
     ensures { OnOk result (out.new.items ≡ out.old.items ++ others_text names.now connective.now (formula_trees members.now)) }
 {
     let mut rest = members;

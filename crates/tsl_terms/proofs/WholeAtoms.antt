@@ -1,13 +1,16 @@
 -- The atoms of the whole formula of a specification are those of its four lists, one list after another.
-use Rattle.std.proofs.Common.{◌≡◌, Bool, true, ◌&&◌, List, [], ◌∷◌, ◌++◌, map, refl, sym, ap, ◌∙◌, append_assoc, append-nil}
+use Rattle.std.proofs.Common.{◌≡◌, Bool, true, false, ◌&&◌, List, [], ◌∷◌, ◌++◌, map, refl, sym, ap, ◌∙◌, append_assoc, append-nil}
 use Rattle.std.specs.List.{list_all, flat_map}
 use Rattle.std.proofs.lemmas.Grind.{flat_map-append}
 use Rattle.std.proofs.lemmas.List.Folds.{list_all-append, list_all-map}
 use Rattle.std.proofs.lemmas.Bool.{and_parts, and_from}
+use Rattle.std.proofs.Math.Bool.{and-false}
 use Rattle.sequence.proofs.Passes.{list_all_weaker}
 use Rattle.tsl_terms.specs.declared.operator.UnaryOperator.TheVariants.{Globally}
-use Rattle.tsl_terms.specs.FormulaTree.{Atom, FormulaTree, FormulaTrees, unary, no_formulas, more_formulas, formulas_in, formulas_of}
-use Rattle.tsl_terms.specs.Atoms.{atoms, atoms_of_members, joins_two, all_join_two, is_made_of}
+use Rattle.tsl_terms.specs.declared.operator.BinaryOperator.{BinaryOperator}
+use Rattle.tsl_terms.specs.declared.operator.ManyOperator.{ManyOperator}
+use Rattle.tsl_terms.specs.FormulaTree.{Atom, FormulaTree, FormulaTrees, unary, binary, many, no_formulas, more_formulas, formulas_in, formulas_of}
+use Rattle.tsl_terms.specs.Atoms.{atoms, atoms_of_members, has_two, joins_two, all_join_two, is_made_of, members_are_made_of}
 use Rattle.tsl_terms.specs.SpecTree.{SpecTree, conjunction_of, assumed, guaranteed, under_assumptions, all_formulas, whole_formula}
 
 -- the atoms of a list, by its members
@@ -92,6 +95,29 @@ whole_joins_two spec h =
     under_joins_two (assumed spec) (conjunction_of (guaranteed spec))
     (section_joins_two spec.assume_first spec.assume_always three.0 three.1)
     (conjunction_joins_two (guaranteed spec) (section_joins_two spec.guarantee_first spec.guarantee_always two.1 one.1))
+
+-- what a formula is made of, by its parts
+
+four : (a b c d : Bool) → ((a && b) && (c && d)) ≡ ((a && c) && (b && d))
+four true true c d = refl
+four true false c d = sym (and-false c)
+four false b c d = refl
+
+pub binary_is_made_of : (passes : Atom → Bool) (op : BinaryOperator) (f g : FormulaTree) → is_made_of passes (binary op f g) ≡ (is_made_of passes f && is_made_of passes g)
+binary_is_made_of passes op f g =
+    ap (λ b. b && joins_two (binary op f g)) (list_all-append passes (atoms f) (atoms g))
+    ∙ four (list_all passes (atoms f)) (list_all passes (atoms g)) (joins_two f) (joins_two g)
+
+pub more_are_made_of : (passes : Atom → Bool) (f : FormulaTree) (fs : FormulaTrees) →
+    members_are_made_of passes (more_formulas f fs) ≡ (is_made_of passes f && members_are_made_of passes fs)
+more_are_made_of passes f fs =
+    ap (λ b. b && all_join_two (more_formulas f fs)) (list_all-append passes (atoms f) (atoms_of_members fs))
+    ∙ four (list_all passes (atoms f)) (list_all passes (atoms_of_members fs)) (joins_two f) (all_join_two fs)
+
+pub many_is_made_of : (passes : Atom → Bool) (op : ManyOperator) (fs : FormulaTrees) → is_made_of passes (many op fs) ≡ true → members_are_made_of passes fs ≡ true
+many_is_made_of passes op fs h =
+    let parts = and_parts (list_all passes (atoms_of_members fs)) (has_two fs && all_join_two fs) h in
+    and_from _ _ parts.0 (and_parts (has_two fs) (all_join_two fs) parts.1).1
 
 -- what the formulas of a list are made of
 pub list_is_made_of : (passes : Atom → Bool) (fs : List FormulaTree) → list_all (is_made_of passes) fs ≡ true →

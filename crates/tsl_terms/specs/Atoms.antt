@@ -37,3 +37,6 @@ abbrev mutual
 -- whether a formula is made of atoms that pass a test, by conjunctions and disjunctions of two members or more
 abbrev pub is_made_of : (Atom → Bool) → FormulaTree → Bool
 is_made_of passes f = list_all passes (atoms f) && joins_two f
+
+abbrev pub members_are_made_of : (Atom → Bool) → FormulaTrees → Bool
+members_are_made_of passes fs = list_all passes (atoms_of_members fs) && all_join_two fs
