@@ -9,8 +9,11 @@ use Rattle.clause_core.specs.Literals.{Lit, literal_of}
 use Rattle.clause_core.specs.Clauses.{IsOver, in_order}
 use Rattle.clause_core.proofs.Sets.{has-in_order, has_from_Contains, Contains_from_has}
 use Rattle.refutation_check.specs.declared.dimacs.Counts.{Counts}
-use Rattle.refutation_check.specs.Lines.{lines, words, words_beside, data_lines}
-use Rattle.refutation_check.specs.Numbers.{signed_number, is_zero, passes}
+use Rattle.tsl_text.specs.Lines.{NumberedLine, lines, words}
+use Rattle.refutation_check.specs.DataLines.{words_beside, data_lines}
+use Rattle.tsl_text.specs.Numbers.{signed_number_in}
+use Rattle.refutation_check.specs.Numbers.{is_zero}
+use Rattle.sequence.specs.Options.{passes}
 use Rattle.refutation_check.specs.CnfText.{is_cnf, form_at, too_many_variables, too_many_clauses, header, means, with_zeros, is_right, first_wrong, numbers_of, clauses_of, answer_of_words, answer_of_header, answer_of_lines, cnf_answer}
 use Rattle.refutation_check.specs.Reading.{are_within, ended_clauses}
 use Rattle.refutation_check.specs.LogText.{is_literal}
@@ -29,11 +32,11 @@ pub right_here : (counts : Counts) (passed : ℕ) (word : ℕ × List ℕ) (word
 right_here counts passed word words h =
     ap (λ b. cond (not b) (Some (passed, word)) (wrong_among counts (with_zeros (passed + cond (means is_zero word.1) 1 0) words))) h
 
-pub numbers_more : (word : ℕ × List ℕ) (words : List (ℕ × List ℕ)) (n : ℤ) → signed_number word.1 ≡ Some n → numbers_of (word ∷ words) ≡ n ∷ numbers_of words
+pub numbers_more : (word : ℕ × List ℕ) (words : List (ℕ × List ℕ)) (n : ℤ) → signed_number_in word.1 ≡ Some n → numbers_of (word ∷ words) ≡ n ∷ numbers_of words
 numbers_more word words n e = ap (λ o. cons_option o (numbers_of words)) e
 
 pub ended_more : (word : ℕ × List ℕ) (words : List (ℕ × List ℕ)) → count_by is_zero (numbers_of (word ∷ words)) ≡ cond (means is_zero word.1) 1 0 + count_by is_zero (numbers_of words)
-ended_more word words = by_number (signed_number word.1)
+ended_more word words = by_number (signed_number_in word.1)
   where
     by_number : (o : Option ℤ) → count_by is_zero (cons_option o (numbers_of words)) ≡ cond (passes is_zero o) 1 0 + count_by is_zero (numbers_of words)
     by_number None = omega arith
@@ -42,7 +45,7 @@ ended_more word words = by_number (signed_number word.1)
 -- what the first word of right ones means
 record StartsRight (counts : Counts) (passed : ℕ) (word : ℕ × List ℕ) (words : List (ℕ × List ℕ)) : Type 0 where
   number : ℤ
-  is : signed_number word.1 ≡ Some number
+  is : signed_number_in word.1 ≡ Some number
   left : passed < counts.clauses
   within : leb (nat_abs number) counts.variables ≡ true
   rest : wrong_among counts (with_zeros (passed + cond (means is_zero word.1) 1 0) words) ≡ None
@@ -50,7 +53,7 @@ record StartsRight (counts : Counts) (passed : ℕ) (word : ℕ × List ℕ) (wo
 starts_right : (counts : Counts) (passed : ℕ) (word : ℕ × List ℕ) (words : List (ℕ × List ℕ)) → wrong_among counts (with_zeros passed (word ∷ words)) ≡ None → StartsRight counts passed word words
 starts_right counts passed word words h = by_test (is_right counts (passed, word)) refl h
   where
-    by_number : (o : Option ℤ) → signed_number word.1 ≡ o → passes (λ n. leb (nat_abs n) counts.variables) o ≡ true → passed < counts.clauses → is_right counts (passed, word) ≡ true → StartsRight counts passed word words
+    by_number : (o : Option ℤ) → signed_number_in word.1 ≡ o → passes (λ n. leb (nat_abs n) counts.variables) o ≡ true → passed < counts.clauses → is_right counts (passed, word) ≡ true → StartsRight counts passed word words
     by_number None e p left right = absurd (false≢true p)
     by_number (Some n) e p left right = record { number = n; is = e; left = left; within = p; rest = sym (right_here counts passed word words right) ∙ h }
 
@@ -58,7 +61,7 @@ starts_right counts passed word words h = by_test (is_right counts (passed, word
     by_test false e k = absurd cc
     by_test true e k =
         let parts = and_parts (ltb passed counts.clauses) (means (λ n. leb (nat_abs n) counts.variables) word.1) e in
-        by_number (signed_number word.1) refl parts.1 (ltb-true passed counts.clauses parts.0) e
+        by_number (signed_number_in word.1) refl parts.1 (ltb-true passed counts.clauses parts.0) e
 
 -- right words mean numbers within the variables
 pub all_within : (counts : Counts) (words : List (ℕ × List ℕ)) (passed : ℕ) → wrong_among counts (with_zeros passed words) ≡ None → are_within counts.variables words ≡ true
@@ -84,14 +87,14 @@ few_ended counts (word ∷ words) passed h within =
 -- a word that means no literal, where all are within, means 0
 pub record StartsWithZero (variables : ℕ) (word : ℕ × List ℕ) (words : List (ℕ × List ℕ)) : Type 0 where
   pub number : ℤ
-  pub is : signed_number word.1 ≡ Some number
+  pub is : signed_number_in word.1 ≡ Some number
   pub zero' : is_zero number ≡ true
   pub rest : are_within variables words ≡ true
 
-pub starts_with_zero : (variables : ℕ) (word : ℕ × List ℕ) (words : List (ℕ × List ℕ)) → variables < 2147483648 → are_within variables (word ∷ words) ≡ true → passes is_literal (signed_number word.1) ≡ false → StartsWithZero variables word words
-starts_with_zero variables word words few h none = by_number (signed_number word.1) refl (and_parts (means (λ m. leb (nat_abs m) variables) word.1) (are_within variables words) h).0 none
+pub starts_with_zero : (variables : ℕ) (word : ℕ × List ℕ) (words : List (ℕ × List ℕ)) → variables < 2147483648 → are_within variables (word ∷ words) ≡ true → passes is_literal (signed_number_in word.1) ≡ false → StartsWithZero variables word words
+starts_with_zero variables word words few h none = by_number (signed_number_in word.1) refl (and_parts (means (λ m. leb (nat_abs m) variables) word.1) (are_within variables words) h).0 none
   where
-    by_number : (o : Option ℤ) → signed_number word.1 ≡ o → passes (λ m. leb (nat_abs m) variables) o ≡ true → passes is_literal o ≡ false → StartsWithZero variables word words
+    by_number : (o : Option ℤ) → signed_number_in word.1 ≡ o → passes (λ m. leb (nat_abs m) variables) o ≡ true → passes is_literal o ≡ false → StartsWithZero variables word words
     by_number None e p q = absurd (false≢true p)
     by_number (Some n) e p q = record { number = n; is = e; zero' = zero_from n variables few p q; rest = (and_parts (means (λ m. leb (nat_abs m) variables) word.1) (are_within variables words) h).1 }
 
@@ -135,10 +138,10 @@ clauses_are count ns e =
 
 -- ---- the whole text
 
-pub cnf_is : (text : List ℕ) (line : List ℕ) (number : ℕ) (behind : List (ℕ × List ℕ)) (counts : Counts) (ended : ℕ) (words' : List (ℕ × List ℕ)) (clauses : List (List Lit)) → data_lines text ≡ (number, line) ∷ behind → Some counts ≡ header (words line) → words' ≡ flat_map words_beside behind → first_wrong counts words' ≡ None → ended ≡ count_by is_zero (numbers_of words') → counts.clauses ≤ ended → counts.variables ≤ 1048576 → counts.clauses ≤ 2000000 → clauses ≡ ended_clauses [] (numbers_of words') → cnf_answer text ≡ is_cnf counts.variables clauses
-cnf_is text line number behind counts ended words' clauses first head same right passed all variables few is =
+pub cnf_is : (text : List ℕ) (line : NumberedLine) (behind : List NumberedLine) (counts : Counts) (ended : ℕ) (words' : List (ℕ × List ℕ)) (clauses : List (List Lit)) → data_lines text ≡ line ∷ behind → Some counts ≡ header (words line.bytes) → words' ≡ flat_map words_beside behind → first_wrong counts words' ≡ None → ended ≡ count_by is_zero (numbers_of words') → counts.clauses ≤ ended → counts.variables ≤ 1048576 → counts.clauses ≤ 2000000 → clauses ≡ ended_clauses [] (numbers_of words') → cnf_answer text ≡ is_cnf counts.variables clauses
+cnf_is text line behind counts ended words' clauses first head same right passed all variables few is =
     ap (answer_of_lines after) first
-    ∙ (ap (answer_of_header after number (flat_map words_beside behind)) (sym head)
+    ∙ (ap (answer_of_header after line.number (flat_map words_beside behind)) (sym head)
     ∙ (ap (λ ws. answer_of_words after counts ws (first_wrong counts ws)) (sym same)
     ∙ (ap (answer_of_words after counts words') right
     ∙ (cond-false (ltb (count_by is_zero ns) counts.clauses) (form_at after) (cond (ltb 1048576 counts.variables) too_many_variables (cond (ltb 2000000 counts.clauses) too_many_clauses (is_cnf counts.variables (clauses_of counts.clauses ns)))) (not_below (count_by is_zero ns) counts.clauses (omega (arith, all, passed)))

@@ -1,10 +1,11 @@
 -- The definitions on cases that were worked by hand: what they accept, and what they refuse.
-use Rattle.std.proofs.Common.{◌≡◌, ℕ, List, [], ◌∷◌, pos, negsuc, Some, None, refl}
+use Rattle.std.proofs.Common.{◌≡◌, ℕ, List, [], ◌∷◌, pos, negsuc, Some, None, true, false, refl}
 use Rattle.std.specs.Prelude.{codes}
 use Rattle.clause_core.specs.Literals.{Lit, literal_of}
 use Rattle.refutation_check.specs.declared.steps.Step.{Step}
-use Rattle.refutation_check.specs.Lines.{lines, words, data_lines}
-use Rattle.refutation_check.specs.Numbers.{number, signed_number}
+use Rattle.tsl_text.specs.Lines.{lines, words}
+use Rattle.refutation_check.specs.DataLines.{data_lines}
+use Rattle.tsl_text.specs.Numbers.{number_in, signed_number_in}
 use Rattle.refutation_check.specs.CnfText.{cnf_answer, is_cnf, form_at, too_many_variables}
 use Rattle.refutation_check.specs.LogText.{log_answer, is_log, form_at as log_form_at}
 use Rattle.refutation_check.specs.Checking.{log_refusal, at_line, at_hint, unfinished}
@@ -28,42 +29,42 @@ no_word : words (codes " \t") ≡ []
 no_word = refl
 
 -- a comment keeps its number
-numbered : data_lines (codes "c a\nb\ncnf\n d") ≡ (2, codes "b") ∷ (4, codes " d") ∷ []
+numbered : data_lines (codes "c a\nb\ncnf\n d") ≡ record { number = 2; bytes = codes "b"; ended = true } ∷ record { number = 4; bytes = codes " d"; ended = false } ∷ []
 numbered = refl
 
 -- ---- numbers
 
-zeros_in_front : number (codes "007") ≡ Some 7
+zeros_in_front : number_in (codes "007") ≡ Some 7
 zeros_in_front = refl
 
-eighteen_digits : number (codes "999999999999999999") ≡ Some 999999999999999999
+eighteen_digits : number_in (codes "999999999999999999") ≡ Some 999999999999999999
 eighteen_digits = refl
 
-nineteen_digits : number (codes "0000000000000000001") ≡ None
+nineteen_digits : number_in (codes "0000000000000000001") ≡ None
 nineteen_digits = refl
 
-no_digits : number [] ≡ None
+no_digits : number_in [] ≡ None
 no_digits = refl
 
-a_sign : number (codes "-1") ≡ None
+a_sign : number_in (codes "-1") ≡ None
 a_sign = refl
 
-negative : signed_number (codes "-12") ≡ Some (negsuc 11)
+negative : signed_number_in (codes "-12") ≡ Some (negsuc 11)
 negative = refl
 
-two_zeros : signed_number (codes "00") ≡ Some (pos 0)
+two_zeros : signed_number_in (codes "00") ≡ Some (pos 0)
 two_zeros = refl
 
-negative_zero : signed_number (codes "-0") ≡ None
+negative_zero : signed_number_in (codes "-0") ≡ None
 negative_zero = refl
 
-sign_alone : signed_number (codes "-") ≡ None
+sign_alone : signed_number_in (codes "-") ≡ None
 sign_alone = refl
 
-two_signs : signed_number (codes "--1") ≡ None
+two_signs : signed_number_in (codes "--1") ≡ None
 two_signs = refl
 
-plus : signed_number (codes "+1") ≡ None
+plus : signed_number_in (codes "+1") ≡ None
 plus = refl
 
 -- ---- formulas

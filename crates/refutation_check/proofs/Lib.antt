@@ -1,7 +1,6 @@
 pub mod Accepting
 pub mod CnfLemmas
 mod Examples
-pub mod LineLemmas
 pub mod LogLemmas
 pub mod Marking
 pub mod Naming

@@ -10,10 +10,12 @@ use Rattle.clause_core.specs.Clauses.{in_order}
 use Rattle.refutation_check.specs.declared.steps.Step.{Step}
 use Rattle.refutation_check.specs.declared.lrat.Line.{Line}
 use Rattle.refutation_check.specs.declared.lrat.Line.TheVariants.{Says, NoEffect, Wrong}
-use Rattle.refutation_check.specs.Lines.{lines}
-use Rattle.refutation_check.specs.Numbers.{signed_number, is_zero, passes}
-use Rattle.refutation_check.specs.LogText.{is_log, all_there, is_literal, is_hint, step_of, step_of_parts, step_of_numbers, line_answer, is_wrong, step_in}
-use Rattle.refutation_check.specs.Reading.{with_literals, with_hints, with_both, log_with, log_behind, HasHintsWithin}
+use Rattle.tsl_text.specs.Lines.{NumberedLine}
+use Rattle.tsl_text.specs.Numbers.{signed_number_in}
+use Rattle.refutation_check.specs.Numbers.{is_zero}
+use Rattle.sequence.specs.Options.{all_there, passes}
+use Rattle.refutation_check.specs.LogText.{is_log, is_literal, is_hint, step_of, step_of_parts, step_of_numbers, line_answer, is_wrong, step_in}
+use Rattle.refutation_check.specs.Reading.{with_literals, with_hints, with_both, log_among, log_behind, HasHintsWithin}
 use Rattle.refutation_check.proofs.NumberLemmas.{onto_front, onto_front-nil, has_no_zero, split_front, split_at_zero, split_behind}
 
 literals_no_zero : (literals : List Lit) → has_no_zero (map number_of literals) ≡ true
@@ -82,12 +84,12 @@ no_literal_number name literals n (Some ns) other none = ap (step_of_parts name)
     by_parts [] = bad_first name (map number_of literals ++ n ∷ []) [] (ap (list_all is_literal) (sym (append-nil (map number_of literals ++ n ∷ []))) ∙ not_all is_literal (map number_of literals) n [] none)
     by_parts (part ∷ parts) = bad_first name ((map number_of literals ++ n ∷ []) ++ part) parts (not_all is_literal (map number_of literals) n part none)
 
-pub no_literal : (name : ℕ) (literals : List Lit) (word : List ℕ) (words : List (List ℕ)) → passes is_zero (signed_number word) ≡ false → passes is_literal (signed_number word) ≡ false → with_literals name literals (word ∷ words) ≡ Wrong
-no_literal name literals word words = by_number (signed_number word)
+pub no_literal : (name : ℕ) (literals : List Lit) (word : List ℕ) (words : List (List ℕ)) → passes is_zero (signed_number_in word) ≡ false → passes is_literal (signed_number_in word) ≡ false → with_literals name literals (word ∷ words) ≡ Wrong
+no_literal name literals word words = by_number (signed_number_in word)
   where
-    by_number : (o : Option ℤ) → passes is_zero o ≡ false → passes is_literal o ≡ false → step_of_numbers name (option_map (λ ns. map number_of literals ++ ns) (all_there (o ∷ map signed_number words))) ≡ Wrong
+    by_number : (o : Option ℤ) → passes is_zero o ≡ false → passes is_literal o ≡ false → step_of_numbers name (option_map (λ ns. map number_of literals ++ ns) (all_there (o ∷ map signed_number_in words))) ≡ Wrong
     by_number None other none = refl
-    by_number (Some n) other none = no_literal_number name literals n (all_there (map signed_number words)) other none
+    by_number (Some n) other none = no_literal_number name literals n (all_there (map signed_number_in words)) other none
 
 pub literals_end : (name : ℕ) (literals : List Lit) → with_literals name literals [] ≡ Wrong
 literals_end name literals = ap (step_of_parts name) (split_front (map number_of literals) [] (literals_no_zero literals))
@@ -104,12 +106,12 @@ no_hint_number name literals hints n (Some ns) some other none =
     by_parts [] = bad_second name (map number_of literals) (map pos hints ++ n ∷ []) [] (ap (list_all is_hint) (sym (append-nil (map pos hints ++ n ∷ []))) ∙ not_all is_hint (map pos hints) n [] none)
     by_parts (part ∷ parts) = bad_second name (map number_of literals) ((map pos hints ++ n ∷ []) ++ part) parts (not_all is_hint (map pos hints) n part none)
 
-pub no_hint : (name : ℕ) (literals : List Lit) (hints : List ℕ) (word : List ℕ) (words : List (List ℕ)) → All (λ hint. 0 < hint) hints → passes is_zero (signed_number word) ≡ false → passes is_hint (signed_number word) ≡ false → with_hints name literals hints (word ∷ words) ≡ Wrong
-no_hint name literals hints word words some = by_number (signed_number word)
+pub no_hint : (name : ℕ) (literals : List Lit) (hints : List ℕ) (word : List ℕ) (words : List (List ℕ)) → All (λ hint. 0 < hint) hints → passes is_zero (signed_number_in word) ≡ false → passes is_hint (signed_number_in word) ≡ false → with_hints name literals hints (word ∷ words) ≡ Wrong
+no_hint name literals hints word words some = by_number (signed_number_in word)
   where
-    by_number : (o : Option ℤ) → passes is_zero o ≡ false → passes is_hint o ≡ false → step_of_numbers name (option_map (λ ns. map number_of literals ++ pos 0 ∷ (map pos hints ++ ns)) (all_there (o ∷ map signed_number words))) ≡ Wrong
+    by_number : (o : Option ℤ) → passes is_zero o ≡ false → passes is_hint o ≡ false → step_of_numbers name (option_map (λ ns. map number_of literals ++ pos 0 ∷ (map pos hints ++ ns)) (all_there (o ∷ map signed_number_in words))) ≡ Wrong
     by_number None other none = refl
-    by_number (Some n) other none = no_hint_number name literals hints n (all_there (map signed_number words)) some other none
+    by_number (Some n) other none = no_hint_number name literals hints n (all_there (map signed_number_in words)) some other none
 
 pub hints_end : (name : ℕ) (literals : List Lit) (hints : List ℕ) → All (λ hint. 0 < hint) hints → with_hints name literals hints [] ≡ Wrong
 hints_end name literals hints some =
@@ -122,15 +124,15 @@ both_split name literals hints ns some =
     ap (step_of_parts name) (split_at_zero (map number_of literals) (map pos hints ++ pos 0 ∷ ns) (literals_no_zero literals) ∙ ap (λ parts. map number_of literals ∷ parts) (split_at_zero (map pos hints) ns (hints_no_zero hints some)))
 
 pub both_more : (name : ℕ) (literals : List Lit) (hints : List ℕ) (word : List ℕ) (words : List (List ℕ)) → All (λ hint. 0 < hint) hints → with_both name literals hints (word ∷ words) ≡ Wrong
-both_more name literals hints word words some = by_first (signed_number word)
+both_more name literals hints word words some = by_first (signed_number_in word)
   where
     by_rest : (n : ℤ) (o : Option (List ℤ)) → step_of_numbers name (option_map (λ ns. map number_of literals ++ pos 0 ∷ (map pos hints ++ pos 0 ∷ ns)) (option_map (λ ns. n ∷ ns) o)) ≡ Wrong
     by_rest n None = refl
     by_rest n (Some ns) = both_split name literals hints (n ∷ ns) some ∙ more_behind name (map number_of literals) (map pos hints) n ns
 
-    by_first : (o : Option ℤ) → step_of_numbers name (option_map (λ ns. map number_of literals ++ pos 0 ∷ (map pos hints ++ pos 0 ∷ ns)) (all_there (o ∷ map signed_number words))) ≡ Wrong
+    by_first : (o : Option ℤ) → step_of_numbers name (option_map (λ ns. map number_of literals ++ pos 0 ∷ (map pos hints ++ pos 0 ∷ ns)) (all_there (o ∷ map signed_number_in words))) ≡ Wrong
     by_first None = refl
-    by_first (Some n) = by_rest n (all_there (map signed_number words))
+    by_first (Some n) = by_rest n (all_there (map signed_number_in words))
 
 literals_again : (literals : List Lit) → map literal_of (map number_of literals) ≡ literals
 literals_again [] = refl
@@ -164,22 +166,20 @@ both_right None name literals hints words all some ends there =
 
 -- ---- lines
 
-pub log_more : (text line later : List ℕ) (steps : List Step) (number : ℕ) → lines text ≡ line ∷ lines later → is_wrong (line_answer line) ≡ false → log_with steps number text ≡ log_with (steps ++ option_to_list (step_in (line_answer line))) (number + 1) later
-log_more text line later steps number first right =
-    ap (λ ls. log_behind steps (enumerate_from number ls) (find (λ l. is_wrong (line_answer l.1)) (enumerate_from number ls))) first
-    ∙ (ap (λ b. log_behind steps ((number, line) ∷ behind) (cond b (Some (number, line)) (find (λ l. is_wrong (line_answer l.1)) behind))) right
-    ∙ by_wrong (find (λ l. is_wrong (line_answer l.1)) behind))
+pub log_more : (lines : List NumberedLine) (line : NumberedLine) (after : List NumberedLine) (steps : List Step) → lines ≡ line ∷ after → is_wrong (line_answer line.bytes) ≡ false →
+    log_among steps lines ≡ log_among (steps ++ option_to_list (step_in (line_answer line.bytes))) after
+log_more lines line after steps first right =
+    ap (log_among steps) first
+    ∙ (ap (λ b. log_behind steps (line ∷ after) (cond b (Some line) (find (λ l. is_wrong (line_answer l.bytes)) after))) right
+    ∙ by_wrong (find (λ l. is_wrong (line_answer l.bytes)) after))
   where
-    behind : List (ℕ × List ℕ)
-    behind = enumerate_from (number + 1) (lines later)
-
     by_step : (o : Option Step) (rest : List Step) → steps ++ cons_option o rest ≡ (steps ++ option_to_list o) ++ rest
     by_step None rest = ap (λ xs. xs ++ rest) (sym (append-nil steps))
     by_step (Some s) rest = sym (append_assoc steps (s ∷ []) rest)
 
-    by_wrong : (o : Option (ℕ × List ℕ)) → log_behind steps ((number, line) ∷ behind) o ≡ log_behind (steps ++ option_to_list (step_in (line_answer line))) behind o
+    by_wrong : (o : Option NumberedLine) → log_behind steps (line ∷ after) o ≡ log_behind (steps ++ option_to_list (step_in (line_answer line.bytes))) after o
     by_wrong (Some wrong) = refl
-    by_wrong None = ap is_log (by_step (step_in (line_answer line)) (filter_map (λ l. step_in (line_answer l.1)) behind))
+    by_wrong None = ap is_log (by_step (step_in (line_answer line.bytes)) (filter_map (λ l. step_in (line_answer l.bytes)) after))
 
 pub few_more : (steps : List Step) (line : Line) (few most : ℕ) → few ≤ most → All (λ step. length step.hints ≤ most) steps → HasHintsWithin few line → All (λ step. length step.hints ≤ most) (steps ++ option_to_list (step_in line))
 few_more steps (Says s) few most order all within = All-append (λ (step : Step). length step.hints ≤ most) steps (s ∷ []) all (All-cons (λ (step : Step). length step.hints ≤ most) s [] (omega (arith, within)) (All-nil (λ (step : Step). length step.hints ≤ most)))

@@ -1,15 +1,11 @@
--- How large numbers are, and how lists of them are split at zeros.
+-- How lists of them are split at zeros.
 use Rattle.std.proofs.Common.{◌≡◌, ℕ, ◌+◌, ◌^◌, ◌<◌, ◌≤◌, Bool, true, false, not, cond, leb, ltb, ◌&&◌, ℤ, pos, List, [], ◌∷◌, ◌++◌, sym, ap, ◌∙◌, refl, arith, append_assoc, append-nil}
 use Rattle.std.specs.Prelude.{nat_abs, count_by}
 use Rattle.std.specs.List.{slice_split, onto_first, list_all}
-use Rattle.std.proofs.Math.Nat.{pow-le-pow_right}
 use Rattle.std.proofs.lemmas.Bool.{and_parts, true≢false, false≢true, leb-true, lt-ltb}
 use Rattle.std.proofs.lemmas.List.Sums.{sum_by-cons}
 use Rattle.refutation_check.specs.Numbers.{is_zero}
 use Rattle.refutation_check.specs.LogText.{is_literal}
-
-pub few_digits : (value i n : ℕ) → value < 10 ^ i → i ≤ n → value < 10 ^ n
-few_digits value i n below few = omega (arith, below, pow-le-pow_right {n = 10} (let some : 0 < 10 = omega arith in some) few)
 
 -- a small number that no literal has is 0
 pub zero_from : (n : ℤ) (most : ℕ) → most < 2147483648 → leb (nat_abs n) most ≡ true → is_literal n ≡ false → is_zero n ≡ true

@@ -4,8 +4,11 @@ use Rattle.std.specs.List.{slice_split}
 use Rattle.clause_core.specs.Literals.{Lit, literal_of}
 use Rattle.clause_core.specs.Clauses.{in_order}
 use Rattle.refutation_check.specs.declared.dimacs.Counts.{Counts}
-use Rattle.refutation_check.specs.Lines.{lines, words, data_lines, words_beside}
-use Rattle.refutation_check.specs.Numbers.{number, signed_number, is_zero, passes}
+use Rattle.sequence.specs.Options.{passes}
+use Rattle.tsl_text.specs.Lines.{NumberedLine, lines, words}
+use Rattle.tsl_text.specs.Numbers.{number_in, signed_number_in}
+use Rattle.refutation_check.specs.DataLines.{data_lines, words_beside}
+use Rattle.refutation_check.specs.Numbers.{is_zero}
 
 -- what a text is: a formula, with its number of variables and its clauses; of no form at a line; or past a limit
 pub data CnfAnswer : Type 0 where
@@ -20,12 +23,12 @@ counts_of variables clauses = option_and_then (λ v. option_map (λ c. record { 
 
 -- the counts that a line's words tell, which are `p`, `cnf` and two numbers
 abbrev pub header : List (List ℕ) → Option Counts
-header (p ∷ cnf ∷ variables ∷ clauses ∷ []) = cond (bytes_eq p (codes "p") && bytes_eq cnf (codes "cnf")) (counts_of (number variables) (number clauses)) None
+header (p ∷ cnf ∷ variables ∷ clauses ∷ []) = cond (bytes_eq p (codes "p") && bytes_eq cnf (codes "cnf")) (counts_of (number_in variables) (number_in clauses)) None
 header words = None
 
 -- whether a word means a number that passes the test
 abbrev pub means : (ℤ → Bool) → List ℕ → Bool
-means test word = passes test (signed_number word)
+means test word = passes test (signed_number_in word)
 
 -- each word, with its line, beside how many zeros stand before it
 abbrev pub with_zeros : ℕ → List (ℕ × List ℕ) → List (ℕ × (ℕ × List ℕ))
@@ -41,7 +44,7 @@ first_wrong counts words = find (λ word. not (is_right counts word)) (with_zero
 
 -- the numbers that words mean
 abbrev pub numbers_of : List (ℕ × List ℕ) → List ℤ
-numbers_of words = filter_map (λ word. signed_number word.1) words
+numbers_of words = filter_map (λ word. signed_number_in word.1) words
 
 -- the clauses that numbers tell: a zero ends each
 abbrev pub clauses_of : ℕ → List ℤ → List (List Lit)
@@ -63,9 +66,9 @@ abbrev pub answer_of_header : ℕ → ℕ → List (ℕ × List ℕ) → Option 
 answer_of_header after line words None = form_at line
 answer_of_header after line words (Some counts) = answer_of_words after counts words (first_wrong counts words)
 
-abbrev pub answer_of_lines : ℕ → List (ℕ × List ℕ) → CnfAnswer
+abbrev pub answer_of_lines : ℕ → List NumberedLine → CnfAnswer
 answer_of_lines after [] = form_at after
-answer_of_lines after (line ∷ lines) = answer_of_header after line.0 (flat_map words_beside lines) (header (words line.1))
+answer_of_lines after (line ∷ lines) = answer_of_header after line.number (flat_map words_beside lines) (header (words line.bytes))
 
 -- What a text is. Its lines that are no comments begin with the header's; the words of the others are the clauses. Where
 -- there is no header, or a clause is missing, the line after the last is at fault.

@@ -1,7 +1,7 @@
 pub mod Checking
 pub mod Marks
 pub mod Accepted
-pub mod Lines
+pub mod DataLines
 pub mod Numbers
 pub mod CnfText
 pub mod LogText

@@ -3,8 +3,11 @@ use Rattle.std.specs.Prelude.{ℕ, zero, suc, ◌==◌, nat_lt, Bool, true, fals
 use Rattle.std.specs.List.{list_all, slice_split}
 use Rattle.clause_core.specs.Literals.{literal_of}
 use Rattle.clause_core.specs.Clauses.{in_order}
-use Rattle.refutation_check.specs.Lines.{words, is_comment, numbered_lines}
-use Rattle.refutation_check.specs.Numbers.{number, signed_number, is_zero, passes}
+use Rattle.sequence.specs.Options.{all_there, passes}
+use Rattle.tsl_text.specs.Lines.{NumberedLine, numbered_lines, words}
+use Rattle.tsl_text.specs.Numbers.{number_in, signed_number_in}
+use Rattle.refutation_check.specs.DataLines.{is_comment}
+use Rattle.refutation_check.specs.Numbers.{is_zero}
 use Rattle.refutation_check.specs.declared.steps.Step.{Step}
 use Rattle.refutation_check.specs.declared.lrat.Line.{Line}
 use Rattle.refutation_check.specs.declared.lrat.Line.TheVariants.{Says, NoEffect, Wrong}
@@ -13,12 +16,6 @@ use Rattle.refutation_check.specs.declared.lrat.Line.TheVariants.{Says, NoEffect
 pub data LogAnswer : Type 0 where
   is_log : List Step → LogAnswer
   form_at : ℕ → LogAnswer
-
--- the members where each is there
-abbrev pub all_there : {X : Type 0} → List (Option X) → Option (List X)
-all_there [] = Some []
-all_there (None ∷ members) = None
-all_there (Some x ∷ members) = option_map (λ xs. x ∷ xs) (all_there members)
 
 -- whether a number is that of a literal
 abbrev pub is_literal : ℤ → Bool
@@ -48,8 +45,8 @@ step_of_numbers name (Some numbers) = step_of_parts name (slice_split is_zero nu
 -- whether words end a deletion: they are numbers, the last of them 0
 abbrev pub are_deleted : List (List ℕ) → Bool
 are_deleted [] = false
-are_deleted (word ∷ []) = passes (λ n. n == 0) (number word)
-are_deleted (word ∷ next ∷ words) = is_some (number word) && are_deleted (next ∷ words)
+are_deleted (word ∷ []) = passes (λ n. n == 0) (number_in word)
+are_deleted (word ∷ next ∷ words) = is_some (number_in word) && are_deleted (next ∷ words)
 
 -- what a line is behind its number
 abbrev pub line_of_number : List (List ℕ) → Option ℕ → Line
@@ -57,11 +54,11 @@ line_of_number rest None = Wrong
 line_of_number [] (Some name) = Wrong
 line_of_number (word ∷ words) (Some name) =
     cond (bytes_eq word (codes "d")) (cond (are_deleted words) NoEffect Wrong)
-    (step_of_numbers name (all_there (map signed_number (word ∷ words))))
+    (step_of_numbers name (all_there (map signed_number_in (word ∷ words))))
 
 abbrev pub line_of_words : List (List ℕ) → Line
 line_of_words [] = NoEffect
-line_of_words (word ∷ words) = line_of_number words (number word)
+line_of_words (word ∷ words) = line_of_number words (number_in word)
 
 -- what a line is
 abbrev pub line_answer : List ℕ → Line
@@ -77,10 +74,10 @@ step_in (Says s) = Some s
 step_in NoEffect = None
 step_in Wrong = None
 
-abbrev pub answer_of_lines : List (ℕ × List ℕ) → Option (ℕ × List ℕ) → LogAnswer
-answer_of_lines lines (Some first) = form_at first.0
-answer_of_lines lines None = is_log (filter_map (λ line. step_in (line_answer line.1)) lines)
+abbrev pub answer_of_lines : List NumberedLine → Option NumberedLine → LogAnswer
+answer_of_lines lines (Some first) = form_at first.number
+answer_of_lines lines None = is_log (filter_map (λ line. step_in (line_answer line.bytes)) lines)
 
 -- what a text is: of no form at its first wrong line, and otherwise the log of its steps
 abbrev pub log_answer : List ℕ → LogAnswer
-log_answer text = answer_of_lines (numbered_lines text) (find (λ line. is_wrong (line_answer line.1)) (numbered_lines text))
+log_answer text = answer_of_lines (numbered_lines text) (find (λ line. is_wrong (line_answer line.bytes)) (numbered_lines text))

@@ -1,12 +1,15 @@
--- How far a text has been read.
+-- Internal: how far a text has been read. Only private functions of this crate use these words.
 use Rattle.std.specs.Prelude.{ℕ, ◌+◌, ◌<◌, ◌≤◌, ◌^◌, ⊤, nat_le, Bool, not, cond, ℤ, pos, nat_abs, List, [], ◌∷◌, ◌++◌, map, filter, length, flat_map, find, filter_map, Option, Some, None, option_map}
 use Rattle.std.specs.List.{list_all, enumerate_from}
 use Rattle.clause_core.specs.Literals.{Lit, number_of, literal_of}
 use Rattle.clause_core.specs.Clauses.{in_order}
-use Rattle.refutation_check.specs.Lines.{lines, is_comment, words_beside}
-use Rattle.refutation_check.specs.Numbers.{number, signed_number, is_zero}
+use Rattle.sequence.specs.Options.{all_there}
+use Rattle.tsl_text.specs.Lines.{NumberedLine, lines_from}
+use Rattle.tsl_text.specs.Numbers.{signed_number_in}
+use Rattle.refutation_check.specs.DataLines.{is_comment, words_at, words_beside}
+use Rattle.refutation_check.specs.Numbers.{is_zero}
 use Rattle.refutation_check.specs.CnfText.{means}
-use Rattle.refutation_check.specs.LogText.{LogAnswer, is_log, form_at, all_there, step_of_numbers, are_deleted, line_answer, is_wrong, step_in}
+use Rattle.refutation_check.specs.LogText.{LogAnswer, is_log, form_at, step_of_numbers, are_deleted, line_answer, is_wrong, step_in}
 use Rattle.refutation_check.specs.declared.steps.Step.{Step}
 use Rattle.refutation_check.specs.declared.lrat.Line.{Line}
 use Rattle.refutation_check.specs.declared.lrat.Line.TheVariants.{Says, NoEffect, Wrong}
@@ -14,8 +17,8 @@ use Rattle.refutation_check.specs.declared.lrat.Line.TheVariants.{Says, NoEffect
 -- ---- formulas
 
 -- the lines of a text that are no comments, where its first line has this number
-abbrev pub data_lines_from : ℕ → List ℕ → List (ℕ × List ℕ)
-data_lines_from number text = filter (λ line. not (is_comment line.1)) (enumerate_from number (lines text))
+abbrev pub data_lines_from : ℕ → List ℕ → List NumberedLine
+data_lines_from number text = filter (λ line. not (is_comment line.bytes)) (lines_from number text)
 
 -- their words
 abbrev pub words_from : ℕ → List ℕ → List (ℕ × List ℕ)
@@ -23,11 +26,11 @@ words_from number text = flat_map words_beside (data_lines_from number text)
 
 -- the words of what is left of a line, and those of the text behind it
 abbrev pub words_left : List ℕ → ℕ → List ℕ → List (ℕ × List ℕ)
-words_left line number text = words_beside (number, line) ++ words_from (number + 1) text
+words_left line number text = words_at number line ++ words_from (number + 1) text
 
--- the numbers of the lines can be counted
+-- a number above that of each line after this one can be counted
 abbrev pub HasFewLines : ℕ → List ℕ → Type 0
-HasFewLines number text = number + length text < 2 ^ 32
+HasFewLines number text = (number + 1) + length text < 2 ^ 32
 
 -- each word means a number up to this one or its opposite
 abbrev pub are_within : ℕ → List (ℕ × List ℕ) → Bool
@@ -43,31 +46,30 @@ ended_clauses literals (n ∷ ns) = cond (is_zero n) (in_order literals ∷ ende
 -- what a line is with these literals and the words behind them
 abbrev pub with_literals : ℕ → List Lit → List (List ℕ) → Line
 with_literals name literals words =
-    step_of_numbers name (option_map (λ ns. map number_of literals ++ ns) (all_there (map signed_number words)))
+    step_of_numbers name (option_map (λ ns. map number_of literals ++ ns) (all_there (map signed_number_in words)))
 
 -- what a line is with these literals, a 0, these hints and the words behind them
 abbrev pub with_hints : ℕ → List Lit → List ℕ → List (List ℕ) → Line
 with_hints name literals hints words =
-    step_of_numbers name (option_map (λ ns. map number_of literals ++ pos 0 ∷ (map pos hints ++ ns)) (all_there (map signed_number words)))
+    step_of_numbers name (option_map (λ ns. map number_of literals ++ pos 0 ∷ (map pos hints ++ ns)) (all_there (map signed_number_in words)))
 
 -- what a line is with these literals, a 0, these hints, a 0 and the words behind them
 abbrev pub with_both : ℕ → List Lit → List ℕ → List (List ℕ) → Line
 with_both name literals hints words =
-    step_of_numbers name (option_map (λ ns. map number_of literals ++ pos 0 ∷ (map pos hints ++ pos 0 ∷ ns)) (all_there (map signed_number words)))
+    step_of_numbers name (option_map (λ ns. map number_of literals ++ pos 0 ∷ (map pos hints ++ pos 0 ∷ ns)) (all_there (map signed_number_in words)))
 
 -- whether words end a deletion, where the number before them was a 0 or not
 abbrev pub end_deleted : Bool → List (List ℕ) → Bool
 end_deleted ended [] = ended
 end_deleted ended (word ∷ words) = are_deleted (word ∷ words)
 
-abbrev pub log_behind : List Step → List (ℕ × List ℕ) → Option (ℕ × List ℕ) → LogAnswer
-log_behind steps lines (Some first) = form_at first.0
-log_behind steps lines None = is_log (steps ++ filter_map (λ line. step_in (line_answer line.1)) lines)
+abbrev pub log_behind : List Step → List NumberedLine → Option NumberedLine → LogAnswer
+log_behind steps lines (Some first) = form_at first.number
+log_behind steps lines None = is_log (steps ++ filter_map (λ line. step_in (line_answer line.bytes)) lines)
 
--- what a text is with these steps before it, where its first line has this number
-abbrev pub log_with : List Step → ℕ → List ℕ → LogAnswer
-log_with steps number text =
-    log_behind steps (enumerate_from number (lines text)) (find (λ line. is_wrong (line_answer line.1)) (enumerate_from number (lines text)))
+-- what a text is with these steps before it, where these lines are left
+abbrev pub log_among : List Step → List NumberedLine → LogAnswer
+log_among steps lines = log_behind steps lines (find (λ line. is_wrong (line_answer line.bytes)) lines)
 
 -- the step of a line, where it says one, has at most so many hints
 abbrev pub HasHintsWithin : ℕ → Line → Type 0

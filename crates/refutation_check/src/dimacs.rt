@@ -2,17 +2,20 @@
 
 ghost use Rattle.std.specs.Prelude.{◌≡◌, ◌+◌, ◌^◌, ◌<◌, ◌≤◌, ℕ, true, not, cond, [], ◌∷◌, List, Some, None, Err, IfOk, IfErr, IfSome, IfNone, length, find, option_map, count_by, is_some, All};
 ghost use Rattle.clause_core.specs.Clauses.{IsOver};
-ghost use Rattle.refutation_check.specs.Lines.{lines, words, is_comment, data_lines};
+ghost use Rattle.tsl_text.specs.Lines.{lines, words};
+ghost use Rattle.tsl_text.specs.Cursor.{line_view};
+ghost use Rattle.refutation_check.specs.DataLines.{is_comment, data_lines};
 ghost use Rattle.refutation_check.specs.Numbers.{is_zero};
 ghost use Rattle.refutation_check.specs.CnfText.{header, means, is_right, first_wrong, numbers_of, cnf_answer, is_cnf, form_at, too_many_variables, too_many_clauses};
 ghost use Rattle.refutation_check.specs.Reading.{data_lines_from, words_from, words_left, HasFewLines, are_within, ended_clauses};
 
-use crate::lines::{first_line, first_word, is_comment, line_count};
-use crate::numbers::{ends_list, is_within, literal_in, number};
+use crate::lines::is_comment;
+use crate::numbers::{ends_list, is_within, literal_in};
 use clause_core::{Clause, Cnf, clause_of};
 use sequence::{NoMemory, Sequence};
 use std::alloc::Global;
 use thiserror::Error;
+use tsl_text::{Line, Lines, first_line, first_word, line_count, lines_of, number_in};
 
 /// Why a text is no formula.
 #[derive(Debug, Drop, Error)]
@@ -52,7 +55,7 @@ pub struct Counts {
     pub clauses: u64,
 }
 
-/// What is left of a text: the rest of a line, that line's number, and the text behind the line.
+/// What is left of a text: the rest of a line, that line's number, and the text after the line.
 #[derive(Clone, Copy)]
 struct Rest<'a> {
     line: &'a [u8],
@@ -78,13 +81,13 @@ pub fn read_dimacs(alloc: Global, text: &[u8]) -> Result<Cnf, CnfError>
     ensures clauses { result ≡ Err CnfError.Clauses → cnf_answer text.now ≡ too_many_clauses }
 {
     let after = line_count(text) + 1;
-    let Some(first) = first_data_line(text) else {
+    let Some((first, left)) = first_data_line(text) else {
         return Err(CnfError::Form(after));
     };
-    let Some(counts) = header(first.line) else {
+    let Some(counts) = header(first.bytes) else {
         return Err(CnfError::Form(first.number));
     };
-    let rest = behind_line(first);
+    let rest = after_line(first.number, left.text);
     match check_words(counts, rest) {
         Err(line) => Err(CnfError::Form(line)),
         Ok(ended) => {
@@ -106,26 +109,19 @@ pub fn read_dimacs(alloc: Global, text: &[u8]) -> Result<Cnf, CnfError>
     }
 }
 
-/// The first line of a text that is no comment, with the text behind it.
-fn first_data_line(text: &[u8]) -> Option<Rest<'_>>
+/// The first line of a text that is no comment, and the lines after it.
+fn first_data_line(text: &[u8]) -> Option<(Line<'_>, Lines<'_>)>
     requires { length text.now + 1 < 2 ^ 32 }
-    ensures some { IfSome result (λ first. data_lines text.now ≡ (first.number, first.line.now) ∷ data_lines_from (first.number + 1) first.text.now) }
-    ensures few { IfSome result (λ first. HasFewLines first.number first.text.now) }
+    ensures some { IfSome result (λ found. data_lines text.now ≡ line_view found.0 ∷ data_lines_from (found.0.number + 1) found.1.text.now) }
+    ensures few { IfSome result (λ found. HasFewLines found.0.number found.1.text.now) }
     ensures none { IfNone result (data_lines text.now ≡ []) }
 {
-    let mut number = 1;
-    let mut rest = text;
-    while !rest.is_empty() {
-        let (line, later) = first_line(rest);
-        if !is_comment(line) {
-            return Some(Rest {
-                line,
-                number,
-                text: later,
-            });
+    let mut left = lines_of(text);
+    while let Some((line, after)) = first_line(left) {
+        if !is_comment(line.bytes) {
+            return Some((line, after));
         }
-        number += 1;
-        rest = later;
+        left = after;
     }
     None
 }
@@ -142,25 +138,26 @@ fn header(line: &[u8]) -> Option<Counts>
         return None;
     }
     Some(Counts {
-        variables: number(variables)?,
-        clauses: number(clauses)?,
+        variables: number_in(variables)?,
+        clauses: number_in(clauses)?,
     })
 }
 
-/// What is left behind the line.
-fn behind_line(rest: Rest<'_>) -> Rest<'_>
-    ensures left { words_left result.line.now result.number result.text.now ≡ words_from (rest.entry.number + 1) rest.entry.text.now }
+/// What is left after a line of this number, where this text stands after it.
+fn after_line(number: u32, text: &[u8]) -> Rest<'_>
+    ensures left { words_left result.line.now result.number result.text.now ≡ words_from (number + 1) text.now }
     ensures empty { result.line.now ≡ [] }
-    ensures number { result.number ≡ rest.entry.number }
-    ensures text { result.text.now ≡ rest.entry.text.now }
+    ensures number { result.number ≡ number }
+    ensures text { result.text.now ≡ text.now }
 {
     Rest {
-        line: &rest.line[rest.line.len()..],
-        ..rest
+        line: &text[text.len()..],
+        number,
+        text,
     }
 }
 
-/// The next word, and what is left behind it.
+/// The next word, and what is left after it.
 fn next_word(rest: Rest<'_>) -> Option<(Word<'_>, Rest<'_>)>
     requires { HasFewLines rest.number rest.text.now }
     ensures some { IfSome result (λ found. words_left rest.entry.line.now rest.entry.number rest.entry.text.now
@@ -178,32 +175,31 @@ fn next_word(rest: Rest<'_>) -> Option<(Word<'_>, Rest<'_>)>
             };
             return Some((word, Rest { line, ..rest }));
         }
-        if rest.text.is_empty() {
-            return None;
-        }
-        rest = next_line(rest);
+        rest = next_line(rest)?;
     }
 }
 
-/// The line behind this one; nothing of it is left where it is a comment.
-fn next_line(rest: Rest<'_>) -> Rest<'_>
-    requires some { 0 < length rest.text.now }
-    requires few { HasFewLines rest.number rest.text.now }
-    ensures left { words_left result.line.now result.number result.text.now ≡ words_from (rest.entry.number + 1) rest.entry.text.now }
-    ensures few { HasFewLines result.number result.text.now }
-    ensures within { length result.line.now + length result.text.now ≤ length rest.entry.text.now }
-    ensures shorter { length result.text.now < length rest.entry.text.now }
+/// The line after this one; nothing of it is left where it is a comment. `None` where there is no further line.
+fn next_line(rest: Rest<'_>) -> Option<Rest<'_>>
+    requires { HasFewLines rest.number rest.text.now }
+    ensures left { IfSome result (λ next. words_left next.line.now next.number next.text.now ≡ words_from (rest.entry.number + 1) rest.entry.text.now) }
+    ensures few { IfSome result (λ next. HasFewLines next.number next.text.now) }
+    ensures within { IfSome result (λ next. length next.line.now + length next.text.now ≤ length rest.entry.text.now) }
+    ensures shorter { IfSome result (λ next. length next.text.now < length rest.entry.text.now) }
+    ensures none { IfNone result (rest.entry.text.now ≡ []) }
 {
-    let (line, text) = first_line(rest.text);
-    let next = Rest {
-        line,
+    let (line, after) = first_line(Lines {
         number: rest.number + 1,
-        text,
-    };
-    if is_comment(line) {
-        behind_line(next)
+        text: rest.text,
+    })?;
+    if is_comment(line.bytes) {
+        Some(after_line(line.number, after.text))
     } else {
-        next
+        Some(Rest {
+            line: line.bytes,
+            number: line.number,
+            text: after.text,
+        })
     }
 }
 

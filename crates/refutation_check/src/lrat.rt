@@ -3,18 +3,19 @@
 ghost use Rattle.std.specs.Prelude.{◌≡◌, ◌+◌, ◌^◌, ◌<◌, ◌≤◌, ℕ, true, not, List, [], ◌++◌, Err, Some, IfOk, OnOk, IfSome, IfNone, length, map, option_to_list, All};
 ghost use Rattle.std.specs.List.{list_all};
 ghost use Rattle.clause_core.specs.Literals.{Lit, number_of};
-ghost use Rattle.refutation_check.specs.Lines.{words};
+ghost use Rattle.tsl_text.specs.Lines.{words};
 ghost use Rattle.refutation_check.specs.Checking.{HaveFewHints};
 ghost use Rattle.refutation_check.specs.LogText.{line_answer, line_of_number, are_deleted, is_wrong, step_in, is_literal, log_answer, is_log, form_at};
 ghost use Rattle.refutation_check.specs.Reading.{with_literals, with_hints, with_both, HasHintsWithin};
 
-use crate::lines::{first_line, first_word, is_comment};
-use crate::numbers::{ends_list, hint_in, literal_in, number};
+use crate::lines::is_comment;
+use crate::numbers::{ends_list, hint_in, literal_in};
 use crate::steps::{Log, Step};
 use clause_core::{Literal, clause_of};
 use sequence::{NoMemory, Sequence};
 use std::alloc::{AllocFailed, Global};
 use thiserror::Error;
+use tsl_text::{first_line, first_word, lines_of, number_in};
 
 /// Why a text is no log.
 #[derive(Debug, Drop, Error)]
@@ -70,15 +71,12 @@ pub fn read_lrat(alloc: Global, text: &[u8]) -> Result<Log, LogTextError>
     ensures form { (line : ℕ) → result ≡ Err (LogTextError.Form line) → log_answer text.now ≡ form_at line }
 {
     let mut steps = Vec::new(alloc);
-    let mut number = 1;
-    let mut rest = text;
-    while !rest.is_empty() {
-        let (line, later) = first_line(rest);
-        if !add_line(&mut steps, read_line(alloc, line)?)? {
-            return Err(LogTextError::Form(number));
+    let mut left = lines_of(text);
+    while let Some((line, after)) = first_line(left) {
+        if !add_line(&mut steps, read_line(alloc, line.bytes)?)? {
+            return Err(LogTextError::Form(line.number));
         }
-        number += 1;
-        rest = later;
+        left = after;
     }
     Ok(Log {
         steps: Sequence::from_vec(steps),
@@ -111,7 +109,7 @@ fn read_line(alloc: Global, line: &[u8]) -> Result<Line, NoMemory>
     let Some((first, rest)) = first_word(line) else {
         return Ok(Line::NoEffect);
     };
-    let Some(name) = number(first) else {
+    let Some(name) = number_in(first) else {
         return Ok(Line::Wrong);
     };
     read_behind_number(alloc, name, rest)
@@ -141,7 +139,7 @@ fn are_deleted(line: &[u8]) -> bool
     let mut ended = false;
     let mut rest = line;
     while let Some((word, later)) = first_word(rest) {
-        match number(word) {
+        match number_in(word) {
             None => return false,
             Some(value) => ended = value == 0,
         }

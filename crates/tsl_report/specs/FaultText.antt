@@ -1,6 +1,6 @@
 -- The line that says why a text or the words were refused.
 use Rattle.std.specs.Prelude.{ℕ, List, ◌++◌, codes, decimal}
-use Rattle.tsl_text.specs.declared.lines.Place.{Place}
+use Rattle.tsl_text.specs.declared.places.Place.{Place}
 use Rattle.tsl_report.specs.declared.fault.Head.{Head}
 use Rattle.tsl_report.specs.declared.fault.Head.TheVariants.{Lrat}
 use Rattle.tsl_report.specs.declared.fault.TokenPart.{TokenPart}

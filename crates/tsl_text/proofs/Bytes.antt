@@ -1,9 +1,9 @@
 -- What the tests of a byte tell, and how a front of bytes is found again.
-use Rattle.std.proofs.Common.{◌≡◌, ℕ, suc, ◌+◌, ◌≤◌, Bool, true, false, not, cond, eqb, leb, List, [], ◌∷◌, ◌++◌, length, take, drop, refl, ◌∙◌, ap, subst, ⊎_elim, arith}
+use Rattle.std.proofs.Common.{◌≡◌, ℕ, suc, ◌+◌, ◌≤◌, Bool, true, false, not, cond, eqb, leb, List, [], ◌∷◌, ◌++◌, length, drop, refl, ap, subst, ⊎_elim, arith}
 use Rattle.std.specs.Char.{is_ascii_digit, is_ascii_alphabetic}
 use Rattle.std.specs.Int.{is_in_range}
 use Rattle.std.specs.List.{list_all, prefix_len}
-use Rattle.std.proofs.lemmas.Bool.{or_cases, or_from, and_parts, and_from, leb-true, ne_eqb, cond-true, cond-false, eqb-true, false_from_ne_true}
+use Rattle.std.proofs.lemmas.Bool.{or_cases, or_from, and_parts, leb-true, ne_eqb, cond-true, cond-false, eqb-true, false_from_ne_true}
 use Rattle.tsl_text.specs.Lines.{is_blank, is_line_byte}
 use Rattle.tsl_text.specs.Names.{is_name_start}
 use Rattle.tsl_text.specs.Places.{IsLineEnd}
@@ -41,26 +41,6 @@ digit-no_slash byte h = ne_eqb byte 47 (λ e. omega (arith, digit_above byte h))
 pub digit-no_name_start : (byte : ℕ) → is_ascii_digit byte ≡ true → is_name_start byte ≡ false
 digit-no_name_start byte h = false_from_ne_true _ (λ start. omega (arith, name_start_above byte start, digit_below byte h))
 
--- a front that passes is within the longest one that does
-pub prefix_len-front : (test : ℕ → Bool) (front rest : List ℕ) → list_all test front ≡ true → length front ≤ prefix_len test (front ++ rest)
-prefix_len-front test [] rest h = omega arith
-prefix_len-front test (byte ∷ front) rest h =
-    let parts = and_parts (test byte) (list_all test front) h in
-    let more = prefix_len-front test front rest parts.1 in
-    let here : cond (test byte) (1 + prefix_len test (front ++ rest)) 0 ≡ 1 + prefix_len test (front ++ rest) = cond-true (test byte) _ 0 parts.0 in
-    omega arith
-
--- the longest front that passes does pass
-pub list_all-prefix : (test : ℕ → Bool) (bytes : List ℕ) → list_all test (take (prefix_len test bytes) bytes) ≡ true
-list_all-prefix test [] = refl
-list_all-prefix test (byte ∷ bytes) = list_all-prefix_at test byte bytes (test byte) refl (list_all-prefix test bytes)
-  where
-    list_all-prefix_at : (test : ℕ → Bool) (byte : ℕ) (bytes : List ℕ) (b : Bool) → test byte ≡ b → list_all test (take (prefix_len test bytes) bytes) ≡ true → list_all test (take (cond b (1 + prefix_len test bytes) 0) (byte ∷ bytes)) ≡ true
-    list_all-prefix_at test byte bytes true h rest =
-        let next : 1 + prefix_len test bytes ≡ suc (prefix_len test bytes) = omega arith in
-        ap (λ n. list_all test (take n (byte ∷ bytes))) next ∙ and_from (test byte) _ h rest
-    list_all-prefix_at test byte bytes false h rest = refl
-
 -- a line that ends is as long as it can be
 pub prefix_len-line : (line after : List ℕ) → list_all is_line_byte line ≡ true → IsLineEnd after → prefix_len is_line_byte (line ++ after) ≡ length line
 prefix_len-line [] [] h end = refl
@@ -81,14 +61,3 @@ line_end-prefix (byte ∷ bytes) = line_end_at byte bytes (eqb byte 10) refl (li
     line_end_at byte bytes false h rest =
         let next : suc (prefix_len is_line_byte bytes) ≡ 1 + prefix_len is_line_byte bytes = omega arith in
         subst (λ n. IsLineEnd (drop n (byte ∷ bytes))) next rest
-
--- two lists that begin alike, as far
-pub same_fronts : (a b x y : List ℕ) → length a ≡ length b → a ++ x ≡ b ++ y → (a ≡ b) × (x ≡ y)
-same_fronts [] [] x y same e = (refl, e)
-same_fronts [] (d ∷ b) x y same e = absurd (omega arith)
-same_fronts (c ∷ a) [] x y same e = absurd (omega arith)
-same_fronts (c ∷ a) (d ∷ b) x y same e =
-    let heads : c ≡ d = cc in
-    let tails : a ++ x ≡ b ++ y = cc in
-    let rest = same_fronts a b x y (omega arith) tails in
-    ((λ i. heads i ∷ rest.0 i), rest.1)

@@ -2,5 +2,8 @@ pub mod Bytes
 pub mod Comments
 pub mod Pieces
 pub mod Parts
-pub mod LineLemmas
+pub mod PlaceLaws
 pub mod Examples
+pub mod LineLaws
+pub mod FieldLaws
+pub mod DigitLaws

@@ -15,7 +15,9 @@ use Rattle.tsl_text.specs.declared.TokenKind.{TokenKind}
 use Rattle.tsl_text.specs.declared.TokenKind.TheVariants.{Name, Number, OpenBrace, CloseBrace, OpenRound, CloseRound, OpenSquare, CloseSquare, Semicolon, Not, And, Or, Arrow, BothArrow, LeftArrow, Question}
 use Rattle.tsl_text.specs.declared.front.Piece.{Piece}
 use Rattle.tsl_text.specs.declared.front.Piece.TheVariants.{Gap, Longest, OpenComment, Nothing}
-use Rattle.tsl_text.proofs.Bytes.{name_start-no_blank, name_start-no_slash, digit-no_blank, digit-no_slash, digit-no_name_start, prefix_len-front, list_all-prefix, prefix_len-line, line_end-prefix, same_fronts}
+use Rattle.sequence.proofs.Passes.{prefix_len-front, list_all-prefix}
+use Rattle.sequence.proofs.Lists.{same_fronts}
+use Rattle.tsl_text.proofs.Bytes.{name_start-no_blank, name_start-no_slash, digit-no_blank, digit-no_slash, digit-no_name_start, prefix_len-line, line_end-prefix}
 use Rattle.tsl_text.proofs.Comments.{after_comment-closing, closing_front}
 
 -- ---- what stands there is found

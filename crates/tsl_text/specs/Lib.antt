@@ -1,6 +1,9 @@
 pub mod Names
-pub mod Numbers
 pub mod Lines
+pub mod Numbers
+pub mod Written
+pub mod LineReading
+pub mod Cursor
 pub mod Places
 pub mod Lexeme
 pub mod Division

@@ -1,6 +1,6 @@
 -- The lines of a text, and what stands in a line: words between blanks, or fields between single spaces.
-use Rattle.std.specs.Prelude.{ℕ, ◌==◌, Bool, true, false, not, cond, ◌||◌, List, [], ◌∷◌, filter, IsTrue}
-use Rattle.std.specs.List.{list_all, slice_split, onto_first, enumerate_from}
+use Rattle.std.specs.Prelude.{ℕ, suc, ◌==◌, Bool, true, false, not, cond, ◌||◌, List, [], ◌∷◌, filter, IsTrue}
+use Rattle.std.specs.List.{list_all, slice_split, onto_first}
 
 -- space, tab, carriage return and line feed
 abbrev pub is_blank : ℕ → Bool
@@ -19,15 +19,32 @@ abbrev pub lines : List ℕ → List (List ℕ)
 lines [] = []
 lines (byte ∷ bytes) = cond (byte == 10) ([] ∷ lines bytes) (onto_first byte (lines bytes))
 
--- each line beside its number, from 1
-abbrev pub numbered_lines : List ℕ → List (ℕ × List ℕ)
-numbered_lines text = enumerate_from 1 (lines text)
-
 -- whether each line of the text has its line feed: the text is empty, or its last byte is one
 abbrev pub is_ended : List ℕ → Bool
 is_ended [] = true
 is_ended (byte ∷ []) = byte == 10
 is_ended (byte ∷ next ∷ bytes) = is_ended (next ∷ bytes)
+
+-- a line with its number and whether its line feed follows it
+pub record NumberedLine : Type 0 where
+  pub number : ℕ
+  pub bytes : List ℕ
+  pub ended : Bool
+
+-- Lines with the numbers from this one on. Each but the last has its line feed, and the last has it or not.
+abbrev pub with_numbers : ℕ → Bool → List (List ℕ) → List NumberedLine
+with_numbers number ended [] = []
+with_numbers number ended (line ∷ []) = record { number = number; bytes = line; ended = ended } ∷ []
+with_numbers number ended (line ∷ next ∷ rest) =
+    record { number = number; bytes = line; ended = true } ∷ with_numbers (suc number) ended (next ∷ rest)
+
+-- the lines of a text whose first one has this number
+abbrev pub lines_from : ℕ → List ℕ → List NumberedLine
+lines_from number text = with_numbers number (is_ended text) (lines text)
+
+-- the lines of a text with their numbers from 1
+abbrev pub numbered_lines : List ℕ → List NumberedLine
+numbered_lines text = lines_from 1 text
 
 abbrev pub has_bytes : List ℕ → Bool
 has_bytes [] = false

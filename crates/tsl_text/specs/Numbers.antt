@@ -2,23 +2,20 @@
 use Rattle.std.specs.Prelude.{ℕ, zero, suc, ◌+◌, ◌-◌, ◌*◌, ◌==◌, nat_le, Bool, false, cond, ◌&&◌, ℤ, pos, negsuc, List, [], ◌∷◌, length, fold, Option, Some, None, option_map, option_and_then}
 use Rattle.std.specs.List.{list_all}
 use Rattle.std.specs.Char.{is_ascii_digit}
+use Rattle.tsl_text.specs.Lines.{has_bytes}
+use Rattle.tsl_text.specs.declared.numbers.TheConstants.{MOST_DIGITS}
 
 -- one ASCII digit or more
 abbrev pub is_digits : List ℕ → Bool
-is_digits [] = false
-is_digits (first ∷ rest) = list_all is_ascii_digit (first ∷ rest)
+is_digits word = has_bytes word && list_all is_ascii_digit word
 
 -- the number that digits spell
 abbrev pub value_of : List ℕ → ℕ
 value_of digits = fold (λ value digit. value * 10 + (digit - 48)) 0 digits
 
--- how many digits a number has at most where it is read
-abbrev pub most_digits : ℕ
-most_digits = 18
-
--- the number that a word means: a run of 1 to 18 digits, leading zeros among them or not, means what they spell
+-- the number that a word means: a run of 1 to 18 digits, with leading zeros or without, means what they spell
 abbrev pub number_in : List ℕ → Option ℕ
-number_in word = cond (is_digits word && nat_le (length word) most_digits) (Some (value_of word)) None
+number_in word = cond (is_digits word && nat_le (length word) MOST_DIGITS) (Some (value_of word)) None
 
 -- whether a 0 stands before another digit
 abbrev pub has_leading_zero : List ℕ → Bool

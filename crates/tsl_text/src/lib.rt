@@ -29,11 +29,15 @@ use thiserror::Error;
 
 mod front;
 mod lines;
+mod numbers;
 mod output;
+mod places;
 
 use front::{Piece, first_piece};
-pub use lines::{Place, line_at, place_of};
+pub use lines::{Line, Lines, first_field, first_line, first_word, line_count, lines_of};
+pub use numbers::{MOST_DIGITS, number_in, plain_number_in, signed_number_in};
 pub use output::{put_bytes, put_number};
+pub use places::{Place, line_at, place_of};
 
 /// What kind of token it is.
 #[derive(Clone, Copy, Debug, PartialEq, Eq)]

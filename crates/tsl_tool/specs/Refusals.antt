@@ -1,6 +1,6 @@
 -- The fault that is answered where a text is refused as a specification.
 use Rattle.std.specs.Prelude.{◌≡◌, ℕ, ◌+◌, ◌-◌, ◌≤◌, ◌==◌, List, length, take, drop, count_by}
-use Rattle.tsl_text.specs.declared.lines.Place.{Place}
+use Rattle.tsl_text.specs.declared.places.Place.{Place}
 use Rattle.tsl_text.specs.Places.{IsColumn}
 use Rattle.tsl_reader.specs.declared.SpecError.{SpecError}
 use Rattle.tsl_reader.specs.declared.SpecError.TheVariants.{Byte, OpenComment, Form, Deep, Kind, Arity, Nodes, NoMemory}

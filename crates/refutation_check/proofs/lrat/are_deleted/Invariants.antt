@@ -1,5 +1,5 @@
 use Rattle.std.proofs.Common.{◌≡◌, length}
-use Rattle.refutation_check.specs.Lines.{words}
+use Rattle.tsl_text.specs.Lines.{words}
 use Rattle.refutation_check.specs.LogText.{are_deleted}
 use Rattle.refutation_check.specs.Reading.{end_deleted}
 use Rattle.refutation_check.proofs.lrat.are_deleted.Given as goal

@@ -1,6 +1,6 @@
 use Rattle.std.proofs.Common.{◌≡◌, ◌+◌, ◌≤◌, ◌<◌, ℕ, [], List, All, length}
 use Rattle.clause_core.specs.Literals.{Lit}
-use Rattle.refutation_check.specs.Lines.{words}
+use Rattle.tsl_text.specs.Lines.{words}
 use Rattle.refutation_check.specs.Reading.{with_hints}
 use Rattle.refutation_check.proofs.lrat.read_hints.Given as goal
 

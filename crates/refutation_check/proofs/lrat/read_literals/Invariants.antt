@@ -2,7 +2,7 @@ use Rattle.std.proofs.Common.{◌≡◌, ◌≤◌, ℕ, [], true, map, length}
 use Rattle.std.specs.List.{list_all}
 use Rattle.clause_core.specs.Literals.{number_of}
 use Rattle.refutation_check.specs.LogText.{is_literal}
-use Rattle.refutation_check.specs.Lines.{words}
+use Rattle.tsl_text.specs.Lines.{words}
 use Rattle.refutation_check.specs.Reading.{with_literals}
 use Rattle.refutation_check.proofs.lrat.read_literals.Given as goal
 

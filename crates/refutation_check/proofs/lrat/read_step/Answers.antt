@@ -3,7 +3,7 @@ use Rattle.std.specs.List.{list_all}
 use Rattle.clause_core.specs.Literals.{number_of}
 use Rattle.clause_core.specs.Clauses.{in_order}
 use Rattle.refutation_check.specs.declared.lrat.Line.TheVariants.{Says, Wrong}
-use Rattle.refutation_check.specs.Lines.{words}
+use Rattle.tsl_text.specs.Lines.{words}
 use Rattle.refutation_check.specs.LogText.{is_literal}
 use Rattle.refutation_check.specs.Reading.{with_literals, with_hints, with_both}
 use Rattle.refutation_check.proofs.LogLemmas.{both_wrong, both_right}

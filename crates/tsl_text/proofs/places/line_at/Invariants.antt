@@ -1,6 +1,6 @@
 use Rattle.std.proofs.Common.{ℕ, ◌+◌, ◌-◌, ◌≤◌, length, take}
 use Rattle.tsl_text.specs.Places.{IsLineStart, IsBetweenFeeds}
-use Rattle.tsl_text.proofs.lines.line_at.Given as goal
+use Rattle.tsl_text.proofs.places.line_at.Given as goal
 
 -- a line begins here, and none that equals it before
 abbrev pub invariant-loop-start : goal.invariant-loop-start

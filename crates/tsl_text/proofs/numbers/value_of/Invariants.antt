@@ -1,6 +1,6 @@
 use Rattle.std.proofs.Common.{◌≡◌, ◌<◌, ◌^◌, take}
-use Rattle.refutation_check.specs.Numbers.{value_of}
-use Rattle.refutation_check.proofs.numbers.value_of.Given as goal
+use Rattle.tsl_text.specs.Numbers.{value_of}
+use Rattle.tsl_text.proofs.numbers.value_of.Given as goal
 
 abbrev pub invariant-loop-digit : goal.invariant-loop-digit
 invariant-loop-digit l = record {

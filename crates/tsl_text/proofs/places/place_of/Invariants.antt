@@ -1,7 +1,7 @@
 use Rattle.std.proofs.Common.{◌≡◌, ◌+◌, ◌≤◌, take, eqb}
 use Rattle.std.specs.List.{count_by}
 use Rattle.tsl_text.specs.Places.{IsColumn}
-use Rattle.tsl_text.proofs.lines.place_of.Given as goal
+use Rattle.tsl_text.proofs.places.place_of.Given as goal
 
 -- the place behind the bytes so far
 abbrev pub invariant-loop-byte : goal.invariant-loop-byte

@@ -1,7 +1,7 @@
 use Rattle.std.proofs.Common.{take, arith}
-use Rattle.tsl_text.proofs.LineLemmas.{place_feed, place_byte}
-use Rattle.tsl_text.proofs.lines.place_of.Goals as goal
-use Rattle.tsl_text.proofs.lines.place_of.Goals.{then-byte-eq10, else-byte-eq10}
+use Rattle.tsl_text.proofs.PlaceLaws.{place_feed, place_byte}
+use Rattle.tsl_text.proofs.places.place_of.Goals as goal
+use Rattle.tsl_text.proofs.places.place_of.Goals.{then-byte-eq10, else-byte-eq10}
 
 pub loop-byte-preserved : goal.loop-byte-preserved
 loop-byte-preserved c =

@@ -10,7 +10,8 @@ use Rattle.std.proofs.lemmas.List.{take_more, drop_at, take_at, get_or_at, take_
 use Rattle.std.proofs.lemmas.List.Sums.{prefix_len-le-length, prefix_len_passes, prefix_len_stops, count_by_more_yes, count_by_more_no}
 use Rattle.tsl_text.specs.Lines.{is_line_byte, HasNoLineFeed}
 use Rattle.tsl_text.specs.Places.{IsLineStart, IsBetweenFeeds, IsColumn}
-use Rattle.tsl_text.proofs.Bytes.{list_all-prefix, prefix_len-line, line_end-prefix}
+use Rattle.sequence.proofs.Passes.{list_all-prefix}
+use Rattle.tsl_text.proofs.Bytes.{prefix_len-line, line_end-prefix}
 
 -- ---- columns
 

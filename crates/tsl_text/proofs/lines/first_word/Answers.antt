@@ -1,7 +1,7 @@
 use Rattle.std.proofs.Common.{◌-◌, length, take, drop}
 use Rattle.std.proofs.lemmas.List.{take_rest}
-use Rattle.refutation_check.proofs.LineLemmas.{word_none, word_some}
-use Rattle.refutation_check.proofs.lines.first_word.Goals as goal
+use Rattle.tsl_text.proofs.FieldLaws.{word_none, word_some}
+use Rattle.tsl_text.proofs.lines.first_word.Goals as goal
 
 pub returns-then-len-eq0-clause-none : goal.returns-then-len-eq0-clause-none
 returns-then-len-eq0-clause-none c =

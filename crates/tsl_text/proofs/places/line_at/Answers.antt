@@ -1,8 +1,8 @@
 use Rattle.std.proofs.Common.{◌+◌, take, sym, ap, ◌∙◌, subst, arith}
 use Rattle.std.proofs.lemmas.Bool.{false≢true}
 use Rattle.tsl_text.specs.Places.{IsLineStart}
-use Rattle.tsl_text.proofs.LineLemmas.{compared, line_here, next_begins, later_line, line_within, fits}
-use Rattle.tsl_text.proofs.lines.line_at.Goals as goal
+use Rattle.tsl_text.proofs.PlaceLaws.{compared, line_here, next_begins, later_line, line_within, fits}
+use Rattle.tsl_text.proofs.places.line_at.Goals as goal
 
 pub returns-then-eq-clause-found : goal.returns-then-eq-clause-found
 returns-then-eq-clause-found c =

@@ -1,6 +1,6 @@
 use Rattle.std.proofs.Common.{arith}
-use Rattle.refutation_check.proofs.NumberLemmas.{few_digits}
-use Rattle.refutation_check.proofs.numbers.value_of.Goals as goal
+use Rattle.tsl_text.proofs.DigitLaws.{few_digits}
+use Rattle.tsl_text.proofs.numbers.value_of.Goals as goal
 
 pub overflow_mul-value : goal.overflow_mul-value
 overflow_mul-value c = omega (arith, few_digits c.loop-digit.value c.loop-digit.digit-index 17 c.loop-digit.invariant.bound (omega (arith, c.requires.few)))
