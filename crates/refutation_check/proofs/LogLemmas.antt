@@ -1,7 +1,7 @@
 -- The words of a log's line, one by one, and its lines.
-use Rattle.std.proofs.Common.{◌≡◌, ℕ, zero, suc, ◌+◌, ◌<◌, ◌≤◌, Bool, true, false, not, cond, ◌&&◌, ℤ, pos, negsuc, List, [], ◌∷◌, ◌++◌, map, length, Option, Some, None, All, sym, ap, ◌∙◌, refl, arith}
+use Rattle.std.proofs.Common.{◌≡◌, ℕ, zero, suc, ◌<◌, ◌≤◌, Bool, true, false, not, cond, ◌&&◌, ℤ, pos, negsuc, List, [], ◌∷◌, ◌++◌, map, length, Option, Some, None, All, sym, ap, ◌∙◌, refl, arith}
 use Rattle.std.specs.Prelude.{nat_abs, find, filter_map, option_map, option_to_list, is_some, IfSome, IfNone}
-use Rattle.std.specs.List.{slice_split, onto_first, list_all, enumerate_from, cons_option}
+use Rattle.std.specs.List.{slice_split, onto_first, list_all, cons_option}
 use Rattle.std.proofs.lemmas.Bool.{and_from, true≢false, false≢true}
 use Rattle.std.proofs.lemmas.List.{append-nil, append_assoc}
 use Rattle.std.proofs.lemmas.List.Elements.{All-append, All-cons, All-nil, All-head, All-tail}

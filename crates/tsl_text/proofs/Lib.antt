@@ -7,3 +7,5 @@ pub mod Examples
 pub mod LineLaws
 pub mod FieldLaws
 pub mod DigitLaws
+pub mod Fronts
+pub mod NumberLaws

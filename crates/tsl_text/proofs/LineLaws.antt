@@ -114,3 +114,12 @@ lines_made (l ∷ ls) h =
 -- a text is that of at most one list of lines
 pub one_list_of_lines : (ls ms : List (List ℕ)) → list_all is_line ls ≡ true → list_all is_line ms ≡ true → text_of_lines ls ≡ text_of_lines ms → ls ≡ ms
 one_list_of_lines ls ms h k e = sym (lines_made ls h) ∙ (ap lines e ∙ lines_made ms k)
+
+-- each of these lines has its line feed
+pub ended_made : (ls : List (List ℕ)) → is_ended (text_of_lines ls) ≡ true
+ended_made [] = refl
+ended_made (l ∷ ls) = ap is_ended (append_assoc l (10 ∷ []) (text_of_lines ls)) ∙ (ended_after l 10 (text_of_lines ls) ∙ by_rest (text_of_lines ls) (ended_made ls))
+  where
+    by_rest : (rest : List ℕ) → is_ended rest ≡ true → is_ended (10 ∷ rest) ≡ true
+    by_rest [] h = refl
+    by_rest (b ∷ bs) h = h

@@ -8,13 +8,19 @@
 //! `{ } ( ) [ ] ; ! && || -> <-> <- ?`. The longest token is taken.
 //!
 //! - `tokens` gives the tokens of the one division of a text into blanks, comments and longest
-//!   tokens (`specs/Division.antt`), or its first fault, and gives up for want of memory alone.
-//!   Each token lies within the text, behind the one before it, and has bytes of its kind
+//!   tokens (`specs/Division.antt`), or its first fault, and gives up where memory runs out alone.
+//!   Each token lies within the text, after the one before it, and has bytes of its kind
 //!   (`specs/Lexeme.antt`), so that a reader may cut the text at it. `one_division` is the law that
 //!   a text has exactly one answer; it also gives the tokens as lexemes, without places, of which a
 //!   grammar is a relation.
-//! - `place_of` and `line_at` take no memory (`specs/Lines.antt`).
+//! - `place_of` and `line_at` take no memory (`specs/Places.antt`).
 //! - `put_number` and `put_bytes` append exactly the decimal digits and the bytes, or nothing.
+//! - Texts that are read line by line have one vocabulary (`specs/Lines.antt`, `specs/Numbers.antt`): `first_line`
+//!   goes along the lines with their numbers and says whether each has its line feed, `first_word` along the words
+//!   of a line between any blanks, `first_field` along its fields between single spaces; `number_in` and its kin
+//!   say which number a word means. `written_lines_are_read` and `one_decimal` are the laws that what is written so
+//!   is read back (`specs/Written.antt`), and `specs/LineReading.antt` says what the first line at fault is.
+//! - The letters of names, the reserved words and usable names stand in `specs/Names.antt`.
 #![tactic(auto)]
 
 ghost use Rattle.std.specs.Prelude.{◌≡◌, ℕ, ◌<◌, ◌≤◌, ◌^◌, [], List, Result, length, map, All, IfOk, IfErr};
@@ -28,12 +34,14 @@ use std::alloc::{AllocError as NoMemory, AllocFailed, Global};
 use thiserror::Error;
 
 mod front;
+mod laws;
 mod lines;
 mod numbers;
 mod output;
 mod places;
 
 use front::{Piece, first_piece};
+pub use laws::{one_decimal, written_lines_are_read};
 pub use lines::{Line, Lines, first_field, first_line, first_word, line_count, lines_of};
 pub use numbers::{MOST_DIGITS, number_in, plain_number_in, signed_number_in};
 pub use output::{put_bytes, put_number};
@@ -76,14 +84,14 @@ pub enum TokenKind {
     Question,
 }
 
-/// A token of a text: its kind, the offset of its first byte, and the offset behind its last byte.
+/// A token of a text: its kind, the offset of its first byte, and the offset after its last byte.
 #[derive(Clone, Copy, Debug, PartialEq, Eq)]
 pub struct Token {
     /// What kind of token it is.
     pub kind: TokenKind,
     /// The offset of its first byte.
     pub start: u32,
-    /// The offset behind its last byte.
+    /// The offset after its last byte.
     pub end: u32,
 }
 

@@ -1,4 +1,4 @@
-use Rattle.std.proofs.Common.{◌≡◌, ◌+◌, ◌≤◌, length}
+use Rattle.std.proofs.Common.{◌≡◌, length}
 use Rattle.tsl_text.specs.Cursor.{IsCountable}
 use Rattle.refutation_check.specs.DataLines.{data_lines}
 use Rattle.refutation_check.specs.Reading.{data_lines_from}

@@ -1,4 +1,4 @@
-use Rattle.std.proofs.Common.{◌≡◌, ◌+◌, ◌++◌, Bool, true, false, not, refl, All, ◌≤◌, length, sym, ap, ◌∙◌, subst, arith}
+use Rattle.std.proofs.Common.{◌≡◌, ◌++◌, Bool, true, false, not, refl, All, ◌≤◌, length, sym, ap, ◌∙◌, subst, arith}
 use Rattle.std.specs.Prelude.{option_to_list}
 use Rattle.tsl_text.specs.Cursor.{line_view, lines_left}
 use Rattle.refutation_check.specs.LogText.{line_answer, is_wrong, step_in}

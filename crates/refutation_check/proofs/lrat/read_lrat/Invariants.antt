@@ -1,4 +1,4 @@
-use Rattle.std.proofs.Common.{◌≡◌, ◌+◌, ◌≤◌, length, All}
+use Rattle.std.proofs.Common.{◌≡◌, ◌≤◌, length, All}
 use Rattle.tsl_text.specs.Cursor.{lines_left, IsCountable}
 use Rattle.refutation_check.specs.LogText.{log_answer}
 use Rattle.refutation_check.specs.Reading.{log_among}
