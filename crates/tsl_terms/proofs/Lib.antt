@@ -6,5 +6,6 @@ pub mod FormulaLemmas
 pub mod MarkLemmas
 pub mod NameLemmas
 pub mod SameLemmas
+pub mod SignalFacts
 pub mod TermLemmas
 pub mod WholeAtoms

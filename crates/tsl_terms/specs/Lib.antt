@@ -3,6 +3,7 @@ pub mod Atoms
 pub mod Clashes
 pub mod Distinct
 pub mod FormulaTree
+pub mod Laws
 pub mod Name
 pub mod Nodes
 pub mod OnlyThese

@@ -6,6 +6,7 @@ use Rattle.std.specs.Option.{option_map_or}
 use Rattle.std.specs.Str.{bytes_eq}
 use Rattle.tsl_text.specs.Names.{is_usable}
 use Rattle.tsl_terms.specs.declared.names.NameKind.TheVariants.{Signal, Function, Predicate}
+use Rattle.tsl_terms.specs.declared.term.TheConstants.{DEEPEST_BRACKETS}
 use Rattle.tsl_terms.specs.Name.{Name, AreDistinct, same_kind, is_name, question}
 use Rattle.tsl_terms.specs.TermTree.{TermTree, signal, apply, TermTrees, no_terms, more_terms, ProbeTree, count_of_terms}
 use Rattle.tsl_terms.specs.FormulaTree.{Atom, test, update, FormulaTree, FormulaTrees, formulas_in}
@@ -57,7 +58,7 @@ abbrev mutual
 
 -- the deepest brackets that a term may have
 abbrev pub deepest : ℕ
-deepest = 200
+deepest = DEEPEST_BRACKETS
 
 -- the terms of an atom fit the names, and nest in brackets at most so deep
 abbrev pub atom_fits : List Name → Atom → Bool

@@ -3,10 +3,28 @@
 ghost use Rattle.std.specs.Prelude.{◌≡◌, ◌↔◌, IsTrue};
 ghost use Rattle.tsl_terms.specs.TermTree.{TermTree, ProbeTree};
 ghost use Rattle.tsl_terms.specs.SameTree.{same_tree, same_probe_tree};
+ghost use Rattle.tsl_terms.specs.Laws.{SignalsAreDistinct, SignalsAreInOrder, InputsAndCellsAreRead, CellsAndOutputsAreUpdated, WholeHasTheAtoms, WholeFits};
 
 /// Two terms pass the test `same_tree`, and two probes the test `same_probe_tree`, exactly where
 /// they are equal.
 pub fn same_tree_is_equality()
     ensures terms { (a b : TermTree) → IsTrue (same_tree a b) ↔ (a ≡ b) }
     ensures probes { (p q : ProbeTree) → IsTrue (same_probe_tree p q) ↔ (p ≡ q) }
+{}
+
+/// The atoms of a whole formula are those of the four lists, one list after another, and it fits the
+/// names where each formula of the lists does.
+pub fn whole_formula_has_the_atoms()
+    ensures atoms { WholeHasTheAtoms }
+    ensures fits { WholeFits }
+{}
+
+/// No signal stands twice among inputs, cells and outputs, and each list is in the order of the names.
+/// Where the formulas fit the names, what is read is an input or a cell, and what is updated a cell or
+/// an output.
+pub fn signals_are_told_apart()
+    ensures distinct { SignalsAreDistinct }
+    ensures order { SignalsAreInOrder }
+    ensures read { InputsAndCellsAreRead }
+    ensures updated { CellsAndOutputsAreUpdated }
 {}

@@ -11,11 +11,20 @@
 //!   use that is not like the first use of its name.
 //! - `copy_term`, `copy_probe` and `copy_formula` give a value of the same tree, and `same_term` and
 //!   `same_probe` say whether two trees are equal; that the test of trees is equality is a law.
+//! - `first_uses` gives the names of uses in their order, and `first_clash` the first use that is not like
+//!   the first use of its name.
+//! - `atoms` gives what a formula tests and updates, from the left, and `atoms_of_spec` that of a whole
+//!   formula. What a formula reads, updates and is made of are folds of this list.
 //! - `whole` gives the formula that a specification stands for, `signals` its inputs, cells and outputs,
 //!   `choices` the terms that a signal may take, and `predicates` the probes, each exactly as defined.
-//! - `node_count` counts nodes, and stops at the largest number.
+//! - `node_count` counts nodes, and stops at the largest number; `whole_node_count` counts those of the
+//!   whole formula and makes no formula.
 //!
-//! The only error is want of memory. Lists of members are walked, built, copied and dropped by loops, so
+//! Laws: the atoms of a whole formula are those of the four lists, and it fits where they do; no signal is
+//! twice among inputs, cells and outputs, what is read is an input or a cell, and what is updated a cell
+//! or an output.
+//!
+//! The only error is out of memory. Lists of members are walked, built, copied and dropped by loops, so
 //! they may be long; how deep formulas and terms nest is up to what makes them, and calls go as deep.
 //! A crate above may rely on the fields of a `Spec`: each of its formulas fits its names.
 #![tactic(auto)]
@@ -46,13 +55,13 @@ pub use counting::{node_count, whole_node_count};
 pub use formula::{Formula, FormulaList};
 pub use gathering::predicates;
 pub use joining::whole;
-pub use laws::same_tree_is_equality;
+pub use laws::{same_tree_is_equality, signals_are_told_apart, whole_formula_has_the_atoms};
 pub use names::{NameKind, Names};
 pub use operator::{BinaryOperator, ManyOperator, UnaryOperator};
 pub use same::{same_probe, same_term};
 pub use signal_lists::{SignalLists, signals};
 pub use spec::Spec;
-pub use term::{Probe, Term, TermList};
+pub use term::{DEEPEST_BRACKETS, Probe, Term, TermList};
 pub use window::{Listed, Window};
 
 #[cfg(test)]

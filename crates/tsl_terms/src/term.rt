@@ -6,6 +6,9 @@ ghost use Rattle.tsl_terms.specs.TermTree.{term_tree, term_trees, terms_of};
 use sequence::NoMemory;
 use std::alloc::Global;
 
+/// How deep the brackets of a term may nest where it is written.
+pub const DEEPEST_BRACKETS: u32 = 200;
+
 /// A term: a signal, or a function applied to terms. Numbers are those of a list of names.
 #[cycle(terms)]
 #[derive(Debug, Drop)]
