@@ -23,12 +23,14 @@ module _ {A B : Type 0} (same : B → B → Bool) (f : A → List B) (xs : List 
       ∙ ap (flat_map f) (ap (λ y. take i xs ++ y ∷ []) is ∙ sym (take_more xs i x within)))
 
   -- and at the end all of them
-  pub with_new-all : (old : List B) → length xs ≤ i → old ≡ with_new same [] (flat_map f (take i xs)) → old ≡ with_new same [] (flat_map f xs)
+  pub with_new-all : (old : List B) → length xs ≤ i → old ≡ with_new same [] (flat_map f (take i xs)) →
+      old ≡ with_new same [] (flat_map f xs)
   with_new-all old past so_far = so_far ∙ ap (λ ys. with_new same [] (flat_map f ys)) (take_all i xs past)
 
 module _ {A : Type 0} (p : ℕ → A → Bool) (xs : List A) (i : ℕ) (start : List Bool) where
   -- what the next one passes is marked
-  pub marked-next : (x : A) (old new : List Bool) → i < length xs → x ≡ get_or xs i x → old ≡ marked (λ s. list_any (p s) (take i xs)) start →
+  pub marked-next : (x : A) (old new : List Bool) → i < length xs → x ≡ get_or xs i x →
+      old ≡ marked (λ s. list_any (p s) (take i xs)) start →
       new ≡ marked (λ s. p s x) old → new ≡ marked (λ s. list_any (p s) (take (i + 1) xs)) start
   marked-next x old new within is so_far step =
       step
@@ -39,6 +41,7 @@ module _ {A : Type 0} (p : ℕ → A → Bool) (xs : List A) (i : ℕ) (start : 
       ∙ ap (list_any (p s)) (ap (λ y. take i xs ++ y ∷ []) is ∙ sym (take_more xs i x within)))
 
   -- and at the end what some of them passes
-  pub marked-all : (q : ℕ → Bool) (old : List Bool) → length xs ≤ i → old ≡ marked (λ s. list_any (p s) (take i xs)) start → ((s : ℕ) → list_any (p s) xs ≡ q s) →
+  pub marked-all : (q : ℕ → Bool) (old : List Bool) → length xs ≤ i → old ≡ marked (λ s. list_any (p s) (take i xs)) start →
+      ((s : ℕ) → list_any (p s) xs ≡ q s) →
       old ≡ marked q start
   marked-all q old past so_far each = so_far ∙ mark_same _ _ start (λ s. ap (list_any (p s)) (take_all i xs past) ∙ each s)

@@ -10,12 +10,14 @@ use Rattle.tsl_terms.specs.internal.ListLengths.{is_one}
 abbrev pub always_of : FormulaTrees → List FormulaTree
 always_of fs = map (unary Globally) (formulas_in fs)
 
-nodes_joined : (fs : FormulaTrees) (gs : List FormulaTree) → nodes_of_members (formulas_of (formulas_in fs ++ gs)) ≡ nodes_of_members fs + nodes_of_members (formulas_of gs)
+nodes_joined : (fs : FormulaTrees) (gs : List FormulaTree) →
+    nodes_of_members (formulas_of (formulas_in fs ++ gs)) ≡ nodes_of_members fs + nodes_of_members (formulas_of gs)
 nodes_joined no_formulas gs = omega arith
 nodes_joined (more_formulas f fs) gs = let rest = nodes_joined fs gs in omega (arith, rest)
 
 pub conjunction_nodes : (first always : FormulaTrees) → nodes (conjunction_of (formulas_in first ++ always_of always))
-    ≡ cond (is_one first always) (nodes_of_members first + nodes_of_members (formulas_of (always_of always))) (suc (nodes_of_members first + nodes_of_members (formulas_of (always_of always))))
+    ≡ cond (is_one first always) (nodes_of_members first + nodes_of_members (formulas_of (always_of always)))
+    (suc (nodes_of_members first + nodes_of_members (formulas_of (always_of always))))
 conjunction_nodes no_formulas no_formulas = refl
 conjunction_nodes no_formulas (more_formulas g no_formulas) = omega arith
 conjunction_nodes no_formulas (more_formulas g (more_formulas h hs)) = omega arith

@@ -1,5 +1,25 @@
 -- The definitions on worked examples, each of which computes.
-use Rattle.std.proofs.Common.{◌≡◌, ℕ, zero, suc, ◌+◌, ◌*◌, Bool, true, false, ◌==◌, cond, List, [], ◌∷◌, slice_get, Option, Some, None, refl}
+use Rattle.std.proofs.Common.{
+  ◌≡◌,
+  ℕ,
+  zero,
+  suc,
+  ◌+◌,
+  ◌*◌,
+  Bool,
+  true,
+  false,
+  ◌==◌,
+  cond,
+  List,
+  [],
+  ◌∷◌,
+  slice_get,
+  Option,
+  Some,
+  None,
+  refl,
+}
 use Rattle.std.specs.Prelude.{codes}
 use Rattle.tsl_terms.specs.declared.names.NameKind.{NameKind}
 use Rattle.tsl_terms.specs.declared.names.NameKind.TheVariants.{Signal, Function, Predicate}
@@ -137,13 +157,15 @@ whole_of_nothing = refl
 whole_of_one : whole_formula (spec_of [] [] [] (y_takes_x ∷ [])) ≡ unary Globally y_takes_x
 whole_of_one = refl
 
-whole_of_two : whole_formula (spec_of [] [] (px ∷ []) (y_takes_x ∷ [])) ≡ many Conjunction (more_formulas px (more_formulas (unary Globally y_takes_x) no_formulas))
+whole_of_two : whole_formula (spec_of [] [] (px ∷ []) (y_takes_x ∷ []))
+    ≡ many Conjunction (more_formulas px (more_formulas (unary Globally y_takes_x) no_formulas))
 whole_of_two = refl
 
 whole_under_one : whole_formula (spec_of [] (py ∷ []) (px ∷ []) []) ≡ binary Implication (unary Globally py) px
 whole_under_one = refl
 
-whole_under_two : whole_formula (spec_of (px ∷ []) (py ∷ []) [] []) ≡ binary Implication (many Conjunction (more_formulas px (more_formulas (unary Globally py) no_formulas))) (constant true)
+whole_under_two : whole_formula (spec_of (px ∷ []) (py ∷ []) [] [])
+    ≡ binary Implication (many Conjunction (more_formulas px (more_formulas (unary Globally py) no_formulas))) (constant true)
 whole_under_two = refl
 
 -- signals: y is updated and read by a bare name alone, z is updated and never read, x is only read
@@ -168,7 +190,8 @@ updated_signal_does_not_read_itself = refl
 -- choices
 
 abbrev named_first : SpecTree
-named_first = spec_of [] [] [] (many Disjunction (more_formulas (atom (update 0 y)) (more_formulas y_takes_x (more_formulas (atom (update 0 y)) no_formulas))) ∷ [])
+named_first = spec_of [] [] []
+    (many Disjunction (more_formulas (atom (update 0 y)) (more_formulas y_takes_x (more_formulas (atom (update 0 y)) no_formulas))) ∷ [])
 
 cell_that_is_named_stays_in_its_place : choices_of named_first 0 ≡ y ∷ x ∷ []
 cell_that_is_named_stays_in_its_place = refl
@@ -244,7 +267,8 @@ predicates_differ = refl
 
 -- predicates: each stands where it stood first in the whole formula, where what holds always comes after what holds at first
 
-predicates_have_no_repeats : predicates_of (spec_of [] (py ∷ []) (px ∷ []) (binary Equivalence py (atom (test (probe 6 y))) ∷ px ∷ [])) ≡ probe 2 y ∷ probe 2 x ∷ probe 6 y ∷ []
+predicates_have_no_repeats : predicates_of (spec_of [] (py ∷ []) (px ∷ []) (binary Equivalence py (atom (test (probe 6 y))) ∷ px ∷ []))
+    ≡ probe 2 y ∷ probe 2 x ∷ probe 6 y ∷ []
 predicates_have_no_repeats = refl
 
 update_has_no_predicate : predicates_of (spec_of [] [] [] (y_takes_x ∷ [])) ≡ []
@@ -258,7 +282,8 @@ test_counts_itself_and_its_arguments = refl
 update_counts_itself_and_its_term : nodes (atom (update 0 (f_of (g_of x) c))) ≡ 5
 update_counts_itself_and_its_term = refl
 
-conjunction_counts_its_members : nodes (many Conjunction (more_formulas px (more_formulas (constant true) (more_formulas y_takes_x no_formulas)))) ≡ 6
+conjunction_counts_its_members : nodes
+    (many Conjunction (more_formulas px (more_formulas (constant true) (more_formulas y_takes_x no_formulas)))) ≡ 6
 conjunction_counts_its_members = refl
 
 equivalence_counts_both_sides_twice : nodes (binary Equivalence px (unary Next py)) ≡ 11

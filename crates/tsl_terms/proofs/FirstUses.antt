@@ -1,5 +1,36 @@
 -- First uses, and the uses that are not like them.
-use Rattle.std.proofs.Common.{◌≡◌, ℕ, zero, suc, ◌+◌, ◌<◌, ◌≤◌, ◌^◌, ◌⊎◌, inl, inr, Bool, true, false, not, cond, List, [], ◌∷◌, ◌++◌, length, get_or, drop, map, refl, ap, sym, ◌∙◌, arith, length-append}
+use Rattle.std.proofs.Common.{
+  ◌≡◌,
+  ℕ,
+  zero,
+  suc,
+  ◌+◌,
+  ◌<◌,
+  ◌≤◌,
+  ◌^◌,
+  ◌⊎◌,
+  inl,
+  inr,
+  Bool,
+  true,
+  false,
+  not,
+  cond,
+  List,
+  [],
+  ◌∷◌,
+  ◌++◌,
+  length,
+  get_or,
+  drop,
+  map,
+  refl,
+  ap,
+  sym,
+  ◌∙◌,
+  arith,
+  length-append,
+}
 use Rattle.std.specs.Prelude.{Option, Some, None, option_map, option_and_then, slice_get, position, nat_lt}
 use Rattle.std.specs.List.{position_or_len}
 use Rattle.std.specs.Option.{option_map_or, option_or}
@@ -40,13 +71,15 @@ abbrev pub first_of : List Name → List ℕ → Option Name
 first_of [] text = None
 first_of (n ∷ ns) text = cond (bytes_eq text n.text) (Some n) (first_of ns text)
 
-at_number : (n : Name) (ns : List Name) (text : List ℕ) (is : Bool) (found : Option ℕ) → option_and_then (slice_get ns) found ≡ first_of ns text →
+at_number : (n : Name) (ns : List Name) (text : List ℕ) (is : Bool) (found : Option ℕ) →
+    option_and_then (slice_get ns) found ≡ first_of ns text →
     option_and_then (slice_get (n ∷ ns)) (cond is (Some 0) (option_map (λ k. suc k) found)) ≡ cond is (Some n) (first_of ns text)
 at_number n ns text true found h = refl
 at_number n ns text false None h = h
 at_number n ns text false (Some k) h = h
 
-at_place : (names : List Name) (text : List ℕ) → option_and_then (slice_get names) (place (bytes_eq text) (texts names)) ≡ first_of names text
+at_place : (names : List Name) (text : List ℕ) →
+    option_and_then (slice_get names) (place (bytes_eq text) (texts names)) ≡ first_of names text
 at_place [] text = refl
 at_place (n ∷ ns) text = at_number n ns text (bytes_eq text n.text) (place (bytes_eq text) (texts ns)) (at_place ns text)
 
@@ -95,7 +128,8 @@ first_added : (names : List Name) (u : Name) (text : List ℕ) (found : Option �
     first_of (added_unless_found names u found) text ≡ option_or (first_of names text) (first_of (u ∷ []) text)
 first_added names u text None e = first_append names (u ∷ []) text
 first_added names u text (Some k) e = by (first_of names text) refl (bytes_eq text u.text) refl where
-  by : (first : Option Name) → first_of names text ≡ first → (is : Bool) → bytes_eq text u.text ≡ is → first_of names text ≡ option_or first (cond is (Some u) None)
+  by : (first : Option Name) → first_of names text ≡ first → (is : Bool) → bytes_eq text u.text ≡ is →
+      first_of names text ≡ option_or first (cond is (Some u) None)
   by (Some n) f is b = f
   by None f false b = f
   by None f true b =
@@ -106,7 +140,8 @@ or_assoc : (a b c : Option Name) → option_or (option_or a b) c ≡ option_or a
 or_assoc None b c = refl
 or_assoc (Some a) b c = refl
 
-first_with_uses : (us names : List Name) (text : List ℕ) → first_of (with_uses names us) text ≡ option_or (first_of names text) (first_of us text)
+first_with_uses : (us names : List Name) (text : List ℕ) →
+    first_of (with_uses names us) text ≡ option_or (first_of names text) (first_of us text)
 first_with_uses [] names text = or_none (first_of names text) where
   or_none : (a : Option Name) → a ≡ option_or a None
   or_none None = refl
@@ -122,7 +157,8 @@ pub named_first : (us : List Name) (text : List ℕ) → named (first_uses us) t
 named_first us text = named_is (first_uses us) text ∙ first_with_uses us [] text
 
 -- no text stands twice
-absent : (names : List Name) (text : List ℕ) → number_of names text ≡ None → (i : ℕ) (m : Name) → slice_get names i ≡ Some m → m.text ≡ text → ⊥
+absent : (names : List Name) (text : List ℕ) → number_of names text ≡ None → (i : ℕ) (m : Name) → slice_get names i ≡ Some m →
+    m.text ≡ text → ⊥
 absent names text none i m there same =
     let first = first_some names i m there in
     let found : Some first.0 ≡ None = sym first.1 ∙ ap (first_of names) same ∙ not_found names text none in
@@ -160,10 +196,17 @@ pub record FirstAt (us : List Name) (text : List ℕ) (f : Name) : Type 0 where
 pub first_at : (us : List Name) (text : List ℕ) (f : Name) → first_of us text ≡ Some f → FirstAt us text f
 first_at [] text f h = cc
 first_at (u ∷ us) text f h = by (bytes_eq text u.text) refl h (first_at us text f) where
-  by : (is : Bool) → bytes_eq text u.text ≡ is → cond is (Some u) (first_of us text) ≡ Some f → (first_of us text ≡ Some f → FirstAt us text f) → FirstAt (u ∷ us) text f
+  by : (is : Bool) → bytes_eq text u.text ≡ is → cond is (Some u) (first_of us text) ≡ Some f →
+      (first_of us text ≡ Some f → FirstAt us text f) → FirstAt (u ∷ us) text f
   by true e g further =
       let is : u ≡ f = cc in
-      record { at = 0; there = ap Some is; same = same_bytes text u.text e ∙ ap (λ n. n.text) is; none_before = λ i m less. absurd (omega (arith, less)) }
+      record {
+        at = 0;
+        there = ap Some is;
+        same = same_bytes text u.text e
+            ∙ ap (λ n. n.text) is;
+        none_before = λ i m less. absurd (omega (arith, less));
+      }
   by false e g further =
       let k : FirstAt us text f = further g in
       record { at = suc k.at; there = k.there; same = k.same; none_before = before k } where
@@ -175,7 +218,8 @@ first_at (u ∷ us) text f h = by (bytes_eq text u.text) refl h (first_at us tex
         before k (suc i) m less there same = k.none_before i m (omega (arith, less)) there same
 
 -- the first use at a place is the one that is found
-first_is : (us : List Name) (at : ℕ) (f : Name) → slice_get us at ≡ Some f → ((i : ℕ) (m : Name) → i < at → slice_get us i ≡ Some m → f.text ≡ m.text → ⊥) → first_of us f.text ≡ Some f
+first_is : (us : List Name) (at : ℕ) (f : Name) → slice_get us at ≡ Some f →
+    ((i : ℕ) (m : Name) → i < at → slice_get us i ≡ Some m → f.text ≡ m.text → ⊥) → first_of us f.text ≡ Some f
 first_is [] at f there none = cc
 first_is (u ∷ us) zero f there none =
     let is : u ≡ f = cc in
@@ -191,7 +235,8 @@ first_is (u ∷ us) (suc at) f there none =
 -- ---- clashes
 
 -- a use that is not like the first use of its name is a clash
-pub clash_of : (alike : Name → Name → Bool) (us : List Name) (at : ℕ) (u f : Name) → slice_get us at ≡ Some u → first_of us u.text ≡ Some f →
+pub clash_of : (alike : Name → Name → Bool) (us : List Name) (at : ℕ) (u f : Name) → slice_get us at ≡ Some u →
+    first_of us u.text ≡ Some f →
     alike f u ≡ false → IsClash alike us at
 clash_of alike us at u f there found unlike =
     let first : FirstAt us u.text f = first_at us u.text f found in
@@ -215,13 +260,15 @@ clash_first alike us at h =
     ∙ first_is us h.first_at h.first h.first_there (λ i m less a same. h.is_first i m h.first less a h.first_there (sym same))
 
 -- the same by the table of first uses
-differs_is : (alike : Name → Name → Bool) (us : List Name) (u : Name) → differs_from alike (first_uses us) u ≡ option_map_or (λ n. not (alike n u)) (first_of us u.text) false
+differs_is : (alike : Name → Name → Bool) (us : List Name) (u : Name) →
+    differs_from alike (first_uses us) u ≡ option_map_or (λ n. not (alike n u)) (first_of us u.text) false
 differs_is alike us u = ap (λ found. option_map_or (λ n. not (alike n u)) found false) (named_first us u.text)
 
 use_at : (us : List NameUse) (i : ℕ) (d : NameUse) → i < length us → slice_get (map name_use us) i ≡ Some (name_use (get_or us i d))
 use_at us i d within = slice_get-map name_use us i ∙ ap (option_map name_use) (slice_get-get_or us i d within)
 
-pub clash_at : (alike : Name → Name → Bool) (firsts : List Name) (us : List NameUse) (i : ℕ) (d : NameUse) (test : Bool) → firsts ≡ first_uses (map name_use us) →
+pub clash_at : (alike : Name → Name → Bool) (firsts : List Name) (us : List NameUse) (i : ℕ) (d : NameUse) (test : Bool) →
+    firsts ≡ first_uses (map name_use us) →
     i < length us → test ≡ differs_from alike firsts (name_use (get_or us i d)) → test ≡ true → IsClash alike (map name_use us) i
 clash_at alike firsts us i d test table within is h = by (first_of (map name_use us) u.text) refl told where
   u : Name
@@ -230,16 +277,20 @@ clash_at alike firsts us i d test table within is h = by (first_of (map name_use
   told : option_map_or (λ n. not (alike n u)) (first_of (map name_use us) u.text) false ≡ true
   told = sym (differs_is alike (map name_use us) u) ∙ ap (λ names. differs_from alike names u) (sym table) ∙ sym is ∙ h
 
-  by : (found : Option Name) → first_of (map name_use us) u.text ≡ found → option_map_or (λ n. not (alike n u)) found false ≡ true → IsClash alike (map name_use us) i
+  by : (found : Option Name) → first_of (map name_use us) u.text ≡ found → option_map_or (λ n. not (alike n u)) found false ≡ true →
+      IsClash alike (map name_use us) i
   by None e k = cc
   by (Some f) e k = clash_of alike (map name_use us) i u f (use_at us i d within) e (not-true (alike f u) k)
 
-pub no_clash_at : (alike : Name → Name → Bool) (firsts : List Name) (us : List NameUse) (i : ℕ) (d : NameUse) (test : Bool) → firsts ≡ first_uses (map name_use us) →
+pub no_clash_at : (alike : Name → Name → Bool) (firsts : List Name) (us : List NameUse) (i : ℕ) (d : NameUse) (test : Bool) →
+    firsts ≡ first_uses (map name_use us) →
     i < length us → test ≡ differs_from alike firsts (name_use (get_or us i d)) → test ≡ false → IsClash alike (map name_use us) i → ⊥
 no_clash_at alike firsts us i d test table within is h clash =
-    let same : clash.usage ≡ name_use (get_or us i d) = slice_get_one (map name_use us) i clash.usage (name_use (get_or us i d)) clash.use_there (use_at us i d within) in
+    let same : clash.usage ≡ name_use (get_or us i d) =
+    slice_get_one (map name_use us) i clash.usage (name_use (get_or us i d)) clash.use_there (use_at us i d within) in
     let differs : differs_from alike (first_uses (map name_use us)) clash.usage ≡ true =
-    differs_is alike (map name_use us) clash.usage ∙ ap (λ found. option_map_or (λ n. not (alike n clash.usage)) found false) (clash_first alike (map name_use us) i clash)
+    differs_is alike (map name_use us) clash.usage
+    ∙ ap (λ found. option_map_or (λ n. not (alike n clash.usage)) found false) (clash_first alike (map name_use us) i clash)
     ∙ ap not clash.differs in
     let never : true ≡ false =
     sym differs ∙ ap (differs_from alike (first_uses (map name_use us))) same
@@ -252,7 +303,8 @@ clash_within alike us i clash = omega (arith, slice_get_within (map name_use us)
 
 -- ---- the table of first uses, use by use
 
-next_use : (us : List NameUse) (i : ℕ) (d : NameUse) → i < length us → map name_use (drop i us) ≡ name_use (get_or us i d) ∷ map name_use (drop (i + 1) us)
+next_use : (us : List NameUse) (i : ℕ) (d : NameUse) → i < length us →
+    map name_use (drop i us) ≡ name_use (get_or us i d) ∷ map name_use (drop (i + 1) us)
 next_use us i d within = ap (map name_use) (drop_more us i d within)
 
 grows : (us names : List Name) → length names ≤ length (with_uses names us)
@@ -264,14 +316,17 @@ grows (u ∷ us) names = by (number_of names u.text) (grows us (added_unless_fou
   by None h = omega (arith, h, length-append names (u ∷ []))
 
 -- there is room for the name of one use more
-pub room : (names all : List Name) (us : List NameUse) (i : ℕ) (d : NameUse) → i < length us → with_uses names (map name_use (drop i us)) ≡ all → length all < 2 ^ 32 →
+pub room : (names all : List Name) (us : List NameUse) (i : ℕ) (d : NameUse) → i < length us →
+    with_uses names (map name_use (drop i us)) ≡ all → length all < 2 ^ 32 →
     number_of names (get_or us i d).text.now ≡ None → length names + 1 < 2 ^ 32
 room names all us i d within is few none =
     let u = name_use (get_or us i d) in
     let rest = map name_use (drop (i + 1) us) in
-    let more : with_uses (names ++ u ∷ []) rest ≡ all = ap (λ found. with_uses (added_unless_found names u found) rest) (sym none) ∙ sym (ap (with_uses names) (next_use us i d within)) ∙ is in
+    let more : with_uses (names ++ u ∷ []) rest ≡ all = ap (λ found. with_uses (added_unless_found names u found) rest) (sym none)
+    ∙ sym (ap (with_uses names) (next_use us i d within)) ∙ is in
     omega (arith, few, ap length more, grows rest (names ++ u ∷ []), length-append names (u ∷ []))
 
-pub names_after : (names more all : List Name) (us : List NameUse) (i : ℕ) (d : NameUse) → i < length us → more ≡ with_use names (name_use (get_or us i d)) →
+pub names_after : (names more all : List Name) (us : List NameUse) (i : ℕ) (d : NameUse) → i < length us →
+    more ≡ with_use names (name_use (get_or us i d)) →
     with_uses names (map name_use (drop i us)) ≡ all → with_uses more (map name_use (drop (i + 1) us)) ≡ all
 names_after names more all us i d within is h = rw is (rw (next_use us i d within) at h)

@@ -13,7 +13,8 @@ pub with_front_none : (front : List FormulaTree) → with_front front no_formula
 with_front_none [] = refl
 with_front_none (f ∷ front) = ap (more_formulas f) (with_front_none front)
 
-pub with_front_push : (front : List Formula) (f : Formula) (fs : FormulaTrees) → with_front (map formula_tree (front ++ f ∷ [])) fs ≡ with_front (map formula_tree front) (more_formulas (formula_tree f) fs)
+pub with_front_push : (front : List Formula) (f : Formula) (fs : FormulaTrees) →
+    with_front (map formula_tree (front ++ f ∷ [])) fs ≡ with_front (map formula_tree front) (more_formulas (formula_tree f) fs)
 with_front_push [] f fs = refl
 with_front_push (g ∷ front) f fs = ap (more_formulas (formula_tree g)) (with_front_push front f fs)
 
@@ -23,7 +24,8 @@ formulas_of_members no_formulas = refl
 formulas_of_members (more_formulas f fs) = ap (more_formulas f) (formulas_of_members fs)
 
 -- copies that are made, and then the members that are left
-pub copies_push : (copies : List Formula) (copy : Formula) (rest : List FormulaTree) → map formula_tree (copies ++ copy ∷ []) ++ rest ≡ map formula_tree copies ++ (formula_tree copy ∷ rest)
+pub copies_push : (copies : List Formula) (copy : Formula) (rest : List FormulaTree) →
+    map formula_tree (copies ++ copy ∷ []) ++ rest ≡ map formula_tree copies ++ (formula_tree copy ∷ rest)
 copies_push [] copy rest = refl
 copies_push (c ∷ copies) copy rest = ap (λ fs. formula_tree c ∷ fs) (copies_push copies copy rest)
 

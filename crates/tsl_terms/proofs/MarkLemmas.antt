@@ -1,5 +1,29 @@
 -- Marks that are set one after another.
-use Rattle.std.proofs.Common.{◌≡◌, ℕ, zero, suc, ◌<◌, ◌≤◌, ◌==◌, Bool, true, false, ◌||◌, List, [], ◌∷◌, length, replicate, set, get_or, refl, sym, ap, ◌∙◌, arith}
+use Rattle.std.proofs.Common.{
+  ◌≡◌,
+  ℕ,
+  zero,
+  suc,
+  ◌<◌,
+  ◌≤◌,
+  ◌==◌,
+  Bool,
+  true,
+  false,
+  ◌||◌,
+  List,
+  [],
+  ◌∷◌,
+  length,
+  replicate,
+  set,
+  get_or,
+  refl,
+  sym,
+  ap,
+  ◌∙◌,
+  arith,
+}
 use Rattle.std.proofs.lemmas.List.{length-replicate}
 use Rattle.std.proofs.Math.Bool.{or_assoc, or-true, or-false}
 use Rattle.std.proofs.Math.Dec.{eqb-suc-zero, eqb-zero-suc, eqb-suc-suc}
@@ -44,13 +68,16 @@ length-marked p [] = refl
 length-marked p (b ∷ marks) = ap suc (length-marked (λ s. p (suc s)) marks)
 
 -- the mark of a place where none stood
-pub at_mark : (p : ℕ → Bool) (count place : ℕ) (default : Bool) → place < count → get_or (marked p (replicate count false)) place default ≡ p place
+pub at_mark : (p : ℕ → Bool) (count place : ℕ) (default : Bool) → place < count →
+    get_or (marked p (replicate count false)) place default ≡ p place
 at_mark p zero place default within = absurd (omega arith)
 at_mark p (suc count) zero default within = refl
 at_mark p (suc count) (suc place) default within = at_mark (λ s. p (suc s)) count place default (omega arith)
 
 -- the marks of a first term, and then those of the rest
-pub mark_terms_more : (old new all : List Bool) (t : TermTree) (ts : TermTrees) → marked (λ s. some_term_reads s (more_terms t ts)) old ≡ all → new ≡ marked (λ s. term_reads s t) old → marked (λ s. some_term_reads s ts) new ≡ all
+pub mark_terms_more : (old new all : List Bool) (t : TermTree) (ts : TermTrees) →
+    marked (λ s. some_term_reads s (more_terms t ts)) old ≡ all → new ≡ marked (λ s. term_reads s t) old →
+    marked (λ s. some_term_reads s ts) new ≡ all
 mark_terms_more old new all t ts before step =
     ap (marked (λ s. some_term_reads s ts)) step ∙ mark_two (λ s. term_reads s t) (λ s. some_term_reads s ts) old ∙ before
 
@@ -63,5 +90,6 @@ mark_end old all before = sym (mark_none old) ∙ before
 pub length-marks : (p : ℕ → Bool) (count : ℕ) (marks : List Bool) → marks ≡ marked p (replicate count false) → length marks ≡ count
 length-marks p count marks is = ap length is ∙ length-marked p (replicate count false) ∙ length-replicate count false
 
-pub mark_at : (p : ℕ → Bool) (count place : ℕ) (marks : List Bool) (mark : Bool) → marks ≡ marked p (replicate count false) → mark ≡ get_or marks place mark → place < count → mark ≡ p place
+pub mark_at : (p : ℕ → Bool) (count place : ℕ) (marks : List Bool) (mark : Bool) → marks ≡ marked p (replicate count false) →
+    mark ≡ get_or marks place mark → place < count → mark ≡ p place
 mark_at p count place marks mark is here within = here ∙ ap (λ ms. get_or ms place mark) is ∙ at_mark p count place mark within

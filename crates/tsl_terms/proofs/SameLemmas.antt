@@ -8,14 +8,16 @@ mutual
   pub same_tree_is : (a b : TermTree) → same_tree a b ≡ true → a ≡ b
   same_tree_is (signal r) (signal s) h = ap signal (eqb-true r s h)
   same_tree_is (apply f ts) (apply g us) h =
-      λ i. apply (eqb-true f g (and_parts (f == g) (same_trees ts us) h).0 i) (same_trees_is ts us (and_parts (f == g) (same_trees ts us) h).1 i)
+      λ i. apply (eqb-true f g (and_parts (f == g) (same_trees ts us) h).0 i)
+      (same_trees_is ts us (and_parts (f == g) (same_trees ts us) h).1 i)
   same_tree_is (signal r) (apply g us) h = absurd (false≢true h)
   same_tree_is (apply f ts) (signal s) h = absurd (false≢true h)
 
   pub same_trees_is : (ts us : TermTrees) → same_trees ts us ≡ true → ts ≡ us
   same_trees_is no_terms no_terms h = refl
   same_trees_is (more_terms t ts) (more_terms u us) h =
-      λ i. more_terms (same_tree_is t u (and_parts (same_tree t u) (same_trees ts us) h).0 i) (same_trees_is ts us (and_parts (same_tree t u) (same_trees ts us) h).1 i)
+      λ i. more_terms (same_tree_is t u (and_parts (same_tree t u) (same_trees ts us) h).0 i)
+      (same_trees_is ts us (and_parts (same_tree t u) (same_trees ts us) h).1 i)
   same_trees_is no_terms (more_terms u us) h = absurd (false≢true h)
   same_trees_is (more_terms t ts) no_terms h = absurd (false≢true h)
 
@@ -37,7 +39,8 @@ same_probe_is p q h =
 
 pub same_probe_itself : (p : ProbeTree) → same_probe_tree p p ≡ true
 same_probe_itself p =
-    and_from (p.predicate == p.predicate) (same_trees p.arguments p.arguments) (eq-eqb p.predicate p.predicate refl) (same_trees_itself p.arguments)
+    and_from (p.predicate == p.predicate) (same_trees p.arguments p.arguments) (eq-eqb p.predicate p.predicate refl)
+    (same_trees_itself p.arguments)
 
 -- what an answer of the test says
 pub same_by_test : (answer : Bool) (a b : TermTree) → answer ≡ same_tree a b → IsTrue answer ↔ (a ≡ b)

@@ -1,5 +1,33 @@
 -- Inputs, cells and outputs: no signal is in two of the lists, each list rises, and what is read or updated is in them.
-use Rattle.std.proofs.Common.{◌≡◌, ℕ, zero, suc, ◌<◌, ◌≤◌, ◌==◌, Bool, true, false, not, cond, ◌&&◌, List, ◌∷◌, ◌++◌, length, Some, slice_get, Contains, inl, inr, refl, sym, ap, ◌∙◌, arith}
+use Rattle.std.proofs.Common.{
+  ◌≡◌,
+  ℕ,
+  zero,
+  suc,
+  ◌<◌,
+  ◌≤◌,
+  ◌==◌,
+  Bool,
+  true,
+  false,
+  not,
+  cond,
+  ◌&&◌,
+  List,
+  ◌∷◌,
+  ◌++◌,
+  length,
+  Some,
+  slice_get,
+  Contains,
+  inl,
+  inr,
+  refl,
+  sym,
+  ap,
+  ◌∙◌,
+  arith,
+}
 use Rattle.std.specs.List.{list_all, filter}
 use Rattle.std.proofs.lemmas.List.Folds.{list_any-append}
 use Rattle.std.proofs.lemmas.Bool.{and_parts, and_from, or_cases, or_left, or_right, not-true, cases_Bool}
@@ -15,7 +43,21 @@ use Rattle.tsl_terms.specs.FormulaTree.{Atom, test, update}
 use Rattle.tsl_terms.specs.Atoms.{atoms}
 use Rattle.tsl_terms.specs.OnlyThese.{reads_only, read_only, atom_reads_only, atom_updates_only}
 use Rattle.tsl_terms.specs.SpecTree.{SpecTree, whole_formula}
-use Rattle.tsl_terms.specs.Signals.{term_reads, some_term_reads, atom_reads, formula_reads, atom_updates, formula_updates, is_cell, is_output, is_input, numbers, inputs_of, cells_of, outputs_of}
+use Rattle.tsl_terms.specs.Signals.{
+  term_reads,
+  some_term_reads,
+  atom_reads,
+  formula_reads,
+  atom_updates,
+  formula_updates,
+  is_cell,
+  is_output,
+  is_input,
+  numbers,
+  inputs_of,
+  cells_of,
+  outputs_of,
+}
 use Rattle.tsl_terms.specs.WellFormed.{term_fits, terms_fit, is_usable_at, atom_fits}
 use Rattle.tsl_terms.specs.Laws.{FormulasFit, IsRising}
 use Rattle.tsl_terms.proofs.WholeAtoms.{whole_is_made_of}
@@ -26,7 +68,8 @@ not_below : (p : ℕ → Bool) (first count i m : ℕ) → slice_get (filter p (
 not_below p first zero i m there = absurd cc
 not_below p first (suc count) i m there = by (p first) i there (λ k is. not_below p (suc first) count k m is)
   where
-    by : (b : Bool) (i : ℕ) → slice_get (cond b (first ∷ filter p (numbers_from (suc first) count)) (filter p (numbers_from (suc first) count))) i ≡ Some m →
+    by : (b : Bool) (i : ℕ) →
+        slice_get (cond b (first ∷ filter p (numbers_from (suc first) count)) (filter p (numbers_from (suc first) count))) i ≡ Some m →
         ((k : ℕ) → slice_get (filter p (numbers_from (suc first) count)) k ≡ Some m → suc first ≤ m) → first ≤ m
     by true zero there rest = let same : first ≡ m = cc in omega (arith, same)
     by true (suc i) there rest = omega (arith, rest i there)
@@ -36,8 +79,10 @@ pub numbers_rise : (p : ℕ → Bool) (first count : ℕ) → IsRising (filter p
 numbers_rise p first zero i j m n less at_i at_j = absurd cc
 numbers_rise p first (suc count) i j m n less at_i at_j = by (numbers_rise p (suc first) count) (p first) i j less at_i at_j
   where
-    by : IsRising (filter p (numbers_from (suc first) count)) → (b : Bool) (i j : ℕ) → i < j → slice_get (cond b (first ∷ filter p (numbers_from (suc first) count)) (filter p (numbers_from (suc first) count))) i ≡ Some m →
-        slice_get (cond b (first ∷ filter p (numbers_from (suc first) count)) (filter p (numbers_from (suc first) count))) j ≡ Some n → m < n
+    by : IsRising (filter p (numbers_from (suc first) count)) → (b : Bool) (i j : ℕ) → i < j →
+        slice_get (cond b (first ∷ filter p (numbers_from (suc first) count)) (filter p (numbers_from (suc first) count))) i ≡ Some m →
+        slice_get (cond b (first ∷ filter p (numbers_from (suc first) count)) (filter p (numbers_from (suc first) count))) j ≡ Some n →
+        m < n
     by rest true zero zero less at_i at_j = absurd (omega (arith, less))
     by rest true zero (suc j) less at_i at_j =
         let same : first ≡ m = cc in
@@ -155,7 +200,8 @@ module _ (spec : SpecTree) where
 
   module _ (fit : FormulasFit spec) where
     atoms_fit : list_all (atom_fits spec.names) (atoms (whole_formula spec)) ≡ true
-    atoms_fit = (and_parts (list_all (atom_fits spec.names) (atoms (whole_formula spec))) _ (whole_is_made_of (atom_fits spec.names) spec fit)).0
+    atoms_fit = (and_parts (list_all (atom_fits spec.names) (atoms (whole_formula spec))) _
+        (whole_is_made_of (atom_fits spec.names) spec fit)).0
 
     pub whole_reads : list_all (atom_reads_only (inputs_of spec ++ cells_of spec)) (atoms (whole_formula spec)) ≡ true
     whole_reads = list_all_from_contained (atom_reads_only (inputs_of spec ++ cells_of spec)) (atoms (whole_formula spec)) (λ a stands.
@@ -170,5 +216,6 @@ module _ (spec : SpecTree) where
         each (test p) stands = refl
         each (update s t) stands =
             updated_is_cell_or_output s
-            (updated_is_named spec.names s t (passes_contained (atom_fits spec.names) (atoms (whole_formula spec)) (update s t) atoms_fit stands))
+            (updated_is_named spec.names s t
+            (passes_contained (atom_fits spec.names) (atoms (whole_formula spec)) (update s t) atoms_fit stands))
             (list_any_contained (atom_updates s) (atoms (whole_formula spec)) (update s t) stands (eqb_self s))

@@ -12,6 +12,7 @@ pub with_front_none : (front : List TermTree) → with_front front no_terms ≡ 
 with_front_none [] = refl
 with_front_none (t ∷ front) = ap (more_terms t) (with_front_none front)
 
-pub with_front_push : (front : List Term) (t : Term) (ts : TermTrees) → with_front (map term_tree (front ++ t ∷ [])) ts ≡ with_front (map term_tree front) (more_terms (term_tree t) ts)
+pub with_front_push : (front : List Term) (t : Term) (ts : TermTrees) →
+    with_front (map term_tree (front ++ t ∷ [])) ts ≡ with_front (map term_tree front) (more_terms (term_tree t) ts)
 with_front_push [] t ts = refl
 with_front_push (u ∷ front) t ts = ap (more_terms (term_tree u)) (with_front_push front t ts)

@@ -9,7 +9,18 @@ use Rattle.sequence.proofs.Passes.{list_all_weaker}
 use Rattle.tsl_terms.specs.declared.operator.UnaryOperator.TheVariants.{Globally}
 use Rattle.tsl_terms.specs.declared.operator.BinaryOperator.{BinaryOperator}
 use Rattle.tsl_terms.specs.declared.operator.ManyOperator.{ManyOperator}
-use Rattle.tsl_terms.specs.FormulaTree.{Atom, FormulaTree, FormulaTrees, unary, binary, many, no_formulas, more_formulas, formulas_in, formulas_of}
+use Rattle.tsl_terms.specs.FormulaTree.{
+  Atom,
+  FormulaTree,
+  FormulaTrees,
+  unary,
+  binary,
+  many,
+  no_formulas,
+  more_formulas,
+  formulas_in,
+  formulas_of,
+}
 use Rattle.tsl_terms.specs.Atoms.{atoms, atoms_of_members, has_two, joins_two, all_join_two, is_made_of, members_are_made_of}
 use Rattle.tsl_terms.specs.SpecTree.{SpecTree, conjunction_of, assumed, guaranteed, under_assumptions, all_formulas, whole_formula}
 
@@ -45,7 +56,8 @@ section_atoms first always =
 pub whole_atoms : (spec : SpecTree) → atoms (whole_formula spec) ≡ flat_map atoms (all_formulas spec)
 whole_atoms spec =
     under_atoms (assumed spec) (conjunction_of (guaranteed spec))
-    ∙ (λ i. section_atoms spec.assume_first spec.assume_always i ++ (conjunction_atoms (guaranteed spec) ∙ section_atoms spec.guarantee_first spec.guarantee_always) i)
+    ∙ (λ i. section_atoms spec.assume_first spec.assume_always i ++ (conjunction_atoms (guaranteed spec)
+    ∙ section_atoms spec.guarantee_first spec.guarantee_always) i)
     ∙ sym (flat_map-append atoms (spec.assume_first ++ spec.assume_always) (spec.guarantee_first ++ spec.guarantee_always))
     ∙ ap (flat_map atoms) (sym (append_assoc (spec.assume_first ++ spec.assume_always) spec.guarantee_first spec.guarantee_always))
 
@@ -54,7 +66,8 @@ pub four_lists : (spec : SpecTree) (a b c d : FormulaTrees) → spec.assume_firs
     spec.guarantee_first ≡ formulas_in c → spec.guarantee_always ≡ formulas_in d →
     ((atoms_of_members a ++ atoms_of_members b) ++ atoms_of_members c) ++ atoms_of_members d ≡ atoms (whole_formula spec)
 four_lists spec a b c d h1 h2 h3 h4 =
-    (λ i. ((list a spec.assume_first h1 i ++ list b spec.assume_always h2 i) ++ list c spec.guarantee_first h3 i) ++ list d spec.guarantee_always h4 i)
+    (λ i. ((list a spec.assume_first h1 i ++ list b spec.assume_always h2 i) ++ list c spec.guarantee_first h3 i)
+    ++ list d spec.guarantee_always h4 i)
     ∙ sym (split (spec.assume_first ++ spec.assume_always ++ spec.guarantee_first) spec.guarantee_always
     ∙ ap (λ xs. xs ++ flat_map atoms spec.guarantee_always) (split (spec.assume_first ++ spec.assume_always) spec.guarantee_first
     ∙ ap (λ xs. xs ++ flat_map atoms spec.guarantee_first) (split spec.assume_first spec.assume_always)))
@@ -77,7 +90,8 @@ conjunction_joins_two [] h = refl
 conjunction_joins_two (f ∷ []) h = (and_parts (joins_two f) true h).0
 conjunction_joins_two (f ∷ g ∷ fs) h = all_join_two_of (f ∷ g ∷ fs) ∙ h
 
-under_joins_two : (fs : List FormulaTree) (g : FormulaTree) → list_all joins_two fs ≡ true → joins_two g ≡ true → joins_two (under_assumptions fs g) ≡ true
+under_joins_two : (fs : List FormulaTree) (g : FormulaTree) → list_all joins_two fs ≡ true → joins_two g ≡ true →
+    joins_two (under_assumptions fs g) ≡ true
 under_joins_two [] g h k = k
 under_joins_two (f ∷ fs) g h k = and_from _ _ (conjunction_joins_two (f ∷ fs) h) k
 
@@ -89,7 +103,8 @@ section_joins_two first always h k =
 
 whole_joins_two : (spec : SpecTree) → list_all joins_two (all_formulas spec) ≡ true → joins_two (whole_formula spec) ≡ true
 whole_joins_two spec h =
-    let one = and_parts _ _ (sym (list_all-append joins_two (spec.assume_first ++ spec.assume_always ++ spec.guarantee_first) spec.guarantee_always) ∙ h) in
+    let one = and_parts _ _
+    (sym (list_all-append joins_two (spec.assume_first ++ spec.assume_always ++ spec.guarantee_first) spec.guarantee_always) ∙ h) in
     let two = and_parts _ _ (sym (list_all-append joins_two (spec.assume_first ++ spec.assume_always) spec.guarantee_first) ∙ one.0) in
     let three = and_parts _ _ (sym (list_all-append joins_two spec.assume_first spec.assume_always) ∙ two.0) in
     under_joins_two (assumed spec) (conjunction_of (guaranteed spec))
@@ -103,7 +118,8 @@ four true true c d = refl
 four true false c d = sym (and-false c)
 four false b c d = refl
 
-pub binary_is_made_of : (passes : Atom → Bool) (op : BinaryOperator) (f g : FormulaTree) → is_made_of passes (binary op f g) ≡ (is_made_of passes f && is_made_of passes g)
+pub binary_is_made_of : (passes : Atom → Bool) (op : BinaryOperator) (f g : FormulaTree) →
+    is_made_of passes (binary op f g) ≡ (is_made_of passes f && is_made_of passes g)
 binary_is_made_of passes op f g =
     ap (λ b. b && joins_two (binary op f g)) (list_all-append passes (atoms f) (atoms g))
     ∙ four (list_all passes (atoms f)) (list_all passes (atoms g)) (joins_two f) (joins_two g)
@@ -114,7 +130,8 @@ more_are_made_of passes f fs =
     ap (λ b. b && all_join_two (more_formulas f fs)) (list_all-append passes (atoms f) (atoms_of_members fs))
     ∙ four (list_all passes (atoms f)) (list_all passes (atoms_of_members fs)) (joins_two f) (all_join_two fs)
 
-pub many_is_made_of : (passes : Atom → Bool) (op : ManyOperator) (fs : FormulaTrees) → is_made_of passes (many op fs) ≡ true → members_are_made_of passes fs ≡ true
+pub many_is_made_of : (passes : Atom → Bool) (op : ManyOperator) (fs : FormulaTrees) → is_made_of passes (many op fs) ≡ true →
+    members_are_made_of passes fs ≡ true
 many_is_made_of passes op fs h =
     let parts = and_parts (list_all passes (atoms_of_members fs)) (has_two fs && all_join_two fs) h in
     and_from _ _ parts.0 (and_parts (has_two fs) (all_join_two fs) parts.1).1
@@ -139,7 +156,8 @@ whole_is_made_of passes spec h =
     and_from _ _ (ap (list_all passes) (whole_atoms spec) ∙ parts.0) (whole_joins_two spec parts.1)
 
 -- where each atom that passes one test passes another one
-pub is_made_of_then : (p q : Atom → Bool) → ((a : Atom) → p a ≡ true → q a ≡ true) → (f : FormulaTree) → is_made_of p f ≡ true → is_made_of q f ≡ true
+pub is_made_of_then : (p q : Atom → Bool) → ((a : Atom) → p a ≡ true → q a ≡ true) → (f : FormulaTree) → is_made_of p f ≡ true →
+    is_made_of q f ≡ true
 is_made_of_then p q each f h =
     let parts = and_parts (list_all p (atoms f)) (joins_two f) h in
     and_from _ _ (list_all_weaker p q each (atoms f) parts.0) parts.1

@@ -9,7 +9,23 @@ use Rattle.tsl_terms.specs.declared.operator.BinaryOperator.TheVariants.{Implica
 use Rattle.tsl_terms.specs.declared.operator.ManyOperator.{ManyOperator}
 use Rattle.tsl_terms.specs.declared.operator.ManyOperator.TheVariants.{Conjunction, Disjunction}
 use Rattle.tsl_terms.specs.declared.formula.Formula.{Formula}
-use Rattle.tsl_terms.specs.declared.formula.Formula.TheVariants.{True, False, Test, Update, Not', All, Any, Implies', Iff', Next', Finally', Globally', Until', Weak', Release'}
+use Rattle.tsl_terms.specs.declared.formula.Formula.TheVariants.{
+  True,
+  False,
+  Test,
+  Update,
+  Not',
+  All,
+  Any,
+  Implies',
+  Iff',
+  Next',
+  Finally',
+  Globally',
+  Until',
+  Weak',
+  Release',
+}
 use Rattle.tsl_terms.specs.declared.formula.FormulaList.{FormulaList}
 use Rattle.tsl_terms.specs.declared.formula.FormulaList.TheVariants.{Empty, More'}
 use Rattle.tsl_terms.specs.TermTree.{TermTree, ProbeTree, term_tree, probe_tree}

@@ -6,7 +6,20 @@ use Rattle.std.specs.Prelude.{ℕ, ◌+◌, ◌*◌}
 use Rattle.tsl_terms.specs.declared.operator.BinaryOperator.{BinaryOperator}
 use Rattle.tsl_terms.specs.declared.operator.BinaryOperator.TheVariants.{Implication, Equivalence, Until, WeakUntil, Release}
 use Rattle.tsl_terms.specs.TermTree.{TermTree, signal, apply, TermTrees, no_terms, more_terms}
-use Rattle.tsl_terms.specs.FormulaTree.{Atom, test, update, FormulaTree, FormulaTrees, constant, atom, unary, binary, many, no_formulas, more_formulas}
+use Rattle.tsl_terms.specs.FormulaTree.{
+  Atom,
+  test,
+  update,
+  FormulaTree,
+  FormulaTrees,
+  constant,
+  atom,
+  unary,
+  binary,
+  many,
+  no_formulas,
+  more_formulas,
+}
 
 abbrev mutual
   pub nodes_of_term : TermTree → ℕ

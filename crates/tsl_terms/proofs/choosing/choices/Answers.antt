@@ -22,11 +22,14 @@ returns c =
     let are : map atom_tree items ≡ atoms (whole_formula spec) = c.in_ok-atoms.ensures in
     let cell : c.is_cell.result ≡ is_cell spec s =
     rw c.deref-2.ensures.value at c.is_cell.ensures
-    ∙ (λ i. (sym (list_any-map atom_tree (atom_updates s) items) ∙ ap (list_any (atom_updates s)) are) i && (sym (list_any-map atom_tree (atom_reads s) items) ∙ ap (list_any (atom_reads s)) are) i) in
+    ∙ (λ i. (sym (list_any-map atom_tree (atom_updates s) items)
+    ∙ ap (list_any (atom_updates s)) are) i && (sym (list_any-map atom_tree (atom_reads s) items)
+    ∙ ap (list_any (atom_reads s)) are) i) in
     let terms = flat_map (term_for s) (atoms (whole_formula spec)) in
     let found : map term_tree c.in_ok-terms.terms.items ≡ with_new same_tree [] terms =
     rw (c.deref.ensures.value, are) at c.in_ok-terms.ensures in
     c.in_ok-add_cell.ensures
     ∙ (λ i. with_new same_tree (found i) (cond (cell i) (signal s ∷ []) []))
     ∙ with_new-append same_tree [] terms (cond (is_cell spec s) (signal s ∷ []) [])
-    ∙ with_new-from_none same_tree same_tree_is (without_repeats same_tree) refl (λ _ _. refl) (terms ++ cond (is_cell spec s) (signal s ∷ []) [])
+    ∙ with_new-from_none same_tree same_tree_is (without_repeats same_tree) refl (λ _ _. refl)
+    (terms ++ cond (is_cell spec s) (signal s ∷ []) [])

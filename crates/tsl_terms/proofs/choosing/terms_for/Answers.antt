@@ -18,5 +18,6 @@ loop-atom-preserved c =
 
 pub returns : goal.returns
 returns c =
-    with_new-all same_tree (λ a. term_for c.args.signal (atom_tree a)) c.args.atoms.now c.loop-atom.atom-index _ c.loop-atom-test.false c.loop-atom.invariant
+    with_new-all same_tree
+    (λ a. term_for c.args.signal (atom_tree a)) c.args.atoms.now c.loop-atom.atom-index _ c.loop-atom-test.false c.loop-atom.invariant
     ∙ ap (with_new same_tree []) (sym (flat_map-map (term_for c.args.signal) atom_tree c.args.atoms.now))

@@ -5,7 +5,8 @@ use Rattle.tsl_terms.proofs.clash.first_clash.Goals as goal
 
 pub returns-then-differs : goal.returns-then-differs
 returns-then-differs c = record {
-  clash = clash_at (alike_in c.args.quality) c.args.firsts.now c.args.uses.now c.loop-place.place _ c.differs.result c.requires c.loop-place-test.true
+  clash = clash_at (alike_in c.args.quality) c.args.firsts.now c.args.uses.now c.loop-place.place _ c.differs.result c.requires
+      c.loop-place-test.true
       c.differs.ensures c.if-differs.true;
   none_before = c.loop-place.invariant;
 }
@@ -13,7 +14,8 @@ returns-then-differs c = record {
 pub loop-place-preserved : goal.loop-place-preserved
 loop-place-preserved c =
     below_more _ _ c.loop-place.invariant
-    (no_clash_at (alike_in c.args.quality) c.args.firsts.now c.args.uses.now c.loop-place.place _ c.differs.result c.requires c.loop-place-test.true
+    (no_clash_at (alike_in c.args.quality) c.args.firsts.now c.args.uses.now c.loop-place.place _ c.differs.result c.requires
+    c.loop-place-test.true
     c.differs.ensures c.if-differs.false)
 
 pub returns : goal.returns

@@ -7,4 +7,5 @@ use Rattle.tsl_terms.proofs.copy.+copy_terms.Given as goal
 -- the copies, and then the terms that are left
 abbrev pub invariant-copy_terms-loop-rest : goal.invariant-copy_terms-loop-rest
 invariant-copy_terms-loop-rest l =
-    (with_front (map term_tree l.copies.items) (term_trees l.rest) ≡ term_trees l.fn.terms) × (size-TermList l.rest ≤ size-TermList l.initial.rest)
+    (with_front (map term_tree l.copies.items) (term_trees l.rest) ≡ term_trees l.fn.terms) ×
+    (size-TermList l.rest ≤ size-TermList l.initial.rest)

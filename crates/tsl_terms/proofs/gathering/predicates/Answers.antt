@@ -22,7 +22,8 @@ loop-atom-preserved c =
 
 pub returns : goal.returns
 returns c =
-    with_new-all same_probe_tree (λ a. probe_of (atom_tree a)) c.deref-atom-items.result.now c.loop-atom.atom-index _ c.loop-atom-test.false c.loop-atom.invariant
+    with_new-all same_probe_tree
+    (λ a. probe_of (atom_tree a)) c.deref-atom-items.result.now c.loop-atom.atom-index _ c.loop-atom-test.false c.loop-atom.invariant
     ∙ ap (with_new same_probe_tree []) (sym (flat_map-map probe_of atom_tree c.deref-atom-items.result.now)
     ∙ ap (flat_map probe_of) (ap (map atom_tree) c.deref-atom-items.ensures.value ∙ c.in_ok-atoms.ensures))
     ∙ with_new-from_none same_probe_tree same_probe_is (without_repeats same_probe_tree) refl (λ _ _. refl) _

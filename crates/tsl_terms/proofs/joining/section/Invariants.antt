@@ -6,4 +6,5 @@ use Rattle.tsl_terms.proofs.joining.section.Given as goal
 -- the formulas so far, and then those that are left
 abbrev pub invariant-loop-rest : goal.invariant-loop-rest
 invariant-loop-rest l =
-    map formula_tree l.formulas.items ++ map (unary Globally) (member_trees l.rest) ≡ member_trees l.first ++ map (unary Globally) (member_trees l.always)
+    map formula_tree l.formulas.items ++ map (unary Globally) (member_trees l.rest) ≡ member_trees l.first
+    ++ map (unary Globally) (member_trees l.always)

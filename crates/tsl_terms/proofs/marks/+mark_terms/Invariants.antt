@@ -8,5 +8,6 @@ use Rattle.tsl_terms.proofs.marks.+mark_terms.Given as goal
 -- the marks so far, and then those of the terms that are left
 abbrev pub invariant-mark_terms-loop-rest : goal.invariant-mark_terms-loop-rest
 invariant-mark_terms-loop-rest l =
-    (marked (λ s. some_term_reads s (term_trees l.rest)) l.read.items ≡ marked (λ s. some_term_reads s (term_trees l.fn.terms)) l.fn.read.items)
+    (marked (λ s. some_term_reads s (term_trees l.rest)) l.read.items
+    ≡ marked (λ s. some_term_reads s (term_trees l.fn.terms)) l.fn.read.items)
     × (size-TermList l.rest ≤ size-TermList l.initial.rest)

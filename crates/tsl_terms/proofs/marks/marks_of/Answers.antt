@@ -28,7 +28,8 @@ pub returns-clause-updated : goal.returns-clause-updated
 returns-clause-updated c =
     let are : map atom_tree c.deref-atom-items.result.now ≡ atoms (whole_formula (spec_tree c.args.spec.now)) =
     ap (map atom_tree) c.deref-atom-items.ensures.value ∙ c.in_ok-atoms.ensures in
-    marked-all (λ s a. atom_updates s (atom_tree a)) c.deref-atom-items.result.now c.loop-atom.atom-index _ (λ s. formula_updates s (whole_formula (spec_tree c.args.spec.now))) _
+    marked-all (λ s a. atom_updates s (atom_tree a)) c.deref-atom-items.result.now c.loop-atom.atom-index _
+    (λ s. formula_updates s (whole_formula (spec_tree c.args.spec.now))) _
     c.loop-atom-test.false c.loop-atom.invariant.0
     (λ s. sym (list_any-map atom_tree (atom_updates s) c.deref-atom-items.result.now) ∙ ap (list_any (atom_updates s)) are)
 
@@ -36,6 +37,7 @@ pub returns-clause-read : goal.returns-clause-read
 returns-clause-read c =
     let are : map atom_tree c.deref-atom-items.result.now ≡ atoms (whole_formula (spec_tree c.args.spec.now)) =
     ap (map atom_tree) c.deref-atom-items.ensures.value ∙ c.in_ok-atoms.ensures in
-    marked-all (λ s a. atom_reads s (atom_tree a)) c.deref-atom-items.result.now c.loop-atom.atom-index _ (λ s. formula_reads s (whole_formula (spec_tree c.args.spec.now))) _
+    marked-all (λ s a. atom_reads s (atom_tree a)) c.deref-atom-items.result.now c.loop-atom.atom-index _
+    (λ s. formula_reads s (whole_formula (spec_tree c.args.spec.now))) _
     c.loop-atom-test.false c.loop-atom.invariant.1
     (λ s. sym (list_any-map atom_tree (atom_reads s) c.deref-atom-items.result.now) ∙ ap (list_any (atom_reads s)) are)
