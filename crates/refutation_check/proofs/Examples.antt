@@ -3,69 +3,16 @@ use Rattle.std.proofs.Common.{◌≡◌, ℕ, List, [], ◌∷◌, pos, negsuc, 
 use Rattle.std.specs.Prelude.{codes}
 use Rattle.clause_core.specs.Literals.{Lit, literal_of}
 use Rattle.refutation_check.specs.declared.steps.Step.{Step}
-use Rattle.tsl_text.specs.Lines.{lines, words}
 use Rattle.refutation_check.specs.DataLines.{data_lines}
-use Rattle.tsl_text.specs.Numbers.{number_in, signed_number_in}
 use Rattle.refutation_check.specs.CnfText.{cnf_answer, is_cnf, form_at, too_many_variables}
 use Rattle.refutation_check.specs.LogText.{log_answer, is_log, form_at as log_form_at}
 use Rattle.refutation_check.specs.Checking.{log_refusal, at_line, at_hint, unfinished}
 
--- ---- lines and words
-
-two_lines : lines (codes "a\nb\n") ≡ codes "a" ∷ codes "b" ∷ []
-two_lines = refl
-
--- a line without a line feed, and an empty line
-open_line : lines (codes "\nb") ≡ [] ∷ codes "b" ∷ []
-open_line = refl
-
-no_line : lines [] ≡ []
-no_line = refl
-
-three_words : words (codes " 1\t-2  x\r") ≡ codes "1" ∷ codes "-2" ∷ codes "x" ∷ []
-three_words = refl
-
-no_word : words (codes " \t") ≡ []
-no_word = refl
+-- ---- lines
 
 -- a comment keeps its number
 numbered : data_lines (codes "c a\nb\ncnf\n d") ≡ record { number = 2; bytes = codes "b"; ended = true } ∷ record { number = 4; bytes = codes " d"; ended = false } ∷ []
 numbered = refl
-
--- ---- numbers
-
-zeros_in_front : number_in (codes "007") ≡ Some 7
-zeros_in_front = refl
-
-eighteen_digits : number_in (codes "999999999999999999") ≡ Some 999999999999999999
-eighteen_digits = refl
-
-nineteen_digits : number_in (codes "0000000000000000001") ≡ None
-nineteen_digits = refl
-
-no_digits : number_in [] ≡ None
-no_digits = refl
-
-a_sign : number_in (codes "-1") ≡ None
-a_sign = refl
-
-negative : signed_number_in (codes "-12") ≡ Some (negsuc 11)
-negative = refl
-
-two_zeros : signed_number_in (codes "00") ≡ Some (pos 0)
-two_zeros = refl
-
-negative_zero : signed_number_in (codes "-0") ≡ None
-negative_zero = refl
-
-sign_alone : signed_number_in (codes "-") ≡ None
-sign_alone = refl
-
-two_signs : signed_number_in (codes "--1") ≡ None
-two_signs = refl
-
-plus : signed_number_in (codes "+1") ≡ None
-plus = refl
 
 -- ---- formulas
 

@@ -1,5 +1,37 @@
 -- Comments: what scanning computes is what closes them.
-use Rattle.std.proofs.Common.{◌≡◌, ℕ, zero, suc, ◌+◌, ◌-◌, ◌<◌, ◌≤◌, true, false, cond, eqb, List, [], ◌∷◌, ◌++◌, length, get_or, drop, Option, Some, None, refl, sym, ◌∙◌, ap, subst, ⊎_elim, arith, append_assoc, append-nil}
+use Rattle.std.proofs.Common.{
+  ◌≡◌,
+  ℕ,
+  zero,
+  suc,
+  ◌+◌,
+  ◌-◌,
+  ◌<◌,
+  ◌≤◌,
+  true,
+  false,
+  cond,
+  eqb,
+  List,
+  [],
+  ◌∷◌,
+  ◌++◌,
+  length,
+  get_or,
+  drop,
+  Option,
+  Some,
+  None,
+  refl,
+  sym,
+  ◌∙◌,
+  ap,
+  subst,
+  ⊎_elim,
+  arith,
+  append_assoc,
+  append-nil,
+}
 use Rattle.std.proofs.lemmas.Bool.{and_parts, and_from, eqb-true, eq-eqb, ne_eqb, cases_Bool, cond-false, false_from_ne_true}
 use Rattle.std.proofs.lemmas.List.{drop_more}
 use Rattle.tsl_text.specs.Division.{ClosesComment, close, skip, nest, IsNoMark}
@@ -14,28 +46,38 @@ drop_two text at two =
 
 module _ (depth first second : ℕ) (rest : List ℕ) where
   -- one step of the scan, by the two bytes at the front
-  at_close : true ≡ closes first second → after_comment depth (first ∷ second ∷ rest) ≡ cond (eqb depth 0) (Some rest) (after_comment (depth - 1) rest)
+  at_close : true ≡ closes first second →
+      after_comment depth (first ∷ second ∷ rest) ≡ cond (eqb depth 0) (Some rest) (after_comment (depth - 1) rest)
   at_close closing = rw (← closing) refl
 
-  at_open : false ≡ closes first second → true ≡ opens first second → after_comment depth (first ∷ second ∷ rest) ≡ after_comment (depth + 1) rest
+  at_open : false ≡ closes first second → true ≡ opens first second →
+      after_comment depth (first ∷ second ∷ rest) ≡ after_comment (depth + 1) rest
   at_open other opening = rw (← other, ← opening) refl
 
-  at_other : false ≡ closes first second → false ≡ opens first second → after_comment depth (first ∷ second ∷ rest) ≡ after_comment depth (second ∷ rest)
+  at_other : false ≡ closes first second → false ≡ opens first second →
+      after_comment depth (first ∷ second ∷ rest) ≡ after_comment depth (second ∷ rest)
   at_other other another = rw (← other, ← another) refl
 
 module _ (text : List ℕ) (depth at : ℕ) (two : at + 1 < length text) where
   -- the same at a place of the text
-  pub step_close : true ≡ closes (get_or text at 0) (get_or text (at + 1) 0) → after_comment depth (drop at text) ≡ cond (eqb depth 0) (Some (drop (at + 2) text)) (after_comment (depth - 1) (drop (at + 2) text))
-  step_close closing = ap (after_comment depth) (drop_two text at two) ∙ at_close depth (get_or text at 0) (get_or text (at + 1) 0) (drop (at + 2) text) closing
+  pub step_close : true ≡ closes (get_or text at 0) (get_or text (at + 1) 0) →
+      after_comment depth (drop at text) ≡ cond (eqb depth 0) (Some (drop (at + 2) text)) (after_comment (depth - 1) (drop (at + 2) text))
+  step_close closing = ap (after_comment depth) (drop_two text at two)
+      ∙ at_close depth (get_or text at 0) (get_or text (at + 1) 0) (drop (at + 2) text) closing
 
-  pub step_open : false ≡ closes (get_or text at 0) (get_or text (at + 1) 0) → true ≡ opens (get_or text at 0) (get_or text (at + 1) 0) → after_comment depth (drop at text) ≡ after_comment (depth + 1) (drop (at + 2) text)
-  step_open other opening = ap (after_comment depth) (drop_two text at two) ∙ at_open depth (get_or text at 0) (get_or text (at + 1) 0) (drop (at + 2) text) other opening
+  pub step_open : false ≡ closes (get_or text at 0) (get_or text (at + 1) 0) → true ≡ opens (get_or text at 0) (get_or text (at + 1) 0) →
+      after_comment depth (drop at text) ≡ after_comment (depth + 1) (drop (at + 2) text)
+  step_open other opening = ap (after_comment depth) (drop_two text at two)
+      ∙ at_open depth (get_or text at 0) (get_or text (at + 1) 0) (drop (at + 2) text) other opening
 
-  pub step_other : false ≡ closes (get_or text at 0) (get_or text (at + 1) 0) → false ≡ opens (get_or text at 0) (get_or text (at + 1) 0) → after_comment depth (drop at text) ≡ after_comment depth (drop (at + 1) text)
+  pub step_other : false ≡ closes (get_or text at 0) (get_or text (at + 1) 0) → false ≡ opens (get_or text at 0) (get_or text (at + 1) 0) →
+      after_comment depth (drop at text) ≡ after_comment depth (drop (at + 1) text)
   step_other other another =
       let second : drop (at + 1) text ≡ get_or text (at + 1) 0 ∷ drop (at + 1 + 1) text = drop_more text (at + 1) 0 (omega arith) in
       let same : at + 1 + 1 ≡ at + 2 = omega arith in
-      ap (after_comment depth) (drop_two text at two) ∙ at_other depth (get_or text at 0) (get_or text (at + 1) 0) (drop (at + 2) text) other another ∙ ap (after_comment depth) (sym (second ∙ ap (λ n. get_or text (at + 1) 0 ∷ drop n text) same))
+      ap (after_comment depth) (drop_two text at two)
+      ∙ at_other depth (get_or text at 0) (get_or text (at + 1) 0) (drop (at + 2) text) other another
+      ∙ ap (after_comment depth) (sym (second ∙ ap (λ n. get_or text (at + 1) 0 ∷ drop n text) same))
 
 -- fewer than two bytes close nothing
 pub after_comment-short : (text : List ℕ) (depth : ℕ) → length text ≤ 1 → after_comment depth text ≡ None
@@ -56,8 +98,10 @@ no_close first second mark = sym (false_from_ne_true _ (λ h.
 
 no_mark : (first second : ℕ) → closes first second ≡ false → opens first second ≡ false → IsNoMark first second
 no_mark first second other another = (
-  λ e. let a : first ≡ 47 = cc in let b : second ≡ 42 = cc in let h = and_from (eqb first 47) (eqb second 42) (eq-eqb first 47 a) (eq-eqb second 42 b) in absurd cc,
-  λ e. let a : first ≡ 42 = cc in let b : second ≡ 47 = cc in let h = and_from (eqb first 42) (eqb second 47) (eq-eqb first 42 a) (eq-eqb second 47 b) in absurd cc,
+  λ e. let a : first ≡ 47 = cc in let b : second ≡ 42 = cc in let h =
+      and_from (eqb first 47) (eqb second 42) (eq-eqb first 47 a) (eq-eqb second 42 b) in absurd cc,
+  λ e. let a : first ≡ 42 = cc in let b : second ≡ 47 = cc in let h =
+      and_from (eqb first 42) (eqb second 47) (eq-eqb first 42 a) (eq-eqb second 47 b) in absurd cc,
 )
 
 -- what the scan gives behind a comment that is closed at this depth
@@ -71,7 +115,8 @@ closed_at-more depth rest =
     ap (λ b. cond b (Some rest) (after_comment (depth + 1 - 1) rest)) deeper ∙ ap (λ n. after_comment n rest) back
 
 -- What closes a comment is passed over, whatever follows.
-pub after_comment-closing : {text : List ℕ} → ClosesComment text → (depth : ℕ) (rest : List ℕ) → after_comment depth (text ++ rest) ≡ cond (eqb depth 0) (Some rest) (after_comment (depth - 1) rest)
+pub after_comment-closing : {text : List ℕ} → ClosesComment text → (depth : ℕ) (rest : List ℕ) →
+    after_comment depth (text ++ rest) ≡ cond (eqb depth 0) (Some rest) (after_comment (depth - 1) rest)
 after_comment-closing (close e) depth rest = ap (λ t. after_comment depth (t ++ rest)) e
 after_comment-closing (skip first second tail mark closing e) depth rest =
     ap (λ t. after_comment depth (t ++ rest)) e
@@ -102,7 +147,9 @@ closing_not_empty (skip first second tail mark closing e) h = absurd cc
 closing_not_empty (nest inner tail closing outer e) h = absurd cc
 
 -- at a `*/`
-passed-close : (first second depth : ℕ) (rest after : List ℕ) → closes first second ≡ true → cond (eqb depth 0) (Some rest) (after_comment (depth - 1) rest) ≡ Some after → ((d : ℕ) → after_comment d rest ≡ Some after → Passed rest d after) → Passed (first ∷ second ∷ rest) depth after
+passed-close : (first second depth : ℕ) (rest after : List ℕ) → closes first second ≡ true →
+    cond (eqb depth 0) (Some rest) (after_comment (depth - 1) rest) ≡ Some after →
+    ((d : ℕ) → after_comment d rest ≡ Some after → Passed rest d after) → Passed (first ∷ second ∷ rest) depth after
 passed-close first second zero rest after h found next =
     let parts = and_parts (eqb first 42) (eqb second 47) h in
     record {
@@ -114,15 +161,23 @@ passed-close first second (suc depth) rest after h found next =
     let parts = and_parts (eqb first 42) (eqb second 47) h in
     let back : depth ≡ suc depth - 1 = omega arith in
     let deeper : eqb (suc depth) 0 ≡ false = ne_eqb (suc depth) 0 (λ e. omega arith) in
-    let inner = next depth (ap (λ n. after_comment n rest) back ∙ sym (cond-false (eqb (suc depth) 0) (Some rest) (after_comment (suc depth - 1) rest) deeper) ∙ found) in
+    let inner = next depth (ap (λ n. after_comment n rest) back
+    ∙ sym (cond-false (eqb (suc depth) 0) (Some rest) (after_comment (suc depth - 1) rest) deeper) ∙ found) in
     record {
       text = first ∷ second ∷ inner.text;
       split = ap (λ r. first ∷ second ∷ r) inner.split;
-      closings = (first ∷ second ∷ [], inner.text, refl, close (λ i. eqb-true first 42 parts.0 i ∷ eqb-true second 47 parts.1 i ∷ []), inner.closings);
+      closings = (
+        first ∷ second ∷ [],
+        inner.text,
+        refl,
+        close (λ i. eqb-true first 42 parts.0 i ∷ eqb-true second 47 parts.1 i ∷ []),
+        inner.closings,
+      );
     }
 
 -- at a `/*`
-passed-open : (first second depth : ℕ) (rest after : List ℕ) → opens first second ≡ true → Passed rest (depth + 1) after → Passed (first ∷ second ∷ rest) depth after
+passed-open : (first second depth : ℕ) (rest after : List ℕ) → opens first second ≡ true → Passed rest (depth + 1) after →
+    Passed (first ∷ second ∷ rest) depth after
 passed-open first second depth rest after h inner =
     let parts = and_parts (eqb first 47) (eqb second 42) h in
     let one = inner.closings in
@@ -141,7 +196,8 @@ passed-open first second depth rest after h inner =
     }
 
 -- at another byte
-passed-other_at : (first second depth : ℕ) (rest after text t r : List ℕ) → closes first second ≡ false → opens first second ≡ false → second ∷ rest ≡ text ++ after → text ≡ t ++ r → ClosesComment t → Closings depth r → Passed (first ∷ second ∷ rest) depth after
+passed-other_at : (first second depth : ℕ) (rest after text t r : List ℕ) → closes first second ≡ false → opens first second ≡ false →
+    second ∷ rest ≡ text ++ after → text ≡ t ++ r → ClosesComment t → Closings depth r → Passed (first ∷ second ∷ rest) depth after
 passed-other_at first second depth rest after text [] r h k split front closing others = absurd (closing_not_empty closing refl)
 passed-other_at first second depth rest after text (b ∷ t) r h k split front closing others =
     let whole : second ∷ rest ≡ ((b ∷ t) ++ r) ++ after = split ∙ ap (λ x. x ++ after) front in
@@ -158,7 +214,8 @@ passed-other_at first second depth rest after text (b ∷ t) r h k split front c
       );
     }
 
-passed-other : (first second depth : ℕ) (rest after : List ℕ) → closes first second ≡ false → opens first second ≡ false → Passed (second ∷ rest) depth after → Passed (first ∷ second ∷ rest) depth after
+passed-other : (first second depth : ℕ) (rest after : List ℕ) → closes first second ≡ false → opens first second ≡ false →
+    Passed (second ∷ rest) depth after → Passed (first ∷ second ∷ rest) depth after
 passed-other first second depth rest after h k inner =
     let one = inner.closings in
     passed-other_at first second depth rest after inner.text one.0 one.1 h k inner.split one.2 one.3 one.4
@@ -169,15 +226,19 @@ passed [] depth after e = absurd cc
 passed (byte ∷ []) depth after e = absurd cc
 passed (first ∷ second ∷ rest) depth after e =
     ⊎_elim
-    (λ h. passed-close first second depth rest after h (sym (at_close depth first second rest (sym h)) ∙ e) (λ d found. passed rest d after found))
+    (λ h. passed-close first second depth rest after h (sym (at_close depth first second rest (sym h))
+    ∙ e) (λ d found. passed rest d after found))
     (λ h. ⊎_elim
-    (λ k. passed-open first second depth rest after k (passed rest (depth + 1) after (sym (at_open depth first second rest (sym h) (sym k)) ∙ e)))
-    (λ k. passed-other first second depth rest after h k (passed (second ∷ rest) depth after (sym (at_other depth first second rest (sym h) (sym k)) ∙ e)))
+    (λ k. passed-open first second depth rest after k (passed rest (depth + 1) after (sym (at_open depth first second rest (sym h) (sym k))
+    ∙ e)))
+    (λ k. passed-other first second depth rest after h k
+    (passed (second ∷ rest) depth after (sym (at_other depth first second rest (sym h) (sym k)) ∙ e)))
     (cases_Bool (opens first second)))
     (cases_Bool (closes first second))
 
 -- the front that closes one comment
-pub closing_front : (bytes after : List ℕ) → after_comment 0 bytes ≡ Some after → (text : List ℕ) × (bytes ≡ text ++ after) × ClosesComment text
+pub closing_front : (bytes after : List ℕ) → after_comment 0 bytes ≡ Some after →
+    (text : List ℕ) × (bytes ≡ text ++ after) × ClosesComment text
 closing_front bytes after e =
     let all = passed bytes 0 after e in
     let one = all.closings in

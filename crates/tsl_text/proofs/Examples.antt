@@ -1,7 +1,21 @@
 -- The definitions on texts that were worked by hand: what they accept, and what they refuse.
 use Rattle.std.proofs.Common.{◌≡◌, ℕ, List, [], ◌∷◌, ◌++◌, length, Some, refl, sym, ◌∙◌, ap, inl, inr, arith, lit<}
 use Rattle.std.specs.Prelude.{codes}
-use Rattle.tsl_text.specs.Division.{Part, comment, lexeme, Stands, Divides, tokens_from, lexemes_of, ClosesComment, close, skip, nest, HasBadByte, HasOpenComment}
+use Rattle.tsl_text.specs.Division.{
+  Part,
+  comment,
+  lexeme,
+  Stands,
+  Divides,
+  tokens_from,
+  lexemes_of,
+  ClosesComment,
+  close,
+  skip,
+  nest,
+  HasBadByte,
+  HasOpenComment,
+}
 use Rattle.tsl_text.specs.internal.Front.{piece_of, after_comment}
 use Rattle.tsl_text.specs.Lexeme.{IsTokenText, name, symbol}
 use Rattle.tsl_text.specs.Places.{IsBetweenFeeds, IsLineEnd, IsColumn}
@@ -59,7 +73,10 @@ closes_nested : ClosesComment (codes "/**/*/")
 closes_nested = nest (codes "*/") (codes "*/") (close refl) (close refl) refl
 
 closes_behind_star : ClosesComment (codes "**/")
-closes_behind_star = skip 42 42 (codes "/") ((λ e. let a : ◌≡◌ {A = ℕ} 42 47 = cc in omega arith), (λ e. let a : ◌≡◌ {A = ℕ} 42 47 = cc in omega arith)) (close refl) refl
+closes_behind_star = skip 42 42 (codes "/") (
+  (λ e. let a : ◌≡◌ {A = ℕ} 42 47 = cc in omega arith),
+  (λ e. let a : ◌≡◌ {A = ℕ} 42 47 = cc in omega arith),
+) (close refl) refl
 
 -- `/*/` closes nothing, ` */ */` goes on behind what closes, `/* */` closes the inner one alone
 not_closed : (text : List ℕ) → (after_comment 0 (text ++ []) ≡ Some [] → ⊥) → ClosesComment text → ⊥
@@ -77,7 +94,8 @@ inner_alone = not_closed (codes "/* */") (λ e. cc)
 -- ---- divisions
 
 -- the token that computes as the longest stands there
-stands : (kind : TokenKind) (text after : List ℕ) → piece_of (text ++ after) ≡ Longest kind (length text) → IsTokenText kind text → Stands (lexeme kind text) after
+stands : (kind : TokenKind) (text after : List ℕ) → piece_of (text ++ after) ≡ Longest kind (length text) → IsTokenText kind text →
+    Stands (lexeme kind text) after
 stands kind text after e h =
     let token = found_longest (text ++ after) kind (length text) e in (
       h,
@@ -115,7 +133,12 @@ arrow_divides = (
   ),
 )
 
-arrow_tokens : tokens_from 0 arrow_parts ≡ record { kind = Name; start = 0; end = 1 } ∷ record { kind = BothArrow; start = 1; end = 4 } ∷ record { kind = Name; start = 4; end = 5 } ∷ []
+arrow_tokens : tokens_from 0 arrow_parts ≡ record { kind = Name; start = 0; end = 1 } ∷ record {
+  kind = BothArrow;
+  start = 1;
+  end =
+      4;
+} ∷ record { kind = Name; start = 4; end = 5 } ∷ []
 unfolding arrow_parts
 arrow_tokens = refl
 

@@ -1,5 +1,36 @@
 -- The words and the fields of a line, and the line that fields make.
-use Rattle.std.proofs.Common.{◌≡◌, ℕ, zero, suc, ◌+◌, ◌<◌, ◌≤◌, Bool, true, false, not, cond, eqb, List, [], ◌∷◌, ◌++◌, filter, length, take, drop, get_or, sym, ap, subst, ◌∙◌, refl, arith, append-nil, take-append-drop}
+use Rattle.std.proofs.Common.{
+  ◌≡◌,
+  ℕ,
+  zero,
+  suc,
+  ◌+◌,
+  ◌<◌,
+  ◌≤◌,
+  Bool,
+  true,
+  false,
+  not,
+  cond,
+  eqb,
+  List,
+  [],
+  ◌∷◌,
+  ◌++◌,
+  filter,
+  length,
+  take,
+  drop,
+  get_or,
+  sym,
+  ap,
+  subst,
+  ◌∙◌,
+  refl,
+  arith,
+  append-nil,
+  take-append-drop,
+}
 use Rattle.std.specs.List.{list_all, slice_split, onto_first, prefix_len, All}
 use Rattle.std.proofs.lemmas.Bool.{and_parts, not-true, not-false, eqb-true}
 use Rattle.std.proofs.lemmas.List.{drop_more, take_all}
@@ -20,7 +51,8 @@ none_pass test (b ∷ bs) h =
 -- ---- words
 
 words_blank : (byte : ℕ) (bytes : List ℕ) → is_blank byte ≡ true → words (byte ∷ bytes) ≡ words bytes
-words_blank byte bytes h = ap (λ b. filter has_bytes (cond b ([] ∷ slice_split is_blank bytes) (onto_first byte (slice_split is_blank bytes)))) h
+words_blank byte bytes h =
+    ap (λ b. filter has_bytes (cond b ([] ∷ slice_split is_blank bytes) (onto_first byte (slice_split is_blank bytes)))) h
 
 -- blanks in front
 pub words_blanks : (blanks rest : List ℕ) → list_all is_blank blanks ≡ true → words (blanks ++ rest) ≡ words rest
@@ -37,7 +69,8 @@ IsWordEnd (byte ∷ bytes) = is_blank byte ≡ true
 abbrev pub is_word : List ℕ → Bool
 is_word bytes = list_all (λ byte. not (is_blank byte)) bytes
 
-pub words_word : (word rest : List ℕ) → has_bytes word ≡ true → is_word word ≡ true → IsWordEnd rest → words (word ++ rest) ≡ word ∷ words rest
+pub words_word : (word rest : List ℕ) → has_bytes word ≡ true → is_word word ≡ true → IsWordEnd rest →
+    words (word ++ rest) ≡ word ∷ words rest
 words_word [] rest some h end = absurd cc
 words_word (b ∷ bs) [] some h end =
     ap words (append-nil (b ∷ bs)) ∙ ap (filter has_bytes) (slice_split_none is_blank (b ∷ bs) (none_pass is_blank (b ∷ bs) h))
@@ -56,7 +89,8 @@ pub fields_end : (field : List ℕ) → is_field field ≡ true → fields field
 fields_end field h = slice_split_none is_space field (none_pass is_space field h)
 
 -- the line that fields make has these fields
-pub fields_made : (first : List ℕ) (more : List (List ℕ)) → list_all is_field (first ∷ more) ≡ true → fields (line_of_fields (first ∷ more)) ≡ first ∷ more
+pub fields_made : (first : List ℕ) (more : List (List ℕ)) → list_all is_field (first ∷ more) ≡ true →
+    fields (line_of_fields (first ∷ more)) ≡ first ∷ more
 fields_made first [] h = fields_end first (and_parts (is_field first) true h).0
 fields_made first (next ∷ more) h =
     let parts = and_parts (is_field first) (list_all is_field (next ∷ more)) h in
@@ -73,7 +107,8 @@ pub stop_after_prefix : (test : ℕ → Bool) (bytes : List ℕ) → IsStop test
 stop_after_prefix test [] = tt
 stop_after_prefix test (b ∷ bs) = by_test (test b) refl (stop_after_prefix test bs)
   where
-    by_test : (t : Bool) → test b ≡ t → IsStop test (drop (prefix_len test bs) bs) → IsStop test (drop (cond t (1 + prefix_len test bs) 0) (b ∷ bs))
+    by_test : (t : Bool) → test b ≡ t → IsStop test (drop (prefix_len test bs) bs) →
+        IsStop test (drop (cond t (1 + prefix_len test bs) 0) (b ∷ bs))
     by_test true e rest =
         let next : suc (prefix_len test bs) ≡ 1 + prefix_len test bs = omega arith in
         subst (λ n. IsStop test (drop n (b ∷ bs))) next rest
@@ -88,40 +123,49 @@ has_bytes_taken (suc n) (b ∷ bs) some within = refl
 skipped : (line rest : List ℕ) (start : ℕ) → start ≡ prefix_len is_blank line → rest ≡ drop start line → words line ≡ words rest
 skipped line rest start s r =
     ap words (sym (take-append-drop start line))
-    ∙ (words_blanks (take start line) (drop start line) (ap (λ k. list_all is_blank (take k line)) s ∙ list_all-prefix is_blank line) ∙ ap words (sym r))
+    ∙ (words_blanks (take start line) (drop start line) (ap (λ k. list_all is_blank (take k line)) s ∙ list_all-prefix is_blank line)
+    ∙ ap words (sym r))
 
 no_word_left : (rest : List ℕ) → IsStop is_blank rest → prefix_len (λ byte. not (is_blank byte)) rest ≡ 0 → rest ≡ []
 no_word_left [] stop h = refl
 no_word_left (b ∷ bs) stop h =
-    let one : cond (not (is_blank b)) (1 + prefix_len (λ byte. not (is_blank byte)) bs) 0 ≡ 1 + prefix_len (λ byte. not (is_blank byte)) bs = ap (λ t. cond (not t) (1 + prefix_len (λ byte. not (is_blank byte)) bs) 0) stop in
+    let one : cond (not (is_blank b)) (1 + prefix_len (λ byte. not (is_blank byte)) bs) 0
+    ≡ 1 + prefix_len (λ byte. not (is_blank byte)) bs =
+    ap (λ t. cond (not t) (1 + prefix_len (λ byte. not (is_blank byte)) bs) 0) stop in
     absurd (omega (arith, h, one))
 
 word_end : (rest : List ℕ) → IsStop (λ byte. not (is_blank byte)) rest → IsWordEnd rest
 word_end [] stop = tt
 word_end (b ∷ bs) stop = not-false (is_blank b) stop
 
-pub word_none : (line rest : List ℕ) (start n : ℕ) → start ≡ prefix_len is_blank line → rest ≡ drop start line → n ≡ prefix_len (λ byte. not (is_blank byte)) rest → n ≡ 0 → words line ≡ []
+pub word_none : (line rest : List ℕ) (start n : ℕ) → start ≡ prefix_len is_blank line → rest ≡ drop start line →
+    n ≡ prefix_len (λ byte. not (is_blank byte)) rest → n ≡ 0 → words line ≡ []
 word_none line rest start n s r e zero_len =
     let stop : IsStop is_blank rest = subst (IsStop is_blank) (ap (λ k. drop k line) (sym s) ∙ sym r) (stop_after_prefix is_blank line) in
     skipped line rest start s r ∙ ap words (no_word_left rest stop (sym e ∙ zero_len))
 
-pub word_some : (line rest tail : List ℕ) (start n : ℕ) → start ≡ prefix_len is_blank line → rest ≡ drop start line → n ≡ prefix_len (λ byte. not (is_blank byte)) rest → (n ≡ 0 → ⊥) → tail ≡ drop n rest → words line ≡ take n rest ∷ words tail
+pub word_some : (line rest tail : List ℕ) (start n : ℕ) → start ≡ prefix_len is_blank line → rest ≡ drop start line →
+    n ≡ prefix_len (λ byte. not (is_blank byte)) rest → (n ≡ 0 → ⊥) → tail ≡ drop n rest → words line ≡ take n rest ∷ words tail
 word_some line rest tail start n s r e some t =
     let test : ℕ → Bool = λ byte. not (is_blank byte) in
     let within : n ≤ length rest = omega (arith, e, prefix_len-le-length test rest) in
-    let end : IsWordEnd (drop n rest) = word_end (drop n rest) (subst (λ k. IsStop test (drop k rest)) (sym e) (stop_after_prefix test rest)) in
+    let end : IsWordEnd (drop n rest) =
+    word_end (drop n rest) (subst (λ k. IsStop test (drop k rest)) (sym e) (stop_after_prefix test rest)) in
     let word : is_word (take n rest) ≡ true = ap (λ k. is_word (take k rest)) e ∙ list_all-prefix test rest in
     skipped line rest start s r
     ∙ (ap words (sym (take-append-drop n rest))
     ∙ (words_word (take n rest) (drop n rest) (has_bytes_taken n rest (omega (arith, some)) within) word end
     ∙ ap (λ xs. take n rest ∷ words xs) (sym t)))
 
-pub field_more : (line rest : List ℕ) (n : ℕ) → n ≡ prefix_len (λ byte. not (is_space byte)) line → n < length line → rest ≡ drop (n + 1) line → fields line ≡ take n line ∷ fields rest
+pub field_more : (line rest : List ℕ) (n : ℕ) → n ≡ prefix_len (λ byte. not (is_space byte)) line → n < length line →
+    rest ≡ drop (n + 1) line → fields line ≡ take n line ∷ fields rest
 field_more line rest n e h r =
     let test : ℕ → Bool = λ byte. not (is_space byte) in
     let stop = prefix_len_stops test line 0 (omega (arith, e, h)) in
-    let space : get_or line n 0 ≡ 32 = ap (λ k. get_or line k 0) e ∙ eqb-true (get_or line (prefix_len test line) 0) 32 (not-false (eqb (get_or line (prefix_len test line) 0) 32) stop) in
-    let split : line ≡ take n line ++ 32 ∷ rest = sym (take-append-drop n line) ∙ (ap (λ xs. take n line ++ xs) (drop_more line n 0 h) ∙ (λ i. take n line ++ space i ∷ sym r i)) in
+    let space : get_or line n 0 ≡ 32 = ap (λ k. get_or line k 0) e
+    ∙ eqb-true (get_or line (prefix_len test line) 0) 32 (not-false (eqb (get_or line (prefix_len test line) 0) 32) stop) in
+    let split : line ≡ take n line ++ 32 ∷ rest = sym (take-append-drop n line)
+    ∙ (ap (λ xs. take n line ++ xs) (drop_more line n 0 h) ∙ (λ i. take n line ++ space i ∷ sym r i)) in
     ap fields split ∙ fields_space (take n line) rest (ap (λ k. is_field (take k line)) e ∙ list_all-prefix test line)
 
 pub field_last : (line : List ℕ) (n : ℕ) → n ≡ prefix_len (λ byte. not (is_space byte)) line → length line ≤ n → fields line ≡ line ∷ []

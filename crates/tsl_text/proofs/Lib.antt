@@ -9,3 +9,4 @@ pub mod FieldLaws
 pub mod DigitLaws
 pub mod Fronts
 pub mod NumberLaws
+pub mod LineExamples

@@ -1,5 +1,32 @@
 -- The lines of a text, its first line, and the text that lines make.
-use Rattle.std.proofs.Common.{◌≡◌, ℕ, suc, ◌+◌, ◌<◌, ◌≤◌, Bool, true, false, cond, eqb, List, [], ◌∷◌, ◌++◌, length, take, drop, get_or, sym, ap, ◌∙◌, refl, arith, take-append-drop, append_assoc}
+use Rattle.std.proofs.Common.{
+  ◌≡◌,
+  ℕ,
+  suc,
+  ◌+◌,
+  ◌<◌,
+  ◌≤◌,
+  Bool,
+  true,
+  false,
+  cond,
+  eqb,
+  List,
+  [],
+  ◌∷◌,
+  ◌++◌,
+  length,
+  take,
+  drop,
+  get_or,
+  sym,
+  ap,
+  ◌∙◌,
+  refl,
+  arith,
+  take-append-drop,
+  append_assoc,
+}
 use Rattle.std.specs.List.{onto_first, list_all, prefix_len}
 use Rattle.std.proofs.lemmas.Bool.{and_parts, not-false, not-true, eqb-true, cond-false}
 use Rattle.std.proofs.lemmas.List.{drop_more, take_all}
@@ -47,42 +74,51 @@ not_ended b (c ∷ cs) h = not_ended c cs (and_parts (is_line_byte b) (is_line (
 
 -- ---- with numbers
 
-numbers_more : (number : ℕ) (ended : Bool) (line : List ℕ) (ls : List (List ℕ)) → 0 < length ls → with_numbers number ended (line ∷ ls) ≡ record { number = number; bytes = line; ended = true } ∷ with_numbers (suc number) ended ls
+numbers_more : (number : ℕ) (ended : Bool) (line : List ℕ) (ls : List (List ℕ)) → 0 < length ls →
+    with_numbers number ended (line ∷ ls) ≡ record { number = number; bytes = line; ended = true } ∷ with_numbers (suc number) ended ls
 numbers_more number ended line [] some = absurd (omega arith)
 numbers_more number ended line (next ∷ rest) some = refl
 
-pub from_feed : (number : ℕ) (line rest : List ℕ) → is_line line ≡ true → lines_from number (line ++ 10 ∷ rest) ≡ record { number = number; bytes = line; ended = true } ∷ lines_from (suc number) rest
+pub from_feed : (number : ℕ) (line rest : List ℕ) → is_line line ≡ true →
+    lines_from number (line ++ 10 ∷ rest) ≡ record { number = number; bytes = line; ended = true } ∷ lines_from (suc number) rest
 from_feed number line [] h = (λ i. with_numbers number (ended_after line 10 [] i) (lines_feed line [] h i))
 from_feed number line (b ∷ bs) h =
     (λ i. with_numbers number (ended_after line 10 (b ∷ bs) i) (lines_feed line (b ∷ bs) h i))
     ∙ numbers_more number (is_ended (b ∷ bs)) line (lines (b ∷ bs)) (some_line b bs)
 
-pub from_cut : (number byte : ℕ) (bytes : List ℕ) → is_line (byte ∷ bytes) ≡ true → lines_from number (byte ∷ bytes) ≡ record { number = number; bytes = byte ∷ bytes; ended = false } ∷ []
+pub from_cut : (number byte : ℕ) (bytes : List ℕ) → is_line (byte ∷ bytes) ≡ true →
+    lines_from number (byte ∷ bytes) ≡ record { number = number; bytes = byte ∷ bytes; ended = false } ∷ []
 from_cut number b bs h = (λ i. with_numbers number (not_ended b bs h i) (lines_cut b bs h i))
 
 -- ---- what the code splits off
 
 -- the text up to its first line feed, and after it
-pub split_feed : (text line rest : List ℕ) (n : ℕ) → n ≡ prefix_len is_line_byte text → n < length text → line ≡ take n text → rest ≡ drop (n + 1) text →
+pub split_feed : (text line rest : List ℕ) (n : ℕ) → n ≡ prefix_len is_line_byte text → n < length text → line ≡ take n text →
+    rest ≡ drop (n + 1) text →
     (text ≡ line ++ 10 ∷ rest) × (is_line line ≡ true)
 split_feed text line rest n e h front back =
     let stop = prefix_len_stops is_line_byte text 0 (omega (arith, e, h)) in
-    let feed : get_or text n 0 ≡ 10 = ap (λ k. get_or text k 0) e ∙ eqb-true (get_or text (prefix_len is_line_byte text) 0) 10 (not-false (eqb (get_or text (prefix_len is_line_byte text) 0) 10) stop) in (
+    let feed : get_or text n 0 ≡ 10 = ap (λ k. get_or text k 0) e
+    ∙ eqb-true (get_or text (prefix_len is_line_byte text) 0) 10
+    (not-false (eqb (get_or text (prefix_len is_line_byte text) 0) 10) stop) in (
       sym (take-append-drop n text) ∙ (ap (λ xs. take n text ++ xs) (drop_more text n 0 h) ∙ (λ i. sym front i ++ feed i ∷ sym back i)),
       ap is_line (front ∙ ap (λ k. take k text) e) ∙ list_all-prefix is_line_byte text,
     )
 
-pub feed_lines : (text line rest : List ℕ) (n : ℕ) → n ≡ prefix_len is_line_byte text → n < length text → line ≡ take n text → rest ≡ drop (n + 1) text → lines text ≡ line ∷ lines rest
+pub feed_lines : (text line rest : List ℕ) (n : ℕ) → n ≡ prefix_len is_line_byte text → n < length text → line ≡ take n text →
+    rest ≡ drop (n + 1) text → lines text ≡ line ∷ lines rest
 feed_lines text line rest n e h front back =
     let split = split_feed text line rest n e h front back in
     ap lines split.0 ∙ lines_feed line rest split.1
 
-pub feed_numbered : (text line rest : List ℕ) (n number : ℕ) → n ≡ prefix_len is_line_byte text → n < length text → line ≡ take n text → rest ≡ drop (n + 1) text →
+pub feed_numbered : (text line rest : List ℕ) (n number : ℕ) → n ≡ prefix_len is_line_byte text → n < length text → line ≡ take n text →
+    rest ≡ drop (n + 1) text →
     lines_from number text ≡ record { number = number; bytes = line; ended = true } ∷ lines_from (number + 1) rest
 feed_numbered text line rest n number e h front back =
     let split = split_feed text line rest n e h front back in
     let next : suc number ≡ number + 1 = omega arith in
-    ap (lines_from number) split.0 ∙ (from_feed number line rest split.1 ∙ ap (λ k. record { number = number; bytes = line; ended = true } ∷ lines_from k rest) next)
+    ap (lines_from number) split.0
+    ∙ (from_feed number line rest split.1 ∙ ap (λ k. record { number = number; bytes = line; ended = true } ∷ lines_from k rest) next)
 
 -- a text without a line feed
 whole_line : (text : List ℕ) (n : ℕ) → n ≡ prefix_len is_line_byte text → length text ≤ n → is_line text ≡ true
@@ -93,15 +129,19 @@ nothing : (rest : List ℕ) → length rest ≡ 0 → rest ≡ []
 nothing [] h = refl
 nothing (b ∷ bs) h = absurd (omega arith)
 
-pub cut_lines : (text rest : List ℕ) (n : ℕ) → n ≡ prefix_len is_line_byte text → eqb (length text) 0 ≡ false → length text ≤ n → length rest ≡ 0 → lines text ≡ text ∷ lines rest
+pub cut_lines : (text rest : List ℕ) (n : ℕ) → n ≡ prefix_len is_line_byte text → eqb (length text) 0 ≡ false → length text ≤ n →
+    length rest ≡ 0 → lines text ≡ text ∷ lines rest
 cut_lines [] rest n e some h none = absurd cc
-cut_lines (b ∷ bs) rest n e some h none = lines_cut b bs (whole_line (b ∷ bs) n e h) ∙ ap (λ r. (b ∷ bs) ∷ lines r) (sym (nothing rest none))
+cut_lines (b ∷ bs) rest n e some h none = lines_cut b bs (whole_line (b ∷ bs) n e h)
+    ∙ ap (λ r. (b ∷ bs) ∷ lines r) (sym (nothing rest none))
 
-pub cut_numbered : (text rest : List ℕ) (n number : ℕ) → n ≡ prefix_len is_line_byte text → eqb (length text) 0 ≡ false → length text ≤ n → length rest ≡ 0 →
+pub cut_numbered : (text rest : List ℕ) (n number : ℕ) → n ≡ prefix_len is_line_byte text → eqb (length text) 0 ≡ false → length text ≤ n →
+    length rest ≡ 0 →
     lines_from number text ≡ record { number = number; bytes = text; ended = false } ∷ lines_from (number + 1) rest
 cut_numbered [] rest n number e some h none = absurd cc
 cut_numbered (b ∷ bs) rest n number e some h none =
-    from_cut number b bs (whole_line (b ∷ bs) n e h) ∙ ap (λ r. record { number = number; bytes = b ∷ bs; ended = false } ∷ lines_from (number + 1) r) (sym (nothing rest none))
+    from_cut number b bs (whole_line (b ∷ bs) n e h)
+    ∙ ap (λ r. record { number = number; bytes = b ∷ bs; ended = false } ∷ lines_from (number + 1) r) (sym (nothing rest none))
 
 -- ---- the text that lines make
 
@@ -109,16 +149,19 @@ pub lines_made : (ls : List (List ℕ)) → list_all is_line ls ≡ true → lin
 lines_made [] h = refl
 lines_made (l ∷ ls) h =
     let parts = and_parts (is_line l) (list_all is_line ls) h in
-    ap lines (append_assoc l (10 ∷ []) (text_of_lines ls)) ∙ (lines_feed l (text_of_lines ls) parts.0 ∙ ap (λ rest. l ∷ rest) (lines_made ls parts.1))
+    ap lines (append_assoc l (10 ∷ []) (text_of_lines ls))
+    ∙ (lines_feed l (text_of_lines ls) parts.0 ∙ ap (λ rest. l ∷ rest) (lines_made ls parts.1))
 
 -- a text is that of at most one list of lines
-pub one_list_of_lines : (ls ms : List (List ℕ)) → list_all is_line ls ≡ true → list_all is_line ms ≡ true → text_of_lines ls ≡ text_of_lines ms → ls ≡ ms
+pub one_list_of_lines : (ls ms : List (List ℕ)) → list_all is_line ls ≡ true → list_all is_line ms ≡ true →
+    text_of_lines ls ≡ text_of_lines ms → ls ≡ ms
 one_list_of_lines ls ms h k e = sym (lines_made ls h) ∙ (ap lines e ∙ lines_made ms k)
 
 -- each of these lines has its line feed
 pub ended_made : (ls : List (List ℕ)) → is_ended (text_of_lines ls) ≡ true
 ended_made [] = refl
-ended_made (l ∷ ls) = ap is_ended (append_assoc l (10 ∷ []) (text_of_lines ls)) ∙ (ended_after l 10 (text_of_lines ls) ∙ by_rest (text_of_lines ls) (ended_made ls))
+ended_made (l ∷ ls) = ap is_ended (append_assoc l (10 ∷ []) (text_of_lines ls))
+    ∙ (ended_after l 10 (text_of_lines ls) ∙ by_rest (text_of_lines ls) (ended_made ls))
   where
     by_rest : (rest : List ℕ) → is_ended rest ≡ true → is_ended (10 ∷ rest) ≡ true
     by_rest [] h = refl

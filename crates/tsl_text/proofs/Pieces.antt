@@ -1,23 +1,96 @@
 -- What stands at the front of a text is what the definitions say.
-use Rattle.std.proofs.Common.{◌≡◌, ℕ, ◌+◌, ◌-◌, ◌<◌, ◌≤◌, Bool, true, false, cond, eqb, List, [], ◌∷◌, ◌++◌, length, take, drop, Option, Some, None, IsTrue, refl, sym, ◌∙◌, ap, subst, inl, inr, ⊎_elim, arith, lit<, length-append, length-take-le, take-append-drop}
+use Rattle.std.proofs.Common.{
+  ◌≡◌,
+  ℕ,
+  ◌+◌,
+  ◌-◌,
+  ◌<◌,
+  ◌≤◌,
+  Bool,
+  true,
+  false,
+  cond,
+  eqb,
+  List,
+  [],
+  ◌∷◌,
+  ◌++◌,
+  length,
+  take,
+  drop,
+  Option,
+  Some,
+  None,
+  IsTrue,
+  refl,
+  sym,
+  ◌∙◌,
+  ap,
+  subst,
+  inl,
+  inr,
+  ⊎_elim,
+  arith,
+  lit<,
+  length-append,
+  length-take-le,
+  take-append-drop,
+}
 use Rattle.std.specs.Char.{is_ascii_digit}
 use Rattle.std.specs.List.{list_all, prefix_len}
 use Rattle.std.proofs.lemmas.Bool.{and_parts, and_from, eqb-true, cond-true, cond-false}
 use Rattle.std.proofs.lemmas.List.Sums.{prefix_len-le-length}
 use Rattle.tsl_text.specs.Lines.{is_blank, is_line_byte}
-use Rattle.tsl_text.specs.Division.{Part, blank, comment, lexeme, bytes_of, Stands, IsLongest, IsLineComment, IsBlockComment, BeginsNothing, IsUnclosed}
+use Rattle.tsl_text.specs.Division.{
+  Part,
+  blank,
+  comment,
+  lexeme,
+  bytes_of,
+  Stands,
+  IsLongest,
+  IsLineComment,
+  IsBlockComment,
+  BeginsNothing,
+  IsUnclosed,
+}
 use Rattle.tsl_text.specs.internal.Front.{piece_of, symbol_of, comment_of, gap_before, after_comment, pair_of, left_of, begins_with}
 use Rattle.tsl_text.specs.Names.{is_name_start, is_name_byte, is_name_text}
 use Rattle.tsl_text.specs.Lexeme.{IsTokenText}
 use Rattle.tsl_text.specs.Numbers.{is_digits}
 use Rattle.tsl_text.specs.Places.{IsLineEnd}
 use Rattle.tsl_text.specs.declared.TokenKind.{TokenKind}
-use Rattle.tsl_text.specs.declared.TokenKind.TheVariants.{Name, Number, OpenBrace, CloseBrace, OpenRound, CloseRound, OpenSquare, CloseSquare, Semicolon, Not, And, Or, Arrow, BothArrow, LeftArrow, Question}
+use Rattle.tsl_text.specs.declared.TokenKind.TheVariants.{
+  Name,
+  Number,
+  OpenBrace,
+  CloseBrace,
+  OpenRound,
+  CloseRound,
+  OpenSquare,
+  CloseSquare,
+  Semicolon,
+  Not,
+  And,
+  Or,
+  Arrow,
+  BothArrow,
+  LeftArrow,
+  Question,
+}
 use Rattle.tsl_text.specs.declared.front.Piece.{Piece}
 use Rattle.tsl_text.specs.declared.front.Piece.TheVariants.{Gap, Longest, OpenComment, Nothing}
 use Rattle.sequence.proofs.Passes.{prefix_len-front, list_all-prefix}
 use Rattle.sequence.proofs.Lists.{same_fronts}
-use Rattle.tsl_text.proofs.Bytes.{name_start-no_blank, name_start-no_slash, digit-no_blank, digit-no_slash, digit-no_name_start, prefix_len-line, line_end-prefix}
+use Rattle.tsl_text.proofs.Bytes.{
+  name_start-no_blank,
+  name_start-no_slash,
+  digit-no_blank,
+  digit-no_slash,
+  digit-no_name_start,
+  prefix_len-line,
+  line_end-prefix,
+}
 use Rattle.tsl_text.proofs.Comments.{after_comment-closing, closing_front}
 
 -- ---- what stands there is found
@@ -31,7 +104,8 @@ pub record Finds (kind : TokenKind) (text more : List ℕ) : Type 0 where
   pub same : len ≡ length text → found ≡ kind
 
 -- a symbol that no other begins with
-finds_symbol : (kind : TokenKind) (text symbol more : List ℕ) → text ≡ symbol → piece_of (symbol ++ more) ≡ Longest kind (length symbol) → Finds kind text more
+finds_symbol : (kind : TokenKind) (text symbol more : List ℕ) → text ≡ symbol → piece_of (symbol ++ more) ≡ Longest kind (length symbol) →
+    Finds kind text more
 finds_symbol kind text symbol more e found = record {
   found = kind;
   len = length symbol;
@@ -63,7 +137,8 @@ at_blank byte rest h = rw h refl
 at_name : (byte : ℕ) (rest : List ℕ) → is_name_start byte ≡ true → piece_of (byte ∷ rest) ≡ Longest Name (1 + prefix_len is_name_byte rest)
 at_name byte rest h = rw (name_start-no_blank byte h, name_start-no_slash byte h, h) refl
 
-at_number : (byte : ℕ) (rest : List ℕ) → is_ascii_digit byte ≡ true → piece_of (byte ∷ rest) ≡ Longest Number (1 + prefix_len is_ascii_digit rest)
+at_number : (byte : ℕ) (rest : List ℕ) → is_ascii_digit byte ≡ true →
+    piece_of (byte ∷ rest) ≡ Longest Number (1 + prefix_len is_ascii_digit rest)
 at_number byte rest h = rw (digit-no_blank byte h, digit-no_slash byte h, digit-no_name_start byte h, h) refl
 
 finds_name : (text more : List ℕ) → IsTrue (is_name_text text) → Finds Name text more
@@ -145,7 +220,8 @@ pick bytes true x y passed failed = passed refl
 pick bytes false x y passed failed = failed refl
 
 -- a symbol of one byte
-one_byte : (kind : TokenKind) (byte first : ℕ) (rest : List ℕ) → IsTokenText kind (byte ∷ []) → eqb first byte ≡ true → HasToken (first ∷ rest) kind 1
+one_byte : (kind : TokenKind) (byte first : ℕ) (rest : List ℕ) → IsTokenText kind (byte ∷ []) → eqb first byte ≡ true →
+    HasToken (first ∷ rest) kind 1
 one_byte kind byte first rest h e = record {
   text = byte ∷ [];
   after = rest;
@@ -155,7 +231,8 @@ one_byte kind byte first rest h e = record {
 }
 
 -- a symbol of two bytes
-pair_sound : (kind : TokenKind) (one two first : ℕ) (rest : List ℕ) → IsTokenText kind (one ∷ two ∷ []) → eqb first one ≡ true → Sound (first ∷ rest) (pair_of two kind rest)
+pair_sound : (kind : TokenKind) (one two first : ℕ) (rest : List ℕ) → IsTokenText kind (one ∷ two ∷ []) → eqb first one ≡ true →
+    Sound (first ∷ rest) (pair_of two kind rest)
 pair_sound kind one two first [] h e = tt
 pair_sound kind one two first (second ∷ rest) h e =
     pick (first ∷ second ∷ rest) (eqb second two) (Longest kind 2) Nothing
@@ -168,7 +245,8 @@ pair_sound kind one two first (second ∷ rest) h e =
     })
     (λ _. tt)
 
-both_sound : (first second : ℕ) (rest : List ℕ) → first ≡ 60 → second ≡ 45 → (b : Bool) → begins_with 62 rest ≡ b → Sound (first ∷ second ∷ rest) (cond b (Longest BothArrow 3) (Longest LeftArrow 2))
+both_sound : (first second : ℕ) (rest : List ℕ) → first ≡ 60 → second ≡ 45 → (b : Bool) → begins_with 62 rest ≡ b →
+    Sound (first ∷ second ∷ rest) (cond b (Longest BothArrow 3) (Longest LeftArrow 2))
 both_sound first second [] one two true h = absurd cc
 both_sound first second (third ∷ rest) one two true h = record {
   text = 60 ∷ 45 ∷ 62 ∷ [];
@@ -210,7 +288,8 @@ symbol_sound first rest =
     pick bytes (eqb first 60) _ _ (left_sound first rest) (λ _. tt)))))))))))))
 
 -- the longest front that passes a test, behind a first byte
-run_sound : (kind : TokenKind) (test : ℕ → Bool) (first : ℕ) (rest : List ℕ) → IsTokenText kind (first ∷ take (prefix_len test rest) rest) → HasToken (first ∷ rest) kind (1 + prefix_len test rest)
+run_sound : (kind : TokenKind) (test : ℕ → Bool) (first : ℕ) (rest : List ℕ) → IsTokenText kind (first ∷ take (prefix_len test rest) rest) →
+    HasToken (first ∷ rest) kind (1 + prefix_len test rest)
 run_sound kind test first rest h =
     let n = prefix_len test rest in
     let within = length-take-le n rest (prefix_len-le-length test rest) in
@@ -222,7 +301,8 @@ run_sound kind test first rest h =
       spelled = h;
     }
 
-line_sound : (first second : ℕ) (rest : List ℕ) → first ≡ 47 → second ≡ 47 → HasGap (first ∷ second ∷ rest) (2 + prefix_len is_line_byte rest)
+line_sound : (first second : ℕ) (rest : List ℕ) → first ≡ 47 → second ≡ 47 →
+    HasGap (first ∷ second ∷ rest) (2 + prefix_len is_line_byte rest)
 line_sound first second rest one two =
     let n = prefix_len is_line_byte rest in
     let within = length-take-le n rest (prefix_len-le-length is_line_byte rest) in
@@ -235,7 +315,8 @@ line_sound first second rest one two =
       stands = inl ((take n rest, refl, list_all-prefix is_line_byte rest), line_end-prefix rest);
     }
 
-block_sound : (first second : ℕ) (rest : List ℕ) → first ≡ 47 → second ≡ 42 → (o : Option (List ℕ)) → after_comment 0 rest ≡ o → Sound (first ∷ second ∷ rest) (gap_before rest o)
+block_sound : (first second : ℕ) (rest : List ℕ) → first ≡ 47 → second ≡ 42 → (o : Option (List ℕ)) → after_comment 0 rest ≡ o →
+    Sound (first ∷ second ∷ rest) (gap_before rest o)
 block_sound first second rest one two None e = record {
   body = rest;
   opens = λ i. one i ∷ two i ∷ rest;
@@ -269,10 +350,13 @@ sound : (bytes : List ℕ) → Sound bytes (piece_of bytes)
 sound [] = tt
 sound (first ∷ rest) =
     let bytes = first ∷ rest in
-    pick bytes (is_blank first) _ _ (λ h. record { part = blank first; after = rest; gap = tt; split = refl; count = refl; stands = h }) (λ _.
+    pick bytes (is_blank first) _ _ (λ h. record { part = blank first; after = rest; gap = tt; split = refl; count = refl; stands = h })
+    (λ _.
     pick bytes (eqb first 47) _ _ (comment_sound first rest) (λ _.
-    pick bytes (is_name_start first) _ _ (λ h. run_sound Name is_name_byte first rest (and_from (is_name_start first) _ h (list_all-prefix is_name_byte rest))) (λ _.
-    pick bytes (is_ascii_digit first) _ _ (λ h. run_sound Number is_ascii_digit first rest (and_from (is_ascii_digit first) _ h (list_all-prefix is_ascii_digit rest))) (λ _.
+    pick bytes (is_name_start first) _ _
+    (λ h. run_sound Name is_name_byte first rest (and_from (is_name_start first) _ h (list_all-prefix is_name_byte rest))) (λ _.
+    pick bytes (is_ascii_digit first) _ _
+    (λ h. run_sound Number is_ascii_digit first rest (and_from (is_ascii_digit first) _ h (list_all-prefix is_ascii_digit rest))) (λ _.
     symbol_sound first rest))))
 
 -- what was found, as an equation says it
@@ -340,16 +424,19 @@ piece_for (lexeme kind text) = Longest kind (length text)
 line_found : (text after : List ℕ) → IsLineComment text → IsLineEnd after → piece_of (text ++ after) ≡ Gap (length text)
 line_found text after line end =
     let body = line.0 in
-    let len : 2 + prefix_len is_line_byte (body ++ after) ≡ length text = omega (arith, prefix_len-line body after line.2 end, ap length line.1) in
+    let len : 2 + prefix_len is_line_byte (body ++ after) ≡ length text =
+    omega (arith, prefix_len-line body after line.2 end, ap length line.1) in
     ap (λ t. piece_of (t ++ after)) line.1 ∙ ap Gap len
 
 block_found : (text after : List ℕ) → IsBlockComment text → piece_of (text ++ after) ≡ Gap (length text)
 block_found text after block =
     let closing = block.0 in
-    let len : 2 + (length (closing ++ after) - length after) ≡ length text = omega (arith, length-append closing after, ap length block.1) in
+    let len : 2 + (length (closing ++ after) - length after) ≡ length text =
+    omega (arith, length-append closing after, ap length block.1) in
     ap (λ t. piece_of (t ++ after)) block.1 ∙ ap (gap_before (closing ++ after)) (after_comment-closing block.2 0 after) ∙ ap Gap len
 
-lexeme_found : (kind : TokenKind) (text after : List ℕ) → IsTokenText kind text → IsLongest text after → piece_of (text ++ after) ≡ Longest kind (length text)
+lexeme_found : (kind : TokenKind) (text after : List ℕ) → IsTokenText kind text → IsLongest text after →
+    piece_of (text ++ after) ≡ Longest kind (length text)
 lexeme_found kind text after h longest =
     let at = finds kind text after h in
     let token = found_token (text ++ after) at.found at.len at.piece in
@@ -393,12 +480,15 @@ part_not_empty (blank byte) after h = lit< tt
 part_not_empty (comment text) after h = omega (arith, comment_two text after h)
 part_not_empty (lexeme kind text) after h = token_not_empty kind text h.0
 
-pieces_same : (p q : Part) (a b : List ℕ) → Stands p a → Stands q b → piece_for p ≡ piece_for q → bytes_of p ++ a ≡ bytes_of q ++ b → (p ≡ q) × (a ≡ b)
-pieces_same (blank x) (blank y) a b h k e same = let parts = same_fronts (x ∷ []) (y ∷ []) a b refl same in let bytes : x ≡ y = cc in (ap blank bytes, parts.1)
+pieces_same : (p q : Part) (a b : List ℕ) → Stands p a → Stands q b → piece_for p ≡ piece_for q → bytes_of p ++ a ≡ bytes_of q ++ b →
+    (p ≡ q) × (a ≡ b)
+pieces_same (blank x) (blank y) a b h k e same = let parts = same_fronts (x ∷ []) (y ∷ []) a b refl same in let bytes : x ≡ y = cc in
+    (ap blank bytes, parts.1)
 pieces_same (blank x) (comment t) a b h k e same = let two = comment_two t b k in let len : 1 ≡ length t = cc in absurd (omega arith)
 pieces_same (blank x) (lexeme kind t) a b h k e same = absurd cc
 pieces_same (comment s) (blank y) a b h k e same = let two = comment_two s a h in let len : length s ≡ 1 = cc in absurd (omega arith)
-pieces_same (comment s) (comment t) a b h k e same = let len : length s ≡ length t = cc in let parts = same_fronts s t a b len same in (ap comment parts.0, parts.1)
+pieces_same (comment s) (comment t) a b h k e same = let len : length s ≡ length t = cc in let parts = same_fronts s t a b len same in
+    (ap comment parts.0, parts.1)
 pieces_same (comment s) (lexeme kind t) a b h k e same = absurd cc
 pieces_same (lexeme kind s) (blank y) a b h k e same = absurd cc
 pieces_same (lexeme kind s) (comment t) a b h k e same = absurd cc

@@ -1,5 +1,40 @@
 -- Lines and columns, a byte and a line further.
-use Rattle.std.proofs.Common.{◌≡◌, ℕ, ◌+◌, ◌-◌, ◌<◌, ◌≤◌, Bool, true, false, eqb, List, [], ◌∷◌, ◌++◌, length, get_or, take, drop, refl, sym, ◌∙◌, ap, subst, inl, inr, ⊎_elim, arith, length-append, length-drop, length-take-le, take-append-drop, append_assoc, get_or-drop, append-nil}
+use Rattle.std.proofs.Common.{
+  ◌≡◌,
+  ℕ,
+  ◌+◌,
+  ◌-◌,
+  ◌<◌,
+  ◌≤◌,
+  Bool,
+  true,
+  false,
+  eqb,
+  List,
+  [],
+  ◌∷◌,
+  ◌++◌,
+  length,
+  get_or,
+  take,
+  drop,
+  refl,
+  sym,
+  ◌∙◌,
+  ap,
+  subst,
+  inl,
+  inr,
+  ⊎_elim,
+  arith,
+  length-append,
+  length-drop,
+  length-take-le,
+  take-append-drop,
+  append_assoc,
+  get_or-drop,
+  append-nil,
+}
 use Rattle.std.specs.Bool.{Decides}
 use Rattle.std.specs.Cmp.Lexicographic.{pointwise}
 use Rattle.std.specs.List.{list_all, prefix_len, count_by}
@@ -26,10 +61,19 @@ column_none = record { lines = []; line = []; split = refl; begins = inl refl; w
 
 -- behind a line feed
 column_feed : (front : List ℕ) → IsColumn (front ++ 10 ∷ []) 1
-column_feed front = record { lines = front ++ 10 ∷ []; line = []; split = sym (append-nil (front ++ 10 ∷ [])); begins = inr (front, refl); whole = refl; count = refl }
+column_feed front = record {
+  lines = front ++ 10 ∷ [];
+  line = [];
+  split = sym (append-nil (front ++ 10 ∷ []));
+  begins =
+      inr (front, refl);
+  whole = refl;
+  count = refl;
+}
 
 -- behind another byte
-column_byte : (front : List ℕ) (byte column : ℕ) → is_line_byte byte ≡ true → IsColumn front column → IsColumn (front ++ byte ∷ []) (column + 1)
+column_byte : (front : List ℕ) (byte column : ℕ) → is_line_byte byte ≡ true → IsColumn front column →
+    IsColumn (front ++ byte ∷ []) (column + 1)
 column_byte front byte column k h = record {
   lines = h.lines;
   line = h.line ++ byte ∷ [];
@@ -40,21 +84,27 @@ column_byte front byte column k h = record {
 }
 
 -- the place behind one more byte of the text
-pub place_feed : (bytes : List ℕ) (at line column next_line next_column : ℕ) → at < length bytes → get_or bytes at 0 ≡ 10 → next_line ≡ line + 1 → next_column ≡ 1 →
+pub place_feed : (bytes : List ℕ) (at line column next_line next_column : ℕ) → at < length bytes → get_or bytes at 0 ≡ 10 →
+    next_line ≡ line + 1 → next_column ≡ 1 →
     line ≡ 1 + count_by (λ byte. eqb byte 10) (take at bytes) →
     (next_line ≡ 1 + count_by (λ byte. eqb byte 10) (take (at + 1) bytes)) × IsColumn (take (at + 1) bytes) next_column
 place_feed bytes at line column next_line next_column inside feed l c h = (
   omega (arith, count_by_more_yes (λ byte. eqb byte 10) bytes at 0 inside (ap (λ b. eqb b 10) feed)),
-  subst (λ n. IsColumn (take (at + 1) bytes) n) (sym c) (subst (λ t. IsColumn t 1) (sym (take_more bytes at 0 inside ∙ ap (λ b. take at bytes ++ b ∷ []) feed)) (column_feed (take at bytes))),
+  subst (λ n. IsColumn (take (at + 1) bytes) n) (sym c)
+      (subst (λ t. IsColumn t 1) (sym (take_more bytes at 0 inside ∙ ap (λ b. take at bytes ++ b ∷ []) feed))
+      (column_feed (take at bytes))),
 )
 
-pub place_byte : (bytes : List ℕ) (at line column next_line next_column : ℕ) → at < length bytes → (get_or bytes at 0 ≡ 10 → ⊥) → next_line ≡ line → next_column ≡ column + 1 →
+pub place_byte : (bytes : List ℕ) (at line column next_line next_column : ℕ) → at < length bytes → (get_or bytes at 0 ≡ 10 → ⊥) →
+    next_line ≡ line → next_column ≡ column + 1 →
     line ≡ 1 + count_by (λ byte. eqb byte 10) (take at bytes) → IsColumn (take at bytes) column →
     (next_line ≡ 1 + count_by (λ byte. eqb byte 10) (take (at + 1) bytes)) × IsColumn (take (at + 1) bytes) next_column
 place_byte bytes at line column next_line next_column inside other l c h k =
     let test = ne_eqb (get_or bytes at 0) 10 other in (
       omega (arith, count_by_more_no (λ byte. eqb byte 10) bytes at 0 inside test),
-      subst (λ n. IsColumn (take (at + 1) bytes) n) (sym c) (subst (λ t. IsColumn t (column + 1)) (sym (take_more bytes at 0 inside)) (column_byte (take at bytes) (get_or bytes at 0) column (not_from_false (eqb (get_or bytes at 0) 10) test) k)),
+      subst (λ n. IsColumn (take (at + 1) bytes) n) (sym c)
+          (subst (λ t. IsColumn t (column + 1)) (sym (take_more bytes at 0 inside))
+          (column_byte (take at bytes) (get_or bytes at 0) column (not_from_false (eqb (get_or bytes at 0) 10) test) k)),
     )
 
 -- ---- lines
@@ -72,7 +122,9 @@ module _ (text line : List ℕ) (start : ℕ) (inside : start ≤ length text) w
   line_here begins same = record {
     before = take start text;
     after = drop (len_at text start) (drop start text);
-    split = sym (take-append-drop start text) ∙ ap (λ rest. take start text ++ rest) (sym (take-append-drop (len_at text start) (drop start text)) ∙ ap (λ l. l ++ drop (len_at text start) (drop start text)) same);
+    split = sym (take-append-drop start text)
+        ∙ ap (λ rest. take start text ++ rest) (sym (take-append-drop (len_at text start) (drop start text))
+        ∙ ap (λ l. l ++ drop (len_at text start) (drop start text)) same);
     place = length-take-le start text inside;
     begins = begins;
     ends = line_end-prefix (drop start text);
@@ -86,8 +138,13 @@ module _ (text line : List ℕ) (start : ℕ) (inside : start ≤ length text) w
       let there : start + (n + 1) ≡ start + n + 1 = omega arith in
       let short : n < length (drop start text) = omega (arith, length-drop start text) in
       let stop = prefix_len_stops is_line_byte (drop start text) 0 short in
-      let feed : get_or text (start + n) 0 ≡ 10 = sym (get_or-drop start text n 0) ∙ eqb-true (get_or (drop start text) n 0) 10 (not-false (eqb (get_or (drop start text) n 0) 10) stop) in
-      inr (take (start + n) text, ap (λ k. take k text) there ∙ take_more text (start + n) 0 (omega arith) ∙ ap (λ b. take (start + n) text ++ b ∷ []) feed)
+      let feed : get_or text (start + n) 0 ≡ 10 = sym (get_or-drop start text n 0)
+      ∙ eqb-true (get_or (drop start text) n 0) 10 (not-false (eqb (get_or (drop start text) n 0) 10) stop) in
+      inr (
+        take (start + n) text,
+        ap (λ k. take k text) there ∙ take_more text (start + n) 0 (omega arith)
+            ∙ ap (λ b. take (start + n) text ++ b ∷ []) feed,
+      )
 
   -- a line that begins here is the one that the code compares
   same_line : IsBetweenFeeds text line start → take (len_at text start) (drop start text) ≡ line
@@ -104,12 +161,14 @@ behind_feed text line at h some =
     (λ none. absurd (omega (arith, h.place, ap length none)))
     (λ feed.
     let place : length feed.0 ≡ at - 1 = omega (arith, h.place, ap length feed.1 ∙ length-append feed.0 (10 ∷ [])) in
-    let whole : text ≡ feed.0 ++ 10 ∷ (line ++ h.after) = h.split ∙ ap (λ b. b ++ (line ++ h.after)) feed.1 ∙ append_assoc feed.0 (10 ∷ []) (line ++ h.after) in
+    let whole : text ≡ feed.0 ++ 10 ∷ (line ++ h.after) = h.split ∙ ap (λ b. b ++ (line ++ h.after)) feed.1
+    ∙ append_assoc feed.0 (10 ∷ []) (line ++ h.after) in
     (ap (λ t. get_or t (at - 1) 0) whole ∙ get_or_at feed.0 10 (line ++ h.after) 0 (at - 1) place, within))
     h.begins
 
 -- a line that is another than the one here begins behind it
-pub later_line : (text line : List ℕ) (start at : ℕ) → start ≤ length text → (take (len_at text start) (drop start text) ≡ line → ⊥) → IsBetweenFeeds text line at → start ≤ at → start + (len_at text start + 1) ≤ at
+pub later_line : (text line : List ℕ) (start at : ℕ) → start ≤ length text → (take (len_at text start) (drop start text) ≡ line → ⊥) →
+    IsBetweenFeeds text line at → start ≤ at → start + (len_at text start + 1) ≤ at
 later_line text line start at inside other h from =
     ⊎_elim
     (λ here. absurd (other (same_line text line start inside (subst (IsBetweenFeeds text line) here h))))
@@ -132,7 +191,9 @@ pub line_within : (text line : List ℕ) (at : ℕ) → IsBetweenFeeds text line
 line_within text line at h = omega (arith, h.place, ap length h.split ∙ length-append h.before (line ++ h.after))
 
 -- what the code measures and compares is the line that begins here
-pub compared : (text line : List ℕ) (start len : ℕ) (result : Bool) → len ≡ prefix_len is_line_byte (take (length text - start) (drop start text)) → result ≡ pointwise eqb (take len (take (length text - start) (drop start text))) line →
+pub compared : (text line : List ℕ) (start len : ℕ) (result : Bool) →
+    len ≡ prefix_len is_line_byte (take (length text - start) (drop start text)) →
+    result ≡ pointwise eqb (take len (take (length text - start) (drop start text))) line →
     (len ≡ len_at text start) × Decides result (take (len_at text start) (drop start text) ≡ line)
 compared text line start len result measured e =
     let same : len ≡ len_at text start = measured ∙ ap (prefix_len is_line_byte) (take_rest text start) in

@@ -21,9 +21,11 @@ pub data ClosesComment : List ℕ → Type 0 where
   -- the `*/`
   close : {text : List ℕ} → text ≡ codes "*/" → ClosesComment text
   -- a byte, and then what closes the comment
-  skip : {text : List ℕ} → (first second : ℕ) (rest : List ℕ) → IsNoMark first second → ClosesComment (second ∷ rest) → text ≡ first ∷ second ∷ rest → ClosesComment text
+  skip : {text : List ℕ} → (first second : ℕ) (rest : List ℕ) → IsNoMark first second → ClosesComment (second ∷ rest) →
+      text ≡ first ∷ second ∷ rest → ClosesComment text
   -- a comment within, and then what closes the outer one
-  nest : {text : List ℕ} → (inner rest : List ℕ) → ClosesComment inner → ClosesComment rest → text ≡ codes "/*" ++ (inner ++ rest) → ClosesComment text
+  nest : {text : List ℕ} → (inner rest : List ℕ) → ClosesComment inner → ClosesComment rest → text ≡ codes "/*" ++ (inner ++ rest) →
+      ClosesComment text
 
 -- a comment from `/*` to the `*/` that closes it
 abbrev pub IsBlockComment : List ℕ → Type 0
@@ -61,7 +63,8 @@ abbrev pub tokens_from : ℕ → List Part → List Token
 tokens_from at [] = []
 tokens_from at (blank byte ∷ parts) = tokens_from (at + 1) parts
 tokens_from at (comment text ∷ parts) = tokens_from (at + length text) parts
-tokens_from at (lexeme kind text ∷ parts) = record { kind = kind; start = at; end = at + length text } ∷ tokens_from (at + length text) parts
+tokens_from at (lexeme kind text ∷ parts) =
+    record { kind = kind; start = at; end = at + length text } ∷ tokens_from (at + length text) parts
 
 -- the tokens among the parts, without their places
 abbrev pub lexemes_of : List Part → List Lexeme

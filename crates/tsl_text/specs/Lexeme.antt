@@ -4,7 +4,24 @@ use Rattle.tsl_text.specs.Names.{is_name_text}
 use Rattle.tsl_text.specs.Numbers.{is_digits}
 use Rattle.tsl_text.specs.declared.Token.{Token}
 use Rattle.tsl_text.specs.declared.TokenKind.{TokenKind}
-use Rattle.tsl_text.specs.declared.TokenKind.TheVariants.{Name, Number, OpenBrace, CloseBrace, OpenRound, CloseRound, OpenSquare, CloseSquare, Semicolon, Not, And, Or, Arrow, BothArrow, LeftArrow, Question}
+use Rattle.tsl_text.specs.declared.TokenKind.TheVariants.{
+  Name,
+  Number,
+  OpenBrace,
+  CloseBrace,
+  OpenRound,
+  CloseRound,
+  OpenSquare,
+  CloseSquare,
+  Semicolon,
+  Not,
+  And,
+  Or,
+  Arrow,
+  BothArrow,
+  LeftArrow,
+  Question,
+}
 
 -- A token without its place, for grammars: a name or a number with its bytes, or a symbol.
 pub data Lexeme : Type 0 where

@@ -1,5 +1,31 @@
 -- Numbers in decimal digits.
-use Rattle.std.specs.Prelude.{ℕ, zero, suc, ◌+◌, ◌-◌, ◌*◌, ◌==◌, nat_le, Bool, false, cond, ◌&&◌, ℤ, pos, negsuc, List, [], ◌∷◌, length, fold, Option, Some, None, option_map, option_and_then}
+use Rattle.std.specs.Prelude.{
+  ℕ,
+  zero,
+  suc,
+  ◌+◌,
+  ◌-◌,
+  ◌*◌,
+  ◌==◌,
+  nat_le,
+  Bool,
+  false,
+  cond,
+  ◌&&◌,
+  ℤ,
+  pos,
+  negsuc,
+  List,
+  [],
+  ◌∷◌,
+  length,
+  fold,
+  Option,
+  Some,
+  None,
+  option_map,
+  option_and_then,
+}
 use Rattle.std.specs.List.{list_all}
 use Rattle.std.specs.Char.{is_ascii_digit}
 use Rattle.tsl_text.specs.Lines.{has_bytes}

@@ -156,3 +156,59 @@ fn numbers_and_bytes_are_appended(rt: HostRuntime) -> Result<(), Fail> {
     );
     Ok(())
 }
+
+#[test]
+fn lines_words_and_fields_are_gone_along(rt: HostRuntime) {
+    let Some((line, after)) = first_line(lines_of(b"a b\n\nc")) else {
+        assert!(rt; false);
+        return;
+    };
+    assert_eq!(rt; line.bytes, b"a b".as_slice());
+    assert!(rt; line.number == 1 && line.ended);
+    let Some((line, after)) = first_line(after) else {
+        assert!(rt; false);
+        return;
+    };
+    assert!(rt; line.number == 2 && line.ended && line.bytes.is_empty());
+    let Some((line, after)) = first_line(after) else {
+        assert!(rt; false);
+        return;
+    };
+    assert_eq!(rt; line.bytes, b"c".as_slice());
+    assert!(rt; line.number == 3 && !line.ended);
+    assert!(rt; first_line(after).is_none());
+    assert_eq!(rt; line_count(b"a b\n\nc\n"), 3);
+    assert_eq!(rt;
+        first_word(b" \t-1\r 2"),
+        Some((b"-1".as_slice(), b"\r 2".as_slice()))
+    );
+    assert_eq!(rt; first_word(b" \r"), None);
+    assert_eq!(rt;
+        first_field(b"a  b"),
+        (b"a".as_slice(), Some(b" b".as_slice()))
+    );
+    assert_eq!(rt; first_field(b"a"), (b"a".as_slice(), None));
+}
+
+#[test]
+fn words_mean_numbers(rt: HostRuntime) {
+    for (word, number, plain, signed) in [
+        (b"".as_slice(), None, None, None),
+        (b"0", Some(0), Some(0), Some(0)),
+        (b"-0", None, None, None),
+        (b"-12", None, None, Some(-12)),
+        (b"007", Some(7), None, Some(7)),
+        (b"1_0", None, None, None),
+        (
+            b"999999999999999999",
+            Some(999_999_999_999_999_999),
+            Some(999_999_999_999_999_999),
+            Some(999_999_999_999_999_999),
+        ),
+        (b"0000000000000000001", None, None, None),
+    ] {
+        assert_eq!(rt; number_in(word), number, "{word:?}");
+        assert_eq!(rt; plain_number_in(word), plain, "{word:?}");
+        assert_eq!(rt; signed_number_in(word), signed, "{word:?}");
+    }
+}

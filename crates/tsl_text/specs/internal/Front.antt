@@ -3,7 +3,24 @@ use Rattle.std.specs.Prelude.{ℕ, ◌+◌, ◌-◌, ◌==◌, ◌&&◌, Bool, f
 use Rattle.std.specs.Char.{is_ascii_digit}
 use Rattle.std.specs.List.{prefix_len}
 use Rattle.tsl_text.specs.declared.TokenKind.{TokenKind}
-use Rattle.tsl_text.specs.declared.TokenKind.TheVariants.{Name, Number, OpenBrace, CloseBrace, OpenRound, CloseRound, OpenSquare, CloseSquare, Semicolon, Not, And, Or, Arrow, BothArrow, LeftArrow, Question}
+use Rattle.tsl_text.specs.declared.TokenKind.TheVariants.{
+  Name,
+  Number,
+  OpenBrace,
+  CloseBrace,
+  OpenRound,
+  CloseRound,
+  OpenSquare,
+  CloseSquare,
+  Semicolon,
+  Not,
+  And,
+  Or,
+  Arrow,
+  BothArrow,
+  LeftArrow,
+  Question,
+}
 use Rattle.tsl_text.specs.declared.front.Piece.{Piece}
 use Rattle.tsl_text.specs.declared.front.Piece.TheVariants.{Gap, Longest, OpenComment, Nothing}
 use Rattle.tsl_text.specs.Names.{is_name_start, is_name_byte}

@@ -9,24 +9,29 @@ loop-at-preserved-then-closes c =
     let step = step_close c.args.text.now c.loop-at.depth c.loop-at.at (omega arith) c.if-closes.ensures in
     let inner : eqb c.loop-at.depth 0 ≡ false = ne_eqb c.loop-at.depth 0 c.if-depth-eq0.false in
     record {
-      same = sym (step ∙ ap (λ b. cond b (Some (drop (c.loop-at.at + 2) c.args.text.now)) (after_comment (c.loop-at.depth - 1) (drop (c.loop-at.at + 2) c.args.text.now))) inner) ∙ c.loop-at.invariant.same;
+      same = sym (step ∙ ap
+          (λ b. cond b (Some (drop (c.loop-at.at + 2) c.args.text.now))
+          (after_comment (c.loop-at.depth - 1) (drop (c.loop-at.at + 2) c.args.text.now))) inner) ∙ c.loop-at.invariant.same;
       inside = omega arith;
       deep = omega arith;
     }
 
 pub loop-at-preserved-then-opens : goal.loop-at-preserved-then-opens
 loop-at-preserved-then-opens c = record {
-  same = sym (step_open c.args.text.now c.loop-at.depth c.loop-at.at (omega arith) c.if-closes.ensures c.if-opens.ensures) ∙ c.loop-at.invariant.same;
+  same = sym (step_open c.args.text.now c.loop-at.depth c.loop-at.at (omega arith) c.if-closes.ensures c.if-opens.ensures)
+      ∙ c.loop-at.invariant.same;
   inside = omega arith;
   deep = omega arith;
 }
 
 pub loop-at-preserved : goal.loop-at-preserved
 loop-at-preserved c = record {
-  same = sym (step_other c.args.text.now c.loop-at.depth c.loop-at.at (omega arith) c.if-closes.ensures c.if-opens.ensures) ∙ c.loop-at.invariant.same;
+  same = sym (step_other c.args.text.now c.loop-at.depth c.loop-at.at (omega arith) c.if-closes.ensures c.if-opens.ensures)
+      ∙ c.loop-at.invariant.same;
   inside = omega arith;
   deep = omega arith;
 }
 
 pub returns-clause-none : goal.returns-clause-none
-returns-clause-none c = sym c.loop-at.invariant.same ∙ after_comment-short (drop c.loop-at.at c.args.text.now) c.loop-at.depth (omega (arith, length-drop c.loop-at.at c.args.text.now))
+returns-clause-none c = sym c.loop-at.invariant.same
+    ∙ after_comment-short (drop c.loop-at.at c.args.text.now) c.loop-at.depth (omega (arith, length-drop c.loop-at.at c.args.text.now))

@@ -9,9 +9,11 @@ loop-byte-preserved c =
     let kept = c.loop-byte.invariant in
     elim c.if-byte-eq10.branch [
       | then-byte-eq10 w ↦
-          let next = place_feed bytes c.loop-byte.byte-index c.loop-byte.line c.loop-byte.column c.if-byte-eq10.line c.if-byte-eq10.column c.loop-byte-test.true w.if-byte-eq10.true w.line-is w.column-is kept.line in
+          let next = place_feed bytes c.loop-byte.byte-index c.loop-byte.line c.loop-byte.column c.if-byte-eq10.line c.if-byte-eq10.column
+          c.loop-byte-test.true w.if-byte-eq10.true w.line-is w.column-is kept.line in
           record { line = next.0; column = next.1; within = omega arith }
       | else-byte-eq10 w ↦
-          let next = place_byte bytes c.loop-byte.byte-index c.loop-byte.line c.loop-byte.column c.if-byte-eq10.line c.if-byte-eq10.column c.loop-byte-test.true w.if-byte-eq10.false w.line-is w.column-is kept.line kept.column in
+          let next = place_byte bytes c.loop-byte.byte-index c.loop-byte.line c.loop-byte.column c.if-byte-eq10.line c.if-byte-eq10.column
+          c.loop-byte-test.true w.if-byte-eq10.false w.line-is w.column-is kept.line kept.column in
           record { line = next.0; column = next.1; within = omega arith }
     ]
