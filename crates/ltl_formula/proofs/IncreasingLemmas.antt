@@ -1,6 +1,6 @@
 -- Lists that rise keep rising with one more member, and have the members that they should.
-use Rattle.std.proofs.Common.{◌≡◌, ◌∙◌, Bool, true, false, ◌||◌, List, [], ◌∷◌, refl, sym, ap}
-use Rattle.std.specs.List.{list_any, AllByRecursion}
+use Rattle.std.proofs.Common.{◌≡◌, ◌∙◌, Bool, true, false, ◌&&◌, ◌||◌, List, [], ◌∷◌, refl, sym, ap}
+use Rattle.std.specs.List.{list_any, list_all, AllByRecursion}
 use Rattle.std.specs.declared.cmp.Ordering.{Ordering}
 use Rattle.std.specs.declared.cmp.Ordering.TheVariants.{Less, Equal, Greater}
 use Rattle.std.specs.Ordering.{match_ordering, ordering_reverse}
@@ -78,3 +78,41 @@ module _ {A : Type 0} (cmp : A → A → Ordering) where
     any-union xs (y ∷ ys) =
         any-union (with_member cmp y xs) ys ∙ ap (λ b. b || list_any p ys) (any-with_member y xs)
         ∙ or_assoc (p y) (list_any p xs) (list_any p ys)
+
+and_again : (a b : Bool) → (a && b) ≡ (a && (a && b))
+and_again true b = refl
+and_again false b = refl
+
+and_swap : (a b c : Bool) → (b && (a && c)) ≡ (a && (b && c))
+and_swap true true c = refl
+and_swap true false c = refl
+and_swap false true c = refl
+and_swap false false c = refl
+
+and_turn : (a b c : Bool) → ((a && b) && c) ≡ (b && (a && c))
+and_turn true true c = refl
+and_turn true false c = refl
+and_turn false true c = refl
+and_turn false false c = refl
+
+and_all : (a : Bool) → (a && true) ≡ a
+and_all true = refl
+and_all false = refl
+
+-- a test holds of each member of both lists exactly where it holds of each member of one and of the other
+module _ {A : Type 0} (cmp : A → A → Ordering) (same : (x y : A) → cmp x y ≡ Equal → x ≡ y) (p : A → Bool) where
+  pub all-with_member : (x : A) (ys : List A) → list_all p (with_member cmp x ys) ≡ (p x && list_all p ys)
+  all-with_member x [] = refl
+  all-with_member x (y ∷ ys) = by (cmp x y) refl (all-with_member x ys)
+    where
+      by : (o : Ordering) → cmp x y ≡ o → list_all p (with_member cmp x ys) ≡ (p x && list_all p ys)
+          → list_all p (match_ordering o (x ∷ (y ∷ ys)) (y ∷ ys) (y ∷ with_member cmp x ys)) ≡ (p x && (p y && list_all p ys))
+      by Less is rest = refl
+      by Equal is rest = and_again (p y) (list_all p ys) ∙ ap (λ z. p z && (p y && list_all p ys)) (sym (same x y is))
+      by Greater is rest = ap (λ b. p y && b) rest ∙ and_swap (p x) (p y) (list_all p ys)
+
+  pub all-union : (xs ys : List A) → list_all p (union cmp xs ys) ≡ (list_all p xs && list_all p ys)
+  all-union xs [] = sym (and_all (list_all p xs))
+  all-union xs (y ∷ ys) =
+      all-union (with_member cmp y xs) ys ∙ ap (λ b. b && list_all p ys) (all-with_member y xs)
+      ∙ and_turn (p y) (list_all p xs) (list_all p ys)

@@ -1,9 +1,13 @@
 pub mod CubeJoins
 pub mod Examples
 pub mod FormulaNumbers
+pub mod KeptChoices
 pub mod NamedChoices
 pub mod NamingLemmas
 pub mod NumberLemmas
 pub mod ReducingLemmas
 pub mod SetLemmas
 pub mod StepLemmas
+pub mod StepLaws
+pub mod StepTruth
+pub mod WithinLemmas

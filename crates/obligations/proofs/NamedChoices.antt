@@ -24,10 +24,10 @@ use Rattle.obligations.proofs.SetLemmas.{union-map}
 use Rattle.obligations.proofs.CubeJoins.{within_both}
 
 module _ (names : List LtlTree) (rising : IsIncreasing tree_cmp names) where
-  abbrev AreWell : List ChoiceKey → Type 0
+  abbrev pub AreWell : List ChoiceKey → Type 0
   AreWell cs = AllByRecursion (IsWell names) cs
 
-  abbrev named : ChoiceKey → ChoiceTree
+  abbrev pub named : ChoiceKey → ChoiceTree
   named c = choice_named names c
 
   -- the same answers, and choices whose numbers are those of formulas
@@ -92,7 +92,7 @@ module _ (names : List LtlTree) (rising : IsIncreasing tree_cmp names) where
       by true d e rest = ap (λ b. cond b (named c ∷ filter p (map named cs)) (filter p (map named cs))) e ∙ ap (λ r. named c ∷ r) rest
       by false d e rest = ap (λ b. cond b (named c ∷ filter p (map named cs)) (filter p (map named cs))) e ∙ rest
 
-  reduced-named : (cs : List ChoiceKey) → AreWell cs → (reduced same_formula (map named cs) ≡ map named (reduced nat_eq cs)) × AreWell (reduced nat_eq cs)
+  pub reduced-named : (cs : List ChoiceKey) → AreWell cs → (reduced same_formula (map named cs) ≡ map named (reduced nat_eq cs)) × AreWell (reduced nat_eq cs)
   reduced-named cs each =
       let new = new-named [] cs tt each in
       let ds : List ChoiceKey = without_repeats nat_eq cs in (
@@ -100,6 +100,10 @@ module _ (names : List LtlTree) (rising : IsIncreasing tree_cmp names) where
             ∙ filter-named (λ c. not (is_larger same_formula (map named ds) c)) (λ c. not (is_larger nat_eq ds c)) (λ c p. ap not (larger-named ds c new.1 p)) ds new.1,
         each_filtered (IsWell names) (λ c. not (is_larger nat_eq ds c)) ds new.1,
       )
+
+  -- repeats that are dropped leave choices as they are
+  pub repeats_well : (cs : List ChoiceKey) → AllByRecursion (IsWell names) cs → AllByRecursion (IsWell names) (without_repeats nat_eq cs)
+  repeats_well cs each = (new-named [] cs tt each).1
 
   formed_agree : (cs : List ChoiceKey) → AreWell cs → Agrees (formed nat_eq cs) (formed same_formula (map named cs))
   formed_agree cs each =
@@ -115,7 +119,7 @@ module _ (names : List LtlTree) (rising : IsIncreasing tree_cmp names) where
       → map (formula_named names) (union nat_cmp xs ys) ≡ union tree_cmp (map (formula_named names) xs) (map (formula_named names) ys)
   set-named = union-map nat_cmp tree_cmp (formula_named names) (λ n. n < length names) (keeps_order names rising)
 
-  join : ChoiceKey → ChoiceKey → ChoiceKey
+  abbrev pub join : ChoiceKey → ChoiceKey → ChoiceKey
   join c d = record {
     care = bit_or c.care d.care;
     want = bit_or c.want d.want;
@@ -123,8 +127,7 @@ module _ (names : List LtlTree) (rising : IsIncreasing tree_cmp names) where
     postponed = union nat_cmp c.postponed d.postponed;
   }
 
-  join_well : (c d : ChoiceKey) → IsWell names c → IsWell names d → IsWell names (join c d)
-  unfolding join
+  pub join_well : (c d : ChoiceKey) → IsWell names c → IsWell names d → IsWell names (join c d)
   join_well c d p q = record {
     within = within_both c.care c.want d.care d.want p.within q.within;
     next_rises = rises-union nat_cmp nat_cmp_total c.next_set d.next_set p.next_rises;
@@ -133,14 +136,13 @@ module _ (names : List LtlTree) (rising : IsIncreasing tree_cmp names) where
     postponed_named = each-union nat_cmp (λ n. n < length names) c.postponed d.postponed p.postponed_named q.postponed_named;
   }
 
-  join_named : (c d : ChoiceKey) → IsWell names c → IsWell names d
+  pub join_named : (c d : ChoiceKey) → IsWell names c → IsWell names d
       → named (join c d) ≡ record {
         care = bit_or c.care d.care;
         want = bit_or c.want d.want;
         next_set = union tree_cmp (map (formula_named names) c.next_set) (map (formula_named names) d.next_set);
         postponed = union tree_cmp (map (formula_named names) c.postponed) (map (formula_named names) d.postponed);
       }
-  unfolding join
   join_named c d p q = λ k. record {
     care = bit_or c.care d.care;
     want = bit_or c.want d.want;
@@ -150,7 +152,6 @@ module _ (names : List LtlTree) (rising : IsIncreasing tree_cmp names) where
 
   joined-named : (c d : ChoiceKey) (ts : List ChoiceTree) (ks : List ChoiceKey) → IsWell names c → IsWell names d → (ts ≡ map named ks) × AreWell ks
       → (cons_option (joined same_formula tree_cmp (named c) (named d)) ts ≡ map named (cons_option (joined nat_eq nat_cmp c d) ks)) × AreWell (cons_option (joined nat_eq nat_cmp c d) ks)
-  unfolding join
   joined-named c d ts ks p q rest = by (bit_and (bit_xor c.want d.want) (bit_and c.care d.care) == 0)
     where
       by : (b : Bool)
@@ -169,7 +170,7 @@ module _ (names : List LtlTree) (rising : IsIncreasing tree_cmp names) where
   each-named c [] p each = (refl, tt)
   each-named c (d ∷ ds) p each = joined-named c d _ _ p each.0 (each-named c ds p each.1)
 
-  joins-named : (cs ds : List ChoiceKey) → AreWell cs → AreWell ds
+  pub joins-named : (cs ds : List ChoiceKey) → AreWell cs → AreWell ds
       → (joins same_formula tree_cmp (map named cs) (map named ds) ≡ map named (joins nat_eq nat_cmp cs ds)) × AreWell (joins nat_eq nat_cmp cs ds)
   joins-named [] ds left right = (refl, tt)
   joins-named (c ∷ cs) ds left right =
@@ -190,13 +191,13 @@ module _ (names : List LtlTree) (rising : IsIncreasing tree_cmp names) where
       (formed_agree (cs ++ ds) (each_joined (IsWell names) cs ds left right))
 
   -- a single choice of a number
-  goes_on_agree : (n : ℕ) (f : LtlTree) → n < length names → formula_named names n ≡ f → Agrees (Some (goes_on n ∷ [])) (Some (goes_on f ∷ []))
+  pub goes_on_agree : (n : ℕ) (f : LtlTree) → n < length names → formula_named names n ≡ f → Agrees (Some (goes_on n ∷ [])) (Some (goes_on f ∷ []))
   goes_on_agree n f within is = (
     (λ k. Some ((record { care = 0; want = 0; next_set = sym is k ∷ []; postponed = [] }) ∷ [])),
     (record { within = refl; next_rises = (tt, tt); next_named = (within, tt); postponed_rises = tt; postponed_named = tt }, tt),
   )
 
-  puts_off_agree : (n : ℕ) (f : LtlTree) → n < length names → formula_named names n ≡ f → Agrees (Some (puts_off n ∷ [])) (Some (puts_off f ∷ []))
+  pub puts_off_agree : (n : ℕ) (f : LtlTree) → n < length names → formula_named names n ≡ f → Agrees (Some (puts_off n ∷ [])) (Some (puts_off f ∷ []))
   puts_off_agree n f within is = (
     (λ k. Some ((record { care = 0; want = 0; next_set = sym is k ∷ []; postponed = sym is k ∷ [] }) ∷ [])),
     (record { within = refl; next_rises = (tt, tt); next_named = (within, tt); postponed_rises = (tt, tt); postponed_named = (within, tt) }, tt),

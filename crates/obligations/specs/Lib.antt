@@ -3,3 +3,4 @@ pub mod Expansion
 pub mod Numbers
 pub mod Obligations
 pub mod Chosen
+pub mod StepLaw

@@ -14,6 +14,7 @@
 
 mod expanding;
 mod joining;
+mod laws;
 mod naming;
 mod numbered;
 mod products;
@@ -26,6 +27,7 @@ mod stepping;
 mod tests;
 
 pub use expanding::{LETTER_BITS, expand, number_of};
+pub use laws::sets_hold_by_a_choice;
 pub use naming::{names_of, names_of_formula};
 pub use numbered::NumberedChoice;
 pub use set::Set;
