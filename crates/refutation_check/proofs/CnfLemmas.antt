@@ -1,5 +1,39 @@
 -- The words of a formula's text, one by one.
-use Rattle.std.proofs.Common.{◌≡◌, ℕ, suc, ◌+◌, ◌<◌, ◌≤◌, Bool, true, false, not, cond, leb, ltb, ℤ, List, [], ◌∷◌, ◌++◌, map, length, take, get_or, Option, Some, None, Contains, sym, ap, ◌∙◌, refl, arith, inl, inr}
+use Rattle.std.proofs.Common.{
+  ◌≡◌,
+  ℕ,
+  suc,
+  ◌+◌,
+  ◌<◌,
+  ◌≤◌,
+  Bool,
+  true,
+  false,
+  not,
+  cond,
+  leb,
+  ltb,
+  ℤ,
+  List,
+  [],
+  ◌∷◌,
+  ◌++◌,
+  map,
+  length,
+  take,
+  get_or,
+  Option,
+  Some,
+  None,
+  Contains,
+  sym,
+  ap,
+  ◌∙◌,
+  refl,
+  arith,
+  inl,
+  inr,
+}
 use Rattle.std.specs.Prelude.{nat_abs, find, count_by, flat_map}
 use Rattle.std.specs.List.{slice_split, onto_first, cons_option}
 use Rattle.std.proofs.lemmas.Bool.{and_parts, and_from, cond-true, cond-false, false≢true, ltb-true, cases_Bool}
@@ -14,7 +48,23 @@ use Rattle.refutation_check.specs.DataLines.{words_beside, data_lines}
 use Rattle.tsl_text.specs.Numbers.{signed_number_in}
 use Rattle.refutation_check.specs.Numbers.{is_zero}
 use Rattle.sequence.specs.Options.{passes}
-use Rattle.refutation_check.specs.CnfText.{is_cnf, form_at, too_many_variables, too_many_clauses, header, means, with_zeros, is_right, first_wrong, numbers_of, clauses_of, answer_of_words, answer_of_header, answer_of_lines, cnf_answer}
+use Rattle.refutation_check.specs.CnfText.{
+  is_cnf,
+  form_at,
+  too_many_variables,
+  too_many_clauses,
+  header,
+  means,
+  with_zeros,
+  is_right,
+  first_wrong,
+  numbers_of,
+  clauses_of,
+  answer_of_words,
+  answer_of_header,
+  answer_of_lines,
+  cnf_answer,
+}
 use Rattle.refutation_check.specs.Reading.{are_within, ended_clauses}
 use Rattle.refutation_check.specs.LogText.{is_literal}
 use Rattle.refutation_check.proofs.NumberLemmas.{zero_from, onto_front, onto_front-nil, onto_front-first, zeros_more}
@@ -24,21 +74,26 @@ wrong_among counts words = find (λ word. not (is_right counts word)) words
 
 -- ---- the first pass
 
-pub wrong_here : (counts : Counts) (passed : ℕ) (word : ℕ × List ℕ) (words : List (ℕ × List ℕ)) → is_right counts (passed, word) ≡ false → wrong_among counts (with_zeros passed (word ∷ words)) ≡ Some (passed, word)
+pub wrong_here : (counts : Counts) (passed : ℕ) (word : ℕ × List ℕ) (words : List (ℕ × List ℕ)) → is_right counts (passed, word) ≡ false →
+    wrong_among counts (with_zeros passed (word ∷ words)) ≡ Some (passed, word)
 wrong_here counts passed word words h =
     ap (λ b. cond (not b) (Some (passed, word)) (wrong_among counts (with_zeros (passed + cond (means is_zero word.1) 1 0) words))) h
 
-pub right_here : (counts : Counts) (passed : ℕ) (word : ℕ × List ℕ) (words : List (ℕ × List ℕ)) → is_right counts (passed, word) ≡ true → wrong_among counts (with_zeros passed (word ∷ words)) ≡ wrong_among counts (with_zeros (passed + cond (means is_zero word.1) 1 0) words)
+pub right_here : (counts : Counts) (passed : ℕ) (word : ℕ × List ℕ) (words : List (ℕ × List ℕ)) → is_right counts (passed, word) ≡ true →
+    wrong_among counts (with_zeros passed (word ∷ words)) ≡ wrong_among counts (with_zeros (passed + cond (means is_zero word.1) 1 0) words)
 right_here counts passed word words h =
     ap (λ b. cond (not b) (Some (passed, word)) (wrong_among counts (with_zeros (passed + cond (means is_zero word.1) 1 0) words))) h
 
-pub numbers_more : (word : ℕ × List ℕ) (words : List (ℕ × List ℕ)) (n : ℤ) → signed_number_in word.1 ≡ Some n → numbers_of (word ∷ words) ≡ n ∷ numbers_of words
+pub numbers_more : (word : ℕ × List ℕ) (words : List (ℕ × List ℕ)) (n : ℤ) → signed_number_in word.1 ≡ Some n →
+    numbers_of (word ∷ words) ≡ n ∷ numbers_of words
 numbers_more word words n e = ap (λ o. cons_option o (numbers_of words)) e
 
-pub ended_more : (word : ℕ × List ℕ) (words : List (ℕ × List ℕ)) → count_by is_zero (numbers_of (word ∷ words)) ≡ cond (means is_zero word.1) 1 0 + count_by is_zero (numbers_of words)
+pub ended_more : (word : ℕ × List ℕ) (words : List (ℕ × List ℕ)) →
+    count_by is_zero (numbers_of (word ∷ words)) ≡ cond (means is_zero word.1) 1 0 + count_by is_zero (numbers_of words)
 ended_more word words = by_number (signed_number_in word.1)
   where
-    by_number : (o : Option ℤ) → count_by is_zero (cons_option o (numbers_of words)) ≡ cond (passes is_zero o) 1 0 + count_by is_zero (numbers_of words)
+    by_number : (o : Option ℤ) →
+        count_by is_zero (cons_option o (numbers_of words)) ≡ cond (passes is_zero o) 1 0 + count_by is_zero (numbers_of words)
     by_number None = omega arith
     by_number (Some n) = zeros_more n (numbers_of words)
 
@@ -50,28 +105,37 @@ record StartsRight (counts : Counts) (passed : ℕ) (word : ℕ × List ℕ) (wo
   within : leb (nat_abs number) counts.variables ≡ true
   rest : wrong_among counts (with_zeros (passed + cond (means is_zero word.1) 1 0) words) ≡ None
 
-starts_right : (counts : Counts) (passed : ℕ) (word : ℕ × List ℕ) (words : List (ℕ × List ℕ)) → wrong_among counts (with_zeros passed (word ∷ words)) ≡ None → StartsRight counts passed word words
+starts_right : (counts : Counts) (passed : ℕ) (word : ℕ × List ℕ) (words : List (ℕ × List ℕ)) →
+    wrong_among counts (with_zeros passed (word ∷ words)) ≡ None → StartsRight counts passed word words
 starts_right counts passed word words h = by_test (is_right counts (passed, word)) refl h
   where
-    by_number : (o : Option ℤ) → signed_number_in word.1 ≡ o → passes (λ n. leb (nat_abs n) counts.variables) o ≡ true → passed < counts.clauses → is_right counts (passed, word) ≡ true → StartsRight counts passed word words
+    by_number : (o : Option ℤ) → signed_number_in word.1 ≡ o → passes (λ n. leb (nat_abs n) counts.variables) o ≡ true →
+        passed < counts.clauses → is_right counts (passed, word) ≡ true → StartsRight counts passed word words
     by_number None e p left right = absurd (false≢true p)
-    by_number (Some n) e p left right = record { number = n; is = e; left = left; within = p; rest = sym (right_here counts passed word words right) ∙ h }
+    by_number (Some n) e p left right =
+        record { number = n; is = e; left = left; within = p; rest = sym (right_here counts passed word words right) ∙ h }
 
-    by_test : (b : Bool) → is_right counts (passed, word) ≡ b → cond (not b) (Some (passed, word)) (wrong_among counts (with_zeros (passed + cond (means is_zero word.1) 1 0) words)) ≡ None → StartsRight counts passed word words
+    by_test : (b : Bool) → is_right counts (passed, word) ≡ b →
+        cond (not b) (Some (passed, word)) (wrong_among counts (with_zeros (passed + cond (means is_zero word.1) 1 0) words)) ≡ None →
+        StartsRight counts passed word words
     by_test false e k = absurd cc
     by_test true e k =
         let parts = and_parts (ltb passed counts.clauses) (means (λ n. leb (nat_abs n) counts.variables) word.1) e in
         by_number (signed_number_in word.1) refl parts.1 (ltb-true passed counts.clauses parts.0) e
 
 -- right words mean numbers within the variables
-pub all_within : (counts : Counts) (words : List (ℕ × List ℕ)) (passed : ℕ) → wrong_among counts (with_zeros passed words) ≡ None → are_within counts.variables words ≡ true
+pub all_within : (counts : Counts) (words : List (ℕ × List ℕ)) (passed : ℕ) → wrong_among counts (with_zeros passed words) ≡ None →
+    are_within counts.variables words ≡ true
 all_within counts [] passed h = refl
 all_within counts (word ∷ words) passed h =
     let r = starts_right counts passed word words h in
-    and_from (means (λ n. leb (nat_abs n) counts.variables) word.1) (are_within counts.variables words) (ap (passes (λ n. leb (nat_abs n) counts.variables)) r.is ∙ r.within) (all_within counts words (passed + cond (means is_zero word.1) 1 0) r.rest)
+    and_from (means (λ n. leb (nat_abs n) counts.variables) word.1) (are_within counts.variables words)
+    (ap (passes (λ n. leb (nat_abs n) counts.variables)) r.is
+    ∙ r.within) (all_within counts words (passed + cond (means is_zero word.1) 1 0) r.rest)
 
 -- right words end no more clauses than there are
-pub few_ended : (counts : Counts) (words : List (ℕ × List ℕ)) (passed : ℕ) → wrong_among counts (with_zeros passed words) ≡ None → passed ≤ counts.clauses → passed + count_by is_zero (numbers_of words) ≤ counts.clauses
+pub few_ended : (counts : Counts) (words : List (ℕ × List ℕ)) (passed : ℕ) → wrong_among counts (with_zeros passed words) ≡ None →
+    passed ≤ counts.clauses → passed + count_by is_zero (numbers_of words) ≤ counts.clauses
 few_ended counts [] passed h within = omega arith
 few_ended counts (word ∷ words) passed h within =
     let r = starts_right counts passed word words h in
@@ -91,62 +155,99 @@ pub record StartsWithZero (variables : ℕ) (word : ℕ × List ℕ) (words : Li
   pub zero' : is_zero number ≡ true
   pub rest : are_within variables words ≡ true
 
-pub starts_with_zero : (variables : ℕ) (word : ℕ × List ℕ) (words : List (ℕ × List ℕ)) → variables < 2147483648 → are_within variables (word ∷ words) ≡ true → passes is_literal (signed_number_in word.1) ≡ false → StartsWithZero variables word words
-starts_with_zero variables word words few h none = by_number (signed_number_in word.1) refl (and_parts (means (λ m. leb (nat_abs m) variables) word.1) (are_within variables words) h).0 none
+pub starts_with_zero : (variables : ℕ) (word : ℕ × List ℕ) (words : List (ℕ × List ℕ)) → variables < 2147483648 →
+    are_within variables (word ∷ words) ≡ true → passes is_literal (signed_number_in word.1) ≡ false → StartsWithZero variables word words
+starts_with_zero variables word words few h none =
+    by_number (signed_number_in word.1) refl
+    (and_parts (means (λ m. leb (nat_abs m) variables) word.1) (are_within variables words) h).0 none
   where
-    by_number : (o : Option ℤ) → signed_number_in word.1 ≡ o → passes (λ m. leb (nat_abs m) variables) o ≡ true → passes is_literal o ≡ false → StartsWithZero variables word words
+    by_number : (o : Option ℤ) → signed_number_in word.1 ≡ o → passes (λ m. leb (nat_abs m) variables) o ≡ true →
+        passes is_literal o ≡ false → StartsWithZero variables word words
     by_number None e p q = absurd (false≢true p)
-    by_number (Some n) e p q = record { number = n; is = e; zero' = zero_from n variables few p q; rest = (and_parts (means (λ m. leb (nat_abs m) variables) word.1) (are_within variables words) h).1 }
+    by_number (Some n) e p q =
+        record {
+          number = n;
+          is = e;
+          zero' = zero_from n variables few p q;
+          rest =
+              (and_parts (means (λ m. leb (nat_abs m) variables) word.1) (are_within variables words) h).1;
+        }
 
 pub over_in_order : (variables : ℕ) (literals : List Lit) → IsOver variables literals → IsOver variables (in_order literals)
 over_in_order variables literals over k d within =
     let l = get_or (in_order literals) k d in
     let here : Contains (in_order literals) l = (k, within, get_or_default (in_order literals) k l d within) in
-    All-contains (λ m. m.index < variables) literals l over (Contains_from_has literals l (sym (has-in_order literals l) ∙ has_from_Contains (in_order literals) l here))
+    All-contains (λ m. m.index < variables) literals l over (Contains_from_has literals l (sym (has-in_order literals l)
+    ∙ has_from_Contains (in_order literals) l here))
 
 -- a zero ends a clause
-pub ended_zero : (literals : List Lit) (n : ℤ) (ns : List ℤ) → is_zero n ≡ true → ended_clauses literals (n ∷ ns) ≡ in_order literals ∷ ended_clauses [] ns
-ended_zero literals n ns h = cond-true (is_zero n) (in_order literals ∷ ended_clauses [] ns) (ended_clauses (literals ++ literal_of n ∷ []) ns) h
+pub ended_zero : (literals : List Lit) (n : ℤ) (ns : List ℤ) → is_zero n ≡ true →
+    ended_clauses literals (n ∷ ns) ≡ in_order literals ∷ ended_clauses [] ns
+ended_zero literals n ns h =
+    cond-true (is_zero n) (in_order literals ∷ ended_clauses [] ns) (ended_clauses (literals ++ literal_of n ∷ []) ns) h
 
 abbrev clauses_in : List (List ℤ) → List (List Lit)
 clauses_in parts = map (λ part. in_order (map literal_of part)) parts
 
-ended_step : (n : ℤ) (ns now : List ℤ) → ended_clauses [] ns ≡ clauses_in (take (count_by is_zero ns) (slice_split is_zero ns)) → ended_clauses (map literal_of (now ++ n ∷ [])) ns ≡ clauses_in (take (count_by is_zero ns) (onto_front (now ++ n ∷ []) (slice_split is_zero ns))) → ended_clauses (map literal_of now) (n ∷ ns) ≡ clauses_in (take (count_by is_zero (n ∷ ns)) (onto_front now (slice_split is_zero (n ∷ ns))))
+ended_step : (n : ℤ) (ns now : List ℤ) → ended_clauses [] ns ≡ clauses_in (take (count_by is_zero ns) (slice_split is_zero ns)) →
+    ended_clauses (map literal_of (now ++ n ∷ [])) ns
+    ≡ clauses_in (take (count_by is_zero ns) (onto_front (now ++ n ∷ []) (slice_split is_zero ns))) →
+    ended_clauses (map literal_of now) (n ∷ ns)
+    ≡ clauses_in (take (count_by is_zero (n ∷ ns)) (onto_front now (slice_split is_zero (n ∷ ns))))
 ended_step n ns now rest more = by_test (is_zero n) refl
   where
     counted : (b : Bool) → is_zero n ≡ b → count_by is_zero (n ∷ ns) ≡ cond b 1 0 + count_by is_zero ns
     counted b e = zeros_more n ns ∙ ap (λ t. cond t 1 0 + count_by is_zero ns) e
 
-    by_test : (b : Bool) → is_zero n ≡ b → cond b (in_order (map literal_of now) ∷ ended_clauses [] ns) (ended_clauses (map literal_of now ++ literal_of n ∷ []) ns) ≡ clauses_in (take (count_by is_zero (n ∷ ns)) (onto_front now (cond b ([] ∷ slice_split is_zero ns) (onto_first n (slice_split is_zero ns)))))
+    by_test : (b : Bool) → is_zero n ≡ b →
+        cond b (in_order (map literal_of now) ∷ ended_clauses [] ns) (ended_clauses (map literal_of now ++ literal_of n ∷ []) ns)
+        ≡ clauses_in (take (count_by is_zero (n ∷ ns))
+        (onto_front now (cond b ([] ∷ slice_split is_zero ns) (onto_first n (slice_split is_zero ns)))))
     by_test true e =
-        let k : count_by is_zero (n ∷ ns) ≡ suc (count_by is_zero ns) = counted true e ∙ (let s : 1 + count_by is_zero ns ≡ suc (count_by is_zero ns) = omega arith in s) in
+        let k : count_by is_zero (n ∷ ns) ≡ suc (count_by is_zero ns) = counted true e
+        ∙ (let s : 1 + count_by is_zero ns ≡ suc (count_by is_zero ns) = omega arith in s) in
         ap (λ cs. in_order (map literal_of now) ∷ cs) rest
-        ∙ sym (ap (λ m. clauses_in (take m ((now ++ []) ∷ slice_split is_zero ns))) k ∙ ap (λ p. in_order (map literal_of p) ∷ clauses_in (take (count_by is_zero ns) (slice_split is_zero ns))) (append-nil now))
+        ∙ sym (ap (λ m. clauses_in (take m ((now ++ []) ∷ slice_split is_zero ns))) k
+        ∙ ap (λ p. in_order (map literal_of p) ∷ clauses_in (take (count_by is_zero ns) (slice_split is_zero ns))) (append-nil now))
     by_test false e =
         let k : count_by is_zero (n ∷ ns) ≡ count_by is_zero ns = omega (arith, counted false e) in
         ap (λ ls. ended_clauses ls ns) (sym (map_push literal_of now n)) ∙ (more
-        ∙ sym (ap (λ m. clauses_in (take m (onto_front now (onto_first n (slice_split is_zero ns))))) k ∙ ap (λ parts. clauses_in (take (count_by is_zero ns) parts)) (onto_front-first now n (slice_split is_zero ns))))
+        ∙ sym (ap (λ m. clauses_in (take m (onto_front now (onto_first n (slice_split is_zero ns))))) k
+        ∙ ap (λ parts. clauses_in (take (count_by is_zero ns) parts)) (onto_front-first now n (slice_split is_zero ns))))
 
-ended_are : (ns now : List ℤ) → ended_clauses (map literal_of now) ns ≡ clauses_in (take (count_by is_zero ns) (onto_front now (slice_split is_zero ns)))
+ended_are : (ns now : List ℤ) →
+    ended_clauses (map literal_of now) ns ≡ clauses_in (take (count_by is_zero ns) (onto_front now (slice_split is_zero ns)))
 ended_are [] now = refl
 ended_are (n ∷ ns) now =
-    ended_step n ns now (ended_are ns [] ∙ ap (λ parts. clauses_in (take (count_by is_zero ns) parts)) (onto_front-nil ns)) (ended_are ns (now ++ n ∷ []))
+    ended_step n ns now (ended_are ns []
+    ∙ ap (λ parts. clauses_in (take (count_by is_zero ns) parts)) (onto_front-nil ns)) (ended_are ns (now ++ n ∷ []))
 
 pub clauses_are : (count : ℕ) (ns : List ℤ) → count ≡ count_by is_zero ns → clauses_of count ns ≡ ended_clauses [] ns
 clauses_are count ns e =
-    ap (λ m. clauses_in (take m (slice_split is_zero ns))) e ∙ sym (ended_are ns [] ∙ ap (λ parts. clauses_in (take (count_by is_zero ns) parts)) (onto_front-nil ns))
+    ap (λ m. clauses_in (take m (slice_split is_zero ns))) e
+    ∙ sym (ended_are ns [] ∙ ap (λ parts. clauses_in (take (count_by is_zero ns) parts)) (onto_front-nil ns))
 
 -- ---- the whole text
 
-pub cnf_is : (text : List ℕ) (line : NumberedLine) (behind : List NumberedLine) (counts : Counts) (ended : ℕ) (words' : List (ℕ × List ℕ)) (clauses : List (List Lit)) → data_lines text ≡ line ∷ behind → Some counts ≡ header (words line.bytes) → words' ≡ flat_map words_beside behind → first_wrong counts words' ≡ None → ended ≡ count_by is_zero (numbers_of words') → counts.clauses ≤ ended → counts.variables ≤ 1048576 → counts.clauses ≤ 2000000 → clauses ≡ ended_clauses [] (numbers_of words') → cnf_answer text ≡ is_cnf counts.variables clauses
+pub cnf_is : (text : List ℕ) (line : NumberedLine) (behind : List NumberedLine) (counts : Counts) (ended : ℕ) (words' : List (ℕ × List ℕ))
+    (clauses : List (List Lit)) → data_lines text ≡ line ∷ behind → Some counts ≡ header (words line.bytes) →
+    words' ≡ flat_map words_beside behind → first_wrong counts words' ≡ None → ended ≡ count_by is_zero (numbers_of words') →
+    counts.clauses ≤ ended → counts.variables ≤ 1048576 → counts.clauses ≤ 2000000 → clauses ≡ ended_clauses [] (numbers_of words') →
+    cnf_answer text ≡ is_cnf counts.variables clauses
 cnf_is text line behind counts ended words' clauses first head same right passed all variables few is =
     ap (answer_of_lines after) first
     ∙ (ap (answer_of_header after line.number (flat_map words_beside behind)) (sym head)
     ∙ (ap (λ ws. answer_of_words after counts ws (first_wrong counts ws)) (sym same)
     ∙ (ap (answer_of_words after counts words') right
-    ∙ (cond-false (ltb (count_by is_zero ns) counts.clauses) (form_at after) (cond (ltb 1048576 counts.variables) too_many_variables (cond (ltb 2000000 counts.clauses) too_many_clauses (is_cnf counts.variables (clauses_of counts.clauses ns)))) (not_below (count_by is_zero ns) counts.clauses (omega (arith, all, passed)))
-    ∙ (cond-false (ltb 1048576 counts.variables) too_many_variables (cond (ltb 2000000 counts.clauses) too_many_clauses (is_cnf counts.variables (clauses_of counts.clauses ns))) (not_below 1048576 counts.variables variables)
-    ∙ (cond-false (ltb 2000000 counts.clauses) too_many_clauses (is_cnf counts.variables (clauses_of counts.clauses ns)) (not_below 2000000 counts.clauses few)
+    ∙ (cond-false (ltb (count_by is_zero ns) counts.clauses) (form_at after)
+    (cond (ltb 1048576 counts.variables) too_many_variables
+    (cond (ltb 2000000 counts.clauses) too_many_clauses (is_cnf counts.variables (clauses_of counts.clauses ns))))
+    (not_below (count_by is_zero ns) counts.clauses (omega (arith, all, passed)))
+    ∙ (cond-false (ltb 1048576 counts.variables) too_many_variables
+    (cond (ltb 2000000 counts.clauses) too_many_clauses (is_cnf counts.variables (clauses_of counts.clauses ns)))
+    (not_below 1048576 counts.variables variables)
+    ∙ (cond-false (ltb 2000000 counts.clauses) too_many_clauses (is_cnf counts.variables (clauses_of counts.clauses ns))
+    (not_below 2000000 counts.clauses few)
     ∙ ap (is_cnf counts.variables) (clauses_are counts.clauses ns exact ∙ sym is)))))))
   where
     after : ℕ

@@ -11,7 +11,12 @@ use Rattle.refutation_check.specs.Checking.{log_refusal, at_line, at_hint, unfin
 -- ---- lines
 
 -- a comment keeps its number
-numbered : data_lines (codes "c a\nb\ncnf\n d") ≡ record { number = 2; bytes = codes "b"; ended = true } ∷ record { number = 4; bytes = codes " d"; ended = false } ∷ []
+numbered : data_lines (codes "c a\nb\ncnf\n d") ≡ record { number = 2; bytes = codes "b"; ended = true } ∷ record {
+  number = 4;
+  bytes =
+      codes " d";
+  ended = false;
+} ∷ []
 numbered = refl
 
 -- ---- formulas
@@ -80,7 +85,13 @@ as_many_variables = refl
 -- ---- logs
 
 -- a comment, a deletion with a 0 among its numbers, a line without a word, a step, an empty clause
-steps : log_answer (codes "c\n5 d 0 3 0\n \n6 2 -1 0 1 2 0\n07 0 5 3 4 0") ≡ is_log (record { number = 6; clause = na ∷ b ∷ []; hints = 1 ∷ 2 ∷ [] } ∷ record { number = 7; clause = []; hints = 5 ∷ 3 ∷ 4 ∷ [] } ∷ [])
+steps : log_answer (codes "c\n5 d 0 3 0\n \n6 2 -1 0 1 2 0\n07 0 5 3 4 0")
+    ≡ is_log (record { number = 6; clause = na ∷ b ∷ []; hints = 1 ∷ 2 ∷ [] } ∷ record {
+      number = 7;
+      clause = [];
+      hints =
+          5 ∷ 3 ∷ 4 ∷ [];
+    } ∷ [])
 steps = refl
 
 no_step : log_answer [] ≡ is_log []

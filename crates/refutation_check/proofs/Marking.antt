@@ -1,5 +1,30 @@
 -- The table of what is true, and what is taken back.
-use Rattle.std.proofs.Common.{◌≡◌, ℕ, ◌+◌, ◌*◌, ◌<◌, Bool, true, false, cond, List, [], ◌∷◌, ◌++◌, map, length, get_or, set, reverse, sym, ap, ◌∙◌, arith, inl, inr}
+use Rattle.std.proofs.Common.{
+  ◌≡◌,
+  ℕ,
+  ◌+◌,
+  ◌*◌,
+  ◌<◌,
+  Bool,
+  true,
+  false,
+  cond,
+  List,
+  [],
+  ◌∷◌,
+  ◌++◌,
+  map,
+  length,
+  get_or,
+  set,
+  reverse,
+  sym,
+  ap,
+  ◌∙◌,
+  arith,
+  inl,
+  inr,
+}
 use Rattle.std.proofs.lemmas.Bool.{true≢false, false≢true, or_cases, cases_Bool, cases_eq}
 use Rattle.std.proofs.lemmas.List.{length-set, get_or-set_same, get_or-set_other, map-append, append_assoc, reverse-append}
 use Rattle.std.proofs.lemmas.List.Elements.{All-tail}
@@ -14,7 +39,8 @@ pub record IsAtMost (variables : ℕ) (truths : List Bool) (literals : List Lit)
   pub over : IsOver variables literals
   pub each : (l : Lit) → l.index < variables → get_or truths (place_of l) false ≡ true → has literals l ≡ true
 
-pub at_most : (variables : ℕ) (truths : List Bool) (literals : List Lit) → IsTable variables truths literals → IsAtMost variables truths literals
+pub at_most : (variables : ℕ) (truths : List Bool) (literals : List Lit) → IsTable variables truths literals →
+    IsAtMost variables truths literals
 at_most variables truths literals t = record { all = t.all; over = t.over; each = λ l below h. sym (t.each l below) ∙ h }
 
 pub place_within : (variables : ℕ) (l : Lit) → l.index < variables → place_of l < 2 * variables
@@ -25,13 +51,18 @@ place_within variables l below = by_sign l.index l.positive below
     by_sign i false below = omega arith
 
 -- the first literal is taken back
-pub taken_back : (variables : ℕ) (truths : List Bool) (l : Lit) (ls : List Lit) → IsAtMost variables truths (l ∷ ls) → IsAtMost variables (set truths (place_of l) false) ls
+pub taken_back : (variables : ℕ) (truths : List Bool) (l : Lit) (ls : List Lit) → IsAtMost variables truths (l ∷ ls) →
+    IsAtMost variables (set truths (place_of l) false) ls
 taken_back variables truths l ls t = record {
   all = length-set truths (place_of l) false ∙ t.all;
   over = All-tail (λ m. m.index < variables) l ls t.over;
   each = λ m below h. elim (cases_eq (place_of m) (place_of l)) [
-    | inl e ↦ absurd (true≢false (sym h ∙ (ap (λ k. get_or (set truths (place_of l) false) k false) e ∙ get_or-set_same truths (place_of l) false false (let w : place_of l < length truths = omega (arith, t.all, place_within variables l (t.over 0 l (omega arith))) in w))))
-    | inr n ↦ (let kept : get_or truths (place_of m) false ≡ true = sym (get_or-set_other truths (place_of l) (place_of m) false false n) ∙ h in
+    | inl e ↦ absurd (true≢false (sym h
+        ∙ (ap (λ k. get_or (set truths (place_of l) false) k false) e
+        ∙ get_or-set_same truths (place_of l) false false (let w : place_of l < length truths =
+        omega (arith, t.all, place_within variables l (t.over 0 l (omega arith))) in w))))
+    | inr n ↦ (let kept : get_or truths (place_of m) false ≡ true = sym (get_or-set_other truths (place_of l) (place_of m) false false n)
+        ∙ h in
         elim (or_cases (same l m) (has ls m) (t.each m below kept)) [
           | inl e ↦ absurd (n (sym (ap place_of (same_is l m e))))
           | inr h ↦ h
@@ -55,5 +86,8 @@ pub reverse_push : (xs ys : List Lit) (l : Lit) → xs ≡ ys ++ l ∷ [] → re
 reverse_push xs ys l e = ap reverse e ∙ reverse-append ys (l ∷ [])
 
 -- one more literal of the clause is made false
-pub falsified_more : (rest before : List Lit) (last : Lit) (trues : List Lit) → rest ≡ before ++ last ∷ [] → map negation before ++ negation last ∷ trues ≡ map negation rest ++ trues
-falsified_more rest before last trues e = sym (ap (λ xs. map negation xs ++ trues) e ∙ (ap (λ xs. xs ++ trues) (map-append negation before (last ∷ [])) ∙ append_assoc (map negation before) (negation last ∷ []) trues))
+pub falsified_more : (rest before : List Lit) (last : Lit) (trues : List Lit) → rest ≡ before ++ last ∷ [] →
+    map negation before ++ negation last ∷ trues ≡ map negation rest ++ trues
+falsified_more rest before last trues e =
+    sym (ap (λ xs. map negation xs ++ trues) e
+    ∙ (ap (λ xs. xs ++ trues) (map-append negation before (last ∷ [])) ∙ append_assoc (map negation before) (negation last ∷ []) trues))

@@ -1,5 +1,35 @@
 -- Texts of formulas in conjunctive normal form: a header `p cnf V C`, then C clauses over V variables.
-use Rattle.std.specs.Prelude.{ℕ, suc, ◌+◌, nat_le, nat_lt, Bool, not, cond, ◌&&◌, ℤ, nat_abs, List, [], ◌∷◌, map, length, take, find, scan, count_by, flat_map, filter_map, codes, bytes_eq, Option, Some, None, option_map, option_and_then}
+use Rattle.std.specs.Prelude.{
+  ℕ,
+  suc,
+  ◌+◌,
+  nat_le,
+  nat_lt,
+  Bool,
+  not,
+  cond,
+  ◌&&◌,
+  ℤ,
+  nat_abs,
+  List,
+  [],
+  ◌∷◌,
+  map,
+  length,
+  take,
+  find,
+  scan,
+  count_by,
+  flat_map,
+  filter_map,
+  codes,
+  bytes_eq,
+  Option,
+  Some,
+  None,
+  option_map,
+  option_and_then,
+}
 use Rattle.std.specs.List.{slice_split}
 use Rattle.clause_core.specs.Literals.{Lit, literal_of}
 use Rattle.clause_core.specs.Clauses.{in_order}
@@ -23,7 +53,8 @@ counts_of variables clauses = option_and_then (λ v. option_map (λ c. record { 
 
 -- the counts that a line's words tell, which are `p`, `cnf` and two numbers
 abbrev pub header : List (List ℕ) → Option Counts
-header (p ∷ cnf ∷ variables ∷ clauses ∷ []) = cond (bytes_eq p (codes "p") && bytes_eq cnf (codes "cnf")) (counts_of (number_in variables) (number_in clauses)) None
+header (p ∷ cnf ∷ variables ∷ clauses ∷ []) =
+    cond (bytes_eq p (codes "p") && bytes_eq cnf (codes "cnf")) (counts_of (number_in variables) (number_in clauses)) None
 header words = None
 
 -- whether a word means a number that passes the test

@@ -1,5 +1,35 @@
 -- Internal: how far a text has been read. Only private functions of this crate use these words.
-use Rattle.std.specs.Prelude.{ℕ, ◌+◌, ◌<◌, ◌≤◌, ◌^◌, ⊤, nat_le, Bool, not, cond, ℤ, pos, nat_abs, List, [], ◌∷◌, ◌++◌, map, filter, length, flat_map, find, filter_map, Option, Some, None, option_map}
+use Rattle.std.specs.Prelude.{
+  ℕ,
+  ◌+◌,
+  ◌<◌,
+  ◌≤◌,
+  ◌^◌,
+  ⊤,
+  nat_le,
+  ◌==◌,
+  Bool,
+  false,
+  not,
+  cond,
+  ℤ,
+  pos,
+  nat_abs,
+  List,
+  [],
+  ◌∷◌,
+  ◌++◌,
+  map,
+  filter,
+  length,
+  flat_map,
+  find,
+  filter_map,
+  Option,
+  Some,
+  None,
+  option_map,
+}
 use Rattle.std.specs.List.{list_all}
 use Rattle.clause_core.specs.Literals.{Lit, number_of, literal_of}
 use Rattle.clause_core.specs.Clauses.{in_order}
@@ -13,6 +43,11 @@ use Rattle.refutation_check.specs.LogText.{LogAnswer, is_log, form_at, step_of_n
 use Rattle.refutation_check.specs.declared.steps.Step.{Step}
 use Rattle.refutation_check.specs.declared.lrat.Line.{Line}
 use Rattle.refutation_check.specs.declared.lrat.Line.TheVariants.{Says, NoEffect, Wrong}
+
+-- whether the first byte of a word is a `0`
+abbrev pub begins_with_zero : List ℕ → Bool
+begins_with_zero [] = false
+begins_with_zero (byte ∷ bytes) = byte == 48
 
 -- ---- formulas
 
@@ -39,7 +74,8 @@ are_within variables words = list_all (λ word. means (λ n. nat_le (nat_abs n) 
 -- the clauses that zeros end, where the first has these literals already
 abbrev pub ended_clauses : List Lit → List ℤ → List (List Lit)
 ended_clauses literals [] = []
-ended_clauses literals (n ∷ ns) = cond (is_zero n) (in_order literals ∷ ended_clauses [] ns) (ended_clauses (literals ++ literal_of n ∷ []) ns)
+ended_clauses literals (n ∷ ns) =
+    cond (is_zero n) (in_order literals ∷ ended_clauses [] ns) (ended_clauses (literals ++ literal_of n ∷ []) ns)
 
 -- ---- logs
 
@@ -51,12 +87,14 @@ with_literals name literals words =
 -- what a line is with these literals, a 0, these hints and the words behind them
 abbrev pub with_hints : ℕ → List Lit → List ℕ → List (List ℕ) → Line
 with_hints name literals hints words =
-    step_of_numbers name (option_map (λ ns. map number_of literals ++ pos 0 ∷ (map pos hints ++ ns)) (all_there (map signed_number_in words)))
+    step_of_numbers name (option_map (λ ns. map number_of literals ++ pos 0 ∷ (map pos hints ++ ns))
+    (all_there (map signed_number_in words)))
 
 -- what a line is with these literals, a 0, these hints, a 0 and the words behind them
 abbrev pub with_both : ℕ → List Lit → List ℕ → List (List ℕ) → Line
 with_both name literals hints words =
-    step_of_numbers name (option_map (λ ns. map number_of literals ++ pos 0 ∷ (map pos hints ++ pos 0 ∷ ns)) (all_there (map signed_number_in words)))
+    step_of_numbers name (option_map (λ ns. map number_of literals ++ pos 0 ∷ (map pos hints ++ pos 0 ∷ ns))
+    (all_there (map signed_number_in words)))
 
 -- whether words end a deletion, where the number before them was a 0 or not
 abbrev pub end_deleted : Bool → List (List ℕ) → Bool

@@ -5,6 +5,7 @@ ghost use Rattle.sequence.specs.Options.{passes};
 ghost use Rattle.clause_core.specs.Literals.{number_of};
 ghost use Rattle.tsl_text.specs.Numbers.{signed_number_in};
 ghost use Rattle.refutation_check.specs.Numbers.{is_zero};
+ghost use Rattle.refutation_check.specs.Reading.{begins_with_zero};
 ghost use Rattle.refutation_check.specs.LogText.{is_literal, is_hint};
 
 use clause_core::Literal;
@@ -15,7 +16,18 @@ pub fn ends_list(word: &[u8]) -> bool
     ensures value { result ≡ passes is_zero (signed_number_in word.now) }
     ensures zero { result ≡ true → signed_number_in word.now ≡ Some (pos 0) }
 {
-    matches!(signed_number_in(word), Some(0))
+    if begins_with_zero(word) {
+        matches!(signed_number_in(word), Some(0))
+    } else {
+        false
+    }
+}
+
+/// Whether the word begins with a `0`, as each does that means 0.
+fn begins_with_zero(word: &[u8]) -> bool
+    ensures { result ≡ begins_with_zero word.now }
+{
+    matches!(word, [b'0', ..])
 }
 
 /// Whether the word means a number up to this one or its opposite.

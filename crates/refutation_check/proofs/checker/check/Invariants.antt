@@ -9,5 +9,6 @@ invariant-loop-place l = record {
   accepted : AreAccepted l.cnf.variables (length l.cnf.clauses) (take l.place l.steps);
   count : length l.cnf.clauses ≤ l.largest;
   largest : All (λ step. step.number ≤ l.largest) (take l.place l.steps);
-  same : steps_refusal l.cnf.variables l.largest (known_behind l.cnf.clauses (take l.place l.steps)) (drop l.place l.steps) ≡ steps_refusal l.cnf.variables (length l.cnf.clauses) (numbered_from 1 l.cnf.clauses) l.steps;
+  same : steps_refusal l.cnf.variables l.largest (known_behind l.cnf.clauses (take l.place l.steps)) (drop l.place l.steps)
+      ≡ steps_refusal l.cnf.variables (length l.cnf.clauses) (numbered_from 1 l.cnf.clauses) l.steps;
 }

@@ -3,11 +3,13 @@ use Rattle.refutation_check.proofs.Naming.{named_at, named_outside}
 use Rattle.refutation_check.proofs.checker.clause_of_formula.Goals as goal
 
 pub returns-then-number-eq0-clause-value : goal.returns-then-number-eq0-clause-value
-returns-then-number-eq0-clause-value c = sym (named_outside c.args.cnf.now.clauses 1 c.args.number (λ a b. omega (arith, c.if-number-eq0.true)))
+returns-then-number-eq0-clause-value c =
+    sym (named_outside c.args.cnf.now.clauses 1 c.args.number (λ a b. omega (arith, c.if-number-eq0.true)))
 
 pub returns-else-number-eq0-clause-value : goal.returns-else-number-eq0-clause-value
 returns-else-number-eq0-clause-value c =
     let clauses = c.args.cnf.now.clauses in
     let d = c.index-as_slice-number.result in
     let some = c.if-number-eq0.false in
-    ap Some (c.index-as_slice-number.is ∙ ap (λ xs. get_or xs (c.args.number - 1) d) c.as_slice.ensures) ∙ sym (named_at clauses 1 (c.args.number - 1) c.args.number d (omega (arith, c.requires, some)) (omega (arith, some)))
+    ap Some (c.index-as_slice-number.is ∙ ap (λ xs. get_or xs (c.args.number - 1) d) c.as_slice.ensures)
+    ∙ sym (named_at clauses 1 (c.args.number - 1) c.args.number d (omega (arith, c.requires, some)) (omega (arith, some)))

@@ -8,7 +8,8 @@ loop-low-preserved-then-accepted-middle c =
     record {
       order = omega arith;
       within = c.loop-low.invariant.within;
-      below = below_through c.args.accepted.now c.args.number middle c.index-accepted-middle.result c.requires (omega (arith, c.loop-low.invariant.within)) c.if-accepted-middle.true;
+      below = below_through c.args.accepted.now c.args.number middle c.index-accepted-middle.result c.requires
+          (omega (arith, c.loop-low.invariant.within)) c.if-accepted-middle.true;
       above = c.loop-low.invariant.above;
     }
 
@@ -19,5 +20,6 @@ loop-low-preserved c =
       order = omega arith;
       within = omega (arith, c.loop-low.invariant.within);
       below = c.loop-low.invariant.below;
-      above = above_from c.args.accepted.now c.args.number middle c.index-accepted-middle.result c.requires (omega (arith, c.loop-low.invariant.within)) c.if-accepted-middle.false;
+      above = above_from c.args.accepted.now c.args.number middle c.index-accepted-middle.result c.requires
+          (omega (arith, c.loop-low.invariant.within)) c.if-accepted-middle.false;
     }

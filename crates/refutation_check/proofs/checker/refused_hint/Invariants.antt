@@ -7,5 +7,6 @@ abbrev pub invariant-loop-hint : goal.invariant-loop-hint
 invariant-loop-hint l = record {
   variables : l.marks.variables ≡ l.cnf.variables;
   position : l.position ≡ 1 + l.hint-index;
-  same : refused_hint (known_behind l.cnf.clauses l.accepted) l.marks.literals l.position (drop l.hint-index l.hints) ≡ refused_hint (known_behind l.cnf.clauses l.accepted) l.fn.marks.literals 1 l.hints;
+  same : refused_hint (known_behind l.cnf.clauses l.accepted) l.marks.literals l.position (drop l.hint-index l.hints)
+      ≡ refused_hint (known_behind l.cnf.clauses l.accepted) l.fn.marks.literals 1 l.hints;
 }

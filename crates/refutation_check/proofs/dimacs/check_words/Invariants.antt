@@ -8,8 +8,10 @@ use Rattle.refutation_check.proofs.dimacs.check_words.Given as goal
 abbrev pub invariant-loop-word : goal.invariant-loop-word
 invariant-loop-word l = record {
   few : HasFewLines l.rest.number l.rest.text.now;
-  wrong : find (λ word. not (is_right l.counts word)) (with_zeros l.ended (words_left l.rest.line.now l.rest.number l.rest.text.now)) ≡ first_wrong l.counts (words_left l.fn.rest.line.now l.fn.rest.number l.fn.rest.text.now);
-  zeros : l.ended + count_by is_zero (numbers_of (words_left l.rest.line.now l.rest.number l.rest.text.now)) ≡ count_by is_zero (numbers_of (words_left l.fn.rest.line.now l.fn.rest.number l.fn.rest.text.now));
+  wrong : find (λ word. not (is_right l.counts word)) (with_zeros l.ended (words_left l.rest.line.now l.rest.number l.rest.text.now))
+      ≡ first_wrong l.counts (words_left l.fn.rest.line.now l.fn.rest.number l.fn.rest.text.now);
+  zeros : l.ended + count_by is_zero (numbers_of (words_left l.rest.line.now l.rest.number l.rest.text.now))
+      ≡ count_by is_zero (numbers_of (words_left l.fn.rest.line.now l.fn.rest.number l.fn.rest.text.now));
 }
 
 abbrev pub decreases-loop-word : goal.decreases-loop-word

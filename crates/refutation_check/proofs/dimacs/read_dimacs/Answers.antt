@@ -14,4 +14,7 @@ returns-in_ok-clauses-in-Ok-clause-ok c =
     let first = c.in-Some.first in
     let left = c.in-Some.left in
     let rest = c.after_line-rest.result in
-    cnf_is c.args.text.now (line_view first) (data_lines_from (first.number + 1) left.text.now) c.in-Some-header.counts c.in-Ok.ended (words_left rest.line.now rest.number rest.text.now) c.from_vec.result c.in-Some.ensures.some (sym c.in-Some-header.is ∙ c.header.ensures) c.after_line-rest.ensures.left c.in-Ok.ensures.right c.in-Ok.ensures.ended c.if-ended-counts.false c.if-counts-gt1048576.false c.if-counts-gt2000000.false (c.from_vec.ensures ∙ c.in_ok-clauses-in-Ok.ensures.value)
+    cnf_is c.args.text.now (line_view first) (data_lines_from (first.number + 1) left.text.now) c.in-Some-header.counts c.in-Ok.ended
+    (words_left rest.line.now rest.number rest.text.now) c.from_vec.result c.in-Some.ensures.some (sym c.in-Some-header.is
+    ∙ c.header.ensures) c.after_line-rest.ensures.left c.in-Ok.ensures.right c.in-Ok.ensures.ended c.if-ended-counts.false
+    c.if-counts-gt1048576.false c.if-counts-gt2000000.false (c.from_vec.ensures ∙ c.in_ok-clauses-in-Ok.ensures.value)

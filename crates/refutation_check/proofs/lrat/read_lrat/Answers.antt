@@ -15,11 +15,15 @@ loop-line-preserved c =
     let answer = c.in_ok-read_line.field-0 in
     let kept = c.loop-line.invariant in
     let is : answer ≡ line_answer line.bytes.now = c.in_ok-read_line.ensures.value in
-    let right : is_wrong (line_answer line.bytes.now) ≡ false = ap is_wrong (sym is) ∙ not_wrong (is_wrong answer) (sym c.in_ok-add_line.ensures.right ∙ c.if-not-branch.false) in
+    let right : is_wrong (line_answer line.bytes.now) ≡ false = ap is_wrong (sym is)
+    ∙ not_wrong (is_wrong answer) (sym c.in_ok-add_line.ensures.right ∙ c.if-not-branch.false) in
     let added : c.add_line.new.steps.items ≡ steps ++ option_to_list (step_in answer) = c.in_ok-add_line.ensures.steps in
     record {
-      same = ap (λ ss. log_among ss (lines_left after)) (added ∙ ap (λ a. steps ++ option_to_list (step_in a)) is) ∙ (sym (log_more (lines_left left) (line_view line) (lines_left after) steps c.in-Some.ensures.some right) ∙ kept.same);
-      few = subst (All (λ step. length step.hints ≤ length c.args.text.now)) (sym added) (few_more steps answer (length line.bytes.now) (length c.args.text.now) (omega (arith, kept.within, c.in-Some.ensures.within)) kept.few c.in_ok-read_line.ensures.few_hints);
+      same = ap (λ ss. log_among ss (lines_left after)) (added ∙ ap (λ a. steps ++ option_to_list (step_in a)) is)
+          ∙ (sym (log_more (lines_left left) (line_view line) (lines_left after) steps c.in-Some.ensures.some right) ∙ kept.same);
+      few = subst (All (λ step. length step.hints ≤ length c.args.text.now)) (sym added)
+          (few_more steps answer (length line.bytes.now) (length c.args.text.now)
+          (omega (arith, kept.within, c.in-Some.ensures.within)) kept.few c.in_ok-read_line.ensures.few_hints);
       countable = c.in-Some.ensures.countable;
       within = omega (arith, kept.within, c.in-Some.ensures.shorter);
     }

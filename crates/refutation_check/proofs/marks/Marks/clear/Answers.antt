@@ -11,5 +11,7 @@ loop-literal-preserved c =
     let before : now.literals.items ≡ rest ++ l ∷ [] = c.pop.ensures.items ∙ ap (λ o. rest ++ option_to_list o) c.in-Some.is in
     record {
       variables = c.loop-literal.invariant.variables;
-      table = subst (λ k. IsAtMost now.variables (set now.truths.items k false) (reverse rest)) (sym c.place.ensures) (taken_back now.variables now.truths.items l (reverse rest) (subst (IsAtMost now.variables now.truths.items) (reverse_push now.literals.items rest l before) c.loop-literal.invariant.table));
+      table = subst (λ k. IsAtMost now.variables (set now.truths.items k false) (reverse rest)) (sym c.place.ensures)
+          (taken_back now.variables now.truths.items l (reverse rest)
+          (subst (IsAtMost now.variables now.truths.items) (reverse_push now.literals.items rest l before) c.loop-literal.invariant.table));
     }
