@@ -1,18 +1,20 @@
 -- Worked examples: walks and texts that compute.
-use Rattle.std.proofs.Common.{◌≡◌, ℕ, zero, suc, Bool, true, false, List, [], ◌∷◌, ◌++◌, codes, decimal, Option, Some, None, slice_get, IsTrue, refl, sym, ap, ◌<◌, ◌∙◌, length, map, arith}
+use Rattle.std.proofs.Common.{◌≡◌, ℕ, zero, suc, Bool, true, false, List, [], ◌∷◌, ◌++◌, codes, Option, Some, None, slice_get, refl, sym, ap, ◌<◌, ◌∙◌, length, arith}
 use Rattle.std.specs.Fmt.{digits}
 use Rattle.std.specs.List.{list_all}
 use Rattle.std.proofs.lemmas.Bool.{false≢true}
 use Rattle.tsl_terms.specs.declared.names.NameKind.{NameKind}
 use Rattle.tsl_terms.specs.declared.names.NameKind.TheVariants.{Signal, Function, Predicate}
 use Rattle.tsl_terms.specs.Name.{Name}
-use Rattle.tsl_terms.specs.TermTree.{TermTree, signal, apply, TermTrees, no_terms, more_terms, ProbeTree}
-use Rattle.tsl_terms.specs.WindowTree.{WindowTree, ListedTree}
-use Rattle.flow_program.specs.NodeTree.{NodeTree, branch, assign}
-use Rattle.flow_program.specs.ProgramTree.{ProgramTree, controlled}
-use Rattle.flow_program.specs.Walk.{Action, walk}
-use Rattle.flow_program.specs.Fits.{IsDistinct, BranchesFit, AssignmentsFit, reads_only}
-use Rattle.flow_program.specs.ProgramText.{program_text, IsProgram, IsWritable, ProgramText, signal_fits}
+use Rattle.tsl_terms.specs.TermTree.{TermTree, signal, apply, no_terms, more_terms, ProbeTree}
+use Rattle.tsl_terms.specs.WindowTree.{WindowTree}
+use Rattle.flow_program.specs.NodeTree.{branch, assign}
+use Rattle.flow_program.specs.ProgramTree.{ProgramTree}
+use Rattle.flow_program.specs.Walk.{walk}
+use Rattle.sequence.specs.Numbers.{IsDistinct}
+use Rattle.tsl_terms.specs.OnlyThese.{reads_only}
+use Rattle.flow_program.specs.Fits.{BranchesFit, AssignmentsFit}
+use Rattle.flow_program.specs.ProgramText.{program_text, IsProgram, IsWritable, ProgramText}
 
 abbrev named : List ℕ → NameKind → ℕ → Name
 named text kind arity = record { text = text; kind = kind; arity = arity }
@@ -137,7 +139,8 @@ two_states = record {
   states = 3 ∷ 1 ∷ [];
 }
 
-two_states_text : program_text more_names two_states ≡ codes "tslprogram 1\ninput a\ncell c\noutput y'\nwindow a at 0 is at (f c (f a none())) c at 2 when [c <- f c (f a none())] at 0 when [c <- a] at 1\nnode 0 set [c <- f c (f a none())] [y' <- a] go 1\nnode 1 set [c <- none()] [y' <- f c (f a none())] go 0\nnode 2 if a then 0 else 1\nnode 3 if at (f c (f a none())) c then 2 else 0\nstate 0 at 3\nstate 1 at 1\nend\n"
+two_states_text : program_text more_names two_states
+    ≡ codes "tslprogram 1\ninput a\ncell c\noutput y'\nwindow a at 0 is at (f c (f a none())) c at 2 when [c <- f c (f a none())] at 0 when [c <- a] at 1\nnode 0 set [c <- f c (f a none())] [y' <- a] go 1\nnode 1 set [c <- none()] [y' <- f c (f a none())] go 0\nnode 2 if a then 0 else 1\nnode 3 if at (f c (f a none())) c then 2 else 0\nstate 0 at 3\nstate 1 at 1\nend\n"
 unfolding digits
 two_states_text = refl
 
@@ -219,5 +222,7 @@ not_writable h = false≢true h.signals
 -- a text without its last line spells no such program
 cut_short : ProgramText (codes "tslprogram 1\ninput x\noutput y\nnode 0 set [y <- x] go 0\nstate 0 at 0\n") two_names one_node → ⊥
 cut_short h =
-    let shorter : length (codes "tslprogram 1\ninput x\noutput y\nnode 0 set [y <- x] go 0\nstate 0 at 0\n") ≡ length (codes "tslprogram 1\ninput x\noutput y\nnode 0 set [y <- x] go 0\nstate 0 at 0\nend\n") = ap length (h.text ∙ one_node_text) in
+    let shorter : length (codes "tslprogram 1\ninput x\noutput y\nnode 0 set [y <- x] go 0\nstate 0 at 0\n")
+    ≡ length (codes "tslprogram 1\ninput x\noutput y\nnode 0 set [y <- x] go 0\nstate 0 at 0\nend\n") =
+    ap length (h.text ∙ one_node_text) in
     omega arith

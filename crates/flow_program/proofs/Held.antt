@@ -1,8 +1,9 @@
 -- What fits is held by the names.
-use Rattle.std.proofs.Common.{ℕ, zero, suc, ◌<◌, Bool, true, false, ◌&&◌, List, [], ◌∷◌, length, map, get_or, nat_lt, slice_get, IsTrue, refl, arith}
+use Rattle.std.proofs.Common.{ℕ, Bool, false, ◌&&◌, List, length, nat_lt, slice_get, IsTrue, refl}
 use Rattle.std.proofs.lemmas.Bool.{and_parts, and_from, lt-ltb}
 use Rattle.std.specs.List.{list_all}
 use Rattle.std.specs.Option.{option_map_or}
+use Rattle.sequence.proofs.Passes.{within_from_test}
 use Rattle.tsl_terms.specs.declared.names.NameKind.{NameKind}
 use Rattle.tsl_terms.specs.declared.names.NameKind.TheVariants.{Signal, Function, Predicate}
 use Rattle.tsl_terms.specs.Name.{Name, is_name}
@@ -12,24 +13,9 @@ use Rattle.tsl_terms.specs.WellFormed.{term_fits, terms_fit}
 use Rattle.term_text.specs.TermText.{is_held, term_is_held, terms_are_held, probe_is_held}
 use Rattle.flow_program.specs.ProgramText.{signal_fits, term_is_writable, probe_is_writable, listed_is_writable, window_is_writable}
 
-within : {A : Type 0} (xs : List A) (i : ℕ) (test : A → Bool) → IsTrue (option_map_or test (slice_get xs i) false) → i < length xs
-within [] i test h = absurd (cc)
-within (x ∷ xs) zero test h = omega arith
-within (x ∷ xs) (suc i) test h = let deeper = within xs i test h in omega arith
-
-held_at : {A : Type 0} (xs : List A) (i : ℕ) (test : A → Bool) → IsTrue (option_map_or test (slice_get xs i) false) → IsTrue (nat_lt i (length xs))
-held_at xs i test h = lt-ltb i (length xs) (within xs i test h)
-
--- what a test says of a whole list, it says at each place
-pub passes_at : {X : Type 0} (test : X → Bool) (xs : List X) (i : ℕ) (d : X) → IsTrue (list_all test xs) → i < length xs → IsTrue (test (get_or xs i d))
-passes_at test [] i d h l = absurd (omega arith)
-passes_at test (x ∷ xs) zero d h l = (and_parts _ _ h).0
-passes_at test (x ∷ xs) (suc i) d h l = passes_at test xs i d (and_parts _ _ h).1 (omega arith)
-
-pub map_passes_at : {X Y : Type 0} (v : X → Y) (test : Y → Bool) (xs : List X) (i : ℕ) (d : X) → IsTrue (list_all test (map v xs)) → i < length xs → IsTrue (test (v (get_or xs i d)))
-map_passes_at v test [] i d h l = absurd (omega arith)
-map_passes_at v test (x ∷ xs) zero d h l = (and_parts _ _ h).0
-map_passes_at v test (x ∷ xs) (suc i) d h l = map_passes_at v test xs i d (and_parts _ _ h).1 (omega arith)
+held_at : {A : Type 0} (xs : List A) (i : ℕ) (test : A → Bool) → IsTrue (option_map_or test (slice_get xs i) false) →
+    IsTrue (nat_lt i (length xs))
+held_at xs i test h = lt-ltb i (length xs) (within_from_test xs i test h)
 
 name_held : (names : List Name) (id : ℕ) (kind : NameKind) (arity : ℕ) → IsTrue (is_name names id kind arity) → IsTrue (is_held names id)
 name_held names id kind arity h = held_at names id _ h
@@ -57,7 +43,8 @@ written_probe_held names p h =
     let fits = and_parts _ _ (and_parts _ _ (and_parts _ _ h).0).0 in
     and_from _ _ (name_held names p.predicate Predicate (count_of_terms p.arguments) fits.0) (terms_held names p.arguments fits.1)
 
-pub listed_held : (names : List Name) (u : ListedTree) → IsTrue (listed_is_writable names u) → IsTrue (is_held names u.signal) × IsTrue (term_is_held names u.term)
+pub listed_held : (names : List Name) (u : ListedTree) → IsTrue (listed_is_writable names u) →
+    IsTrue (is_held names u.signal) × IsTrue (term_is_held names u.term)
 listed_held names u h =
     let parts = and_parts (signal_fits names u.signal) (term_is_writable names u.term) h in
     (signal_held names u.signal parts.0, written_term_held names u.term parts.1)
@@ -70,6 +57,7 @@ pub record WindowParts (names : List Name) (w : WindowTree) : Type 0 where
 
 pub window_parts : (names : List Name) (w : WindowTree) → IsTrue (window_is_writable names w) → WindowParts names w
 window_parts names w h =
-    let parts = and_parts (probe_is_writable names w.left && probe_is_writable names w.right) (list_all (listed_is_writable names) w.updates) h in
+    let parts = and_parts (probe_is_writable names w.left && probe_is_writable names w.right)
+    (list_all (listed_is_writable names) w.updates) h in
     let probes = and_parts (probe_is_writable names w.left) (probe_is_writable names w.right) parts.0 in
     record { left = probes.0; right = probes.1; updates = parts.1 }

@@ -1,6 +1,5 @@
 mod Examples
 pub mod Held
-pub mod Steps
 pub mod Numbers
 pub mod Lines
 pub mod OneLine

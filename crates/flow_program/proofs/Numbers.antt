@@ -1,8 +1,8 @@
 -- A number ends where no digit follows, and begins with a digit.
-use Rattle.std.proofs.Common.{◌≡◌, ℕ, ◌+◌, ◌%◌, ◌^◌, ◌<◌, ◌≤◌, Bool, true, false, ◌&&◌, List, [], ◌∷◌, ◌++◌, codes, decimal, leb, IsTrue, refl, sym, ap, subst, ◌∙◌, arith}
+use Rattle.std.proofs.Common.{◌≡◌, ℕ, ◌+◌, ◌%◌, ◌^◌, ◌<◌, true, false, List, [], ◌∷◌, ◌++◌, codes, decimal, leb, IsTrue, refl, sym, ap, subst, ◌∙◌, arith}
 use Rattle.std.specs.Char.{is_ascii_digit}
 use Rattle.std.specs.List.{list_all}
-use Rattle.std.proofs.lemmas.Bool.{and_parts, and_from, le-leb}
+use Rattle.std.proofs.lemmas.Bool.{and_from, le-leb}
 use Rattle.std.proofs.lemmas.Fmt.{decimal_by_steps, decimal_injective}
 use Rattle.std.proofs.lemmas.List.Folds.{list_all-append}
 use Rattle.term_text.proofs.Fronts.{begins, one_run}
@@ -36,13 +36,15 @@ one_more n ds h d = record {
   digit = d.digit;
   all =
       list_all-append is_ascii_digit ds ((48 + n) ∷ [])
-      ∙ and_from (list_all is_ascii_digit ds) (list_all is_ascii_digit ((48 + n) ∷ [])) d.all (and_from (is_ascii_digit (48 + n)) true (is_digit n h) refl);
+      ∙ and_from (list_all is_ascii_digit ds) (list_all is_ascii_digit ((48 + n) ∷ [])) d.all
+      (and_from (is_ascii_digit (48 + n)) true (is_digit n h) refl);
 }
 
 pub digits : (n : ℕ) → n < 2 ^ 64 → Digits (decimal n)
 digits n h = decimal_by_steps (λ m ds. Digits ds) one_digit (λ m ds far d. one_more (m % 10) ds (omega arith) d) n h
 
-pub one_number : (m n : ℕ) (u v : List ℕ) → m < 2 ^ 64 → n < 2 ^ 64 → begins is_ascii_digit u ≡ false → begins is_ascii_digit v ≡ false → decimal m ++ u ≡ decimal n ++ v → (m ≡ n) × (u ≡ v)
+pub one_number : (m n : ℕ) (u v : List ℕ) → m < 2 ^ 64 → n < 2 ^ 64 → begins is_ascii_digit u ≡ false → begins is_ascii_digit v ≡ false →
+    decimal m ++ u ≡ decimal n ++ v → (m ≡ n) × (u ≡ v)
 one_number m n u v p q h k e =
     let run = one_run is_ascii_digit (decimal m) (decimal n) u v (digits m p).all (digits n q).all h k e in
     (decimal_injective m n p q run.0, run.1)
@@ -56,4 +58,5 @@ at_ends n u h =
 pub then_ends : (n : ℕ) (u : List ℕ) → n < 2 ^ 64 → Ends (codes " then " ++ (decimal n ++ u))
 then_ends n u h =
     let d = digits n h in
-    subst (λ (zs : List ℕ). Ends (codes " then " ++ (zs ++ u))) (sym d.is) (word_ends 116 (104 ∷ 101 ∷ 110 ∷ []) d.first (d.rest ++ u) refl d.digit)
+    subst (λ (zs : List ℕ). Ends (codes " then " ++ (zs ++ u))) (sym d.is)
+    (word_ends 116 (104 ∷ 101 ∷ 110 ∷ []) d.first (d.rest ++ u) refl d.digit)

@@ -1,27 +1,30 @@
 -- What every program keeps.
-use Rattle.std.specs.Prelude.{◌≡◌, ℕ, ◌<◌, Bool, true, false, ◌&&◌, ◌||◌, ◌==◌, nat_le, nat_lt, List, [], ◌∷◌, length, Some, slice_get, IsTrue}
-use Rattle.std.specs.List.{list_all, list_any}
-use Rattle.tsl_terms.specs.TermTree.{TermTree, signal, apply, TermTrees, no_terms, more_terms, ProbeTree}
+use Rattle.std.specs.Prelude.{
+  ◌≡◌,
+  ℕ,
+  ◌<◌,
+  Bool,
+  true,
+  false,
+  ◌&&◌,
+  ◌||◌,
+  ◌==◌,
+  nat_le,
+  nat_lt,
+  List,
+  [],
+  ◌∷◌,
+  length,
+  Some,
+  slice_get,
+  IsTrue,
+}
+use Rattle.std.specs.List.{list_all}
+use Rattle.sequence.specs.Numbers.{is_among}
+use Rattle.tsl_terms.specs.TermTree.{TermTree, ProbeTree}
+use Rattle.tsl_terms.specs.OnlyThese.{reads_only, read_only}
 use Rattle.tsl_terms.specs.WindowTree.{WindowTree, ListedTree}
 use Rattle.flow_program.specs.NodeTree.{NodeTree, branch, assign}
-
--- whether a number stands in a list
-abbrev pub is_among : List ℕ → ℕ → Bool
-is_among ids s = list_any (λ r. r == s) ids
-
--- no number stands twice
-abbrev pub IsDistinct : List ℕ → Type 0
-IsDistinct ids = (i j s : ℕ) → slice_get ids i ≡ Some s → slice_get ids j ≡ Some s → i ≡ j
-
--- a term reads these signals only
-abbrev mutual
-  pub reads_only : List ℕ → TermTree → Bool
-  reads_only ids (signal s) = is_among ids s
-  reads_only ids (apply f arguments) = read_only ids arguments
-
-  pub read_only : List ℕ → TermTrees → Bool
-  read_only ids no_terms = true
-  read_only ids (more_terms t ts) = reads_only ids t && read_only ids ts
 
 -- a test names smaller nodes, and reads these signals only
 abbrev pub BranchesFit : List ℕ → List NodeTree → Type 0

@@ -2,6 +2,7 @@
 -- This format is the project's own.
 use Rattle.std.specs.Prelude.{◌≡◌, ℕ, suc, ◌+◌, ◌≤◌, Bool, ◌&&◌, nat_le, List, [], ◌∷◌, ◌++◌, length, flat_map, codes, decimal, IsTrue}
 use Rattle.std.specs.List.{list_all}
+use Rattle.sequence.specs.Numbers.{IsDistinct}
 use Rattle.tsl_terms.specs.declared.names.NameKind.TheVariants.{Signal}
 use Rattle.tsl_terms.specs.Name.{Name, is_name}
 use Rattle.tsl_terms.specs.TermTree.{TermTree, ProbeTree}
@@ -10,7 +11,7 @@ use Rattle.tsl_terms.specs.WindowTree.{WindowTree, ListedTree}
 use Rattle.term_text.specs.TermText.{name_text, probe_text, update_text}
 use Rattle.flow_program.specs.NodeTree.{NodeTree, branch, assign}
 use Rattle.flow_program.specs.ProgramTree.{ProgramTree, controlled}
-use Rattle.flow_program.specs.Fits.{IsDistinct, BranchesFit, AssignmentsFit, StatesFit, window_fits}
+use Rattle.flow_program.specs.Fits.{BranchesFit, AssignmentsFit, StatesFit, window_fits}
 
 -- a word and a name on each line
 abbrev pub declarations : List ℕ → List Name → List ℕ → List ℕ

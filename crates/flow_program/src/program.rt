@@ -3,7 +3,8 @@
 ghost use Rattle.std.specs.Prelude.{◌+◌, ◌++◌, length, map, IsTrue};
 ghost use Rattle.std.specs.List.{list_all};
 ghost use Rattle.tsl_terms.specs.WindowTree.{window_tree};
-ghost use Rattle.flow_program.specs.Fits.{IsDistinct, BranchesFit, AssignmentsFit, StatesFit, window_fits};
+ghost use Rattle.sequence.specs.Numbers.{IsDistinct};
+ghost use Rattle.flow_program.specs.Fits.{BranchesFit, AssignmentsFit, StatesFit, window_fits};
 ghost use Rattle.flow_program.specs.NodeTree.{node_tree};
 
 use crate::node::Node;

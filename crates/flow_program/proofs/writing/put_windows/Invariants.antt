@@ -5,4 +5,6 @@ use Rattle.flow_program.specs.ProgramText.{window_text}
 use Rattle.flow_program.proofs.writing.put_windows.Given as goal
 
 abbrev pub invariant-loop-window : goal.invariant-loop-window
-invariant-loop-window l = l.out.items ++ flat_map (window_text l.names) (map window_tree (drop l.window-index l.windows)) ≡ l.fn.out.items ++ flat_map (window_text l.names) (map window_tree l.windows)
+invariant-loop-window l =
+    l.out.items ++ flat_map (window_text l.names) (map window_tree (drop l.window-index l.windows)) ≡ l.fn.out.items
+    ++ flat_map (window_text l.names) (map window_tree l.windows)
