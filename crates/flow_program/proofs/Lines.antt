@@ -1,7 +1,7 @@
 -- Lists of lines: the letter that a line begins with tells where a list of them ends.
 use Rattle.std.proofs.Common.{◌≡◌, ℕ, suc, Bool, true, false, List, [], ◌∷◌, ◌++◌, flat_map, eqb, refl, sym, ap, ◌∙◌, append_assoc}
 use Rattle.std.specs.List.{AllByRecursion}
-use Rattle.term_text.proofs.Fronts.{begins, other_front}
+use Rattle.tsl_text.proofs.Fronts.{begins, other_front}
 
 abbrev pub is_letter : ℕ → ℕ → Bool
 is_letter letter c = eqb c letter

@@ -9,12 +9,14 @@ use Rattle.tsl_terms.specs.TermTree.{TermTree, ProbeTree}
 use Rattle.tsl_terms.specs.WellFormed.{is_usable_at, term_fits, probe_fits}
 use Rattle.tsl_terms.specs.WindowTree.{WindowTree, ListedTree}
 use Rattle.term_text.specs.TermText.{name_text, probe_text, update_text}
-use Rattle.term_text.proofs.Fronts.{begins, other_front, tails}
+use Rattle.sequence.proofs.Lists.{tails}
+use Rattle.tsl_text.proofs.Fronts.{begins, other_front}
 use Rattle.term_text.proofs.Spelling.{one_name, one_probe, one_update}
 use Rattle.flow_program.specs.NodeTree.{NodeTree, branch, assign}
 use Rattle.flow_program.specs.ProgramText.{listed_text, window_text, updates_text, node_text}
 use Rattle.flow_program.proofs.Lines.{is_letter, begins_lines, one_list_of_lines}
-use Rattle.flow_program.proofs.Numbers.{one_number, at_ends, then_ends}
+use Rattle.tsl_text.proofs.NumberLaws.{one_number}
+use Rattle.flow_program.proofs.Numbers.{at_ends, then_ends}
 
 -- the pieces of a line, from the left
 three : (a b c u : List ℕ) → ((a ++ b) ++ c) ++ u ≡ a ++ (b ++ (c ++ u))

@@ -15,7 +15,7 @@ use Rattle.tsl_terms.specs.TermTree.{TermTree, ProbeTree}
 use Rattle.tsl_terms.specs.WellFormed.{is_usable_at, term_fits, probe_fits, brackets, brackets_of_arguments, deepest}
 use Rattle.tsl_terms.specs.WindowTree.{WindowTree, ListedTree}
 use Rattle.term_text.specs.TermText.{name_text}
-use Rattle.term_text.proofs.Fronts.{begins}
+use Rattle.tsl_text.proofs.Fronts.{begins}
 use Rattle.flow_program.specs.NodeTree.{NodeTree, branch, assign}
 use Rattle.flow_program.specs.ProgramTree.{ProgramTree, controlled}
 use Rattle.flow_program.specs.Fits.{StatesFit, window_fits, longest, rises}

@@ -24,6 +24,7 @@ use Rattle.sequence.specs.Numbers.{is_among}
 use Rattle.tsl_terms.specs.TermTree.{TermTree, ProbeTree}
 use Rattle.tsl_terms.specs.OnlyThese.{reads_only, read_only}
 use Rattle.tsl_terms.specs.WindowTree.{WindowTree, ListedTree}
+use Rattle.flow_program.specs.declared.limits.TheConstants.{LONGEST_WINDOW}
 use Rattle.flow_program.specs.NodeTree.{NodeTree, branch, assign}
 
 -- a test names smaller nodes, and reads these signals only
@@ -56,13 +57,19 @@ rises cells (u ∷ v ∷ us) = comes_before cells u v && rises cells (v ∷ us)
 
 -- the longest window
 abbrev pub longest : ℕ
-longest = 3
+longest = LONGEST_WINDOW
 
--- The length is at most 3, the left probe stands within it, and the listed updates are of cells, at
--- offsets below the length, in rising order. Probes and terms read these signals only.
+-- The length is at most 3, the left probe stands within it, and the listed updates are of cells, at offsets below the
+-- length, in rising order.
+abbrev pub window_is_shaped : List ℕ → WindowTree → Bool
+window_is_shaped cells w =
+    (nat_le w.length longest && nat_le w.left_at w.length)
+    && (list_all (λ u. nat_lt u.offset w.length && is_among cells u.signal) w.updates && rises cells w.updates)
+
+-- probes and terms read these signals only
+abbrev pub window_reads_only : List ℕ → WindowTree → Bool
+window_reads_only readable w =
+    (read_only readable w.left.arguments && read_only readable w.right.arguments) && list_all (λ u. reads_only readable u.term) w.updates
+
 abbrev pub window_fits : List ℕ → List ℕ → WindowTree → Bool
-window_fits readable cells w =
-    ((nat_le w.length longest && nat_le w.left_at w.length)
-    && (list_all (λ u. nat_lt u.offset w.length && is_among cells u.signal) w.updates && rises cells w.updates))
-    && ((read_only readable w.left.arguments && read_only readable w.right.arguments)
-    && list_all (λ u. reads_only readable u.term) w.updates)
+window_fits readable cells w = window_is_shaped cells w && window_reads_only readable w

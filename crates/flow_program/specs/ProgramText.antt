@@ -9,6 +9,7 @@ use Rattle.tsl_terms.specs.TermTree.{TermTree, ProbeTree}
 use Rattle.tsl_terms.specs.WellFormed.{is_usable_at, term_fits, probe_fits, brackets, brackets_of_arguments, deepest}
 use Rattle.tsl_terms.specs.WindowTree.{WindowTree, ListedTree}
 use Rattle.term_text.specs.TermText.{name_text, probe_text, update_text}
+use Rattle.flow_program.specs.declared.limits.TheConstants.{MOST_WINDOWS, MOST_NODES, MOST_STATES}
 use Rattle.flow_program.specs.NodeTree.{NodeTree, branch, assign}
 use Rattle.flow_program.specs.ProgramTree.{ProgramTree, controlled}
 use Rattle.flow_program.specs.Fits.{BranchesFit, AssignmentsFit, StatesFit, window_fits}
@@ -83,13 +84,13 @@ node_is_writable names (assign ts go) = list_all (term_is_writable names) ts
 
 -- the most windows, nodes and states of a program text
 abbrev pub most_windows : ℕ
-most_windows = 64
+most_windows = MOST_WINDOWS
 
 abbrev pub most_nodes : ℕ
-most_nodes = 65536
+most_nodes = MOST_NODES
 
 abbrev pub most_states : ℕ
-most_states = 64
+most_states = MOST_STATES
 
 pub record IsWritable (names : List Name) (p : ProgramTree) : Type 0 where
   pub signals : IsTrue (list_all (signal_fits names) (p.inputs ++ controlled p))

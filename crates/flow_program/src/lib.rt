@@ -11,11 +11,13 @@
 #![tactic(auto)]
 
 mod laws;
+mod limits;
 mod node;
 mod program;
 mod writing;
 
 pub use laws::one_program;
+pub use limits::{LONGEST_WINDOW, MOST_NODES, MOST_STATES, MOST_WINDOWS};
 pub use node::Node;
 pub use program::Program;
 pub use writing::write_program;

@@ -5,44 +5,14 @@ use Rattle.std.specs.Int.{is_in_range}
 use Rattle.std.specs.List.{list_all}
 use Rattle.std.proofs.lemmas.Bool.{and_parts, and_from, or_cases, or_left, or_right, leb-true, eqb-true, false≢true}
 use Rattle.tsl_text.specs.Names.{is_name_start, is_name_byte, is_name_text}
-
--- whether a text begins with a byte that passes a test
-abbrev pub begins : (ℕ → Bool) → List ℕ → Bool
-begins test [] = false
-begins test (c ∷ cs) = test c
-
--- texts that begin with other bytes are not the same
-pub other_front : (test : ℕ → Bool) (u v : List ℕ) → begins test u ≡ false → begins test v ≡ true → u ≡ v → ⊥
-other_front test u v h k e = false≢true (sym h ∙ ap (begins test) e ∙ k)
-
-pub tails : (a b : ℕ) (u v : List ℕ) → a ∷ u ≡ b ∷ v → u ≡ v
-tails a b u v e = cc
-
-pub heads : (a b : ℕ) (u v : List ℕ) → a ∷ u ≡ b ∷ v → a ≡ b
-heads a b u v e = cc
+pub use Rattle.sequence.proofs.Lists.{heads, tails}
+pub use Rattle.tsl_text.proofs.Fronts.{begins, other_front, one_run}
 
 abbrev pub is_space : ℕ → Bool
 is_space c = eqb c 32
 
 abbrev pub is_round : ℕ → Bool
 is_round c = eqb c 40
-
--- a run of bytes that pass a test, up to where one follows that does not, is the only one
-pub one_run : (test : ℕ → Bool) (a b u v : List ℕ) → IsTrue (list_all test a) → IsTrue (list_all test b) → begins test u ≡ false → begins test v ≡ false → a ++ u ≡ b ++ v → (a ≡ b) × (u ≡ v)
-one_run test [] [] u v p q h k e = (refl, e)
-one_run test [] (y ∷ b) u v p q h k e =
-    let passes = (and_parts (test y) (list_all test b) q).0 in
-    let begun : begins test u ≡ test y = ap (begins test) e in
-    absurd (cc (passes, begun, h))
-one_run test (x ∷ a) [] u v p q h k e =
-    let passes = (and_parts (test x) (list_all test a) p).0 in
-    let begun : test x ≡ begins test v = ap (begins test) e in
-    absurd (cc (passes, begun, k))
-one_run test (x ∷ a) (y ∷ b) u v p q h k e =
-    let more = one_run test a b u v (and_parts (test x) (list_all test a) p).1 (and_parts (test y) (list_all test b) q).1 h k (cc) in
-    let first : x ≡ y = cc in
-    let fronts : a ≡ b = more.0 in
-    (cc, more.1)
 
 -- a name begins above the digits
 name_above : (c : ℕ) → IsTrue (is_name_start c) → 65 ≤ c
