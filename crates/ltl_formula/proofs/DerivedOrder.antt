@@ -1,5 +1,5 @@
 -- The derived order of formulas is the order of their trees.
-use Rattle.std.proofs.Common.{◌≡◌, ◌∙◌, rules, refl, ap}
+use Rattle.std.proofs.Common.{◌≡◌, ◌∙◌}
 use Rattle.std.specs.Ordering.{ordering_then}
 use Rattle.ltl_formula.specs.declared.formula.Ltl.{Ltl}
 use Rattle.ltl_formula.specs.declared.formula.Ltl.TheVariants.{True, False, Bit, NotBit, All, Any, Next', Until', Release'}

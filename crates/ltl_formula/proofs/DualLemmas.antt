@@ -1,5 +1,5 @@
 -- The dual of a formula holds exactly where the formula fails.
-use Rattle.std.proofs.Common.{◌≡◌, ◌∙◌, ℕ, Bool, true, false, not, ◌&&◌, ◌||◌, refl, sym, ap}
+use Rattle.std.proofs.Common.{◌≡◌, ◌∙◌, ℕ, Bool, true, false, not, ◌&&◌, ◌||◌, refl, sym}
 use Rattle.sequence.proofs.Booleans.{not_not}
 use Rattle.loop_shape.specs.AlongLoop.{until_at, release_at}
 use Rattle.loop_shape.proofs.Words.{not_until, not_release}

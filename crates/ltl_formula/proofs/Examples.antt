@@ -1,7 +1,7 @@
 -- Worked examples: the order of formulas, duals, and meaning on a letter loop.
 use Rattle.std.proofs.Common.{◌≡◌, true, false, [], ◌∷◌, refl}
-use Rattle.std.specs.declared.cmp.Ordering.TheVariants.{Less, Equal, Greater}
-use Rattle.ltl_formula.specs.LtlTree.{LtlTree, top, bottom, bit, not_bit, conjunction, disjunction, next, until, release, no_formulas, more_formulas}
+use Rattle.std.specs.declared.cmp.Ordering.TheVariants.{Less, Greater}
+use Rattle.ltl_formula.specs.LtlTree.{top, bottom, bit, not_bit, conjunction, next, until, release, no_formulas, more_formulas}
 use Rattle.ltl_formula.specs.LtlOrder.{tree_cmp}
 use Rattle.ltl_formula.specs.LetterLoop.{LetterLoop, holds}
 use Rattle.ltl_formula.specs.Cubes.{has_bit, cube_matches}

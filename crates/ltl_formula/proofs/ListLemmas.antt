@@ -3,7 +3,6 @@ use Rattle.std.proofs.Common.{◌≡◌, List, [], ◌∷◌, ◌++◌, map, ref
 use Rattle.std.proofs.lemmas.List.{append-nil}
 use Rattle.ltl_formula.specs.declared.formula.Ltl.{Ltl}
 use Rattle.ltl_formula.specs.LtlTree.{LtlTree, LtlTrees, no_formulas, more_formulas, formulas_in, formulas_of, ltl_tree}
-use Rattle.ltl_formula.specs.Dual.{dual, duals}
 
 -- these members, and then those of a list
 abbrev pub with_front : List LtlTree → LtlTrees → LtlTrees

@@ -6,9 +6,9 @@ use Rattle.std.specs.declared.cmp.Ordering.TheVariants.{Less, Equal, Greater}
 use Rattle.std.specs.Ordering.{nat_cmp, ordering_then, ordering_reverse, on}
 use Rattle.std.specs.Cmp.{IsTotalOrder}
 use Rattle.std.specs.Cmp.Lexicographic.{slice_cmp}
-use Rattle.std.proofs.lemmas.Cmp.{on_total, nat_list_cmp_total, ranked, tied_itself}
+use Rattle.std.proofs.lemmas.Cmp.{on_total, nat_list_cmp_total, ranked}
 use Rattle.ltl_formula.specs.LtlTree.{LtlTree, top, bottom, bit, not_bit, conjunction, disjunction, next, until, release, LtlTrees, no_formulas, more_formulas}
-use Rattle.ltl_formula.specs.LtlOrder.{rank, tree_cmp, trees_cmp}
+use Rattle.ltl_formula.specs.LtlOrder.{tree_cmp, trees_cmp}
 
 abbrev mutual
   code : LtlTree → List ℕ → List ℕ

@@ -22,7 +22,7 @@ use Rattle.obligations.specs.Choices.{letter_bits, empty_choice, bit_choices, no
 use Rattle.obligations.specs.Expansion.{ChoiceTree, expansion_by, all_choices_by, any_choices_by, choices_from, expansion, choices}
 use Rattle.obligations.specs.Numbers.{ChoiceKey, number_in, formula_named, choice_named, IsWell}
 use Rattle.obligations.specs.Obligations.{obligations, obligations_of_all, names_of}
-use Rattle.obligations.specs.StepLaw.{is_true_with, is_true, right_fails, is_good}
+use Rattle.obligations.specs.StepLaw.{is_true_with, is_true, is_waited_for, is_good}
 use Rattle.obligations.proofs.FormulaNumbers.{is_named, numbered}
 use Rattle.obligations.proofs.NamedChoices.{Agrees, AreWell, expansion_agrees, choices_agree, empty_well, goes_on_agree, puts_off_agree, names_are_enough, names_rise}
 use Rattle.obligations.proofs.StepTruth.{t, literal_is, literal_is_not, of_product, of_sum}
@@ -199,13 +199,13 @@ module _ (loop : LetterLoop) (i letter : ℕ) (set : List LtlTree) (cs : List Ch
       (λ a b. ap (λ u. holds loop b i || (holds loop a i && u)) (and_true (holds loop (until a b) (after (shape_of loop) i)))
         ∙ sym (until_unrolls (shape_of loop) (holds loop a) (holds loop b) i position)) set cs at
 
-  waits : (b a u : Bool) → (b || (a && (u && not b))) ≡ (b || (a && u))
+  waits : (b a u : Bool) → (b || (a && (u && (u && not b)))) ≡ (b || (a && u))
   waits true a u = refl
   waits false true true = refl
   waits false true false = refl
   waits false false u = refl
 
   pub some_good : list_all (λ f. holds loop f i) set ≡ list_any (is_good loop i letter) cs
-  some_good = set_law loop i position letter here fits (right_fails loop i)
+  some_good = set_law loop i position letter here fits (is_waited_for loop i)
       (λ a b. waits (holds loop b i) (holds loop a i) (holds loop (until a b) (after (shape_of loop) i))
         ∙ sym (until_unrolls (shape_of loop) (holds loop a) (holds loop b) i position)) set cs at

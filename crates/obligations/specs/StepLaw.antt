@@ -16,11 +16,11 @@ is_true_with letter later test c = cube_matches c.care c.want letter && (list_al
 abbrev pub is_true : LetterLoop → ℕ → ℕ → ChoiceTree → Bool
 is_true loop i letter c = is_true_with letter (λ f. holds loop f (after (shape_of loop) i)) (λ u. true) c
 
--- whether the right side of an until fails at a position
-abbrev pub right_fails : LetterLoop → ℕ → LtlTree → Bool
-right_fails loop i (until a b) = not (holds loop b i)
-right_fails loop i f = true
+-- whether an until is waited for at a position: its right side fails there, and it holds at the position after
+abbrev pub is_waited_for : LetterLoop → ℕ → LtlTree → Bool
+is_waited_for loop i (until a b) = holds loop (until a b) (after (shape_of loop) i) && not (holds loop b i)
+is_waited_for loop i f = holds loop f (after (shape_of loop) i)
 
--- at a position of a loop, and each until that is put off has a right side that fails there
+-- at a position of a loop, and each until that is put off is waited for there
 abbrev pub is_good : LetterLoop → ℕ → ℕ → ChoiceTree → Bool
-is_good loop i letter c = is_true_with letter (λ f. holds loop f (after (shape_of loop) i)) (right_fails loop i) c
+is_good loop i letter c = is_true_with letter (λ f. holds loop f (after (shape_of loop) i)) (is_waited_for loop i) c

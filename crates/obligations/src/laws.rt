@@ -10,7 +10,8 @@ ghost use Rattle.obligations.specs.StepLaw.{is_true, is_good};
 
 /// All formulas of a set hold at a position of a letter loop exactly where one of the set's choices is
 /// true there: the letter matches its cube, and what it leaves holds at the position after. And then
-/// one of them is good: each until that it puts off has a right side that fails at the position.
+/// one of them is good: each until that it puts off is waited for, so its right side fails at the
+/// position and it holds at the position after.
 pub fn sets_hold_by_a_choice()
     ensures some_true { (loop : LetterLoop) (i letter : ℕ) (set : List LtlTree) (cs : List ChoiceTree) →
         IsPosition (shape_of loop) i → letter_at loop i ≡ Some letter → letter < 2 ^ 64 → choices set ≡ Some cs →

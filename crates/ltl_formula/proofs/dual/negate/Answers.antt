@@ -1,6 +1,6 @@
-use Rattle.std.proofs.Common.{◌≡◌, ◌∙◌, ℕ, ap, not}
+use Rattle.std.proofs.Common.{◌∙◌, ap}
 use Rattle.ltl_formula.specs.LtlTree.{ltl_tree}
-use Rattle.ltl_formula.specs.LetterLoop.{LetterLoop, holds}
+use Rattle.ltl_formula.specs.LetterLoop.{holds}
 use Rattle.ltl_formula.proofs.DualLemmas.{dual_fails}
 use Rattle.ltl_formula.proofs.dual.negate.Goals as goal
 

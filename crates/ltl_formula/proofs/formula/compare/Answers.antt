@@ -1,6 +1,4 @@
-use Rattle.std.proofs.Common.{◌≡◌, ◌∙◌}
-use Rattle.ltl_formula.specs.LtlTree.{ltl_tree}
-use Rattle.ltl_formula.specs.LtlOrder.{tree_cmp}
+use Rattle.std.proofs.Common.{◌∙◌}
 use Rattle.ltl_formula.proofs.DerivedOrder.{order_is}
 use Rattle.ltl_formula.proofs.formula.compare.Goals as goal
 

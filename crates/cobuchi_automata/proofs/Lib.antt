@@ -1,0 +1,4 @@
+pub mod Examples
+pub mod CounterLemmas
+pub mod LawLemmas
+pub mod UntilLemmas

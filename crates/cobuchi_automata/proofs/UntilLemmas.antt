@@ -1,0 +1,40 @@
+-- The untils of a formula are untils.
+use Rattle.std.proofs.Common.{◌≡◌, List, [], ◌∷◌, ◌++◌, Bool, true, false, if◌then◌else◌, refl}
+use Rattle.std.specs.List.{AllByRecursion}
+use Rattle.sequence.specs.Kept.{with_new, is_kept}
+use Rattle.sequence.proofs.Each.{each_joined}
+use Rattle.ltl_formula.specs.LtlTree.{LtlTree, LtlTrees, top, bottom, bit, not_bit, conjunction, disjunction, next, until, release, no_formulas, more_formulas}
+use Rattle.obligations.specs.Expansion.{same_formula}
+use Rattle.cobuchi_automata.specs.Automata.{untils_in, untils_in_all, untils_of}
+
+pub record IsUntil (f : LtlTree) : Type 0 where
+  pub left : LtlTree
+  pub right : LtlTree
+  pub is : f ≡ until left right
+
+mutual
+  each_in : (f : LtlTree) → AllByRecursion IsUntil (untils_in f)
+  each_in top = tt
+  each_in bottom = tt
+  each_in (bit b) = tt
+  each_in (not_bit b) = tt
+  each_in (conjunction fs) = each_in_all fs
+  each_in (disjunction fs) = each_in_all fs
+  each_in (next a) = each_in a
+  each_in (until a b) = (record { left = a; right = b; is = refl }, each_joined IsUntil (untils_in a) (untils_in b) (each_in a) (each_in b))
+  each_in (release a b) = each_joined IsUntil (untils_in a) (untils_in b) (each_in a) (each_in b)
+
+  each_in_all : (fs : LtlTrees) → AllByRecursion IsUntil (untils_in_all fs)
+  each_in_all no_formulas = tt
+  each_in_all (more_formulas f fs) = each_joined IsUntil (untils_in f) (untils_in_all fs) (each_in f) (each_in_all fs)
+
+each_new : {A : Type 0} (P : A → Type 0) (same : A → A → Bool) (kept xs : List A) → AllByRecursion P kept → AllByRecursion P xs → AllByRecursion P (with_new same kept xs)
+each_new {A = A} P same kept [] first rest = first
+each_new {A = A} P same kept (x ∷ xs) first rest = by (is_kept same kept x) (λ ks each. each_new P same ks xs each rest.1)
+  where
+    by : (b : Bool) → ((ks : List A) → AllByRecursion P ks → AllByRecursion P (with_new same ks xs)) → AllByRecursion P (with_new same (if b then kept else kept ++ x ∷ []) xs)
+    by true go = go kept first
+    by false go = go (kept ++ x ∷ []) (each_joined P kept (x ∷ []) first (rest.0, tt))
+
+pub untils_are : (f : LtlTree) → AllByRecursion IsUntil (untils_of f)
+untils_are f = each_new IsUntil same_formula [] (untils_in f) tt (each_in f)
