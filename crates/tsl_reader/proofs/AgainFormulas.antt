@@ -2,8 +2,8 @@
 use Rattle.std.proofs.Common.{◌≡◌, ℕ, suc, ◌<◌, ◌≤◌, List, ◌∷◌, ◌++◌, refl, ap, ◌∙◌, append_assoc, arith}
 use Rattle.std.specs.Prelude.{Option, Some, None, Ok}
 use Rattle.tsl_text.specs.declared.TokenKind.TheVariants.{And, Or, Arrow, BothArrow}
-use Rattle.tsl_reader.specs.declared.syntax.Binary.{Binary}
-use Rattle.tsl_reader.specs.declared.syntax.Binary.TheVariants.{Implication, Equivalence}
+use Rattle.tsl_terms.specs.declared.operator.BinaryOperator.{BinaryOperator}
+use Rattle.tsl_terms.specs.declared.operator.BinaryOperator.TheVariants.{Implication, Equivalence}
 use Rattle.tsl_reader.specs.Syntax.{Terminal, mark, FormulaSyntax, between, all_of, any_of}
 use Rattle.tsl_reader.specs.Grammar.{temporal_of, IsFormula, temporal, chain as chained, IsIff, no_iff, iff, IsImp, no_imp, imp, IsOr, disjunction, AreDisjuncts, no_disjunct as no_disjuncts, more_disjuncts, IsAnd, conjunction, AreConjuncts, no_conjunct as no_conjuncts, more_conjuncts, IsPrefix}
 use Rattle.tsl_reader.specs.Reading.{Reader, Level, and_then, made, chain, prefix_with, conjunct, and_behind, and_with, disjunct, or_behind_and, or_behind, imp_behind_or, imp_behind, imp_with, iff_behind_imp, iff_behind, iff_with, temporal_in, formula_from, formula_behind, formula_with, above, lower}
@@ -169,7 +169,7 @@ iff_again : (room : ℕ) (low : Option Level) → Known room low → (xs : List 
 unfolding iff_with
 iff_again room low k xs f h rest ends = begun_again room low k (iff_behind low) 2 (omega arith) xs f (iff_begun room low k xs f h) rest ends
 
-right_again : (room : ℕ) (low : Option Level) → Known room low → (op : Binary) (x : Terminal) (found : Option Binary) → temporal_of x ≡ found → found ≡ Some op →
+right_again : (room : ℕ) (low : Option Level) → Known room low → (op : BinaryOperator) (x : Terminal) (found : Option BinaryOperator) → temporal_of x ≡ found → found ≡ Some op →
     (a b : FormulaSyntax) (xs : List Terminal) → IsPrefix room xs b → (rest : List Terminal) → tie rest < 1 →
     formula_from low found a (x ∷ (xs ++ rest)) ≡ Ok (between op a b, rest)
 unfolding formula_from

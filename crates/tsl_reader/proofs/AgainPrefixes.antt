@@ -2,7 +2,7 @@
 use Rattle.std.proofs.Common.{◌≡◌, ℕ, suc, ◌<◌, List, [], ◌∷◌, ◌++◌, refl, ap, ◌∙◌, append_assoc, arith}
 use Rattle.std.specs.Prelude.{Option, Some, None, Ok}
 use Rattle.tsl_text.specs.declared.TokenKind.TheVariants.{CloseSquare, LeftArrow}
-use Rattle.tsl_reader.specs.declared.syntax.Unary.{Unary}
+use Rattle.tsl_terms.specs.declared.operator.UnaryOperator.{UnaryOperator}
 use Rattle.tsl_reader.specs.Syntax.{Terminal, free, mark, TermSyntax, FormulaSyntax, updated, under}
 use Rattle.tsl_reader.specs.Grammar.{unary_of, IsTerm, IsFormula, IsIff, IsImp, IsPrefix, prefix, atom, IsAtom, true_atom, false_atom, brackets_atom, update, bare_name, no_argument, test}
 use Rattle.tsl_reader.specs.Reading.{Reader, Level, and_then, made, close_square, argument, atom_named, term_with, update_with, atom_with, unary_in, prefix_from, prefix_with}
@@ -58,7 +58,7 @@ atom_is_no_operand (bare_name x) rest = refl
 atom_is_no_operand (no_argument p) rest = refl
 atom_is_no_operand (test p h) rest = refl
 
-operand_again : (room : ℕ) (l : Level) → LevelAgain room l → (op : Unary) (x : Terminal) (found : Option Unary) → unary_of x ≡ found → found ≡ Some op →
+operand_again : (room : ℕ) (l : Level) → LevelAgain room l → (op : UnaryOperator) (x : Terminal) (found : Option UnaryOperator) → unary_of x ≡ found → found ≡ Some op →
     (xs : List Terminal) (a : FormulaSyntax) → IsPrefix room xs a → (rest : List Terminal) → tie rest < 6 →
     prefix_from (Some l) found (x ∷ (xs ++ rest)) ≡ Ok (under op a, rest)
 unfolding prefix_from

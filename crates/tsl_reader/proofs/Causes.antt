@@ -3,6 +3,7 @@ use Rattle.std.proofs.Common.{◌≡◌, ℕ, zero, suc, ◌-◌, ◌<◌, ◌�
 use Rattle.std.proofs.lemmas.List.{map-append, append-nil}
 use Rattle.std.proofs.lemmas.Option.{slice_get_past}
 use Rattle.std.specs.Prelude.{Option, Some, None, Ok, Err, slice_get}
+use Rattle.sequence.proofs.Options.{one_value}
 use Rattle.tsl_text.specs.declared.Token.{Token}
 use Rattle.tsl_text.specs.declared.TextError.{TextError}
 use Rattle.tsl_text.specs.declared.TextError.TheVariants.{Byte, OpenComment}
@@ -12,15 +13,13 @@ use Rattle.tsl_terms.specs.Name.{Name}
 use Rattle.tsl_terms.specs.FormulaTree.{FormulaTree}
 use Rattle.tsl_terms.specs.SpecTree.{SpecTree, whole_formula}
 use Rattle.tsl_terms.specs.Nodes.{nodes}
-use Rattle.tsl_reader.specs.declared.SpecError.{SpecError}
-use Rattle.tsl_reader.specs.declared.SpecError.TheVariants as error
 use Rattle.tsl_reader.specs.declared.syntax.Part.{Part}
 use Rattle.tsl_reader.specs.declared.syntax.Part.TheVariants.{AssumeFirst, AssumeAlways, GuaranteeFirst, GuaranteeAlways}
 use Rattle.tsl_reader.specs.Syntax.{SectionSyntax}
 use Rattle.tsl_reader.specs.Grammar.{AreSections}
 use Rattle.tsl_reader.specs.Reading.{form, deep, sections}
-use Rattle.tsl_reader.specs.Naming.{written_uses, names_of, numbered_list, formulas_in, alike_in_kind, same_arity}
-use Rattle.tsl_reader.specs.Spells.{deepest, most_nodes, terminal_at, terminals, Derives, HasNoClash, IsDerived, Spells, NoTextBegins, HasWrongToken, EndsTooEarly, HasFormFault, HasDeepFault, HasClashAt, HasTooManyNodes, HasCause, IsRefused}
+use Rattle.tsl_reader.specs.Naming.{names_of, numbered_list, formulas_in}
+use Rattle.tsl_reader.specs.Spells.{deepest, most_nodes, terminal_at, terminals, Derives, IsDerived, Spells, HasWrongToken, HasFormFault, HasDeepFault, HasTooManyNodes}
 use Rattle.tsl_reader.proofs.AgainSections.{one_tree}
 use Rattle.tsl_reader.proofs.Faults.{form_is_within, deep_is_within, form_stops_all, form_begins, deep_stops, deep_begins, deep_goes_on, no_text}
 
@@ -155,7 +154,7 @@ one_list text a b h k =
     let same : Ok a ≡ Ok b = one_answer text (Ok a) (Ok b) h k in
     cc
 
-no_tokens : (text : List ℕ) (fault : TextError) → IsAnswer text (Err fault) → (tokens : List Token) → AreTokens text tokens → ⊥
+pub no_tokens : (text : List ℕ) (fault : TextError) → IsAnswer text (Err fault) → (tokens : List Token) → AreTokens text tokens → ⊥
 no_tokens text fault h tokens are =
     let same : Err fault ≡ Ok tokens = one_answer text (Err fault) (Ok tokens) h are in
     cc
@@ -166,48 +165,16 @@ one_derivation text a b ss rs h k =
     let same : a ≡ b = one_list text a b h.tokens_are k.tokens_are in
     one_tree deepest (terminals text b) ss rs (subst (λ tokens. AreSections deepest (terminals text tokens) ss) same h.derived) k.derived
 
-token_refuses : (text : List ℕ) (before : List Token) (token : Token) (after : List Token) → AreTokens text (before ++ token ∷ after) →
-    NoTextBegins deepest (terminals text (before ++ token ∷ [])) → (spec : SpecTree) → Spells text spec → ⊥
-token_refuses text before token after are stops spec spelled =
-    let d : Derives text spelled.derived.tokens spelled.derived.sections = spelled.derived.derives in
-    let same : spelled.derived.tokens ≡ before ++ token ∷ after = one_list text spelled.derived.tokens (before ++ token ∷ after) d.tokens_are are in
-    let whole : terminals text spelled.derived.tokens ≡ terminals text (before ++ token ∷ []) ++ terminals text after =
-    ap (terminals text) (same ∙ sym (append_assoc before (token ∷ []) after)) ∙ map-append (terminal_at text) (before ++ token ∷ []) after in
-    stops (terminals text after) spelled.derived.sections (subst (λ xs. AreSections deepest xs spelled.derived.sections) whole d.derived)
-
-ends_refuses : (text : List ℕ) (at : ℕ) → EndsTooEarly text at → (spec : SpecTree) → Spells text spec → ⊥
-ends_refuses text at h spec spelled =
-    let d : Derives text spelled.derived.tokens spelled.derived.sections = spelled.derived.derives in
-    let same : spelled.derived.tokens ≡ h.tokens = one_list text spelled.derived.tokens h.tokens d.tokens_are h.tokens_are in
-    h.no_text deepest spelled.derived.sections (subst (λ tokens. AreSections deepest (terminals text tokens) spelled.derived.sections) same d.derived)
-
-clash_refuses : (text : List ℕ) (tokens : List Token) (ss : List SectionSyntax) (start end : ℕ) → Derives text tokens ss →
-    HasClashAt alike_in_kind text tokens ss start end → (spec : SpecTree) → Spells text spec → ⊥
-clash_refuses text tokens ss start end d h spec spelled =
-    let same : spelled.derived.sections ≡ ss = one_derivation text spelled.derived.tokens tokens spelled.derived.sections ss spelled.derived.derives d in
-    let none : HasNoClash alike_in_kind (written_uses ss) = subst (λ rs. HasNoClash alike_in_kind (written_uses rs)) same spelled.derived.one_kind in
-    none h.at h.clash.clash
-
-arity_refuses : (text : List ℕ) (tokens : List Token) (ss : List SectionSyntax) (start end : ℕ) → Derives text tokens ss →
-    HasClashAt same_arity text tokens ss start end → (spec : SpecTree) → Spells text spec → ⊥
-arity_refuses text tokens ss start end d h spec spelled =
-    let same : spelled.derived.sections ≡ ss = one_derivation text spelled.derived.tokens tokens spelled.derived.sections ss spelled.derived.derives d in
-    let none : HasNoClash same_arity (written_uses ss) = subst (λ rs. HasNoClash same_arity (written_uses rs)) same spelled.derived.one_arity in
-    none h.at h.clash.clash
-
 -- the parts of a specification make it
 abbrev spec_from : List Name → List FormulaTree → List FormulaTree → List FormulaTree → List FormulaTree → SpecTree
 spec_from names a b c d = record { names = names; assume_first = a; assume_always = b; guarantee_first = c; guarantee_always = d }
-
-one_numbering : {X : Type 0} (found : Option X) (x y : X) → found ≡ Some x → found ≡ Some y → x ≡ y
-one_numbering found x y h k = cc
 
 numbered_alike : (m n : List Name) (ss rs : List SectionSyntax) (part : Part) (x y : List FormulaTree) → m ≡ n → ss ≡ rs →
     numbered_list m (formulas_in part ss) ≡ Some x → numbered_list n (formulas_in part rs) ≡ Some y → x ≡ y
 numbered_alike m n ss rs part x y names sections h k =
     let same : numbered_list n (formulas_in part rs) ≡ Some x =
     sym (ap (λ names. numbered_list names (formulas_in part ss)) names ∙ ap (λ s. numbered_list n (formulas_in part s)) sections) ∙ h in
-    one_numbering (numbered_list n (formulas_in part rs)) x y same k
+    one_value (numbered_list n (formulas_in part rs)) x y same k
 
 -- a text derives from one specification
 pub one_derived : (text : List ℕ) (a b : SpecTree) → IsDerived text a → IsDerived text b → a ≡ b
@@ -224,20 +191,8 @@ one_derived text a b x y =
 pub one_spec : (text : List ℕ) (a b : SpecTree) → Spells text a → Spells text b → a ≡ b
 one_spec text a b x y = one_derived text a b x.derived y.derived
 
-nodes_refuse : (text : List ℕ) → HasTooManyNodes text → (spec : SpecTree) → Spells text spec → ⊥
+pub nodes_refuse : (text : List ℕ) → HasTooManyNodes text → (spec : SpecTree) → Spells text spec → ⊥
 nodes_refuse text h spec spelled =
     let same : spec ≡ h.spec = one_derived text spec h.spec spelled.derived h.derived in
     let few : nodes (whole_formula h.spec) ≤ most_nodes = subst (λ s. nodes (whole_formula s) ≤ most_nodes) same spelled.few_nodes in
     omega (arith, few, h.many_nodes)
-
--- where a refusal has its cause, the text spells no specification
-pub cause_refuses : (text : List ℕ) (e : SpecError) → HasCause text e → IsRefused text e
-cause_refuses text (error.Byte at) h = λ spec spelled. no_tokens text (Byte at) h spelled.derived.tokens spelled.derived.derives.tokens_are
-cause_refuses text (error.OpenComment at) h = λ spec spelled. no_tokens text (OpenComment at) h spelled.derived.tokens spelled.derived.derives.tokens_are
-cause_refuses text (error.Form at) h = λ spec spelled.
-    ⊎_elim (λ wrong. token_refuses text wrong.before wrong.token wrong.after wrong.tokens_are (wrong.stops deepest) spec spelled) (λ ends. ends_refuses text at ends spec spelled) h
-cause_refuses text (error.Deep at) h = λ spec spelled. token_refuses text h.before h.token h.after h.tokens_are h.stops spec spelled
-cause_refuses text (error.Kind start end) h = λ spec spelled. clash_refuses text h.tokens h.sections start end h.derives h.clash spec spelled
-cause_refuses text (error.Arity start end) h = λ spec spelled. arity_refuses text h.tokens h.sections start end h.derives h.clash spec spelled
-cause_refuses text error.Nodes h = λ spec spelled. nodes_refuse text h spec spelled
-cause_refuses text error.NoMemory h = tt

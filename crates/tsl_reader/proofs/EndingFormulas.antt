@@ -4,9 +4,9 @@ use Rattle.std.proofs.lemmas.List.{append-nil}
 use Rattle.std.specs.Prelude.{Option, Some, None, codes}
 use Rattle.tsl_text.specs.declared.TokenKind.TheVariants.{OpenRound, CloseRound, OpenSquare, CloseSquare, LeftArrow, And, Or, Arrow, BothArrow}
 use Rattle.tsl_reader.specs.declared.syntax.Word.TheVariants.{True, False}
-use Rattle.tsl_reader.specs.declared.syntax.Unary.{Unary}
-use Rattle.tsl_reader.specs.declared.syntax.Binary.{Binary}
-use Rattle.tsl_reader.specs.declared.syntax.Binary.TheVariants.{Implication, Equivalence}
+use Rattle.tsl_terms.specs.declared.operator.UnaryOperator.{UnaryOperator}
+use Rattle.tsl_terms.specs.declared.operator.BinaryOperator.{BinaryOperator}
+use Rattle.tsl_terms.specs.declared.operator.BinaryOperator.TheVariants.{Implication, Equivalence}
 use Rattle.tsl_reader.specs.Syntax.{Terminal, free, word, mark, TermSyntax, alone, FormulaSyntax, bare, updated, under, between, all_of, any_of}
 use Rattle.tsl_reader.specs.Grammar.{unary_of, IsTerm, signal, IsFormula, temporal, chain as chained, IsIff, no_iff, IsImp, no_imp, IsOr, disjunction, no_disjunct, IsAnd, conjunction, no_conjunct, IsPrefix, prefix, atom, IsAtom, brackets_atom, update, bare_name}
 use Rattle.tsl_reader.specs.Reading.{Answer, Reader, Level, and_then, made, chain, close_square, bracketed, below, behind_name, atom_named, term_with, update_with, atom_with, unary_in, prefix_from, prefix_with, conjunct, and_behind, and_with, disjunct, or_behind_and, or_behind, imp_behind_or, imp_behind, imp_with, iff_behind_imp, iff_behind, iff_with, temporal_in, formula_from, formula_behind, formula_with, above, lower}
@@ -117,7 +117,7 @@ atom_ends room low k (free p ∷ rest) =
     (behind_end room low (term_sound_of room low k.sound) (terms_end room low k.ends) rest))
 atom_ends room low k xs = form_ends IsAtom room xs (a ∷ []) (bare (codes "a")) (an_atom room)
 
-operand_ends : (room : ℕ) (low : Option Level) → Known room low → (op : Unary) (x : Terminal) → unary_of x ≡ Some op → (rest : List Terminal) →
+operand_ends : (room : ℕ) (low : Option Level) → Known room low → (op : UnaryOperator) (x : Terminal) → unary_of x ≡ Some op → (rest : List Terminal) →
     EndsAt IsPrefix room (x ∷ rest) (made (under op) (below low (λ l. l.prefix) (x ∷ rest)))
 operand_ends zero None k op x is rest =
     deep_ends IsPrefix zero x rest (a ∷ []) (a ∷ []) (bare (codes "a")) (under op (bare (codes "a"))) (a_prefix zero) (prefix op x is (a_prefix (suc zero)))
@@ -127,7 +127,7 @@ operand_ends (suc room) (Some l) k op x is rest =
     ends_front (λ r f b. IsPrefix (suc r) (x ∷ f) b) (λ r. IsPrefix (suc r)) x (λ r b f h. h) room rest (made (under op) (l.prefix rest))
     (ends_made IsPrefix (λ r f b. IsPrefix (suc r) (x ∷ f) b) (under op) (λ r b f h. prefix op x is h) room rest (l.prefix rest) (k.ends.prefix rest))
 
-prefix_chosen : (room : ℕ) (low : Option Level) → Known room low → (found : Option Unary) (xs : List Terminal) → unary_in xs ≡ found → EndsAt IsPrefix room xs (prefix_from low found xs)
+prefix_chosen : (room : ℕ) (low : Option Level) → Known room low → (found : Option UnaryOperator) (xs : List Terminal) → unary_in xs ≡ found → EndsAt IsPrefix room xs (prefix_from low found xs)
 unfolding prefix_from
 prefix_chosen room low k None xs is = ends_weaken IsAtom IsPrefix (λ r b f h. atom h) room xs (atom_with low xs) (atom_ends room low k xs)
 prefix_chosen room low k (Some op) [] is = cc
@@ -268,7 +268,7 @@ iff_ends room low k xs = begun_ends IsIff (λ r f b h. no_iff (imp_of r f b h)) 
 formula_of : (r : ℕ) (f : List Terminal) (b : FormulaSyntax) → IsPrefix r f b → IsFormula r f b
 formula_of r f b h = chained (no_iff (imp_of r f b h))
 
-formula_chosen : (room : ℕ) (low : Option Level) → Known room low → (found : Option Binary) (b : FormulaSyntax) (xs : List Terminal) → temporal_in xs ≡ found →
+formula_chosen : (room : ℕ) (low : Option Level) → Known room low → (found : Option BinaryOperator) (b : FormulaSyntax) (xs : List Terminal) → temporal_in xs ≡ found →
     EndsAt (λ r. Behind IsPrefix IsFormula r b) room xs (formula_from low found b xs)
 unfolding formula_from
 formula_chosen room low k None b xs is =

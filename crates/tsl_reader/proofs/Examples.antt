@@ -1,14 +1,17 @@
 -- What the grammar reads, where it stops, and how names are numbered.
 use Rattle.std.proofs.Common.{◌≡◌, ℕ, List, [], ◌∷◌, ◌++◌, refl, map}
-use Rattle.std.specs.Prelude.{codes, Some, None, Ok, Err}
+use Rattle.std.specs.Prelude.{codes, position, Some, None, Ok, Err}
 use Rattle.tsl_text.specs.declared.TokenKind.TheVariants.{OpenBrace, CloseBrace, OpenRound, CloseRound, OpenSquare, CloseSquare, Semicolon, Not, And, Or, Arrow, BothArrow, LeftArrow}
 use Rattle.tsl_text.specs.Lexeme.{name}
-use Rattle.tsl_terms.specs.declared.names.NameKind.TheVariants.{Predicate}
+use Rattle.tsl_terms.specs.declared.names.NameKind.TheVariants.{Signal, Predicate}
+use Rattle.tsl_terms.specs.Name.{Name}
+use Rattle.tsl_terms.specs.Clashes.{first_uses, alike_in_kind, same_arity}
+use Rattle.tsl_terms.specs.internal.FirstUse.{differs_from}
 use Rattle.tsl_terms.specs.TermTree.{signal}
-use Rattle.tsl_terms.specs.FormulaTree.{update}
+use Rattle.tsl_terms.specs.FormulaTree.{atom, update}
 use Rattle.tsl_reader.specs.declared.syntax.Word.TheVariants.{Assume, Guarantee, Always, Initially, X, U, A}
-use Rattle.tsl_reader.specs.declared.syntax.Unary.TheVariants.{Negation, Next}
-use Rattle.tsl_reader.specs.declared.syntax.Binary.TheVariants.{Implication, Equivalence}
+use Rattle.tsl_terms.specs.declared.operator.UnaryOperator.TheVariants.{Negation, Next}
+use Rattle.tsl_terms.specs.declared.operator.BinaryOperator.TheVariants.{Implication, Equivalence}
 use Rattle.tsl_reader.specs.declared.syntax.Part.TheVariants.{AssumeAlways, GuaranteeFirst}
 use Rattle.tsl_reader.specs.Syntax.{Terminal, free, word, mark, terminal_of, alone, applied, no_terms, more_terms, FormulaSyntax, bare, tested, updated, under, between, all, any, no_formulas, more_formulas, SectionSyntax}
 use Rattle.tsl_reader.specs.Reading.{form, deep, Answer, chain_of, chain, close_round, close_square, close_brace, name_alone, argument, behind_name, term_with, update_with, atom_with, prefix_from, prefix_with, conjunct, and_behind, and_with, disjunct, or_behind_and, or_behind, imp_behind_or, imp_behind, imp_with, iff_behind_imp, iff_behind, iff_with, formula_from, formula_behind, formula_with, above, lower, end_item, item, section_made, items, side, section_at, section, sections}
@@ -16,7 +19,7 @@ use Rattle.tsl_reader.specs.Grammar.{AreSections, IsAtom, test, one_argument, co
 use Rattle.tsl_reader.specs.Spells.{NoTextBegins}
 use Rattle.tsl_reader.proofs.AgainSections.{sections_derive}
 use Rattle.tsl_reader.proofs.Faults.{form_stops_all, deep_stops}
-use Rattle.tsl_reader.specs.Naming.{signal_use, question_use, written_uses, names_of, first_clash, alike_in_kind, same_arity, numbered_list}
+use Rattle.tsl_reader.specs.Naming.{use_as, question_use, written_uses, names_of, numbered_list}
 
 -- ---- terminals
 
@@ -160,15 +163,18 @@ cut_off = refl
 abbrev three : List SectionSyntax
 three = section_made GuaranteeFirst (updated (codes "y") (alone (codes "x")) ∷ tested (codes "p") (more_terms (alone (codes "z")) no_terms) ∷ bare (codes "x") ∷ []) ∷ []
 
+abbrev signal_named : List ℕ → Name
+signal_named text = (use_as Signal text 0).name
+
 -- `?` follows all names that stand before its first use
 question_behind_its_signal : names_of three ≡
-    signal_use (codes "y") ∷ signal_use (codes "x") ∷ record { text = codes "p"; kind = Predicate; arity = 1 } ∷ signal_use (codes "z") ∷ question_use ∷ []
+    signal_named (codes "y") ∷ signal_named (codes "x") ∷ record { text = codes "p"; kind = Predicate; arity = 1 } ∷ signal_named (codes "z") ∷ question_use ∷ []
 question_behind_its_signal = refl
 
 only_names_of_the_text : map (λ n. n.text) (written_uses three) ≡ codes "y" ∷ codes "x" ∷ codes "p" ∷ codes "z" ∷ codes "x" ∷ []
 only_names_of_the_text = refl
 
-numbers_by_first_appearance : numbered_list (names_of three) (updated (codes "y") (alone (codes "x")) ∷ []) ≡ Some (update 0 (signal 1) ∷ [])
+numbers_by_first_appearance : numbered_list (names_of three) (updated (codes "y") (alone (codes "x")) ∷ []) ≡ Some (atom (update 0 (signal 1)) ∷ [])
 numbers_by_first_appearance = refl
 
 -- `x; p x; p(); p;`
@@ -176,14 +182,14 @@ abbrev clashing : List SectionSyntax
 clashing = section_made GuaranteeFirst (bare (codes "x") ∷ tested (codes "p") (more_terms (alone (codes "x")) no_terms) ∷ tested (codes "p") no_terms ∷ bare (codes "p") ∷ []) ∷ []
 
 -- the last `p` is a signal
-kind_clash : first_clash alike_in_kind (names_of clashing) (written_uses clashing) ≡ Some 4
+kind_clash : position (differs_from alike_in_kind (first_uses (written_uses clashing))) (written_uses clashing) ≡ Some 4
 kind_clash = refl
 
 -- the second `p` has no argument
-arity_clash : first_clash same_arity (names_of clashing) (written_uses clashing) ≡ Some 3
+arity_clash : position (differs_from same_arity (first_uses (written_uses clashing))) (written_uses clashing) ≡ Some 3
 arity_clash = refl
 
-no_clash : first_clash same_arity (names_of three) (written_uses three) ≡ None
+no_clash : position (differs_from same_arity (first_uses (written_uses three))) (written_uses three) ≡ None
 no_clash = refl
 
 -- ---- the grammar itself

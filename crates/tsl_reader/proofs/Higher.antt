@@ -3,9 +3,9 @@ use Rattle.std.proofs.Common.{◌≡◌, ℕ, zero, suc, ◌+◌, ◌<◌, false
 use Rattle.std.specs.Prelude.{Option, Some, None, Ok, Err}
 use Rattle.tsl_text.specs.declared.TokenKind.TheVariants.{OpenBrace, CloseBrace, OpenRound, CloseRound, OpenSquare, LeftArrow, And, Or, Arrow, BothArrow}
 use Rattle.tsl_reader.specs.declared.syntax.Word.TheVariants.{Assume, Guarantee, Always, Initially, True, False}
-use Rattle.tsl_reader.specs.declared.syntax.Unary.{Unary}
-use Rattle.tsl_reader.specs.declared.syntax.Binary.{Binary}
-use Rattle.tsl_reader.specs.declared.syntax.Binary.TheVariants.{Implication, Equivalence}
+use Rattle.tsl_terms.specs.declared.operator.UnaryOperator.{UnaryOperator}
+use Rattle.tsl_terms.specs.declared.operator.BinaryOperator.{BinaryOperator}
+use Rattle.tsl_terms.specs.declared.operator.BinaryOperator.TheVariants.{Implication, Equivalence}
 use Rattle.tsl_reader.specs.declared.syntax.Part.{Part}
 use Rattle.tsl_reader.specs.declared.syntax.Part.TheVariants.{AssumeFirst, AssumeAlways, GuaranteeFirst, GuaranteeAlways}
 use Rattle.tsl_reader.specs.Syntax.{Terminal, free, word, mark, TermSyntax, alone, applied, no_terms, FormulaSyntax, updated, under, between, all_of, any_of}
@@ -292,7 +292,7 @@ atom_higher low high k (mark OpenSquare ∷ rest) = update_higher low high k res
 atom_higher low high k (free p ∷ rest) = higher_made (atom_named p) (behind_name low rest) (behind_name high rest) (behind_higher low high k rest)
 atom_higher low high k _ = refl
 
-prefix_chosen : (low high : Option Level) → Known low high → (found : Option Unary) (x : Terminal) (rest : List Terminal) →
+prefix_chosen : (low high : Option Level) → Known low high → (found : Option UnaryOperator) (x : Terminal) (rest : List Terminal) →
     HigherAt (prefix_from low found (x ∷ rest)) (prefix_from high found (x ∷ rest))
 unfolding prefix_from
 prefix_chosen low high k None x rest = atom_higher low high k (x ∷ rest)
@@ -365,7 +365,7 @@ iff_higher : (low high : Option Level) → Known low high → (xs : List Termina
 unfolding iff_with
 iff_higher low high k xs = higher_then (prefix_with low xs) (prefix_with high xs) (prefix_higher low high k xs) (iff_behind low) (iff_behind high) (iff_behind_higher low high k)
 
-formula_chosen : (low high : Option Level) → Known low high → (found : Option Binary) (a : FormulaSyntax) (xs : List Terminal) → HigherAt (formula_from low found a xs) (formula_from high found a xs)
+formula_chosen : (low high : Option Level) → Known low high → (found : Option BinaryOperator) (a : FormulaSyntax) (xs : List Terminal) → HigherAt (formula_from low found a xs) (formula_from high found a xs)
 unfolding formula_from
 formula_chosen low high k None a xs = iff_behind_higher low high k a xs
 formula_chosen low high k (Some op) a [] = refl

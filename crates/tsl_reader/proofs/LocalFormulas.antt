@@ -5,9 +5,9 @@ use Rattle.tsl_text.specs.declared.TokenKind.{TokenKind}
 use Rattle.tsl_text.specs.declared.TokenKind.TheVariants.{OpenRound, OpenSquare, LeftArrow, And, Or, Arrow, BothArrow}
 use Rattle.tsl_reader.specs.declared.syntax.Word.{Word}
 use Rattle.tsl_reader.specs.declared.syntax.Word.TheVariants.{True, False}
-use Rattle.tsl_reader.specs.declared.syntax.Unary.{Unary}
-use Rattle.tsl_reader.specs.declared.syntax.Binary.{Binary}
-use Rattle.tsl_reader.specs.declared.syntax.Binary.TheVariants.{Implication, Equivalence}
+use Rattle.tsl_terms.specs.declared.operator.UnaryOperator.{UnaryOperator}
+use Rattle.tsl_terms.specs.declared.operator.BinaryOperator.{BinaryOperator}
+use Rattle.tsl_terms.specs.declared.operator.BinaryOperator.TheVariants.{Implication, Equivalence}
 use Rattle.tsl_reader.specs.Syntax.{Terminal, free, word, mark, FormulaSyntax, updated, under, between, all_of, any_of}
 use Rattle.tsl_reader.specs.Grammar.{unary_of, temporal_of}
 use Rattle.tsl_reader.specs.Reading.{Reader, Level, form_at, and_then, made, chain, close_square, bracketed, below, argument, behind_name, atom_named, term_with, update_with, atom_with, prefix_from, prefix_with, conjunct, and_behind, and_with, disjunct, or_behind_and, or_behind, imp_behind_or, imp_behind, imp_with, iff_behind_imp, iff_behind, iff_with, formula_from, formula_behind, formula_with, above, lower}
@@ -96,11 +96,11 @@ atom_local low k (free p ∷ rest) =
     (local_made (atom_named p) (behind_name low) rest (behind_local low k.argument_shrinks (terms_local low k.local) rest))
 atom_local low k (x ∷ rest) = form_here (atom_with low) _ rest (λ other. refl)
 
-prefix_is : (low : Option Level) (x : Terminal) (found : Option Unary) → unary_of x ≡ found → (ys : List Terminal) → prefix_with low (x ∷ ys) ≡ prefix_from low found (x ∷ ys)
+prefix_is : (low : Option Level) (x : Terminal) (found : Option UnaryOperator) → unary_of x ≡ found → (ys : List Terminal) → prefix_with low (x ∷ ys) ≡ prefix_from low found (x ∷ ys)
 unfolding prefix_with
 prefix_is low x found e ys = ap (λ f. prefix_from low f (x ∷ ys)) e
 
-prefix_chosen : (low : Option Level) → Known low → (x : Terminal) (rest : List Terminal) (found : Option Unary) → LocalAt (prefix_from low found) (x ∷ rest) (prefix_from low found (x ∷ rest))
+prefix_chosen : (low : Option Level) → Known low → (x : Terminal) (rest : List Terminal) (found : Option UnaryOperator) → LocalAt (prefix_from low found) (x ∷ rest) (prefix_from low found (x ∷ rest))
 unfolding prefix_from
 prefix_chosen low k x rest None = atom_local low k (x ∷ rest)
 prefix_chosen low k x rest (Some op) = local_made (under op) (λ ys. below low (λ l. l.prefix) ys) (x ∷ rest) (deeper_local low k.local (λ l. l.prefix) (λ l h. h.prefix) x rest)
@@ -197,11 +197,11 @@ iff_local : (low : Option Level) → Known low → IsLocal (iff_with low)
 unfolding iff_with
 iff_local low k = local_then (prefix_with low) (iff_behind low) (prefix_local low k) (iff_behind_local low k)
 
-behind_is : (low : Option Level) (a : FormulaSyntax) (x : Terminal) (found : Option Binary) → temporal_of x ≡ found → (ys : List Terminal) → formula_behind low a (x ∷ ys) ≡ formula_from low found a (x ∷ ys)
+behind_is : (low : Option Level) (a : FormulaSyntax) (x : Terminal) (found : Option BinaryOperator) → temporal_of x ≡ found → (ys : List Terminal) → formula_behind low a (x ∷ ys) ≡ formula_from low found a (x ∷ ys)
 unfolding formula_behind
 behind_is low a x found e ys = ap (λ f. formula_from low f a (x ∷ ys)) e
 
-formula_chosen : (low : Option Level) → Known low → (a : FormulaSyntax) (x : Terminal) (rest : List Terminal) (found : Option Binary) →
+formula_chosen : (low : Option Level) → Known low → (a : FormulaSyntax) (x : Terminal) (rest : List Terminal) (found : Option BinaryOperator) →
     LocalAt (formula_from low found a) (x ∷ rest) (formula_from low found a (x ∷ rest))
 unfolding formula_from
 formula_chosen low k a x rest None = iff_behind_local low k a (x ∷ rest)

@@ -1,26 +1,20 @@
 -- There are not more names than uses in the text, and one more for the test of a Boolean signal.
-use Rattle.std.proofs.Common.{◌≡◌, ℕ, suc, ◌+◌, ◌-◌, ◌^◌, ◌<◌, ◌≤◌, Bool, true, false, not, cond, List, [], ◌∷◌, ◌++◌, length, get_or, drop, map, refl, ap, sym, ◌∙◌, arith, length-append}
-use Rattle.std.proofs.lemmas.List.{drop_more}
-use Rattle.std.specs.Prelude.{Option, Some, None, option_and_then, slice_get, filter}
+use Rattle.std.proofs.Common.{◌≡◌, ℕ, suc, ◌+◌, ◌≤◌, Bool, true, false, cond, List, [], ◌∷◌, ◌++◌, length, refl, ap, arith, length-append}
+use Rattle.std.specs.Prelude.{Option, Some, None, flat_map}
 use Rattle.std.specs.Str.{bytes_eq}
-use Rattle.std.proofs.lemmas.Slice.Eq.{bytes_eq-Decides}
 use Rattle.tsl_terms.specs.Name.{Name, number_of, question}
-use Rattle.tsl_reader.specs.Naming.{is_written, added_unless_found, with_use, with_uses}
-use Rattle.tsl_reader.specs.declared.uses.NameUse.{NameUse}
-use Rattle.tsl_reader.specs.UseView.{name_use}
-use Rattle.tsl_reader.proofs.Firsts.{first_of, named_is}
+use Rattle.tsl_terms.specs.Clashes.{added_unless_found, with_use, with_uses, first_uses}
+use Rattle.tsl_terms.proofs.FirstUses.{first_of, not_found}
+use Rattle.tsl_reader.specs.Naming.{Use, question_use, named_by}
 
 -- 1 where there is one
-abbrev pub one : Option Name → ℕ
+abbrev one : Option Name → ℕ
 one None = 0
 one (Some n) = 1
 
 one_at_most : (found : Option Name) → one found ≤ 1
 one_at_most None = omega arith
 one_at_most (Some n) = omega arith
-
-not_found : (names : List Name) (text : List ℕ) → number_of names text ≡ None → first_of names text ≡ None
-not_found names text h = sym (named_is names text) ∙ ap (option_and_then (slice_get names)) h
 
 -- what is found stays found where a name is added
 still_found : (names : List Name) (added : Name) (text : List ℕ) → one (first_of names text) ≤ one (first_of (names ++ added ∷ []) text)
@@ -39,85 +33,47 @@ then_found (n ∷ names) added text h = by (bytes_eq text n.text) (then_found na
   by true k = refl
   by false k = k
 
-turned : (x y : List ℕ) → bytes_eq x y ≡ true → bytes_eq y x ≡ true
-turned x y h = (bytes_eq-Decides y x).1 (sym ((bytes_eq-Decides x y).0 h))
+-- there are not more names, but for `?`, than this
+abbrev Few : List Name → ℕ → Type 0
+Few names most = length names ≤ most + one (first_of names question)
 
--- how many of the uses stand in the text
-abbrev pub written : List Name → ℕ
-written uses = length (filter is_written uses)
+few_more : (names : List Name) (u : Name) (most : ℕ) → Few names most → Few (with_use names u) (suc most)
+few_more names u most h = by (number_of names u.text) where
+  by : (found : Option ℕ) → Few (added_unless_found names u found) (suc most)
+  by (Some n) = omega (arith, h)
+  by None = omega (arith, h, length-append names (u ∷ []), still_found names u question)
 
--- `written (u ∷ us)` by whether u is written
-abbrev counted : Bool → ℕ → ℕ
-counted true n = suc n
-counted false n = n
+few_asked : (names : List Name) (most : ℕ) → Few names most → Few (with_use names question_use) most
+few_asked names most h = by (number_of names question) refl where
+  by : (found : Option ℕ) → number_of names question ≡ found → Few (added_unless_found names question_use found) most
+  by (Some n) e = h
+  by None e = omega (arith, h, ap one (not_found names question e), length-append names (question_use ∷ []), then_found names question_use question refl)
 
-written_more : (u : Name) (us : List Name) → written (u ∷ us) ≡ counted (is_written u) (written us)
-written_more u us = by (is_written u) where
-  by : (is : Bool) → length (cond is (u ∷ filter is_written us) (filter is_written us)) ≡ counted is (written us)
-  by true = refl
-  by false = refl
+few_names : (us : List Use) (names : List Name) (most : ℕ) → Few names most → length (with_uses names (flat_map named_by us)) ≤ suc (most + length us)
+few_names [] names most h = omega (arith, h, one_at_most (first_of names question))
+few_names (u ∷ us) names most h =
+    by u.is_tested (few_names us (with_use (with_use names u.name) question_use) (suc most) (few_asked (with_use names u.name) (suc most) more)) (few_names us (with_use names u.name) (suc most) more)
+  where
+    more : Few (with_use names u.name) (suc most)
+    more = few_more names u.name most h
 
-is_true : (is : Bool) → not is ≡ false → is ≡ true
-is_true true e = refl
-is_true false e = cc
+    by : (asks : Bool) → length (with_uses (with_use (with_use names u.name) question_use) (flat_map named_by us)) ≤ suc (suc most + length us) →
+        length (with_uses (with_use names u.name) (flat_map named_by us)) ≤ suc (suc most + length us) →
+        length (with_uses (with_use names u.name) (cond asks (question_use ∷ []) [] ++ flat_map named_by us)) ≤ suc (most + suc (length us))
+    by true asked plain = omega (arith, asked)
+    by false asked plain = omega (arith, plain)
 
-added : (names : List Name) (u : Name) (rest most : ℕ) (is : Bool) → is_written u ≡ is →
-    length names + counted is rest ≤ most + one (first_of names question) → first_of names u.text ≡ None →
-    length (names ++ u ∷ []) + rest ≤ most + one (first_of (names ++ u ∷ []) question)
-added names u rest most true e h none = omega (arith, h, length-append names (u ∷ []), still_found names u question)
-added names u rest most false e h none =
-    let is_question : bytes_eq u.text question ≡ true = is_true (bytes_eq u.text question) e in
-    let same : u.text ≡ question = (bytes_eq-Decides u.text question).0 is_question in
-    let zero_before : one (first_of names question) ≡ 0 = ap one (sym (ap (first_of names) same) ∙ none) in
-    omega (arith, h, zero_before, length-append names (u ∷ []), then_found names u question (turned u.text question is_question))
+pub names_within : (us : List Use) → length (first_uses (flat_map named_by us)) ≤ suc (length us)
+names_within us = omega (arith, few_names us [] 0 (omega arith))
 
-kept : (rest most n : ℕ) (is : Bool) → n + counted is rest ≤ most → n + rest ≤ most
-kept rest most n true h = omega (arith, h)
-kept rest most n false h = h
+-- first uses are not more than uses
+added_within : (names : List Name) (u : Name) (found : Option ℕ) → length (added_unless_found names u found) ≤ suc (length names)
+added_within names u (Some n) = omega arith
+added_within names u None = omega (arith, length-append names (u ∷ []))
 
--- one use more keeps the bound
-pub few_step : (names : List Name) (u : Name) (us : List Name) (most : ℕ) →
-    length names + written (u ∷ us) ≤ most + one (first_of names question) →
-    length (with_use names u) + written us ≤ most + one (first_of (with_use names u) question)
-few_step names u us most h = by (number_of names u.text) refl where
-  bound : length names + counted (is_written u) (written us) ≤ most + one (first_of names question)
-  bound = omega (arith, h, written_more u us)
+with_uses_within : (us names : List Name) → length (with_uses names us) ≤ length names + length us
+with_uses_within [] names = omega arith
+with_uses_within (u ∷ us) names = omega (arith, with_uses_within us (with_use names u), added_within names u (number_of names u.text))
 
-  by : (found : Option ℕ) → number_of names u.text ≡ found →
-      length (added_unless_found names u found) + written us ≤ most + one (first_of (added_unless_found names u found) question)
-  by (Some n) e = kept (written us) (most + one (first_of names question)) (length names) (is_written u) bound
-  by None e = added names u (written us) most (is_written u) refl bound (not_found names u.text e)
-
--- there is room for the name of one use more
-pub room : (names : List Name) (u : Name) (us : List Name) (most : ℕ) →
-    length names + written (u ∷ us) ≤ most + one (first_of names question) → most < 2 ^ 32 - 1 →
-    number_of names u.text ≡ None → length names + 1 < 2 ^ 32
-room names u us most h few none = by (is_written u) refl (omega (arith, h, written_more u us)) where
-  by : (is : Bool) → is_written u ≡ is → length names + counted is (written us) ≤ most + one (first_of names question) → length names + 1 < 2 ^ 32
-  by true e k = omega (arith, k, few, one_at_most (first_of names question))
-  by false e k =
-      let is_question : bytes_eq u.text question ≡ true = is_true (bytes_eq u.text question) e in
-      let same : u.text ≡ question = (bytes_eq-Decides u.text question).0 is_question in
-      let zero_before : one (first_of names question) ≡ 0 = ap one (sym (ap (first_of names) same) ∙ not_found names u.text none) in
-      omega (arith, k, few, zero_before)
-
--- the same in a loop over the uses
-
-next_use : (us : List NameUse) (i : ℕ) (d : NameUse) → i < length us → map name_use (drop i us) ≡ name_use (get_or us i d) ∷ map name_use (drop (i + 1) us)
-next_use us i d within = ap (map name_use) (drop_more us i d within)
-
-pub few_at : (names : List Name) (us : List NameUse) (i : ℕ) (d : NameUse) (most : ℕ) → i < length us →
-    length names + written (map name_use (drop i us)) ≤ most + one (first_of names question) → most < 2 ^ 32 - 1 →
-    number_of names (get_or us i d).text.now ≡ None → length names + 1 < 2 ^ 32
-few_at names us i d most within h few none =
-    room names (name_use (get_or us i d)) (map name_use (drop (i + 1) us)) most (rw (next_use us i d within) at h) few none
-
-pub few_after : (names more : List Name) (us : List NameUse) (i : ℕ) (d : NameUse) (most : ℕ) → i < length us → more ≡ with_use names (name_use (get_or us i d)) →
-    length names + written (map name_use (drop i us)) ≤ most + one (first_of names question) →
-    length more + written (map name_use (drop (i + 1) us)) ≤ most + one (first_of more question)
-few_after names more us i d most within is h =
-    rw is (few_step names (name_use (get_or us i d)) (map name_use (drop (i + 1) us)) most (rw (next_use us i d within) at h))
-
-pub names_after : (names more : List Name) (us : List NameUse) (i : ℕ) (d : NameUse) → i < length us → more ≡ with_use names (name_use (get_or us i d)) → {total : List Name} →
-    with_uses names (map name_use (drop i us)) ≡ total → with_uses more (map name_use (drop (i + 1) us)) ≡ total
-names_after names more us i d within is h = rw is (rw (next_use us i d within) at h)
+pub firsts_within : (us : List Name) → length (first_uses us) ≤ length us
+firsts_within us = omega (arith, with_uses_within us [])

@@ -7,6 +7,8 @@ use Rattle.std.specs.Option.{is_some}
 use Rattle.tsl_terms.specs.declared.term.Term.{Term}
 use Rattle.tsl_terms.specs.declared.formula.Formula.{Formula}
 use Rattle.tsl_terms.specs.FormulaTree.{FormulaTree, FormulaTrees, no_formulas, more_formulas, formulas_in as members_in, formulas_of, formula_tree}
+use Rattle.tsl_terms.proofs.TermLemmas.{with_front as terms_front, with_front_none as terms_front_none, with_front_push as terms_front_push}
+use Rattle.tsl_terms.proofs.FormulaLemmas.{with_front as formulas_front, with_front_none as formulas_front_none, with_front_push as formulas_front_push}
 use Rattle.tsl_reader.specs.declared.syntax.Part.{Part}
 use Rattle.tsl_reader.specs.declared.trees.ReadSection.{ReadSection}
 use Rattle.tsl_terms.specs.Name.{Name}
@@ -16,21 +18,8 @@ use Rattle.tsl_reader.specs.SyntaxView.{section_syntax}
 use Rattle.tsl_reader.specs.Numbering.{numbered_after, formulas_if}
 use Rattle.tsl_reader.specs.Naming.{numbered_term, numbered_terms, numbered, numbered_members, numbered_list, same_part, formulas_in}
 
--- these members, and then those of a list
-abbrev pub front_terms : List TermTree → TermTrees → TermTrees
-front_terms [] ts = ts
-front_terms (t ∷ front) ts = more_terms t (front_terms front ts)
-
-front_terms_none : (front : List TermTree) → front_terms front no_terms ≡ terms_of front
-front_terms_none [] = refl
-front_terms_none (t ∷ front) = ap (more_terms t) (front_terms_none front)
-
-front_terms_push : (front : List Term) (t : Term) (ts : TermTrees) → front_terms (map term_tree (front ++ t ∷ [])) ts ≡ front_terms (map term_tree front) (more_terms (term_tree t) ts)
-front_terms_push [] t ts = refl
-front_terms_push (u ∷ front) t ts = ap (more_terms (term_tree u)) (front_terms_push front t ts)
-
 abbrev pub numbered_front : List TermTree → Option TermTrees → Option TermTrees
-numbered_front front rest = option_map (front_terms front) rest
+numbered_front front rest = option_map (terms_front front) rest
 
 -- one term more
 pub numbered_more : (names : List Name) (front all : List Term) (t : Term) (syntax : TermSyntax) (rest : TermsSyntax) → all ≡ front ++ t ∷ [] →
@@ -38,41 +27,28 @@ pub numbered_more : (names : List Name) (front all : List Term) (t : Term) (synt
     numbered_front (map term_tree all) (numbered_terms names rest) ≡ numbered_front (map term_tree front) (numbered_terms names (another_term syntax rest))
 numbered_more names front all t syntax rest is h = rw (is, h) (by (numbered_terms names rest)) where
   by : (found : Option TermTrees) → numbered_front (map term_tree (front ++ t ∷ [])) found ≡ numbered_front (map term_tree front) (option_map (more_terms (term_tree t)) found)
-  by (Some ts) = ap Some (front_terms_push front t ts)
+  by (Some ts) = ap Some (terms_front_push front t ts)
   by None = refl
 
 -- the terms are all
 pub numbered_all : (front : List TermTree) (all : Option TermTrees) (list : TermTrees) → numbered_front front (Some no_terms) ≡ all → list ≡ terms_of front → all ≡ Some list
-numbered_all front all list h is = sym h ∙ ap Some (front_terms_none front ∙ sym is)
+numbered_all front all list h is = sym h ∙ ap Some (terms_front_none front ∙ sym is)
 
 -- the same for formulas
 
-abbrev pub front_formulas : List FormulaTree → FormulaTrees → FormulaTrees
-front_formulas [] fs = fs
-front_formulas (f ∷ front) fs = more_formulas f (front_formulas front fs)
-
-front_formulas_none : (front : List FormulaTree) → front_formulas front no_formulas ≡ formulas_of front
-front_formulas_none [] = refl
-front_formulas_none (f ∷ front) = ap (more_formulas f) (front_formulas_none front)
-
-front_formulas_push : (front : List Formula) (f : Formula) (fs : FormulaTrees) →
-    front_formulas (map formula_tree (front ++ f ∷ [])) fs ≡ front_formulas (map formula_tree front) (more_formulas (formula_tree f) fs)
-front_formulas_push [] f fs = refl
-front_formulas_push (g ∷ front) f fs = ap (more_formulas (formula_tree g)) (front_formulas_push front f fs)
-
 abbrev pub members_front : List FormulaTree → Option FormulaTrees → Option FormulaTrees
-members_front front rest = option_map (front_formulas front) rest
+members_front front rest = option_map (formulas_front front) rest
 
 pub members_more : (names : List Name) (front all : List Formula) (f : Formula) (syntax : FormulaSyntax) (rest : FormulasSyntax) → all ≡ front ++ f ∷ [] →
     numbered names syntax ≡ Some (formula_tree f) →
     members_front (map formula_tree all) (numbered_members names rest) ≡ members_front (map formula_tree front) (numbered_members names (another_formula syntax rest))
 members_more names front all f syntax rest is h = rw (is, h) (by (numbered_members names rest)) where
   by : (found : Option FormulaTrees) → members_front (map formula_tree (front ++ f ∷ [])) found ≡ members_front (map formula_tree front) (option_map (more_formulas (formula_tree f)) found)
-  by (Some fs) = ap Some (front_formulas_push front f fs)
+  by (Some fs) = ap Some (formulas_front_push front f fs)
   by None = refl
 
 pub members_all : (front : List FormulaTree) (all : Option FormulaTrees) (list : FormulaTrees) → members_front front (Some no_formulas) ≡ all → list ≡ formulas_of front → all ≡ Some list
-members_all front all list h is = sym h ∙ ap Some (front_formulas_none front ∙ sym is)
+members_all front all list h is = sym h ∙ ap Some (formulas_front_none front ∙ sym is)
 
 -- the formulas of sections that go to one list
 

@@ -3,8 +3,8 @@ use Rattle.std.proofs.Common.{◌≡◌, ℕ, zero, suc, ◌≤◌, arith, List,
 use Rattle.std.proofs.lemmas.List.{append-nil}
 use Rattle.std.specs.Prelude.{Option, Some, None, Ok}
 use Rattle.tsl_text.specs.declared.TokenKind.TheVariants.{And, Or, Arrow, BothArrow}
-use Rattle.tsl_reader.specs.declared.syntax.Binary.{Binary}
-use Rattle.tsl_reader.specs.declared.syntax.Binary.TheVariants.{Implication, Equivalence}
+use Rattle.tsl_terms.specs.declared.operator.BinaryOperator.{BinaryOperator}
+use Rattle.tsl_terms.specs.declared.operator.BinaryOperator.TheVariants.{Implication, Equivalence}
 use Rattle.tsl_reader.specs.Syntax.{Terminal, mark, FormulaSyntax, between, all_of, any_of}
 use Rattle.tsl_reader.specs.Grammar.{IsFormula, temporal, chain as chained, IsIff, no_iff, iff, IsImp, no_imp, imp, IsOr, disjunction, AreDisjuncts, no_disjunct, more_disjuncts, IsAnd, conjunction, AreConjuncts, no_conjunct, more_conjuncts, IsPrefix}
 use Rattle.tsl_reader.specs.Reading.{Answer, Reader, Level, and_then, made, chain, below, prefix_with, conjunct, and_behind, and_with, disjunct, or_behind_and, or_behind, imp_behind_or, imp_behind, imp_with, iff_behind_imp, iff_behind, iff_with, temporal_in, formula_from, formula_behind, formula_with, above, lower}
@@ -155,7 +155,7 @@ pub iff_sound : (room : ℕ) (low : Option Level) → Below LevelSound room low 
 unfolding iff_with
 iff_sound room low h xs = begun_sound IsPrefix IsIff room xs (prefix_with low xs) (iff_behind low) (prefix_sound room low h xs) (iff_behind_sound room low h)
 
-formula_chosen : (room : ℕ) (low : Option Level) → Below LevelSound room low → (found : Option Binary) (a : FormulaSyntax) (xs : List Terminal) → temporal_in xs ≡ found →
+formula_chosen : (room : ℕ) (low : Option Level) → Below LevelSound room low → (found : Option BinaryOperator) (a : FormulaSyntax) (xs : List Terminal) → temporal_in xs ≡ found →
     SoundAt (Behind IsPrefix IsFormula room a) xs (formula_from low found a xs)
 unfolding formula_from
 formula_chosen room low h None a xs is =

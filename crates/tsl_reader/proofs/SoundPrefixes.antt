@@ -3,7 +3,7 @@ use Rattle.std.proofs.Common.{◌≡◌, ℕ, zero, suc, List, [], ◌∷◌, �
 use Rattle.std.specs.Prelude.{Option, Some, None}
 use Rattle.tsl_text.specs.declared.TokenKind.TheVariants.{OpenRound, OpenSquare, CloseSquare, LeftArrow}
 use Rattle.tsl_reader.specs.declared.syntax.Word.TheVariants.{True, False}
-use Rattle.tsl_reader.specs.declared.syntax.Unary.{Unary}
+use Rattle.tsl_terms.specs.declared.operator.UnaryOperator.{UnaryOperator}
 use Rattle.tsl_reader.specs.Syntax.{Terminal, free, word, mark, TermSyntax, FormulaSyntax, updated, under}
 use Rattle.tsl_reader.specs.Grammar.{unary_of, IsTerm, IsFormula, IsIff, IsImp, IsPrefix, prefix, atom, IsAtom, true_atom, false_atom, brackets_atom, update, bare_name, no_argument, test}
 use Rattle.tsl_reader.specs.Reading.{Level, and_then, made, close_square, bracketed, below, behind_name, atom_named, term_with, update_with, atom_with, unary_in, prefix_from, prefix_with}
@@ -79,7 +79,7 @@ atom_sound room low h (free p ∷ rest) =
     (behind_sound room low (term_of_level room low h) rest))
 atom_sound room low h _ = tt
 
-operand_sound : (room : ℕ) (low : Option Level) → Below LevelSound room low → (op : Unary) (x : Terminal) → unary_of x ≡ Some op → (rest : List Terminal) →
+operand_sound : (room : ℕ) (low : Option Level) → Below LevelSound room low → (op : UnaryOperator) (x : Terminal) → unary_of x ≡ Some op → (rest : List Terminal) →
     SoundAt (IsPrefix room) (x ∷ rest) (made (under op) (below low (λ l. l.prefix) (x ∷ rest)))
 operand_sound zero None h op x is rest = tt
 operand_sound zero (Some l) h op x is rest = absurd h
@@ -88,7 +88,7 @@ operand_sound (suc room) (Some l) h op x is rest =
     front_sound (λ f a. IsPrefix (suc room) (x ∷ f) a) (IsPrefix (suc room)) x (λ a f k. k) rest _
     (made_sound (IsPrefix room) (λ f a. IsPrefix (suc room) (x ∷ f) a) (under op) (λ a f k. prefix op x is k) rest (l.prefix rest) (h.prefix rest))
 
-prefix_chosen : (room : ℕ) (low : Option Level) → Below LevelSound room low → (found : Option Unary) (xs : List Terminal) → unary_in xs ≡ found →
+prefix_chosen : (room : ℕ) (low : Option Level) → Below LevelSound room low → (found : Option UnaryOperator) (xs : List Terminal) → unary_in xs ≡ found →
     SoundAt (IsPrefix room) xs (prefix_from low found xs)
 unfolding prefix_from
 prefix_chosen room low h None xs is = weaken_sound (IsAtom room) (IsPrefix room) (λ a f k. atom k) xs (atom_with low xs) (atom_sound room low h xs)

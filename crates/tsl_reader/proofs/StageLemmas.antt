@@ -1,35 +1,34 @@
 -- Steps of reading a text, over plain variables.
-use Rattle.std.proofs.Common.{◌≡◌, ℕ, zero, suc, ◌+◌, ◌-◌, ◌<◌, ◌≤◌, Bool, true, false, cond, List, [], ◌∷◌, length, get_or, drop, refl, ap, sym, ◌∙◌, arith}
-use Rattle.std.proofs.lemmas.List.{drop_more, length-map}
-use Rattle.std.specs.Prelude.{Option, Some, None, Result, Ok, Err, slice_get, filter, option_and_then, MatchOption}
-use Rattle.tsl_terms.specs.Name.{Name}
-use Rattle.tsl_terms.specs.FormulaTree.{FormulaTrees, no_formulas, more_formulas, formulas_of, formulas_in as members_in}
-use Rattle.tsl_terms.specs.WellFormed.{formulas_fit}
-use Rattle.tsl_terms.specs.SpecTree.{SpecTree, whole_formula}
-use Rattle.tsl_reader.specs.declared.syntax.Part.{Part}
-use Rattle.tsl_reader.specs.declared.syntax.Part.TheVariants.{AssumeFirst, AssumeAlways, GuaranteeFirst, GuaranteeAlways}
-use Rattle.std.specs.Prelude.{IfErr, nat_le}
+use Rattle.std.proofs.Common.{◌≡◌, ℕ, zero, suc, ◌+◌, ◌-◌, ◌<◌, ◌≤◌, ◌^◌, Bool, true, false, cond, List, [], ◌∷◌, length, map, get_or, drop, refl, ap, sym, ◌∙◌, subst, arith}
 use Rattle.std.proofs.lemmas.Bool.{leb-true, leb-false}
-use Rattle.tsl_terms.specs.Nodes.{nodes}
-use Rattle.std.specs.Result.{IsErrAnd}
-use Rattle.std.proofs.lemmas.Result.{err_from_is_err_and}
-use Rattle.tsl_reader.specs.declared.naming.Quality.{Quality}
-use Rattle.tsl_reader.specs.declared.naming.Quality.TheVariants.{Kind, Arity}
-use Rattle.tsl_reader.specs.Naming.{is_written, all_uses, written_uses, with_uses, names_of, first_clash, alike_in_kind, same_arity, numbered_list, formulas_in}
-use Rattle.tsl_reader.specs.Numbering.{HasNumbers}
-use Rattle.tsl_reader.specs.Quality.{alike_in}
+use Rattle.std.proofs.lemmas.List.{drop_more, length-map}
+use Rattle.std.specs.List.{list_all}
+use Rattle.std.specs.Prelude.{Option, Some, None, Ok, Err, slice_get, flat_map, nat_le, MatchOption}
 use Rattle.tsl_text.specs.declared.Token.{Token}
 use Rattle.tsl_text.specs.Division.{AreTokens}
+use Rattle.tsl_text.specs.Lexeme.{token_text}
+use Rattle.tsl_terms.specs.Name.{Name}
+use Rattle.tsl_terms.specs.Clashes.{alike_in_kind, same_arity, first_uses, IsFirstClash, HasNoClash}
+use Rattle.tsl_terms.specs.FormulaTree.{FormulaTrees, formulas_in as members_in}
+use Rattle.tsl_terms.specs.Nodes.{nodes}
+use Rattle.tsl_terms.specs.SpecTree.{SpecTree, whole_formula}
+use Rattle.tsl_terms.specs.WellFormed.{formula_fits, formulas_fit}
+use Rattle.tsl_reader.specs.declared.syntax.Part.{Part}
+use Rattle.tsl_reader.specs.declared.syntax.Part.TheVariants.{AssumeFirst, AssumeAlways, GuaranteeFirst, GuaranteeAlways}
 use Rattle.tsl_reader.specs.declared.terminals.Terminal.{Terminal as LentTerminal}
 use Rattle.tsl_reader.specs.Syntax.{Terminal, FormulaSyntax, SectionSyntax}
 use Rattle.tsl_reader.specs.Reading.{form, deep, sections}
-use Rattle.tsl_reader.specs.Spells.{deepest, terminal_at, terminals, is_free, name_tokens, Derives, HasNoClash, HasFormFault, HasDeepFault, HasKindFault, HasArityFault, IsDerived, Spells, HasTooManyNodes, most_nodes}
+use Rattle.tsl_reader.specs.Naming.{Use, all_uses, written_uses, named_by, names_of, numbered_list, formulas_in}
+use Rattle.tsl_reader.specs.Numbering.{HasNumbers}
+use Rattle.tsl_reader.specs.Spells.{deepest, terminal_at, terminals, is_free, name_tokens, Derives, HasFormFault, HasDeepFault, HasClashAt, IsDerived, Spells, HasTooManyNodes, most_nodes}
 use Rattle.tsl_reader.specs.SyntaxView.{terminals_view}
 use Rattle.tsl_reader.proofs.Faults.{form_is_within}
 use Rattle.tsl_reader.proofs.Causes.{form_at_token, form_at_end, deep_at_token, deep_has_token}
 use Rattle.tsl_reader.proofs.AgainSections.{sections_derive}
-use Rattle.tsl_reader.proofs.Firsts.{no_clash_found}
-use Rattle.tsl_reader.proofs.Results.{clash_token as clash_place, kind_fault, arity_fault, list_of_part}
+use Rattle.tsl_reader.proofs.Counts.{uses_within}
+use Rattle.tsl_reader.proofs.NameBounds.{names_within, firsts_within}
+use Rattle.tsl_reader.proofs.Results.{list_of_part}
+use Rattle.tsl_reader.proofs.UsePlaces.{token_of_use}
 
 length_terminals : (text : List ℕ) (tokens : List Token) → length (terminals text tokens) ≡ length tokens
 length_terminals text tokens = length-map tokens (terminal_at text)
@@ -109,68 +108,43 @@ deep_fault text tokens xs left at are is h place = by (slice_get tokens (length 
 
 -- clashes
 
-found_place : {X : Type 0} (xs : List X) (place : Option ℕ) (x : X) → Some x ≡ option_and_then (slice_get xs) place →
-    (at : ℕ) × (place ≡ Some at) × (slice_get xs at ≡ Some x)
-found_place xs None x h = cc
-found_place xs (Some at) x h = (at, refl, sym h)
+-- the first use that is not like the first use of its name has its token
+pub clash_told : (alike : Name → Name → Bool) (text : List ℕ) (tokens : List Token) (us : List Name) (at : ℕ) (found : Option Token) →
+    map (λ n. n.text) us ≡ map (token_text text) (name_tokens text tokens) → IsFirstClash alike us at → found ≡ slice_get (name_tokens text tokens) at →
+    MatchOption found (HasNoClash alike us) (λ token. (k : ℕ) × IsFirstClash alike us k × (slice_get (name_tokens text tokens) k ≡ Some token))
+clash_told alike text tokens us at None spelled h e =
+    let token = token_of_use us (name_tokens text tokens) text at h.clash.usage spelled h.clash.use_there in
+    let never : None ≡ Some token.0 = e ∙ token.1 in
+    cc
+clash_told alike text tokens us at (Some token) spelled h e = (at, h, sym e)
 
-no_place : {X : Type 0} (xs : List X) (place : Option ℕ) → ((at : ℕ) → place ≡ Some at → (x : X) × (slice_get xs at ≡ Some x)) →
-    None ≡ option_and_then (slice_get xs) place → place ≡ None
-no_place xs None there h = refl
-no_place xs (Some at) there h = let x = there at refl in let none : Some x.0 ≡ None = sym x.1 ∙ sym h in cc
+-- the names that are used are those of the sections
+pub written_are : (us : List Use) (names : List Name) (ss : List SectionSyntax) → names ≡ map (λ u. u.name) us → us ≡ all_uses ss → names ≡ written_uses ss
+written_are us names ss is are = is ∙ ap (map (λ u. u.name)) are
 
--- the names are those of the sections, and the uses too
-clash_is : (quality : Quality) (names us : List Name) (ss : List SectionSyntax) → names ≡ with_uses [] us → us ≡ all_uses ss →
-    first_clash (alike_in quality) names (filter is_written us) ≡ first_clash (alike_in quality) (names_of ss) (written_uses ss)
-clash_is quality names us ss named are = rw (named, are) refl
+pub few_firsts : (text : List ℕ) (tokens : List Token) (ss : List SectionSyntax) (names : List Name) → Derives text tokens ss → length text < 2 ^ 32 - 1 → names ≡ written_uses ss →
+    length (first_uses names) < 2 ^ 32
+few_firsts text tokens ss names d short are =
+    omega (arith, short, firsts_within names, ap length are, length-map (all_uses ss) (λ u. u.name), uses_within text tokens ss d)
 
-pub kind_clash : (text : List ℕ) (tokens : List Token) (ss : List SectionSyntax) (names us : List Name) (token : Token) → Derives text tokens ss →
-    names ≡ with_uses [] us → us ≡ all_uses ss →
-    Some token ≡ option_and_then (slice_get (name_tokens text tokens)) (first_clash alike_in_kind names (filter is_written us)) →
-    HasKindFault text token.start token.end
-kind_clash text tokens ss names us token d named are h =
-    let found = found_place (name_tokens text tokens) (first_clash alike_in_kind (names_of ss) (written_uses ss)) token
-    (h ∙ ap (option_and_then (slice_get (name_tokens text tokens))) (clash_is Kind names us ss named are)) in
-    kind_fault text tokens ss d found.0 found.1 token found.2
+pub few_names : (text : List ℕ) (tokens : List Token) (ss : List SectionSyntax) (us : List Use) (names : List Name) → Derives text tokens ss → length text < 2 ^ 32 - 1 →
+    names ≡ flat_map named_by us → us ≡ all_uses ss → length (first_uses names) < 2 ^ 32
+few_names text tokens ss us names d short is are =
+    rw (is, are) (omega (arith, short, names_within (all_uses ss), uses_within text tokens ss d))
 
-pub no_clash : (quality : Quality) (text : List ℕ) (tokens : List Token) (ss : List SectionSyntax) (names us : List Name) → Derives text tokens ss →
-    names ≡ with_uses [] us → us ≡ all_uses ss →
-    None ≡ option_and_then (slice_get (name_tokens text tokens)) (first_clash (alike_in quality) names (filter is_written us)) →
-    first_clash (alike_in quality) (names_of ss) (written_uses ss) ≡ None
-no_clash quality text tokens ss names us d named are h =
-    no_place (name_tokens text tokens) (first_clash (alike_in quality) (names_of ss) (written_uses ss))
-    (λ at e. clash_place (alike_in quality) text tokens ss d at e)
-    (h ∙ ap (option_and_then (slice_get (name_tokens text tokens))) (clash_is quality names us ss named are))
-
-pub arity_clash : (text : List ℕ) (tokens : List Token) (ss : List SectionSyntax) (names us : List Name) (token : Token) → Derives text tokens ss →
-    names ≡ with_uses [] us → us ≡ all_uses ss →
-    None ≡ option_and_then (slice_get (name_tokens text tokens)) (first_clash alike_in_kind names (filter is_written us)) →
-    Some token ≡ option_and_then (slice_get (name_tokens text tokens)) (first_clash same_arity names (filter is_written us)) →
-    HasArityFault text token.start token.end
-arity_clash text tokens ss names us token d named are none h =
-    let found = found_place (name_tokens text tokens) (first_clash same_arity (names_of ss) (written_uses ss)) token
-    (h ∙ ap (option_and_then (slice_get (name_tokens text tokens))) (clash_is Arity names us ss named are)) in
-    arity_fault text tokens ss d (no_clash Kind text tokens ss names us d named are none) found.0 found.1 token found.2
-
-pub one_way : (quality : Quality) (text : List ℕ) (tokens : List Token) (ss : List SectionSyntax) (names us : List Name) → Derives text tokens ss →
-    names ≡ with_uses [] us → us ≡ all_uses ss →
-    None ≡ option_and_then (slice_get (name_tokens text tokens)) (first_clash (alike_in quality) names (filter is_written us)) →
-    HasNoClash (alike_in quality) (written_uses ss)
-one_way quality text tokens ss names us d named are h =
-    no_clash_found (alike_in quality) ss (no_clash quality text tokens ss names us d named are h)
+pub clash_in : (alike : Name → Name → Bool) (text : List ℕ) (tokens : List Token) (ss : List SectionSyntax) (us : List Name) (token : Token) → us ≡ written_uses ss →
+    (k : ℕ) × IsFirstClash alike us k × (slice_get (name_tokens text tokens) k ≡ Some token) → HasClashAt alike text tokens ss token.start token.end
+clash_in alike text tokens ss us token are h =
+    record { at = h.0; clash = subst (λ names. IsFirstClash alike names h.0) are h.1; token = token; there = h.2; starts = refl; ends = refl }
 
 -- a list that has its numbers fits the names
-
-members_of : (fs : FormulaTrees) → formulas_of (members_in fs) ≡ fs
-members_of no_formulas = refl
-members_of (more_formulas f fs) = ap (more_formulas f) (members_of fs)
 
 pub list_fits : (names : List Name) (fs : List FormulaSyntax) (list : FormulaTrees) → HasNumbers names fs → numbered_list names fs ≡ Some (members_in list) →
     formulas_fit names list ≡ true
 list_fits names fs list h is =
     let same : Some h.trees ≡ Some (members_in list) = sym h.numbered ∙ is in
     let trees : h.trees ≡ members_in list = cc in
-    ap (formulas_fit names) (sym (members_of list) ∙ ap formulas_of (sym trees)) ∙ h.fit
+    ap (list_all (formula_fits names)) (sym trees) ∙ h.fit
 
 -- the specification
 
@@ -197,10 +171,6 @@ derives_spec text tokens ss names spec d kinds arities named are a b c e = recor
   guarantee_first = rw are c;
   guarantee_always = rw are e;
 }
-
--- an error that is passed on
-pub passed : {T E : Type 0} (r : Result T E) (error : E) (P : E → Type 0) → IsErrAnd r (λ e. e ≡ error) → P error → IfErr r P
-passed r error P h k = let p = err_from_is_err_and r h in rw (p.1, p.2) k
 
 -- how many nodes the whole formula has
 

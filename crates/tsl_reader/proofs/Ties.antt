@@ -3,7 +3,7 @@ use Rattle.std.proofs.Common.{◌≡◌, ℕ, ◌<◌, List, [], ◌∷◌, ◌+
 use Rattle.std.specs.Prelude.{Option, Some, None, Ok}
 use Rattle.tsl_text.specs.declared.TokenKind.TheVariants.{OpenRound, And, Or, Arrow, BothArrow}
 use Rattle.tsl_reader.specs.declared.syntax.Word.TheVariants.{U, W, R}
-use Rattle.tsl_reader.specs.declared.syntax.Binary.{Binary}
+use Rattle.tsl_terms.specs.declared.operator.BinaryOperator.{BinaryOperator}
 use Rattle.tsl_reader.specs.Syntax.{Terminal, free, word, mark, alone, FormulaSyntax}
 use Rattle.tsl_reader.specs.Grammar.{temporal_of}
 use Rattle.tsl_reader.specs.Reading.{Level, name_alone, argument, conjunct, disjunct, imp_behind_or, iff_behind_imp, temporal_in}
@@ -94,7 +94,7 @@ tail_joined (mark Arrow ∷ tail) more h k = tt
 tail_joined (mark BothArrow ∷ tail) more h k = tt
 tail_joined _ more h k = absurd h
 
-pub temporal_ties : (x : Terminal) (op : Binary) (rest : List Terminal) → temporal_of x ≡ Some op → tie (x ∷ rest) < 6
+pub temporal_ties : (x : Terminal) (op : BinaryOperator) (rest : List Terminal) → temporal_of x ≡ Some op → tie (x ∷ rest) < 6
 temporal_ties (word U) op rest is = omega arith
 temporal_ties (word W) op rest is = omega arith
 temporal_ties (word R) op rest is = omega arith

@@ -1,6 +1,6 @@
 -- The names of a text's tokens are usable where they are no reserved words.
-use Rattle.std.proofs.Common.{◌≡◌, ℕ, Bool, true, false, ◌||◌, List, [], ◌∷◌, refl}
-use Rattle.std.specs.Prelude.{Option, Some, None, codes, if◌then◌else◌}
+use Rattle.std.proofs.Common.{◌≡◌, ℕ, Bool, true, false, ◌||◌, List, [], ◌∷◌, map, refl, sym, subst}
+use Rattle.std.specs.Prelude.{Option, Some, None, codes, IsTrue, if◌then◌else◌}
 use Rattle.std.specs.List.{AllByRecursion}
 use Rattle.std.specs.Str.{bytes_eq}
 use Rattle.std.proofs.lemmas.List.Elements.{recursion_from_All}
@@ -10,12 +10,20 @@ use Rattle.tsl_text.specs.declared.TokenKind.TheVariants.{Name}
 use Rattle.tsl_text.specs.Division.{AreTokens, IsTokenOf}
 use Rattle.tsl_text.specs.Lexeme.{IsTokenText, lexeme_from, token_text}
 use Rattle.tsl_text.proofs.Parts.{each_token}
-use Rattle.tsl_terms.specs.Name.{is_name_text, is_reserved}
+use Rattle.tsl_text.specs.Names.{is_name_text, is_reserved, is_usable}
 use Rattle.tsl_reader.specs.declared.syntax.Word.{Word}
 use Rattle.tsl_reader.specs.declared.syntax.Word.TheVariants.{Assume, Guarantee, Always, Initially, True, False, X, F, G, U, W, R, A}
-use Rattle.tsl_reader.specs.Syntax.{Terminal, free, word, mark, word_of, free_unless, terminal_of}
-use Rattle.tsl_reader.specs.Spells.{terminal_at, terminals}
-use Rattle.tsl_reader.proofs.Fine.{AreUsable}
+use Rattle.tsl_reader.specs.Syntax.{Terminal, free, word, mark, word_of, free_unless, terminal_of, SectionSyntax}
+use Rattle.tsl_reader.specs.Spells.{terminal_at, terminals, Derives}
+use Rattle.tsl_reader.specs.Naming.{Use, all_uses}
+use Rattle.tsl_reader.proofs.UseTexts.{free_texts, text_of, sections_texts}
+
+abbrev pub IsUsable : List ℕ → Type 0
+IsUsable text = IsTrue (is_usable text)
+
+-- the names among these terminals are usable
+abbrev AreUsable : List Terminal → Type 0
+AreUsable xs = AllByRecursion IsUsable (free_texts xs)
 
 one_word : (is : Bool) (w : Word) (rest : Option Word) (others : Bool) → (rest ≡ None → others ≡ false) → (if is then Some w else rest) ≡ None → (is || others) ≡ false
 one_word true w rest others further h = cc
@@ -47,5 +55,14 @@ usable_each text [] h = tt
 usable_each text (t ∷ tokens) h = in_front (terminal_at text t) (terminals text tokens) (usable_token t.kind (token_text text t) h.0.spelled) (usable_each text tokens h.1)
 
 -- the names of a text are usable
-pub usable_terminals : (text : List ℕ) (tokens : List Token) → AreTokens text tokens → AreUsable (terminals text tokens)
+usable_terminals : (text : List ℕ) (tokens : List Token) → AreTokens text tokens → AreUsable (terminals text tokens)
 usable_terminals text tokens are = usable_each text tokens (recursion_from_All (IsTokenOf text) tokens (each_token text tokens are))
+
+of_texts : (us : List Use) → AllByRecursion IsUsable (map text_of us) → AllByRecursion (λ u. IsUsable u.name.text) us
+of_texts [] h = tt
+of_texts (u ∷ us) h = (h.0, of_texts us h.1)
+
+-- and so are those of its uses
+pub usable_uses : (text : List ℕ) (tokens : List Token) (ss : List SectionSyntax) → Derives text tokens ss → AllByRecursion (λ u. IsUsable u.name.text) (all_uses ss)
+usable_uses text tokens ss d =
+    of_texts (all_uses ss) (subst (AllByRecursion IsUsable) (sym (sections_texts d.derived)) (usable_terminals text tokens d.tokens_are))

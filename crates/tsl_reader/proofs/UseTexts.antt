@@ -1,18 +1,15 @@
 -- The names of a text's terminals are, one after another, those of the uses of what it derives from.
-use Rattle.std.proofs.Common.{◌≡◌, ℕ, Bool, true, false, not, List, [], ◌∷◌, ◌++◌, map, refl, ap, sym, ◌∙◌}
-use Rattle.std.specs.Prelude.{filter, flat_map, cond}
-use Rattle.std.specs.Prelude.{Some}
-use Rattle.std.specs.Str.{bytes_eq}
+use Rattle.std.proofs.Common.{◌≡◌, ℕ, List, [], ◌∷◌, ◌++◌, map, refl, ap, sym, ◌∙◌}
+use Rattle.std.specs.Prelude.{flat_map, Some}
 use Rattle.std.proofs.lemmas.List.{map-append, append-nil}
-use Rattle.std.proofs.lemmas.List.Elements.{filter-append}
+use Rattle.std.proofs.lemmas.Simd.{map-map}
 use Rattle.tsl_text.specs.declared.TokenKind.TheVariants.{OpenBrace, CloseBrace, CloseRound, CloseSquare, Semicolon, Arrow, BothArrow}
-use Rattle.tsl_terms.specs.Name.{Name, question}
-use Rattle.tsl_reader.specs.declared.syntax.Unary.{Unary}
-use Rattle.tsl_reader.specs.declared.syntax.Binary.{Binary}
+use Rattle.tsl_terms.specs.declared.operator.UnaryOperator.{UnaryOperator}
+use Rattle.tsl_terms.specs.declared.operator.BinaryOperator.{BinaryOperator}
 use Rattle.tsl_reader.specs.declared.syntax.Part.{Part}
 use Rattle.tsl_reader.specs.Syntax.{Terminal, free, word, mark, TermSyntax, terms_of, FormulaSyntax, all_of, any_of, formulas_of, SectionSyntax}
 use Rattle.tsl_reader.specs.Grammar.{unary_of, temporal_of, IsTerm, signal, constant, application, brackets, AreArguments, one_argument, more_arguments, IsArgument, signal_argument, constant_argument, brackets_argument, IsFormula, temporal, chain as chained, IsIff, no_iff, iff, IsImp, no_imp, imp, IsOr, disjunction, AreDisjuncts, no_disjunct, more_disjuncts, IsAnd, conjunction, AreConjuncts, no_conjunct, more_conjuncts, IsPrefix, prefix, atom, IsAtom, true_atom, false_atom, brackets_atom, update, bare_name, no_argument, test, AreItems, nothing, last_item, item, IsHead, assume, guarantee, initially_assume, initially_guarantee, always_assume, always_guarantee, IsSection, braces, AreSections, no_section, section}
-use Rattle.tsl_reader.specs.Naming.{term_uses, terms_uses, uses, members_uses, section_uses, all_uses, is_written, written_uses}
+use Rattle.tsl_reader.specs.Naming.{Use, term_uses, terms_uses, uses, members_uses, section_uses, all_uses, written_uses}
 
 -- the names among terminals, in order
 abbrev pub free_texts : List Terminal → List (List ℕ)
@@ -27,24 +24,12 @@ free_texts_append (free x ∷ xs) ys = ap (λ ts. x ∷ ts) (free_texts_append x
 free_texts_append (word w ∷ xs) ys = free_texts_append xs ys
 free_texts_append (mark m ∷ xs) ys = free_texts_append xs ys
 
-abbrev pub text_of : Name → List ℕ
-text_of n = n.text
+abbrev pub text_of : Use → List ℕ
+text_of u = u.name.text
 
--- a text that is not `?`
-abbrev pub is_other : List ℕ → Bool
-is_other text = not (bytes_eq text question)
-
-abbrev use_texts : List Name → List (List ℕ)
-use_texts names = filter is_other (map text_of names)
-
-abbrev texts_in : List Terminal → List (List ℕ)
-texts_in xs = filter is_other (free_texts xs)
-
-joined : (us vs : List Name) (xs ys : List Terminal) → use_texts us ≡ texts_in xs → use_texts vs ≡ texts_in ys → use_texts (us ++ vs) ≡ texts_in (xs ++ ys)
+joined : (us vs : List Use) (xs ys : List Terminal) → map text_of us ≡ free_texts xs → map text_of vs ≡ free_texts ys → map text_of (us ++ vs) ≡ free_texts (xs ++ ys)
 joined us vs xs ys h k =
-    ap (filter is_other) (map-append text_of us vs) ∙ filter-append is_other (map text_of us) (map text_of vs)
-    ∙ ap (λ ts. ts ++ use_texts vs) h ∙ ap (λ ts. texts_in xs ++ ts) k
-    ∙ sym (filter-append is_other (free_texts xs) (free_texts ys)) ∙ ap (filter is_other) (sym (free_texts_append xs ys))
+    map-append text_of us vs ∙ ap (λ ts. ts ++ map text_of vs) h ∙ ap (λ ts. free_texts xs ++ ts) k ∙ sym (free_texts_append xs ys)
 
 -- a mark behind has no name
 closed : (xs : List Terminal) (x : Terminal) → free_texts (x ∷ []) ≡ [] → free_texts (xs ++ x ∷ []) ≡ free_texts xs
@@ -59,21 +44,19 @@ mutual
 
   arguments_texts : {room : ℕ} {xs : List Terminal} {ts : List TermSyntax} → AreArguments room xs ts → map text_of (terms_uses (terms_of ts)) ≡ free_texts xs
   arguments_texts (one_argument {t = t} h) = ap (map text_of) (append-nil (term_uses t)) ∙ argument_texts h
-  arguments_texts (more_arguments {xs = xs} {ys = ys} {t = t} {ts = ts} h k) =
-      map-append text_of (term_uses t) (terms_uses (terms_of ts)) ∙ ap (λ us. us ++ map text_of (terms_uses (terms_of ts))) (argument_texts h)
-      ∙ ap (λ us. free_texts xs ++ us) (arguments_texts k) ∙ sym (free_texts_append xs ys)
+  arguments_texts (more_arguments {xs = xs} {ys = ys} {t = t} {ts = ts} h k) = joined (term_uses t) (terms_uses (terms_of ts)) xs ys (argument_texts h) (arguments_texts k)
 
   argument_texts : {room : ℕ} {xs : List Terminal} {t : TermSyntax} → IsArgument room xs t → map text_of (term_uses t) ≡ free_texts xs
   argument_texts (signal_argument x) = refl
   argument_texts (constant_argument c) = refl
   argument_texts (brackets_argument {xs = xs} h) = term_texts h ∙ sym (closed xs (mark CloseRound) refl)
 
-temporal_is_no_name : (x : Terminal) (op : Binary) (ys : List Terminal) → temporal_of x ≡ Some op → free_texts (x ∷ ys) ≡ free_texts ys
+temporal_is_no_name : (x : Terminal) (op : BinaryOperator) (ys : List Terminal) → temporal_of x ≡ Some op → free_texts (x ∷ ys) ≡ free_texts ys
 temporal_is_no_name (free x) op ys h = cc
 temporal_is_no_name (word w) op ys h = refl
 temporal_is_no_name (mark m) op ys h = refl
 
-unary_is_no_name : (x : Terminal) (op : Unary) (ys : List Terminal) → unary_of x ≡ Some op → free_texts (x ∷ ys) ≡ free_texts ys
+unary_is_no_name : (x : Terminal) (op : UnaryOperator) (ys : List Terminal) → unary_of x ≡ Some op → free_texts (x ∷ ys) ≡ free_texts ys
 unary_is_no_name (free x) op ys h = cc
 unary_is_no_name (word w) op ys h = refl
 unary_is_no_name (mark m) op ys h = refl
@@ -88,51 +71,51 @@ any_uses_are a [] = sym (append-nil (uses a))
 any_uses_are a (g ∷ gs) = refl
 
 mutual
-  formula_texts : {room : ℕ} {xs : List Terminal} {f : FormulaSyntax} → IsFormula room xs f → use_texts (uses f) ≡ texts_in xs
+  formula_texts : {room : ℕ} {xs : List Terminal} {f : FormulaSyntax} → IsFormula room xs f → map text_of (uses f) ≡ free_texts xs
   formula_texts (temporal {xs = xs} {ys = ys} {a = a} {b = b} op x is h k) =
-      joined (uses a) (uses b) xs (x ∷ ys) (prefix_texts h) (prefix_texts k ∙ ap (filter is_other) (sym (temporal_is_no_name x op ys is)))
+      joined (uses a) (uses b) xs (x ∷ ys) (prefix_texts h) (prefix_texts k ∙ (sym (temporal_is_no_name x op ys is)))
   formula_texts (chained h) = iff_texts h
 
-  iff_texts : {room : ℕ} {xs : List Terminal} {f : FormulaSyntax} → IsIff room xs f → use_texts (uses f) ≡ texts_in xs
+  iff_texts : {room : ℕ} {xs : List Terminal} {f : FormulaSyntax} → IsIff room xs f → map text_of (uses f) ≡ free_texts xs
   iff_texts (no_iff h) = imp_texts h
   iff_texts (iff {xs = xs} {ys = ys} {a = a} {b = b} h k) = joined (uses a) (uses b) xs (mark BothArrow ∷ ys) (imp_texts h) (iff_texts k)
 
-  imp_texts : {room : ℕ} {xs : List Terminal} {f : FormulaSyntax} → IsImp room xs f → use_texts (uses f) ≡ texts_in xs
+  imp_texts : {room : ℕ} {xs : List Terminal} {f : FormulaSyntax} → IsImp room xs f → map text_of (uses f) ≡ free_texts xs
   imp_texts (no_imp h) = or_texts h
   imp_texts (imp {xs = xs} {ys = ys} {a = a} {b = b} h k) = joined (uses a) (uses b) xs (mark Arrow ∷ ys) (or_texts h) (imp_texts k)
 
-  or_texts : {room : ℕ} {xs : List Terminal} {f : FormulaSyntax} → IsOr room xs f → use_texts (uses f) ≡ texts_in xs
+  or_texts : {room : ℕ} {xs : List Terminal} {f : FormulaSyntax} → IsOr room xs f → map text_of (uses f) ≡ free_texts xs
   or_texts (disjunction {xs = xs} {ys = ys} {a = a} {fs = fs} h k) =
-      ap use_texts (any_uses_are a fs) ∙ joined (uses a) (members_uses (formulas_of fs)) xs ys (and_texts h) (disjuncts_texts k)
+      ap (map text_of) (any_uses_are a fs) ∙ joined (uses a) (members_uses (formulas_of fs)) xs ys (and_texts h) (disjuncts_texts k)
 
-  disjuncts_texts : {room : ℕ} {xs : List Terminal} {fs : List FormulaSyntax} → AreDisjuncts room xs fs → use_texts (members_uses (formulas_of fs)) ≡ texts_in xs
+  disjuncts_texts : {room : ℕ} {xs : List Terminal} {fs : List FormulaSyntax} → AreDisjuncts room xs fs → map text_of (members_uses (formulas_of fs)) ≡ free_texts xs
   disjuncts_texts no_disjunct = refl
   disjuncts_texts (more_disjuncts {xs = xs} {ys = ys} {a = a} {fs = fs} h k) = joined (uses a) (members_uses (formulas_of fs)) xs ys (and_texts h) (disjuncts_texts k)
 
-  and_texts : {room : ℕ} {xs : List Terminal} {f : FormulaSyntax} → IsAnd room xs f → use_texts (uses f) ≡ texts_in xs
+  and_texts : {room : ℕ} {xs : List Terminal} {f : FormulaSyntax} → IsAnd room xs f → map text_of (uses f) ≡ free_texts xs
   and_texts (conjunction {xs = xs} {ys = ys} {a = a} {fs = fs} h k) =
-      ap use_texts (all_uses_are a fs) ∙ joined (uses a) (members_uses (formulas_of fs)) xs ys (prefix_texts h) (conjuncts_texts k)
+      ap (map text_of) (all_uses_are a fs) ∙ joined (uses a) (members_uses (formulas_of fs)) xs ys (prefix_texts h) (conjuncts_texts k)
 
-  conjuncts_texts : {room : ℕ} {xs : List Terminal} {fs : List FormulaSyntax} → AreConjuncts room xs fs → use_texts (members_uses (formulas_of fs)) ≡ texts_in xs
+  conjuncts_texts : {room : ℕ} {xs : List Terminal} {fs : List FormulaSyntax} → AreConjuncts room xs fs → map text_of (members_uses (formulas_of fs)) ≡ free_texts xs
   conjuncts_texts no_conjunct = refl
   conjuncts_texts (more_conjuncts {xs = xs} {ys = ys} {a = a} {fs = fs} h k) = joined (uses a) (members_uses (formulas_of fs)) xs ys (prefix_texts h) (conjuncts_texts k)
 
-  prefix_texts : {room : ℕ} {xs : List Terminal} {f : FormulaSyntax} → IsPrefix room xs f → use_texts (uses f) ≡ texts_in xs
-  prefix_texts (prefix {xs = xs} op x is h) = prefix_texts h ∙ ap (filter is_other) (sym (unary_is_no_name x op xs is))
+  prefix_texts : {room : ℕ} {xs : List Terminal} {f : FormulaSyntax} → IsPrefix room xs f → map text_of (uses f) ≡ free_texts xs
+  prefix_texts (prefix {xs = xs} op x is h) = prefix_texts h ∙ (sym (unary_is_no_name x op xs is))
   prefix_texts (atom h) = atom_texts h
 
-  atom_texts : {room : ℕ} {xs : List Terminal} {f : FormulaSyntax} → IsAtom room xs f → use_texts (uses f) ≡ texts_in xs
+  atom_texts : {room : ℕ} {xs : List Terminal} {f : FormulaSyntax} → IsAtom room xs f → map text_of (uses f) ≡ free_texts xs
   atom_texts true_atom = refl
   atom_texts false_atom = refl
-  atom_texts (brackets_atom {xs = xs} h) = formula_texts h ∙ ap (filter is_other) (sym (closed xs (mark CloseRound) refl))
-  atom_texts (update {xs = xs} x h) = ap (filter is_other) (ap (λ ts. x ∷ ts) (term_texts h ∙ sym (closed xs (mark CloseSquare) refl)))
+  atom_texts (brackets_atom {xs = xs} h) = formula_texts h ∙ (sym (closed xs (mark CloseRound) refl))
+  atom_texts (update {xs = xs} x h) = (ap (λ ts. x ∷ ts) (term_texts h ∙ sym (closed xs (mark CloseSquare) refl)))
   atom_texts (bare_name x) = refl
   atom_texts (no_argument p) = refl
-  atom_texts (test p h) = ap (filter is_other) (ap (λ ts. p ∷ ts) (arguments_texts h))
+  atom_texts (test p h) = (ap (λ ts. p ∷ ts) (arguments_texts h))
 
-items_texts : {room : ℕ} {xs : List Terminal} {fs : List FormulaSyntax} → AreItems room xs fs → use_texts (flat_map uses fs) ≡ texts_in xs
+items_texts : {room : ℕ} {xs : List Terminal} {fs : List FormulaSyntax} → AreItems room xs fs → map text_of (flat_map uses fs) ≡ free_texts xs
 items_texts nothing = refl
-items_texts (last_item {xs = xs} {f = f} h) = ap use_texts (append-nil (uses f)) ∙ formula_texts h
+items_texts (last_item {xs = xs} {f = f} h) = ap (map text_of) (append-nil (uses f)) ∙ formula_texts h
 items_texts (item {xs = xs} {ys = ys} {f = f} {fs = fs} h k) = joined (uses f) (flat_map uses fs) xs (mark Semicolon ∷ ys) (formula_texts h) (items_texts k)
 
 head_has_no_name : {xs : List Terminal} {part : Part} → IsHead xs part → free_texts xs ≡ []
@@ -143,23 +126,15 @@ head_has_no_name initially_guarantee = refl
 head_has_no_name always_assume = refl
 head_has_no_name always_guarantee = refl
 
-section_texts : {room : ℕ} {xs : List Terminal} {s : SectionSyntax} → IsSection room xs s → use_texts (section_uses s) ≡ texts_in xs
+section_texts : {room : ℕ} {xs : List Terminal} {s : SectionSyntax} → IsSection room xs s → map text_of (section_uses s) ≡ free_texts xs
 section_texts (braces {xs = xs} {ys = ys} h k) =
-    items_texts k ∙ ap (filter is_other) (sym (free_texts_append xs (mark OpenBrace ∷ (ys ++ mark CloseBrace ∷ []))
+    items_texts k ∙ (sym (free_texts_append xs (mark OpenBrace ∷ (ys ++ mark CloseBrace ∷ []))
     ∙ ap (λ ts. ts ++ free_texts (ys ++ mark CloseBrace ∷ [])) (head_has_no_name h) ∙ closed ys (mark CloseBrace) refl))
 
-sections_texts : {room : ℕ} {xs : List Terminal} {ss : List SectionSyntax} → AreSections room xs ss → use_texts (all_uses ss) ≡ texts_in xs
+pub sections_texts : {room : ℕ} {xs : List Terminal} {ss : List SectionSyntax} → AreSections room xs ss → map text_of (all_uses ss) ≡ free_texts xs
 sections_texts no_section = refl
 sections_texts (section {xs = xs} {ys = ys} {s = s} {ss = ss} h k) = joined (section_uses s) (all_uses ss) xs ys (section_texts h) (sections_texts k)
 
--- the texts of the uses that pass are the texts that pass
-map_filter : (us : List Name) → map text_of (filter is_written us) ≡ use_texts us
-map_filter [] = refl
-map_filter (u ∷ us) = by (is_other u.text) (map_filter us) where
-  by : (is : Bool) → map text_of (filter is_written us) ≡ use_texts us → map text_of (cond is (u ∷ filter is_written us) (filter is_written us)) ≡ cond is (u.text ∷ use_texts us) (use_texts us)
-  by true h = ap (λ ts. u.text ∷ ts) h
-  by false h = h
-
--- the written uses are those of the terminals' names that are not `?`
-pub written_texts : (room : ℕ) (xs : List Terminal) (ss : List SectionSyntax) → AreSections room xs ss → map text_of (written_uses ss) ≡ filter is_other (free_texts xs)
-written_texts room xs ss h = map_filter (all_uses ss) ∙ sections_texts h
+-- the names of a text's terminals are those of its uses, in order
+pub written_texts : (room : ℕ) (xs : List Terminal) (ss : List SectionSyntax) → AreSections room xs ss → map (λ n. n.text) (written_uses ss) ≡ free_texts xs
+written_texts room xs ss h = map-map (λ n. n.text) (λ u. u.name) (all_uses ss) ∙ sections_texts h

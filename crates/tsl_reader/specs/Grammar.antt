@@ -5,16 +5,16 @@
 use Rattle.std.specs.Prelude.{◌≡◌, ℕ, suc, List, [], ◌∷◌, ◌++◌, Option, Some, None}
 use Rattle.tsl_text.specs.declared.TokenKind.TheVariants.{OpenBrace, CloseBrace, OpenRound, CloseRound, OpenSquare, CloseSquare, Semicolon, Not, And, Or, Arrow, BothArrow, LeftArrow}
 use Rattle.tsl_reader.specs.declared.syntax.Word.TheVariants.{Assume, Guarantee, Always, Initially, True, False, X, F, G, U, W, R}
-use Rattle.tsl_reader.specs.declared.syntax.Unary.{Unary}
-use Rattle.tsl_reader.specs.declared.syntax.Unary.TheVariants.{Negation, Next, Finally, Globally}
-use Rattle.tsl_reader.specs.declared.syntax.Binary.{Binary}
-use Rattle.tsl_reader.specs.declared.syntax.Binary.TheVariants.{Implication, Equivalence, Until, WeakUntil, Release}
+use Rattle.tsl_terms.specs.declared.operator.UnaryOperator.{UnaryOperator}
+use Rattle.tsl_terms.specs.declared.operator.UnaryOperator.TheVariants.{Negation, Next, Finally, Globally}
+use Rattle.tsl_terms.specs.declared.operator.BinaryOperator.{BinaryOperator}
+use Rattle.tsl_terms.specs.declared.operator.BinaryOperator.TheVariants.{Implication, Equivalence, Until, WeakUntil, Release}
 use Rattle.tsl_reader.specs.declared.syntax.Part.{Part}
 use Rattle.tsl_reader.specs.declared.syntax.Part.TheVariants.{AssumeFirst, AssumeAlways, GuaranteeFirst, GuaranteeAlways}
 use Rattle.tsl_reader.specs.Syntax.{Terminal, free, word, mark, TermSyntax, alone, applied, no_terms, terms_of, FormulaSyntax, truth, falsehood, bare, tested, updated, under, between, all_of, any_of, SectionSyntax}
 
 -- the operators `!`, `X`, `F` and `G`
-abbrev pub unary_of : Terminal → Option Unary
+abbrev pub unary_of : Terminal → Option UnaryOperator
 unary_of (mark Not) = Some Negation
 unary_of (word X) = Some Next
 unary_of (word F) = Some Finally
@@ -22,7 +22,7 @@ unary_of (word G) = Some Globally
 unary_of _ = None
 
 -- the operators `U`, `W` and `R`
-abbrev pub temporal_of : Terminal → Option Binary
+abbrev pub temporal_of : Terminal → Option BinaryOperator
 temporal_of (word U) = Some Until
 temporal_of (word W) = Some WeakUntil
 temporal_of (word R) = Some Release
@@ -60,7 +60,7 @@ mutual
 mutual
   -- formula(l) = prefix(l) ("U" | "W" | "R") prefix(l) | iff(l)
   pub data IsFormula : ℕ → List Terminal → FormulaSyntax → Type 0 where
-    temporal : {room : ℕ} {xs ys : List Terminal} {a b : FormulaSyntax} (op : Binary) (t : Terminal) → temporal_of t ≡ Some op →
+    temporal : {room : ℕ} {xs ys : List Terminal} {a b : FormulaSyntax} (op : BinaryOperator) (t : Terminal) → temporal_of t ≡ Some op →
         IsPrefix room xs a → IsPrefix room ys b → IsFormula room (xs ++ t ∷ ys) (between op a b)
     chain : {room : ℕ} {xs : List Terminal} {a : FormulaSyntax} → IsIff room xs a → IsFormula room xs a
 
@@ -100,7 +100,7 @@ mutual
 
   -- prefix(l) = ("!" | "X" | "F" | "G") prefix(l+1) | atom(l)
   pub data IsPrefix : ℕ → List Terminal → FormulaSyntax → Type 0 where
-    prefix : {room : ℕ} {xs : List Terminal} {a : FormulaSyntax} (op : Unary) (t : Terminal) → unary_of t ≡ Some op →
+    prefix : {room : ℕ} {xs : List Terminal} {a : FormulaSyntax} (op : UnaryOperator) (t : Terminal) → unary_of t ≡ Some op →
         IsPrefix room xs a → IsPrefix (suc room) (t ∷ xs) (under op a)
     atom : {room : ℕ} {xs : List Terminal} {a : FormulaSyntax} → IsAtom room xs a → IsPrefix room xs a
 

@@ -5,7 +5,5 @@ pub mod Naming
 pub mod Spells
 pub mod SyntaxView
 pub mod Forms
-pub mod Few
 pub mod UseView
-pub mod Quality
 pub mod Numbering

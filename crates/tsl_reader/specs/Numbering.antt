@@ -1,8 +1,9 @@
 -- Formulas with numbers, as they are gathered.
 use Rattle.std.specs.Prelude.{◌≡◌, List, [], ◌++◌, Option, Some, option_map, IsTrue, if◌then◌else◌}
+use Rattle.std.specs.List.{list_all}
 use Rattle.tsl_terms.specs.Name.{Name}
-use Rattle.tsl_terms.specs.FormulaTree.{FormulaTree, formulas_of}
-use Rattle.tsl_terms.specs.WellFormed.{formulas_fit}
+use Rattle.tsl_terms.specs.FormulaTree.{FormulaTree}
+use Rattle.tsl_terms.specs.WellFormed.{formula_fits}
 use Rattle.tsl_reader.specs.declared.syntax.Part.{Part}
 use Rattle.tsl_reader.specs.Syntax.{FormulaSyntax, SectionSyntax}
 use Rattle.tsl_reader.specs.Naming.{same_part, numbered_list}
@@ -19,4 +20,4 @@ formulas_if part s = if same_part part s.part then s.formulas else []
 pub record HasNumbers (names : List Name) (fs : List FormulaSyntax) : Type 0 where
   pub trees : List FormulaTree
   pub numbered : numbered_list names fs ≡ Some trees
-  pub fit : IsTrue (formulas_fit names (formulas_of trees))
+  pub fit : IsTrue (list_all (formula_fits names) trees)

@@ -3,9 +3,9 @@
 use Rattle.std.specs.Prelude.{ℕ, zero, suc, Bool, true, false, List, [], ◌∷◌, length, Option, Some, None, Result, Ok, Err, if◌then◌else◌}
 use Rattle.tsl_text.specs.declared.TokenKind.TheVariants.{OpenBrace, CloseBrace, OpenRound, CloseRound, OpenSquare, CloseSquare, Semicolon, And, Or, Arrow, BothArrow, LeftArrow}
 use Rattle.tsl_reader.specs.declared.syntax.Word.TheVariants.{Assume, Guarantee, Always, Initially, True, False}
-use Rattle.tsl_reader.specs.declared.syntax.Unary.{Unary}
-use Rattle.tsl_reader.specs.declared.syntax.Binary.{Binary}
-use Rattle.tsl_reader.specs.declared.syntax.Binary.TheVariants.{Implication, Equivalence}
+use Rattle.tsl_terms.specs.declared.operator.UnaryOperator.{UnaryOperator}
+use Rattle.tsl_terms.specs.declared.operator.BinaryOperator.{BinaryOperator}
+use Rattle.tsl_terms.specs.declared.operator.BinaryOperator.TheVariants.{Implication, Equivalence}
 use Rattle.tsl_reader.specs.declared.syntax.Part.{Part}
 use Rattle.tsl_reader.specs.declared.syntax.Part.TheVariants.{AssumeFirst, AssumeAlways, GuaranteeFirst, GuaranteeAlways}
 use Rattle.tsl_reader.specs.Syntax.{Terminal, free, word, mark, TermSyntax, alone, applied, no_terms, terms_of, FormulaSyntax, truth, falsehood, bare, tested, updated, under, between, all_of, any_of, SectionSyntax}
@@ -158,11 +158,11 @@ atom_with lower (free p ∷ rest) = made (atom_named p) (behind_name lower rest)
 atom_with lower xs = form_at xs
 
 -- the operand of an operator that stands in front of it, or an atom where none does
-unfoldable pub prefix_from : Option Level → Option Unary → Reader FormulaSyntax
+unfoldable pub prefix_from : Option Level → Option UnaryOperator → Reader FormulaSyntax
 prefix_from lower (Some op) xs = made (under op) (below lower (λ l. l.prefix) xs)
 prefix_from lower None xs = atom_with lower xs
 
-abbrev pub unary_in : List Terminal → Option Unary
+abbrev pub unary_in : List Terminal → Option UnaryOperator
 unary_in [] = None
 unary_in (x ∷ rest) = unary_of x
 
@@ -216,12 +216,12 @@ iff_behind lower a xs = and_then (imp_behind lower a xs) (iff_behind_imp lower)
 unfoldable pub iff_with : Option Level → Reader FormulaSyntax
 iff_with lower xs = and_then (prefix_with lower xs) (iff_behind lower)
 
-abbrev pub temporal_in : List Terminal → Option Binary
+abbrev pub temporal_in : List Terminal → Option BinaryOperator
 temporal_in [] = None
 temporal_in (x ∷ rest) = temporal_of x
 
 -- the right side of an operator that stands in front of it, or the rest of a chain where none does
-unfoldable pub formula_from : Option Level → Option Binary → FormulaSyntax → Reader FormulaSyntax
+unfoldable pub formula_from : Option Level → Option BinaryOperator → FormulaSyntax → Reader FormulaSyntax
 formula_from lower (Some op) a [] = form_at []
 formula_from lower (Some op) a (x ∷ rest) = made (between op a) (prefix_with lower rest)
 formula_from lower None a xs = iff_behind lower a xs

@@ -4,22 +4,25 @@ use Rattle.tsl_text.specs.declared.Token.{Token}
 use Rattle.tsl_text.specs.Division.{AreTokens, HasBadByte, HasOpenComment}
 use Rattle.tsl_text.specs.Lexeme.{lexeme_of}
 use Rattle.tsl_terms.specs.Name.{Name}
+use Rattle.tsl_terms.specs.Clashes.{alike_in_kind, same_arity, IsFirstClash, HasNoClash}
 use Rattle.tsl_terms.specs.Nodes.{nodes}
 use Rattle.tsl_terms.specs.SpecTree.{SpecTree, whole_formula}
+use Rattle.tsl_reader.specs.declared.TheConstants.{MOST_NODES}
+use Rattle.tsl_reader.specs.declared.stages.TheConstants.{DEEPEST}
 use Rattle.tsl_reader.specs.declared.SpecError.{SpecError}
 use Rattle.tsl_reader.specs.declared.SpecError.TheVariants.{Byte, OpenComment, Form, Deep, Kind, Arity, Nodes, NoMemory}
 use Rattle.tsl_reader.specs.declared.syntax.Part.TheVariants.{AssumeFirst, AssumeAlways, GuaranteeFirst, GuaranteeAlways}
 use Rattle.tsl_reader.specs.Syntax.{Terminal, free, word, mark, terminal_of, SectionSyntax}
 use Rattle.tsl_reader.specs.Grammar.{AreSections}
-use Rattle.tsl_reader.specs.Naming.{written_uses, names_of, numbered_list, formulas_in, alike_in_kind, same_arity}
+use Rattle.tsl_reader.specs.Naming.{written_uses, names_of, numbered_list, formulas_in}
 
 -- the deepest level
 abbrev pub deepest : ℕ
-deepest = 200
+deepest = DEEPEST
 
 -- the most nodes of the whole formula
 abbrev pub most_nodes : ℕ
-most_nodes = 10000
+most_nodes = MOST_NODES
 
 abbrev pub terminal_at : List ℕ → Token → Terminal
 terminal_at text token = terminal_of (lexeme_of text token)
@@ -32,29 +35,6 @@ terminals text tokens = map (terminal_at text) tokens
 pub record Derives (text : List ℕ) (tokens : List Token) (sections : List SectionSyntax) : Type 0 where
   pub tokens_are : AreTokens text tokens
   pub derived : AreSections deepest (terminals text tokens) sections
-
--- no use stands at a smaller place that has the same text
-abbrev pub IsFirstUse : List Name → ℕ → Type 0
-IsFirstUse uses at = (i : ℕ) (m n : Name) → i < at → slice_get uses i ≡ Some m → slice_get uses at ≡ Some n → m.text ≡ n.text → ⊥
-
--- the use at this place is not like the first use of its name
-pub record IsClash (alike : Name → Name → Bool) (uses : List Name) (at : ℕ) : Type 0 where
-  pub first_at : ℕ
-  pub first : Name
-  pub usage : Name
-  pub first_there : slice_get uses first_at ≡ Some first
-  pub use_there : slice_get uses at ≡ Some usage
-  pub same_name : first.text ≡ usage.text
-  pub is_first : IsFirstUse uses first_at
-  pub differs : alike first usage ≡ false
-
--- the first such use
-pub record IsFirstClash (alike : Name → Name → Bool) (uses : List Name) (at : ℕ) : Type 0 where
-  pub clash : IsClash alike uses at
-  pub none_before : (i : ℕ) → i < at → IsClash alike uses i → ⊥
-
-abbrev pub HasNoClash : (Name → Name → Bool) → List Name → Type 0
-HasNoClash alike uses = (at : ℕ) → IsClash alike uses at → ⊥
 
 -- Everything but the limit on nodes: the specification has the derived formulas in order, with names numbered by
 -- first appearance, and no name is used in two kinds or with two numbers of arguments.
@@ -174,6 +154,11 @@ HasCause text (Kind start end) = HasKindFault text start end
 HasCause text (Arity start end) = HasArityFault text start end
 HasCause text Nodes = HasTooManyNodes text
 HasCause text NoMemory = Unit {0}
+
+-- the refusal says something of the text: it is not that memory ran out
+abbrev pub IsOfText : SpecError → Type 0
+IsOfText NoMemory = ⊥
+IsOfText _ = Unit {0}
 
 -- where the refusal is no want of memory, the text spells no specification
 abbrev pub IsRefused : List ℕ → SpecError → Type 0

@@ -8,8 +8,8 @@ use Rattle.tsl_text.specs.declared.TokenKind.TheVariants.{Number}
 use Rattle.tsl_text.specs.Lexeme.{Lexeme, name, number, symbol}
 use Rattle.tsl_reader.specs.declared.syntax.Word.{Word}
 use Rattle.tsl_reader.specs.declared.syntax.Word.TheVariants.{Assume, Guarantee, Always, Initially, True, False, X, F, G, U, W, R, A}
-use Rattle.tsl_reader.specs.declared.syntax.Unary.{Unary}
-use Rattle.tsl_reader.specs.declared.syntax.Binary.{Binary}
+use Rattle.tsl_terms.specs.declared.operator.UnaryOperator.{UnaryOperator}
+use Rattle.tsl_terms.specs.declared.operator.BinaryOperator.{BinaryOperator}
 use Rattle.tsl_reader.specs.declared.syntax.Part.{Part}
 
 -- what the grammar tells apart: a name that is not reserved, a reserved word, or a symbol or number
@@ -65,8 +65,8 @@ mutual
     tested : (name : List ℕ) → (arguments : TermsSyntax) → FormulaSyntax
     -- the signal takes the term
     updated : (name : List ℕ) → TermSyntax → FormulaSyntax
-    under : Unary → FormulaSyntax → FormulaSyntax
-    between : Binary → FormulaSyntax → FormulaSyntax → FormulaSyntax
+    under : UnaryOperator → FormulaSyntax → FormulaSyntax
+    between : BinaryOperator → FormulaSyntax → FormulaSyntax → FormulaSyntax
     -- the operands of `&&`, and of `||`
     all : FormulasSyntax → FormulaSyntax
     any : FormulasSyntax → FormulaSyntax

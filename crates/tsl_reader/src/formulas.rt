@@ -7,12 +7,13 @@ ghost use Rattle.tsl_reader.specs.Reading.{Level, lower, below, bracketed, made,
 ghost use Rattle.tsl_reader.specs.SyntaxView.{terminals_view, arguments_syntax, formula_syntax, HasFault};
 
 use crate::fault::ReadFault;
-use crate::syntax::{Binary, Unary, Word};
+use crate::syntax::Word;
 use crate::terminals::{Left, Terminal};
 use crate::terms::{Answer, behind_name, close_round, level_below, term_with};
 use crate::trees::{ReadFormula, ReadFormulas, ReadTerm, ReadTerms};
 use sequence::NoMemory;
 use std::alloc::Global;
+use tsl_terms::{BinaryOperator, UnaryOperator};
 use tsl_text::TokenKind;
 
 /// A form of the grammar that begins with a prefix.
@@ -43,26 +44,26 @@ fn close_square<'a, 'b>(xs: &'b [Terminal<'a>]) -> Result<&'b [Terminal<'a>], Re
 }
 
 /// The operator at the front that stands before its operand.
-fn unary_in(xs: &[Terminal]) -> Option<Unary>
+fn unary_in(xs: &[Terminal]) -> Option<UnaryOperator>
     ensures { result ≡ unary_in (terminals_view xs.now) }
 {
     match xs {
-        [Terminal::Mark(TokenKind::Not), ..] => Some(Unary::Negation),
-        [Terminal::Word(Word::X), ..] => Some(Unary::Next),
-        [Terminal::Word(Word::F), ..] => Some(Unary::Finally),
-        [Terminal::Word(Word::G), ..] => Some(Unary::Globally),
+        [Terminal::Mark(TokenKind::Not), ..] => Some(UnaryOperator::Negation),
+        [Terminal::Word(Word::X), ..] => Some(UnaryOperator::Next),
+        [Terminal::Word(Word::F), ..] => Some(UnaryOperator::Finally),
+        [Terminal::Word(Word::G), ..] => Some(UnaryOperator::Globally),
         _ => None,
     }
 }
 
 /// The operator `U`, `W` or `R` at the front.
-fn temporal_in(xs: &[Terminal]) -> Option<Binary>
+fn temporal_in(xs: &[Terminal]) -> Option<BinaryOperator>
     ensures { result ≡ temporal_in (terminals_view xs.now) }
 {
     match xs {
-        [Terminal::Word(Word::U), ..] => Some(Binary::Until),
-        [Terminal::Word(Word::W), ..] => Some(Binary::WeakUntil),
-        [Terminal::Word(Word::R), ..] => Some(Binary::Release),
+        [Terminal::Word(Word::U), ..] => Some(BinaryOperator::Until),
+        [Terminal::Word(Word::W), ..] => Some(BinaryOperator::WeakUntil),
+        [Terminal::Word(Word::R), ..] => Some(BinaryOperator::Release),
         _ => None,
     }
 }
@@ -112,7 +113,7 @@ fn atom_named<'a>(
 /// Two formulas with an operator between them.
 fn between<'a>(
     alloc: Global,
-    op: Binary,
+    op: BinaryOperator,
     left: ReadFormula<'a>,
     right: ReadFormula<'a>,
 ) -> Result<ReadFormula<'a>, NoMemory>
@@ -408,7 +409,7 @@ fn imp_behind_or<'a, 'b>(
     match xs {
         [Terminal::Mark(TokenKind::Arrow), ..] => {
             let (right, rest) = form_below(alloc, room, Form::Implication, xs)?;
-            let formula = between(alloc, Binary::Implication, left, right)?;
+            let formula = between(alloc, BinaryOperator::Implication, left, right)?;
             Ok((formula, rest))
         }
         _ => Ok((left, xs)),
@@ -450,7 +451,7 @@ fn iff_behind_imp<'a, 'b>(
     match xs {
         [Terminal::Mark(TokenKind::BothArrow), ..] => {
             let (right, rest) = form_below(alloc, room, Form::Equivalence, xs)?;
-            let formula = between(alloc, Binary::Equivalence, left, right)?;
+            let formula = between(alloc, BinaryOperator::Equivalence, left, right)?;
             Ok((formula, rest))
         }
         _ => Ok((left, xs)),

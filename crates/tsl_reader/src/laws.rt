@@ -4,21 +4,28 @@ ghost use Rattle.std.specs.Prelude.{◌≡◌, ℕ, suc, ◌+◌, List, [], ◌�
 ghost use Rattle.tsl_text.specs.declared.Token.{Token};
 ghost use Rattle.tsl_text.specs.Lexeme.{token_text};
 ghost use Rattle.tsl_terms.specs.SpecTree.{SpecTree};
+ghost use Rattle.tsl_terms.specs.WellFormed.{SpecFits};
 ghost use Rattle.tsl_reader.specs.declared.SpecError.{SpecError};
 ghost use Rattle.tsl_reader.specs.Syntax.{Terminal, SectionSyntax};
 ghost use Rattle.tsl_reader.specs.Grammar.{AreSections};
 ghost use Rattle.tsl_reader.specs.Reading.{form, deep, sections};
 ghost use Rattle.tsl_reader.specs.Naming.{written_uses};
-ghost use Rattle.tsl_reader.specs.Spells.{Spells, Derives, SomeTextBegins, NoTextBegins, IsNoText, name_tokens, HasCause, IsRefused};
+ghost use Rattle.tsl_reader.specs.Spells.{Spells, Derives, SomeTextBegins, NoTextBegins, IsNoText, name_tokens, HasCause, IsOfText, IsRefused};
 
 /// A text spells at most one specification.
 pub fn one_specification()
     ensures { (text : List ℕ) (a b : SpecTree) → Spells text a → Spells text b → a ≡ b }
 {}
 
-/// Where a refusal has its cause, the text spells no specification.
-pub fn causes_leave_no_specification()
-    ensures { (text : List ℕ) (error : SpecError) → HasCause text error → IsRefused text error }
+/// A text has at most one cause of refusal, and none where it spells a specification.
+pub fn one_cause()
+    ensures one { (text : List ℕ) (a b : SpecError) → IsOfText a → IsOfText b → HasCause text a → HasCause text b → a ≡ b }
+    ensures none { (text : List ℕ) (error : SpecError) → HasCause text error → IsRefused text error }
+{}
+
+/// A specification that a text spells has distinct names that may be written, and its formulas fit them.
+pub fn spelled_specifications_fit()
+    ensures { (text : List ℕ) (spec : SpecTree) → Spells text spec → SpecFits spec }
 {}
 
 /// A text of the grammar derives in one way, and it is one with more levels too, in the same way.

@@ -9,6 +9,7 @@
 
 ghost use Rattle.std.specs.Prelude.{◌≡◌, ◌<◌, ◌-◌, ◌^◌, length, IfOk, IfErr};
 ghost use Rattle.tsl_terms.specs.SpecView.{spec_tree};
+ghost use Rattle.tsl_terms.specs.WellFormed.{SpecFits};
 ghost use Rattle.tsl_reader.specs.Spells.{Spells, HasCause, IsRefused};
 
 use sequence::NoMemory;
@@ -31,9 +32,13 @@ mod trees;
 mod uses;
 
 pub use laws::{
-    causes_leave_no_specification, grammar_has_one_reading, names_stand_in_order,
-    one_specification, reading_meets_the_grammar,
+    deep_faults_are_the_first, form_faults_are_the_first, grammar_has_one_reading,
+    names_stand_in_order, one_cause, one_specification, reading_meets_the_grammar,
+    spelled_specifications_fit,
 };
+
+/// The most nodes that the whole formula of a specification may have.
+pub const MOST_NODES: u32 = 10_000;
 
 /// Why a text is no specification. Offsets count bytes from 0. Of two causes of different kinds the one
 /// that comes first here is answered, but of `Form` and `Deep` the one that stands first in the text.
@@ -89,17 +94,19 @@ impl<T: Drop> From<AllocFailed<T>> for SpecError {
     }
 }
 
-/// The specification that a text spells.
+/// The specification that a text spells. Its names are distinct, each usable or `?`, and its formulas
+/// fit them.
 ///
 /// An `Err` has the cause why it spells none, or says that memory ran out.
 pub fn read_spec(alloc: Global, text: &[u8]) -> Result<Spec, SpecError>
     requires { length text.now < 2 ^ 32 - 1 }
     ensures ok { IfOk result (λ spec. Spells text.now (spec_tree spec)) }
+    ensures fits { IfOk result (λ spec. SpecFits (spec_tree spec)) }
     ensures cause { IfErr result (HasCause text.now) }
     ensures refused { IfErr result (IsRefused text.now) }
 {
     let spec = derived_spec(alloc, text)?;
-    if !has_few_nodes(alloc, &spec)? {
+    if !has_few_nodes(&spec) {
         return Err(SpecError::Nodes);
     }
     Ok(spec)

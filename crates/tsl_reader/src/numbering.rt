@@ -4,17 +4,19 @@ ghost use Rattle.std.specs.Prelude.{◌≡◌, ◌++◌, Some, map, option_map, 
 ghost use Rattle.std.specs.Option.{is_some};
 ghost use Rattle.tsl_terms.specs.Name.{number_of, question};
 ghost use Rattle.tsl_terms.specs.TermTree.{term_tree, term_trees};
-ghost use Rattle.tsl_terms.specs.FormulaTree.{formula_tree, formula_trees, member_trees};
-ghost use Rattle.tsl_reader.specs.Naming.{numbered_term, numbered_terms, numbered, numbered_members, numbered_list, unary_tree, binary_tree, same_part, formulas_in};
+ghost use Rattle.tsl_terms.specs.FormulaTree.{formula_tree, formula_trees, member_trees, unary, binary};
+ghost use Rattle.tsl_reader.specs.Naming.{numbered_term, numbered_terms, numbered, numbered_members, numbered_list, same_part, formulas_in};
 ghost use Rattle.tsl_reader.specs.Syntax.{bare};
 ghost use Rattle.tsl_reader.specs.Numbering.{numbered_after, formulas_if};
 ghost use Rattle.tsl_reader.specs.SyntaxView.{term_syntax, terms_syntax, formula_syntax, formulas_syntax, section_syntax};
 
-use crate::syntax::{Binary, Part, Unary};
+use crate::syntax::Part;
 use crate::trees::{ReadFormula, ReadFormulas, ReadSection, ReadTerm, ReadTerms};
 use sequence::NoMemory;
 use std::alloc::Global;
-use tsl_terms::{Formula, FormulaList, Names, Probe, Term, TermList};
+use tsl_terms::{
+    BinaryOperator, Formula, FormulaList, Names, Probe, Term, TermList, UnaryOperator,
+};
 
 /// The number of the name with a text.
 fn number_of(names: &Names, text: &[u8]) -> u32
@@ -72,36 +74,36 @@ fn numbered_bare(alloc: Global, names: &Names, name: &[u8]) -> Result<Formula, N
 }
 
 /// An operator with its operand.
-fn unary_tree(alloc: Global, op: Unary, part: Formula) -> Result<Formula, NoMemory>
-    ensures { IfOk result (λ tree. formula_tree tree ≡ unary_tree op (formula_tree part)) }
+fn under(alloc: Global, op: UnaryOperator, part: Formula) -> Result<Formula, NoMemory>
+    ensures { IfOk result (λ tree. formula_tree tree ≡ unary op (formula_tree part)) }
 {
     let part = Box::new(alloc, part)?;
     Ok(match op {
-        Unary::Negation => Formula::Not(part),
-        Unary::Next => Formula::Next(part),
-        Unary::Finally => Formula::Finally(part),
-        Unary::Globally => Formula::Globally(part),
+        UnaryOperator::Negation => Formula::Not(part),
+        UnaryOperator::Next => Formula::Next(part),
+        UnaryOperator::Finally => Formula::Finally(part),
+        UnaryOperator::Globally => Formula::Globally(part),
     })
 }
 
 /// An operator between its operands.
-fn binary_tree(
+fn between(
     alloc: Global,
-    op: Binary,
+    op: BinaryOperator,
     left: Formula,
     right: Formula,
 ) -> Result<Formula, NoMemory>
     ensures { IfOk result (λ tree. formula_tree tree
-        ≡ binary_tree op (formula_tree left) (formula_tree right)) }
+        ≡ binary op (formula_tree left) (formula_tree right)) }
 {
     let left = Box::new(alloc, left)?;
     let right = Box::new(alloc, right)?;
     Ok(match op {
-        Binary::Implication => Formula::Implies(left, right),
-        Binary::Equivalence => Formula::Iff(left, right),
-        Binary::Until => Formula::Until(left, right),
-        Binary::WeakUntil => Formula::Weak(left, right),
-        Binary::Release => Formula::Release(left, right),
+        BinaryOperator::Implication => Formula::Implies(left, right),
+        BinaryOperator::Equivalence => Formula::Iff(left, right),
+        BinaryOperator::Until => Formula::Until(left, right),
+        BinaryOperator::WeakUntil => Formula::Weak(left, right),
+        BinaryOperator::Release => Formula::Release(left, right),
     })
 }
 
@@ -131,12 +133,12 @@ fn numbered(alloc: Global, names: &Names, formula: &ReadFormula) -> Result<Formu
         }
         ReadFormula::Under(op, part) => {
             let part = numbered(alloc, names, part)?;
-            unary_tree(alloc, *op, part)
+            under(alloc, *op, part)
         }
         ReadFormula::Between(op, left, right) => {
             let left = numbered(alloc, names, left)?;
             let right = numbered(alloc, names, right)?;
-            binary_tree(alloc, *op, left, right)
+            between(alloc, *op, left, right)
         }
         ReadFormula::All(members) => {
             let members = numbered_members(alloc, names, members)?;

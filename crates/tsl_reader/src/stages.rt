@@ -1,40 +1,39 @@
 //! The stages of reading a specification.
 
-ghost use Rattle.std.specs.Prelude.{◌≡◌, ◌-◌, ◌≤◌, ◌<◌, ◌^◌, length, map, slice_get, nat_le, filter, option_and_then, Some, All, IsTrue, IfOk, IfErr, OnOk, MatchOption};
+ghost use Rattle.std.specs.Prelude.{◌≡◌, ℕ, ◌-◌, ◌≤◌, ◌<◌, ◌^◌, length, map, slice_get, nat_le, Some, All, IsTrue, IfOk, IfErr, OnOk, MatchOption};
 ghost use Rattle.tsl_reader.specs.declared.syntax.Part.{Part};
 ghost use Rattle.tsl_reader.specs.declared.syntax.Part.TheVariants.{AssumeFirst, AssumeAlways, GuaranteeFirst, GuaranteeAlways};
 ghost use Rattle.tsl_text.specs.Division.{AreTokens, IsTokenOf};
+ghost use Rattle.tsl_text.specs.Lexeme.{token_text};
 ghost use Rattle.tsl_terms.specs.FormulaTree.{formula_trees, member_trees};
+ghost use Rattle.tsl_terms.specs.Clashes.{name_use, first_uses, alike_in_kind, same_arity, alike_in, IsFirstClash, HasNoClash};
 ghost use Rattle.tsl_terms.specs.Nodes.{nodes};
 ghost use Rattle.tsl_terms.specs.WellFormed.{formulas_fit};
 ghost use Rattle.tsl_terms.specs.SpecTree.{whole_formula};
 ghost use Rattle.tsl_terms.specs.SpecView.{spec_tree};
-ghost use Rattle.tsl_reader.specs.Naming.{is_written, written_uses, names_of, first_clash, alike_in_kind, same_arity, numbered_list, formulas_in};
+ghost use Rattle.tsl_reader.specs.Naming.{written_uses, names_of, numbered_list, formulas_in};
 ghost use Rattle.tsl_reader.specs.Numbering.{HasNumbers};
-ghost use Rattle.tsl_reader.specs.Quality.{alike_in};
-ghost use Rattle.tsl_reader.specs.UseView.{name_use};
-ghost use Rattle.tsl_reader.specs.Spells.{most_nodes, terminal_at, is_free, name_tokens, Derives, HasNoClash, IsDerived, HasCause};
+ghost use Rattle.tsl_reader.specs.Spells.{most_nodes, terminal_at, is_free, name_tokens, Derives, IsDerived, HasCause};
 ghost use Rattle.tsl_reader.specs.SyntaxView.{section_syntax};
 
-use crate::SpecError;
 use crate::fault::ReadFault;
-use crate::naming::{Quality, first_clash, names_of};
+use crate::naming::{numbered_names, written_names};
 use crate::numbering::formulas_in;
 use crate::sections::sections;
 use crate::syntax::Part;
 use crate::terminals::{Terminal, terminal_at, terminals};
 use crate::trees::ReadSection;
-use crate::uses::{NameUse, all_uses};
+use crate::uses::all_uses;
+use crate::{MOST_NODES, SpecError};
 use sequence::NoMemory;
 use std::alloc::Global;
-use tsl_terms::{FormulaList, Names, Spec, node_count, whole};
+use tsl_terms::{
+    FormulaList, NameUse, Names, Quality, Spec, first_clash, first_uses, whole_node_count,
+};
 use tsl_text::{TextError, Token, tokens};
 
 /// The deepest level.
 const DEEPEST: u32 = 200;
-
-/// The most nodes of the whole formula.
-const MOST_NODES: u64 = 10_000;
 
 /// The tokens of a text.
 fn tokens_of(alloc: Global, text: &[u8]) -> Result<Vec<Token>, SpecError>
@@ -122,27 +121,28 @@ pub(crate) fn derived_spec(alloc: Global, text: &[u8]) -> Result<Spec, SpecError
     Ok(spec)
 }
 
-/// Whether the whole formula has few enough nodes. An `Err` says that memory ran out.
-pub(crate) fn has_few_nodes(alloc: Global, spec: &Spec) -> Result<bool, NoMemory>
-    ensures { IfOk result (λ few. few ≡ nat_le (nodes (whole_formula (spec_tree spec.now))) most_nodes) }
+/// Whether the whole formula has few enough nodes.
+pub(crate) fn has_few_nodes(spec: &Spec) -> bool
+    ensures { result ≡ nat_le (nodes (whole_formula (spec_tree spec.now))) most_nodes }
 {
-    let formula = whole(alloc, spec)?;
-    Ok(node_count(&formula) <= MOST_NODES)
+    whole_node_count(spec) <= MOST_NODES as u64
 }
 
-/// The token of the first use that differs from the first use of its name.
+/// The token of the first name that is not used like at its first use.
 fn clash_token(
     text: &[u8],
     tokens: &[Token],
-    names: &Names,
-    uses: &[NameUse],
+    firsts: &Names,
+    names: &[NameUse],
     quality: Quality,
 ) -> Option<Token>
-    requires { All (IsTokenOf text.now) tokens.now }
-    ensures { result ≡ option_and_then (slice_get (name_tokens text.now tokens.now))
-        (first_clash (alike_in quality) names.now (filter is_written (map name_use uses.now))) }
+    requires each { All (IsTokenOf text.now) tokens.now }
+    requires firsts { firsts.now ≡ first_uses (map name_use names.now) }
+    requires spelled { map (λ n. n.text) (map name_use names.now) ≡ map (token_text text.now) (name_tokens text.now tokens.now) }
+    ensures { MatchOption result (HasNoClash (alike_in quality) (map name_use names.now))
+        (λ token. (at : ℕ) × IsFirstClash (alike_in quality) (map name_use names.now) at × (slice_get (name_tokens text.now tokens.now) at ≡ Some token)) }
 {
-    let place = first_clash(names, uses, quality)?;
+    let place = first_clash(firsts, names, quality)?;
     name_token(text, tokens, place)
 }
 
@@ -163,14 +163,16 @@ fn names_of_sections(
     ensures cause { IfErr result (HasCause text.now) }
 {
     let uses = all_uses(alloc, sections)?;
-    let names = names_of(alloc, &uses)?;
-    if let Some(token) = clash_token(text, tokens, &names, &uses, Quality::Kind) {
+    let written = written_names(alloc, &uses)?;
+    let firsts = first_uses(alloc, &written)?;
+    if let Some(token) = clash_token(text, tokens, &firsts, &written, Quality::Kind) {
         return Err(SpecError::Kind(token.start, token.end));
     }
-    if let Some(token) = clash_token(text, tokens, &names, &uses, Quality::Arity) {
+    if let Some(token) = clash_token(text, tokens, &firsts, &written, Quality::Arity) {
         return Err(SpecError::Arity(token.start, token.end));
     }
-    Ok(names)
+    let numbered = numbered_names(alloc, &uses)?;
+    Ok(first_uses(alloc, &numbered)?)
 }
 
 /// The formulas of the sections that go to one list.

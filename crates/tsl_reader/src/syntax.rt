@@ -31,34 +31,6 @@ pub(crate) enum Word {
     A,
 }
 
-/// An operator before its operand.
-#[derive(Clone, Copy, Debug)]
-pub(crate) enum Unary {
-    /// `!`
-    Negation,
-    /// `X`
-    Next,
-    /// `F`
-    Finally,
-    /// `G`
-    Globally,
-}
-
-/// An operator between two operands.
-#[derive(Clone, Copy, Debug)]
-pub(crate) enum Binary {
-    /// `->`
-    Implication,
-    /// `<->`
-    Equivalence,
-    /// `U`
-    Until,
-    /// `W`
-    WeakUntil,
-    /// `R`
-    Release,
-}
-
 /// One of the four lists of formulas of a specification.
 #[derive(Clone, Copy, Debug)]
 pub(crate) enum Part {

@@ -4,9 +4,10 @@ ghost use Rattle.std.specs.Prelude.{◌≡◌, map, IfOk};
 ghost use Rattle.tsl_reader.specs.Syntax.{terms_of, formulas_of};
 ghost use Rattle.tsl_reader.specs.SyntaxView.{term_syntax, terms_syntax, formula_syntax, formulas_syntax};
 
-use crate::syntax::{Binary, Part, Unary};
+use crate::syntax::Part;
 use sequence::NoMemory;
 use std::alloc::Global;
+use tsl_terms::{BinaryOperator, UnaryOperator};
 
 /// A term: a name alone, or a name and its arguments.
 #[cycle(read_terms)]
@@ -72,9 +73,9 @@ pub(crate) enum ReadFormula<'a> {
     /// An update of a signal by a term.
     Updated(&'a [u8], ReadTerm<'a>),
     /// An operator and its operand.
-    Under(Unary, Box<ReadFormula<'a>>),
+    Under(UnaryOperator, Box<ReadFormula<'a>>),
     /// An operator between its operands.
-    Between(Binary, Box<ReadFormula<'a>>, Box<ReadFormula<'a>>),
+    Between(BinaryOperator, Box<ReadFormula<'a>>, Box<ReadFormula<'a>>),
     /// The operands of `&&`.
     All(ReadFormulas<'a>),
     /// The operands of `||`.

@@ -1,27 +1,46 @@
 //! The uses of names, in the order of the text.
 
-ghost use Rattle.std.specs.Prelude.{◌≡◌, ◌<◌, ◌^◌, ◌∷◌, ◌++◌, [], map, flat_map, IfOk, OnOk, IsTrue};
-ghost use Rattle.std.specs.List.{list_all};
-ghost use Rattle.tsl_terms.specs.Name.{Name};
-ghost use Rattle.tsl_reader.specs.Naming.{count_of, signal_use, question_use, term_uses, terms_uses, uses, members_uses, section_uses, all_uses};
-ghost use Rattle.tsl_reader.specs.Few.{is_few, term_is_few, terms_are_few, formula_is_few, members_are_few, section_is_few};
+ghost use Rattle.std.specs.Prelude.{◌≡◌, ◌<◌, ◌^◌, ◌++◌, length, map, IfOk, OnOk};
+ghost use Rattle.tsl_reader.specs.Naming.{count_of, use_as, tested_signal, term_uses, terms_uses, uses, members_uses, section_uses, all_uses};
 ghost use Rattle.tsl_reader.specs.SyntaxView.{term_syntax, terms_syntax, formula_syntax, formulas_syntax, section_syntax};
-ghost use Rattle.tsl_reader.specs.UseView.{name_use};
+ghost use Rattle.tsl_reader.specs.UseView.{read_use};
 
 use crate::trees::{ReadFormula, ReadFormulas, ReadSection, ReadTerm, ReadTerms};
 use sequence::NoMemory;
 use std::alloc::Global;
-use tsl_terms::NameKind;
+use tsl_terms::{NameKind, NameUse};
 
-/// A use of a name, as the name that it would be.
+/// A use of a name, and whether it stands alone in a formula, where the predicate `?` tests it.
 #[derive(Clone, Copy, Debug)]
-pub(crate) struct NameUse<'a> {
-    /// The bytes of the name.
-    pub(crate) text: &'a [u8],
-    /// What it is used as.
-    pub(crate) kind: NameKind,
-    /// With how many arguments.
-    pub(crate) arity: u32,
+pub(crate) struct ReadUse<'a> {
+    /// The use, as the name that it would be.
+    pub(crate) usage: NameUse<'a>,
+    /// Whether `?` tests it.
+    pub(crate) is_tested: bool,
+}
+
+/// A use of a name that `?` does not test.
+fn use_as(kind: NameKind, text: &[u8], arity: u32) -> ReadUse<'_>
+    ensures { read_use result ≡ use_as kind text.now arity }
+{
+    ReadUse {
+        usage: NameUse { text, kind, arity },
+        is_tested: false,
+    }
+}
+
+/// A use of a Boolean signal that `?` tests.
+fn tested_signal(text: &[u8]) -> ReadUse<'_>
+    ensures { read_use result ≡ tested_signal text.now }
+{
+    ReadUse {
+        usage: NameUse {
+            text,
+            kind: NameKind::Signal,
+            arity: 0,
+        },
+        is_tested: true,
+    }
 }
 
 /// How many terms a list has.
@@ -39,27 +58,20 @@ fn count_of(terms: &ReadTerms) -> u32
 }
 
 /// Adds the uses of a term.
+#[tactic(auto, using(crate::proofs::UseLemmas::count_within))]
 #[cycle(term_uses)]
-fn add_term<'a>(list: &mut Vec<NameUse<'a>>, term: &ReadTerm<'a>) -> Result<(), NoMemory>
-    requires { IsTrue (term_is_few (term_syntax term.now)) }
-    ensures { OnOk result (map name_use list.new.items
-        ≡ map name_use list.old.items ++ term_uses (term_syntax term.now)) }
+fn add_term<'a>(list: &mut Vec<ReadUse<'a>>, term: &ReadTerm<'a>) -> Result<(), NoMemory>
+    requires { length (term_uses (term_syntax term.now)) < 2 ^ 32 }
+    ensures { OnOk result (map read_use list.new.items
+        ≡ map read_use list.old.items ++ term_uses (term_syntax term.now)) }
 {
     match term {
         ReadTerm::Alone(name) => {
-            list.push(NameUse {
-                text: name,
-                kind: NameKind::Signal,
-                arity: 0,
-            })?;
+            list.push(use_as(NameKind::Signal, name, 0))?;
             Ok(())
         }
         ReadTerm::Applied(name, arguments) => {
-            list.push(NameUse {
-                text: name,
-                kind: NameKind::Function,
-                arity: count_of(arguments),
-            })?;
+            list.push(use_as(NameKind::Function, name, count_of(arguments)))?;
             add_terms(list, arguments)
         }
     }
@@ -67,10 +79,10 @@ fn add_term<'a>(list: &mut Vec<NameUse<'a>>, term: &ReadTerm<'a>) -> Result<(), 
 
 /// Adds the uses of the terms of a list.
 #[cycle(term_uses)]
-fn add_terms<'a>(list: &mut Vec<NameUse<'a>>, terms: &ReadTerms<'a>) -> Result<(), NoMemory>
-    requires { IsTrue (terms_are_few (terms_syntax terms.now)) }
-    ensures { OnOk result (map name_use list.new.items
-        ≡ map name_use list.old.items ++ terms_uses (terms_syntax terms.now)) }
+fn add_terms<'a>(list: &mut Vec<ReadUse<'a>>, terms: &ReadTerms<'a>) -> Result<(), NoMemory>
+    requires { length (terms_uses (terms_syntax terms.now)) < 2 ^ 32 }
+    ensures { OnOk result (map read_use list.new.items
+        ≡ map read_use list.old.items ++ terms_uses (terms_syntax terms.now)) }
 {
     let mut rest = terms;
     while let ReadTerms::More(term, next) = rest {
@@ -81,29 +93,25 @@ fn add_terms<'a>(list: &mut Vec<NameUse<'a>>, terms: &ReadTerms<'a>) -> Result<(
 }
 
 /// Adds the uses of a formula.
+#[tactic(auto, using(crate::proofs::UseLemmas::count_within))]
 #[cycle(formula_uses)]
-fn add_formula<'a>(list: &mut Vec<NameUse<'a>>, formula: &ReadFormula<'a>) -> Result<(), NoMemory>
-    requires { IsTrue (formula_is_few (formula_syntax formula.now)) }
-    ensures { OnOk result (map name_use list.new.items
-        ≡ map name_use list.old.items ++ uses (formula_syntax formula.now)) }
+fn add_formula<'a>(list: &mut Vec<ReadUse<'a>>, formula: &ReadFormula<'a>) -> Result<(), NoMemory>
+    requires { length (uses (formula_syntax formula.now)) < 2 ^ 32 }
+    ensures { OnOk result (map read_use list.new.items
+        ≡ map read_use list.old.items ++ uses (formula_syntax formula.now)) }
 {
     match formula {
         ReadFormula::True | ReadFormula::False => Ok(()),
-        ReadFormula::Bare(name) => add_bare(list, name),
+        ReadFormula::Bare(name) => {
+            list.push(tested_signal(name))?;
+            Ok(())
+        }
         ReadFormula::Tested(name, arguments) => {
-            list.push(NameUse {
-                text: name,
-                kind: NameKind::Predicate,
-                arity: count_of(arguments),
-            })?;
+            list.push(use_as(NameKind::Predicate, name, count_of(arguments)))?;
             add_terms(list, arguments)
         }
         ReadFormula::Updated(name, term) => {
-            list.push(NameUse {
-                text: name,
-                kind: NameKind::Signal,
-                arity: 0,
-            })?;
+            list.push(use_as(NameKind::Signal, name, 0))?;
             add_term(list, term)
         }
         ReadFormula::Under(_, part) => add_formula(list, part),
@@ -115,30 +123,12 @@ fn add_formula<'a>(list: &mut Vec<NameUse<'a>>, formula: &ReadFormula<'a>) -> Re
     }
 }
 
-/// Adds the uses of a name alone: the signal, and the predicate that tests it.
-fn add_bare<'a>(list: &mut Vec<NameUse<'a>>, name: &'a [u8]) -> Result<(), NoMemory>
-    ensures { OnOk result (map name_use list.new.items
-        ≡ map name_use list.old.items ++ signal_use name.now ∷ question_use ∷ []) }
-{
-    list.push(NameUse {
-        text: name,
-        kind: NameKind::Signal,
-        arity: 0,
-    })?;
-    list.push(NameUse {
-        text: b"?",
-        kind: NameKind::Predicate,
-        arity: 1,
-    })?;
-    Ok(())
-}
-
 /// Adds the uses of the formulas of a list.
 #[cycle(formula_uses)]
-fn add_members<'a>(list: &mut Vec<NameUse<'a>>, formulas: &ReadFormulas<'a>) -> Result<(), NoMemory>
-    requires { IsTrue (members_are_few (formulas_syntax formulas.now)) }
-    ensures { OnOk result (map name_use list.new.items
-        ≡ map name_use list.old.items ++ members_uses (formulas_syntax formulas.now)) }
+fn add_members<'a>(list: &mut Vec<ReadUse<'a>>, formulas: &ReadFormulas<'a>) -> Result<(), NoMemory>
+    requires { length (members_uses (formulas_syntax formulas.now)) < 2 ^ 32 }
+    ensures { OnOk result (map read_use list.new.items
+        ≡ map read_use list.old.items ++ members_uses (formulas_syntax formulas.now)) }
 {
     let mut rest = formulas;
     while let ReadFormulas::More(formula, next) = rest {
@@ -149,10 +139,10 @@ fn add_members<'a>(list: &mut Vec<NameUse<'a>>, formulas: &ReadFormulas<'a>) -> 
 }
 
 /// Adds the uses of a section.
-fn add_section<'a>(list: &mut Vec<NameUse<'a>>, section: &ReadSection<'a>) -> Result<(), NoMemory>
-    requires { IsTrue (section_is_few (section_syntax section.now)) }
-    ensures { OnOk result (map name_use list.new.items
-        ≡ map name_use list.old.items ++ section_uses (section_syntax section.now)) }
+fn add_section<'a>(list: &mut Vec<ReadUse<'a>>, section: &ReadSection<'a>) -> Result<(), NoMemory>
+    requires { length (section_uses (section_syntax section.now)) < 2 ^ 32 }
+    ensures { OnOk result (map read_use list.new.items
+        ≡ map read_use list.old.items ++ section_uses (section_syntax section.now)) }
 {
     for formula in &section.formulas {
         add_formula(list, formula)?;
@@ -164,9 +154,9 @@ fn add_section<'a>(list: &mut Vec<NameUse<'a>>, section: &ReadSection<'a>) -> Re
 pub(crate) fn all_uses<'a>(
     alloc: Global,
     sections: &[ReadSection<'a>],
-) -> Result<Vec<NameUse<'a>>, NoMemory>
-    requires { IsTrue (list_all section_is_few (map section_syntax sections.now)) }
-    ensures { IfOk result (λ list. map name_use list.items
+) -> Result<Vec<ReadUse<'a>>, NoMemory>
+    requires { length (all_uses (map section_syntax sections.now)) < 2 ^ 32 }
+    ensures { IfOk result (λ list. map read_use list.items
         ≡ all_uses (map section_syntax sections.now)) }
 {
     let mut list = Vec::new(alloc);

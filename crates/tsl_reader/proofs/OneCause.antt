@@ -1,0 +1,249 @@
+-- A text has at most one cause of refusal, and none where it spells a specification.
+use Rattle.std.proofs.Common.{◌≡◌, ℕ, zero, suc, ◌<◌, ◌≤◌, ◌⊎◌, Bool, List, [], ◌∷◌, ◌++◌, refl, ap, sym, ◌∙◌, subst, inl, inr, ⊎_elim, append_assoc, arith}
+use Rattle.std.proofs.lemmas.Bool.{cases_lt}
+use Rattle.std.proofs.lemmas.List.{map-append, append-nil}
+use Rattle.std.specs.Prelude.{Option, Some, Err, slice_get}
+use Rattle.tsl_text.specs.declared.Token.{Token}
+use Rattle.tsl_text.specs.declared.TextError.{TextError}
+use Rattle.tsl_text.specs.declared.TextError.TheVariants.{Byte, OpenComment}
+use Rattle.tsl_text.specs.Division.{AreTokens, IsAnswer}
+use Rattle.tsl_text.proofs.Parts.{one_answer}
+use Rattle.tsl_terms.specs.Name.{Name}
+use Rattle.tsl_terms.specs.Clashes.{alike_in_kind, same_arity, IsFirstClash, HasNoClash}
+use Rattle.tsl_terms.specs.SpecTree.{SpecTree}
+use Rattle.tsl_reader.specs.declared.SpecError.{SpecError}
+use Rattle.tsl_reader.specs.declared.SpecError.TheVariants as error
+use Rattle.tsl_reader.specs.Syntax.{SectionSyntax}
+use Rattle.tsl_reader.specs.Grammar.{AreSections}
+use Rattle.tsl_reader.specs.Naming.{written_uses}
+use Rattle.tsl_reader.specs.Spells.{deepest, terminals, Derives, Spells, SomeTextBegins, NoTextBegins, HasWrongToken, EndsTooEarly, HasFormFault, HasDeepFault, HasClashAt, HasCause, IsRefused, IsOfText}
+use Rattle.tsl_reader.proofs.Causes.{one_list, one_derivation, no_tokens, nodes_refuse}
+
+-- ---- the first token that no text goes on with
+
+-- some text begins with the tokens before this one, and none with those up to and with it
+record StopsAt (text : List ℕ) (before : List Token) (token : Token) : Type 0 where
+  pub begins : SomeTextBegins deepest (terminals text before)
+  pub stops : NoTextBegins deepest (terminals text (before ++ token ∷ []))
+
+-- no text that begins with the tokens up to and with one that stops it goes on
+no_more : (text : List ℕ) (before : List Token) (token : Token) (after : List Token) →
+    NoTextBegins deepest (terminals text (before ++ token ∷ [])) → SomeTextBegins deepest (terminals text (before ++ token ∷ after)) → ⊥
+no_more text before token after stops begins =
+    let front : terminals text (before ++ token ∷ after) ≡ terminals text (before ++ token ∷ []) ++ terminals text after =
+    ap (terminals text) (sym (append_assoc before (token ∷ []) after)) ∙ map-append _ (before ++ token ∷ []) after in
+    stops (terminals text after ++ begins.0) begins.1
+    (subst (λ xs. AreSections deepest xs begins.1)
+    (ap (λ xs. xs ++ begins.0) front ∙ append_assoc (terminals text (before ++ token ∷ [])) (terminals text after) begins.0) begins.2)
+
+-- two splits of a list are the same, or one is within the front of the other
+data Places (b : List Token) (t : Token) (c : List Token) (u : Token) : Type 0 where
+  together : b ≡ c → t ≡ u → Places b t c u
+  sooner : (more : List Token) → c ≡ b ++ t ∷ more → Places b t c u
+  later : (more : List Token) → b ≡ c ++ u ∷ more → Places b t c u
+
+one_on : (x : Token) (b c : List Token) (t u : Token) → Places b t c u → Places (x ∷ b) t (x ∷ c) u
+one_on x b c t u (together e h) = together (ap (λ z. x ∷ z) e) h
+one_on x b c t u (sooner more e) = sooner more (ap (λ z. x ∷ z) e)
+one_on x b c t u (later more e) = later more (ap (λ z. x ∷ z) e)
+
+places : (b : List Token) (t : Token) (a c : List Token) (u : Token) (e : List Token) → b ++ t ∷ a ≡ c ++ u ∷ e → Places b t c u
+places [] t a [] u e h = together refl cc
+places [] t a (y ∷ c) u e h =
+    let first : y ≡ t = cc in
+    sooner c (ap (λ z. z ∷ c) first)
+places (x ∷ b) t a [] u e h =
+    let first : x ≡ u = cc in
+    later b (ap (λ z. z ∷ b) first)
+places (x ∷ b) t a (y ∷ c) u e h =
+    let first : x ≡ y = cc in
+    let others : b ++ t ∷ a ≡ c ++ u ∷ e = cc in
+    subst (λ z. Places (x ∷ b) t (z ∷ c) u) first (one_on x b c t u (places b t a c u e others))
+
+one_stop : (text : List ℕ) (b c : List Token) (t u : Token) → Places b t c u → StopsAt text b t → StopsAt text c u → (b ≡ c) × (t ≡ u)
+one_stop text b c t u (together e h) x y = (e, h)
+one_stop text b c t u (sooner more e) x y = absurd (no_more text b t more x.stops (subst (λ ts. SomeTextBegins deepest (terminals text ts)) e y.begins))
+one_stop text b c t u (later more e) x y = absurd (no_more text c u more y.stops (subst (λ ts. SomeTextBegins deepest (terminals text ts)) e x.begins))
+
+-- tokens with which some text begins have none that stops it
+no_stop : (text : List ℕ) (tokens before : List Token) (token : Token) (after : List Token) → AreTokens text tokens →
+    AreTokens text (before ++ token ∷ after) → SomeTextBegins deepest (terminals text tokens) →
+    NoTextBegins deepest (terminals text (before ++ token ∷ [])) → ⊥
+no_stop text tokens before token after are k begins stops =
+    no_more text before token after stops
+    (subst (λ ts. SomeTextBegins deepest (terminals text ts)) (one_list text tokens (before ++ token ∷ after) are k) begins)
+
+one_wrong : (text : List ℕ) (x y : ℕ) → HasWrongToken text x → HasWrongToken text y → x ≡ y
+one_wrong text x y h k =
+    let same = one_stop text h.before k.before h.token k.token
+    (places h.before h.token h.after k.before k.token k.after (one_list text _ _ h.tokens_are k.tokens_are))
+    (record { begins = h.begins; stops = h.stops deepest }) (record { begins = k.begins; stops = k.stops deepest }) in
+    h.place ∙ ap (λ (t : Token). t.start) same.1 ∙ sym k.place
+
+one_form : (text : List ℕ) (x y : ℕ) → HasFormFault text x → HasFormFault text y → x ≡ y
+one_form text x y (inl h) (inl k) = one_wrong text x y h k
+one_form text x y (inl h) (inr k) = absurd (no_stop text k.tokens h.before h.token h.after k.tokens_are h.tokens_are k.begins (h.stops deepest))
+one_form text x y (inr h) (inl k) = absurd (no_stop text h.tokens k.before k.token k.after h.tokens_are k.tokens_are h.begins (k.stops deepest))
+one_form text x y (inr h) (inr k) = h.place ∙ sym k.place
+
+one_deep : (text : List ℕ) (x y : ℕ) → HasDeepFault text x → HasDeepFault text y → x ≡ y
+one_deep text x y h k =
+    let same = one_stop text h.before k.before h.token k.token
+    (places h.before h.token h.after k.before k.token k.after (one_list text _ _ h.tokens_are k.tokens_are))
+    (record { begins = h.begins; stops = h.stops }) (record { begins = k.begins; stops = k.stops }) in
+    h.place ∙ ap (λ (t : Token). t.start) same.1 ∙ sym k.place
+
+-- where a token is wrong for any number of levels, none is too deep
+no_form_and_deep : (text : List ℕ) (x y : ℕ) → HasFormFault text x → HasDeepFault text y → ⊥
+no_form_and_deep text x y (inl h) k =
+    let same = one_stop text h.before k.before h.token k.token
+    (places h.before h.token h.after k.before k.token k.after (one_list text _ _ h.tokens_are k.tokens_are))
+    (record { begins = h.begins; stops = h.stops deepest }) (record { begins = k.begins; stops = k.stops }) in
+    h.stops k.room k.goes_on.0 k.goes_on.1
+    (subst (λ ts. AreSections k.room (terminals text ts ++ k.goes_on.0) k.goes_on.1)
+    (ap (λ b. b ++ k.token ∷ []) (sym same.0) ∙ ap (λ t. h.before ++ t ∷ []) (sym same.1)) k.goes_on.2)
+no_form_and_deep text x y (inr h) k = no_stop text h.tokens k.before k.token k.after h.tokens_are k.tokens_are h.begins k.stops
+
+-- ---- the first use that differs
+
+one_place : (alike : Name → Name → Bool) (us : List Name) (i j : ℕ) → IsFirstClash alike us i → IsFirstClash alike us j → i ≡ j
+one_place alike us i j h k =
+    ⊎_elim (λ less. absurd (k.none_before i less h.clash))
+    (λ back. ⊎_elim (λ less. absurd (h.none_before j less k.clash)) (λ forth. omega (arith, back, forth)) (cases_lt j i))
+    (cases_lt i j)
+
+one_clash : (alike : Name → Name → Bool) (text : List ℕ) (tokens : List Token) (ss : List SectionSyntax) (s e x y : ℕ) →
+    HasClashAt alike text tokens ss s e → HasClashAt alike text tokens ss x y → (s ≡ x) × (e ≡ y)
+one_clash alike text tokens ss s e x y h k =
+    let at : h.at ≡ k.at = one_place alike (written_uses ss) h.at k.at h.clash k.clash in
+    let token : Some h.token ≡ Some k.token = sym h.there ∙ ap (slice_get _) at ∙ k.there in
+    let same : h.token ≡ k.token = cc in
+    (h.starts ∙ ap (λ (t : Token). t.start) same ∙ sym k.starts, h.ends ∙ ap (λ (t : Token). t.end) same ∙ sym k.ends)
+
+-- the same of clashes in two derivations, which are one
+one_clash_of : (alike : Name → Name → Bool) (text : List ℕ) (ts us : List Token) (ss rs : List SectionSyntax) (s e x y : ℕ) →
+    Derives text ts ss → Derives text us rs → HasClashAt alike text ts ss s e → HasClashAt alike text us rs x y → (s ≡ x) × (e ≡ y)
+one_clash_of alike text ts us ss rs s e x y d f h k =
+    one_clash alike text us rs s e x y
+    (subst (λ qs. HasClashAt alike text us qs s e) (one_derivation text ts us ss rs d f)
+    (subst (λ qs. HasClashAt alike text qs ss s e) (one_list text ts us d.tokens_are f.tokens_are) h)) k
+
+-- ---- how far a text is read
+
+-- The text has tokens; they derive; no name has two kinds, nor two numbers of arguments; and the text spells a specification.
+abbrev Reaches : ℕ → List ℕ → Type 0
+Reaches zero text = Unit {0}
+Reaches (suc zero) text = (tokens : List Token) × AreTokens text tokens
+Reaches (suc (suc zero)) text = (tokens : List Token) × (ss : List SectionSyntax) × Derives text tokens ss
+Reaches (suc (suc (suc zero))) text =
+    (tokens : List Token) × (ss : List SectionSyntax) × Derives text tokens ss × HasNoClash alike_in_kind (written_uses ss)
+Reaches (suc (suc (suc (suc zero)))) text =
+    (tokens : List Token) × (ss : List SectionSyntax) × Derives text tokens ss × HasNoClash alike_in_kind (written_uses ss)
+    × HasNoClash same_arity (written_uses ss)
+Reaches (suc (suc (suc (suc (suc n))))) text = (spec : SpecTree) × Spells text spec
+
+one_back : (n : ℕ) (text : List ℕ) → Reaches (suc n) text → Reaches n text
+one_back zero text h = tt
+one_back (suc zero) text h = (h.0, h.2.tokens_are)
+one_back (suc (suc zero)) text h = (h.0, h.1, h.2)
+one_back (suc (suc (suc zero))) text h = (h.0, h.1, h.2, h.3)
+one_back (suc (suc (suc (suc zero)))) text h =
+    let d = h.1.derived in
+    (d.tokens, d.sections, d.derives, d.one_kind, d.one_arity)
+one_back (suc (suc (suc (suc (suc n))))) text h = h
+
+back : (m n : ℕ) (text : List ℕ) → m ≤ n → Reaches n text → Reaches m text
+back m zero text few h =
+    let same : 0 ≡ m = omega (arith, few) in
+    subst (λ k. Reaches k text) same h
+back m (suc n) text few h =
+    ⊎_elim (λ less. back m n text (omega (arith, less)) (one_back n text h))
+    (λ no. let same : suc n ≡ m = omega (arith, few, no) in subst (λ k. Reaches k text) same h)
+    (cases_lt m (suc n))
+
+-- how far a text with this cause is read
+abbrev stage : SpecError → ℕ
+stage (error.Byte at) = 0
+stage (error.OpenComment at) = 0
+stage (error.Form at) = 1
+stage (error.Deep at) = 1
+stage (error.Kind start end) = 2
+stage (error.Arity start end) = 3
+stage error.Nodes = 4
+stage error.NoMemory = 5
+
+reached : (text : List ℕ) (e : SpecError) → IsOfText e → HasCause text e → Reaches (stage e) text
+reached text (error.Byte at) of h = tt
+reached text (error.OpenComment at) of h = tt
+reached text (error.Form at) of (inl h) = (_, h.tokens_are)
+reached text (error.Form at) of (inr h) = (_, h.tokens_are)
+reached text (error.Deep at) of h = (_, h.tokens_are)
+reached text (error.Kind start end) of h = (h.tokens, h.sections, h.derives)
+reached text (error.Arity start end) of h = (h.tokens, h.sections, h.derives, h.one_kind)
+reached text error.Nodes of h =
+    let d = h.derived in
+    (d.tokens, d.sections, d.derives, d.one_kind, d.one_arity)
+reached text error.NoMemory of h = absurd of
+
+-- sections that the tokens derive from begin some text with them
+derived_begins : (text : List ℕ) (tokens : List Token) (ss : List SectionSyntax) → Derives text tokens ss → SomeTextBegins deepest (terminals text tokens)
+derived_begins text tokens ss d = ([], ss, rw append-nil d.derived)
+
+no_clash_in : (alike : Name → Name → Bool) (text : List ℕ) (ts us : List Token) (ss rs : List SectionSyntax) (s e : ℕ) →
+    Derives text ts ss → Derives text us rs → HasClashAt alike text ts ss s e → HasNoClash alike (written_uses rs) → ⊥
+no_clash_in alike text ts us ss rs s e d f h none =
+    none h.at (subst (λ qs. IsFirstClash alike (written_uses qs) h.at) (one_derivation text ts us ss rs d f) h.clash).clash
+
+stuck : (text : List ℕ) (e : SpecError) → IsOfText e → HasCause text e → Reaches (suc (stage e)) text → ⊥
+stuck text (error.Byte at) of h k = no_tokens text (Byte at) h k.0 k.1
+stuck text (error.OpenComment at) of h k = no_tokens text (OpenComment at) h k.0 k.1
+stuck text (error.Form at) of (inl h) k =
+    no_stop text k.0 h.before h.token h.after k.2.tokens_are h.tokens_are (derived_begins text k.0 k.1 k.2) (h.stops deepest)
+stuck text (error.Form at) of (inr h) k =
+    h.no_text deepest k.1 (subst (λ ts. AreSections deepest (terminals text ts) k.1) (one_list text k.0 h.tokens k.2.tokens_are h.tokens_are) k.2.derived)
+stuck text (error.Deep at) of h k =
+    no_stop text k.0 h.before h.token h.after k.2.tokens_are h.tokens_are (derived_begins text k.0 k.1 k.2) h.stops
+stuck text (error.Kind start end) of h k = no_clash_in alike_in_kind text h.tokens k.0 h.sections k.1 start end h.derives k.2 h.clash k.3
+stuck text (error.Arity start end) of h k = no_clash_in same_arity text h.tokens k.0 h.sections k.1 start end h.derives k.2 h.clash k.4
+stuck text error.Nodes of h k = nodes_refuse text h k.0 k.1
+stuck text error.NoMemory of h k = absurd of
+
+at_one_stage : (text : List ℕ) (a b : SpecError) → stage a ≡ stage b → IsOfText a → HasCause text a → HasCause text b → a ≡ b
+at_one_stage text (error.Byte x) (error.Byte y) e of h k =
+    let same : Err (Byte x) ≡ Err (Byte y) = one_answer text (Err (Byte x)) (Err (Byte y)) h k in
+    cc
+at_one_stage text (error.Byte x) (error.OpenComment y) e of h k =
+    let same : Err (Byte x) ≡ Err (OpenComment y) = one_answer text (Err (Byte x)) (Err (OpenComment y)) h k in
+    cc
+at_one_stage text (error.OpenComment x) (error.Byte y) e of h k =
+    let same : Err (OpenComment x) ≡ Err (Byte y) = one_answer text (Err (OpenComment x)) (Err (Byte y)) h k in
+    cc
+at_one_stage text (error.OpenComment x) (error.OpenComment y) e of h k =
+    let same : Err (OpenComment x) ≡ Err (OpenComment y) = one_answer text (Err (OpenComment x)) (Err (OpenComment y)) h k in
+    cc
+at_one_stage text (error.Form x) (error.Form y) e of h k = ap error.Form (one_form text x y h k)
+at_one_stage text (error.Form x) (error.Deep y) e of h k = absurd (no_form_and_deep text x y h k)
+at_one_stage text (error.Deep x) (error.Form y) e of h k = absurd (no_form_and_deep text y x k h)
+at_one_stage text (error.Deep x) (error.Deep y) e of h k = ap error.Deep (one_deep text x y h k)
+at_one_stage text (error.Kind s f) (error.Kind x y) e of h k =
+    let same = one_clash_of alike_in_kind text h.tokens k.tokens h.sections k.sections s f x y h.derives k.derives h.clash k.clash in
+    λ i. error.Kind (same.0 i) (same.1 i)
+at_one_stage text (error.Arity s f) (error.Arity x y) e of h k =
+    let same = one_clash_of same_arity text h.tokens k.tokens h.sections k.sections s f x y h.derives k.derives h.clash k.clash in
+    λ i. error.Arity (same.0 i) (same.1 i)
+at_one_stage text error.Nodes error.Nodes e of h k = refl
+at_one_stage text error.NoMemory b e of h k = absurd of
+at_one_stage text a b e of h k = absurd (omega (arith, e))
+
+-- where a refusal has its cause, the text spells no specification
+pub cause_refuses : (text : List ℕ) (e : SpecError) → HasCause text e → IsRefused text e
+cause_refuses text error.NoMemory h = tt
+cause_refuses text e h = λ spec spelled. stuck text e tt h (back (suc (stage e)) 5 text (omega arith) (spec, spelled))
+
+-- a text has at most one cause
+pub one_cause : (text : List ℕ) (a b : SpecError) → IsOfText a → IsOfText b → HasCause text a → HasCause text b → a ≡ b
+one_cause text a b of also h k =
+    ⊎_elim (λ less. absurd (stuck text a of h (back (suc (stage a)) (stage b) text less (reached text b also k))))
+    (λ no. ⊎_elim (λ less. absurd (stuck text b also k (back (suc (stage b)) (stage a) text less (reached text a of h))))
+    (λ back. at_one_stage text a b (omega (arith, no, back)) of h k) (cases_lt (stage b) (stage a)))
+    (cases_lt (stage a) (stage b))
