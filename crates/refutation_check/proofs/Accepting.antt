@@ -56,14 +56,14 @@ use Rattle.refutation_check.specs.Checking.{
   log_refusal,
   unfinished,
 }
-use Rattle.refutation_check.specs.Accepted.{numbered, known_behind, AreAccepted}
+use Rattle.refutation_check.specs.internal.Accepted.{numbered, known_after, AreAccepted}
 
 -- the steps up to a place are accepted, and what is left decides
 pub record AreChecked (variables : ℕ) (clauses : List (List Lit)) (steps : List Step) (place largest : ℕ) : Type 0 where
   pub accepted : AreAccepted variables (length clauses) (take place steps)
   pub count : length clauses ≤ largest
   pub largest_so_far : All (λ step. step.number ≤ largest) (take place steps)
-  pub same : steps_refusal variables largest (known_behind clauses (take place steps)) (drop place steps)
+  pub same : steps_refusal variables largest (known_after clauses (take place steps)) (drop place steps)
       ≡ steps_refusal variables (length clauses) (numbered_from 1 clauses) steps
 
 -- a step that is not refused may be tried
@@ -102,29 +102,29 @@ rises_more steps s largest rise small above i j d order within =
     ]
 
 known_more : (clauses : List (List Lit)) (steps : List Step) (s : Step) →
-    known_behind clauses (steps ++ s ∷ []) ≡ known_behind clauses steps ++ numbered s ∷ []
+    known_after clauses (steps ++ s ∷ []) ≡ known_after clauses steps ++ numbered s ∷ []
 known_more clauses steps s =
     ap (λ ns. numbered_from 1 clauses ++ ns) (map_push numbered steps s)
     ∙ sym (append_assoc (numbered_from 1 clauses) (map numbered steps) (numbered s ∷ []))
 
 pub checked_more : (variables : ℕ) (clauses : List (List Lit)) (steps : List Step) (place largest : ℕ) (s : Step) → place < length steps →
     s ≡ get_or steps place s → AreChecked variables clauses steps place largest →
-    step_refusal variables largest (known_behind clauses (take place steps)) s ≡ None →
+    step_refusal variables largest (known_after clauses (take place steps)) s ≡ None →
     AreChecked variables clauses steps (place + 1) s.number
 checked_more variables clauses steps place largest s within is so_far fine =
     let parts = or_parts (leb s.number largest) (list_any (λ l. leb variables l.index) s.clause || has_pair s.clause)
-    (may_stand variables largest (known_behind clauses (take place steps)) s fine) in
+    (may_stand variables largest (known_after clauses (take place steps)) s fine) in
     let over = none_large variables s.clause (or_parts (list_any (λ l. leb variables l.index) s.clause) (has_pair s.clause) parts.1).0 in
     let above : largest < s.number = larger s.number largest parts.0 in
     let front : take (place + 1) steps ≡ take place steps ++ s ∷ [] = take_more steps place s within
     ∙ ap (λ (t : Step). take place steps ++ t ∷ []) (sym is) in
     let back : drop place steps ≡ s ∷ drop (place + 1) steps = drop_more steps place s within
     ∙ ap (λ (t : Step). t ∷ drop (place + 1) steps) (sym is) in
-    let known : known_behind clauses (take (place + 1) steps) ≡ known_behind clauses (take place steps) ++ numbered s ∷ [] =
-    ap (known_behind clauses) front ∙ known_more clauses (take place steps) s in
-    let step : steps_refusal variables largest (known_behind clauses (take place steps)) (s ∷ drop (place + 1) steps)
-    ≡ steps_refusal variables s.number (known_behind clauses (take place steps) ++ numbered s ∷ []) (drop (place + 1) steps) =
-    ap (λ o. first_of o (steps_refusal variables s.number (known_behind clauses (take place steps) ++ numbered s ∷ [])
+    let known : known_after clauses (take (place + 1) steps) ≡ known_after clauses (take place steps) ++ numbered s ∷ [] =
+    ap (known_after clauses) front ∙ known_more clauses (take place steps) s in
+    let step : steps_refusal variables largest (known_after clauses (take place steps)) (s ∷ drop (place + 1) steps)
+    ≡ steps_refusal variables s.number (known_after clauses (take place steps) ++ numbered s ∷ []) (drop (place + 1) steps) =
+    ap (λ o. first_of o (steps_refusal variables s.number (known_after clauses (take place steps) ++ numbered s ∷ [])
     (drop (place + 1) steps))) fine in
     record {
       accepted = record {
@@ -140,7 +140,7 @@ checked_more variables clauses steps place largest s within is so_far fine =
           (All-push (λ (t : Step). t.number ≤ s.number) (take place steps) s (λ k d w. omega (arith, so_far.largest_so_far k d w))
           (omega arith));
       same = ap (λ ns. steps_refusal variables s.number ns (drop (place + 1) steps)) known
-          ∙ (sym step ∙ (sym (ap (steps_refusal variables largest (known_behind clauses (take place steps))) back) ∙ so_far.same));
+          ∙ (sym step ∙ (sym (ap (steps_refusal variables largest (known_after clauses (take place steps))) back) ∙ so_far.same));
     }
   where
     larger : (a b : ℕ) → leb a b ≡ false → b < a
@@ -148,10 +148,10 @@ checked_more variables clauses steps place largest s within is so_far fine =
 
 -- where each step is accepted and one has the empty clause, the log is
 pub all_accepted : (variables : ℕ) (clauses : List (List Lit)) (steps : List Step) (place largest : ℕ) → length steps ≤ place →
-    steps_refusal variables largest (known_behind clauses (take place steps)) (drop place steps)
+    steps_refusal variables largest (known_after clauses (take place steps)) (drop place steps)
     ≡ steps_refusal variables (length clauses) (numbered_from 1 clauses) steps → list_any (λ step. is_empty step.clause) steps ≡ true →
     log_refusal variables clauses steps ≡ None
 all_accepted variables clauses steps place largest past same some =
     let none : steps_refusal variables (length clauses) (numbered_from 1 clauses) steps ≡ None = sym same
-    ∙ ap (steps_refusal variables largest (known_behind clauses (take place steps))) (drop_all place steps past) in
+    ∙ ap (steps_refusal variables largest (known_after clauses (take place steps))) (drop_all place steps past) in
     ap (λ o. first_of o (end_refusal steps)) none ∙ cond-true (list_any (λ step. is_empty step.clause) steps) None (Some unfinished) some

@@ -65,7 +65,7 @@ use Rattle.refutation_check.specs.CnfText.{
   answer_of_lines,
   cnf_answer,
 }
-use Rattle.refutation_check.specs.Reading.{are_within, ended_clauses}
+use Rattle.refutation_check.specs.internal.Reading.{are_within, ended_clauses}
 use Rattle.refutation_check.specs.LogText.{is_literal}
 use Rattle.refutation_check.proofs.NumberLemmas.{zero_from, onto_front, onto_front-nil, onto_front-first, zeros_more}
 

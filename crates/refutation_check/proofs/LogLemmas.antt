@@ -57,7 +57,7 @@ use Rattle.refutation_check.specs.LogText.{
   is_wrong,
   step_in,
 }
-use Rattle.refutation_check.specs.Reading.{with_literals, with_hints, with_both, log_among, log_behind, HasHintsWithin}
+use Rattle.refutation_check.specs.internal.Reading.{with_literals, with_hints, with_both, log_among, log_after, HasHintsWithin}
 use Rattle.refutation_check.proofs.NumberLemmas.{onto_front, onto_front-nil, has_no_zero, split_front, split_at_zero, split_behind}
 
 literals_no_zero : (literals : List Lit) → has_no_zero (map number_of literals) ≡ true
@@ -254,7 +254,7 @@ pub log_more : (lines : List NumberedLine) (line : NumberedLine) (after : List N
     log_among steps lines ≡ log_among (steps ++ option_to_list (step_in (line_answer line.bytes))) after
 log_more lines line after steps first right =
     ap (log_among steps) first
-    ∙ (ap (λ b. log_behind steps (line ∷ after) (cond b (Some line) (find (λ l. is_wrong (line_answer l.bytes)) after))) right
+    ∙ (ap (λ b. log_after steps (line ∷ after) (cond b (Some line) (find (λ l. is_wrong (line_answer l.bytes)) after))) right
     ∙ by_wrong (find (λ l. is_wrong (line_answer l.bytes)) after))
   where
     by_step : (o : Option Step) (rest : List Step) → steps ++ cons_option o rest ≡ (steps ++ option_to_list o) ++ rest
@@ -262,7 +262,7 @@ log_more lines line after steps first right =
     by_step (Some s) rest = sym (append_assoc steps (s ∷ []) rest)
 
     by_wrong : (o : Option NumberedLine) →
-        log_behind steps (line ∷ after) o ≡ log_behind (steps ++ option_to_list (step_in (line_answer line.bytes))) after o
+        log_after steps (line ∷ after) o ≡ log_after (steps ++ option_to_list (step_in (line_answer line.bytes))) after o
     by_wrong (Some wrong) = refl
     by_wrong None = ap is_log (by_step (step_in (line_answer line.bytes)) (filter_map (λ l. step_in (line_answer l.bytes)) after))
 

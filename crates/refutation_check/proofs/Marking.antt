@@ -31,7 +31,7 @@ use Rattle.std.proofs.lemmas.List.Elements.{All-tail}
 use Rattle.clause_core.specs.Literals.{Lit, negation, same, has}
 use Rattle.clause_core.specs.Clauses.{IsOver}
 use Rattle.clause_core.proofs.Sets.{same_is}
-use Rattle.refutation_check.specs.Marks.{place_of, IsTable}
+use Rattle.refutation_check.specs.internal.Marks.{place_of, IsTable}
 
 -- the table says of no other literal that it is true
 pub record IsAtMost (variables : ℕ) (truths : List Bool) (literals : List Lit) : Type 0 where

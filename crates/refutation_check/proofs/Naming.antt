@@ -36,7 +36,7 @@ use Rattle.std.proofs.lemmas.List.{get_or_default}
 use Rattle.clause_core.specs.Literals.{Lit}
 use Rattle.refutation_check.specs.declared.steps.Step.{Step}
 use Rattle.refutation_check.specs.Checking.{Numbered, numbered_from, clause_named}
-use Rattle.refutation_check.specs.Accepted.{numbered}
+use Rattle.refutation_check.specs.internal.Accepted.{numbered}
 
 -- a number at the front, and another one
 pub named_first : (k : Numbered) (known : List Numbered) (n : ℕ) → k.number ≡ n → clause_named (k ∷ known) n ≡ Some k.clause

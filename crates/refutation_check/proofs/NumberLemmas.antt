@@ -44,7 +44,7 @@ use Rattle.std.proofs.lemmas.List.Sums.{sum_by-cons}
 use Rattle.sequence.specs.Options.{passes}
 use Rattle.tsl_text.specs.Numbers.{is_digits, value_of, number_in, opposite, signed_number_in}
 use Rattle.refutation_check.specs.Numbers.{is_zero}
-use Rattle.refutation_check.specs.Reading.{begins_with_zero}
+use Rattle.refutation_check.specs.internal.Reading.{begins_with_zero}
 use Rattle.refutation_check.specs.LogText.{is_literal}
 
 -- a small number that no literal has is 0

@@ -69,7 +69,7 @@ abbrev pub effect_of_named : List Lit → Option (List Lit) → Effect
 effect_of_named trues None = shows_nothing
 effect_of_named trues (Some clause) = effect_of_open trues (not_false trues clause)
 
--- what a hint at a position leads to, and those behind it where it makes a literal true
+-- what a hint at a position leads to, and those after it where it makes a literal true
 abbrev pub led_to : ℕ → (Lit → Option ℕ) → Effect → Option ℕ
 led_to position later ends = None
 led_to position later (makes l) = later l
@@ -89,7 +89,7 @@ abbrev pub is_no_step : ℕ → ℕ → Step → Bool
 is_no_step variables largest step =
     nat_le step.number largest || (list_any (λ l. nat_le variables l.index) step.clause || has_pair step.clause)
 
--- why a step is refused behind the known clauses
+-- why a step is refused after the known clauses
 abbrev pub step_refusal : ℕ → ℕ → List Numbered → Step → Option Refusal
 step_refusal variables largest known step =
     cond (is_no_step variables largest step) (Some (at_line step.number))

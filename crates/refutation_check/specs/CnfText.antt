@@ -40,7 +40,7 @@ use Rattle.tsl_text.specs.Numbers.{number_in, signed_number_in}
 use Rattle.refutation_check.specs.DataLines.{data_lines, words_beside}
 use Rattle.refutation_check.specs.Numbers.{is_zero}
 
--- what a text is: a formula, with its number of variables and its clauses; of no form at a line; or past a limit
+-- what a text is: a formula, with its number of variables and its clauses; malformed at a line; or past a limit
 pub data CnfAnswer : Type 0 where
   is_cnf : ℕ → List (List Lit) → CnfAnswer
   form_at : ℕ → CnfAnswer

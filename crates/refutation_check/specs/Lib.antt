@@ -1,8 +1,6 @@
-pub mod Checking
-pub mod Marks
-pub mod Accepted
-pub mod DataLines
 pub mod Numbers
+pub mod DataLines
 pub mod CnfText
 pub mod LogText
-pub mod Reading
+pub mod Checking
+pub mod internal

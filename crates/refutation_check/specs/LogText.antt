@@ -40,7 +40,7 @@ use Rattle.refutation_check.specs.declared.steps.Step.{Step}
 use Rattle.refutation_check.specs.declared.lrat.Line.{Line}
 use Rattle.refutation_check.specs.declared.lrat.Line.TheVariants.{Says, NoEffect, Wrong}
 
--- what a text is: a log, with its steps; or of no form at a line
+-- what a text is: a log, with its steps; or malformed at a line
 pub data LogAnswer : Type 0 where
   is_log : List Step → LogAnswer
   form_at : ℕ → LogAnswer
@@ -61,7 +61,7 @@ step_of name literals hints =
     cond (list_all is_literal literals && list_all is_hint hints)
     (Says (record { number = name; clause = in_order (map literal_of literals); hints = map nat_abs hints })) Wrong
 
--- the step whose lists are these parts: the literals, the hints, and nothing behind the last zero
+-- the step whose lists are these parts: the literals, the hints, and nothing after the last zero
 abbrev pub step_of_parts : ℕ → List (List ℤ) → Line
 step_of_parts name (literals ∷ hints ∷ [] ∷ []) = step_of name literals hints
 step_of_parts name parts = Wrong
@@ -76,7 +76,7 @@ are_deleted [] = false
 are_deleted (word ∷ []) = passes (λ n. n == 0) (number_in word)
 are_deleted (word ∷ next ∷ words) = is_some (number_in word) && are_deleted (next ∷ words)
 
--- what a line is behind its number
+-- what a line is after its number
 abbrev pub line_of_number : List (List ℕ) → Option ℕ → Line
 line_of_number rest None = Wrong
 line_of_number [] (Some name) = Wrong
@@ -106,6 +106,6 @@ abbrev pub answer_of_lines : List NumberedLine → Option NumberedLine → LogAn
 answer_of_lines lines (Some first) = form_at first.number
 answer_of_lines lines None = is_log (filter_map (λ line. step_in (line_answer line.bytes)) lines)
 
--- what a text is: of no form at its first wrong line, and otherwise the log of its steps
+-- what a text is: malformed at its first wrong line, and otherwise the log of its steps
 abbrev pub log_answer : List ℕ → LogAnswer
 log_answer text = answer_of_lines (numbered_lines text) (find (λ line. is_wrong (line_answer line.bytes)) (numbered_lines text))

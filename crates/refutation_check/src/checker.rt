@@ -5,8 +5,8 @@ ghost use Rattle.std.specs.List.{list_any, AllWithin};
 ghost use Rattle.clause_core.specs.Literals.{Lit};
 ghost use Rattle.clause_core.specs.Clauses.{IsOver, AreUnsatisfiable};
 ghost use Rattle.refutation_check.specs.Checking.{log_refusal, step_refusal, is_no_step, refused_hint, clause_named, numbered_from, effect_of_named, is_empty, at_line, at_hint, unfinished, HaveFewHints};
-ghost use Rattle.refutation_check.specs.Marks.{effect_of};
-ghost use Rattle.refutation_check.specs.Accepted.{numbered, known_behind, AreAccepted};
+ghost use Rattle.refutation_check.specs.internal.Marks.{effect_of};
+ghost use Rattle.refutation_check.specs.internal.Accepted.{numbered, known_after, AreAccepted};
 
 use crate::marks::{Look, Marks};
 use crate::steps::{Log, Step};
@@ -76,7 +76,7 @@ pub fn check(alloc: Global, cnf: &Cnf, log: &Log) -> Result<(), LogError>
     }
 }
 
-/// Whether the step may stand behind the accepted ones, the largest of whose numbers is given.
+/// Whether the step may come after the accepted ones, the largest of whose numbers is given.
 fn check_step(
     marks: &mut Marks,
     cnf: &Cnf,
@@ -88,11 +88,11 @@ fn check_step(
     requires accepted { AreAccepted cnf.now.variables (length cnf.now.clauses) accepted.now }
     requires unmarked { marks.old ≡ record { variables = cnf.now.variables; literals = [] } }
     ensures unmarked { OnOk result (marks.new ≡ record { variables = cnf.now.variables; literals = [] }) }
-    ensures accepted { OnOk result (step_refusal cnf.now.variables largest (known_behind cnf.now.clauses accepted.now) step.now ≡ None) }
+    ensures accepted { OnOk result (step_refusal cnf.now.variables largest (known_after cnf.now.clauses accepted.now) step.now ≡ None) }
     ensures line { (number : ℕ) → result ≡ Err (LogError.Line number) →
-        step_refusal cnf.now.variables largest (known_behind cnf.now.clauses accepted.now) step.now ≡ Some (at_line number) }
+        step_refusal cnf.now.variables largest (known_after cnf.now.clauses accepted.now) step.now ≡ Some (at_line number) }
     ensures hint { (number position : ℕ) → result ≡ Err (LogError.Hint number position) →
-        step_refusal cnf.now.variables largest (known_behind cnf.now.clauses accepted.now) step.now ≡ Some (at_hint number position) }
+        step_refusal cnf.now.variables largest (known_after cnf.now.clauses accepted.now) step.now ≡ Some (at_hint number position) }
     ensures finished { result ≡ Err LogError.Unfinished → ⊥ }
 {
     if is_no_step(cnf.variables, largest, step) {
@@ -157,7 +157,7 @@ fn refused_hint(
     requires few { length hints.now + 1 < 2 ^ 32 }
     requires accepted { AreAccepted cnf.now.variables (length cnf.now.clauses) accepted.now }
     requires variables { marks.old.variables ≡ cnf.now.variables }
-    ensures ok { IfOk result (λ refused. refused ≡ refused_hint (known_behind cnf.now.clauses accepted.now) marks.old.literals 1 hints.now) }
+    ensures ok { IfOk result (λ refused. refused ≡ refused_hint (known_after cnf.now.clauses accepted.now) marks.old.literals 1 hints.now) }
     ensures variables { marks.new.variables ≡ cnf.now.variables }
 {
     let mut position = 1;
@@ -176,7 +176,7 @@ fn refused_hint(
 fn look_at_hint(marks: &Marks, cnf: &Cnf, accepted: &[Step], hint: u64) -> Look
     requires accepted { AreAccepted cnf.now.variables (length cnf.now.clauses) accepted.now }
     requires variables { marks.now.variables ≡ cnf.now.variables }
-    ensures value { effect_of result ≡ effect_of_named marks.now.literals (clause_named (known_behind cnf.now.clauses accepted.now) hint) }
+    ensures value { effect_of result ≡ effect_of_named marks.now.literals (clause_named (known_after cnf.now.clauses accepted.now) hint) }
     ensures over { (l : Lit) → result ≡ Look.Makes l → l.index < marks.now.variables }
 {
     match clause_named(cnf, accepted, hint) {
@@ -188,7 +188,7 @@ fn look_at_hint(marks: &Marks, cnf: &Cnf, accepted: &[Step], hint: u64) -> Look
 /// The clause of a number.
 fn clause_named<'a>(cnf: &'a Cnf, accepted: &'a [Step], number: u64) -> Option<&'a Clause>
     requires { AreAccepted cnf.now.variables (length cnf.now.clauses) accepted.now }
-    ensures value { option_copied result ≡ clause_named (known_behind cnf.now.clauses accepted.now) number }
+    ensures value { option_copied result ≡ clause_named (known_after cnf.now.clauses accepted.now) number }
     ensures over { IfSome result (λ clause. IsOver cnf.now.variables clause.now) }
 {
     if number <= cnf.clauses.len() as u64 {

@@ -7,7 +7,7 @@ ghost use Rattle.tsl_text.specs.Cursor.{line_view};
 ghost use Rattle.refutation_check.specs.DataLines.{is_comment, data_lines};
 ghost use Rattle.refutation_check.specs.Numbers.{is_zero};
 ghost use Rattle.refutation_check.specs.CnfText.{header, means, is_right, first_wrong, numbers_of, cnf_answer, is_cnf, form_at, too_many_variables, too_many_clauses};
-ghost use Rattle.refutation_check.specs.Reading.{data_lines_from, words_from, words_left, HasFewLines, are_within, ended_clauses};
+ghost use Rattle.refutation_check.specs.internal.Reading.{data_lines_from, words_from, words_left, HasFewLines, are_within, ended_clauses};
 
 use crate::lines::is_comment;
 use crate::numbers::{ends_list, is_within, literal_in};
@@ -20,9 +20,9 @@ use tsl_text::{Line, Lines, first_line, first_word, line_count, lines_of, number
 /// Why a text is no formula.
 #[derive(Debug, Drop, Error)]
 pub enum CnfError {
-    /// On this line, counted from 1, stands the first wrong word. Where a clause or the header is
+    /// On this line, counted from 1, is the first wrong word. Where a clause or the header is
     /// missing, it is the line after the last.
-    #[error("line {0} is of no form")]
+    #[error("line {0} is malformed")]
     Form(u32),
     /// The header tells more than 1,048,576 variables.
     #[error("there are more than 1048576 variables")]
@@ -71,7 +71,7 @@ struct Word<'a> {
 }
 
 /// The formula that a text in the DIMACS form tells. Lines that begin with `c` are comments. The first other
-/// line is `p cnf V C`; behind it stand C clauses, over any lines, of whole numbers from -V to V, each ended by
+/// line is `p cnf V C`; after it come C clauses, over any lines, of whole numbers from -V to V, each ended by
 /// 0. A number has 1 to 18 digits. `Form` goes before `Variables`, and that before `Clauses`.
 pub fn read_dimacs(alloc: Global, text: &[u8]) -> Result<Cnf, CnfError>
     requires { length text.now + 1 < 2 ^ 32 }
@@ -223,7 +223,7 @@ fn check_words(counts: Counts, rest: Rest<'_>) -> Result<u64, u32>
     Ok(ended)
 }
 
-/// How many clauses the word ends, one or none, if it is right behind so many ended ones.
+/// How many clauses the word ends, one or none, if it is right after so many ended ones.
 fn ended_by(counts: Counts, ended: u64, word: &[u8]) -> Option<u64>
     ensures value { IfSome result (λ more. more ≡ cond (means is_zero word.now) 1 0) }
     ensures few { IfSome result (λ more. ended + more ≤ counts.clauses) }

@@ -3,7 +3,7 @@
 //! - `read_dimacs` gives exactly the formula that a text in the DIMACS form tells, or the line of its first
 //!   wrong word, or the limit that it passes (`specs/CnfText.antt`). `read_lrat` gives exactly the steps of a
 //!   log in the LRAT form, or its first wrong line (`specs/LogText.antt`). Both read in one or two passes, and
-//!   give up for want of memory alone.
+//!   give up where memory runs out alone.
 //! - `check` says exactly whether a log is refused, and where (`specs/Checking.antt`). Where it is not, no
 //!   assignment meets all clauses of the formula: each step's clause follows from those before it by unit
 //!   propagation in the order of its hints, and one of them is empty. Its time is that of the clauses that the

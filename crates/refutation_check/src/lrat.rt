@@ -6,7 +6,7 @@ ghost use Rattle.clause_core.specs.Literals.{Lit, number_of};
 ghost use Rattle.tsl_text.specs.Lines.{words};
 ghost use Rattle.refutation_check.specs.Checking.{HaveFewHints};
 ghost use Rattle.refutation_check.specs.LogText.{line_answer, line_of_number, are_deleted, is_wrong, step_in, is_literal, log_answer, is_log, form_at};
-ghost use Rattle.refutation_check.specs.Reading.{with_literals, with_hints, with_both, HasHintsWithin};
+ghost use Rattle.refutation_check.specs.internal.Reading.{with_literals, with_hints, with_both, HasHintsWithin};
 
 use crate::lines::is_comment;
 use crate::numbers::{ends_list, hint_in, literal_in};
@@ -21,7 +21,7 @@ use tsl_text::{first_line, first_word, lines_of, number_in};
 #[derive(Debug, Drop, Error)]
 pub enum LogTextError {
     /// This line, counted from 1, is the first that is no step, no deletion and no comment.
-    #[error("line {0} is of no form")]
+    #[error("line {0} is malformed")]
     Form(u32),
     /// Memory ran out.
     #[error("out of memory")]
@@ -112,11 +112,11 @@ fn read_line(alloc: Global, line: &[u8]) -> Result<Line, NoMemory>
     let Some(name) = number_in(first) else {
         return Ok(Line::Wrong);
     };
-    read_behind_number(alloc, name, rest)
+    read_after_number(alloc, name, rest)
 }
 
-/// What a line is behind its number.
-fn read_behind_number(alloc: Global, name: u64, rest: &[u8]) -> Result<Line, NoMemory>
+/// What a line is after its number.
+fn read_after_number(alloc: Global, name: u64, rest: &[u8]) -> Result<Line, NoMemory>
     ensures value { IfOk result (λ answer. answer ≡ line_of_number (words rest.now) (Some name)) }
     ensures few_hints { IfOk result (HasHintsWithin (length rest.now)) }
 {
@@ -169,7 +169,7 @@ fn read_step(alloc: Global, name: u64, line: &[u8]) -> Result<Line, NoMemory>
     }))
 }
 
-/// The literals before the first 0, and what stands behind it. `None` where one of the words before it means
+/// The literals before the first 0, and what comes after it. `None` where one of the words before it means
 /// no literal, or there is no 0.
 fn read_literals<'a>(
     alloc: Global,
@@ -195,7 +195,7 @@ fn read_literals<'a>(
     Ok(None)
 }
 
-/// The hints before the first 0, and what stands behind it. `None` where one of the words before it means
+/// The hints before the first 0, and what comes after it. `None` where one of the words before it means
 /// no hint, or there is no 0.
 fn read_hints<'a>(alloc: Global, line: &'a [u8]) -> Result<Option<(Vec<u64>, &'a [u8])>, NoMemory>
     ensures some { IfOk result (λ found. IfSome found (λ read. (name : ℕ) (literals : List Lit) → with_hints name literals [] (words line.now) ≡ with_both name literals read.0.items (words read.1.now))) }

@@ -5,7 +5,7 @@ ghost use Rattle.clause_core.specs.Literals.{Lit, has, negation};
 ghost use Rattle.clause_core.specs.Clauses.{IsOver};
 ghost use Rattle.clause_core.specs.Propagation.{not_false};
 ghost use Rattle.refutation_check.specs.Checking.{effect_of_open};
-ghost use Rattle.refutation_check.specs.Marks.{with_true, place_of, effect_of};
+ghost use Rattle.refutation_check.specs.internal.Marks.{with_true, place_of, effect_of};
 
 use clause_core::{Clause, Literal};
 use sequence::NoMemory;
@@ -33,7 +33,7 @@ pub struct Marks {
 
 impl Model for Marks {
     ghost use Rattle.std.specs.Prelude.{reverse};
-    ghost use Rattle.refutation_check.specs.Marks.{Trues, IsTable};
+    ghost use Rattle.refutation_check.specs.internal.Marks.{Trues, IsTable};
 
     ghost Value = { Trues };
 

@@ -5,7 +5,7 @@ ghost use Rattle.sequence.specs.Options.{passes};
 ghost use Rattle.clause_core.specs.Literals.{number_of};
 ghost use Rattle.tsl_text.specs.Numbers.{signed_number_in};
 ghost use Rattle.refutation_check.specs.Numbers.{is_zero};
-ghost use Rattle.refutation_check.specs.Reading.{begins_with_zero};
+ghost use Rattle.refutation_check.specs.internal.Reading.{begins_with_zero};
 ghost use Rattle.refutation_check.specs.LogText.{is_literal, is_hint};
 
 use clause_core::Literal;

@@ -34,7 +34,7 @@ fn faulty_line(alloc: Global, text: &str) -> Result<Option<u32>, Fail> {
     }
 }
 
-/// The numbers of the literals, a 0 behind each clause.
+/// The numbers of the literals, a 0 after each clause.
 fn numbers_of(alloc: Global, cnf: &Cnf) -> Result<Vec<i32>, Fail> {
     let mut numbers = Vec::new(alloc);
     for clause in cnf.clauses.as_slice() {
@@ -147,7 +147,7 @@ fn a_log_refutes_four_clauses(rt: HostRuntime) -> Result<(), Fail> {
         ("4 1 0 1 2 0\n6 0 5 3 4 0\n", Verdict::Line(4)),
         ("5 1 0 2 3 0\n6 0 5 3 4 0\n", Verdict::Hint(5, 2)),
         ("5 1 0 -1 0\n6 0 5 3 4 0\n", Verdict::Form(1)),
-        // Deletions have no effect, and hints behind a false clause are not looked at.
+        // Deletions have no effect, and hints after a false clause are not looked at.
         (
             "c\n5 1 0 1 2 99 0\n5 d 1 0 2 0\n\n9 0 5 3 4 77 0",
             Verdict::Verified,
@@ -163,7 +163,7 @@ fn a_log_refutes_four_clauses(rt: HostRuntime) -> Result<(), Fail> {
         ("5 1 0 1 2 0\n5 0 5 3 4 0\n", Verdict::Line(5)),
         ("5 1 -1 0 1 0\n", Verdict::Line(5)),
         ("5 3 0 1 0\n", Verdict::Line(5)),
-        // What stands behind the empty clause is checked too.
+        // What comes after the empty clause is checked too.
         ("5 1 0 1 2 0\n6 0 5 3 4 0\n7 2 0 1 0\n", Verdict::Hint(7, 2)),
         ("5 1 0 1 2 0\n", Verdict::Unfinished),
         ("", Verdict::Unfinished),

@@ -1,6 +1,6 @@
 use Rattle.std.proofs.Common.{◌∙◌, sym, map, arith}
 use Rattle.refutation_check.specs.Checking.{numbered_from}
-use Rattle.refutation_check.specs.Accepted.{numbered}
+use Rattle.refutation_check.specs.internal.Accepted.{numbered}
 use Rattle.refutation_check.proofs.Naming.{named_left, named_right, named_no_step, named_outside}
 use Rattle.refutation_check.proofs.checker.clause_named.Goals as goal
 

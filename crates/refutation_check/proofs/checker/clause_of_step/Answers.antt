@@ -2,7 +2,7 @@ use Rattle.std.proofs.Common.{◌≡◌, get_or, sym, ap, ◌∙◌, map, None, 
 use Rattle.std.proofs.lemmas.List.{get_or_default}
 use Rattle.refutation_check.specs.declared.steps.Step.{Step}
 use Rattle.refutation_check.specs.Checking.{clause_named}
-use Rattle.refutation_check.specs.Accepted.{numbered}
+use Rattle.refutation_check.specs.internal.Accepted.{numbered}
 use Rattle.refutation_check.proofs.Naming.{named_step, named_no_step, no_number}
 use Rattle.refutation_check.proofs.checker.clause_of_step.Goals as goal
 use Rattle.refutation_check.proofs.checker.clause_of_step.Goals.{

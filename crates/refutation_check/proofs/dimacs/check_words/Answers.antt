@@ -2,7 +2,7 @@ use Rattle.std.proofs.Common.{◌≡◌, ◌+◌, ℕ, List, false, true, sym, a
 use Rattle.std.specs.Prelude.{option_map, is_some, count_by}
 use Rattle.refutation_check.specs.Numbers.{is_zero}
 use Rattle.refutation_check.specs.CnfText.{is_right, with_zeros, numbers_of}
-use Rattle.refutation_check.specs.Reading.{words_left}
+use Rattle.refutation_check.specs.internal.Reading.{words_left}
 use Rattle.refutation_check.proofs.CnfLemmas.{wrong_among, wrong_here, right_here, ended_more}
 use Rattle.refutation_check.proofs.dimacs.check_words.Goals as goal
 

@@ -2,7 +2,7 @@ use Rattle.std.proofs.Common.{◌≡◌, ◌+◌, not, length}
 use Rattle.std.specs.Prelude.{find, count_by}
 use Rattle.refutation_check.specs.Numbers.{is_zero}
 use Rattle.refutation_check.specs.CnfText.{is_right, with_zeros, numbers_of, first_wrong}
-use Rattle.refutation_check.specs.Reading.{words_left, HasFewLines}
+use Rattle.refutation_check.specs.internal.Reading.{words_left, HasFewLines}
 use Rattle.refutation_check.proofs.dimacs.check_words.Given as goal
 
 abbrev pub invariant-loop-word : goal.invariant-loop-word

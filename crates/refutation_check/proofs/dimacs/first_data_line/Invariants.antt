@@ -1,7 +1,7 @@
 use Rattle.std.proofs.Common.{◌≡◌, length}
 use Rattle.tsl_text.specs.Cursor.{IsCountable}
 use Rattle.refutation_check.specs.DataLines.{data_lines}
-use Rattle.refutation_check.specs.Reading.{data_lines_from}
+use Rattle.refutation_check.specs.internal.Reading.{data_lines_from}
 use Rattle.refutation_check.proofs.dimacs.first_data_line.Given as goal
 
 abbrev pub invariant-loop-line : goal.invariant-loop-line

@@ -1,5 +1,5 @@
 use Rattle.std.proofs.Common.{◌≡◌, ◌+◌, ◌≤◌, length}
-use Rattle.refutation_check.specs.Reading.{words_left, HasFewLines}
+use Rattle.refutation_check.specs.internal.Reading.{words_left, HasFewLines}
 use Rattle.refutation_check.proofs.dimacs.next_word.Given as goal
 
 abbrev pub invariant-loop-bytes : goal.invariant-loop-bytes

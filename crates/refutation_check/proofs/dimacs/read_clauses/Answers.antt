@@ -4,7 +4,7 @@ use Rattle.std.proofs.lemmas.List.Elements.{All-push, All-nil}
 use Rattle.clause_core.specs.Literals.{Lit}
 use Rattle.clause_core.specs.Clauses.{IsOver, in_order}
 use Rattle.refutation_check.specs.CnfText.{numbers_of}
-use Rattle.refutation_check.specs.Reading.{words_left, are_within, ended_clauses}
+use Rattle.refutation_check.specs.internal.Reading.{words_left, are_within, ended_clauses}
 use Rattle.refutation_check.proofs.CnfLemmas.{starts_with_zero, numbers_more, over_in_order, ended_zero}
 use Rattle.refutation_check.proofs.dimacs.read_clauses.Goals as goal
 

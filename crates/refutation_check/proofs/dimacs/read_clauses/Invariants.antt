@@ -1,7 +1,7 @@
 use Rattle.std.proofs.Common.{◌≡◌, ◌+◌, ◌++◌, [], true, length, All}
 use Rattle.clause_core.specs.Clauses.{IsOver}
 use Rattle.refutation_check.specs.CnfText.{numbers_of}
-use Rattle.refutation_check.specs.Reading.{words_left, HasFewLines, are_within, ended_clauses}
+use Rattle.refutation_check.specs.internal.Reading.{words_left, HasFewLines, are_within, ended_clauses}
 use Rattle.refutation_check.proofs.dimacs.read_clauses.Given as goal
 
 abbrev pub invariant-loop-word : goal.invariant-loop-word

@@ -1,6 +1,6 @@
 use Rattle.std.proofs.Common.{◌+◌, sym, ◌∙◌}
 use Rattle.tsl_text.specs.Cursor.{line_view}
-use Rattle.refutation_check.specs.Reading.{data_lines_from, words_left}
+use Rattle.refutation_check.specs.internal.Reading.{data_lines_from, words_left}
 use Rattle.refutation_check.proofs.CnfLemmas.{all_within, cnf_is}
 use Rattle.refutation_check.proofs.dimacs.read_dimacs.Goals as goal
 

@@ -1,7 +1,7 @@
 use Rattle.std.proofs.Common.{◌≡◌, length}
 use Rattle.tsl_text.specs.Lines.{words}
 use Rattle.refutation_check.specs.LogText.{are_deleted}
-use Rattle.refutation_check.specs.Reading.{end_deleted}
+use Rattle.refutation_check.specs.internal.Reading.{end_deleted}
 use Rattle.refutation_check.proofs.lrat.are_deleted.Given as goal
 
 abbrev pub invariant-loop-word : goal.invariant-loop-word

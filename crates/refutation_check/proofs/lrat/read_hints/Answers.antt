@@ -1,7 +1,7 @@
 use Rattle.std.proofs.Common.{sym, ap, ◌∙◌}
 use Rattle.std.specs.Prelude.{is_some}
 use Rattle.tsl_text.specs.Lines.{words}
-use Rattle.refutation_check.specs.Reading.{with_hints}
+use Rattle.refutation_check.specs.internal.Reading.{with_hints}
 use Rattle.refutation_check.proofs.LogLemmas.{no_hint, hints_end}
 use Rattle.refutation_check.proofs.lrat.read_hints.Goals as goal
 

@@ -1,7 +1,7 @@
 use Rattle.std.proofs.Common.{◌≡◌, ◌+◌, ◌≤◌, ◌<◌, ℕ, [], List, All, length}
 use Rattle.clause_core.specs.Literals.{Lit}
 use Rattle.tsl_text.specs.Lines.{words}
-use Rattle.refutation_check.specs.Reading.{with_hints}
+use Rattle.refutation_check.specs.internal.Reading.{with_hints}
 use Rattle.refutation_check.proofs.lrat.read_hints.Given as goal
 
 abbrev pub invariant-loop-word : goal.invariant-loop-word

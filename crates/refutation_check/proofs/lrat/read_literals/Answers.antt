@@ -1,7 +1,7 @@
 use Rattle.std.proofs.Common.{sym, ap, ◌∙◌}
 use Rattle.std.specs.Prelude.{is_some}
 use Rattle.tsl_text.specs.Lines.{words}
-use Rattle.refutation_check.specs.Reading.{with_literals}
+use Rattle.refutation_check.specs.internal.Reading.{with_literals}
 use Rattle.refutation_check.proofs.LogLemmas.{no_literal, literals_end}
 use Rattle.refutation_check.proofs.lrat.read_literals.Goals as goal
 

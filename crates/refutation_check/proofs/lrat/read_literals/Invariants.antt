@@ -3,7 +3,7 @@ use Rattle.std.specs.List.{list_all}
 use Rattle.clause_core.specs.Literals.{number_of}
 use Rattle.refutation_check.specs.LogText.{is_literal}
 use Rattle.tsl_text.specs.Lines.{words}
-use Rattle.refutation_check.specs.Reading.{with_literals}
+use Rattle.refutation_check.specs.internal.Reading.{with_literals}
 use Rattle.refutation_check.proofs.lrat.read_literals.Given as goal
 
 abbrev pub invariant-loop-word : goal.invariant-loop-word

@@ -2,7 +2,7 @@ use Rattle.std.proofs.Common.{◌≡◌, ◌++◌, Bool, true, false, not, refl,
 use Rattle.std.specs.Prelude.{option_to_list}
 use Rattle.tsl_text.specs.Cursor.{line_view, lines_left}
 use Rattle.refutation_check.specs.LogText.{line_answer, is_wrong, step_in}
-use Rattle.refutation_check.specs.Reading.{log_among}
+use Rattle.refutation_check.specs.internal.Reading.{log_among}
 use Rattle.refutation_check.proofs.LogLemmas.{log_more, few_more}
 use Rattle.refutation_check.proofs.lrat.read_lrat.Goals as goal
 

@@ -1,7 +1,7 @@
 use Rattle.std.proofs.Common.{◌≡◌, ◌≤◌, length, All}
 use Rattle.tsl_text.specs.Cursor.{lines_left, IsCountable}
 use Rattle.refutation_check.specs.LogText.{log_answer}
-use Rattle.refutation_check.specs.Reading.{log_among}
+use Rattle.refutation_check.specs.internal.Reading.{log_among}
 use Rattle.refutation_check.proofs.lrat.read_lrat.Given as goal
 
 abbrev pub invariant-loop-line : goal.invariant-loop-line

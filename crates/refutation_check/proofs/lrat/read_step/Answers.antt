@@ -5,7 +5,7 @@ use Rattle.clause_core.specs.Clauses.{in_order}
 use Rattle.refutation_check.specs.declared.lrat.Line.TheVariants.{Says, Wrong}
 use Rattle.tsl_text.specs.Lines.{words}
 use Rattle.refutation_check.specs.LogText.{is_literal}
-use Rattle.refutation_check.specs.Reading.{with_literals, with_hints, with_both}
+use Rattle.refutation_check.specs.internal.Reading.{with_literals, with_hints, with_both}
 use Rattle.refutation_check.proofs.LogLemmas.{both_wrong, both_right}
 use Rattle.refutation_check.proofs.lrat.read_step.Goals as goal
 

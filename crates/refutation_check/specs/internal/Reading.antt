@@ -59,7 +59,7 @@ data_lines_from number text = filter (λ line. not (is_comment line.bytes)) (lin
 abbrev pub words_from : ℕ → List ℕ → List (ℕ × List ℕ)
 words_from number text = flat_map words_beside (data_lines_from number text)
 
--- the words of what is left of a line, and those of the text behind it
+-- the words of what is left of a line, and those of the text after it
 abbrev pub words_left : List ℕ → ℕ → List ℕ → List (ℕ × List ℕ)
 words_left line number text = words_at number line ++ words_from (number + 1) text
 
@@ -79,18 +79,18 @@ ended_clauses literals (n ∷ ns) =
 
 -- ---- logs
 
--- what a line is with these literals and the words behind them
+-- what a line is with these literals and the words after them
 abbrev pub with_literals : ℕ → List Lit → List (List ℕ) → Line
 with_literals name literals words =
     step_of_numbers name (option_map (λ ns. map number_of literals ++ ns) (all_there (map signed_number_in words)))
 
--- what a line is with these literals, a 0, these hints and the words behind them
+-- what a line is with these literals, a 0, these hints and the words after them
 abbrev pub with_hints : ℕ → List Lit → List ℕ → List (List ℕ) → Line
 with_hints name literals hints words =
     step_of_numbers name (option_map (λ ns. map number_of literals ++ pos 0 ∷ (map pos hints ++ ns))
     (all_there (map signed_number_in words)))
 
--- what a line is with these literals, a 0, these hints, a 0 and the words behind them
+-- what a line is with these literals, a 0, these hints, a 0 and the words after them
 abbrev pub with_both : ℕ → List Lit → List ℕ → List (List ℕ) → Line
 with_both name literals hints words =
     step_of_numbers name (option_map (λ ns. map number_of literals ++ pos 0 ∷ (map pos hints ++ pos 0 ∷ ns))
@@ -101,13 +101,13 @@ abbrev pub end_deleted : Bool → List (List ℕ) → Bool
 end_deleted ended [] = ended
 end_deleted ended (word ∷ words) = are_deleted (word ∷ words)
 
-abbrev pub log_behind : List Step → List NumberedLine → Option NumberedLine → LogAnswer
-log_behind steps lines (Some first) = form_at first.number
-log_behind steps lines None = is_log (steps ++ filter_map (λ line. step_in (line_answer line.bytes)) lines)
+abbrev pub log_after : List Step → List NumberedLine → Option NumberedLine → LogAnswer
+log_after steps lines (Some first) = form_at first.number
+log_after steps lines None = is_log (steps ++ filter_map (λ line. step_in (line_answer line.bytes)) lines)
 
 -- what a text is with these steps before it, where these lines are left
 abbrev pub log_among : List Step → List NumberedLine → LogAnswer
-log_among steps lines = log_behind steps lines (find (λ line. is_wrong (line_answer line.bytes)) lines)
+log_among steps lines = log_after steps lines (find (λ line. is_wrong (line_answer line.bytes)) lines)
 
 -- the step of a line, where it says one, has at most so many hints
 abbrev pub HasHintsWithin : ℕ → Line → Type 0

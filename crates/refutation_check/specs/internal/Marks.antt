@@ -1,4 +1,4 @@
--- The literals that a step's hints made true, as a table with two places for each variable.
+-- Internal: the literals that a step's hints made true, as a table with two places for each variable.
 use Rattle.std.specs.Prelude.{◌≡◌, ℕ, ◌+◌, ◌*◌, ◌<◌, Bool, false, cond, List, ◌∷◌, length, slice_index_or}
 use Rattle.clause_core.specs.Literals.{Lit, has}
 use Rattle.clause_core.specs.Clauses.{IsOver}
