@@ -12,10 +12,10 @@ use Rattle.tsl_terms.specs.WellFormed.{is_usable_at, term_fits, terms_fit, probe
 use Rattle.tsl_terms.specs.WindowTree.{WindowTree, ListedTree}
 use Rattle.flow_program.specs.NodeTree.{NodeTree, branch, assign}
 use Rattle.flow_program.specs.ProgramTree.{ProgramTree}
-use Rattle.flow_program.specs.ProgramText.{IsProgram, IsWritable, signal_fits, term_is_writable, probe_is_writable, listed_is_writable,
-    window_is_writable, node_is_writable}
-use Rattle.tsl_meaning.specs.OverNames.{term_is_over, terms_are_over, probe_is_over, listed_is_over, window_is_over, node_is_over,
-    atom_is_over, IsProgramOver}
+use Rattle.flow_program.specs.ProgramText.{IsProgram, IsWritable, signal_fits, term_is_writable, probe_is_writable, listed_is_writable}
+use Rattle.flow_program.specs.ProgramText.{window_is_writable, node_is_writable}
+use Rattle.tsl_meaning.specs.OverNames.{term_is_over, terms_are_over, probe_is_over, listed_is_over, window_is_over, node_is_over}
+use Rattle.tsl_meaning.specs.OverNames.{atom_is_over, IsProgramOver}
 
 module _ (names : List Name) where
   mutual
@@ -37,7 +37,7 @@ module _ (names : List Name) where
       let parts = and_parts (is_name names p.predicate Predicate (count_of_terms p.arguments) && terms_fit names p.arguments) _ fits in
       let inner = and_parts (is_name names p.predicate Predicate (count_of_terms p.arguments)) (terms_fit names p.arguments) parts.0 in
       and_from (is_name names p.predicate Predicate (count_of_terms p.arguments)) (terms_are_over names p.arguments) inner.0
-          (terms_over p.arguments inner.1)
+      (terms_over p.arguments inner.1)
 
   pub atom_over : (a : Atom) → atom_fits names a ≡ true → atom_is_over names a ≡ true
   atom_over (test p) fits = probe_over p (and_parts (probe_fits names p) (nat_le (brackets_of_arguments p.arguments) deepest) fits).0
@@ -65,7 +65,7 @@ module _ (names : List Name) where
   written_window : (w : WindowTree) → window_is_writable names w ≡ true → window_is_over names w ≡ true
   written_window w written =
       let parts = and_parts (probe_is_writable names w.left && probe_is_writable names w.right)
-          (list_all (listed_is_writable names) w.updates) written in
+      (list_all (listed_is_writable names) w.updates) written in
       let probes = and_parts (probe_is_writable names w.left) (probe_is_writable names w.right) parts.0 in
       and_from (probe_is_over names w.left && probe_is_over names w.right) (list_all (listed_is_over names) w.updates)
       (and_from (probe_is_over names w.left) (probe_is_over names w.right) (written_probe w.left probes.0) (written_probe w.right probes.1))

@@ -32,7 +32,7 @@ module _ {V : Type 0} (meanings : Meanings V) (program : ProgramTree) (rows : In
   steps_before (suc n) t c h =
       let e : suc (suc n + t) ≡ suc (suc n) + t = omega arith in
       let last : HasStep meanings program rows (suc n + t) =
-          step_before (suc n + t) c (ap (configuration_at meanings program rows) e ∙ h) in
+      step_before (suc n + t) c (ap (configuration_at meanings program rows) e ∙ h) in
       steps_before n t last.now last.is_now
 
   pub steps_below : (limit t : ℕ) (c : Configuration V) → t < limit → configuration_at meanings program rows limit ≡ Some c →

@@ -1,6 +1,6 @@
 -- Each step of a program over names is there, under every interpretation of the names and every input loop.
-use Rattle.std.proofs.Common.{◌≡◌, ◌∙◌, ℕ, zero, suc, ◌+◌, ◌<◌, ◌≤◌, ◌==◌, Bool, true, false, ◌||◌, cond, List, [], ◌∷◌, ◌++◌, length, map,
-    take, Option, Some, None, refl, sym, ap, arith, inl, inr}
+use Rattle.std.proofs.Common.{◌≡◌, ◌∙◌, ℕ, zero, suc, ◌+◌, ◌<◌, ◌≤◌, ◌==◌, Bool, true, false, ◌||◌, cond, List, [], ◌∷◌, ◌++◌, length, map}
+use Rattle.std.proofs.Common.{take, Option, Some, None, refl, sym, ap, arith, inl, inr}
 use Rattle.std.specs.Prelude.{option_map, option_and_then, ◌≢◌}
 use Rattle.std.specs.Option.{option_or}
 use Rattle.std.specs.List.{list_all, AllByRecursion}
@@ -23,8 +23,8 @@ use Rattle.flow_program.specs.ProgramTree.{ProgramTree, controlled}
 use Rattle.sequence.specs.Numbers.{is_among}
 use Rattle.tsl_meaning.specs.OverNames.{term_is_over, probe_is_over, atom_is_over, IsProgramOver, IsFormulaOver}
 use Rattle.tsl_meaning.specs.Interpretation.{Interpretation, InputRows, IsInterpretation, IsInputLoop, IsRow, meanings_in}
-use Rattle.tsl_meaning.specs.Run.{Configuration, HasStep, row_at, place_after, signal_value, action_in, configuration_after,
-    configuration_at}
+use Rattle.tsl_meaning.specs.Run.{Configuration, HasStep, row_at, place_after, signal_value, action_in, configuration_after}
+use Rattle.tsl_meaning.specs.Run.{configuration_at}
 use Rattle.tsl_meaning.specs.Lasso.{IsDecided}
 use Rattle.tsl_meaning.proofs.Values.{HasValue, value_there, truth_there}
 use Rattle.tsl_meaning.proofs.Walks.{IsDone, done_in}
@@ -79,7 +79,7 @@ all_found domain f (x ∷ xs) each =
 
 module _ (names : List Name) (program : ProgramTree) (interpretation : Interpretation) (rows : InputRows ℕ)
     (over : IsProgramOver names program) (is : IsInterpretation names program.cells interpretation)
-        (loop : IsInputLoop interpretation.domain program.inputs rows) where
+    (loop : IsInputLoop interpretation.domain program.inputs rows) where
   abbrev meanings : Meanings ℕ
   meanings = meanings_in names program interpretation
 
@@ -120,7 +120,7 @@ module _ (names : List Name) (program : ProgramTree) (interpretation : Interpret
             }
         by row at fits false no_input =
             let cell : is_among program.cells s ≡ true = ap (λ b. b || is_among program.cells s) (sym no_input)
-                ∙ sym (list_any-append (λ r. r == s) program.inputs program.cells) ∙ among in
+            ∙ sym (list_any-append (λ r. r == s) program.inputs program.cells) ∙ among in
             let v = value_beside interpretation.domain s program.cells c.cells stands.count stands.below cell in
             record {
               value = v.value;
@@ -143,10 +143,11 @@ module _ (names : List Name) (program : ProgramTree) (interpretation : Interpret
     updates_there [] reads overs (suc n) = tt
     updates_there (t ∷ ts) reads overs (suc n) =
         let read = and_parts (reads_only (program.inputs ++ program.cells) t)
-            (list_all (reads_only (program.inputs ++ program.cells)) ts) reads in
-        let named = and_parts (term_is_over names t) (list_all (term_is_over names) ts) overs in
-        (value_there names program interpretation is (program.inputs ++ program.cells) (signal_value program rows c) known t named.0 read.0,
-            updates_there ts read.1 named.1 n)
+        (list_all (reads_only (program.inputs ++ program.cells)) ts) reads in
+        let named = and_parts (term_is_over names t) (list_all (term_is_over names) ts) overs in (
+          value_there names program interpretation is (program.inputs ++ program.cells) (signal_value program rows c) known t named.0 read.0,
+          updates_there ts read.1 named.1 n,
+        )
 
     place_stays : place_after rows c.place < length (rows.stem ++ rows.cycle)
     place_stays = elim (eqb_tells (c.place + 1) (length (rows.stem ++ rows.cycle))) [
@@ -159,9 +160,9 @@ module _ (names : List Name) (program : ProgramTree) (interpretation : Interpret
         let acts = action_there.acts in
         let taken : List TermTree = take (length program.cells) action_there.action.updates in
         let cells = all_found interpretation.domain (value meanings (signal_value program rows c)) taken
-            (updates_there action_there.action.updates acts.reads acts.over_names (length program.cells)) in
+        (updates_there action_there.action.updates acts.reads acts.over_names (length program.cells)) in
         let few : length taken ≡ length program.cells =
-            length-take-le (length program.cells) action_there.action.updates (omega (arith, acts.count)) in (
+        length-take-le (length program.cells) action_there.action.updates (omega (arith, acts.count)) in (
           record { place = place_after rows c.place; state = action_there.action.go; cells = cells.members },
           ap (option_map (λ (vs : List ℕ). record { place = place_after rows c.place; state = action_there.action.go; cells = vs }))
               cells.are,
@@ -220,7 +221,7 @@ module _ (names : List Name) (program : ProgramTree) (interpretation : Interpret
       let c = configuration_there t in
       let done = action_there c.0 c.2 in
       let count : length done.action.updates ≡ length (controlled program) = done.acts.count
-          ∙ sym (length-append program.cells program.outputs) in
+      ∙ sym (length-append program.cells program.outputs) in
       let found = beside_there (λ _. Unit {0}) s (controlled program) done.action.updates count (anything done.action.updates) updates in (
         found.0,
         ap (option_and_then (λ d. option_and_then (λ action. beside s (controlled program) action.updates)
@@ -240,9 +241,9 @@ module _ (names : List Name) (program : ProgramTree) (interpretation : Interpret
   each_decided t (a ∷ members) over_names reads updates =
       let named = and_parts (atom_is_over names a) (list_all (atom_is_over names) members) over_names in
       let read = and_parts (atom_reads_only (program.inputs ++ program.cells) a)
-          (list_all (atom_reads_only (program.inputs ++ program.cells)) members) reads in
+      (list_all (atom_reads_only (program.inputs ++ program.cells)) members) reads in
       let updated = and_parts (atom_updates_only (controlled program) a)
-          (list_all (atom_updates_only (controlled program)) members) updates in
+      (list_all (atom_updates_only (controlled program)) members) updates in
       (atom_decided t a named.0 read.0 updated.0, each_decided t members named.1 read.1 updated.1)
 
   pub atoms_decided : (f : FormulaTree) → IsFormulaOver names program f → (t : ℕ) →

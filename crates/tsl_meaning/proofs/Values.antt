@@ -1,6 +1,6 @@
 -- The values of terms and the truths of probes are there, under an interpretation of the names.
-use Rattle.std.proofs.Common.{◌≡◌, ◌∙◌, ℕ, suc, ◌+◌, ◌*◌, ◌^◌, ◌<◌, ◌≤◌, ◌==◌, Bool, true, false, ◌&&◌, List, [], ◌∷◌, length, Option, Some,
-    None, slice_get, refl, sym, ap, arith, subst}
+use Rattle.std.proofs.Common.{◌≡◌, ◌∙◌, ℕ, suc, ◌+◌, ◌*◌, ◌^◌, ◌<◌, ◌≤◌, ◌==◌, Bool, true, false, ◌&&◌, List, [], ◌∷◌, length, Option, Some}
+use Rattle.std.proofs.Common.{None, slice_get, refl, sym, ap, arith, subst}
 use Rattle.std.specs.Prelude.{option_map, option_and_then, fold, nat_lt}
 use Rattle.std.specs.Option.{option_map_or}
 use Rattle.std.proofs.lemmas.Bool.{and_parts, and_from, lt-ltb, ltb-true, eqb-true, eq-eqb, cond-true, false≢true}
@@ -17,8 +17,8 @@ use Rattle.flow_program.specs.ProgramTree.{ProgramTree}
 use Rattle.sequence.specs.Numbers.{is_among}
 use Rattle.tsl_terms.specs.OnlyThese.{reads_only, read_only}
 use Rattle.tsl_meaning.specs.OverNames.{term_is_over, terms_are_over, probe_is_over}
-use Rattle.tsl_meaning.specs.Interpretation.{Interpretation, IsInterpretation, IsTable, entry_of, entry_at, are_values, place_of_arguments,
-    meanings_in}
+use Rattle.tsl_meaning.specs.Interpretation.{Interpretation, IsInterpretation, IsTable, entry_of, entry_at, are_values, place_of_arguments}
+use Rattle.tsl_meaning.specs.Interpretation.{meanings_in}
 
 -- a value that is there, and is one of so many
 pub record HasValue (domain : ℕ) (found : Option ℕ) : Type 0 where
@@ -62,9 +62,9 @@ place_below domain n (v ∷ vs) all =
     let below : v < domain = ltb-true v domain parts.0 in
     let rest = place_below domain (n * domain + v) vs parts.1 in
     let more : (n * domain + v + 1) * domain ^ length vs ≤ ((n + 1) * domain) * domain ^ length vs =
-        mul-le-mul_right (domain ^ length vs) (wider below) in
+    mul-le-mul_right (domain ^ length vs) (wider below) in
     let whole : ((n + 1) * domain) * domain ^ length vs ≡ (n + 1) * domain ^ suc (length vs) = mul_assoc (n + 1) domain (domain ^ length vs)
-        ∙ ap (λ k. (n + 1) * k) (sym (pow-succ' domain (length vs))) in
+    ∙ ap (λ k. (n + 1) * k) (sym (pow-succ' domain (length vs))) in
     omega (arith, rest, more, whole)
   where
     wider : v < domain → n * domain + v + 1 ≤ (n + 1) * domain
@@ -112,8 +112,8 @@ module _ (names : List Name) (program : ProgramTree) (interpretation : Interpret
           let name = name_of names f Function (count_of_terms arguments) parts.0 in
           let table = is.functions f name.name name.there name.kind_is in
           let entry =
-              entry_there f interpretation.domain table.0 vs.members name.name.arity table.1 table.2 (vs.count ∙ sym name.arity_is)
-              vs.below in
+          entry_there f interpretation.domain table.0 vs.members name.name.arity table.1 table.2 (vs.count ∙ sym name.arity_is)
+          vs.below in
           record { value = entry.value; is = ap (option_and_then (entry_at interpretation f)) vs.are ∙ entry.is; below = entry.below }
 
       pub values_there : (ts : TermTrees) → terms_are_over names ts ≡ true → read_only readable ts ≡ true → HaveValues ts
@@ -140,6 +140,6 @@ module _ (names : List Name) (program : ProgramTree) (interpretation : Interpret
         let name = name_of names p.predicate Predicate (count_of_terms p.arguments) parts.0 in
         let table = is.predicates p.predicate name.name name.there name.kind_is in
         let entry =
-            entry_there p.predicate 2 table.0 vs.members name.name.arity table.1 table.2 (vs.count ∙ sym name.arity_is) vs.below in
+        entry_there p.predicate 2 table.0 vs.members name.name.arity table.1 table.2 (vs.count ∙ sym name.arity_is) vs.below in
         let meaning : List ℕ → Option Bool = λ arguments. option_map (λ entry. entry == 1) (entry_at interpretation p.predicate arguments) in
         (entry.value == 1, ap (option_and_then meaning) vs.are ∙ ap (option_map (λ entry. entry == 1)) entry.is)

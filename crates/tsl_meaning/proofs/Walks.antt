@@ -1,6 +1,6 @@
 -- A walk through a program over names ends, where each of its probes has a truth.
-use Rattle.std.proofs.Common.{◌≡◌, ◌∙◌, ℕ, zero, suc, ◌+◌, ◌<◌, Bool, true, false, cond, List, ◌++◌, length, Option, Some, slice_get, ap,
-    arith}
+use Rattle.std.proofs.Common.{◌≡◌, ◌∙◌, ℕ, zero, suc, ◌+◌, ◌<◌, Bool, true, false, cond, List, ◌++◌, length, Option, Some, slice_get, ap}
+use Rattle.std.proofs.Common.{arith}
 use Rattle.std.specs.Prelude.{option_and_then}
 use Rattle.std.specs.List.{list_all}
 use Rattle.sequence.proofs.Places.{slice_get_some}
@@ -29,7 +29,7 @@ module _ (names : List Name) (program : ProgramTree) (over : IsProgramOver names
 
   module _ (truths : ProbeTree → Option Bool)
       (judged : (t : ProbeTree) → probe_is_over names t ≡ true → read_only (program.inputs ++ program.cells) t.arguments ≡ true →
-          (b : Bool) × (truths t ≡ Some b)) where
+      (b : Bool) × (truths t ≡ Some b)) where
     done_from : (n i : ℕ) → i < n → i < length program.nodes → IsDone (walk_from program.nodes truths n i)
     done_from zero i below within = absurd (omega arith)
     done_from (suc n) i below within =
@@ -55,7 +55,7 @@ module _ (names : List Name) (program : ProgramTree) (over : IsProgramOver names
             let fits = over.is_program.branches_fit i a b t there in
             let truth = judged t (passes_at (node_is_over names) program.nodes i (branch t a b) over.nodes there) fits.2 in
             let rest = smaller (cond truth.0 a b) (chosen truth.0 fits.0 fits.1)
-                (omega (arith, chosen_below truth.0 fits.0 fits.1, within)) in
+            (omega (arith, chosen_below truth.0 fits.0 fits.1, within)) in
             record {
               action = rest.action;
               is =

@@ -1,8 +1,8 @@
 -- Finite interpretations and eventually periodic inputs. Values are the numbers below the domain.
 -- Source: Finkbeiner, Klein, Piskac, Santolucito: Temporal Stream Logic: Synthesis Beyond the Bools
 -- (CAV 2019), the semantics of functions and predicates, and input streams.
-use Rattle.std.specs.Prelude.{◌≡◌, ◌≢◌, ℕ, ◌+◌, ◌*◌, ◌^◌, ◌<◌, ◌≤◌, ◌==◌, Bool, List, [], length, Option, Some, None, option_map,
-    option_and_then, slice_get, fold, All, nat_lt, if◌then◌else◌}
+use Rattle.std.specs.Prelude.{◌≡◌, ◌≢◌, ℕ, ◌+◌, ◌*◌, ◌^◌, ◌<◌, ◌≤◌, ◌==◌, Bool, List, [], length, Option, Some, None, option_map}
+use Rattle.std.specs.Prelude.{option_and_then, slice_get, fold, All, nat_lt, if◌then◌else◌}
 use Rattle.std.specs.List.{list_all}
 use Rattle.tsl_terms.specs.declared.names.NameKind.TheVariants.{Function, Predicate}
 use Rattle.tsl_terms.specs.Name.{Name}

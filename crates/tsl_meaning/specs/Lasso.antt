@@ -14,8 +14,8 @@ use Rattle.tsl_terms.specs.declared.operator.BinaryOperator.{BinaryOperator}
 use Rattle.tsl_terms.specs.declared.operator.BinaryOperator.TheVariants.{Implication, Equivalence, Until, WeakUntil, Release}
 use Rattle.tsl_terms.specs.declared.operator.ManyOperator.{ManyOperator}
 use Rattle.tsl_terms.specs.declared.operator.ManyOperator.TheVariants.{Conjunction, Disjunction}
-use Rattle.tsl_terms.specs.FormulaTree.{Atom, test, update, FormulaTree, constant, atom, unary, binary, many, FormulaTrees, no_formulas,
-    more_formulas}
+use Rattle.tsl_terms.specs.FormulaTree.{Atom, test, update, FormulaTree, constant, atom, unary, binary, many, FormulaTrees, no_formulas}
+use Rattle.tsl_terms.specs.FormulaTree.{more_formulas}
 use Rattle.tsl_terms.specs.Value.{Meanings}
 use Rattle.flow_program.specs.ProgramTree.{ProgramTree}
 use Rattle.tsl_meaning.specs.Interpretation.{InputRows}

@@ -1,8 +1,8 @@
 -- The computation of a program, step by step, and where it closes.
 -- Source: Finkbeiner, Klein, Piskac, Santolucito: Temporal Stream Logic: Synthesis Beyond the Bools
 -- (CAV 2019), computations.
-use Rattle.std.specs.Prelude.{◌≡◌, ℕ, zero, suc, ◌+◌, ◌≤◌, ◌==◌, Bool, List, ◌++◌, length, map, take, Option, Some, option_map,
-    option_and_then, slice_get, if◌then◌else◌}
+use Rattle.std.specs.Prelude.{◌≡◌, ℕ, zero, suc, ◌+◌, ◌≤◌, ◌==◌, Bool, List, ◌++◌, length, map, take, Option, Some, option_map}
+use Rattle.std.specs.Prelude.{option_and_then, slice_get, if◌then◌else◌}
 use Rattle.std.specs.Option.{option_or}
 use Rattle.sequence.specs.Options.{all_there}
 use Rattle.loop_shape.specs.LoopShape.{LoopShape}
