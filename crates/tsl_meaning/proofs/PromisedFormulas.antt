@@ -10,7 +10,7 @@ use Rattle.sequence.proofs.Each.{each_both}
 use Rattle.tsl_terms.specs.Name.{Name}
 use Rattle.tsl_terms.specs.FormulaTree.{Atom, test, update, FormulaTree, atom}
 use Rattle.tsl_terms.specs.Atoms.{atoms}
-use Rattle.tsl_terms.specs.OnlyThese.{reads_only, read_only, atom_reads_only, atom_updates_only}
+use Rattle.tsl_terms.specs.OnlyThese.{read_only, atom_reads_only, atom_updates_only}
 use Rattle.tsl_terms.specs.SpecTree.{SpecTree, whole_formula, conjunction_of}
 use Rattle.tsl_terms.specs.WellFormed.{SpecFits, atom_fits}
 use Rattle.tsl_terms.specs.WindowTree.{WindowTree, ListedTree, later, listed_formula, window_formula_of}
@@ -18,7 +18,7 @@ use Rattle.tsl_terms.proofs.SignalFacts.{whole_reads, whole_updates}
 use Rattle.tsl_terms.proofs.WholeAtoms.{whole_is_made_of, conjunction_atoms}
 use Rattle.flow_program.specs.ProgramTree.{ProgramTree, controlled}
 use Rattle.sequence.specs.Numbers.{is_among}
-use Rattle.flow_program.specs.Fits.{window_fits, rises, longest}
+use Rattle.flow_program.specs.Fits.{window_is_shaped, window_reads_only, window_fits, longest}
 use Rattle.tsl_meaning.specs.OverNames.{probe_is_over, listed_is_over, window_is_over, atom_is_over, IsProgramOver, IsFormulaOver}
 use Rattle.tsl_meaning.specs.Promise.{Realizes}
 use Rattle.tsl_meaning.proofs.Naming.{atom_over}
@@ -80,17 +80,11 @@ window_speaks names program w over fits =
     let readable : List ℕ = program.inputs ++ program.cells in
     let named = and_parts (probe_is_over names w.left && probe_is_over names w.right) (list_all (listed_is_over names) w.updates) over in
     let probes = and_parts (probe_is_over names w.left) (probe_is_over names w.right) named.0 in
-    let parts = and_parts
-    ((nat_le w.length longest && nat_le w.left_at w.length)
-    && (list_all (λ u. nat_lt u.offset w.length && is_among program.cells u.signal) w.updates && rises program.cells w.updates))
-    ((read_only readable w.left.arguments && read_only readable w.right.arguments)
-    && list_all (λ u. reads_only readable u.term) w.updates) fits in
-    let reads = and_parts (read_only readable w.left.arguments && read_only readable w.right.arguments)
-    (list_all (λ u. reads_only readable u.term) w.updates) parts.1 in
+    let parts = and_parts (window_is_shaped program.cells w) (window_reads_only readable w) fits in
+    let reads = and_parts (read_only readable w.left.arguments && read_only readable w.right.arguments) _ parts.1 in
     let read = and_parts (read_only readable w.left.arguments) (read_only readable w.right.arguments) reads.0 in
-    let cells = (and_parts (list_all (λ u. nat_lt u.offset w.length && is_among program.cells u.signal) w.updates)
-    (rises program.cells w.updates)
-    (and_parts (nat_le w.length longest && nat_le w.left_at w.length) _ parts.0).1).0 in
+    let listed = and_parts (nat_le w.length longest && nat_le w.left_at w.length) _ parts.0 in
+    let cells = (and_parts (list_all (λ u. nat_lt u.offset w.length && is_among program.cells u.signal) w.updates) _ listed.1).0 in
     record {
       names_fit = window_atoms (atom_is_over names) w probes.0 probes.1 named.1;
       reads = window_atoms (atom_reads_only readable) w read.0 read.1 reads.1;
