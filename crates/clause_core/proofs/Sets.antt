@@ -1,5 +1,5 @@
 -- Lists of literals by what is in them.
-use Rattle.std.proofs.Common.{◌≡◌, ℕ, zero, suc, Bool, true, false, not, cond, ◌&&◌, ◌||◌, length, ℤ, pos, negsuc, neg_ℤ, ◌<ℤ◌, List, [], ◌∷◌, ◌++◌, sym, ap, ◌∙◌, subst, refl, arith, inl, inr, ◌⊎◌, Contains, IsPermutation}
+use Rattle.std.proofs.Common.{◌≡◌, ℕ, zero, suc, ◌+◌, ◌*◌, ◌<◌, Bool, true, false, not, cond, ◌&&◌, ◌||◌, length, ℤ, pos, negsuc, neg_ℤ, ◌<ℤ◌, List, [], ◌∷◌, ◌++◌, sym, ap, ◌∙◌, subst, refl, arith, inl, inr, ◌⊎◌, Contains, IsPermutation}
 use Rattle.std.specs.Ordering.{int_cmp, is_lt, MatchOrdering}
 use Rattle.std.specs.List.{list_any, AllByRecursion}
 use Rattle.std.specs.declared.cmp.Ordering.{Ordering}
@@ -13,7 +13,7 @@ use Rattle.std.proofs.lemmas.List.Kept.{Contains-dedup, Contains-from_dedup, IsS
 use Rattle.std.proofs.lemmas.Bool.{true≢false, false≢true, or_cases, or_left, or_right, cases_Bool}
 use Rattle.std.proofs.lemmas.Bool.Decides.{Decides-int_eq}
 use Rattle.std.proofs.lemmas.Int.{ints}
-use Rattle.clause_core.specs.Literals.{Lit, number_of, literal_of, negation, same, has}
+use Rattle.clause_core.specs.Literals.{Lit, number_of, literal_of, negation, same, has, code_of}
 use Rattle.clause_core.specs.Clauses.{IsIncreasing, with_literal, in_order, is_contained, has_pair}
 
 -- two tests that imply each other are equal
@@ -417,3 +417,22 @@ above_tested a b h n = tells (number_of a) (number_of b) (int_cmp (number_of a) 
     tells x y Less m h k = absurd (false≢true (sym h))
     tells x y Equal m h k = absurd (k m)
     tells x y Greater m h k = m
+
+-- ---- codes
+
+-- two literals of one code are one
+pub code_one : (a b : Lit) → code_of a ≡ code_of b → a ≡ b
+code_one a b h = by_sign a.index b.index a.positive b.positive h
+  where
+    by_sign : (i j : ℕ) (p q : Bool) → 2 * i + cond p 1 0 ≡ 2 * j + cond q 1 0 → ◌≡◌ {A = Lit} (record { index = i; positive = p }) (record { index = j; positive = q })
+    by_sign i j true true e = ap (λ (k : ℕ). record { index = k; positive = true }) (let s : i ≡ j = omega arith in s)
+    by_sign i j true false e = absurd (omega arith)
+    by_sign i j false true e = absurd (omega arith)
+    by_sign i j false false e = ap (λ (k : ℕ). record { index = k; positive = false }) (let s : i ≡ j = omega arith in s)
+
+pub code_within : (variables : ℕ) (l : Lit) → l.index < variables → code_of l < 2 * variables
+code_within variables l below = by_sign l.positive
+  where
+    by_sign : (p : Bool) → 2 * l.index + cond p 1 0 < 2 * variables
+    by_sign true = omega arith
+    by_sign false = omega arith

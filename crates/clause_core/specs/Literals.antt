@@ -1,5 +1,5 @@
 -- Literals as pure values.
-use Rattle.std.specs.Prelude.{◌≡◌, ◌≢◌, ℕ, zero, suc, pred, Bool, true, false, not, cond, ℤ, pos, negsuc, refl, List}
+use Rattle.std.specs.Prelude.{◌≡◌, ◌≢◌, ℕ, zero, suc, pred, ◌+◌, ◌*◌, Bool, true, false, not, cond, ℤ, pos, negsuc, refl, List}
 use Rattle.std.specs.Ordering.{int_eq}
 use Rattle.std.specs.List.{list_any}
 
@@ -21,6 +21,10 @@ literal_of (negsuc n) = record { index = n; positive = false }
 -- the literal of the opposite number
 abbrev pub negation : Lit → Lit
 negation l = record { index = l.index; positive = not l.positive }
+
+-- the place of a literal in a list with two members for each variable: the negative literal's before the positive one's
+abbrev pub code_of : Lit → ℕ
+code_of l = 2 * l.index + cond l.positive 1 0
 
 -- whether two literals are one
 abbrev pub same : Lit → Lit → Bool

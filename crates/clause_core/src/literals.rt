@@ -1,7 +1,7 @@
 //! Literals: a variable, or its negation.
 
 ghost use Rattle.std.specs.Prelude.{◌≡◌, ◌≢◌, ◌⊎◌, ◌↔◌, ◌+◌, ◌^◌, ◌<◌, pos, negsuc, IsTrue, IsNone, IfSome};
-ghost use Rattle.clause_core.specs.Literals.{number_of, negation};
+ghost use Rattle.clause_core.specs.Literals.{number_of, code_of, negation};
 
 use std::marker::Model;
 
@@ -85,6 +85,14 @@ impl Literal {
         ensures in_range { result + 1 < 2 ^ 31 }
     {
         self.variable() as usize - 1
+    }
+
+    /// Its place in a list with two members for each variable, the negative literal's before the
+    /// positive one's.
+    pub fn code(self) -> usize
+        ensures { result ≡ code_of self }
+    {
+        2 * self.index() + usize::from(self.is_positive())
     }
 
     /// Whether it is the variable itself, and not its negation.

@@ -1,5 +1,5 @@
 -- Small cases of the definitions, accepted and refused.
-use Rattle.std.proofs.Common.{◌≡◌, ℕ, zero, suc, ◌+◌, ◌^◌, ◌<◌, ◌≤◌, inl, inr, Bool, true, false, List, [], ◌∷◌, length, Some, None, slice_get, pos, negsuc, refl, sym, ap, arith, lit<}
+use Rattle.std.proofs.Common.{◌≡◌, ℕ, zero, suc, ◌+◌, ◌^◌, ◌<◌, ◌≤◌, inl, inr, Bool, true, false, List, [], ◌∷◌, length, Some, None, slice_get, pos, negsuc, refl, sym, ap, subst, arith, lit<}
 use Rattle.std.specs.Prelude.{nat_lt, map}
 use Rattle.std.proofs.lemmas.Bool.{false≢true, or_cases, or_left}
 use Rattle.std.proofs.lemmas.Option.{none-some, same_Some}
@@ -10,9 +10,8 @@ use Rattle.clause_core.specs.Propagation.Reaches.{done, turn}
 use Rattle.clause_core.proofs.Sets.{IsIncreasing-in_order}
 use Rattle.clause_core.proofs.Semantics.{reached_within, none_false_within}
 use Rattle.sat_trail.specs.declared.entries.Entry.{Entry}
-use Rattle.sat_trail.specs.declared.entries.Look.TheVariants.{Neither}
-use Rattle.sat_trail.specs.Entries.{entry_of, look_of}
-use Rattle.sat_trail.proofs.Steps.{quiet_from}
+use Rattle.sat_trail.specs.Entries.{entry_of}
+use Rattle.sat_trail.proofs.Steps.{IsOpen, open_two, open_true, quiet_from}
 use Rattle.refutation_check.specs.declared.steps.Step.{Step}
 use Rattle.sat_core.proofs.Numbering.{is_numbered}
 use Rattle.sat_core.specs.Lessons.{step_of}
@@ -83,21 +82,21 @@ no_empty_clause h = none-some _ (sym h.accepted)
 
 -- behind 1 2 and 1 -2 nothing is found as long as nothing is true
 quiet_first : IsQuiet pair []
-quiet_first = quiet_from [] pair (λ k c below at. each k c at)
+quiet_first = quiet_from [] pair each
   where
-    each : (k : ℕ) (c : List Lit) → slice_get pair k ≡ Some c → look_of [] c ≡ Neither
-    each zero c at = ap (look_of []) (sym (same_Some (a ∷ b ∷ []) c at))
-    each (suc zero) c at = ap (look_of []) (sym (same_Some (negation b ∷ a ∷ []) c at))
+    each : (k : ℕ) (c : List Lit) → slice_get pair k ≡ Some c → IsOpen [] c
+    each zero c at = subst (IsOpen []) (same_Some (a ∷ b ∷ []) c at) (open_two [] (a ∷ b ∷ []) (lit< tt))
+    each (suc zero) c at = subst (IsOpen []) (same_Some (negation b ∷ a ∷ []) c at) (open_two [] (negation b ∷ a ∷ []) (lit< tt))
     each (suc (suc k)) c at = absurd (none-some c at)
 
 -- with the clause 1 behind them, 1 is true, and that is all
 quiet_last : IsQuiet ((a ∷ b ∷ []) ∷ (negation b ∷ a ∷ []) ∷ (a ∷ []) ∷ []) (a ∷ [])
-quiet_last = quiet_from (a ∷ []) ((a ∷ b ∷ []) ∷ (negation b ∷ a ∷ []) ∷ (a ∷ []) ∷ []) (λ k c below at. each k c at)
+quiet_last = quiet_from (a ∷ []) ((a ∷ b ∷ []) ∷ (negation b ∷ a ∷ []) ∷ (a ∷ []) ∷ []) each
   where
-    each : (k : ℕ) (c : List Lit) → slice_get ((a ∷ b ∷ []) ∷ (negation b ∷ a ∷ []) ∷ (a ∷ []) ∷ []) k ≡ Some c → look_of (a ∷ []) c ≡ Neither
-    each zero c at = ap (look_of (a ∷ [])) (sym (same_Some (a ∷ b ∷ []) c at))
-    each (suc zero) c at = ap (look_of (a ∷ [])) (sym (same_Some (negation b ∷ a ∷ []) c at))
-    each (suc (suc zero)) c at = ap (look_of (a ∷ [])) (sym (same_Some (a ∷ []) c at))
+    each : (k : ℕ) (c : List Lit) → slice_get ((a ∷ b ∷ []) ∷ (negation b ∷ a ∷ []) ∷ (a ∷ []) ∷ []) k ≡ Some c → IsOpen (a ∷ []) c
+    each zero c at = subst (IsOpen (a ∷ [])) (same_Some (a ∷ b ∷ []) c at) (open_two (a ∷ []) (a ∷ b ∷ []) (lit< tt))
+    each (suc zero) c at = subst (IsOpen (a ∷ [])) (same_Some (negation b ∷ a ∷ []) c at) (open_two (a ∷ []) (negation b ∷ a ∷ []) (lit< tt))
+    each (suc (suc zero)) c at = subst (IsOpen (a ∷ [])) (same_Some (a ∷ []) c at) (open_true (a ∷ []) (a ∷ []) a refl refl)
     each (suc (suc (suc k))) c at = absurd (none-some c at)
 
 -- 1 follows from 1 2 and 1 -2: with 1 false, 1 2 makes 2 true, and 1 -2 is false

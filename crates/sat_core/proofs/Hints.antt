@@ -7,6 +7,7 @@ use Rattle.clause_core.proofs.Sets.{same_tests, same_is, same_from, negation-neg
 use Rattle.sat_trail.specs.declared.entries.Entry.{Entry}
 use Rattle.sat_trail.specs.Entries.{literals_of, place_of}
 use Rattle.sat_trail.specs.States.{TrailState}
+use Rattle.sat_trail.proofs.Steps.{has_not_false, has_one}
 use Rattle.sat_trail.proofs.Places.{AreApart, slice_get_one, slice_get-take, place_of_entry, has_entry, entry_has, one_entry}
 use Rattle.refutation_check.specs.Checking.{numbered_from, clause_named, effect_of_open, effect_of_named, led_to, refused_hint}
 use Rattle.refutation_check.specs.Checking.Effect.{makes, shows_nothing}
@@ -30,22 +31,6 @@ pub not_false_same : (a b clause : List Lit) → ((l : Lit) → has clause l ≡
 not_false_same a b [] h = refl
 not_false_same a b (x ∷ xs) h =
     ap (λ (t : Bool). cond (not t) (x ∷ not_false a xs) (not_false a xs)) (h x (or_left (same x x) (has xs x) (same_from x x refl))) ∙ ap (λ (ls : List Lit). cond (not (has b (negation x))) (x ∷ ls) ls) (not_false_same a b xs (λ l t. h l (or_right (same x l) (has xs l) t)))
-
-pub has_not_false : (trues clause : List Lit) (l : Lit) → has clause l ≡ true → has trues (negation l) ≡ false → has (not_false trues clause) l ≡ true
-has_not_false trues [] l h n = absurd (false≢true h)
-has_not_false trues (x ∷ xs) l h n =
-    elim (or_cases (same x l) (has xs l) h) [
-      | inl t ↦ (let open' : has trues (negation x) ≡ false = ap (λ (z : Lit). has trues (negation z)) (same_is x l t) ∙ n in
-          ap (λ (ls : List Lit). has ls l) (cond-true (not (has trues (negation x))) (x ∷ not_false trues xs) (not_false trues xs) (ap not open')) ∙ or_left (same x l) (has (not_false trues xs) l) t)
-      | inr t ↦ by_test (not (has trues (negation x))) (has_not_false trues xs l t n)
-    ]
-  where
-    by_test : (b : Bool) → has (not_false trues xs) l ≡ true → has (cond b (x ∷ not_false trues xs) (not_false trues xs)) l ≡ true
-    by_test true h = or_right (same x l) (has (not_false trues xs) l) h
-    by_test false h = h
-
-pub has_one : (x l : Lit) → has (x ∷ []) l ≡ true → x ≡ l
-has_one x l h = elim (or_cases (same x l) false h) [ inl t ↦ same_is x l t | inr f ↦ absurd (false≢true f) ]
 
 pub has-map-negation : (xs : List Lit) (l : Lit) → has (map negation xs) l ≡ has xs (negation l)
 has-map-negation [] l = refl

@@ -17,7 +17,7 @@ use Rattle.sat_trail.specs.Entries.{literals_of, place_of, entry_of}
 use Rattle.sat_trail.specs.States.{TrailState, IsSound, started, decided, with_clause, undone, up_to, Propagates}
 use Rattle.sat_trail.proofs.Places.{AreApart, slice_get_push, slice_get-take, place_from-front, place_from-after, place_here, has_entry, one_entry}
 use Rattle.sat_trail.proofs.Soundness.{apart_from, level_within}
-use Rattle.sat_trail.proofs.Steps.{up_to_all, up_to-push, unset_from}
+use Rattle.sat_trail.proofs.Steps.{up_to_all, up_to-push, unset_from, has_not_false, has_one}
 use Rattle.refutation_check.specs.declared.steps.Step.{Step}
 use Rattle.refutation_check.specs.declared.steps.Log.{Log}
 use Rattle.refutation_check.specs.Checking.{Numbered, numbered_from, clause_named, effect_of_open, effect_of_named, led_to, refused_hint, Refusal, step_refusal, first_of, steps_refusal, is_empty, end_refusal, HaveFewHints}
@@ -31,7 +31,7 @@ use Rattle.sat_core.specs.Choices.{AreSet, AreDecisions, AreTruths}
 use Rattle.sat_core.specs.declared.answers.Answer.{Answer}
 use Rattle.sat_core.specs.declared.answers.Answer.TheVariants.{Sat, Unsat, Spent}
 use Rattle.sat_core.specs.Answers.{AreSatisfying, AreRefuting, IsWholeTrace, IsAnswer, IsEnd}
-use Rattle.sat_core.proofs.Hints.{has-map-negation, has_not_false, has_one}
+use Rattle.sat_core.proofs.Hints.{has-map-negation}
 use Rattle.sat_core.proofs.Numbering.{is_numbered, numbered_more}
 use Rattle.sat_core.proofs.Walking.{up_to_has, up_to_from}
 use Rattle.sat_core.proofs.Counting.{trace_is_short, filter-has}

@@ -1,3 +1,4 @@
 pub mod Places
 pub mod Soundness
 pub mod Steps
+pub mod Watching

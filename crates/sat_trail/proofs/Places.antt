@@ -1,15 +1,15 @@
 -- Entries by their places and by their variables.
-use Rattle.std.proofs.Common.{◌≡◌, ℕ, zero, suc, ◌+◌, ◌<◌, ◌≤◌, Bool, true, false, not, cond, ◌||◌, List, [], ◌∷◌, ◌++◌, length, set, map, take, drop, get_or, Option, Some, None, slice_get, sym, ap, ◌∙◌, subst, refl, arith, eqb, inl, inr, ◌⊎◌}
+use Rattle.std.proofs.Common.{◌≡◌, ℕ, zero, suc, ◌+◌, ◌*◌, ◌<◌, ◌≤◌, Bool, true, false, not, cond, ◌||◌, List, [], ◌∷◌, ◌++◌, length, set, map, take, drop, get_or, Option, Some, None, slice_get, sym, ap, ◌∙◌, subst, refl, arith, eqb, inl, inr, ◌⊎◌}
 use Rattle.std.specs.List.{IsDistinct, AllByRecursion, list_any}
 use Rattle.std.proofs.lemmas.Bool.{true≢false, false≢true, or_cases, or_left, or_right, or_from, cases_Bool, cases_eq, cases_lt, eqb-true, eqb-false, eq-eqb, ne_eqb, false_from_ne_true, cond-true, cond-false}
 use Rattle.std.proofs.lemmas.Option.{none-some, same_Some, slice_get_within, slice_get-get_or, get_or_from_slice_get}
 use Rattle.std.proofs.lemmas.List.{length-take-le, get_or-set_same, get_or-set_other, length-set, take_at}
 use Rattle.std.proofs.lemmas.Map.Steps.{length-le_from_distinct_below}
-use Rattle.clause_core.specs.Literals.{Lit, negation, same, has}
-use Rattle.clause_core.proofs.Sets.{same_is, same_from}
+use Rattle.clause_core.specs.Literals.{Lit, negation, same, has, code_of}
+use Rattle.clause_core.proofs.Sets.{same_is, same_from, code_one, code_within}
 use Rattle.sat_trail.specs.declared.entries.Entry.{Entry}
 use Rattle.sat_trail.specs.Entries.{literals_of, place_from, place_of, value_of}
-use Rattle.sat_trail.specs.States.{IsTable}
+use Rattle.sat_trail.specs.States.{IsTable, AreTruths}
 
 -- ---- lists by places
 
@@ -254,3 +254,47 @@ table_pop variables places es e table below unset = record {
         by_place : (o : Option ℕ) → place_of es i ≡ o → place_of (es ++ e ∷ []) i ≡ o
         by_place None is = place_from-after 0 es (e ∷ []) i is ∙ place_elsewhere (0 + length es) e [] i (λ h. apart (sym h))
         by_place (Some p) is = place_from-front 0 es (e ∷ []) i p is
+
+-- ---- the truths of literals
+
+has_push : (es : List Entry) (e : Entry) (l : Lit) → same e.literal l ≡ false → has (literals_of (es ++ e ∷ [])) l ≡ has (literals_of es) l
+has_push [] e l h = ap (λ b. b || false) h
+has_push (x ∷ es) e l h = ap (λ b. same x.literal l || b) (has_push es e l h)
+
+pub truths_push : (variables : ℕ) (truths : List Bool) (es : List Entry) (e : Entry) → AreTruths variables truths es → e.literal.index < variables → AreTruths variables (set truths (code_of e.literal) true) (es ++ e ∷ [])
+truths_push variables truths es e table below = record {
+  all = length-set truths (code_of e.literal) true ∙ table.all;
+  each = λ l in'. elim (cases_eq (code_of l) (code_of e.literal)) [
+    | inl is ↦ ap (slice_get (set truths (code_of e.literal) true)) is ∙ (slice_get_set_same truths (code_of e.literal) true within ∙ ap Some (sym (entry_has (es ++ e ∷ []) (length es) e l (slice_get-behind es e []) (code_one e.literal l (sym is)))))
+    | inr apart ↦ slice_get_set truths (code_of e.literal) (code_of l) true apart ∙ (table.each l in' ∙ ap Some (sym (has_push es e l (differ l apart))))
+  ];
+}
+  where
+    within : code_of e.literal < length truths
+    within = omega (arith, table.all, code_within variables e.literal below)
+
+    differ : (l : Lit) → (code_of l ≡ code_of e.literal → ⊥) → same e.literal l ≡ false
+    differ l apart = false_from_ne_true (same e.literal l) (λ s. apart (ap code_of (sym (same_is e.literal l s))))
+
+pub truths_pop : (variables : ℕ) (truths : List Bool) (es : List Entry) (e : Entry) → AreTruths variables truths (es ++ e ∷ []) → e.literal.index < variables → place_of es e.literal.index ≡ None → AreTruths variables (set truths (code_of e.literal) false) es
+truths_pop variables truths es e table below unset = record {
+  all = length-set truths (code_of e.literal) false ∙ table.all;
+  each = λ l in'. elim (cases_eq (code_of l) (code_of e.literal)) [
+    | inl is ↦ ap (slice_get (set truths (code_of e.literal) false)) is ∙ (slice_get_set_same truths (code_of e.literal) false within ∙ ap Some (sym (ap (has (literals_of es)) (sym (code_one e.literal l (sym is))) ∙ unset_has 0 es e.literal unset)))
+    | inr apart ↦ slice_get_set truths (code_of e.literal) (code_of l) false apart ∙ (table.each l in' ∙ ap Some (has_push es e l (differ l apart)))
+  ];
+}
+  where
+    within : code_of e.literal < length truths
+    within = omega (arith, table.all, code_within variables e.literal below)
+
+    differ : (l : Lit) → (code_of l ≡ code_of e.literal → ⊥) → same e.literal l ≡ false
+    differ l apart = false_from_ne_true (same e.literal l) (λ s. apart (ap code_of (sym (same_is e.literal l s))))
+
+-- what the table has at a literal's code
+pub truth_at : (variables : ℕ) (truths : List Bool) (es : List Entry) (l : Lit) (code : ℕ) (b : Bool) → AreTruths variables truths es → l.index < variables → code ≡ code_of l → b ≡ get_or truths code b → b ≡ has (literals_of es) l
+truth_at variables truths es l code b table below is read =
+    read ∙ get_or_from_slice_get truths code (has (literals_of es) l) b (ap (slice_get truths) is ∙ table.each l below)
+
+pub code_inside : (variables : ℕ) (truths : List Bool) (es : List Entry) (l : Lit) → AreTruths variables truths es → l.index < variables → code_of l < length truths
+code_inside variables truths es l table below = omega (arith, table.all, code_within variables l below)

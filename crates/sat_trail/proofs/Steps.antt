@@ -1,5 +1,5 @@
 -- What a call looks at, and what it does with that.
-use Rattle.std.proofs.Common.{replicate, set, leb, ◌≡◌, ℕ, zero, suc, ◌+◌, ◌-◌, ◌<◌, ◌≤◌, ◌^◌, min, Bool, true, false, not, cond, List, [], ◌∷◌, ◌++◌, length, take, filter, map, Option, Some, None, slice_get, get_or, sym, ap, ◌∙◌, subst, refl, arith, inl, inr, ◌⊎◌, MatchOption, All, Contains}
+use Rattle.std.proofs.Common.{replicate, set, leb, ◌≡◌, ℕ, zero, suc, ◌+◌, ◌-◌, ◌*◌, ◌<◌, ◌≤◌, ◌^◌, min, Bool, true, false, not, cond, List, [], ◌∷◌, ◌++◌, length, take, filter, map, Option, Some, None, slice_get, get_or, sym, ap, ◌∙◌, subst, refl, arith, inl, inr, ◌⊎◌, MatchOption, All, Contains}
 use Rattle.std.specs.Prelude.{IsSome, position}
 use Rattle.std.specs.List.{AllByRecursion, position_from}
 use Rattle.std.proofs.lemmas.Iterator.Adapters.{position_from-zero}
@@ -7,65 +7,15 @@ use Rattle.std.proofs.lemmas.Option.{slice_get_within, same_Some, none-some, sli
 use Rattle.std.proofs.lemmas.List.{length-replicate, get_or-replicate, take_more, take_at, append_assoc, append-nil, length_push, length-append, take-append-le, take_all, length-take-le, take-take}
 use Rattle.std.proofs.lemmas.List.Elements.{All-push, All-nil, All-append, All-contains, All-from_recursion}
 use Rattle.std.proofs.lemmas.Bool.{or_cases, or_left, or_right, true≢false, false≢true, cases_lt, cases_Bool, le-leb, lt-leb, cond-true, cond-false}
-use Rattle.clause_core.specs.Literals.{Lit, negation, same, has}
+use Rattle.clause_core.specs.Literals.{Lit, negation, same, has, code_of}
 use Rattle.clause_core.specs.Clauses.{IsIncreasing, in_order, IsOver, has_pair}
 use Rattle.clause_core.specs.Propagation.{not_false, IsFalse, IsUnit, IsQuiet, SomeFalse}
-use Rattle.clause_core.proofs.Sets.{one_increasing, IsIncreasing-in_order, has-in_order, has_from_Contains, Contains_from_has, same_is}
+use Rattle.clause_core.proofs.Sets.{IsIncreasing-apart, same_from, one_increasing, IsIncreasing-in_order, has-in_order, has_from_Contains, Contains_from_has, same_is, code_within}
 use Rattle.sat_trail.specs.declared.entries.Entry.{Entry}
-use Rattle.sat_trail.specs.declared.entries.Look.{Look}
-use Rattle.sat_trail.specs.declared.entries.Look.TheVariants.{Falsified, Forces, Neither}
-use Rattle.sat_trail.specs.Entries.{literals_of, level_of, place_of, value_of, IsForced, MayStand, look_of, look_of_open}
-use Rattle.sat_trail.specs.States.{started, IsTable, TrailState, IsSound, extended, with_clause, up_to, Propagates, IsFalseAt, EndsWith, Passes}
+use Rattle.sat_trail.specs.Entries.{literals_of, level_of, place_of, value_of, IsForced, MayStand}
+use Rattle.sat_trail.specs.States.{started, IsTable, TrailState, IsSound, extended, with_clause, up_to, Propagates, IsFalseAt, EndsWith, AreTruths}
 use Rattle.sat_trail.proofs.Places.{AreApart, place_found, unset_has, value_set, entry_has, one_variable, split_at, take_next, table_pop, slice_get-behind, slice_get_some}
 use Rattle.sat_trail.proofs.Soundness.{apart_from, stand_take, level_step, level_within, level_at_next, levels_rise, level_of-push, AllStand}
-
--- ---- what a clause is
-
-abbrev is_falsified : Look → Bool
-is_falsified Falsified = true
-is_falsified (Forces l) = false
-is_falsified Neither = false
-
-abbrev is_forced : Look → Bool
-is_forced Falsified = false
-is_forced (Forces l) = true
-is_forced Neither = false
-
-abbrev forced_or : Lit → Look → Lit
-forced_or d Falsified = d
-forced_or d (Forces l) = l
-forced_or d Neither = d
-
-pub falsified_is : (trues clause : List Lit) → Falsified ≡ look_of trues clause → IsFalse trues clause
-falsified_is trues clause h = by_open (not_false trues clause) h
-  where
-    by_open : (ls : List Lit) → Falsified ≡ look_of_open trues ls → ls ≡ []
-    by_open [] h = refl
-    by_open (l ∷ []) h = by_test (has trues l) h
-      where
-        by_test : (b : Bool) → Falsified ≡ cond b Neither (Forces l) → l ∷ [] ≡ []
-        by_test true h = absurd (true≢false (ap is_falsified h))
-        by_test false h = absurd (true≢false (ap is_falsified h))
-    by_open (l ∷ m ∷ ms) h = absurd (true≢false (ap is_falsified h))
-
-pub forced_is : (trues clause : List Lit) (l : Lit) → Forces l ≡ look_of trues clause → IsUnit trues clause l
-forced_is trues clause l h = let r = by_open (not_false trues clause) h in record { others_false = r.0; unassigned = r.1 }
-  where
-    by_open : (ls : List Lit) → Forces l ≡ look_of_open trues ls → (ls ≡ l ∷ []) × (has trues l ≡ false)
-    by_open [] h = absurd (true≢false (ap is_forced h))
-    by_open (m ∷ []) h = by_test (has trues m) refl h
-      where
-        by_test : (b : Bool) → has trues m ≡ b → Forces l ≡ cond b Neither (Forces m) → (m ∷ [] ≡ l ∷ []) × (has trues l ≡ false)
-        by_test true t h = absurd (true≢false (ap is_forced h))
-        by_test false t h = let e : l ≡ m = ap (forced_or l) h in (ap (λ (z : Lit). z ∷ []) (sym e), ap (has trues) e ∙ t)
-    by_open (m ∷ k ∷ ms) h = absurd (true≢false (ap is_forced h))
-
-pub neither_not_false : (trues clause : List Lit) → look_of trues clause ≡ Neither → IsFalse trues clause → ⊥
-neither_not_false trues clause h f = true≢false (ap is_falsified (sym (ap (look_of_open trues) f) ∙ h))
-
-pub neither_not_unit : (trues clause : List Lit) (l : Lit) → look_of trues clause ≡ Neither → IsUnit trues clause l → ⊥
-neither_not_unit trues clause l h u =
-    true≢false (ap is_forced (sym (ap (look_of_open trues) u.others_false ∙ cond-false (has trues l) Neither (Forces l) u.unassigned) ∙ h))
 
 -- ---- entries that may stand
 
@@ -99,9 +49,43 @@ unset_from es l f g = by_place (place_of es l.index) refl
 pub contains_at : {X : Type 0} (xs : List X) (k : ℕ) (x : X) → slice_get xs k ≡ Some x → Contains xs x
 contains_at xs k x at = (k, slice_get_within xs k x at, get_or_from_slice_get xs k x x at)
 
-pub forced_may_stand : (t : TrailState) → IsSound t → (number : ℕ) (clause : List Lit) (l : Lit) → slice_get t.clauses number ≡ Some clause → Forces l ≡ look_of (literals_of t.entries) clause → MayStand t.variables t.clauses t.entries (record { literal = l; level = t.level; reason = Some number })
-forced_may_stand t sound number clause l named look =
-    let unit = forced_is (literals_of t.entries) clause l look in
+pub has_one : (x l : Lit) → has (x ∷ []) l ≡ true → x ≡ l
+has_one x l h = elim (or_cases (same x l) false h) [ inl t ↦ same_is x l t | inr f ↦ absurd (false≢true f) ]
+
+pub has_not_false : (trues clause : List Lit) (l : Lit) → has clause l ≡ true → has trues (negation l) ≡ false → has (not_false trues clause) l ≡ true
+has_not_false trues [] l h n = absurd (false≢true h)
+has_not_false trues (x ∷ xs) l h n =
+    elim (or_cases (same x l) (has xs l) h) [
+      | inl t ↦ (let open' : has trues (negation x) ≡ false = ap (λ (z : Lit). has trues (negation z)) (same_is x l t) ∙ n in
+          ap (λ (ls : List Lit). has ls l) (cond-true (not (has trues (negation x))) (x ∷ not_false trues xs) (not_false trues xs) (ap not open')) ∙ or_left (same x l) (has (not_false trues xs) l) t)
+      | inr t ↦ by_test (not (has trues (negation x))) (has_not_false trues xs l t n)
+    ]
+  where
+    by_test : (b : Bool) → has (not_false trues xs) l ≡ true → has (cond b (x ∷ not_false trues xs) (not_false trues xs)) l ≡ true
+    by_test true h = or_right (same x l) (has (not_false trues xs) l) h
+    by_test false h = h
+
+-- nothing is left of a clause whose literals are all false
+pub none_not_false : (trues clause : List Lit) → ((m : Lit) → has clause m ≡ true → has trues (negation m) ≡ true) → not_false trues clause ≡ []
+none_not_false trues [] all = refl
+none_not_false trues (x ∷ xs) all =
+    cond-false (not (has trues (negation x))) (x ∷ not_false trues xs) (not_false trues xs) (ap not (all x (or_left (same x x) (has xs x) (same_from x x refl)))) ∙ none_not_false trues xs (λ m h. all m (or_right (same x m) (has xs m) h))
+
+-- one literal is left where it is not false and the others are
+pub one_not_false : (trues clause : List Lit) (l : Lit) → IsIncreasing clause → has clause l ≡ true → has trues (negation l) ≡ false → ((m : Lit) → has clause m ≡ true → (m ≡ l → ⊥) → has trues (negation m) ≡ true) → not_false trues clause ≡ l ∷ []
+one_not_false trues [] l up h open' others = absurd (false≢true h)
+one_not_false trues (x ∷ xs) l up h open' others = elim (cases_Bool (same x l)) [
+  | inl t ↦ (let is : x ≡ l = same_is x l t in
+      cond-true (not (has trues (negation x))) (x ∷ not_false trues xs) (not_false trues xs) (ap not (ap (λ (z : Lit). has trues (negation z)) is ∙ open')) ∙ (ap (λ (ls : List Lit). x ∷ ls) (none_not_false trues xs (λ m k. others m (or_right (same x m) (has xs m) k) (λ e. IsIncreasing-apart x xs up (ap (has xs) (is ∙ sym e) ∙ k)))) ∙ ap (λ (z : Lit). z ∷ []) is))
+  | inr f ↦ (let apart : x ≡ l → ⊥ = λ e. true≢false (sym (same_from x l e) ∙ f) in
+      cond-false (not (has trues (negation x))) (x ∷ not_false trues xs) (not_false trues xs) (ap not (others x (or_left (same x x) (has xs x) (same_from x x refl)) apart)) ∙ one_not_false trues xs l up.1 (in_rest f) open' (λ m k. others m (or_right (same x m) (has xs m) k)))
+]
+  where
+    in_rest : same x l ≡ false → has xs l ≡ true
+    in_rest f = elim (or_cases (same x l) (has xs l) h) [ inl t ↦ absurd (true≢false (sym t ∙ f)) | inr t ↦ t ]
+
+pub forced_may_stand : (t : TrailState) → IsSound t → (number : ℕ) (clause : List Lit) (l : Lit) → slice_get t.clauses number ≡ Some clause → IsUnit (literals_of t.entries) clause l → MayStand t.variables t.clauses t.entries (record { literal = l; level = t.level; reason = Some number })
+forced_may_stand t sound number clause l named unit =
     let member = not_false_member (literals_of t.entries) clause l unit.others_false in
     record {
       over = All-contains (λ m. m.index < t.variables) clause l (All-contains (IsOver t.variables) t.clauses clause sound.over (contains_at t.clauses number clause named)) (Contains_from_has clause l member.0);
@@ -147,22 +131,33 @@ propagates_after old t new first then' = record {
 pub propagates_length : (old new : TrailState) → Propagates old new → length old.entries ≤ length new.entries
 propagates_length old new grows = omega (arith, ap (λ (s : TrailState). length s.entries) grows.rest_stays, length-append old.entries grows.added)
 
--- the clauses that were looked at, with one more
-pub neither_more : (trues : List Lit) (clauses : List (List Lit)) (n : ℕ) (clause : List Lit) → ((k : ℕ) (c : List Lit) → k < n → slice_get clauses k ≡ Some c → look_of trues c ≡ Neither) → slice_get clauses n ≡ Some clause → Neither ≡ look_of trues clause → (k : ℕ) (c : List Lit) → k < n + 1 → slice_get clauses k ≡ Some c → look_of trues c ≡ Neither
-neither_more trues clauses n clause below named look k c within at =
-    elim (cases_lt k n) [
-      | inl h ↦ below k c h at
-      | inr h ↦ (let e : k ≡ n = omega arith in
-          ap (look_of trues) (same_Some c clause (sym at ∙ (ap (slice_get clauses) e ∙ named))) ∙ sym look)
-    ]
-
 contained_at : (clauses : List (List Lit)) (c : List Lit) → Contains clauses c → (k : ℕ) × (slice_get clauses k ≡ Some c)
 contained_at clauses c (k, below, is) = (k, slice_get-get_or clauses k c below ∙ ap Some is)
 
-pub quiet_from : (trues : List Lit) (clauses : List (List Lit)) → ((k : ℕ) (c : List Lit) → k < length clauses → slice_get clauses k ≡ Some c → look_of trues c ≡ Neither) → IsQuiet clauses trues
+-- the clause is not false, and not one unassigned literal with all others false
+pub record IsOpen (trues clause : List Lit) : Type 0 where
+  pub not_all_false : IsFalse trues clause → ⊥
+  pub not_unit : (l : Lit) → IsUnit trues clause l → ⊥
+
+-- two of its literals are not false
+pub open_two : (trues clause : List Lit) → 1 < length (not_false trues clause) → IsOpen trues clause
+open_two trues clause h = record {
+  not_all_false = λ e. omega (arith, h, ap length e);
+  not_unit = λ l u. omega (arith, h, ap length u.others_false);
+}
+
+-- one of its literals is true
+pub open_true : (trues clause : List Lit) (l : Lit) → has (not_false trues clause) l ≡ true → has trues l ≡ true → IsOpen trues clause
+open_true trues clause l left is_true = record {
+  not_all_false = λ e. false≢true (sym (ap (λ (ls : List Lit). has ls l) e) ∙ left);
+  not_unit = λ m u. (let e = has_one m l (ap (λ (ls : List Lit). has ls l) (sym u.others_false) ∙ left) in
+      true≢false (sym (ap (has trues) e ∙ is_true) ∙ u.unassigned));
+}
+
+pub quiet_from : (trues : List Lit) (clauses : List (List Lit)) → ((k : ℕ) (c : List Lit) → slice_get clauses k ≡ Some c → IsOpen trues c) → IsQuiet clauses trues
 quiet_from trues clauses all = record {
-  none_false = λ (c, in', f). (let r = contained_at clauses c in' in neither_not_false trues c (all r.0 c (slice_get_within clauses r.0 c r.1) r.1) f);
-  none_unit = λ c l in' u. (let r = contained_at clauses c in' in neither_not_unit trues c l (all r.0 c (slice_get_within clauses r.0 c r.1) r.1) u);
+  none_false = λ (c, in', f). (let r = contained_at clauses c in' in (all r.0 c r.1).not_all_false f);
+  none_unit = λ c l in' u. (let r = contained_at clauses c in' in (all r.0 c r.1).not_unit l u);
 }
 
 -- ---- taking back
@@ -206,6 +201,7 @@ pub record TakesBack (variables level : ℕ) (places : List (Option ℕ)) (start
   pub shorter : length ys + 1 ≡ length es
   pub left : up_to level ys ≡ up_to level es
   pub table : IsTable variables (set places e.literal.index None) ys
+  pub unset : place_of ys e.literal.index ≡ None
   pub top : level ≤ level_of ys
 
 pub takes_back : (variables : ℕ) (clauses : List (List Lit)) (level : ℕ) (places : List (Option ℕ)) (start es ys : List Entry) (e : Entry) → AllStand variables clauses start → es ≡ take (length es) start → IsTable variables places es → es ≡ ys ++ e ∷ [] → level < e.level → TakesBack variables level places start es ys e
@@ -221,6 +217,7 @@ takes_back variables clauses level places start es ys e stand front table is abo
       shorter = n;
       left = sym (ap (up_to level) is ∙ up_to-push level ys e above);
       table = table_pop variables places ys e (subst (IsTable variables places) is table) may.over may.unset;
+      unset = may.unset;
       top = omega (arith, (level_step variables clauses ys e may).1);
     }
 
@@ -270,6 +267,15 @@ pub table_started : (variables : ℕ) (places : List (Option ℕ)) → places �
 table_started variables places is = record {
   all = ap length is ∙ length-replicate variables None;
   each = λ i below. ap (λ (xs : List (Option ℕ)). slice_get xs i) is ∙ (slice_get-get_or (replicate variables None) i None (omega (arith, length-replicate {A = Option ℕ} variables None)) ∙ ap Some (get_or-replicate variables i None None below));
+}
+
+none_true : (n i : ℕ) → i < n → slice_get (replicate n false) i ≡ Some false
+none_true n i below = slice_get-get_or (replicate n false) i false (omega (arith, length-replicate {A = Bool} n false)) ∙ ap Some (get_or-replicate n i false false below)
+
+pub truths_started : (variables : ℕ) (truths : List Bool) → truths ≡ replicate (2 * variables) false → AreTruths variables truths []
+truths_started variables truths is = record {
+  all = ap length is ∙ length-replicate (2 * variables) false;
+  each = λ l below. ap (λ (xs : List Bool). slice_get xs (code_of l)) is ∙ none_true (2 * variables) (code_of l) (code_within variables l below);
 }
 
 -- ---- what is left

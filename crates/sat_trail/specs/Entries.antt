@@ -4,8 +4,6 @@ use Rattle.std.specs.Prelude.{◌≡◌, ℕ, suc, ◌+◌, ◌<◌, ◌==◌, B
 use Rattle.clause_core.specs.Literals.{Lit, negation, has}
 use Rattle.clause_core.specs.Propagation.{not_false}
 use Rattle.sat_trail.specs.declared.entries.Entry.{Entry}
-use Rattle.sat_trail.specs.declared.entries.Look.{Look}
-use Rattle.sat_trail.specs.declared.entries.Look.TheVariants.{Falsified, Forces, Neither}
 
 -- a literal, the level at which it is set, and the number of its reason
 abbrev pub entry_of : Lit → ℕ → Option ℕ → Entry
@@ -50,13 +48,3 @@ pub record MayStand (variables : ℕ) (clauses : List (List Lit)) (earlier : Lis
   pub over : e.literal.index < variables
   pub unset : place_of earlier e.literal.index ≡ None
   pub cause : MatchOption e.reason (e.level ≡ level_of earlier + 1) (λ number. (e.level ≡ level_of earlier) × IsForced clauses earlier number e.literal)
-
--- what is left of a clause, where these literals of it are not false
-abbrev pub look_of_open : List Lit → List Lit → Look
-look_of_open trues [] = Falsified
-look_of_open trues (l ∷ []) = cond (has trues l) Neither (Forces l)
-look_of_open trues (l ∷ m ∷ ms) = Neither
-
--- what a clause is under the literals that are true
-abbrev pub look_of : List Lit → List Lit → Look
-look_of trues clause = look_of_open trues (not_false trues clause)

@@ -1,6 +1,6 @@
 -- What a contract sees of a trail, and what the calls do to it.
-use Rattle.std.specs.Prelude.{◌≡◌, ℕ, ◌+◌, ◌^◌, ◌<◌, ◌≤◌, min, nat_le, Bool, true, false, List, [], ◌∷◌, ◌++◌, length, filter, take, Option, Some, None, slice_get, IsSome, All}
-use Rattle.clause_core.specs.Literals.{Lit}
+use Rattle.std.specs.Prelude.{◌≡◌, ℕ, ◌+◌, ◌*◌, ◌^◌, ◌<◌, ◌≤◌, min, nat_le, Bool, true, false, List, [], ◌∷◌, ◌++◌, length, filter, take, Option, Some, None, slice_get, IsSome, All}
+use Rattle.clause_core.specs.Literals.{Lit, has, code_of}
 use Rattle.clause_core.specs.Clauses.{IsOver, has_pair}
 use Rattle.clause_core.specs.Propagation.{IsFalse, IsQuiet}
 use Rattle.sat_trail.specs.declared.entries.Entry.{Entry}
@@ -75,8 +75,7 @@ pub record IsTable (variables : ℕ) (places : List (Option ℕ)) (entries : Lis
   pub all : length places ≡ variables
   pub each : (index : ℕ) → index < variables → slice_get places index ≡ Some (place_of entries index)
 
--- what one pass along the clauses ends with: a clause that is false, or none, and then no clause is
--- false or has one unassigned literal and all others false, unless a literal was set
-abbrev pub Passes : TrailState → TrailState → Option ℕ → Type 0
-Passes old new (Some number) = IsFalseAt new number
-Passes old new None = length new.entries ≡ length old.entries → IsQuiet new.clauses (literals_of new.entries)
+-- the table has the truth of each literal, by the literal's code
+pub record AreTruths (variables : ℕ) (truths : List Bool) (entries : List Entry) : Type 0 where
+  pub all : length truths ≡ 2 * variables
+  pub each : (l : Lit) → l.index < variables → slice_get truths (code_of l) ≡ Some (has (literals_of entries) l)

@@ -1,4 +1,4 @@
-//! What stands at a place of a trail, and what a clause is under the literals that are set.
+//! What stands at a place of a trail.
 
 use clause_core::Literal;
 
@@ -11,15 +11,4 @@ pub struct Entry {
     pub level: u32,
     /// The number of the clause that forced it; none where it was decided.
     pub reason: Option<u32>,
-}
-
-/// What a clause is under the literals that are set.
-#[derive(Drop)]
-pub enum Look {
-    /// Each literal is false.
-    Falsified,
-    /// This literal is unassigned, and all others are false.
-    Forces(Literal),
-    /// Neither of these.
-    Neither,
 }

@@ -6,13 +6,18 @@
 //! what holds of every trail: no variable is set twice, levels never fall along the places, each level
 //! from 1 begins with its one decided literal, and the reason of each other literal is a clause that
 //! has it and whose other literals are false by entries at smaller places. Each call is one statement
-//! on these. No contract says how propagation finds its clauses.
+//! on these. No contract says how propagation finds its clauses: each clause watches two of its
+//! literals, and is looked at where one of them becomes false.
 #![tactic(auto)]
 
 mod entries;
+mod errors;
+mod stack;
 mod trail;
+mod watches;
 
-pub use trail::{Trail, TrailError};
+pub use errors::TrailError;
+pub use trail::Trail;
 
 #[cfg(test)]
 mod tests;

@@ -3,69 +3,34 @@
 ghost use Rattle.std.specs.Prelude.{◌≡◌, ◌↔◌, ◌+◌, ◌-◌, ◌^◌, ◌<◌, ◌≤◌, ℕ, true, false, length, List, [], ◌∷◌, ◌++◌, Some, None, IfOk, OnOk, OnErr, IfSome, IfNone, All, Contains, option_map, slice_get, position, take};
 ghost use Rattle.clause_core.specs.Literals.{has};
 ghost use Rattle.clause_core.specs.Clauses.{IsOver, has_pair};
-ghost use Rattle.sat_trail.specs.Entries.{entry_of, place_of, value_of, literals_of, look_of, MayStand};
-ghost use Rattle.sat_trail.specs.States.{IsSound, started, extended, decided, with_clause, undone, Propagates, EndsWith, Passes};
+ghost use Rattle.sat_trail.specs.Entries.{place_of, value_of, literals_of};
+ghost use Rattle.sat_trail.specs.States.{IsSound, started, decided, with_clause, undone, Propagates, EndsWith};
 
-use crate::entries::{Entry, Look};
-use clause_core::{Clause, Cnf, Literal, clause_of, is_tautology};
+use crate::errors::TrailError;
+use crate::stack::Stack;
+use crate::watches::Watches;
+use clause_core::{Clause, Cnf, Literal};
 use sequence::NoMemory;
-use std::alloc::{AllocFailed, Global};
+use std::alloc::Global;
 use std::marker::Model;
-use thiserror::Error;
-
-/// Why there is no trail of a formula.
-#[derive(Debug, Drop, Error)]
-pub enum TrailError {
-    /// The clause at this place is the first that has a literal and its negation.
-    #[error("clause {0} has a literal and its negation")]
-    Tautology(u32),
-    /// Memory ran out.
-    #[error("out of memory")]
-    NoMemory,
-}
-
-impl From<NoMemory> for TrailError {
-    ghost use Rattle.std.specs.Prelude.{◌≡◌};
-    ghost use Rattle.sat_trail.specs.declared.trail.TrailError.TheVariants.{NoMemory as Exhausted};
-
-    ghost from_gives = { λ _ e. e ≡ Exhausted };
-
-    fn from(_error: NoMemory) -> TrailError {
-        TrailError::NoMemory
-    }
-}
-
-impl<T: Drop> From<AllocFailed<T>> for TrailError {
-    ghost use Rattle.std.specs.Prelude.{◌≡◌};
-    ghost use Rattle.sat_trail.specs.declared.trail.TrailError.TheVariants.{NoMemory as Exhausted};
-
-    ghost from_gives = { λ _ e. e ≡ Exhausted };
-
-    fn from(_error: AllocFailed<T>) -> TrailError {
-        TrailError::NoMemory
-    }
-}
 
 /// The literals that are set, in the order of setting, over the clauses of a formula and learnt ones.
 #[derive(Drop)]
 pub struct Trail {
-    variables: u32,
-    clauses: Vec<Clause>,
-    entries: Vec<Entry>,
-    places: Vec<Option<u32>>,
-    level: u32,
-    broken: bool,
+    stack: Stack,
+    watches: Watches,
 }
 
 impl Model for Trail {
-    ghost use Rattle.std.specs.Prelude.{◌≡◌};
-    ghost use Rattle.sat_trail.specs.States.{TrailState, IsSound, IsTable};
+    ghost use Rattle.std.specs.Prelude.{◌≡◌, false};
+    ghost use Rattle.sat_trail.specs.States.{TrailState, IsSound};
+    ghost use Rattle.sat_trail.specs.Watching.{AreWatched};
 
     ghost Value = { TrailState };
 
-    ghost view = { λ t. record { variables = t.variables; clauses = t.clauses.items; entries = t.entries.items; level = t.level; broken = t.broken } };
+    ghost view = { λ t. t.stack };
 
-    ghost invariant = { λ t. IsSound (record { variables = t.variables; clauses = t.clauses.items; entries = t.entries.items; level = t.level; broken = t.broken }) × IsTable t.variables t.places.items t.entries.items };
+    ghost invariant = { λ t. IsSound t.stack × (t.stack.broken ≡ false → AreWatched t.stack t.watches) };
 }
 
 impl Trail {
@@ -77,17 +42,14 @@ impl Trail {
         ensures sound { IfOk result IsSound }
         ensures tautology { (place : ℕ) → (result ≡ Err (TrailError.Tautology place)) ↔ (position has_pair cnf.now.clauses ≡ Some place) }
     {
-        if let Some(place) = first_tautology(cnf.clauses.as_slice()) {
-            return Err(TrailError::Tautology(place as u32));
+        let stack = match Stack::new(alloc, cnf) {
+            Ok(stack) => stack,
+            Err(error) => return Err(error),
+        };
+        match Watches::new(alloc, cnf.variables) {
+            Ok(watches) => Ok(Trail { stack, watches }),
+            Err(_) => Err(TrailError::NoMemory),
         }
-        Ok(Trail {
-            variables: cnf.variables,
-            clauses: copies(alloc, cnf.clauses.as_slice())?,
-            entries: Vec::new(alloc),
-            places: vec![in alloc; None; cnf.variables as usize]?,
-            level: 0,
-            broken: false,
-        })
     }
 
     /// Opens the next level with this literal. An `Err` says that memory ran out.
@@ -99,8 +61,7 @@ impl Trail {
         ensures sound { IsSound self.new }
         ensures err { OnErr result (self.new.broken ≡ true) }
     {
-        let level = self.level() + 1;
-        self.set(literal, level, None)
+        self.stack.decide(literal)
     }
 
     /// Sets the one unassigned literal of each clause whose other literals are all false, until there
@@ -113,11 +74,11 @@ impl Trail {
         ensures sound { IsSound self.new }
         ensures err { OnErr result (self.new.broken ≡ true) }
     {
-        loop {
-            let before = self.set_count();
-            let conflict = self.pass()?;
-            if conflict.is_some() || self.set_count() == before {
-                return Ok(conflict);
+        match self.watches.propagate(&mut self.stack) {
+            Ok(conflict) => Ok(conflict),
+            Err(error) => {
+                self.stack.give_up();
+                Err(error)
             }
         }
     }
@@ -133,12 +94,7 @@ impl Trail {
         ensures sound { IsSound self.new }
         ensures err { OnErr result (self.new.broken ≡ true) }
     {
-        let number = self.clauses.len() as u32;
-        if self.clauses.push(clause).is_err() {
-            self.broken = true;
-            return Err(NoMemory);
-        }
-        Ok(number)
+        self.stack.learn(clause)
     }
 
     /// Takes back what was set at levels above this one. The present level is then the smaller of the
@@ -149,14 +105,8 @@ impl Trail {
         ensures in_place { self.new.entries ≡ take (length self.new.entries) self.old.entries }
         ensures sound { IsSound self.new }
     {
-        while let Some(last) = self.entries.last().copied() {
-            if last.level <= level {
-                break;
-            }
-            let _ = self.entries.pop();
-            self.places[last.literal.index()] = None;
-        }
-        self.level = level.min(self.level);
+        self.stack.undo_to(level);
+        self.watches.undo(self.stack.set_count());
     }
 
     /// Whether the literal is true; none exactly where its variable is unassigned.
@@ -165,10 +115,7 @@ impl Trail {
         requires over { literal.index < self.now.variables }
         ensures { result ≡ value_of self.now.entries literal }
     {
-        match self.places[literal.index()] {
-            None => None,
-            Some(place) => Some(self.entries[place as usize].literal == literal),
-        }
+        self.stack.value(literal)
     }
 
     /// The present level, 0 at first.
@@ -178,7 +125,7 @@ impl Trail {
         ensures sound { IsSound self.now }
         ensures few { result ≤ length self.now.entries }
     {
-        self.level
+        self.stack.level()
     }
 
     /// How many literals are set.
@@ -187,7 +134,7 @@ impl Trail {
         ensures value { result ≡ length self.now.entries }
         ensures few { result ≤ self.now.variables }
     {
-        self.entries.len() as u32
+        self.stack.set_count()
     }
 
     /// The literal at a place.
@@ -196,7 +143,7 @@ impl Trail {
         requires within { place < length self.now.entries }
         ensures { option_map (λ e. e.literal) (slice_get self.now.entries place) ≡ Some result }
     {
-        self.entries[place as usize].literal
+        self.stack.set_at(place)
     }
 
     /// The level of the literal at a place.
@@ -205,7 +152,7 @@ impl Trail {
         requires within { place < length self.now.entries }
         ensures { option_map (λ e. e.level) (slice_get self.now.entries place) ≡ Some result }
     {
-        self.entries[place as usize].level
+        self.stack.level_at(place)
     }
 
     /// The number of the clause that forced the literal at a place; none exactly where it was decided.
@@ -214,7 +161,7 @@ impl Trail {
         requires within { place < length self.now.entries }
         ensures { option_map (λ e. e.reason) (slice_get self.now.entries place) ≡ Some result }
     {
-        self.entries[place as usize].reason
+        self.stack.reason_at(place)
     }
 
     /// The place of a variable's literal; none exactly where the variable is unassigned.
@@ -224,7 +171,7 @@ impl Trail {
         requires over { variable ≤ self.now.variables }
         ensures { result ≡ place_of self.now.entries (variable - 1) }
     {
-        self.places[variable as usize - 1]
+        self.stack.set_place(variable)
     }
 
     /// The clause of a number.
@@ -233,113 +180,6 @@ impl Trail {
         requires given { number < length self.now.clauses }
         ensures { slice_get self.now.clauses number ≡ Some result.now }
     {
-        &self.clauses[number as usize]
+        self.stack.clause(number)
     }
-
-    /// How many clauses there are.
-    fn clause_count(&self) -> u32
-        ensures value { result ≡ length self.now.clauses }
-        ensures over { All (IsOver self.now.variables) self.now.clauses }
-    {
-        self.clauses.len() as u32
-    }
-
-    /// Sets a literal at the next place. An `Err` says that memory ran out.
-    fn set(&mut self, literal: Literal, level: u32, reason: Option<u32>) -> Result<(), NoMemory>
-        requires { MayStand self.old.variables self.old.clauses self.old.entries (entry_of literal level reason) }
-        ensures ok { OnOk result (self.new ≡ extended self.old (entry_of literal level reason)) }
-        ensures sound { IsSound self.new }
-        ensures err { OnErr result (self.new.broken ≡ true) }
-    {
-        let place = self.entries.len() as u32;
-        let entry = Entry {
-            literal,
-            level,
-            reason,
-        };
-        if self.entries.push(entry).is_err() {
-            self.broken = true;
-            return Err(NoMemory);
-        }
-        self.places[literal.index()] = Some(place);
-        self.level = level;
-        Ok(())
-    }
-
-    /// Goes along the clauses once, and sets the one unassigned literal of each whose other literals
-    /// are false by then; it stops with the number of a clause that is false.
-    fn pass(&mut self) -> Result<Option<u32>, NoMemory>
-        requires { self.old.broken ≡ false }
-        ensures ok { OnOk result (Propagates self.old self.new) }
-        ensures ends { IfOk result (λ answer. Passes self.old self.new answer) }
-        ensures sound { IsSound self.new }
-        ensures err { OnErr result (self.new.broken ≡ true) }
-    {
-        let level = self.level();
-        for number in 0..self.clause_count() {
-            match self.look_at(self.clause(number)) {
-                Look::Falsified => return Ok(Some(number)),
-                Look::Forces(literal) => self.set(literal, level, Some(number))?,
-                Look::Neither => {}
-            }
-        }
-        Ok(None)
-    }
-
-    /// Whether the literal is true.
-    fn is_true(&self, literal: Literal) -> bool
-        requires usable { self.now.broken ≡ false }
-        requires over { literal.index < self.now.variables }
-        ensures { result ≡ has (literals_of self.now.entries) literal }
-    {
-        match self.value(literal) {
-            Some(truth) => truth,
-            None => false,
-        }
-    }
-
-    /// What the clause is under the literals that are set.
-    fn look_at(&self, clause: &Clause) -> Look
-        requires usable { self.now.broken ≡ false }
-        requires over { IsOver self.now.variables clause.now }
-        ensures { result ≡ look_of (literals_of self.now.entries) clause.now }
-    {
-        let mut open = None;
-        for literal in clause.literals() {
-            if !self.is_true(literal.negated()) {
-                if open.is_some() {
-                    return Look::Neither;
-                }
-                open = Some(*literal);
-            }
-        }
-        match open {
-            None => Look::Falsified,
-            Some(literal) => {
-                if self.is_true(literal) {
-                    Look::Neither
-                } else {
-                    Look::Forces(literal)
-                }
-            }
-        }
-    }
-}
-
-/// The place of the first clause that has a literal and its negation.
-fn first_tautology(clauses: &[Clause]) -> Option<usize>
-    ensures { result ≡ position has_pair clauses.now }
-{
-    clauses.iter().position(|clause| is_tautology(clause))
-}
-
-/// The same clauses.
-fn copies(alloc: Global, clauses: &[Clause]) -> Result<Vec<Clause>, NoMemory>
-    ensures { IfOk result (λ copies. copies.items ≡ clauses.now) }
-{
-    let mut copies = Vec::with_capacity(alloc, clauses.len())?;
-    for clause in clauses {
-        copies.push(clause_of(alloc, clause.literals())?)?;
-    }
-    Ok(copies)
 }

@@ -1,16 +1,12 @@
-use Rattle.std.proofs.Common.{◌≡◌, ℕ, ◌+◌, None, length, sym, subst, ap, ◌∙◌, arith}
-use Rattle.sat_trail.specs.Entries.{entry_of, MayStand}
-use Rattle.sat_trail.proofs.Soundness.{length_entries}
-use Rattle.sat_trail.proofs.Steps.{decided_may_stand}
+use Rattle.std.proofs.Common.{◌≡◌, false, sym, subst}
+use Rattle.sat_trail.specs.States.{TrailState, decided}
+use Rattle.sat_trail.proofs.Watching.{answered, watched_decided}
 use Rattle.sat_trail.proofs.trail.Trail.decide.Goals as goal
 
-pub overflow_add-level : goal.overflow_add-level
-overflow_add-level c =
-    let t = c.args.self.now in
-    let sound = c.level-level.ensures.sound in
-    omega (arith, c.level-level.ensures.few, length_entries t.variables t.clauses t.entries sound.stand, sound.few_variables)
-
-pub set-requires : goal.set-requires
-set-requires c =
-    let t = c.args.self.now in
-    subst (λ (n : ℕ). MayStand t.variables t.clauses t.entries (entry_of c.args.literal (n + 1) None)) (sym c.level-level.ensures.value) (decided_may_stand t c.level-level.ensures.sound c.args.literal c.requires.over c.requires.unassigned)
+pub invariant_of-self : goal.invariant_of-self
+invariant_of-self c =
+    let t = c.self.inside.stack in
+    let u = c.decide.new.self in (
+      c.decide.ensures.sound,
+      λ usable. watched_decided t u c.self.inside.watches c.args.literal (c.self.invariant.1 (subst (λ (s : TrailState). s.broken ≡ false) (sym c.self.view_is) c.requires.usable)) (answered c.decide.result (u ≡ decided t c.args.literal) u.broken c.decide.ensures.ok c.decide.ensures.err usable),
+    )

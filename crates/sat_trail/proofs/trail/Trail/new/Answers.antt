@@ -1,24 +1,8 @@
-use Rattle.std.proofs.Common.{◌≡◌, ◌<◌, ◌^◌, ◌∙◌, false, ℕ, [], None, Option, List, All, length, replicate, sym, subst, ap, arith, rules}
+use Rattle.std.proofs.Common.{◌≡◌, ℕ, Some}
 use Rattle.std.specs.Prelude.{position}
-use Rattle.std.proofs.lemmas.Grind.{common_steps}
-use Rattle.clause_core.specs.Literals.{Lit}
-use Rattle.clause_core.specs.Clauses.{IsOver, has_pair}
-use Rattle.sat_trail.specs.declared.entries.Entry.{Entry}
-use Rattle.sat_trail.specs.States.{IsSound, IsTable, started}
-use Rattle.sat_trail.proofs.Steps.{sound_started, table_started}
+use Rattle.clause_core.specs.Clauses.{has_pair}
 use Rattle.sat_trail.proofs.trail.Trail.new.Goals as goal
 
-pub invariant_of-result : goal.invariant_of-result
-invariant_of-result c =
-    let cnf = c.args.cnf.now in
-    let clauses : c.in_ok-copies.field-0.items ≡ cnf.clauses = c.in_ok-copies.ensures ∙ c.as_slice-2.ensures in
-    let none : position has_pair cnf.clauses ≡ None = ap (position has_pair) (sym c.as_slice.ensures) ∙ sym c.in_default.ensures in
-    let filled : c.in_ok-vec.field-0.items ≡ replicate cnf.variables None = search rules in
-    let sound : IsSound (started cnf.variables cnf.clauses) = sound_started cnf.variables cnf.clauses cnf.few c.requires cnf.over none in
-    let table : IsTable cnf.variables c.in_ok-vec.field-0.items [] = table_started cnf.variables c.in_ok-vec.field-0.items filled in (
-      subst (λ (es : List Entry). IsSound (record { variables = cnf.variables; clauses = c.in_ok-copies.field-0.items; entries = es; level = 0; broken = false })) (sym c.new.ensures.items) (subst (λ (cs : List (List Lit)). IsSound (started cnf.variables cs)) (sym clauses) sound),
-      subst (IsTable cnf.variables c.in_ok-vec.field-0.items) (sym c.new.ensures.items) table,
-    )
-
-pub returns-clause-sound : goal.returns-clause-sound
-returns-clause-sound c = (invariant_of-result c).0
+-- a trail whose watches want memory is of a formula without tautologies
+pub returns-in-Err-new-clause-tautology : goal.returns-in-Err-new-clause-tautology
+returns-in-Err-new-clause-tautology c = λ place. (λ e. cc, λ h. (let f = (c.new.ensures.tautology place).1 h in cc))

@@ -1,16 +1,14 @@
-use Rattle.std.proofs.Common.{◌≡◌, ◌-◌, ◌<◌, ◌≤◌, length, sym, subst, ap, ◌∙◌, arith}
-use Rattle.sat_trail.specs.States.{TrailState, Propagates}
-use Rattle.sat_trail.proofs.Steps.{propagates_none, propagates_after}
+use Rattle.std.proofs.Common.{◌≡◌, ℕ, ◌+◌, ◌-◌, ◌<◌, ◌≤◌, ◌^◌, min, cond, true, false, not, Bool, List, [], ◌∷◌, ◌++◌, length, set, Option, Some, None, slice_get, get_or, take, sym, ap, subst, refl, arith, ◌∙◌, MatchOption}
+use Rattle.std.proofs.lemmas.Bool.{true≢false}
+use Rattle.sat_trail.specs.States.{TrailState, IsSound}
+use Rattle.sat_trail.proofs.Soundness.{sound_broken}
 use Rattle.sat_trail.proofs.trail.Trail.propagate.Goals as goal
 
-pub loop-conflict-init : goal.loop-conflict-init
-loop-conflict-init c = record { usable = c.requires; grows = propagates_none c.args.self.now }
+pub invariant_of-self-in-Err : goal.invariant_of-self-in-Err
+invariant_of-self-in-Err c = (
+  subst IsSound (sym c.give_up.ensures.value) (sound_broken c.propagate.new.stack true c.propagate.ensures.sound),
+  λ usable. absurd (true≢false (sym (ap (λ (t : TrailState). t.broken) c.give_up.ensures.value) ∙ usable)),
+)
 
-pub returns-then-is_some-clause-ok : goal.returns-then-is_some-clause-ok
-returns-then-is_some-clause-ok c = propagates_after c.args.self.now c.loop-conflict.self c.pass.new.self c.loop-conflict.invariant.grows c.in_ok-conflict.ensures.ok
-
-pub loop-conflict-preserved : goal.loop-conflict-preserved
-loop-conflict-preserved c = record {
-  usable = ap (λ (t : TrailState). t.broken) c.in_ok-conflict.ensures.ok.rest_stays ∙ c.loop-conflict.invariant.usable;
-  grows = propagates_after c.args.self.now c.loop-conflict.self c.pass.new.self c.loop-conflict.invariant.grows c.in_ok-conflict.ensures.ok;
-}
+pub returns-in-Err-clause-sound : goal.returns-in-Err-clause-sound
+returns-in-Err-clause-sound c = (invariant_of-self-in-Err c).0

@@ -1,0 +1,182 @@
+-- Internal: only private functions of this crate use these words. How clauses watch literals, and how far propagation has
+-- come. The idea is that of M. Moskewicz and others, Chaff: Engineering an Efficient SAT Solver, 2001.
+use Rattle.std.specs.Prelude.{◌≡◌, ℕ, ◌+◌, ◌*◌, ◌<◌, ◌≤◌, ◌⊎◌, Bool, true, false, List, ◌∷◌, ◌++◌, [], length, Option, Some, None, MatchOption, slice_get}
+use Rattle.clause_core.specs.Literals.{Lit, negation, has, code_of}
+use Rattle.clause_core.specs.Clauses.{IsIncreasing}
+use Rattle.sat_trail.specs.declared.entries.Entry.{Entry}
+use Rattle.sat_trail.specs.Entries.{literals_of}
+use Rattle.sat_trail.specs.States.{TrailState, IsFalseAt}
+use Rattle.sat_trail.specs.declared.watches.Watch.{Watch}
+use Rattle.sat_trail.specs.declared.watches.Pair.{Pair}
+use Rattle.sat_trail.specs.declared.watches.Watches.{Watches}
+
+-- ---- lists of watches
+
+-- the watch at this index of a literal's list, the literal by its code, is of this clause
+pub record HasWatch (lists : List (List Watch)) (code number index : ℕ) : Type 0 where
+  pub list : List Watch
+  pub watch : Watch
+  pub listed : slice_get lists code ≡ Some list
+  pub there : slice_get list index ≡ Some watch
+  pub names : watch.clause ≡ number
+
+-- the literal has a list, which is at least so long
+pub record HasList (lists : List (List Watch)) (code least : ℕ) : Type 0 where
+  pub list : List Watch
+  pub listed : slice_get lists code ≡ Some list
+  pub long : least ≤ length list
+
+-- the watch at an index is taken out; those before it stay where they are
+pub record TakesOut (old : List Watch) (index : ℕ) (new : List Watch) : Type 0 where
+  pub shorter : length new + 1 ≡ length old
+  pub before : (k : ℕ) → k < index → slice_get new k ≡ slice_get old k
+  pub others : (k : ℕ) (watch : Watch) → (k ≡ index → ⊥) → slice_get old k ≡ Some watch → (j : ℕ) × (slice_get new j ≡ Some watch)
+  pub no_more : (j : ℕ) (watch : Watch) → slice_get new j ≡ Some watch → (k : ℕ) × (slice_get old k ≡ Some watch)
+
+-- one list has a watch more at its end
+pub record AddsWatch (old : List (List Watch)) (code : ℕ) (watch : Watch) (new : List (List Watch)) : Type 0 where
+  pub all : length new ≡ length old
+  pub here : (list : List Watch) → slice_get old code ≡ Some list → slice_get new code ≡ Some (list ++ watch ∷ [])
+  pub others : (other : ℕ) → (other ≡ code → ⊥) → slice_get new other ≡ slice_get old other
+
+-- one list has a watch less
+pub record DropsWatch (old : List (List Watch)) (code index : ℕ) (new : List (List Watch)) : Type 0 where
+  pub all : length new ≡ length old
+  pub here : (list : List Watch) → slice_get old code ≡ Some list → (less : List Watch) × (slice_get new code ≡ Some less) × TakesOut list index less
+  pub others : (other : ℕ) → (other ≡ code → ⊥) → slice_get new other ≡ slice_get old other
+
+-- ---- pairs
+
+-- the literal is one of the pair
+abbrev pub IsOf : Pair → Lit → Type 0
+IsOf pair l = (pair.first ≡ l) ⊎ (pair.second ≡ l)
+
+-- the clause of this number has this pair
+abbrev pub IsPairOf : List (Option Pair) → ℕ → Pair → Type 0
+IsPairOf pairs number pair = slice_get pairs number ≡ Some (Some pair)
+
+-- whether a clause was looked at and has a pair
+abbrev pub is_paired : Option (Option Pair) → Bool
+is_paired None = false
+is_paired (Some None) = false
+is_paired (Some (Some pair)) = true
+
+-- the pair is of two literals of the clause
+pub record IsPair (clause : List Lit) (pair : Pair) : Type 0 where
+  pub first : has clause pair.first ≡ true
+  pub second : has clause pair.second ≡ true
+  pub apart : pair.first ≡ pair.second → ⊥
+
+-- the clause has one literal at most
+abbrev pub IsShort : List Lit → Type 0
+IsShort clause = (l m : Lit) → has clause l ≡ true → has clause m ≡ true → l ≡ m
+
+-- ---- what is true
+
+-- some literal of the clause is true; if the number is below the limit, it was set at this level or a lower one
+pub record IsExcused (entries : List Entry) (clause : List Lit) (number limit level : ℕ) : Type 0 where
+  pub place : ℕ
+  pub entry : Entry
+  pub there : slice_get entries place ≡ Some entry
+  pub member : has clause entry.literal ≡ true
+  pub in_time : number < limit → entry.level ≤ level
+
+-- ---- what holds between the visits of entries
+
+-- Each watch is of a clause that was looked at, and its other literal is of that clause; each pair is of literals of its
+-- clause, both of which the clause watches. A watched literal that is false by an entry visited has its clause excused:
+-- before the place `low` by a literal that is taken back no earlier. A clause of one literal that was looked at is
+-- excused too, before the number `short` by a literal that is never taken back.
+pub record AreWatched (t : TrailState) (w : Watches) : Type 0 where
+  pub lists_all : length w.lists.items ≡ 2 * t.variables
+  pub pairs_few : length w.pairs.items ≤ length t.clauses
+  pub looked_few : w.looked ≤ length w.pairs.items
+  pub head_few : w.head ≤ length t.entries
+  pub blocked : (code index : ℕ) (list : List Watch) (watch : Watch) → slice_get w.lists.items code ≡ Some list → slice_get list index ≡ Some watch →
+      (watch.clause < length w.pairs.items) × ((clause : List Lit) → slice_get t.clauses watch.clause ≡ Some clause → has clause watch.blocker ≡ true)
+  pub paired : (number : ℕ) (clause : List Lit) (pair : Pair) → slice_get t.clauses number ≡ Some clause → IsPairOf w.pairs.items number pair → IsPair clause pair
+  pub listed : (number : ℕ) (pair : Pair) (l : Lit) → IsPairOf w.pairs.items number pair → IsOf pair l → (index : ℕ) × HasWatch w.lists.items (code_of l) number index
+  pub excused : (number : ℕ) (clause : List Lit) (pair : Pair) (l : Lit) → slice_get t.clauses number ≡ Some clause → IsPairOf w.pairs.items number pair → IsOf pair l →
+      (place : ℕ) (e : Entry) → slice_get t.entries place ≡ Some e → e.literal ≡ negation l → place < w.head → IsExcused t.entries clause place w.low e.level
+  pub short_is : (number : ℕ) (clause : List Lit) → slice_get t.clauses number ≡ Some clause → slice_get w.pairs.items number ≡ Some None → IsShort clause
+  pub short_excused : (number : ℕ) (clause : List Lit) → slice_get t.clauses number ≡ Some clause → slice_get w.pairs.items number ≡ Some None → number < w.looked →
+      IsExcused t.entries clause number w.short 0
+
+-- ---- what holds within the visit of an entry
+
+-- the literal is false by the next entry to be visited, which is of the present level or not before the place `low`
+pub record IsVisit (t : TrailState) (w : Watches) (falsified : Lit) : Type 0 where
+  pub entry : Entry
+  pub there : slice_get t.entries w.head ≡ Some entry
+  pub is : entry.literal ≡ negation falsified
+  pub late : w.head < w.low → entry.level ≡ t.level
+
+-- each clause that watches the literal is excused, or has a watch that is still to be visited, before this index
+abbrev pub AreDue : TrailState → Watches → Lit → ℕ → Type 0
+AreDue t w falsified end =
+    (number : ℕ) (clause : List Lit) (pair : Pair) → slice_get t.clauses number ≡ Some clause → IsPairOf w.pairs.items number pair → IsOf pair falsified →
+    IsExcused t.entries clause w.head w.low t.level ⊎ ((index : ℕ) × (index < end) × HasWatch w.lists.items (code_of falsified) number index)
+
+-- ---- what is looked for
+
+-- the other literals of the clause are false
+abbrev pub AreOthersFalse : List Lit → List Lit → Lit → Type 0
+AreOthersFalse trues clause l = (m : Lit) → has clause m ≡ true → (m ≡ l → ⊥) → has trues (negation m) ≡ true
+
+-- the clause of this number has the literal, and the others are false
+pub record CanForce (t : TrailState) (number : ℕ) (l : Lit) : Type 0 where
+  pub clause : List Lit
+  pub named : slice_get t.clauses number ≡ Some clause
+  pub increasing : IsIncreasing clause
+  pub member : has clause l ≡ true
+  pub others : AreOthersFalse (literals_of t.entries) clause l
+
+-- the clause of this number has the two literals, the first of which is not false; if the second is, all others are
+pub record CanWatch (t : TrailState) (number : ℕ) (first second : Lit) : Type 0 where
+  pub clause : List Lit
+  pub named : slice_get t.clauses number ≡ Some clause
+  pub increasing : IsIncreasing clause
+  pub member : has clause first ≡ true
+  pub other : has clause second ≡ true
+  pub apart : second ≡ first → ⊥
+  pub not_false : has (literals_of t.entries) (negation first) ≡ false
+  pub others : has (literals_of t.entries) (negation second) ≡ true → AreOthersFalse (literals_of t.entries) clause first
+
+-- the entry at this place makes the literal false
+pub record IsFalseBy (t : TrailState) (l : Lit) (place : ℕ) : Type 0 where
+  pub entry : Entry
+  pub there : slice_get t.entries place ≡ Some entry
+  pub is : entry.literal ≡ negation l
+
+-- of the literals but the one given, one; if it is false all of them are
+pub record IsBest (trues literals : List Lit) (except : Option Lit) (l : Lit) : Type 0 where
+  pub member : has literals l ≡ true
+  pub apart : except ≡ Some l → ⊥
+  pub best : has trues (negation l) ≡ true → (m : Lit) → has literals m ≡ true → (except ≡ Some m → ⊥) → has trues (negation m) ≡ true
+
+-- one of two literals; if it is false both are
+abbrev pub IsLater : List Lit → Lit → Lit → Lit → Type 0
+IsLater trues first second l =
+    ((l ≡ first) × (has trues (negation first) ≡ true → has trues (negation second) ≡ true)) ⊎
+    ((l ≡ second) × (has trues (negation second) ≡ true → has trues (negation first) ≡ true))
+
+-- the best of the literals but for the one given; none where there are no others
+abbrev pub IsBestOf : List Lit → List Lit → Option Lit → Option Lit → Type 0
+IsBestOf trues literals except found = MatchOption found ((m : Lit) → has literals m ≡ true → except ≡ Some m) (IsBest trues literals except)
+
+-- at this position stands a literal that is not false and not the one given
+pub record IsFree (trues literals : List Lit) (except : Lit) (position : ℕ) : Type 0 where
+  pub literal : Lit
+  pub there : slice_get literals position ≡ Some literal
+  pub apart : literal ≡ except → ⊥
+  pub not_false : has trues (negation literal) ≡ false
+
+-- at these positions all literals but the one given are false
+abbrev pub AreFalseBetween : List Lit → List Lit → Lit → ℕ → ℕ → Type 0
+AreFalseBetween trues literals except start end =
+    (k : ℕ) (l : Lit) → start ≤ k → k < end → slice_get literals k ≡ Some l → (l ≡ except → ⊥) → has trues (negation l) ≡ true
+
+-- what a look at a clause came to: it is false, or looked at
+abbrev pub LooksAt : Watches → TrailState → Watches → Bool → Type 0
+LooksAt old t w true = w.looked ≡ old.looked + 1
+LooksAt old t w false = IsFalseAt t w.looked

@@ -1,0 +1,255 @@
+//! The literals that are set, and the calls that set and take them back.
+
+ghost use Rattle.std.specs.Prelude.{◌≡◌, ◌↔◌, ◌+◌, ◌-◌, ◌^◌, ◌<◌, ◌≤◌, ℕ, true, false, length, List, [], ◌∷◌, ◌++◌, Some, None, IfOk, OnOk, OnErr, IfSome, IfNone, All, Contains, option_map, slice_get, position, take};
+ghost use Rattle.clause_core.specs.Literals.{has};
+ghost use Rattle.clause_core.specs.Clauses.{IsOver, has_pair};
+ghost use Rattle.sat_trail.specs.Entries.{entry_of, place_of, value_of, literals_of, MayStand};
+ghost use Rattle.sat_trail.specs.States.{IsSound, started, extended, decided, with_clause, undone};
+
+use crate::entries::Entry;
+use crate::errors::TrailError;
+use clause_core::{Clause, Cnf, Literal, clause_of, is_tautology};
+use sequence::NoMemory;
+use std::alloc::Global;
+use std::marker::Model;
+
+/// The literals that are set, in the order of setting, over the clauses of a formula and learnt ones.
+/// It has what a trail has but for propagation. Two tables say of each variable at which place it is
+/// set, and of each literal whether it is true.
+#[derive(Drop)]
+pub struct Stack {
+    variables: u32,
+    clauses: Vec<Clause>,
+    entries: Vec<Entry>,
+    places: Vec<Option<u32>>,
+    truths: Vec<bool>,
+    level: u32,
+    broken: bool,
+}
+
+impl Model for Stack {
+    ghost use Rattle.std.specs.Prelude.{◌≡◌};
+    ghost use Rattle.sat_trail.specs.States.{TrailState, IsSound, IsTable, AreTruths};
+
+    ghost Value = { TrailState };
+
+    ghost view = { λ t. record { variables = t.variables; clauses = t.clauses.items; entries = t.entries.items; level = t.level; broken = t.broken } };
+
+    ghost invariant = { λ t. IsSound (record { variables = t.variables; clauses = t.clauses.items; entries = t.entries.items; level = t.level; broken = t.broken }) × IsTable t.variables t.places.items t.entries.items × AreTruths t.variables t.truths.items t.entries.items };
+}
+
+impl Stack {
+    /// The trail of a formula: at level 0, with no literal set. `Tautology` comes exactly for the first
+    /// clause that has a literal and its negation.
+    pub fn new(alloc: Global, cnf: &Cnf) -> Result<Stack, TrailError>
+        requires { length cnf.now.clauses < 2 ^ 32 }
+        ensures ok { IfOk result (λ trail. trail ≡ started cnf.now.variables cnf.now.clauses) }
+        ensures sound { IfOk result IsSound }
+        ensures tautology { (place : ℕ) → (result ≡ Err (TrailError.Tautology place)) ↔ (position has_pair cnf.now.clauses ≡ Some place) }
+    {
+        if let Some(place) = first_tautology(cnf.clauses.as_slice()) {
+            return Err(TrailError::Tautology(place as u32));
+        }
+        Ok(Stack {
+            variables: cnf.variables,
+            clauses: copies(alloc, cnf.clauses.as_slice())?,
+            entries: Vec::new(alloc),
+            places: vec![in alloc; None; cnf.variables as usize]?,
+            truths: vec![in alloc; false; 2 * cnf.variables as usize]?,
+            level: 0,
+            broken: false,
+        })
+    }
+
+    /// Opens the next level with this literal. An `Err` says that memory ran out.
+    pub fn decide(&mut self, literal: Literal) -> Result<(), NoMemory>
+        requires usable { self.old.broken ≡ false }
+        requires over { literal.index < self.old.variables }
+        requires unassigned { value_of self.old.entries literal ≡ None }
+        ensures ok { OnOk result (self.new ≡ decided self.old literal) }
+        ensures sound { IsSound self.new }
+        ensures err { OnErr result (self.new.broken ≡ true) }
+    {
+        let level = self.level() + 1;
+        self.set(literal, level, None)
+    }
+
+    /// Adds a clause at the end, and answers its number. An `Err` says that memory ran out.
+    pub fn learn(&mut self, clause: Clause) -> Result<u32, NoMemory>
+        requires usable { self.old.broken ≡ false }
+        requires over { IsOver self.old.variables clause }
+        requires no_pair { has_pair clause ≡ false }
+        requires few { length self.old.clauses + 1 < 2 ^ 32 }
+        ensures ok { OnOk result (self.new ≡ with_clause self.old clause) }
+        ensures number { IfOk result (λ number. number ≡ length self.old.clauses) }
+        ensures sound { IsSound self.new }
+        ensures err { OnErr result (self.new.broken ≡ true) }
+    {
+        let number = self.clauses.len() as u32;
+        if self.clauses.push(clause).is_err() {
+            self.broken = true;
+            return Err(NoMemory);
+        }
+        Ok(number)
+    }
+
+    /// Takes back what was set at levels above this one. The present level is then the smaller of the
+    /// two.
+    pub fn undo_to(&mut self, level: u32)
+        requires { self.old.broken ≡ false }
+        ensures value { self.new ≡ undone self.old level }
+        ensures in_place { self.new.entries ≡ take (length self.new.entries) self.old.entries }
+        ensures sound { IsSound self.new }
+    {
+        while let Some(last) = self.entries.last().copied() {
+            if last.level <= level {
+                break;
+            }
+            let _ = self.entries.pop();
+            self.places[last.literal.index()] = None;
+            self.truths[last.literal.code()] = false;
+        }
+        self.level = level.min(self.level);
+    }
+
+    /// Whether the literal is true; none exactly where its variable is unassigned.
+    pub fn value(&self, literal: Literal) -> Option<bool>
+        requires usable { self.now.broken ≡ false }
+        requires over { literal.index < self.now.variables }
+        ensures { result ≡ value_of self.now.entries literal }
+    {
+        match self.places[literal.index()] {
+            None => None,
+            Some(place) => Some(self.entries[place as usize].literal == literal),
+        }
+    }
+
+    /// The present level, 0 at first.
+    pub fn level(&self) -> u32
+        requires { self.now.broken ≡ false }
+        ensures value { result ≡ self.now.level }
+        ensures sound { IsSound self.now }
+        ensures few { result ≤ length self.now.entries }
+    {
+        self.level
+    }
+
+    /// How many literals are set.
+    pub fn set_count(&self) -> u32
+        requires { self.now.broken ≡ false }
+        ensures value { result ≡ length self.now.entries }
+        ensures few { result ≤ self.now.variables }
+    {
+        self.entries.len() as u32
+    }
+
+    /// The literal at a place.
+    pub fn set_at(&self, place: u32) -> Literal
+        requires usable { self.now.broken ≡ false }
+        requires within { place < length self.now.entries }
+        ensures { option_map (λ e. e.literal) (slice_get self.now.entries place) ≡ Some result }
+    {
+        self.entries[place as usize].literal
+    }
+
+    /// The level of the literal at a place.
+    pub fn level_at(&self, place: u32) -> u32
+        requires usable { self.now.broken ≡ false }
+        requires within { place < length self.now.entries }
+        ensures { option_map (λ e. e.level) (slice_get self.now.entries place) ≡ Some result }
+    {
+        self.entries[place as usize].level
+    }
+
+    /// The number of the clause that forced the literal at a place; none exactly where it was decided.
+    pub fn reason_at(&self, place: u32) -> Option<u32>
+        requires usable { self.now.broken ≡ false }
+        requires within { place < length self.now.entries }
+        ensures { option_map (λ e. e.reason) (slice_get self.now.entries place) ≡ Some result }
+    {
+        self.entries[place as usize].reason
+    }
+
+    /// The place of a variable's literal; none exactly where the variable is unassigned.
+    pub fn set_place(&self, variable: u32) -> Option<u32>
+        requires usable { self.now.broken ≡ false }
+        requires positive { 0 < variable }
+        requires over { variable ≤ self.now.variables }
+        ensures { result ≡ place_of self.now.entries (variable - 1) }
+    {
+        self.places[variable as usize - 1]
+    }
+
+    /// The clause of a number.
+    pub fn clause(&self, number: u32) -> &Clause
+        requires usable { self.now.broken ≡ false }
+        requires given { number < length self.now.clauses }
+        ensures { slice_get self.now.clauses number ≡ Some result.now }
+    {
+        &self.clauses[number as usize]
+    }
+
+    /// How many clauses there are.
+    pub fn clause_count(&self) -> u32
+        ensures value { result ≡ length self.now.clauses }
+        ensures over { All (IsOver self.now.variables) self.now.clauses }
+    {
+        self.clauses.len() as u32
+    }
+
+    /// Sets a literal at the next place. An `Err` says that memory ran out.
+    pub fn set(&mut self, literal: Literal, level: u32, reason: Option<u32>) -> Result<(), NoMemory>
+        requires { MayStand self.old.variables self.old.clauses self.old.entries (entry_of literal level reason) }
+        ensures ok { OnOk result (self.new ≡ extended self.old (entry_of literal level reason)) }
+        ensures sound { IsSound self.new }
+        ensures err { OnErr result (self.new.broken ≡ true) }
+    {
+        let place = self.entries.len() as u32;
+        let entry = Entry {
+            literal,
+            level,
+            reason,
+        };
+        if self.entries.push(entry).is_err() {
+            self.broken = true;
+            return Err(NoMemory);
+        }
+        self.places[literal.index()] = Some(place);
+        self.truths[literal.code()] = true;
+        self.level = level;
+        Ok(())
+    }
+
+    /// Whether the literal is true.
+    pub fn is_true(&self, literal: Literal) -> bool
+        requires { literal.index < self.now.variables }
+        ensures { result ≡ has (literals_of self.now.entries) literal }
+    {
+        self.truths[literal.code()]
+    }
+
+    /// Says that memory ran out in a call: from then on the trail may only be dropped.
+    pub fn give_up(&mut self)
+        ensures value { self.new ≡ record self.old { broken = true } }
+    {
+        self.broken = true;
+    }
+}
+
+/// The place of the first clause that has a literal and its negation.
+fn first_tautology(clauses: &[Clause]) -> Option<usize>
+    ensures { result ≡ position has_pair clauses.now }
+{
+    clauses.iter().position(|clause| is_tautology(clause))
+}
+
+/// The same clauses.
+fn copies(alloc: Global, clauses: &[Clause]) -> Result<Vec<Clause>, NoMemory>
+    ensures { IfOk result (λ copies. copies.items ≡ clauses.now) }
+{
+    let mut copies = Vec::with_capacity(alloc, clauses.len())?;
+    for clause in clauses {
+        copies.push(clause_of(alloc, clause.literals())?)?;
+    }
+    Ok(copies)
+}

@@ -1,0 +1,598 @@
+//! Unit propagation by two watched literals a clause.
+
+ghost use Rattle.std.specs.Prelude.{◌≡◌, ℕ, ◌+◌, ◌*◌, ◌<◌, ◌≤◌, ◌^◌, ◌⊎◌, ◌&&◌, not, min, cond, nat_lt, true, false, length, List, [], ◌∷◌, ◌++◌, Option, Some, None, IfOk, OnOk, MatchOption, slice_get};
+ghost use Rattle.clause_core.specs.Literals.{Lit, negation, same, has, code_of};
+ghost use Rattle.clause_core.specs.Clauses.{IsOver};
+ghost use Rattle.sat_trail.specs.declared.entries.Entry.{Entry};
+ghost use Rattle.sat_trail.specs.Entries.{literals_of};
+ghost use Rattle.sat_trail.specs.States.{TrailState, IsSound, Propagates, IsFalseAt, EndsWith};
+ghost use Rattle.sat_trail.specs.Watching.{HasList, TakesOut, AddsWatch, DropsWatch, IsOf, is_paired, IsExcused, AreWatched, IsVisit, AreDue, AreOthersFalse, CanForce, CanWatch, IsFalseBy, IsLater, IsBestOf, IsFree, AreFalseBetween, LooksAt};
+
+use crate::stack::Stack;
+use clause_core::Literal;
+use sequence::NoMemory;
+use std::alloc::Global;
+use std::marker::Model;
+
+/// A clause that watches a literal, and another literal of it: while that one is true, the clause need
+/// not be read.
+#[derive(Clone, Copy, Debug)]
+pub struct Watch {
+    /// The number of the clause.
+    pub clause: u32,
+    /// The other literal.
+    pub blocker: Literal,
+}
+
+/// The watches of one literal. A contract sees them as a list.
+#[derive(Drop)]
+pub struct WatchList {
+    watches: Vec<Watch>,
+}
+
+impl Model for WatchList {
+    ghost use Rattle.std.specs.Prelude.{List};
+    ghost use Rattle.sat_trail.specs.declared.watches.Watch.{Watch};
+
+    ghost Value = { List Watch };
+
+    ghost view = { λ list. list.watches.items };
+}
+
+impl WatchList {
+    /// No clause watches the literal.
+    fn new(alloc: Global) -> WatchList
+        ensures { result ≡ [] }
+    {
+        WatchList {
+            watches: Vec::new(alloc),
+        }
+    }
+
+    /// How many watches there are.
+    fn len(&self) -> usize
+        ensures { result ≡ length self.now }
+    {
+        self.watches.len()
+    }
+
+    /// The watch at an index.
+    fn get(&self, index: usize) -> Watch
+        requires { index < length self.now }
+        ensures { slice_get self.now index ≡ Some result }
+    {
+        self.watches[index]
+    }
+
+    /// Adds a watch at the end. An `Err` says that memory ran out.
+    fn push(&mut self, watch: Watch) -> Result<(), NoMemory>
+        ensures { OnOk result (self.new ≡ self.old ++ watch ∷ []) }
+    {
+        self.watches.push(watch)?;
+        Ok(())
+    }
+
+    /// Takes the watch at an index out: the last one takes its place.
+    fn take_out(&mut self, index: usize)
+        requires { index < length self.old }
+        ensures { TakesOut self.old index self.new }
+    {
+        let _ = self.watches.swap_remove(index);
+    }
+}
+
+/// The two literals that a clause watches, and where the search for another one begins.
+#[derive(Clone, Copy, Debug)]
+pub struct Pair {
+    /// One of the literals.
+    pub first: Literal,
+    /// The other one.
+    pub second: Literal,
+    /// A position in the clause.
+    pub start: u32,
+}
+
+impl Pair {
+    /// The literal of the pair that is not this one.
+    fn other(&self, literal: Literal) -> Literal
+        ensures of { IsOf self.now result }
+        ensures apart { (self.now.first ≡ self.now.second → ⊥) → result ≡ literal → ⊥ }
+    {
+        if self.first == literal {
+            self.second
+        } else {
+            self.first
+        }
+    }
+}
+
+/// Which literals each clause watches, and how far propagation has come.
+#[derive(Drop)]
+pub struct Watches {
+    /// The watches of each literal, by its code.
+    pub lists: Vec<WatchList>,
+    /// The pair of each clause that was looked at; none of a clause of one literal.
+    pub pairs: Vec<Option<Pair>>,
+    /// The clauses from this number on are to be looked at.
+    pub looked: u32,
+    /// The clauses of one literal from this number on may lose their true literal by an undo.
+    pub short: u32,
+    /// The entries from this place on are to be visited.
+    pub head: u32,
+    /// The entries from this place on may have been visited at a level above their own.
+    pub low: u32,
+}
+
+impl Watches {
+    /// No clause is looked at, and no entry visited. An `Err` says that memory ran out.
+    pub fn new(alloc: Global, variables: u32) -> Result<Watches, NoMemory>
+        requires { variables < 2 ^ 31 }
+        ensures { IfOk result (λ watches. (t : TrailState) → t.variables ≡ variables → AreWatched t watches) }
+    {
+        let count = 2 * variables;
+        let mut lists = Vec::with_capacity(alloc, count as usize)?;
+        for code in 0..count {
+            let _ = code;
+            lists.push(WatchList::new(alloc))?;
+        }
+        Ok(Watches {
+            lists,
+            pairs: Vec::new(alloc),
+            looked: 0,
+            short: u32::MAX,
+            head: 0,
+            low: u32::MAX,
+        })
+    }
+
+    /// Goes back to where so many entries are left: what an undo may have touched is visited again.
+    pub fn undo(&mut self, count: u32)
+        ensures head { self.new.head ≡ min (min self.old.head self.old.low) count }
+        ensures looked { self.new.looked ≡ min self.old.looked self.old.short }
+        ensures lists { self.new.lists ≡ self.old.lists }
+        ensures pairs { self.new.pairs ≡ self.old.pairs }
+    {
+        self.head = self.head.min(self.low).min(count);
+        self.low = u32::MAX;
+        self.looked = self.looked.min(self.short);
+        self.short = u32::MAX;
+    }
+
+    /// Propagates until no clause is unit or a clause is false: then it answers that clause's number.
+    /// An `Err` says that memory ran out.
+    pub fn propagate(&mut self, stack: &mut Stack) -> Result<Option<u32>, NoMemory>
+        requires usable { stack.old.broken ≡ false }
+        requires sound { IsSound stack.old }
+        requires watched { AreWatched stack.old self.old }
+        ensures ok { OnOk result (Propagates stack.old stack.new) }
+        ensures watched { OnOk result (AreWatched stack.new self.new) }
+        ensures ends { IfOk result (λ answer. EndsWith answer stack.new) }
+        ensures sound { IsSound stack.new }
+    {
+        while self.looked < stack.clause_count() {
+            if !self.look(stack)? {
+                return Ok(Some(self.looked));
+            }
+        }
+        while self.head < stack.set_count() {
+            let conflict = self.visit_entry(stack)?;
+            if conflict.is_some() {
+                return Ok(conflict);
+            }
+        }
+        Ok(None)
+    }
+
+    /// Looks at the next clause, and answers whether it is not false. An `Err` says that memory ran out.
+    fn look(&mut self, stack: &mut Stack) -> Result<bool, NoMemory>
+        requires usable { stack.old.broken ≡ false }
+        requires sound { IsSound stack.old }
+        requires watched { AreWatched stack.old self.old }
+        requires more { self.old.looked < length stack.old.clauses }
+        ensures ok { OnOk result (Propagates stack.old stack.new) }
+        ensures watched { OnOk result (AreWatched stack.new self.new) }
+        ensures looks { IfOk result (LooksAt self.old stack.new self.new) }
+        ensures sound { IsSound stack.new }
+    {
+        let number = self.looked;
+        if self.is_watched(number) {
+            self.looked += 1;
+            return Ok(true);
+        }
+        let literals = stack.clause(number).literals();
+        let Some(first) = best(stack, literals, &None) else {
+            return Ok(false);
+        };
+        if stack.is_true(first.negated()) {
+            return Ok(false);
+        }
+        match best(stack, literals, &Some(first)) {
+            None => self.pass_short(stack, first),
+            Some(second) => self.pass_long(stack, first, second),
+        }
+    }
+
+    /// Whether the clause of a number has a pair.
+    fn is_watched(&self, number: u32) -> bool
+        ensures { result ≡ is_paired (slice_get self.now.pairs.items number) }
+    {
+        matches!(self.pairs.get(number as usize), Some(Some(_)))
+    }
+
+    /// Passes the next clause, which has this literal alone and is true with it. It answers true.
+    fn pass_short(&mut self, stack: &mut Stack, only: Literal) -> Result<bool, NoMemory>
+        requires usable { stack.old.broken ≡ false }
+        requires sound { IsSound stack.old }
+        requires watched { AreWatched stack.old self.old }
+        requires unpaired { is_paired (slice_get self.old.pairs.items self.old.looked) ≡ false }
+        requires only { CanForce stack.old self.old.looked only }
+        requires not_false { has (literals_of stack.old.entries) (negation only) ≡ false }
+        requires short { (clause : List Lit) → slice_get stack.old.clauses self.old.looked ≡ Some clause → (m : Lit) → has clause m ≡ true → Some only ≡ Some m }
+        ensures ok { OnOk result (Propagates stack.old stack.new) }
+        ensures watched { OnOk result (AreWatched stack.new self.new) }
+        ensures looks { IfOk result (LooksAt self.old stack.new self.new) }
+        ensures sound { IsSound stack.new }
+    {
+        let number = self.looked;
+        force(stack, number, only)?;
+        self.set_aside(number)?;
+        self.short = lowered(self.short, number, stack.level() > 0);
+        self.looked += 1;
+        Ok(true)
+    }
+
+    /// The clause has no pair. An `Err` says that memory ran out.
+    fn set_aside(&mut self, number: u32) -> Result<(), NoMemory>
+        requires within { number ≤ length self.old.pairs.items }
+        requires unpaired { is_paired (slice_get self.old.pairs.items number) ≡ false }
+        ensures pairs { OnOk result ((self.new.pairs.items ≡ self.old.pairs.items ++ None ∷ []) × (length self.old.pairs.items ≡ number)
+            ⊎ (self.new.pairs.items ≡ self.old.pairs.items) × (slice_get self.old.pairs.items number ≡ Some None)) }
+        ensures rest { self.new ≡ record self.old { pairs = self.new.pairs } }
+    {
+        if (number as usize) < self.pairs.len() {
+            return Ok(());
+        }
+        self.pairs.push(None)?;
+        Ok(())
+    }
+
+    /// Passes the next clause, which from now on watches these two of its literals. It answers true.
+    fn pass_long(
+        &mut self,
+        stack: &mut Stack,
+        first: Literal,
+        second: Literal,
+    ) -> Result<bool, NoMemory>
+        requires usable { stack.old.broken ≡ false }
+        requires sound { IsSound stack.old }
+        requires watched { AreWatched stack.old self.old }
+        requires unpaired { is_paired (slice_get self.old.pairs.items self.old.looked) ≡ false }
+        requires literals { CanWatch stack.old self.old.looked first second }
+        ensures ok { OnOk result (Propagates stack.old stack.new) }
+        ensures watched { OnOk result (AreWatched stack.new self.new) }
+        ensures looks { IfOk result (LooksAt self.old stack.new self.new) }
+        ensures sound { IsSound stack.new }
+    {
+        let number = self.looked;
+        self.excuse(stack, number, first, second)?;
+        self.add_watch(first, number, second)?;
+        self.add_watch(second, number, first)?;
+        self.pairs.push(Some(Pair {
+            first,
+            second,
+            start: 0,
+        }))?;
+        self.looked += 1;
+        Ok(true)
+    }
+
+    /// Sets the first literal of a clause where the second one is false. An `Err` says that memory ran
+    /// out.
+    fn excuse(
+        &mut self,
+        stack: &mut Stack,
+        number: u32,
+        first: Literal,
+        second: Literal,
+    ) -> Result<(), NoMemory>
+        requires usable { stack.old.broken ≡ false }
+        requires sound { IsSound stack.old }
+        requires literals { CanWatch stack.old number first second }
+        ensures ok { OnOk result (Propagates stack.old stack.new) }
+        ensures not_false { OnOk result (has (literals_of stack.new.entries) (negation first) ≡ false) }
+        ensures excused { OnOk result ((clause : List Lit) → slice_get stack.old.clauses number ≡ Some clause →
+            (place : ℕ) (e : Entry) → slice_get stack.new.entries place ≡ Some e → e.literal ≡ negation second →
+            IsExcused stack.new.entries clause place self.new.low e.level) }
+        ensures low { self.new.low ≤ self.old.low }
+        ensures rest { self.new ≡ record self.old { low = self.new.low } }
+        ensures sound { IsSound stack.new }
+    {
+        let Some(place) = false_place(stack, second) else {
+            return Ok(());
+        };
+        self.note_place(stack, place);
+        force(stack, number, first)
+    }
+
+    /// Notes that the entry at a place is visited at the present level.
+    fn note_place(&mut self, stack: &Stack, place: u32)
+        requires usable { stack.now.broken ≡ false }
+        requires within { place < length stack.now.entries }
+        ensures low { (e : Entry) → slice_get stack.now.entries place ≡ Some e →
+            self.new.low ≡ cond (nat_lt e.level stack.now.level) (min self.old.low place) self.old.low }
+        ensures rest { self.new ≡ record self.old { low = self.new.low } }
+    {
+        self.low = lowered(self.low, place, stack.level_at(place) < stack.level());
+    }
+
+    /// Adds a watch of a clause to a literal's list. An `Err` says that memory ran out.
+    fn add_watch(&mut self, literal: Literal, clause: u32, blocker: Literal) -> Result<(), NoMemory>
+        requires { code_of literal < length self.old.lists.items }
+        ensures lists { OnOk result (AddsWatch self.old.lists.items (code_of literal) (record { clause = clause; blocker = blocker }) self.new.lists.items) }
+        ensures rest { self.new ≡ record self.old { lists = self.new.lists } }
+    {
+        self.lists[literal.code()].push(Watch { clause, blocker })
+    }
+
+    /// Takes a watch out of a literal's list.
+    fn drop_watch(&mut self, literal: Literal, index: usize)
+        requires { HasList self.old.lists.items (code_of literal) (index + 1) }
+        ensures lists { DropsWatch self.old.lists.items (code_of literal) index self.new.lists.items }
+        ensures rest { self.new ≡ record self.old { lists = self.new.lists } }
+    {
+        self.lists[literal.code()].take_out(index);
+    }
+
+    /// Visits the clauses that watch the literal that the next entry makes false, and answers the
+    /// number of one that is false; the entry is then still to be visited. An `Err` says that memory
+    /// ran out.
+    fn visit_entry(&mut self, stack: &mut Stack) -> Result<Option<u32>, NoMemory>
+        requires usable { stack.old.broken ≡ false }
+        requires sound { IsSound stack.old }
+        requires watched { AreWatched stack.old self.old }
+        requires more { self.old.head < length stack.old.entries }
+        ensures ok { OnOk result (Propagates stack.old stack.new) }
+        ensures watched { OnOk result (AreWatched stack.new self.new) }
+        ensures looked { self.new.looked ≡ self.old.looked }
+        ensures ends { IfOk result (λ conflict. MatchOption conflict (self.new.head ≡ self.old.head + 1) (IsFalseAt stack.new)) }
+        ensures sound { IsSound stack.new }
+    {
+        let falsified = stack.set_at(self.head).negated();
+        let place = self.head;
+        self.note_place(stack, place);
+        let mut index = self.lists[falsified.code()].len();
+        while index > 0 {
+            index -= 1;
+            let conflict = self.visit(stack, falsified, index)?;
+            if conflict.is_some() {
+                return Ok(conflict);
+            }
+        }
+        self.head += 1;
+        Ok(None)
+    }
+
+    /// Visits the clause of a watch whose literal is false, and answers its number if it is false. An
+    /// `Err` says that memory ran out.
+    fn visit(
+        &mut self,
+        stack: &mut Stack,
+        falsified: Literal,
+        index: usize,
+    ) -> Result<Option<u32>, NoMemory>
+        requires usable { stack.old.broken ≡ false }
+        requires sound { IsSound stack.old }
+        requires watched { AreWatched stack.old self.old }
+        requires visit { IsVisit stack.old self.old falsified }
+        requires list { HasList self.old.lists.items (code_of falsified) (index + 1) }
+        requires due { AreDue stack.old self.old falsified (index + 1) }
+        ensures ok { OnOk result (Propagates stack.old stack.new) }
+        ensures watched { OnOk result (AreWatched stack.new self.new) }
+        ensures visit { OnOk result (IsVisit stack.new self.new falsified) }
+        ensures list { OnOk result (HasList self.new.lists.items (code_of falsified) index) }
+        ensures ends { IfOk result (λ conflict. MatchOption conflict (AreDue stack.new self.new falsified index) (IsFalseAt stack.new)) }
+        ensures head { self.new.head ≡ self.old.head }
+        ensures looked { self.new.looked ≡ self.old.looked }
+        ensures sound { IsSound stack.new }
+    {
+        let watch = self.lists[falsified.code()].get(index);
+        if stack.is_true(watch.blocker) {
+            return Ok(None);
+        }
+        let Some(pair) = &self.pairs[watch.clause as usize] else {
+            return Ok(None);
+        };
+        let other = pair.other(falsified);
+        if stack.is_true(other) {
+            return Ok(None);
+        }
+        let literals = stack.clause(watch.clause).literals();
+        let Some(position) = free_position(stack, literals, other, pair.start as usize) else {
+            return force_or_fail(stack, watch.clause, other);
+        };
+        let first = literals[position];
+        let start = number_of_position(position);
+        self.add_watch(first, watch.clause, other)?;
+        self.drop_watch(falsified, index);
+        self.pairs[watch.clause as usize] = Some(Pair {
+            first,
+            second: other,
+            start,
+        });
+        Ok(None)
+    }
+}
+
+/// Sets the literal of a clause whose others are false, or answers the clause's number if that one is
+/// false too. An `Err` says that memory ran out.
+fn force_or_fail(stack: &mut Stack, number: u32, literal: Literal) -> Result<Option<u32>, NoMemory>
+    requires usable { stack.old.broken ≡ false }
+    requires sound { IsSound stack.old }
+    requires forced { CanForce stack.old number literal }
+    ensures ok { OnOk result (Propagates stack.old stack.new) }
+    ensures ends { IfOk result (λ conflict. MatchOption conflict (has (literals_of stack.new.entries) literal ≡ true) (IsFalseAt stack.new)) }
+    ensures sound { IsSound stack.new }
+{
+    if stack.is_true(literal.negated()) {
+        return Ok(Some(number));
+    }
+    force(stack, number, literal)?;
+    Ok(None)
+}
+
+/// Sets the literal of a clause whose others are false, unless it is true. An `Err` says that memory
+/// ran out.
+fn force(stack: &mut Stack, number: u32, literal: Literal) -> Result<(), NoMemory>
+    requires usable { stack.old.broken ≡ false }
+    requires sound { IsSound stack.old }
+    requires forced { CanForce stack.old number literal }
+    requires not_false { has (literals_of stack.old.entries) (negation literal) ≡ false }
+    ensures ok { OnOk result (Propagates stack.old stack.new) }
+    ensures is_true { OnOk result (has (literals_of stack.new.entries) literal ≡ true) }
+    ensures sound { IsSound stack.new }
+{
+    if stack.is_true(literal) {
+        return Ok(());
+    }
+    let level = stack.level();
+    stack.set(literal, level, Some(number))
+}
+
+/// The number, or the smaller of it and a limit that is to be lowered.
+fn lowered(limit: u32, number: u32, is_late: bool) -> u32
+    ensures { result ≡ cond is_late (min limit number) limit }
+{
+    if is_late { limit.min(number) } else { limit }
+}
+
+/// The place of the entry that makes the literal false; none exactly where it is not false.
+fn false_place(stack: &Stack, literal: Literal) -> Option<u32>
+    requires usable { stack.now.broken ≡ false }
+    requires sound { IsSound stack.now }
+    requires over { literal.index < stack.now.variables }
+    ensures { MatchOption result (has (literals_of stack.now.entries) (negation literal) ≡ false) (IsFalseBy stack.now literal) }
+{
+    if !stack.is_true(literal.negated()) {
+        return None;
+    }
+    stack.set_place(literal.variable())
+}
+
+/// The position as a number of 32 bits; 0 where it does not fit.
+fn number_of_position(position: usize) -> u32 {
+    u32::try_from(position).unwrap_or(0)
+}
+
+/// When the literal was made false: a place; the largest number where it is not false.
+fn rank(stack: &Stack, literal: Literal) -> u32
+    requires usable { stack.now.broken ≡ false }
+    requires sound { IsSound stack.now }
+    requires over { literal.index < stack.now.variables }
+    ensures { nat_lt result 4294967295 ≡ has (literals_of stack.now.entries) (negation literal) }
+{
+    match false_place(stack, literal) {
+        Some(place) => place,
+        None => u32::MAX,
+    }
+}
+
+/// Of the literals but this one, one that is not false, or else the one that was made false last; none
+/// where there are no others.
+fn best(stack: &Stack, literals: &[Literal], except: &Option<Literal>) -> Option<Literal>
+    requires usable { stack.now.broken ≡ false }
+    requires sound { IsSound stack.now }
+    requires over { IsOver stack.now.variables literals.now }
+    ensures { IsBestOf (literals_of stack.now.entries) literals.now except.now result }
+{
+    let mut found = None;
+    for literal in literals {
+        found = better(stack, found, *literal, except);
+    }
+    found
+}
+
+/// The better one of the literal that was found and another one, which is passed over if it is the one
+/// given.
+fn better(
+    stack: &Stack,
+    found: Option<Literal>,
+    literal: Literal,
+    except: &Option<Literal>,
+) -> Option<Literal>
+    requires usable { stack.now.broken ≡ false }
+    requires sound { IsSound stack.now }
+    requires over { literal.index < stack.now.variables }
+    requires found { (l : Lit) → found ≡ Some l → l.index < stack.now.variables }
+    ensures { (before : List Lit) → IsBestOf (literals_of stack.now.entries) before except.now found →
+        IsBestOf (literals_of stack.now.entries) (before ++ literal ∷ []) except.now result }
+{
+    if *except == Some(literal) {
+        return found;
+    }
+    match found {
+        None => Some(literal),
+        Some(other) => Some(later(stack, other, literal)),
+    }
+}
+
+/// The second literal if it was made false later than the first one, or is not false; else the first.
+fn later(stack: &Stack, first: Literal, second: Literal) -> Literal
+    requires usable { stack.now.broken ≡ false }
+    requires sound { IsSound stack.now }
+    requires first_over { first.index < stack.now.variables }
+    requires second_over { second.index < stack.now.variables }
+    ensures { IsLater (literals_of stack.now.entries) first second result }
+{
+    if rank(stack, second) > rank(stack, first) {
+        second
+    } else {
+        first
+    }
+}
+
+/// The position of a literal that is not false, but not of the one given; none where all others are
+/// false. The search begins at a position and goes round.
+fn free_position(
+    stack: &Stack,
+    literals: &[Literal],
+    except: Literal,
+    start: usize,
+) -> Option<usize>
+    requires over { IsOver stack.now.variables literals.now }
+    ensures { MatchOption result (AreOthersFalse (literals_of stack.now.entries) literals.now except) (IsFree (literals_of stack.now.entries) literals.now except) }
+{
+    let start = start.min(literals.len());
+    match free_between(stack, literals, except, start, literals.len()) {
+        Some(position) => Some(position),
+        None => free_between(stack, literals, except, 0, start),
+    }
+}
+
+/// The first of these positions with a literal that is not false and not the one given; none where
+/// there is none.
+fn free_between(
+    stack: &Stack,
+    literals: &[Literal],
+    except: Literal,
+    start: usize,
+    end: usize,
+) -> Option<usize>
+    requires over { IsOver stack.now.variables literals.now }
+    requires within { end ≤ length literals.now }
+    ensures { MatchOption result (AreFalseBetween (literals_of stack.now.entries) literals.now except start end) (IsFree (literals_of stack.now.entries) literals.now except) }
+{
+    for position in start..end {
+        if is_free(stack, literals[position], except) {
+            return Some(position);
+        }
+    }
+    None
+}
+
+/// Whether the literal is not false, and not the one given.
+fn is_free(stack: &Stack, literal: Literal, except: Literal) -> bool
+    requires over { literal.index < stack.now.variables }
+    ensures { result ≡ (not (same literal except) && not (has (literals_of stack.now.entries) (negation literal))) }
+{
+    literal != except && !stack.is_true(literal.negated())
+}
