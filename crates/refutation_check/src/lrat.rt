@@ -71,9 +71,10 @@ pub fn read_lrat(alloc: Global, text: &[u8]) -> Result<Log, LogTextError>
     ensures form { (line : ℕ) → result ≡ Err (LogTextError.Form line) → log_answer text.now ≡ form_at line }
 {
     let mut steps = Vec::new(alloc);
+    let mut literals = Vec::new(alloc);
     let mut left = lines_of(text);
     while let Some((line, after)) = first_line(left) {
-        if !add_line(&mut steps, read_line(alloc, line.bytes)?)? {
+        if !add_line(&mut steps, read_line(alloc, &mut literals, line.bytes)?)? {
             return Err(LogTextError::Form(line.number));
         }
         left = after;
@@ -98,8 +99,8 @@ fn add_line(steps: &mut Vec<Step>, line: Line) -> Result<bool, NoMemory>
     }
 }
 
-/// What a line is.
-fn read_line(alloc: Global, line: &[u8]) -> Result<Line, NoMemory>
+/// What a line is. The literals of a step are gathered in the vector that is lent.
+fn read_line(alloc: Global, literals: &mut Vec<Literal>, line: &[u8]) -> Result<Line, NoMemory>
     ensures value { IfOk result (λ answer. answer ≡ line_answer line.now) }
     ensures few_hints { IfOk result (HasHintsWithin (length line.now)) }
 {
@@ -112,11 +113,16 @@ fn read_line(alloc: Global, line: &[u8]) -> Result<Line, NoMemory>
     let Some(name) = number_in(first) else {
         return Ok(Line::Wrong);
     };
-    read_after_number(alloc, name, rest)
+    read_after_number(alloc, literals, name, rest)
 }
 
 /// What a line is after its number.
-fn read_after_number(alloc: Global, name: u64, rest: &[u8]) -> Result<Line, NoMemory>
+fn read_after_number(
+    alloc: Global,
+    literals: &mut Vec<Literal>,
+    name: u64,
+    rest: &[u8],
+) -> Result<Line, NoMemory>
     ensures value { IfOk result (λ answer. answer ≡ line_of_number (words rest.now) (Some name)) }
     ensures few_hints { IfOk result (HasHintsWithin (length rest.now)) }
 {
@@ -124,7 +130,7 @@ fn read_after_number(alloc: Global, name: u64, rest: &[u8]) -> Result<Line, NoMe
         return Ok(Line::Wrong);
     };
     if word != b"d".as_slice() {
-        read_step(alloc, name, rest)
+        read_step(alloc, literals, name, rest)
     } else if are_deleted(later) {
         Ok(Line::NoEffect)
     } else {
@@ -149,11 +155,16 @@ fn are_deleted(line: &[u8]) -> bool
 }
 
 /// The step of this number that the words tell, if they are of its form.
-fn read_step(alloc: Global, name: u64, line: &[u8]) -> Result<Line, NoMemory>
+fn read_step(
+    alloc: Global,
+    literals: &mut Vec<Literal>,
+    name: u64,
+    line: &[u8],
+) -> Result<Line, NoMemory>
     ensures value { IfOk result (λ answer. answer ≡ with_literals name [] (words line.now)) }
     ensures few_hints { IfOk result (HasHintsWithin (length line.now)) }
 {
-    let Some((literals, rest)) = read_literals(alloc, line)? else {
+    let Some(rest) = read_literals(literals, line)? else {
         return Ok(Line::Wrong);
     };
     let Some((hints, rest)) = read_hints(alloc, rest)? else {
@@ -169,22 +180,22 @@ fn read_step(alloc: Global, name: u64, line: &[u8]) -> Result<Line, NoMemory>
     }))
 }
 
-/// The literals before the first 0, and what comes after it. `None` where one of the words before it means
-/// no literal, or there is no 0.
+/// Puts the literals before the first 0 in the vector in place of what it held, and answers what comes after that 0.
+/// `None` where one of the words before it means no literal, or there is no 0.
 fn read_literals<'a>(
-    alloc: Global,
+    literals: &mut Vec<Literal>,
     line: &'a [u8],
-) -> Result<Option<(Vec<Literal>, &'a [u8])>, NoMemory>
-    ensures some { IfOk result (λ found. IfSome found (λ read. (name : ℕ) → with_literals name [] (words line.now) ≡ with_hints name read.0.items [] (words read.1.now))) }
-    ensures literals { IfOk result (λ found. IfSome found (λ read. list_all is_literal (map number_of read.0.items) ≡ true)) }
+) -> Result<Option<&'a [u8]>, NoMemory>
+    ensures some { IfOk result (λ found. IfSome found (λ rest. (name : ℕ) → with_literals name [] (words line.now) ≡ with_hints name literals.new.items [] (words rest.now))) }
+    ensures literals { IfOk result (λ found. IfSome found (λ rest. list_all is_literal (map number_of literals.new.items) ≡ true)) }
     ensures none { IfOk result (λ found. IfNone found ((name : ℕ) → with_literals name [] (words line.now) ≡ Line.Wrong)) }
-    ensures within { IfOk result (λ found. IfSome found (λ read. length read.1.now ≤ length line.now)) }
+    ensures within { IfOk result (λ found. IfSome found (λ rest. length rest.now ≤ length line.now)) }
 {
-    let mut literals = Vec::new(alloc);
+    literals.clear();
     let mut rest = line;
     while let Some((word, later)) = first_word(rest) {
         if ends_list(word) {
-            return Ok(Some((literals, later)));
+            return Ok(Some(later));
         }
         let Some(literal) = literal_in(word) else {
             return Ok(None);

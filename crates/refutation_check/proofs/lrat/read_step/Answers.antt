@@ -12,10 +12,10 @@ use Rattle.refutation_check.proofs.lrat.read_step.Goals as goal
 pub returns-then-is_some-clause-value : goal.returns-then-is_some-clause-value
 returns-then-is_some-clause-value c =
     let name = c.args.name in
-    let literals = c.in-Some.literals.items in
+    let literals = c.read_literals.new.literals.items in
     let hints = c.in-Some-2.hints.items in
     let first : with_literals name [] (words c.args.line.now) ≡ with_hints name literals [] (words c.in-Some.rest.now) =
-    (rw c.in-Some.is at c.in_ok-literals.ensures.some) name in
+    (rw c.in-Some.is at c.in_ok-rest.ensures.some) name in
     let second : with_hints name literals [] (words c.in-Some.rest.now) ≡ with_both name literals hints (words c.in-Some-2.rest.now) =
     (rw c.in-Some-2.is at c.in_ok-hints.ensures.some) name literals in
     let positive : All (λ hint. 0 < hint) hints = rw c.in-Some-2.is at c.in_ok-hints.ensures.positive in
@@ -27,13 +27,13 @@ returns-then-is_some-clause-value c =
 pub returns-clause-value : goal.returns-clause-value
 returns-clause-value c =
     let name = c.args.name in
-    let literals = c.in-Some.literals.items in
+    let literals = c.read_literals.new.literals.items in
     let hints = c.in-Some-2.hints.items in
     let first : with_literals name [] (words c.args.line.now) ≡ with_hints name literals [] (words c.in-Some.rest.now) =
-    (rw c.in-Some.is at c.in_ok-literals.ensures.some) name in
+    (rw c.in-Some.is at c.in_ok-rest.ensures.some) name in
     let second : with_hints name literals [] (words c.in-Some.rest.now) ≡ with_both name literals hints (words c.in-Some-2.rest.now) =
     (rw c.in-Some-2.is at c.in_ok-hints.ensures.some) name literals in
-    let all : list_all is_literal (map number_of literals) ≡ true = rw c.in-Some.is at c.in_ok-literals.ensures.literals in
+    let all : list_all is_literal (map number_of literals) ≡ true = rw c.in-Some.is at c.in_ok-rest.ensures.literals in
     let positive : All (λ hint. 0 < hint) hints = rw c.in-Some-2.is at c.in_ok-hints.ensures.positive in
     let last : with_both name literals hints (words c.in-Some-2.rest.now)
     ≡ Says (record { number = name; clause = in_order literals; hints = hints }) =
