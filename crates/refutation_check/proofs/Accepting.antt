@@ -1,38 +1,6 @@
 -- One more step is accepted.
-use Rattle.std.proofs.Common.{
-  ◌≡◌,
-  ℕ,
-  ◌+◌,
-  ◌<◌,
-  ◌≤◌,
-  Bool,
-  true,
-  false,
-  cond,
-  leb,
-  ◌||◌,
-  List,
-  [],
-  ◌∷◌,
-  ◌++◌,
-  map,
-  length,
-  get_or,
-  take,
-  drop,
-  Some,
-  None,
-  All,
-  AllPairs,
-  sym,
-  ap,
-  ◌∙◌,
-  subst,
-  refl,
-  arith,
-  inl,
-  inr,
-}
+use Rattle.std.proofs.Common.{◌≡◌, ℕ, ◌+◌, ◌<◌, ◌≤◌, Bool, true, false, cond, leb, ◌||◌, List, [], ◌∷◌, ◌++◌, map, length, get_or, take}
+use Rattle.std.proofs.Common.{drop, Some, None, All, AllPairs, sym, ap, ◌∙◌, subst, refl, arith, inl, inr}
 use Rattle.std.specs.Prelude.{option_map}
 use Rattle.std.specs.List.{list_any}
 use Rattle.std.proofs.lemmas.Bool.{true≢false, or_parts, cases_lt, le-leb, cond-true}
@@ -41,21 +9,8 @@ use Rattle.std.proofs.lemmas.List.Elements.{All-push, All-cons, All-nil}
 use Rattle.clause_core.specs.Literals.{Lit, negation}
 use Rattle.clause_core.specs.Clauses.{IsOver, has_pair}
 use Rattle.refutation_check.specs.declared.steps.Step.{Step}
-use Rattle.refutation_check.specs.Checking.{
-  Numbered,
-  numbered_from,
-  at_line,
-  at_hint,
-  refused_hint,
-  is_no_step,
-  step_refusal,
-  first_of,
-  steps_refusal,
-  is_empty,
-  end_refusal,
-  log_refusal,
-  unfinished,
-}
+use Rattle.refutation_check.specs.Checking.{Numbered, numbered_from, at_line, at_hint, refused_hint, is_no_step, step_refusal, first_of}
+use Rattle.refutation_check.specs.Checking.{steps_refusal, is_empty, end_refusal, log_refusal, unfinished}
 use Rattle.refutation_check.specs.internal.Accepted.{numbered, known_after, AreAccepted}
 
 -- the steps up to a place are accepted, and what is left decides

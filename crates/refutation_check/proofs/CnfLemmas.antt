@@ -1,39 +1,6 @@
 -- The words of a formula's text, one by one.
-use Rattle.std.proofs.Common.{
-  ◌≡◌,
-  ℕ,
-  suc,
-  ◌+◌,
-  ◌<◌,
-  ◌≤◌,
-  Bool,
-  true,
-  false,
-  not,
-  cond,
-  leb,
-  ltb,
-  ℤ,
-  List,
-  [],
-  ◌∷◌,
-  ◌++◌,
-  map,
-  length,
-  take,
-  get_or,
-  Option,
-  Some,
-  None,
-  Contains,
-  sym,
-  ap,
-  ◌∙◌,
-  refl,
-  arith,
-  inl,
-  inr,
-}
+use Rattle.std.proofs.Common.{◌≡◌, ℕ, suc, ◌+◌, ◌<◌, ◌≤◌, Bool, true, false, not, cond, leb, ltb, ℤ, List, [], ◌∷◌, ◌++◌, map, length}
+use Rattle.std.proofs.Common.{take, get_or, Option, Some, None, Contains, sym, ap, ◌∙◌, refl, arith, inl, inr}
 use Rattle.std.specs.Prelude.{nat_abs, find, count_by, flat_map}
 use Rattle.std.specs.List.{slice_split, onto_first, cons_option}
 use Rattle.std.proofs.lemmas.Bool.{and_parts, and_from, cond-true, cond-false, false≢true, ltb-true, cases_Bool}
@@ -48,23 +15,9 @@ use Rattle.refutation_check.specs.DataLines.{words_beside, data_lines}
 use Rattle.tsl_text.specs.Numbers.{signed_number_in}
 use Rattle.refutation_check.specs.Numbers.{is_zero}
 use Rattle.sequence.specs.Options.{passes}
-use Rattle.refutation_check.specs.CnfText.{
-  is_cnf,
-  form_at,
-  too_many_variables,
-  too_many_clauses,
-  header,
-  means,
-  with_zeros,
-  is_right,
-  first_wrong,
-  numbers_of,
-  clauses_of,
-  answer_of_words,
-  answer_of_header,
-  answer_of_lines,
-  cnf_answer,
-}
+use Rattle.refutation_check.specs.CnfText.{is_cnf, form_at, too_many_variables, too_many_clauses, header, means, with_zeros, is_right}
+use Rattle.refutation_check.specs.CnfText.{first_wrong, numbers_of, clauses_of, answer_of_words, answer_of_header, answer_of_lines}
+use Rattle.refutation_check.specs.CnfText.{cnf_answer}
 use Rattle.refutation_check.specs.internal.Reading.{are_within, ended_clauses}
 use Rattle.refutation_check.specs.LogText.{is_literal}
 use Rattle.refutation_check.proofs.NumberLemmas.{zero_from, onto_front, onto_front-nil, onto_front-first, zeros_more}

@@ -1,36 +1,6 @@
 -- The words of a log's line, one by one, and its lines.
-use Rattle.std.proofs.Common.{
-  ◌≡◌,
-  ℕ,
-  zero,
-  suc,
-  ◌<◌,
-  ◌≤◌,
-  Bool,
-  true,
-  false,
-  not,
-  cond,
-  ◌&&◌,
-  ℤ,
-  pos,
-  negsuc,
-  List,
-  [],
-  ◌∷◌,
-  ◌++◌,
-  map,
-  length,
-  Option,
-  Some,
-  None,
-  All,
-  sym,
-  ap,
-  ◌∙◌,
-  refl,
-  arith,
-}
+use Rattle.std.proofs.Common.{◌≡◌, ℕ, zero, suc, ◌<◌, ◌≤◌, Bool, true, false, not, cond, ◌&&◌, ℤ, pos, negsuc, List, [], ◌∷◌, ◌++◌, map}
+use Rattle.std.proofs.Common.{length, Option, Some, None, All, sym, ap, ◌∙◌, refl, arith}
 use Rattle.std.specs.Prelude.{nat_abs, find, filter_map, option_map, option_to_list, is_some, IfSome, IfNone}
 use Rattle.std.specs.List.{slice_split, onto_first, list_all, cons_option}
 use Rattle.std.proofs.lemmas.Bool.{and_from, true≢false, false≢true}
@@ -46,17 +16,8 @@ use Rattle.tsl_text.specs.Numbers.{signed_number_in}
 use Rattle.refutation_check.specs.Numbers.{is_zero}
 use Rattle.sequence.proofs.Passes.{not_all as some_fails}
 use Rattle.sequence.specs.Options.{all_there, passes}
-use Rattle.refutation_check.specs.LogText.{
-  is_log,
-  is_literal,
-  is_hint,
-  step_of,
-  step_of_parts,
-  step_of_numbers,
-  line_answer,
-  is_wrong,
-  step_in,
-}
+use Rattle.refutation_check.specs.LogText.{is_log, is_literal, is_hint, step_of, step_of_parts, step_of_numbers, line_answer, is_wrong}
+use Rattle.refutation_check.specs.LogText.{step_in}
 use Rattle.refutation_check.specs.internal.Reading.{with_literals, with_hints, with_both, log_among, log_after, HasHintsWithin}
 use Rattle.refutation_check.proofs.NumberLemmas.{onto_front, onto_front-nil, has_no_zero, split_front, split_at_zero, split_behind}
 

@@ -1,30 +1,6 @@
 -- A log that is not refused shows that no assignment meets the formula.
-use Rattle.std.proofs.Common.{
-  ◌≡◌,
-  ℕ,
-  suc,
-  Bool,
-  true,
-  false,
-  cond,
-  eqb,
-  List,
-  [],
-  ◌∷◌,
-  ◌++◌,
-  map,
-  length,
-  Option,
-  Some,
-  None,
-  ap,
-  ◌∙◌,
-  refl,
-  arith,
-  inl,
-  inr,
-  Contains,
-}
+use Rattle.std.proofs.Common.{◌≡◌, ℕ, suc, Bool, true, false, cond, eqb, List, [], ◌∷◌, ◌++◌, map, length, Option, Some, None, ap, ◌∙◌}
+use Rattle.std.proofs.Common.{refl, arith, inl, inr, Contains}
 use Rattle.std.specs.Prelude.{option_map}
 use Rattle.std.specs.List.{list_any, list_all}
 use Rattle.std.proofs.lemmas.Bool.{false≢true, or_cases, cases_Bool, and_parts, and_from}
@@ -35,30 +11,9 @@ use Rattle.clause_core.specs.Propagation.{not_false, ReachesFalse}
 use Rattle.clause_core.specs.Propagation.Reaches.{done, turn}
 use Rattle.clause_core.proofs.Semantics.{reverse_follows}
 use Rattle.refutation_check.specs.declared.steps.Step.{Step}
-use Rattle.refutation_check.specs.Checking.{
-  Numbered,
-  numbered_from,
-  clause_named,
-  Effect,
-  ends,
-  makes,
-  shows_nothing,
-  Refusal,
-  at_line,
-  at_hint,
-  effect_of_open,
-  effect_of_named,
-  led_to,
-  refused_hint,
-  is_no_step,
-  step_refusal,
-  first_of,
-  steps_refusal,
-  is_empty,
-  end_refusal,
-  log_refusal,
-  unfinished,
-}
+use Rattle.refutation_check.specs.Checking.{Numbered, numbered_from, clause_named, Effect, ends, makes, shows_nothing, Refusal, at_line}
+use Rattle.refutation_check.specs.Checking.{at_hint, effect_of_open, effect_of_named, led_to, refused_hint, is_no_step, step_refusal}
+use Rattle.refutation_check.specs.Checking.{first_of, steps_refusal, is_empty, end_refusal, log_refusal, unfinished}
 
 abbrev clauses_in : List Numbered → List (List Lit)
 clauses_in known = map (λ k. k.clause) known

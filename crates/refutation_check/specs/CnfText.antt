@@ -1,35 +1,6 @@
 -- Texts of formulas in conjunctive normal form: a header `p cnf V C`, then C clauses over V variables.
-use Rattle.std.specs.Prelude.{
-  ℕ,
-  suc,
-  ◌+◌,
-  nat_le,
-  nat_lt,
-  Bool,
-  not,
-  cond,
-  ◌&&◌,
-  ℤ,
-  nat_abs,
-  List,
-  [],
-  ◌∷◌,
-  map,
-  length,
-  take,
-  find,
-  scan,
-  count_by,
-  flat_map,
-  filter_map,
-  codes,
-  bytes_eq,
-  Option,
-  Some,
-  None,
-  option_map,
-  option_and_then,
-}
+use Rattle.std.specs.Prelude.{ℕ, suc, ◌+◌, nat_le, nat_lt, Bool, not, cond, ◌&&◌, ℤ, nat_abs, List, [], ◌∷◌, map, length, take, find}
+use Rattle.std.specs.Prelude.{scan, count_by, flat_map, filter_map, codes, bytes_eq, Option, Some, None, option_map, option_and_then}
 use Rattle.std.specs.List.{slice_split}
 use Rattle.clause_core.specs.Literals.{Lit, literal_of}
 use Rattle.clause_core.specs.Clauses.{in_order}

@@ -1,33 +1,6 @@
 -- Texts of logs: lines `NUMBER LITERALS 0 HINTS 0` and `NUMBER d NUMBERS 0`.
-use Rattle.std.specs.Prelude.{
-  ℕ,
-  zero,
-  suc,
-  ◌==◌,
-  nat_lt,
-  Bool,
-  true,
-  false,
-  not,
-  cond,
-  ◌&&◌,
-  ℤ,
-  pos,
-  negsuc,
-  nat_abs,
-  List,
-  [],
-  ◌∷◌,
-  map,
-  find,
-  filter_map,
-  codes,
-  bytes_eq,
-  Option,
-  Some,
-  None,
-  is_some,
-}
+use Rattle.std.specs.Prelude.{ℕ, zero, suc, ◌==◌, nat_lt, Bool, true, false, not, cond, ◌&&◌, ℤ, pos, negsuc, nat_abs, List, [], ◌∷◌, map}
+use Rattle.std.specs.Prelude.{find, filter_map, codes, bytes_eq, Option, Some, None, is_some}
 use Rattle.std.specs.List.{list_all, slice_split}
 use Rattle.clause_core.specs.Literals.{literal_of}
 use Rattle.clause_core.specs.Clauses.{in_order}

@@ -1,35 +1,6 @@
 -- Internal: how far a text has been read. Only private functions of this crate use these words.
-use Rattle.std.specs.Prelude.{
-  ℕ,
-  ◌+◌,
-  ◌<◌,
-  ◌≤◌,
-  ◌^◌,
-  ⊤,
-  nat_le,
-  ◌==◌,
-  Bool,
-  false,
-  not,
-  cond,
-  ℤ,
-  pos,
-  nat_abs,
-  List,
-  [],
-  ◌∷◌,
-  ◌++◌,
-  map,
-  filter,
-  length,
-  flat_map,
-  find,
-  filter_map,
-  Option,
-  Some,
-  None,
-  option_map,
-}
+use Rattle.std.specs.Prelude.{ℕ, ◌+◌, ◌<◌, ◌≤◌, ◌^◌, ⊤, nat_le, ◌==◌, Bool, false, not, cond, ℤ, pos, nat_abs, List, [], ◌∷◌, ◌++◌, map}
+use Rattle.std.specs.Prelude.{filter, length, flat_map, find, filter_map, Option, Some, None, option_map}
 use Rattle.std.specs.List.{list_all}
 use Rattle.clause_core.specs.Literals.{Lit, number_of, literal_of}
 use Rattle.clause_core.specs.Clauses.{in_order}

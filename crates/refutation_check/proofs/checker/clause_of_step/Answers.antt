@@ -5,10 +5,8 @@ use Rattle.refutation_check.specs.Checking.{clause_named}
 use Rattle.refutation_check.specs.internal.Accepted.{numbered}
 use Rattle.refutation_check.proofs.Naming.{named_step, named_no_step, no_number}
 use Rattle.refutation_check.proofs.checker.clause_of_step.Goals as goal
-use Rattle.refutation_check.proofs.checker.clause_of_step.Goals.{
-  else-place-accepted-via-then-place-accepted+else-accepted-place,
-  else-place-accepted-via-else-place-accepted,
-}
+use Rattle.refutation_check.proofs.checker.clause_of_step.Goals.{else-place-accepted-via-then-place-accepted+else-accepted-place}
+use Rattle.refutation_check.proofs.checker.clause_of_step.Goals.{else-place-accepted-via-else-place-accepted}
 
 pub returns-then-accepted-place-clause-value : goal.returns-then-accepted-place-clause-value
 returns-then-accepted-place-clause-value c =
