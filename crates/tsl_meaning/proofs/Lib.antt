@@ -4,5 +4,7 @@ pub mod OneAction
 pub mod Values
 pub mod Walks
 pub mod Runs
+pub mod Repeats
+pub mod Closing
 pub mod Naming
 pub mod PromisedFormulas

@@ -145,7 +145,8 @@ module _ (names : List Name) (program : ProgramTree) (interpretation : Interpret
         let read = and_parts (reads_only (program.inputs ++ program.cells) t)
         (list_all (reads_only (program.inputs ++ program.cells)) ts) reads in
         let named = and_parts (term_is_over names t) (list_all (term_is_over names) ts) overs in (
-          value_there names program interpretation is (program.inputs ++ program.cells) (signal_value program rows c) known t named.0 read.0,
+          value_there names program interpretation is (program.inputs ++ program.cells)
+              (signal_value program rows c) known t named.0 read.0,
           updates_there ts read.1 named.1 n,
         )
 

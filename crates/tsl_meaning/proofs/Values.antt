@@ -55,7 +55,8 @@ name_of names id kind arity is = by (slice_get names id) refl is
         record { name = n; there = there; kind_is = same_kind_is n.kind kind parts.0; arity_is = eqb-true n.arity arity parts.1 }
 
 -- the place of arguments that are values is one of the table's
-place_below : (domain n : ℕ) (vs : List ℕ) → are_values domain vs ≡ true → fold (λ m v. m * domain + v) n vs < (n + 1) * domain ^ length vs
+pub place_below : (domain n : ℕ) (vs : List ℕ) → are_values domain vs ≡ true →
+    fold (λ m v. m * domain + v) n vs < (n + 1) * domain ^ length vs
 place_below domain n [] all = subst (λ k. n < (n + 1) * k) (sym (pow-zero domain)) (omega arith)
 place_below domain n (v ∷ vs) all =
     let parts = and_parts (nat_lt v domain) (are_values domain vs) all in
@@ -141,5 +142,5 @@ module _ (names : List Name) (program : ProgramTree) (interpretation : Interpret
         let table = is.predicates p.predicate name.name name.there name.kind_is in
         let entry =
         entry_there p.predicate 2 table.0 vs.members name.name.arity table.1 table.2 (vs.count ∙ sym name.arity_is) vs.below in
-        let meaning : List ℕ → Option Bool = λ arguments. option_map (λ entry. entry == 1) (entry_at interpretation p.predicate arguments) in
+        let meaning : List ℕ → Option Bool = λ vs. option_map (λ entry. entry == 1) (entry_at interpretation p.predicate vs) in
         (entry.value == 1, ap (option_and_then meaning) vs.are ∙ ap (option_map (λ entry. entry == 1)) entry.is)

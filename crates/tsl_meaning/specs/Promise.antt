@@ -1,5 +1,5 @@
 -- What a written program promises.
-use Rattle.std.specs.Prelude.{◌≡◌, ℕ, List}
+use Rattle.std.specs.Prelude.{◌≡◌, ℕ, ◌*◌, ◌^◌, List, ◌++◌, length}
 use Rattle.std.specs.List.{AllByRecursion}
 use Rattle.loop_shape.specs.LoopShape.{LoopShape}
 use Rattle.tsl_terms.specs.Name.{Name}
@@ -12,6 +12,11 @@ use Rattle.tsl_meaning.specs.OverNames.{IsProgramOver}
 use Rattle.tsl_meaning.specs.Interpretation.{Interpretation, InputRows, IsInterpretation, IsInputLoop, meanings_in}
 use Rattle.tsl_meaning.specs.Run.{Closed}
 use Rattle.tsl_meaning.specs.Lasso.{Meets, closed_run}
+
+-- how many configurations a program has: rows times states times values of each cell
+abbrev pub configurations : ProgramTree → Interpretation → InputRows ℕ → ℕ
+configurations program interpretation rows =
+    (length (rows.stem ++ rows.cycle) * length program.states) * interpretation.domain ^ length program.cells
 
 -- every closed run, for every closing pair, under every finite interpretation and every input loop, meets the formula
 abbrev pub EveryRunMeets : List Name → ProgramTree → FormulaTree → Type 0

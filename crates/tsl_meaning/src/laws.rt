@@ -1,7 +1,8 @@
 //! Laws of the meaning.
 
-ghost use Rattle.std.specs.Prelude.{◌≡◌, ℕ, List};
+ghost use Rattle.std.specs.Prelude.{◌≡◌, ℕ, ◌+◌, ◌≤◌, List};
 ghost use Rattle.std.specs.List.{AllByRecursion};
+ghost use Rattle.loop_shape.specs.LoopShape.{LoopShape};
 ghost use Rattle.tsl_terms.specs.Name.{Name};
 ghost use Rattle.tsl_terms.specs.FormulaTree.{FormulaTree};
 ghost use Rattle.tsl_terms.specs.Atoms.{atoms};
@@ -12,9 +13,9 @@ ghost use Rattle.flow_program.specs.ProgramTree.{ProgramTree};
 ghost use Rattle.flow_program.specs.ProgramText.{IsProgram, IsWritable};
 ghost use Rattle.tsl_meaning.specs.OverNames.{IsProgramOver, IsFormulaOver};
 ghost use Rattle.tsl_meaning.specs.Interpretation.{Interpretation, InputRows, IsInterpretation, IsInputLoop, meanings_in};
-ghost use Rattle.tsl_meaning.specs.Run.{HasStep};
+ghost use Rattle.tsl_meaning.specs.Run.{HasStep, Closed};
 ghost use Rattle.tsl_meaning.specs.Lasso.{IsDecided};
-ghost use Rattle.tsl_meaning.specs.Promise.{Realizes};
+ghost use Rattle.tsl_meaning.specs.Promise.{Realizes, configurations};
 
 /// A program that can be written over names is a program over them.
 pub fn writable_programs_are_over_names()
@@ -29,6 +30,16 @@ pub fn programs_go_on()
         IsProgramOver names program → IsInterpretation names program.cells interpretation →
         IsInputLoop interpretation.domain program.inputs rows →
         (t : ℕ) → HasStep (meanings_in names program interpretation) program rows t }
+{}
+
+/// A program over names closes under every interpretation of the names and every input loop, within
+/// as many steps as it has configurations. So what every closed run meets says something of each.
+pub fn programs_close()
+    ensures { (names : List Name) (program : ProgramTree) (interpretation : Interpretation) (rows : InputRows ℕ) →
+        IsProgramOver names program → IsInterpretation names program.cells interpretation →
+        IsInputLoop interpretation.domain program.inputs rows →
+        (shape : LoopShape) × Closed (meanings_in names program interpretation) program rows shape
+        × (shape.start + shape.length ≤ configurations program interpretation rows) }
 {}
 
 /// At each step each atom of a formula that speaks of the program is decided: a probe has a truth,

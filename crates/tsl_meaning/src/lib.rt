@@ -5,7 +5,7 @@ mod laws;
 mod run;
 
 pub use laws::{
-    atoms_are_decided, programs_go_on, promised_formulas_speak_of_the_program,
+    atoms_are_decided, programs_close, programs_go_on, promised_formulas_speak_of_the_program,
     writable_programs_are_over_names,
 };
 pub use run::{InputLoop, LoopRun, Position};
