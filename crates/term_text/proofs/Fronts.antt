@@ -1,5 +1,6 @@
 -- Where a run of bytes ends: facts about bytes and lists alone.
-use Rattle.std.proofs.Common.{◌≡◌, ℕ, ◌+◌, ◌<◌, ◌≤◌, Bool, true, false, ◌&&◌, ◌||◌, List, [], ◌∷◌, ◌++◌, IsTrue, eqb, leb, refl, sym, ap, ◌∙◌, arith, ⊎_elim}
+use Rattle.std.proofs.Common.{◌≡◌, ℕ, ◌≤◌, Bool, true, false, ◌||◌, List, [], ◌∷◌, ◌++◌, IsTrue, eqb, leb, refl, sym, ap, ◌∙◌, arith,
+    ⊎_elim}
 use Rattle.std.specs.Char.{is_ascii_digit, is_ascii_alphabetic, is_ascii_alphanumeric}
 use Rattle.std.specs.Int.{is_in_range}
 use Rattle.std.specs.List.{list_all}
@@ -38,7 +39,8 @@ begun_continues c h =
     (λ letter.
     or_left (is_ascii_alphanumeric c) (eqb c 95 || eqb c 39)
     (⊎_elim
-    (λ upper. or_left (is_in_range 48 57 c || is_in_range 65 90 c) (is_in_range 97 122 c) (or_right (is_in_range 48 57 c) (is_in_range 65 90 c) upper))
+    (λ upper. or_left (is_in_range 48 57 c || is_in_range 65 90 c) (is_in_range 97 122 c)
+        (or_right (is_in_range 48 57 c) (is_in_range 65 90 c) upper))
     (λ lower. or_right (is_in_range 48 57 c || is_in_range 65 90 c) (is_in_range 97 122 c) lower)
     (or_cases (is_in_range 65 90 c) (is_in_range 97 122 c) letter)))
     (λ underscore. or_right (is_ascii_alphanumeric c) (eqb c 95 || eqb c 39) (or_left (eqb c 95) (eqb c 39) underscore))

@@ -1,2 +1,4 @@
+pub mod Begins
 pub mod Fronts
+pub mod Held
 pub mod Spelling

@@ -1,7 +1,7 @@
 -- How formulas are written: `true`, `false`, tests and updates as they are, `!f`, `X f`, `F f`, `G f`, and the
 -- other operators between their sides, with brackets always: `(f && g && h)`, `(f -> g)`, `(f U g)`.
 -- The spelling of operators is that of tsltools' specification format, in this project's profile.
-use Rattle.std.specs.Prelude.{ℕ, Bool, true, false, ◌&&◌, List, [], ◌++◌, codes}
+use Rattle.std.specs.Prelude.{ℕ, Bool, true, false, ◌&&◌, List, [], ◌++◌, codes, IsTrue}
 use Rattle.tsl_terms.specs.declared.operator.UnaryOperator.{UnaryOperator}
 use Rattle.tsl_terms.specs.declared.operator.UnaryOperator.TheVariants.{Negation, Next, Finally, Globally}
 use Rattle.tsl_terms.specs.declared.operator.BinaryOperator.{BinaryOperator}
@@ -11,6 +11,8 @@ use Rattle.tsl_terms.specs.declared.operator.ManyOperator.TheVariants.{Conjuncti
 use Rattle.tsl_terms.specs.Name.{Name}
 use Rattle.tsl_terms.specs.FormulaTree.{Atom, test, update, FormulaTree, FormulaTrees, constant, atom, unary, binary, many, no_formulas, more_formulas}
 use Rattle.tsl_terms.specs.Atoms.{is_made_of}
+use Rattle.tsl_terms.specs.SpecTree.{SpecTree, whole_formula}
+use Rattle.tsl_terms.specs.Laws.{FormulasFit}
 use Rattle.term_text.specs.TermText.{probe_text, update_text, is_held, term_is_held, probe_is_held}
 
 abbrev pub constant_text : Bool → List ℕ
@@ -67,3 +69,7 @@ atom_is_held names (update s t) = is_held names s && term_is_held names t
 -- each atom is held, and each conjunction and disjunction has two members or more
 abbrev pub can_be_written : List Name → FormulaTree → Bool
 can_be_written names = is_made_of (atom_is_held names)
+
+-- the whole formula of formulas that fit the names can be written
+abbrev pub WholeFormulasCanBeWritten : Type 0
+WholeFormulasCanBeWritten = (spec : SpecTree) → FormulasFit spec → IsTrue (can_be_written spec.names (whole_formula spec))

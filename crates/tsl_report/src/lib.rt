@@ -5,7 +5,8 @@
 //!
 //! `formula_text` gives the text of a formula: at Ok exactly the bytes that the definition of the same
 //! name gives. The one condition is that the names hold each number and that each conjunction and
-//! disjunction has two members at least. An `Err` says that memory ran out. The time is linear in the
+//! disjunction has two members at least, which holds of the whole formula of every specification that is
+//! read. An `Err` says that memory ran out. The time is linear in the
 //! text; formulas in formulas are written by recursion, lists of members are gone along by a loop.
 #![tactic(auto)]
 
@@ -15,8 +16,10 @@ ghost use Rattle.tsl_terms.specs.Atoms.{members_are_made_of};
 ghost use Rattle.tsl_report.specs.FormulaText.{formula_text, members_text, others_text, atom_is_held, can_be_written};
 
 mod fault;
+mod laws;
 
 pub use fault::{Fault, Head, LimitName, TokenPart, fault_text};
+pub use laws::whole_formulas_can_be_written;
 use sequence::NoMemory;
 use std::alloc::Global;
 use term_text::{put_probe, put_update};
