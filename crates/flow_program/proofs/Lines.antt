@@ -24,25 +24,25 @@ begins_numbered test line each i (x ∷ xs) u h = ap (begins test) (append_assoc
     ∙ each i x (numbered line (suc i) xs ++ u)
 
 -- Each line is read as one member, where no byte that `stop` names follows.
-pub one_list_of_lines : {X : Type 0} (line : X → List ℕ) (Fit : X → Type 0) (letter : ℕ) (stop : ℕ → Bool) →
+pub one_list_of_members : {X : Type 0} (line : X → List ℕ) (Fit : X → Type 0) (letter : ℕ) (stop : ℕ → Bool) →
     ((x : X) (u : List ℕ) → begins (is_letter letter) (line x ++ u) ≡ true) → ((x : X) (u : List ℕ) → begins stop (line x ++ u) ≡ false) →
     ((x y : X) (u v : List ℕ) → Fit x → Fit y → begins stop u ≡ false → begins stop v ≡ false → line x ++ u ≡ line y ++ v →
     (x ≡ y) × (u ≡ v)) → (xs ys : List X) (u v : List ℕ) → AllByRecursion Fit xs → AllByRecursion Fit ys →
     begins (is_letter letter) u ≡ false → begins (is_letter letter) v ≡ false → begins stop u ≡ false → begins stop v ≡ false →
     flat_map line xs ++ u ≡ flat_map line ys ++ v → (xs ≡ ys) × (u ≡ v)
-one_list_of_lines line Fit letter stop starts quiet one [] [] u v p q h k m n e = (refl, e)
-one_list_of_lines line Fit letter stop starts quiet one [] (y ∷ ys) u v p q h k m n e =
+one_list_of_members line Fit letter stop starts quiet one [] [] u v p q h k m n e = (refl, e)
+one_list_of_members line Fit letter stop starts quiet one [] (y ∷ ys) u v p q h k m n e =
     absurd (other_front (is_letter letter) u (line y ++ (flat_map line ys ++ v)) h (starts y (flat_map line ys ++ v)) (e
     ∙ append_assoc (line y) (flat_map line ys) v))
-one_list_of_lines line Fit letter stop starts quiet one (x ∷ xs) [] u v p q h k m n e =
+one_list_of_members line Fit letter stop starts quiet one (x ∷ xs) [] u v p q h k m n e =
     absurd (other_front (is_letter letter) v (line x ++ (flat_map line xs ++ u)) k (starts x (flat_map line xs ++ u)) (sym e
     ∙ append_assoc (line x) (flat_map line xs) u))
-one_list_of_lines {X = X} line Fit letter stop starts quiet one (x ∷ xs) (y ∷ ys) u v p q h k m n e =
+one_list_of_members {X = X} line Fit letter stop starts quiet one (x ∷ xs) (y ∷ ys) u v p q h k m n e =
     let L : List ℕ = flat_map line xs in
     let R : List ℕ = flat_map line ys in
     let first = one x y (L ++ u) (R ++ v) p.0 q.0 (begins_lines stop line quiet xs u m) (begins_lines stop line quiet ys v n)
     (sym (append_assoc (line x) L u) ∙ e ∙ append_assoc (line y) R v) in
-    let rest = one_list_of_lines line Fit letter stop starts quiet one xs ys u v p.1 q.1 h k m n first.1 in
+    let rest = one_list_of_members line Fit letter stop starts quiet one xs ys u v p.1 q.1 h k m n first.1 in
     (ap (λ (z : X). z ∷ xs) first.0 ∙ ap (λ (zs : List X). y ∷ zs) rest.0, rest.1)
 
 pub one_numbered_list : {X : Type 0} (line : ℕ → X → List ℕ) (Fit : X → Type 0) (letter : ℕ) →

@@ -14,7 +14,7 @@ use Rattle.tsl_text.proofs.Fronts.{begins, other_front}
 use Rattle.term_text.proofs.Spelling.{one_name, one_probe, one_update}
 use Rattle.flow_program.specs.NodeTree.{NodeTree, branch, assign}
 use Rattle.flow_program.specs.ProgramText.{listed_text, window_text, updates_text, node_text}
-use Rattle.flow_program.proofs.Lines.{is_letter, begins_lines, one_list_of_lines}
+use Rattle.flow_program.proofs.Lines.{is_letter, begins_lines, one_list_of_members}
 use Rattle.tsl_text.proofs.NumberLaws.{one_number}
 use Rattle.flow_program.proofs.Numbers.{at_ends, then_ends}
 
@@ -141,7 +141,7 @@ module _ (names : List Name) (distinct : AreDistinct names) where
       (begins_lines is_ascii_digit (listed_text names) quiet x.updates (newline ++ u) refl)
       (begins_lines is_ascii_digit (listed_text names) quiet y.updates (newline ++ v) refl)
       (append_cancel_left (codes " at ") x5 y5 right.1) in
-      let updates = one_list_of_lines (listed_text names) (ListedKeeps names) 32 is_ascii_digit
+      let updates = one_list_of_members (listed_text names) (ListedKeeps names) 32 is_ascii_digit
       (λ z w. refl) quiet one_listed x.updates y.updates (newline ++ u)
       (newline ++ v) p.updates q.updates refl refl refl refl length.1 in
       (same_window x y left.0 left_at.0 right.0 length.0 updates.0, append_cancel_left newline u v updates.1)

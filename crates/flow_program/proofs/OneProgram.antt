@@ -21,7 +21,7 @@ use Rattle.flow_program.specs.ProgramTree.{ProgramTree, controlled}
 use Rattle.flow_program.specs.Fits.{StatesFit, window_fits, longest, rises}
 use Rattle.flow_program.specs.ProgramText.{declarations, window_text, node_text, nodes_text, states_text, program_text, signal_fits, term_is_writable, probe_is_writable, listed_is_writable, window_is_writable, node_is_writable, IsWritable, IsProgram, ProgramText}
 use Rattle.flow_program.proofs.Held.{window_parts}
-use Rattle.flow_program.proofs.Lines.{is_letter, numbered, begins_lines, begins_numbered, one_list_of_lines, one_numbered_list}
+use Rattle.flow_program.proofs.Lines.{is_letter, numbered, begins_lines, begins_numbered, one_list_of_members, one_numbered_list}
 use Rattle.flow_program.proofs.OneLine.{newline, ListedKeeps, WindowKeeps, NodeKeeps, one_declaration, one_window, one_node, state_text, one_state}
 
 -- ---- what the members keep
@@ -283,7 +283,7 @@ module _ (names : List Name) (distinct : AreDistinct names) where
       AllByRecursion (λ s. IsTrue (is_usable_at names s)) ys → begins (is_letter letter) u ≡ false → begins (is_letter letter) v ≡ false →
       declarations word names xs ++ u ≡ declarations word names ys ++ v → (xs ≡ ys) × (u ≡ v)
   one_section_of_names word letter starts xs ys u v p q h k e =
-      one_list_of_lines (λ s. word ++ name_text names s ++ newline) (λ s. IsTrue (is_usable_at names s)) letter no_byte starts
+      one_list_of_members (λ s. word ++ name_text names s ++ newline) (λ s. IsTrue (is_usable_at names s)) letter no_byte starts
       (λ s w. nothing_begins ((word ++ name_text names s ++ newline) ++ w))
       (λ r s w z a b m n f. one_declaration names distinct word r s w z a b f)
       xs ys u v p q h k (nothing_begins u) (nothing_begins v) e
@@ -301,7 +301,7 @@ module _ (names : List Name) (distinct : AreDistinct names) where
       let outputs = one_section_of_names (codes "output ") 111 (λ s u. refl) p.outputs q.outputs (windows_on names p)
       (windows_on names q) m.outputs n.outputs
       (windows_quiet (is_letter 111) names p refl refl refl refl) (windows_quiet (is_letter 111) names q refl refl refl refl) cells.1 in
-      let windows = one_list_of_lines (window_text names) (WindowKeeps names) 119 no_byte (λ w u. refl)
+      let windows = one_list_of_members (window_text names) (WindowKeeps names) 119 no_byte (λ w u. refl)
       (λ w u. nothing_begins (window_text names w ++ u))
       (λ x y u v a b c d f. one_window names distinct x y u v a b f)
       p.windows q.windows (nodes_on names (controlled p) p) (nodes_on names (controlled q) q) m.windows n.windows
