@@ -1,27 +1,5 @@
-use Rattle.std.proofs.Common.{
-  ◌≡◌,
-  ℕ,
-  ◌+◌,
-  ◌<◌,
-  ◌≤◌,
-  min,
-  length,
-  get_or,
-  drop,
-  List,
-  [],
-  ◌∷◌,
-  ◌++◌,
-  map,
-  codes,
-  refl,
-  ap,
-  sym,
-  ◌∙◌,
-  rules,
-  arith,
-  ⊎_elim,
-}
+use Rattle.std.proofs.Common.{◌≡◌, ℕ, ◌+◌, ◌<◌, ◌≤◌, min, length, get_or, drop, List, [], ◌∷◌, ◌++◌, map, codes, refl, ap, sym, ◌∙◌}
+use Rattle.std.proofs.Common.{rules, arith, ⊎_elim}
 use Rattle.std.proofs.lemmas.List.{drop_more, drop_all, length_push, append-nil}
 use Rattle.std.proofs.lemmas.Bool.{cases_lt}
 use Rattle.std.proofs.lemmas.Slice.Zip.{zip_turn, zip_end}
