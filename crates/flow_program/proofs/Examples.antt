@@ -13,7 +13,7 @@ use Rattle.flow_program.specs.ProgramTree.{ProgramTree}
 use Rattle.flow_program.specs.Walk.{walk}
 use Rattle.sequence.specs.Numbers.{IsDistinct}
 use Rattle.tsl_terms.specs.OnlyThese.{reads_only}
-use Rattle.flow_program.specs.Fits.{BranchesFit, AssignmentsFit}
+use Rattle.flow_program.specs.Fits.{BranchesFit, AssignmentsFit, window_is_shaped, window_reads_only}
 use Rattle.flow_program.specs.ProgramText.{program_text, IsProgram, IsWritable, ProgramText}
 
 abbrev named : List ℕ → NameKind → ℕ → Name
@@ -226,3 +226,25 @@ cut_short h =
     ≡ length (codes "tslprogram 1\ninput x\noutput y\nnode 0 set [y <- x] go 0\nstate 0 at 0\nend\n") =
     ap length (h.text ∙ one_node_text) in
     omega arith
+
+-- ---- windows
+
+-- the window above is shaped over its cell, and reads its input and its cell
+window_shaped : window_is_shaped (1 ∷ []) window_of_two ≡ true
+window_shaped = refl
+
+-- over no cell it is not, and neither is it of four steps, or with its left probe after its end
+window_of_no_cell : window_is_shaped [] window_of_two ≡ false
+window_of_no_cell = refl
+
+longer_window : window_is_shaped (1 ∷ []) (record window_of_two { length = 4 }) ≡ false
+longer_window = refl
+
+left_too_late : window_is_shaped (1 ∷ []) (record window_of_two { left_at = 3 }) ≡ false
+left_too_late = refl
+
+reads_both : window_reads_only (0 ∷ 1 ∷ []) window_of_two ≡ true
+reads_both = refl
+
+reads_more : window_reads_only (0 ∷ []) window_of_two ≡ false
+reads_more = refl
