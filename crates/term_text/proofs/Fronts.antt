@@ -1,10 +1,9 @@
 -- Where a run of bytes ends: facts about bytes and lists alone.
-use Rattle.std.proofs.Common.{◌≡◌, ℕ, ◌≤◌, Bool, true, false, ◌||◌, List, [], ◌∷◌, ◌++◌, IsTrue, eqb, leb, refl, sym, ap, ◌∙◌, arith,
-    ⊎_elim}
+use Rattle.std.proofs.Common.{◌≡◌, ℕ, ◌≤◌, Bool, ◌||◌, List, [], ◌∷◌, IsTrue, eqb, leb, refl, arith, ⊎_elim}
 use Rattle.std.specs.Char.{is_ascii_digit, is_ascii_alphabetic, is_ascii_alphanumeric}
 use Rattle.std.specs.Int.{is_in_range}
 use Rattle.std.specs.List.{list_all}
-use Rattle.std.proofs.lemmas.Bool.{and_parts, and_from, or_cases, or_left, or_right, leb-true, eqb-true, false≢true}
+use Rattle.std.proofs.lemmas.Bool.{and_parts, and_from, or_cases, or_left, or_right, leb-true, eqb-true}
 use Rattle.tsl_text.specs.Names.{is_name_start, is_name_byte, is_name_text}
 pub use Rattle.sequence.proofs.Lists.{heads, tails}
 pub use Rattle.tsl_text.proofs.Fronts.{begins, other_front, one_run}
@@ -40,7 +39,7 @@ begun_continues c h =
     or_left (is_ascii_alphanumeric c) (eqb c 95 || eqb c 39)
     (⊎_elim
     (λ upper. or_left (is_in_range 48 57 c || is_in_range 65 90 c) (is_in_range 97 122 c)
-        (or_right (is_in_range 48 57 c) (is_in_range 65 90 c) upper))
+    (or_right (is_in_range 48 57 c) (is_in_range 65 90 c) upper))
     (λ lower. or_right (is_in_range 48 57 c || is_in_range 65 90 c) (is_in_range 97 122 c) lower)
     (or_cases (is_in_range 65 90 c) (is_in_range 97 122 c) letter)))
     (λ underscore. or_right (is_ascii_alphanumeric c) (eqb c 95 || eqb c 39) (or_left (eqb c 95) (eqb c 39) underscore))

@@ -1,6 +1,5 @@
 -- What fits the names is held by them.
-use Rattle.std.proofs.Common.{◌≡◌, ℕ, ◌<◌, Bool, ◌&&◌, ◌==◌, List, length, slice_get, IsTrue, refl}
-use Rattle.std.specs.Option.{option_map_or}
+use Rattle.std.proofs.Common.{ℕ, ◌&&◌, ◌==◌, List, length, IsTrue, refl}
 use Rattle.std.proofs.lemmas.Bool.{and_parts, and_from, lt-ltb}
 use Rattle.sequence.proofs.Passes.{within_from_test}
 use Rattle.tsl_terms.specs.declared.names.NameKind.{NameKind}
@@ -10,7 +9,8 @@ use Rattle.tsl_terms.specs.TermTree.{TermTree, signal, apply, TermTrees, no_term
 use Rattle.tsl_terms.specs.WellFormed.{term_fits, terms_fit, probe_fits}
 use Rattle.term_text.specs.TermText.{is_held, term_is_held, terms_are_held, probe_is_held}
 
-pub name_held : (names : List Name) (id : ℕ) (kind : NameKind) (arity : ℕ) → IsTrue (is_name names id kind arity) → IsTrue (is_held names id)
+pub name_held : (names : List Name) (id : ℕ) (kind : NameKind) (arity : ℕ) → IsTrue (is_name names id kind arity) →
+    IsTrue (is_held names id)
 name_held names id kind arity h = lt-ltb id (length names) (within_from_test names id (λ n. same_kind n.kind kind && (n.arity == arity)) h)
 
 mutual

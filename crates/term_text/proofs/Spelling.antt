@@ -1,6 +1,33 @@
 -- A text spells at most one term, whatever follows it.
-use Rattle.std.proofs.Common.{◌≡◌, ℕ, Bool, true, false, not, ◌&&◌, ◌||◌, List, [], ◌∷◌, ◌++◌, codes, IsTrue, Option, Some, None, ◌⊎◌, inl,
-    inr, ⊎_elim, slice_get, refl, sym, ap, ◌∙◌, append_assoc}
+use Rattle.std.proofs.Common.{
+  ◌≡◌,
+  ℕ,
+  Bool,
+  true,
+  false,
+  not,
+  ◌&&◌,
+  ◌||◌,
+  List,
+  [],
+  ◌∷◌,
+  ◌++◌,
+  codes,
+  IsTrue,
+  Option,
+  Some,
+  None,
+  ◌⊎◌,
+  inl,
+  inr,
+  ⊎_elim,
+  slice_get,
+  refl,
+  sym,
+  ap,
+  ◌∙◌,
+  append_assoc,
+}
 use Rattle.std.specs.Char.{is_ascii_digit}
 use Rattle.std.specs.List.{list_all}
 use Rattle.std.specs.Option.{option_map_or}
@@ -13,10 +40,30 @@ use Rattle.tsl_text.specs.Names.{is_name_start, is_name_byte, is_name_text, is_u
 use Rattle.tsl_terms.specs.Name.{Name, AreDistinct, is_name, question}
 use Rattle.tsl_terms.specs.TermTree.{TermTree, signal, apply, TermTrees, no_terms, more_terms, ProbeTree, count_of_terms}
 use Rattle.tsl_terms.specs.WellFormed.{is_usable_at, is_question, term_fits, terms_fit, probe_fits, are_one_signal}
-use Rattle.term_text.specs.TermText.{name_text, argument_text, applied_text, term_text, arguments_text, application_text, question_text,
-    probe_text, update_text}
-use Rattle.term_text.proofs.Fronts.{begins, other_front, is_round, is_space, tails, heads, one_run, no_digit_begins, no_bracket_begins,
-    name_run, name_first}
+use Rattle.term_text.specs.TermText.{
+  name_text,
+  argument_text,
+  applied_text,
+  term_text,
+  arguments_text,
+  application_text,
+  question_text,
+  probe_text,
+  update_text,
+}
+use Rattle.term_text.proofs.Fronts.{
+  begins,
+  other_front,
+  is_round,
+  is_space,
+  tails,
+  heads,
+  one_run,
+  no_digit_begins,
+  no_bracket_begins,
+  name_run,
+  name_first,
+}
 
 -- a test of an option that holds has a value there
 pub some_passes : {A : Type 0} (o : Option A) (test : A → Bool) → IsTrue (option_map_or test o false) →
@@ -50,7 +97,7 @@ one_name names distinct r s u v p q h k e =
     let m = usable_at names r p in
     let n = usable_at names s q in
     let run = one_run is_name_byte (name_text names r) (name_text names s) u v (name_run (name_text names r) m.letters)
-        (name_run (name_text names s) n.letters) h k e in
+    (name_run (name_text names s) n.letters) h k e in
     (distinct r s m.name n.name m.is n.is (sym m.text ∙ run.0 ∙ n.text), run.1)
 
 -- what follows an argument: a space or a closing bracket
@@ -157,10 +204,10 @@ module _ (names : List Name) (distinct : AreDistinct names) where
   digit_begins_no_argument (signal s) d x y h digit e = digit_begins_no_name s d x y (signal_usable s h) digit e
   digit_begins_no_argument (apply f no_terms) d x y h digit e =
       digit_begins_no_name f d x (codes "()" ++ y) (function_usable f no_terms h) digit (e
-          ∙ append_assoc (name_text names f) (codes "()") y)
+      ∙ append_assoc (name_text names f) (codes "()") y)
   digit_begins_no_argument (apply f (more_terms t ts)) d x y h digit e =
       other_front is_ascii_digit (argument_text (apply f (more_terms t ts)) (term_text names (apply f (more_terms t ts))) ++ y)
-          (d ∷ x) refl digit (sym e)
+      (d ∷ x) refl digit (sym e)
 
   -- a number after a space is no further argument, and ends no list of them
   digit_ends_no_list : (v : List ℕ) (d : ℕ) (x : List ℕ) → Ends v → IsTrue (is_ascii_digit d) → 32 ∷ d ∷ x ≡ v → ⊥
@@ -188,13 +235,13 @@ module _ (names : List Name) (distinct : AreDistinct names) where
       let usable = usable_at names s (signal_usable s h) in
       let rest : List ℕ = arguments_text names us ++ v in
       let run = one_run is_name_byte (c ∷ w) (name_text names s) (32 ∷ d ∷ x) rest (name_run (c ∷ w) name)
-          (name_run (name_text names s) usable.letters) refl (no_letter_follows (arguments_follow us v (Ends-Follows ends))) e in
+      (name_run (name_text names s) usable.letters) refl (no_letter_follows (arguments_follow us v (Ends-Follows ends))) e in
       digit_is_no_argument us v d x k ends digit run.1
   word_is_no_argument (apply f no_terms) us c w d x v h k name digit ends e =
       let usable = usable_at names f (function_usable f no_terms h) in
       let rest : List ℕ = arguments_text names us ++ v in
       let run = one_run is_name_byte (c ∷ w) (name_text names f) (32 ∷ d ∷ x) (codes "()" ++ rest) (name_run (c ∷ w) name)
-          (name_run (name_text names f) usable.letters) refl refl (e ∙ append_assoc (name_text names f) (codes "()") rest) in
+      (name_run (name_text names f) usable.letters) refl refl (e ∙ append_assoc (name_text names f) (codes "()") rest) in
       other_front is_space (codes "()" ++ rest) (32 ∷ d ∷ x) refl refl (sym run.1)
   word_is_no_argument (apply f (more_terms t ts)) us c w d x v h k name digit ends e =
       other_front is_name_start
@@ -242,7 +289,7 @@ module _ (names : List Name) (distinct : AreDistinct names) where
         let right = and_parts (term_fits names s) (terms_fit names us) q in
         let inner = sym (append_assoc A B u) ∙ tails 32 32 ((A ++ B) ++ u) ((C ++ D) ++ v) e ∙ append_assoc C D v in
         let first = one_argument t s (B ++ u) (D ++ v) left.0 right.0 (arguments_follow ts u (Ends-Follows h))
-            (arguments_follow us v (Ends-Follows k)) inner in
+        (arguments_follow us v (Ends-Follows k)) inner in
         let rest = one_list ts us u v left.1 right.1 h k first.1 in
         (ap (λ (x : TermTree). more_terms x ts) first.0 ∙ ap (λ (xs : TermTrees). more_terms s xs) rest.0, rest.1)
 
@@ -253,40 +300,40 @@ module _ (names : List Name) (distinct : AreDistinct names) where
         (ap signal one.0, one.1)
     one_argument (signal r) (apply g no_terms) u v p q h k e =
         let one = one_name names distinct r g u (codes "()" ++ v) (signal_usable r p) (function_usable g no_terms q)
-            (no_letter_follows h) refl (e ∙ append_assoc (name_text names g) (codes "()") v) in
+        (no_letter_follows h) refl (e ∙ append_assoc (name_text names g) (codes "()") v) in
         absurd (no_bracket_follows h (41 ∷ v) one.1)
     one_argument (signal r) (apply g (more_terms b bs)) u v p q h k e =
         absurd (bracket_begins_no_name r (name_text names g ++ (arguments_text names (more_terms b bs) ++ 41 ∷ v)) u (signal_usable r p)
-            (sym (e ∙ bracketed_pieces g b bs v)))
+        (sym (e ∙ bracketed_pieces g b bs v)))
     one_argument (apply f no_terms) (signal s) u v p q h k e =
         let one = one_name names distinct f s (codes "()" ++ u) v (function_usable f no_terms p) (signal_usable s q) refl
-            (no_letter_follows k) (sym (append_assoc (name_text names f) (codes "()") u) ∙ e) in
+        (no_letter_follows k) (sym (append_assoc (name_text names f) (codes "()") u) ∙ e) in
         absurd (no_bracket_follows k (41 ∷ u) (sym one.1))
     one_argument (apply f no_terms) (apply g no_terms) u v p q h k e =
         let one = one_name names distinct f g (codes "()" ++ u) (codes "()" ++ v) (function_usable f no_terms p)
-            (function_usable g no_terms q) refl refl (sym (append_assoc (name_text names f) (codes "()") u) ∙ e
-            ∙ append_assoc (name_text names g) (codes "()") v) in
+        (function_usable g no_terms q) refl refl (sym (append_assoc (name_text names f) (codes "()") u) ∙ e
+        ∙ append_assoc (name_text names g) (codes "()") v) in
         (ap (λ (n : ℕ). apply n no_terms) one.0, append_cancel_left (codes "()") u v one.1)
     one_argument (apply f no_terms) (apply g (more_terms b bs)) u v p q h k e =
         absurd (bracket_begins_no_name f (name_text names g ++ (arguments_text names (more_terms b bs) ++ 41 ∷ v)) (codes "()" ++ u)
-            (function_usable f no_terms p)
+        (function_usable f no_terms p)
         (sym (sym (append_assoc (name_text names f) (codes "()") u) ∙ e ∙ bracketed_pieces g b bs v)))
     one_argument (apply f (more_terms a cs)) (signal s) u v p q h k e =
         absurd (bracket_begins_no_name s (name_text names f ++ (arguments_text names (more_terms a cs) ++ 41 ∷ u)) v (signal_usable s q)
-            (sym (bracketed_pieces f a cs u) ∙ e))
+        (sym (bracketed_pieces f a cs u) ∙ e))
     one_argument (apply f (more_terms a cs)) (apply g no_terms) u v p q h k e =
         absurd (bracket_begins_no_name g (name_text names f ++ (arguments_text names (more_terms a cs) ++ 41 ∷ u)) (codes "()" ++ v)
-            (function_usable g no_terms q)
+        (function_usable g no_terms q)
         (sym (bracketed_pieces f a cs u) ∙ e ∙ append_assoc (name_text names g) (codes "()") v))
     one_argument (apply f (more_terms a cs)) (apply g (more_terms b bs)) u v p q h k e =
         let L : List ℕ = arguments_text names (more_terms a cs) ++ 41 ∷ u in
         let R : List ℕ = arguments_text names (more_terms b bs) ++ 41 ∷ v in
         let inner = tails 40 40 (name_text names f ++ L) (name_text names g ++ R) (sym (bracketed_pieces f a cs u) ∙ e
-            ∙ bracketed_pieces g b bs v) in
+        ∙ bracketed_pieces g b bs v) in
         let one = one_name names distinct f g L R (function_usable f (more_terms a cs) p)
-            (function_usable g (more_terms b bs) q) refl refl inner in
+        (function_usable g (more_terms b bs) q) refl refl inner in
         let lists = one_list (more_terms a cs) (more_terms b bs) (41 ∷ u) (41 ∷ v) (arguments_fit f (more_terms a cs) p)
-            (arguments_fit g (more_terms b bs) q) round_ends round_ends one.1 in
+        (arguments_fit g (more_terms b bs) q) round_ends round_ends one.1 in
         (ap (λ (n : ℕ). apply n (more_terms a cs)) one.0 ∙ ap (λ (xs : TermTrees). apply g xs) lists.0, tails 41 41 u v lists.1)
 
   -- a name with what follows it as that of a function or a predicate
@@ -296,23 +343,23 @@ module _ (names : List Name) (distinct : AreDistinct names) where
       ≡ (name_text names g ++ applied_text us (arguments_text names us)) ++ v → (f ≡ g) × (ts ≡ us) × (u ≡ v)
   one_application f g no_terms no_terms u v p q m n h k e =
       let one = one_name names distinct f g (codes "()" ++ u) (codes "()" ++ v) p q refl refl
-          (sym (append_assoc (name_text names f) (codes "()") u) ∙ e ∙ append_assoc (name_text names g) (codes "()") v) in
+      (sym (append_assoc (name_text names f) (codes "()") u) ∙ e ∙ append_assoc (name_text names g) (codes "()") v) in
       (one.0, refl, append_cancel_left (codes "()") u v one.1)
   one_application f g no_terms (more_terms b bs) u v p q m n h k e =
       let R : List ℕ = arguments_text names (more_terms b bs) in
       let one = one_name names distinct f g (codes "()" ++ u) (R ++ v) p q refl refl (sym (append_assoc (name_text names f) (codes "()") u)
-          ∙ e ∙ append_assoc (name_text names g) R v) in
+      ∙ e ∙ append_assoc (name_text names g) R v) in
       absurd (other_front is_space (codes "()" ++ u) (R ++ v) refl refl one.1)
   one_application f g (more_terms a cs) no_terms u v p q m n h k e =
       let L : List ℕ = arguments_text names (more_terms a cs) in
       let one = one_name names distinct f g (L ++ u) (codes "()" ++ v) p q refl refl (sym (append_assoc (name_text names f) L u) ∙ e
-          ∙ append_assoc (name_text names g) (codes "()") v) in
+      ∙ append_assoc (name_text names g) (codes "()") v) in
       absurd (other_front is_space (codes "()" ++ v) (L ++ u) refl refl (sym one.1))
   one_application f g (more_terms a cs) (more_terms b bs) u v p q m n h k e =
       let L : List ℕ = arguments_text names (more_terms a cs) in
       let R : List ℕ = arguments_text names (more_terms b bs) in
       let one = one_name names distinct f g (L ++ u) (R ++ v) p q refl refl (sym (append_assoc (name_text names f) L u) ∙ e
-          ∙ append_assoc (name_text names g) R v) in
+      ∙ append_assoc (name_text names g) R v) in
       let lists = one_list (more_terms a cs) (more_terms b bs) u v m n h k one.1 in
       (one.0, lists.0, lists.1)
 
@@ -322,12 +369,12 @@ module _ (names : List Name) (distinct : AreDistinct names) where
       name_text names r ++ u ≡ (name_text names g ++ applied_text us (arguments_text names us)) ++ v → ⊥
   name_or_application r g no_terms u v p q n h k e =
       let one = one_name names distinct r g u (codes "()" ++ v) p q (no_letter_follows (Ends-Follows h)) refl (e
-          ∙ append_assoc (name_text names g) (codes "()") v) in
+      ∙ append_assoc (name_text names g) (codes "()") v) in
       no_bracket_follows (Ends-Follows h) (41 ∷ v) one.1
   name_or_application r g (more_terms b bs) u v p q n h k e =
       let R : List ℕ = arguments_text names (more_terms b bs) in
       let one = one_name names distinct r g u (R ++ v) p q (no_letter_follows (Ends-Follows h)) refl (e
-          ∙ append_assoc (name_text names g) R v) in
+      ∙ append_assoc (name_text names g) R v) in
       let fits = and_parts (term_fits names b) (terms_fit names bs) n in
       ended_or_more b bs u v fits.0 fits.1 h k one.1
 
@@ -344,7 +391,7 @@ module _ (names : List Name) (distinct : AreDistinct names) where
       term_text names t ++ u ≡ term_text names s ++ v → (t ≡ s) × (u ≡ v)
   one_term (signal r) (signal s) u v p q h k e =
       let one = one_name names distinct r s u v (signal_usable r p) (signal_usable s q) (no_letter_follows (Ends-Follows h))
-          (no_letter_follows (Ends-Follows k)) e in
+      (no_letter_follows (Ends-Follows k)) e in
       (ap signal one.0, one.1)
   one_term (signal r) (apply g us) u v p q h k e =
       absurd (name_or_application r g us u v (signal_usable r p) (function_usable g us q) (arguments_fit g us q) h k e)
@@ -352,7 +399,7 @@ module _ (names : List Name) (distinct : AreDistinct names) where
       absurd (name_or_application s f ts v u (signal_usable s q) (function_usable f ts p) (arguments_fit f ts p) k h (sym e))
   one_term (apply f ts) (apply g us) u v p q h k e =
       let one = one_application f g ts us u v (function_usable f ts p) (function_usable g us q) (arguments_fit f ts p)
-          (arguments_fit g us q) h k e in
+      (arguments_fit g us q) h k e in
       (ap (λ (n : ℕ). apply n ts) one.0 ∙ ap (λ (xs : TermTrees). apply g xs) one.1, one.2)
 
   as_question : (p : ProbeTree) → IsTrue (terms_fit names p.arguments) → IsTrue (is_question names p.predicate) →
@@ -402,7 +449,7 @@ module _ (names : List Name) (distinct : AreDistinct names) where
       probe_text names p ++ u ≡ probe_text names q ++ v → (p ≡ q) × (u ≡ v)
   two_questions p q u v m n h k e =
       let one = one_name names distinct m.signal_asked n.signal_asked u v m.usable n.usable (no_letter_follows (Ends-Follows h))
-          (no_letter_follows (Ends-Follows k))
+      (no_letter_follows (Ends-Follows k))
       (ap (λ (zs : List ℕ). zs ++ u) (sym m.text) ∙ e ∙ ap (λ (zs : List ℕ). zs ++ v) n.text) in
       let arguments : p.arguments ≡ q.arguments = m.arguments ∙ ap (λ (s : ℕ). more_terms (signal s) no_terms) one.0 ∙ sym n.arguments in
       (same_probe p q (one_question names distinct p.predicate q.predicate m.asks n.asks) arguments, one.1)
@@ -435,9 +482,9 @@ module _ (names : List Name) (distinct : AreDistinct names) where
   one_update r s t x u v p q a b e =
       let inner = sym (update_pieces r t u) ∙ e ∙ update_pieces s x v in
       let one = one_name names distinct r s (codes " <- " ++ (term_text names t ++ 93 ∷ u))
-          (codes " <- " ++ (term_text names x ++ 93 ∷ v)) p q refl refl
-          (tails 91 91 (name_text names r ++ (codes " <- " ++ (term_text names t ++ 93 ∷ u)))
-          (name_text names s ++ (codes " <- " ++ (term_text names x ++ 93 ∷ v))) inner) in
+      (codes " <- " ++ (term_text names x ++ 93 ∷ v)) p q refl refl
+      (tails 91 91 (name_text names r ++ (codes " <- " ++ (term_text names t ++ 93 ∷ u)))
+      (name_text names s ++ (codes " <- " ++ (term_text names x ++ 93 ∷ v))) inner) in
       let term = one_term t x (93 ∷ u) (93 ∷ v) a b square_ends square_ends
-          (append_cancel_left (codes " <- ") (term_text names t ++ 93 ∷ u) (term_text names x ++ 93 ∷ v) one.1) in
+      (append_cancel_left (codes " <- ") (term_text names t ++ 93 ∷ u) (term_text names x ++ 93 ∷ v) one.1) in
       (one.0, term.0, tails 93 93 u v term.1)

@@ -1,1 +1,2 @@
 pub mod TermText
+pub mod WindowText

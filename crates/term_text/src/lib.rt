@@ -1,4 +1,4 @@
-//! How terms, tests and updates are written.
+//! How terms, tests, updates and the lines of windows are written.
 //!
 //! Each call appends one text to a vector: at Ok the vector is what it was, followed by exactly the
 //! text that the crate's definitions give. The one condition is that the list of names holds every
@@ -13,11 +13,13 @@ ghost use Rattle.tsl_terms.specs.TermTree.{term_tree, term_trees, probe_tree};
 ghost use Rattle.term_text.specs.TermText.{name_text, argument_text, applied_text, term_text, arguments_text, application_text, probe_text, update_text, is_held, term_is_held, terms_are_held, probe_is_held};
 
 mod laws;
+mod window;
 
 pub use laws::one_spelling;
 use sequence::NoMemory;
 use tsl_terms::{Names, Probe, Term, TermList};
 use tsl_text::put_bytes;
+pub use window::put_window;
 
 /// Appends the text of the name with this number.
 #[tactic(auto, using(crate::proofs::Begins::begins_itself, crate::proofs::Begins::begins_longer))]
