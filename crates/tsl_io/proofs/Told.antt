@@ -1,5 +1,6 @@
 -- One take after another, and one write after another.
-use Rattle.std.proofs.Common.{◌≡◌, ℕ, ◌+◌, ◌-◌, List, ◌++◌, length, take, drop, Option, Some, None, refl, sym, ap, [], ◌∙◌, append_assoc, append-nil, length-append, ◌≤◌, arith}
+use Rattle.std.proofs.Common.{◌≡◌, ℕ, ◌+◌, ◌-◌, List, ◌++◌, length, take, drop, Option, Some, None, refl, sym, ap, [], ◌∙◌, append_assoc,
+    append-nil, length-append, ◌≤◌, arith}
 use Rattle.std.proofs.lemmas.List.{take_rest}
 use Rattle.std.proofs.Math.Seq.{take-add}
 use Rattle.tsl_io.specs.Told.{before, after, WhereTold, TakesPrefix}
@@ -15,22 +16,26 @@ after-after xs ys None = refl
 after-after xs ys (Some had) = ap Some (append_assoc had xs ys)
 
 -- a piece leaves what was left for the text
-pub piece_taken : (text piece : List ℕ) (told rest : Option (List ℕ)) → told ≡ before piece rest → before (text ++ piece) rest ≡ before text told
+pub piece_taken : (text piece : List ℕ) (told rest : Option (List ℕ)) → told ≡ before piece rest →
+    before (text ++ piece) rest ≡ before text told
 piece_taken text piece told rest more = sym (before-before text piece rest) ∙ ap (before text) (sym more)
 
 -- a text that was taken so far, and some first bytes of the rest
-pub takes_more : (text : List ℕ) (first told rest : Option (List ℕ)) → before text told ≡ first → TakesPrefix told rest → TakesPrefix first rest
+pub takes_more : (text : List ℕ) (first told rest : Option (List ℕ)) → before text told ≡ first → TakesPrefix told rest →
+    TakesPrefix first rest
 takes_more text first told rest so_far more = (text ++ more.0, sym so_far ∙ ap (before text) more.1 ∙ before-before text more.0 rest)
 
 -- bytes that were written so far, and the first of those that are left
-pub after_more : (bytes : List ℕ) (done count : ℕ) (first told new : Option (List ℕ)) → told ≡ after (take done bytes) first → new ≡ after (take count (take (length bytes - done) (drop done bytes))) told → new ≡ after (take (done + count) bytes) first
+pub after_more : (bytes : List ℕ) (done count : ℕ) (first told new : Option (List ℕ)) → told ≡ after (take done bytes) first →
+    new ≡ after (take count (take (length bytes - done) (drop done bytes))) told → new ≡ after (take (done + count) bytes) first
 after_more bytes done count first told new so_far more =
     more ∙ ap (λ rest. after (take count rest) told) (take_rest bytes done) ∙ ap (after (take count (drop done bytes))) so_far
     ∙ after-after (take done bytes) (take count (drop done bytes)) first
     ∙ ap (λ front. after front first) (sym (take-add done count bytes))
 
 -- a text that was taken so far is the whole, where no byte is left
-pub finished : (text bytes : List ℕ) (first told : Option (List ℕ)) → before text told ≡ first → WhereTold told (λ rest. rest ≡ []) → first ≡ Some bytes → (text ≡ bytes) × (told ≡ Some [])
+pub finished : (text bytes : List ℕ) (first told : Option (List ℕ)) → before text told ≡ first → WhereTold told (λ rest. rest ≡ []) →
+    first ≡ Some bytes → (text ≡ bytes) × (told ≡ Some [])
 finished text bytes first None so_far none is = absurd (cc)
 finished text bytes first (Some rest) so_far none is =
     let e : rest ≡ [] = none rest refl in
@@ -38,7 +43,8 @@ finished text bytes first (Some rest) so_far none is =
     (sym (append-nil text) ∙ ap (λ xs. text ++ xs) (sym e) ∙ whole, ap Some e)
 
 -- a text that was taken so far is no longer than what was there
-pub length_taken : (text bytes : List ℕ) (first told : Option (List ℕ)) → before text told ≡ first → first ≡ Some bytes → length text ≤ length bytes
+pub length_taken : (text bytes : List ℕ) (first told : Option (List ℕ)) → before text told ≡ first → first ≡ Some bytes →
+    length text ≤ length bytes
 length_taken text bytes first None so_far is = absurd (cc)
 length_taken text bytes first (Some rest) so_far is =
     let whole : text ++ rest ≡ bytes = cc in
