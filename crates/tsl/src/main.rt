@@ -7,7 +7,7 @@ use std::{env, io};
 use tsl_io::{StdSink, StdSource};
 use tsl_tool::{Status, tsl};
 
-/// The words behind the program's name.
+/// The words after the program's name.
 fn words(rt: &(impl Env + AllocGlobal)) -> io::Result<Vec<String>> {
     Ok(env::args(rt)?.skip(1).collect(rt.alloc())?)
 }

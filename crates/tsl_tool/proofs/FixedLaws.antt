@@ -1,283 +1,187 @@
 -- The program of a specification of fixed updates: it is a program, it can be written, and it realizes
 -- the specification.
-use Rattle.std.proofs.Common.{◌≡◌, ℕ, zero, suc, ◌+◌, ◌<◌, ◌==◌, Bool, true, false, not, ◌&&◌, ◌||◌, List, [], ◌∷◌, ◌++◌, length, map, take, Some, slice_get, Contains, IsTrue, inl, inr, refl, sym, ap, subst, ◌∙◌, lit≤, arith}
+use Rattle.std.proofs.Common.{◌≡◌, ℕ, zero, suc, ◌+◌, ◌<◌, ◌==◌, Bool, true, false, not, ◌&&◌, ◌||◌, List, [], ◌∷◌, ◌++◌, length, map}
+use Rattle.std.proofs.Common.{take, Some, slice_get, Contains, IsTrue, inl, inr, refl, sym, ap, subst, ◌∙◌, lit≤, arith}
 use Rattle.std.specs.List.{list_all, list_any, flat_map}
-use Rattle.std.proofs.lemmas.List.{append-nil, length-append}
+use Rattle.std.proofs.lemmas.Grind.{flat_map-append}
+use Rattle.std.proofs.lemmas.List.{length-append}
 use Rattle.std.proofs.lemmas.List.Folds.{list_all-append, list_any-append, list_all-map}
-use Rattle.std.proofs.lemmas.Bool.{and_parts, and_from, or_cases, false≢true, cases_Bool, not-true}
+use Rattle.std.proofs.lemmas.Bool.{and_parts, and_from, or_cases, false≢true}
 use Rattle.std.proofs.lemmas.Bool.Decides.{eqb_tells}
-use Rattle.std.proofs.Math.Bool.{or-true, or-false, and-false}
+use Rattle.sequence.specs.Numbers.{is_among}
+use Rattle.sequence.proofs.Numbers.{among_first, among_next, among_filter, length_one_each}
+use Rattle.sequence.proofs.Passes.{list_all_filter, list_all_flat_map, list_all_from_contained}
+use Rattle.loop_shape.specs.LoopShape.{LoopShape}
 use Rattle.tsl_terms.specs.declared.names.NameKind.TheVariants.{Signal}
-use Rattle.tsl_terms.specs.Name.{is_name}
+use Rattle.tsl_terms.specs.declared.operator.UnaryOperator.TheVariants.{Globally}
+use Rattle.tsl_terms.specs.Name.{Name, is_name}
 use Rattle.tsl_terms.specs.TermTree.{TermTree, ProbeTree}
-use Rattle.tsl_terms.specs.FormulaTree.{FormulaTree, update, globally, formulas_of}
-use Rattle.tsl_terms.specs.SpecTree.{SpecTree, conjunction_of, whole_formula}
-use Rattle.tsl_terms.specs.WellFormed.{term_fits, formula_fits}
-use Rattle.tsl_terms.specs.Signals.{term_reads, formula_reads, some_formula_reads, terms_for, all_terms_for, is_some_term, formula_updates, is_cell, is_output, is_input, numbers, inputs_of, cells_of, outputs_of}
+use Rattle.tsl_terms.specs.FormulaTree.{Atom, test, update, FormulaTree, atom, unary, formulas_of}
+use Rattle.tsl_terms.specs.Atoms.{atoms}
+use Rattle.tsl_terms.specs.SpecTree.{SpecTree, conjunction_of, all_formulas, whole_formula}
+use Rattle.tsl_terms.specs.WellFormed.{atom_fits, formula_fits, SpecFits}
+use Rattle.tsl_terms.specs.Signals.{term_for, terms_for, atom_updates, formula_updates, is_cell, is_output, is_input, numbers, inputs_of}
+use Rattle.tsl_terms.specs.Signals.{cells_of, outputs_of}
+use Rattle.tsl_terms.specs.OnlyThese.{reads_only, read_only, atom_reads_only, atom_updates_only}
+use Rattle.tsl_terms.specs.Value.{beside}
+use Rattle.tsl_terms.proofs.SignalFacts.{distinct_signals, whole_reads, whole_updates}
+use Rattle.tsl_terms.proofs.WholeAtoms.{whole_atoms, list_is_made_of, whole_is_made_of}
 use Rattle.flow_program.specs.NodeTree.{branch}
-use Rattle.flow_program.specs.Fits.{is_among, reads_only, read_only, IsDistinct, AssignmentsFit}
+use Rattle.flow_program.specs.Fits.{AssignmentsFit}
 use Rattle.flow_program.specs.ProgramText.{IsProgram, IsWritable, signal_fits, term_is_writable}
-use Rattle.tsl_meaning.specs.Interpretation.{Interpretation, InputRows, meanings_of}
+use Rattle.tsl_meaning.specs.Interpretation.{Interpretation, InputRows, meanings_in}
 use Rattle.tsl_meaning.specs.Run.{Closed}
-use Rattle.tsl_meaning.specs.Lasso.{Lasso, meets, meets_all, closed_run}
+use Rattle.tsl_meaning.specs.Lasso.{Lasso, meets, meet_each, closed_run}
 use Rattle.tsl_meaning.specs.Promise.{Realizes}
+use Rattle.tsl_meaning.proofs.Naming.{written_program}
 use Rattle.tsl_meaning.proofs.OneAction.{one_action_meets}
 use Rattle.tsl_tool.specs.Fixed.{is_update, IsFixed, first_term, fixed_program}
-use Rattle.tsl_tool.proofs.FixedLists.{eqb_self, Contains_first, Contains_next, Contains_cases, Contains_none, list_all_at, list_all_from, list_any_at, list_all_filter, list_all_flat_map, among_filter, among_numbers, apart_numbers, apart_filter, apart_append, distinct_from_apart, length_one_each, beside_one_each}
-use Rattle.tsl_tool.proofs.FixedTerms.{NamesFit, reads_only_from, named_if_read, named_below, signal_fits_if_named}
+use Rattle.tsl_tool.specs.internal.FixedSlots.{HasOnlyAlwaysGuarantees}
+use Rattle.tsl_tool.proofs.FixedSteps.{named_first, named_later}
+use Rattle.tsl_tool.proofs.SignalNames.{signal_fits_if_named}
 
--- what every specification keeps, on its tree
-pub record SpecFits (spec : SpecTree) : Type 0 where
-  pub names : NamesFit spec.names
-  pub assume_first : IsTrue (list_all (formula_fits spec.names) spec.assume_first)
-  pub assume_always : IsTrue (list_all (formula_fits spec.names) spec.assume_always)
-  pub guarantee_first : IsTrue (list_all (formula_fits spec.names) spec.guarantee_first)
-  pub guarantee_always : IsTrue (list_all (formula_fits spec.names) spec.guarantee_always)
+-- the terms that the atoms of a list name for a signal, formula by formula
+terms_in : (s : ℕ) (fs : List FormulaTree) → flat_map (term_for s) (flat_map atoms fs) ≡ flat_map (terms_for s) fs
+terms_in s [] = refl
+terms_in s (f ∷ fs) = flat_map-append (term_for s) (atoms f) (flat_map atoms fs) ∙ ap (λ terms. terms_for s f ++ terms) (terms_in s fs)
 
--- the terms that a conjunction names, and what it reads
-all_terms_for_members : (s : ℕ) (fs : List FormulaTree) → all_terms_for s (formulas_of fs) ≡ flat_map (terms_for s) fs
-all_terms_for_members s [] = refl
-all_terms_for_members s (f ∷ fs) = ap (λ terms. terms_for s f ++ terms) (all_terms_for_members s fs)
+-- what all atoms pass, the update of each term that they name passes
+term_passes : (passes : Atom → Bool) (listed : List Atom) → list_all passes listed ≡ true → (s : ℕ) (t : TermTree) →
+    Contains (flat_map (term_for s) listed) t → passes (update s t) ≡ true
+term_passes passes [] all s t stands = absurd (omega (arith, stands.1))
+term_passes passes (test p ∷ listed) all s t stands = term_passes passes listed (and_parts (passes (test p)) (list_all passes listed) all).1 s t stands
+term_passes passes (update r u ∷ listed) all s t stands =
+    let parts = and_parts (passes (update r u)) (list_all passes listed) all in
+    elim (eqb_tells r s) [
+      | inl same ↦
+          let at : Contains (u ∷ flat_map (term_for s) listed) t = rw same.0 at stands in
+          first parts.0 same.1 (term_passes passes listed parts.1 s t) at
+      | inr other ↦ let at : Contains (flat_map (term_for s) listed) t = rw other.0 at stands in term_passes passes listed parts.1 s t at
+    ]
+  where
+    first : passes (update r u) ≡ true → r ≡ s → (Contains (flat_map (term_for s) listed) t → passes (update s t) ≡ true) →
+        Contains (u ∷ flat_map (term_for s) listed) t → passes (update s t) ≡ true
+    first here same later (zero, within, is) = subst (λ n. passes (update n t) ≡ true) same (ap (λ v. passes (update r v)) (sym is) ∙ here)
+    first here same later (suc k, within, is) = later (k, omega arith, is)
 
-terms_for_conjunction : (s : ℕ) (fs : List FormulaTree) → terms_for s (conjunction_of fs) ≡ flat_map (terms_for s) fs
-terms_for_conjunction s [] = refl
-terms_for_conjunction s (f ∷ []) = sym (append-nil (terms_for s f))
-terms_for_conjunction s (f ∷ g ∷ fs) = all_terms_for_members s (f ∷ g ∷ fs)
+-- an updated signal has a term
+some_term : (s : ℕ) (listed : List Atom) → list_any (atom_updates s) listed ≡ true → (t : TermTree) × Contains (flat_map (term_for s) listed) t
+some_term s [] updates = absurd (false≢true updates)
+some_term s (test p ∷ listed) updates = some_term s listed updates
+some_term s (update r u ∷ listed) updates = elim (eqb_tells r s) [
+  | inl same ↦ (u, rw same.0 (0, omega arith, refl))
+  | inr other ↦
+      let later : list_any (atom_updates s) listed ≡ true = rw other.0 at updates in
+      let found = some_term s listed later in (found.0, rw other.0 found.1)
+]
 
-terms_for_always : (s : ℕ) (fs : List FormulaTree) → flat_map (terms_for s) (map globally fs) ≡ flat_map (terms_for s) fs
-terms_for_always s [] = refl
-terms_for_always s (f ∷ fs) = ap (λ terms. terms_for s f ++ terms) (terms_for_always s fs)
+-- the first of terms that are all one
+first_of_same : (ts : List TermTree) (t : TermTree) → ((u v : TermTree) → Contains ts u → Contains ts v → u ≡ v) → Contains ts t →
+    take 1 ts ≡ t ∷ []
+first_of_same [] t same stands = absurd (omega (arith, stands.1))
+first_of_same (u ∷ us) t same stands = ap (λ v. v ∷ []) (same u t (0, omega arith, refl) stands)
 
-some_member_reads : (s : ℕ) (fs : List FormulaTree) → some_formula_reads s (formulas_of fs) ≡ list_any (formula_reads s) fs
-some_member_reads s [] = refl
-some_member_reads s (f ∷ fs) = ap (λ b. formula_reads s f || b) (some_member_reads s fs)
+first_passes : (p : TermTree → Bool) (ts : List TermTree) → list_all p ts ≡ true → list_all p (take 1 ts) ≡ true
+first_passes p [] all = refl
+first_passes p (t ∷ ts) all = and_from (p t) true (and_parts (p t) (list_all p ts) all).0 refl
 
-conjunction_reads : (s : ℕ) (fs : List FormulaTree) → formula_reads s (conjunction_of fs) ≡ list_any (formula_reads s) fs
-conjunction_reads s [] = refl
-conjunction_reads s (f ∷ []) = sym (or-false (formula_reads s f))
-conjunction_reads s (f ∷ g ∷ fs) = some_member_reads s (f ∷ g ∷ fs)
-
-always_reads : (s : ℕ) (fs : List FormulaTree) → list_any (formula_reads s) (map globally fs) ≡ list_any (formula_reads s) fs
-always_reads s [] = refl
-always_reads s (f ∷ fs) = ap (λ b. formula_reads s f || b) (always_reads s fs)
+-- what stands beside a number where there is one thing for each number
+beside_one_each : {V : Type 0} (f : ℕ → List V) (rs : List ℕ) (s : ℕ) (v : V) → ((r : ℕ) → is_among rs r ≡ true → length (f r) ≡ 1) →
+    is_among rs s ≡ true → f s ≡ v ∷ [] → beside s rs (flat_map f rs) ≡ Some v
+beside_one_each f [] s v one stands is = absurd (false≢true stands)
+beside_one_each {V} f (r ∷ rs) s v one stands is =
+    by (f r) refl (one r (among_first r rs))
+    (λ later. beside_one_each f rs s v (λ n among. one n (among_next r n rs among)) later is)
+  where
+    by : (vs : List V) → f r ≡ vs → length vs ≡ 1 → (is_among rs s ≡ true → beside s rs (flat_map f rs) ≡ Some v) →
+        beside s (r ∷ rs) (vs ++ flat_map f rs) ≡ Some v
+    by [] are count rest = absurd (omega (arith, count))
+    by (w ∷ []) are count rest = elim (eqb_tells r s) [
+      | inl same ↦
+          let e : w ∷ [] ≡ v ∷ [] = sym are ∙ ap f same.1 ∙ is in
+          let w_is : w ≡ v = cc in
+          rw same.0 (ap Some w_is)
+      | inr other ↦
+          let later : is_among rs s ≡ true = rw other.0 at stands in
+          rw other.0 (rest later)
+    ]
+    by (w ∷ x ∷ vs) are count rest = absurd (omega (arith, count))
 
 -- a conjunction holds where each member does
-all_members_hold : (run : Lasso) (fs : List FormulaTree) (i : ℕ) → meets_all run (formulas_of fs) i ≡ list_all (λ f. meets run f i) fs
-all_members_hold run [] i = refl
-all_members_hold run (f ∷ fs) i = ap (λ b. meets run f i && b) (all_members_hold run fs i)
+each_meets : (run : Lasso) (fs : List FormulaTree) (i : ℕ) → meet_each run (formulas_of fs) i ≡ map (λ f. meets run f i) fs
+each_meets run [] i = refl
+each_meets run (f ∷ fs) i = ap (λ rest. meets run f i ∷ rest) (each_meets run fs i)
 
-conjunction_holds : (run : Lasso) (fs : List FormulaTree) (i : ℕ) → list_all (λ f. meets run f i) fs ≡ true → meets run (conjunction_of fs) i ≡ true
+conjunction_holds : (run : Lasso) (fs : List FormulaTree) (i : ℕ) → list_all (λ f. meets run f i) fs ≡ true →
+    meets run (conjunction_of fs) i ≡ true
 conjunction_holds run [] i hold = refl
 conjunction_holds run (f ∷ []) i hold = (and_parts (meets run f i) true hold).0
-conjunction_holds run (f ∷ g ∷ fs) i hold = all_members_hold run (f ∷ g ∷ fs) i ∙ hold
+conjunction_holds run (f ∷ g ∷ fs) i hold =
+    ap (list_all (λ holds. holds)) (each_meets run (f ∷ g ∷ fs) i)
+    ∙ list_all-map (λ holds. holds) (λ h. meets run h i) (f ∷ g ∷ fs)
+    ∙ hold
 
--- a term that updates of a signal name comes from one of them, and each of them gives one
-update_of_first : (s : ℕ) (fs : List FormulaTree) (t : TermTree) (ts : List TermTree) → list_all is_update fs ≡ true →
-    flat_map (terms_for s) fs ≡ t ∷ ts → Contains fs (update s t)
-update_of_first s [] t ts updates are = absurd cc
-update_of_first s (update r u ∷ fs) t ts updates are = elim (eqb_tells r s) [
-  | inl same ↦
-      let here : u ∷ flat_map (terms_for s) fs ≡ t ∷ ts = rw same.0 at are in
-      let term_is : u ≡ t = cc in
-      subst (λ f. Contains (update r u ∷ fs) f) (λ i. update (same.1 i) (term_is i)) (Contains_first (update r u) fs)
-  | inr other ↦
-      let later : flat_map (terms_for s) fs ≡ t ∷ ts = rw other.0 at are in
-      Contains_next (update r u) (update s t) fs (update_of_first s fs t ts updates later)
-]
-update_of_first s (f ∷ fs) t ts updates are = absurd (false≢true updates)
+-- a term that the formulas of a list name is in an update that fits
+pub update_fits : (names : List Name) (fs : List FormulaTree) → list_all (formula_fits names) fs ≡ true → (s : ℕ) (t : TermTree) →
+    Contains (flat_map (terms_for s) fs) t → atom_fits names (update s t) ≡ true
+update_fits names fs fit s t stands =
+    term_passes (atom_fits names) (flat_map atoms fs) (list_is_made_of (atom_fits names) fs fit).0 s t
+    (subst (λ ts. Contains ts t) (sym (terms_in s fs)) stands)
 
-some_term_front : (xs ys : List TermTree) → is_some_term ys ≡ true → is_some_term (xs ++ ys) ≡ true
-some_term_front [] ys some = some
-some_term_front (x ∷ xs) ys some = refl
+module _ (spec : SpecTree) (only : HasOnlyAlwaysGuarantees spec) where
+  formulas_are : all_formulas spec ≡ spec.guarantee_always
+  formulas_are = rw (only.0, only.1, only.2) refl
 
-some_term_of_update : (s : ℕ) (t : TermTree) (fs : List FormulaTree) → Contains fs (update s t) → is_some_term (flat_map (terms_for s) fs) ≡ true
-some_term_of_update s t [] stands = absurd (Contains_none (update s t) stands)
-some_term_of_update s t (f ∷ fs) stands = elim (Contains_cases f (update s t) fs stands) [
-  | inl same ↦
-      let P : FormulaTree → Type 0 = λ g. is_some_term (terms_for s g ++ flat_map (terms_for s) fs) ≡ true in
-      subst P (sym same) (rw (eqb_self s) refl)
-  | inr later ↦ some_term_front (terms_for s f) (flat_map (terms_for s) fs) (some_term_of_update s t fs later)
-]
-
--- a list with a member, taken to its first
-has_first : (terms : List TermTree) → is_some_term terms ≡ true → (t : TermTree) × (ts : List TermTree) × (terms ≡ t ∷ ts)
-has_first [] some = absurd (false≢true some)
-has_first (t ∷ ts) some = (t, ts, refl)
-
-module _ (spec : SpecTree) (fixed : IsFixed spec) where
-  whole_is : whole_formula spec ≡ conjunction_of (map globally spec.guarantee_always)
-  whole_is = rw (fixed.nothing_assumed_first, fixed.nothing_assumed_always, fixed.nothing_guaranteed_first) refl
+  whole_is : whole_formula spec ≡ conjunction_of (map (unary Globally) spec.guarantee_always)
+  whole_is = rw (only.0, only.1, only.2) refl
 
   pub terms_are : (s : ℕ) → terms_for s (whole_formula spec) ≡ flat_map (terms_for s) spec.guarantee_always
   terms_are s =
-      ap (terms_for s) whole_is ∙ terms_for_conjunction s (map globally spec.guarantee_always) ∙ terms_for_always s spec.guarantee_always
+      ap (flat_map (term_for s)) (whole_atoms spec ∙ ap (flat_map atoms) formulas_are) ∙ terms_in s spec.guarantee_always
 
-  reads_are : (s : ℕ) → formula_reads s (whole_formula spec) ≡ list_any (formula_reads s) spec.guarantee_always
-  reads_are s =
-      ap (formula_reads s) whole_is ∙ conjunction_reads s (map globally spec.guarantee_always) ∙ always_reads s spec.guarantee_always
+module _ (spec : SpecTree) (fixed : IsFixed spec) where
+  pub only_always : HasOnlyAlwaysGuarantees spec
+  only_always = (fixed.nothing_assumed_first, fixed.nothing_assumed_always, fixed.nothing_guaranteed_first)
 
-  -- the one term of an updated signal
-  pub record IsUpdated (s : ℕ) : Type 0 where
-    pub term : TermTree
-    pub first : first_term spec s ≡ term ∷ []
-    pub stands : Contains spec.guarantee_always (update s term)
+  first_is : (s : ℕ) (t : TermTree) → Contains (terms_for s (whole_formula spec)) t → first_term spec s ≡ t ∷ []
+  first_is s t stands = first_of_same (terms_for s (whole_formula spec)) t (fixed.one_term s) stands
 
-  updated : (s : ℕ) → formula_updates s (whole_formula spec) ≡ true → IsUpdated s
-  updated s updates =
-      let terms = has_first (flat_map (terms_for s) spec.guarantee_always) (ap is_some_term (sym (terms_are s)) ∙ updates) in
-      record {
-        term = terms.0;
-        first = ap (take 1) (terms_are s ∙ terms.2);
-        stands = update_of_first s spec.guarantee_always terms.0 terms.1 fixed.updates terms.2;
-      }
-
-  updates_if_stands : (s : ℕ) (t : TermTree) → Contains spec.guarantee_always (update s t) → formula_updates s (whole_formula spec) ≡ true
-  updates_if_stands s t stands = ap is_some_term (terms_are s) ∙ some_term_of_update s t spec.guarantee_always stands
-
-  first_is : (s : ℕ) (t : TermTree) → Contains spec.guarantee_always (update s t) → first_term spec s ≡ t ∷ []
-  first_is s t stands =
-      let is = updated s (updates_if_stands s t stands) in
-      is.first ∙ ap (λ u. u ∷ []) (fixed.one_term s is.term t is.stands stands)
-
-  -- what each update's term passes, the program's terms pass
-  each_term : (p : TermTree → Bool) → ((s : ℕ) (t : TermTree) → Contains spec.guarantee_always (update s t) → p t ≡ true) →
-      (ids : List ℕ) → list_all p (flat_map (first_term spec) ids) ≡ true
-  each_term p passes = list_all_flat_map p (first_term spec) (λ s. by s (terms_for s (whole_formula spec)) refl)
-    where
-      by : (s : ℕ) (terms : List TermTree) → terms_for s (whole_formula spec) ≡ terms → list_all p (take 1 terms) ≡ true
-      by s [] are = refl
-      by s (t ∷ ts) are =
-          and_from (p t) true (passes s t (update_of_first s spec.guarantee_always t ts fixed.updates (sym (terms_are s) ∙ are))) refl
-
-  -- the signals of the three lists
-  input_tells : (s : ℕ) → is_among (inputs_of spec) s ≡ true → (is_name spec.names s Signal 0 ≡ true) × (formula_updates s (whole_formula spec) ≡ false)
-  input_tells s among =
-      let passes = and_parts (is_among (numbers spec) s) (is_input spec s) (sym (among_filter (is_input spec) s (numbers spec)) ∙ among) in
-      let parts = and_parts (is_name spec.names s Signal 0) (not (formula_updates s (whole_formula spec))) passes.1 in
-      (parts.0, not-true (formula_updates s (whole_formula spec)) parts.1)
-
-  cell_tells : (s : ℕ) → is_among (cells_of spec) s ≡ true →
-      (formula_updates s (whole_formula spec) ≡ true) × (formula_reads s (whole_formula spec) ≡ true)
-  cell_tells s among =
-      let passes = and_parts (is_among (numbers spec) s) (is_cell spec s) (sym (among_filter (is_cell spec) s (numbers spec)) ∙ among) in
-      and_parts (formula_updates s (whole_formula spec)) (formula_reads s (whole_formula spec)) passes.1
-
-  output_tells : (s : ℕ) → is_among (outputs_of spec) s ≡ true →
-      (formula_updates s (whole_formula spec) ≡ true) × (formula_reads s (whole_formula spec) ≡ false)
-  output_tells s among =
-      let passes = and_parts (is_among (numbers spec) s) (is_output spec s) (sym (among_filter (is_output spec) s (numbers spec)) ∙ among) in
-      let parts = and_parts (formula_updates s (whole_formula spec)) (not (formula_reads s (whole_formula spec))) passes.1 in
-      (parts.0, not-true (formula_reads s (whole_formula spec)) parts.1)
-
+  -- what an updated signal tells
   controlled_updates : (s : ℕ) → is_among (cells_of spec ++ outputs_of spec) s ≡ true → formula_updates s (whole_formula spec) ≡ true
   controlled_updates s among =
       elim (or_cases (is_among (cells_of spec) s) (is_among (outputs_of spec) s)
       (sym (list_any-append (λ r. r == s) (cells_of spec) (outputs_of spec)) ∙ among)) [
-        | inl cell ↦ (cell_tells s cell).0
-        | inr output ↦ (output_tells s output).0
+        | inl cell ↦
+            let passes = and_parts (is_among (numbers spec) s) (is_cell spec s) (sym (among_filter (is_cell spec) s (numbers spec))
+            ∙ cell) in
+            (and_parts (formula_updates s (whole_formula spec)) _ passes.1).0
+        | inr output ↦
+            let passes = and_parts (is_among (numbers spec) s) (is_output spec s) (sym (among_filter (is_output spec) s (numbers spec))
+            ∙ output) in
+            (and_parts (formula_updates s (whole_formula spec)) _ passes.1).0
       ]
 
   one_each : (s : ℕ) → is_among (cells_of spec ++ outputs_of spec) s ≡ true → length (first_term spec s) ≡ 1
-  one_each s among = ap length (updated s (controlled_updates s among)).first
+  one_each s among =
+      let found = some_term s (atoms (whole_formula spec)) (controlled_updates s among) in
+      ap length (first_is s found.0 found.1)
 
-  -- no number is in two of the lists
-  input_is_no_cell : (s : ℕ) → is_among (inputs_of spec) s ≡ true → is_among (cells_of spec) s ≡ false
-  input_is_no_cell s among =
-      among_filter (is_cell spec) s (numbers spec)
-      ∙ ap (λ b. is_among (numbers spec) s && (b && formula_reads s (whole_formula spec))) (input_tells s among).1
-      ∙ and-false (is_among (numbers spec) s)
+  -- what each update's term passes, the program's terms pass
+  assigned_pass : (p : TermTree → Bool) (passes : Atom → Bool) → ((s : ℕ) (t : TermTree) → passes (update s t) ≡ true → p t ≡ true) →
+      list_all passes (atoms (whole_formula spec)) ≡ true → (ids : List ℕ) → list_all p (flat_map (first_term spec) ids) ≡ true
+  assigned_pass p passes each all = list_all_flat_map p (first_term spec) (λ s.
+      first_passes p (terms_for s (whole_formula spec))
+      (list_all_from_contained p (terms_for s (whole_formula spec)) (λ t stands.
+      each s t (term_passes passes (atoms (whole_formula spec)) all s t stands))))
 
-  read_is_no_output : (s : ℕ) → is_among (inputs_of spec ++ cells_of spec) s ≡ true → is_among (outputs_of spec) s ≡ false
-  read_is_no_output s among =
-      among_filter (is_output spec) s (numbers spec)
-      ∙ ap (λ b. is_among (numbers spec) s && b)
-      (elim (or_cases (is_among (inputs_of spec) s) (is_among (cells_of spec) s)
-      (sym (list_any-append (λ r. r == s) (inputs_of spec) (cells_of spec)) ∙ among)) [
-        | inl input ↦ ap (λ b. b && not (formula_reads s (whole_formula spec))) (input_tells s input).1
-        | inr cell ↦
-            ap (λ b. formula_updates s (whole_formula spec) && not b) (cell_tells s cell).1
-            ∙ and-false (formula_updates s (whole_formula spec))
-      ])
-      ∙ and-false (is_among (numbers spec) s)
-
-  distinct : IsDistinct ((inputs_of spec ++ cells_of spec) ++ outputs_of spec)
-  distinct =
-      let apart = apart_numbers 0 (length spec.names) in
-      distinct_from_apart ((inputs_of spec ++ cells_of spec) ++ outputs_of spec)
-      (apart_append (inputs_of spec ++ cells_of spec) (outputs_of spec)
-      (apart_append (inputs_of spec) (cells_of spec)
-      (apart_filter (is_input spec) (numbers spec) apart) (apart_filter (is_cell spec) (numbers spec) apart) input_is_no_cell)
-      (apart_filter (is_output spec) (numbers spec) apart) read_is_no_output)
-
-  module _ (fits : list_all (formula_fits spec.names) spec.guarantee_always ≡ true) where
-    -- what fits in an update
-    pub record UpdateFits (s : ℕ) (t : TermTree) : Type 0 where
-      pub signal : signal_fits spec.names s ≡ true
-      pub term : term_is_writable spec.names t ≡ true
-      pub below : s < length spec.names
-
-    pub update_fits : (s : ℕ) (t : TermTree) → Contains spec.guarantee_always (update s t) → UpdateFits s t
-    update_fits s t stands =
-        let parts = and_parts (signal_fits spec.names s) (term_is_writable spec.names t)
-        (list_all_at (formula_fits spec.names) spec.guarantee_always (update s t) fits stands) in
-        record {
-          signal = parts.0;
-          term = parts.1;
-          below = named_below spec.names s Signal 0 (and_parts (is_name spec.names s Signal 0) _ parts.0).0;
-        }
-
-    among_numbers_if_below : (s : ℕ) → s < length spec.names → is_among (numbers spec) s ≡ true
-    among_numbers_if_below s below = among_numbers 0 (length spec.names) s (omega arith) (omega arith)
-
-    -- an updated signal is a cell or an output
-    is_controlled : (s : ℕ) (t : TermTree) → Contains spec.guarantee_always (update s t) → is_among (cells_of spec ++ outputs_of spec) s ≡ true
-    is_controlled s t stands =
-        let named = among_numbers_if_below s (update_fits s t stands).below in
-        let updates = updates_if_stands s t stands in
-        list_any-append (λ r. r == s) (cells_of spec) (outputs_of spec)
-        ∙ elim (cases_Bool (formula_reads s (whole_formula spec))) [
-          | inl reads ↦
-              let cell : is_among (cells_of spec) s ≡ true =
-              among_filter (is_cell spec) s (numbers spec)
-              ∙ and_from (is_among (numbers spec) s) (is_cell spec s) named (and_from (formula_updates s (whole_formula spec)) _ updates reads) in
-              ap (λ b. b || is_among (outputs_of spec) s) cell
-          | inr unread ↦
-              let output : is_among (outputs_of spec) s ≡ true =
-              among_filter (is_output spec) s (numbers spec)
-              ∙ and_from (is_among (numbers spec) s) (is_output spec s) named
-              (and_from (formula_updates s (whole_formula spec)) _ updates (ap not unread)) in
-              ap (λ b. is_among (cells_of spec) s || b) output ∙ or-true (is_among (cells_of spec) s)
-        ]
-
-    -- what a term of an update reads is an input or a cell
-    is_readable : (s : ℕ) (t : TermTree) → Contains spec.guarantee_always (update s t) →
-        (r : ℕ) → term_reads r t ≡ true → is_among (inputs_of spec ++ cells_of spec) r ≡ true
-    is_readable s t stands r reads =
-        let term_fit = and_parts (term_fits spec.names t) _ (update_fits s t stands).term in
-        let named = named_if_read spec.names r t term_fit.0 reads in
-        let below = among_numbers_if_below r (named_below spec.names r Signal 0 named) in
-        let read : formula_reads r (whole_formula spec) ≡ true =
-        reads_are r ∙ list_any_at (formula_reads r) spec.guarantee_always (update s t) stands reads in
-        list_any-append (λ n. n == r) (inputs_of spec) (cells_of spec)
-        ∙ elim (cases_Bool (formula_updates r (whole_formula spec))) [
-          | inl updates ↦
-              let cell : is_among (cells_of spec) r ≡ true =
-              among_filter (is_cell spec) r (numbers spec)
-              ∙ and_from (is_among (numbers spec) r) (is_cell spec r) below (and_from (formula_updates r (whole_formula spec)) _ updates read) in
-              ap (λ b. is_among (inputs_of spec) r || b) cell ∙ or-true (is_among (inputs_of spec) r)
-          | inr kept ↦
-              let input : is_among (inputs_of spec) r ≡ true =
-              among_filter (is_input spec) r (numbers spec)
-              ∙ and_from (is_among (numbers spec) r) (is_input spec r) below (and_from (is_name spec.names r Signal 0) _ named (ap not kept)) in
-              ap (λ b. b || is_among (cells_of spec) r) input
-        ]
-
-    assigned : List TermTree
-    assigned = flat_map (first_term spec) (cells_of spec ++ outputs_of spec)
+  module _ (fits : SpecFits spec) where
+    atoms_fit : list_all (atom_fits spec.names) (atoms (whole_formula spec)) ≡ true
+    atoms_fit = (and_parts (list_all (atom_fits spec.names) (atoms (whole_formula spec))) _
+        (whole_is_made_of (atom_fits spec.names) spec fits.formulas)).0
 
     pub is_program : IsProgram (fixed_program spec)
     is_program = record {
-      signals_distinct = distinct;
+      signals_distinct = distinct_signals spec;
       branches_fit = no_branch;
       assignments_fit = assignment;
       states_fit = (lit≤ tt, one_state);
@@ -289,17 +193,19 @@ module _ (spec : SpecTree) (fixed : IsFixed spec) where
         no_branch zero a b t is = absurd cc
         no_branch (suc i) a b t is = absurd cc
 
-        assignment : AssignmentsFit (inputs_of spec ++ cells_of spec) (length (cells_of spec) + length (outputs_of spec)) 1 (fixed_program spec).nodes
+        assignment : AssignmentsFit (inputs_of spec ++ cells_of spec) (length (cells_of spec) + length (outputs_of spec)) 1
+            (fixed_program spec).nodes
         assignment zero go ts is =
             let P : List TermTree → Type 0 = λ terms. (length terms ≡ length (cells_of spec) + length (outputs_of spec))
             × (list_all (reads_only (inputs_of spec ++ cells_of spec)) terms ≡ true) in
             let terms_are : flat_map (first_term spec) (cells_of spec ++ outputs_of spec) ≡ ts = cc in
             let go_is : 0 ≡ go = cc in
             let holds = subst P terms_are (
-              length_one_each (first_term spec) (cells_of spec ++ outputs_of spec) one_each ∙ length-append (cells_of spec) (outputs_of spec),
-              each_term (reads_only (inputs_of spec ++ cells_of spec))
-                  (λ s t stands. reads_only_from (inputs_of spec ++ cells_of spec) t (is_readable s t stands))
-                  (cells_of spec ++ outputs_of spec),
+              length_one_each (first_term spec) (cells_of spec ++ outputs_of spec) one_each
+                  ∙ length-append (cells_of spec) (outputs_of spec),
+              assigned_pass (reads_only (inputs_of spec ++ cells_of spec)) (atom_reads_only (inputs_of spec ++ cells_of spec))
+                  (λ s t reads. reads)
+                  (whole_reads spec fits.formulas) (cells_of spec ++ outputs_of spec),
             ) in
             (holds.0, omega arith, holds.1)
         assignment (suc i) go ts is = absurd cc
@@ -308,19 +214,8 @@ module _ (spec : SpecTree) (fixed : IsFixed spec) where
         one_state zero i is = let zero_is : 0 ≡ i = cc in omega arith
         one_state (suc s) i is = absurd cc
 
-    -- every closed run meets the whole formula
-    update_holds : (interpretation : Interpretation) (rows : InputRows ℕ) (start length : ℕ) →
-        Closed (meanings_of (cells_of spec) interpretation) (fixed_program spec) rows start length →
-        (f : FormulaTree) → is_update f ≡ true → Contains spec.guarantee_always f →
-        meets (closed_run (meanings_of (cells_of spec) interpretation) (fixed_program spec) rows start length) (globally f) 0 ≡ true
-    update_holds interpretation rows start length closed (update s t) is stands =
-        one_action_meets (meanings_of (cells_of spec) interpretation) (fixed_program spec) rows start length
-        (flat_map (first_term spec) (cells_of spec ++ outputs_of spec)) s t refl refl closed
-        (beside_one_each (first_term spec) (cells_of spec ++ outputs_of spec) s t one_each (is_controlled s t stands) (first_is s t stands))
-    update_holds interpretation rows start length closed f is stands = absurd (false≢true is)
-
-    pub is_writable : NamesFit spec.names → IsWritable spec.names (fixed_program spec)
-    is_writable names = record {
+    pub is_writable : IsWritable spec.names (fixed_program spec)
+    is_writable = record {
       signals =
           list_all-append (signal_fits spec.names) (inputs_of spec) (cells_of spec ++ outputs_of spec)
           ∙ and_from (list_all (signal_fits spec.names) (inputs_of spec)) _
@@ -331,17 +226,22 @@ module _ (spec : SpecTree) (fixed : IsFixed spec) where
           (list_all_filter (is_output spec) (signal_fits spec.names) output_fits (numbers spec)));
       windows = refl;
       nodes = and_from (list_all (term_is_writable spec.names) (flat_map (first_term spec) (cells_of spec ++ outputs_of spec))) true
-          (each_term (term_is_writable spec.names) (λ s t stands. (update_fits s t stands).term) (cells_of spec ++ outputs_of spec)) refl;
+          (assigned_pass (term_is_writable spec.names) (atom_fits spec.names)
+          (λ s t h. (and_parts (signal_fits spec.names s) (term_is_writable spec.names t) h).1) atoms_fit
+          (cells_of spec ++ outputs_of spec)) refl;
       few_windows = lit≤ tt;
       few_nodes = lit≤ tt;
       few_states = lit≤ tt;
     }
       where
         input_fits : (s : ℕ) → is_input spec s ≡ true → signal_fits spec.names s ≡ true
-        input_fits s passes = signal_fits_if_named spec.names s names (and_parts (is_name spec.names s Signal 0) _ passes).0
+        input_fits s passes = signal_fits_if_named spec.names s fits.names (and_parts (is_name spec.names s Signal 0) _ passes).0
 
         updated_fits : (s : ℕ) → formula_updates s (whole_formula spec) ≡ true → signal_fits spec.names s ≡ true
-        updated_fits s updates = let is = updated s updates in (update_fits s is.term is.stands).signal
+        updated_fits s updates =
+            let found = some_term s (atoms (whole_formula spec)) updates in
+            (and_parts (signal_fits spec.names s) (term_is_writable spec.names found.0)
+            (term_passes (atom_fits spec.names) (atoms (whole_formula spec)) atoms_fit s found.0 found.1)).0
 
         cell_fits : (s : ℕ) → is_cell spec s ≡ true → signal_fits spec.names s ≡ true
         cell_fits s passes = updated_fits s (and_parts (formula_updates s (whole_formula spec)) _ passes).0
@@ -349,30 +249,45 @@ module _ (spec : SpecTree) (fixed : IsFixed spec) where
         output_fits : (s : ℕ) → is_output spec s ≡ true → signal_fits spec.names s ≡ true
         output_fits s passes = updated_fits s (and_parts (formula_updates s (whole_formula spec)) _ passes).0
 
-    pub realizes : NamesFit spec.names → Realizes spec (fixed_program spec)
-    realizes names = record {
-      is_program = is_program;
-      is_writable = is_writable names;
-      windows = tt;
+    -- every closed run meets the whole formula
+    module _ (interpretation : Interpretation) (rows : InputRows ℕ) (shape : LoopShape)
+        (closed : Closed (meanings_in spec.names (fixed_program spec) interpretation) (fixed_program spec) rows shape) where
+      abbrev run : Lasso
+      run = closed_run (meanings_in spec.names (fixed_program spec) interpretation) (fixed_program spec) rows shape
+
+      update_holds : (s : ℕ) (t : TermTree) → Contains (terms_for s (whole_formula spec)) t →
+          meets run (unary Globally (atom (update s t))) 0 ≡ true
+      update_holds s t stands =
+          one_action_meets (meanings_in spec.names (fixed_program spec) interpretation) (fixed_program spec) rows shape
+          (flat_map (first_term spec) (cells_of spec ++ outputs_of spec)) s t refl refl closed
+          (beside_one_each (first_term spec) (cells_of spec ++ outputs_of spec) s t one_each
+          (term_passes (atom_updates_only (cells_of spec ++ outputs_of spec)) (atoms (whole_formula spec))
+          (whole_updates spec fits.formulas) s t stands)
+          (first_is s t stands))
+
+      updates_hold : (fs : List FormulaTree) → list_all is_update fs ≡ true →
+          ((s : ℕ) (t : TermTree) → Contains (flat_map (terms_for s) fs) t → Contains (terms_for s (whole_formula spec)) t) →
+          list_all (λ f. meets run (unary Globally f) 0) fs ≡ true
+      updates_hold [] updates known = refl
+      updates_hold (atom (update s t) ∷ fs) updates known =
+          and_from _ _ (update_holds s t (known s t (named_first s t fs)))
+          (updates_hold fs updates (λ r u stands. known r u (named_later (atom (update s t)) r u fs stands)))
+      updates_hold (f ∷ fs) updates known = absurd (false≢true updates)
+
+      pub whole_holds : meets run (whole_formula spec) 0 ≡ true
+      whole_holds =
+          subst (λ f. meets run f 0 ≡ true) (sym (whole_is spec only_always))
+          (conjunction_holds run (map (unary Globally) spec.guarantee_always) 0
+          (list_all-map (λ f. meets run f 0) (unary Globally) spec.guarantee_always
+          ∙ updates_hold spec.guarantee_always fixed.updates
+          (λ s t stands. subst (λ ts. Contains ts t) (sym (terms_are spec only_always s)) stands)))
+
+    pub realizes : Realizes spec (fixed_program spec)
+    realizes = record {
+      over_names = written_program spec.names (fixed_program spec) is_program is_writable;
       inputs = refl;
       cells = refl;
       outputs = refl;
-      runs = λ interpretation rows start length _ _ closed.
-          let run = closed_run (meanings_of (cells_of spec) interpretation) (fixed_program spec) rows start length in
-          subst (λ f. meets run f 0 ≡ true) (sym whole_is)
-          (conjunction_holds run (map globally spec.guarantee_always) 0
-          (list_all-map (λ f. meets run f 0) globally spec.guarantee_always
-          ∙ list_all_from (λ f. meets run (globally f) 0) spec.guarantee_always
-          (λ f stands. update_holds interpretation rows start length closed f
-          (list_all_at is_update spec.guarantee_always f fixed.updates stands) stands)));
+      runs = λ interpretation rows shape _ _ closed. whole_holds interpretation rows shape closed;
+      windows = tt;
     }
-
--- The laws.
-pub fixed_is_program : (spec : SpecTree) → SpecFits spec → IsFixed spec → IsProgram (fixed_program spec)
-fixed_is_program spec fits fixed = is_program spec fixed fits.guarantee_always
-
-pub fixed_is_writable : (spec : SpecTree) → SpecFits spec → IsFixed spec → IsWritable spec.names (fixed_program spec)
-fixed_is_writable spec fits fixed = is_writable spec fixed fits.guarantee_always fits.names
-
-pub fixed_realizes : (spec : SpecTree) → SpecFits spec → IsFixed spec → Realizes spec (fixed_program spec)
-fixed_realizes spec fits fixed = realizes spec fixed fits.guarantee_always fits.names

@@ -1,20 +1,25 @@
 -- The slots that a pass over updates keeps, against the formulas that it has passed.
-use Rattle.std.proofs.Common.{◌≡◌, ℕ, zero, suc, ◌<◌, ◌≢◌, ◌==◌, Bool, true, false, List, [], ◌∷◌, ◌++◌, map, take, set, replicate, Option, Some, None, slice_get, slice_set, Bor, Contains, ◌⊎◌, inl, inr, refl, sym, ap, subst, ◌∙◌, append_assoc, arith}
+use Rattle.std.proofs.Common.{◌≡◌, ℕ, zero, suc, ◌<◌, ◌==◌, Bool, true, false, List, [], ◌∷◌, ◌++◌, map, take, set, replicate, Option}
+use Rattle.std.proofs.Common.{Some, None, slice_get, slice_set, Bor, Contains, ◌⊎◌, inl, inr, refl, sym, ap, subst, ◌∙◌, append_assoc}
+use Rattle.std.proofs.Common.{arith}
 use Rattle.std.specs.Prelude.{if◌then◌else◌}
 use Rattle.std.specs.List.{list_all, flat_map}
 use Rattle.std.proofs.lemmas.List.{map-set}
-use Rattle.std.proofs.lemmas.Option.{slice_get-map, option_and_then_some, cond_some}
+use Rattle.std.proofs.lemmas.List.Elements.{Contains-append_right}
+use Rattle.std.proofs.lemmas.Option.{slice_get-map, slice_get_within, option_and_then_some, cond_some}
 use Rattle.std.proofs.lemmas.Bool.{false≢true}
 use Rattle.std.proofs.lemmas.Bool.Decides.{eqb_tells}
+use Rattle.sequence.proofs.Booleans.{eqb_self}
+use Rattle.sequence.proofs.Lists.{take_one_append}
+use Rattle.sequence.proofs.Places.{slice_get_set, slice_get_set_same}
 use Rattle.tsl_terms.specs.declared.term.Term.{Term}
 use Rattle.tsl_terms.specs.TermTree.{TermTree, term_tree}
 use Rattle.tsl_terms.specs.SameTree.{same_tree}
-use Rattle.tsl_terms.specs.FormulaTree.{FormulaTree, update}
+use Rattle.tsl_terms.specs.FormulaTree.{FormulaTree, atom, update}
 use Rattle.tsl_terms.specs.Signals.{terms_for}
 use Rattle.tsl_terms.proofs.SameLemmas.{same_tree_is, same_tree_itself}
 use Rattle.tsl_tool.specs.Fixed.{is_update}
-use Rattle.tsl_tool.specs.FixedSlots.{lent_tree, term_in_slot, noted_term, noted_in_slot, noted, noted_all}
-use Rattle.tsl_tool.proofs.FixedLists.{eqb_self, Contains_first, Contains_next, Contains_cases, Contains_none}
+use Rattle.tsl_tool.specs.internal.FixedSlots.{lent_tree, term_in_slot, noted_term, noted_in_slot, noted, noted_all}
 
 -- One step of the code: a slot that is free takes the term, and one that has a term is compared with it.
 pub noted_free : (slots : List (Option (Bor Term))) (s : ℕ) (t : Bor Term) → slice_get slots s ≡ Some None →
@@ -34,58 +39,39 @@ none_noted fs slots count are = ap (λ slots. noted_all fs (map lent_tree slots)
     no_terms_lent zero = refl
     no_terms_lent (suc count) = ap (λ slots. None ∷ slots) (no_terms_lent count)
 
--- a relation that only None meets
-pub only_none : {X : Type 0} (R : Option X → Type 0) → ((x : X) → R (Some x) → ⊥) → (y : Option X) → R y → y ≡ None
-only_none R never None holds = refl
-only_none R never (Some x) holds = absurd (never x holds)
-
--- a place that is written, and the other places
-slice_get_set_same : {X : Type 0} (xs : List X) (i : ℕ) (x y : X) → slice_get xs i ≡ Some y → slice_get (set xs i x) i ≡ Some x
-slice_get_set_same [] i x y is = absurd cc
-slice_get_set_same (z ∷ xs) zero x y is = refl
-slice_get_set_same (z ∷ xs) (suc i) x y is = slice_get_set_same xs i x y is
-
-slice_get_set_other : {X : Type 0} (xs : List X) (i j : ℕ) (x : X) → i ≢ j → slice_get (set xs i x) j ≡ slice_get xs j
-slice_get_set_other [] i j x apart = refl
-slice_get_set_other (z ∷ xs) zero zero x apart = absurd (apart refl)
-slice_get_set_other (z ∷ xs) zero (suc j) x apart = refl
-slice_get_set_other (z ∷ xs) (suc i) zero x apart = refl
-slice_get_set_other (z ∷ xs) (suc i) (suc j) x apart = slice_get_set_other xs i j x (λ same. apart (ap suc same))
-
--- the first of a list
-take_one_append : {X : Type 0} (xs ys : List X) → take 1 (take 1 xs ++ ys) ≡ take 1 (xs ++ ys)
-take_one_append [] ys = refl
-take_one_append (x ∷ xs) ys = refl
-
 one_in_slot : (cell : Option (Option TermTree)) → term_in_slot cell ≡ take 1 (term_in_slot cell ++ [])
 one_in_slot None = refl
 one_in_slot (Some None) = refl
 one_in_slot (Some (Some t)) = refl
 
+-- the formula that updates a signal by a term
+abbrev updated : ℕ → TermTree → FormulaTree
+updated r u = atom (update r u)
+
 -- what a step leaves: the first term of what was noted and of the update
 noted_step : (slots later : List (Option TermTree)) (r : ℕ) (u : TermTree) → noted slots r u ≡ Some later →
-    (s : ℕ) → noted_term later s ≡ take 1 (noted_term slots s ++ terms_for s (update r u))
+    (s : ℕ) → noted_term later s ≡ take 1 (noted_term slots s ++ terms_for s (updated r u))
 noted_step slots later r u = by (slice_get slots r) refl
   where
-    unchanged : (s : ℕ) → (r == s) ≡ false → noted_term slots s ≡ take 1 (noted_term slots s ++ terms_for s (update r u))
+    unchanged : (s : ℕ) → (r == s) ≡ false → noted_term slots s ≡ take 1 (noted_term slots s ++ terms_for s (updated r u))
     unchanged s other = rw other (one_in_slot (slice_get slots s))
 
     by : (cell : Option (Option TermTree)) → slice_get slots r ≡ cell → noted_in_slot cell slots r u ≡ Some later →
-        (s : ℕ) → noted_term later s ≡ take 1 (noted_term slots s ++ terms_for s (update r u))
+        (s : ℕ) → noted_term later s ≡ take 1 (noted_term slots s ++ terms_for s (updated r u))
     by None is step s = absurd cc
     by (Some None) is step s =
         let later_is : set slots r (Some u) ≡ later = cc in
         elim (eqb_tells r s) [
           | inl same ↦
-              let P : ℕ → Type 0 = λ n. noted_term later n ≡ take 1 (noted_term slots n ++ terms_for n (update r u)) in
-              subst P same.1 (rw (← later_is, slice_get_set_same slots r (Some u) None is, is, eqb_self r) refl)
-          | inr other ↦ rw (← later_is, slice_get_set_other slots r s (Some u) other.1) (unchanged s other.0)
+              let P : ℕ → Type 0 = λ n. noted_term later n ≡ take 1 (noted_term slots n ++ terms_for n (updated r u)) in
+              subst P same.1 (rw (← later_is, slice_get_set_same slots r (Some u) (slice_get_within slots r None is), is, eqb_self r) refl)
+          | inr other ↦ rw (← later_is, slice_get_set slots r s (Some u) (λ same. other.1 (sym same))) (unchanged s other.0)
         ]
     by (Some (Some v)) is step s =
         let parts = cond_some (same_tree v u) slots later step in
         elim (eqb_tells r s) [
           | inl same ↦
-              let P : ℕ → Type 0 = λ n. noted_term later n ≡ take 1 (noted_term slots n ++ terms_for n (update r u)) in
+              let P : ℕ → Type 0 = λ n. noted_term later n ≡ take 1 (noted_term slots n ++ terms_for n (updated r u)) in
               subst P same.1 (rw (← parts.1, is) refl)
           | inr other ↦ rw (← parts.1) (unchanged s other.0)
         ]
@@ -93,29 +79,51 @@ noted_step slots later r u = by (slice_get slots r) refl
 noted_here : (slots later : List (Option TermTree)) (r : ℕ) (u : TermTree) → noted slots r u ≡ Some later → noted_term later r ≡ u ∷ []
 noted_here slots later r u = by (slice_get slots r) refl
   where
-    by : (cell : Option (Option TermTree)) → slice_get slots r ≡ cell → noted_in_slot cell slots r u ≡ Some later → noted_term later r ≡ u ∷ []
+    by : (cell : Option (Option TermTree)) → slice_get slots r ≡ cell → noted_in_slot cell slots r u ≡ Some later →
+        noted_term later r ≡ u ∷ []
     by None is step = absurd cc
     by (Some None) is step =
         let later_is : set slots r (Some u) ≡ later = cc in
-        rw (← later_is, slice_get_set_same slots r (Some u) None is) refl
+        rw (← later_is, slice_get_set_same slots r (Some u) (slice_get_within slots r None is)) refl
     by (Some (Some v)) is step =
         let parts = cond_some (same_tree v u) slots later step in
         rw (← parts.1, is) (ap (λ t. t ∷ []) (same_tree_is v u parts.0))
+
+-- a term that a list of updates names for a signal: that of the first update, or of a later one
+named_cases : (r s : ℕ) (u t : TermTree) (fs : List FormulaTree) → Contains (flat_map (terms_for s) (updated r u ∷ fs)) t →
+    ((r ≡ s) × (u ≡ t)) ⊎ Contains (flat_map (terms_for s) fs) t
+named_cases r s u t fs stands = elim (eqb_tells r s) [
+  | inl same ↦
+      let at : Contains (u ∷ flat_map (terms_for s) fs) t = rw same.0 at stands in
+      first at same.1
+  | inr other ↦ let at : Contains (flat_map (terms_for s) fs) t = rw other.0 at stands in inr at
+]
+  where
+    first : Contains (u ∷ flat_map (terms_for s) fs) t → r ≡ s → ((r ≡ s) × (u ≡ t)) ⊎ Contains (flat_map (terms_for s) fs) t
+    first (zero, within, is) same = inl (same, is)
+    first (suc k, within, is) same = inr (k, omega arith, is)
+
+pub named_first : (s : ℕ) (t : TermTree) (fs : List FormulaTree) → Contains (flat_map (terms_for s) (updated s t ∷ fs)) t
+named_first s t fs = rw (eqb_self s) (0, omega arith, refl)
+
+pub named_later : (f : FormulaTree) (s : ℕ) (t : TermTree) (fs : List FormulaTree) → Contains (flat_map (terms_for s) fs) t →
+    Contains (flat_map (terms_for s) (f ∷ fs)) t
+named_later f s t fs = Contains-append_right (terms_for s f) (flat_map (terms_for s) fs) t
 
 -- What slots that note all of the formulas tell: each formula is an update, and what is noted of a
 -- signal is the first term that it is to take, which is that of each of its updates.
 pub record HasNoted (fs : List FormulaTree) (slots last : List (Option TermTree)) : Type 0 where
   pub updates : list_all is_update fs ≡ true
   pub first : (s : ℕ) → noted_term last s ≡ take 1 (noted_term slots s ++ flat_map (terms_for s) fs)
-  pub each : (s : ℕ) (t : TermTree) → Contains fs (update s t) → noted_term last s ≡ t ∷ []
+  pub each : (s : ℕ) (t : TermTree) → Contains (flat_map (terms_for s) fs) t → noted_term last s ≡ t ∷ []
 
 pub noted_tells : (fs : List FormulaTree) (slots last : List (Option TermTree)) → noted_all fs slots ≡ Some last → HasNoted fs slots last
 noted_tells [] slots last is = record {
   updates = refl;
   first = λ s. let same : slots ≡ last = cc in rw (← same) (one_in_slot (slice_get slots s));
-  each = λ s t stands. absurd (Contains_none (update s t) stands);
+  each = λ s t stands. absurd (omega (arith, stands.1));
 }
-noted_tells (update r u ∷ fs) slots last is =
+noted_tells (atom (update r u) ∷ fs) slots last is =
     option_and_then_some (noted_all fs) (noted slots r u) last is (λ later step rest.
     let tells = noted_tells fs later last rest in
     record {
@@ -123,15 +131,14 @@ noted_tells (update r u ∷ fs) slots last is =
       first = λ s.
           tells.first s
           ∙ ap (λ front. take 1 (front ++ flat_map (terms_for s) fs)) (noted_step slots later r u step s)
-          ∙ take_one_append (noted_term slots s ++ terms_for s (update r u)) (flat_map (terms_for s) fs)
-          ∙ ap (take 1) (append_assoc (noted_term slots s) (terms_for s (update r u)) (flat_map (terms_for s) fs));
-      each = λ s t stands. elim (Contains_cases (update r u) (update s t) fs stands) [
+          ∙ take_one_append (noted_term slots s ++ terms_for s (updated r u)) (flat_map (terms_for s) fs)
+          ∙ ap (take 1) (append_assoc (noted_term slots s) (terms_for s (updated r u)) (flat_map (terms_for s) fs));
+      each = λ s t stands. elim (named_cases r s u t fs stands) [
         | inl same ↦
-            let signal_is : r ≡ s = cc in
-            let term_is : u ≡ t = cc in
             let P : ℕ → TermTree → Type 0 = λ n v. noted_term last n ≡ v ∷ [] in
-            let here : P r u = tells.first r ∙ ap (λ front. take 1 (front ++ flat_map (terms_for r) fs)) (noted_here slots later r u step) in
-            subst (λ n. P n t) signal_is (subst (P r) term_is here)
+            let here : P r u = tells.first r
+            ∙ ap (λ front. take 1 (front ++ flat_map (terms_for r) fs)) (noted_here slots later r u step) in
+            subst (λ n. P n t) same.0 (subst (P r) same.1 here)
         | inr after ↦ tells.each s t after
       ];
     })
@@ -139,23 +146,24 @@ noted_tells (f ∷ fs) slots last is = absurd cc
 
 -- Updates that agree are noted, where each of them has a slot that is free or has its term.
 abbrev pub Agree : List FormulaTree → Type 0
-Agree fs = (s : ℕ) (t u : TermTree) → Contains fs (update s t) → Contains fs (update s u) → t ≡ u
+Agree fs = (s : ℕ) (t u : TermTree) → Contains (flat_map (terms_for s) fs) t → Contains (flat_map (terms_for s) fs) u → t ≡ u
 
 abbrev pub Allow : List (Option TermTree) → List FormulaTree → Type 0
-Allow slots fs = (s : ℕ) (t : TermTree) → Contains fs (update s t) → (slice_get slots s ≡ Some None) ⊎ (slice_get slots s ≡ Some (Some t))
+Allow slots fs = (s : ℕ) (t : TermTree) → Contains (flat_map (terms_for s) fs) t →
+    (slice_get slots s ≡ Some None) ⊎ (slice_get slots s ≡ Some (Some t))
 
 pub noted_when_agreed : (fs : List FormulaTree) (slots : List (Option TermTree)) → list_all is_update fs ≡ true →
     Agree fs → Allow slots fs → noted_all fs slots ≡ None → ⊥
 noted_when_agreed [] slots updates agree allow none = cc
-noted_when_agreed (update r u ∷ fs) slots updates agree allow none =
-    elim (allow r u (Contains_first (update r u) fs)) [
+noted_when_agreed (atom (update r u) ∷ fs) slots updates agree allow none =
+    elim (allow r u (named_first r u fs)) [
       | inl free ↦ noted_when_agreed fs (set slots r (Some u)) updates agree_later (allow_later free) (rw free at none)
       | inr taken ↦ noted_when_agreed fs slots updates agree_later (λ s t stands. allow s t (later s t stands))
           (rw (taken, same_tree_itself u) at none)
     ]
   where
-    later : (s : ℕ) (t : TermTree) → Contains fs (update s t) → Contains (update r u ∷ fs) (update s t)
-    later s t stands = Contains_next (update r u) (update s t) fs stands
+    later : (s : ℕ) (t : TermTree) → Contains (flat_map (terms_for s) fs) t → Contains (flat_map (terms_for s) (updated r u ∷ fs)) t
+    later s t = named_later (updated r u) s t fs
 
     agree_later : Agree fs
     agree_later s t v one other = agree s t v (later s t one) (later s v other)
@@ -165,9 +173,10 @@ noted_when_agreed (update r u ∷ fs) slots updates agree allow none =
       | inl same ↦
           let P : ℕ → Type 0 = λ n. slice_get (set slots r (Some u)) n ≡ Some (Some u) in
           let term_is : u ≡ t =
-          agree s u t (subst (λ n. Contains (update r u ∷ fs) (update n u)) same.1 (Contains_first (update r u) fs)) (later s t stands) in
-          inr (subst P same.1 (slice_get_set_same slots r (Some u) None free) ∙ ap (λ v. Some (Some v)) term_is)
-      | inr other ↦ rw (slice_get_set_other slots r s (Some u) other.1) (allow s t (later s t stands))
+          agree s u t (subst (λ n. Contains (flat_map (terms_for n) (updated r u ∷ fs)) u) same.1 (named_first r u fs))
+          (later s t stands) in
+          inr (subst P same.1 (slice_get_set_same slots r (Some u) (slice_get_within slots r None free)) ∙ ap (λ v. Some (Some v)) term_is)
+      | inr other ↦ rw (slice_get_set slots r s (Some u) (λ same. other.1 (sym same))) (allow s t (later s t stands))
     ]
 noted_when_agreed (f ∷ fs) slots updates agree allow none = false≢true updates
 
@@ -182,7 +191,8 @@ no_term_free zero s = refl
 no_term_free (suc count) zero = refl
 no_term_free (suc count) (suc s) = no_term_free count s
 
-pub free_allow : (count : ℕ) (fs : List FormulaTree) → ((s : ℕ) (t : TermTree) → Contains fs (update s t) → s < count) → Allow (replicate count None) fs
+pub free_allow : (count : ℕ) (fs : List FormulaTree) → ((s : ℕ) (t : TermTree) → Contains (flat_map (terms_for s) fs) t → s < count) →
+    Allow (replicate count None) fs
 free_allow count fs below s t stands = inl (slice_get_free count s (below s t stands))
 
 pub first_noted : (fs : List FormulaTree) (count : ℕ) (last : List (Option TermTree)) → HasNoted fs (replicate count None) last →

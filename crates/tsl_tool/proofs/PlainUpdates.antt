@@ -1,5 +1,6 @@
 -- A text of plain updates derives in the grammar from its updates, and spells the same specification.
-use Rattle.std.proofs.Common.{◌≡◌, ℕ, ◌+◌, ◌*◌, ◌≤◌, Bool, true, false, not, ◌||◌, List, [], ◌∷◌, ◌++◌, length, map, refl, ap, sym, ◌∙◌, subst, arith}
+use Rattle.std.proofs.Common.{◌≡◌, ℕ, ◌+◌, ◌*◌, ◌≤◌, Bool, true, false, not, ◌||◌, List, [], ◌∷◌, ◌++◌, length, map, refl, ap, sym, ◌∙◌}
+use Rattle.std.proofs.Common.{subst, arith}
 use Rattle.std.specs.Prelude.{Option, Some, None, if◌then◌else◌, codes, fold, flat_map}
 use Rattle.std.specs.List.{list_all, AllByRecursion}
 use Rattle.std.specs.Str.{bytes_eq}
@@ -10,19 +11,24 @@ use Rattle.tsl_text.specs.declared.TokenKind.TheVariants.{OpenBrace, CloseBrace,
 use Rattle.tsl_text.specs.Division.{tokens_from}
 use Rattle.tsl_text.specs.Lexeme.{name, lexeme_of}
 use Rattle.tsl_text.proofs.Parts.{lexemes as lexemes_of_tokens}
-use Rattle.tsl_terms.specs.Name.{Name, number_of, is_name_text, is_reserved, is_usable}
+use Rattle.tsl_text.specs.Names.{is_name_text, is_reserved, is_usable}
+use Rattle.tsl_terms.specs.Name.{Name, number_of}
 use Rattle.tsl_terms.specs.TermTree.{signal}
-use Rattle.tsl_terms.specs.FormulaTree.{FormulaTree, update, globally, formulas_of}
+use Rattle.tsl_terms.specs.declared.names.NameKind.TheVariants.{Signal}
+use Rattle.tsl_terms.specs.declared.operator.UnaryOperator.TheVariants.{Globally}
+use Rattle.tsl_terms.specs.Clashes.{alike_in_kind, same_arity, first_uses, HasNoClash}
+use Rattle.tsl_terms.specs.FormulaTree.{FormulaTree, atom, update, unary, formulas_of}
 use Rattle.tsl_terms.specs.Nodes.{nodes, nodes_of_members}
 use Rattle.tsl_terms.specs.SpecTree.{SpecTree, conjunction_of, whole_formula}
 use Rattle.tsl_reader.specs.Syntax.{Terminal, free, mark, word_of, free_unless, terminal_of, alone, FormulaSyntax, updated, SectionSyntax}
 use Rattle.tsl_reader.specs.Grammar as grammar
 use Rattle.tsl_reader.specs.Grammar.{IsFormula, AreItems, IsSection, AreSections}
-use Rattle.tsl_reader.specs.Naming.{signal_use, uses, all_uses, is_written, written_uses, with_use, with_uses, added_unless_found, names_of, numbered, numbered_list, alike_in_kind, same_arity}
-use Rattle.tsl_reader.specs.Spells.{Spells, HasNoClash, terminal_at, terminals, deepest, most_nodes}
-use Rattle.tsl_tool.specs.Form.{Pair, update_lexemes, form_lexemes, sides, has_usable_names, with_signal, AreUpdates, IsForm, Spells as SpellsUpdates}
+use Rattle.tsl_reader.specs.Naming.{Use, use_as, uses, all_uses, written_uses, named_by, names_of, numbered, numbered_list}
+use Rattle.tsl_reader.specs.Spells.{Spells, terminal_at, terminals, deepest, most_nodes}
+use Rattle.tsl_tool.specs.Form.{Pair, update_lexemes, form_lexemes, sides, has_usable_names, signal_named, AreUpdates, IsForm}
+use Rattle.tsl_tool.specs.Form.{Spells as SpellsUpdates}
 use Rattle.tsl_tool.specs.Form as form
-use Rattle.tsl_tool.proofs.Members.{of_passing, at_place}
+use Rattle.sequence.proofs.Each.{each_at}
 
 -- names that are not reserved are no words
 
@@ -33,10 +39,14 @@ no_word false w rest others further h = further h
 
 not_word : (text : List ℕ) → is_reserved text ≡ false → word_of text ≡ None
 not_word text h =
-    no_word (bytes_eq text (codes "assume")) _ _ _ (no_word (bytes_eq text (codes "guarantee")) _ _ _ (no_word (bytes_eq text (codes "always")) _ _ _
-    (no_word (bytes_eq text (codes "initially")) _ _ _ (no_word (bytes_eq text (codes "true")) _ _ _ (no_word (bytes_eq text (codes "false")) _ _ _
-    (no_word (bytes_eq text (codes "X")) _ _ _ (no_word (bytes_eq text (codes "F")) _ _ _ (no_word (bytes_eq text (codes "G")) _ _ _ (no_word (bytes_eq text (codes "U")) _ _ _
-    (no_word (bytes_eq text (codes "W")) _ _ _ (no_word (bytes_eq text (codes "R")) _ _ _ (no_word (bytes_eq text (codes "A")) _ None false (λ e. refl))))))))))))) h
+    no_word (bytes_eq text (codes "assume")) _ _ _
+    (no_word (bytes_eq text (codes "guarantee")) _ _ _ (no_word (bytes_eq text (codes "always")) _ _ _
+    (no_word (bytes_eq text (codes "initially")) _ _ _
+    (no_word (bytes_eq text (codes "true")) _ _ _ (no_word (bytes_eq text (codes "false")) _ _ _
+    (no_word (bytes_eq text (codes "X")) _ _ _
+    (no_word (bytes_eq text (codes "F")) _ _ _ (no_word (bytes_eq text (codes "G")) _ _ _ (no_word (bytes_eq text (codes "U")) _ _ _
+    (no_word (bytes_eq text (codes "W")) _ _ _
+    (no_word (bytes_eq text (codes "R")) _ _ _ (no_word (bytes_eq text (codes "A")) _ None false (λ e. refl))))))))))))) h
 
 name_is_free : (text : List ℕ) → is_usable text ≡ true → free_unless text (word_of text) ≡ free text
 name_is_free text usable =
@@ -50,7 +60,8 @@ update_terminals pair =
 
 abbrev form_terminals : List Pair → List Terminal
 form_terminals pairs =
-    terminal_of (name (codes "always")) ∷ terminal_of (name (codes "guarantee")) ∷ mark OpenBrace ∷ (flat_map update_terminals pairs ++ mark CloseBrace ∷ [])
+    terminal_of (name (codes "always")) ∷ terminal_of (name (codes "guarantee")) ∷ mark OpenBrace ∷
+    (flat_map update_terminals pairs ++ mark CloseBrace ∷ [])
 
 terminals_of_updates : (pairs : List Pair) → list_all has_usable_names pairs ≡ true →
     map terminal_of (flat_map update_lexemes pairs) ≡ flat_map update_terminals pairs
@@ -63,7 +74,8 @@ terminals_of_updates (pair ∷ pairs) usable =
     let others = terminals_of_updates pairs parts.1 in
     λ i. mark OpenSquare ∷ left i ∷ mark LeftArrow ∷ right i ∷ mark CloseSquare ∷ mark Semicolon ∷ others i
 
-terminals_of_form : (pairs : List Pair) → list_all has_usable_names pairs ≡ true → map terminal_of (form_lexemes pairs) ≡ form_terminals pairs
+terminals_of_form : (pairs : List Pair) → list_all has_usable_names pairs ≡ true →
+    map terminal_of (form_lexemes pairs) ≡ form_terminals pairs
 terminals_of_form pairs usable =
     let body = map-append terminal_of (flat_map update_lexemes pairs) _
     ∙ ap (λ xs. xs ++ mark CloseBrace ∷ []) (terminals_of_updates pairs usable) in
@@ -73,7 +85,8 @@ each_terminal : (text : List ℕ) (tokens : List Token) → terminals text token
 each_terminal text [] = refl
 each_terminal text (t ∷ tokens) = ap (λ xs. terminal_at text t ∷ xs) (each_terminal text tokens)
 
-terminals_are : (text : List ℕ) (pairs : List Pair) (is : IsForm text pairs) → terminals text (tokens_from 0 is.parts) ≡ form_terminals pairs
+terminals_are : (text : List ℕ) (pairs : List Pair) (is : IsForm text pairs) →
+    terminals text (tokens_from 0 is.parts) ≡ form_terminals pairs
 terminals_are text pairs is =
     each_terminal text (tokens_from 0 is.parts)
     ∙ ap (map terminal_of) (lexemes_of_tokens text is.parts is.divides ∙ is.tokens)
@@ -108,42 +121,42 @@ are_sections pairs =
 
 -- the names
 
-uses_of : (pairs : List Pair) → flat_map uses (map formula_of pairs) ≡ map signal_use (flat_map sides pairs)
-uses_of [] = refl
-uses_of (pair ∷ pairs) = ap (λ us. signal_use pair.left ∷ signal_use pair.right ∷ us) (uses_of pairs)
+-- the use of a name in an update
+abbrev plain_use : List ℕ → Use
+plain_use text = use_as Signal text 0
 
-all_uses_of : (pairs : List Pair) → all_uses (section_of pairs ∷ []) ≡ map signal_use (flat_map sides pairs)
+uses_of : (pairs : List Pair) → flat_map uses (map formula_of pairs) ≡ map plain_use (flat_map sides pairs)
+uses_of [] = refl
+uses_of (pair ∷ pairs) = ap (λ us. plain_use pair.left ∷ plain_use pair.right ∷ us) (uses_of pairs)
+
+all_uses_of : (pairs : List Pair) → all_uses (section_of pairs ∷ []) ≡ map plain_use (flat_map sides pairs)
 all_uses_of pairs = append-nil (flat_map uses (map formula_of pairs)) ∙ uses_of pairs
 
-same_added : (names : List Name) (text : List ℕ) (found : Option ℕ) →
-    form.added_unless_found names text found ≡ added_unless_found names (signal_use text) found
-same_added names text (Some number) = refl
-same_added names text None = refl
-
-same_names : (names : List Name) (texts : List (List ℕ)) → fold with_signal names texts ≡ with_uses names (map signal_use texts)
-same_names names [] = refl
-same_names names (text ∷ texts) =
-    ap (λ ns. fold with_signal ns texts) (same_added names text (number_of names text)) ∙ same_names (with_use names (signal_use text)) texts
+named : (texts : List (List ℕ)) → flat_map named_by (map plain_use texts) ≡ map signal_named texts
+named [] = refl
+named (text ∷ texts) = ap (λ ns. signal_named text ∷ ns) (named texts)
 
 names_are : (pairs : List Pair) → form.names_of pairs ≡ names_of (section_of pairs ∷ [])
-names_are pairs = same_names [] (flat_map sides pairs) ∙ ap (with_uses []) (sym (all_uses_of pairs))
+names_are pairs = ap first_uses (sym (named (flat_map sides pairs)) ∙ ap (flat_map named_by) (sym (all_uses_of pairs)))
 
 -- no name is used in two ways
 
-all_plain : (texts : List (List ℕ)) → AllByRecursion (λ u. u ≡ signal_use u.text) (map signal_use texts)
+all_plain : (texts : List (List ℕ)) → AllByRecursion (λ u. u ≡ signal_named u.text) (map (λ (u : Use). u.name) (map plain_use texts))
 all_plain [] = tt
 all_plain (text ∷ texts) = (refl, all_plain texts)
 
-written_plain : (pairs : List Pair) → AllByRecursion (λ u. u ≡ signal_use u.text) (written_uses (section_of pairs ∷ []))
+written_plain : (pairs : List Pair) → AllByRecursion (λ u. u ≡ signal_named u.text) (written_uses (section_of pairs ∷ []))
 written_plain pairs =
-    of_passing (λ u. u ≡ signal_use u.text) is_written (all_uses (section_of pairs ∷ []))
-    (subst (AllByRecursion (λ u. u ≡ signal_use u.text)) (sym (all_uses_of pairs)) (all_plain (flat_map sides pairs)))
+    subst (λ us. AllByRecursion (λ u. u ≡ signal_named u.text) (map (λ (u : Use). u.name) us)) (sym (all_uses_of pairs))
+    (all_plain (flat_map sides pairs))
 
-no_clash : (alike : Name → Name → Bool) → ((a b : List ℕ) → alike (signal_use a) (signal_use b) ≡ true) →
-    (us : List Name) → AllByRecursion (λ u. u ≡ signal_use u.text) us → HasNoClash alike us
+no_clash : (alike : Name → Name → Bool) → ((a b : List ℕ) → alike (signal_named a) (signal_named b) ≡ true) →
+    (us : List Name) → AllByRecursion (λ u. u ≡ signal_named u.text) us → HasNoClash alike us
 no_clash alike same us plain at clash =
-    let first : clash.first ≡ signal_use clash.first.text = at_place (λ u. u ≡ signal_use u.text) us clash.first_at clash.first plain clash.first_there in
-    let usage : clash.usage ≡ signal_use clash.usage.text = at_place (λ u. u ≡ signal_use u.text) us at clash.usage plain clash.use_there in
+    let first : clash.first ≡ signal_named clash.first.text =
+    each_at (λ u. u ≡ signal_named u.text) us clash.first_at clash.first plain clash.first_there in
+    let usage : clash.usage ≡ signal_named clash.usage.text =
+    each_at (λ u. u ≡ signal_named u.text) us at clash.usage plain clash.use_there in
     let is : alike clash.first clash.usage ≡ true = (λ i. alike (first i) (usage i)) ∙ same clash.first.text clash.usage.text in
     let e : true ≡ false = sym is ∙ clash.differs in
     cc
@@ -151,7 +164,7 @@ no_clash alike same us plain at clash =
 -- the formulas
 
 one_number : (names : List Name) (pair : Pair) (f : FormulaTree) (left right : ℕ) → number_of names pair.left ≡ Some left →
-    number_of names pair.right ≡ Some right → f ≡ update left (signal right) → numbered names (formula_of pair) ≡ Some f
+    number_of names pair.right ≡ Some right → f ≡ atom (update left (signal right)) → numbered names (formula_of pair) ≡ Some f
 one_number names pair f left right l r is = rw (l, r, is) refl
 
 numbers_are : (names : List Name) (pairs : List Pair) (fs : List FormulaTree) → AreUpdates names pairs fs →
@@ -165,11 +178,11 @@ numbers_are names (pair ∷ pairs) [] h = absurd h
 
 -- their nodes
 
-nodes_of_update : (f : FormulaTree) (left right : ℕ) → f ≡ update left (signal right) → nodes f ≡ 2
+nodes_of_update : (f : FormulaTree) (left right : ℕ) → f ≡ atom (update left (signal right)) → nodes f ≡ 2
 nodes_of_update f left right is = ap nodes is
 
 nodes_of_updates : (names : List Name) (pairs : List Pair) (fs : List FormulaTree) → AreUpdates names pairs fs →
-    nodes_of_members (formulas_of (map globally fs)) ≤ 3 * length pairs
+    nodes_of_members (formulas_of (map (unary Globally) fs)) ≤ 3 * length pairs
 nodes_of_updates names [] [] h = omega arith
 nodes_of_updates names (pair ∷ pairs) (f ∷ fs) h =
     omega (arith, nodes_of_update f h.0.0 h.0.1 h.0.4, nodes_of_updates names pairs fs h.1)
@@ -184,12 +197,12 @@ nodes_of_conjunction (f ∷ g ∷ fs) = omega arith
 few_nodes : (spec : SpecTree) (pairs : List Pair) → spec.assume_first ≡ [] → spec.assume_always ≡ [] → spec.guarantee_first ≡ [] →
     AreUpdates spec.names pairs spec.guarantee_always → length pairs ≤ form.most_updates → nodes (whole_formula spec) ≤ most_nodes
 few_nodes spec pairs first always guaranteed updates few =
-    let whole : whole_formula spec ≡ conjunction_of (map globally spec.guarantee_always) = rw (first, always, guaranteed) refl in
+    let whole : whole_formula spec ≡ conjunction_of (map (unary Globally) spec.guarantee_always) = rw (first, always, guaranteed) refl in
     omega (
       arith,
       few,
       ap nodes whole,
-      nodes_of_conjunction (map globally spec.guarantee_always),
+      nodes_of_conjunction (map (unary Globally) spec.guarantee_always),
       nodes_of_updates spec.names pairs spec.guarantee_always updates,
     )
 
@@ -202,7 +215,8 @@ plain_is_spelled bytes spec x = record {
     sections = section_of x.pairs ∷ [];
     derives = record {
       tokens_are = record { parts = x.form.parts; divides = x.form.divides; places = refl };
-      derived = subst (λ xs. AreSections deepest xs (section_of x.pairs ∷ [])) (sym (terminals_are bytes x.pairs x.form)) (are_sections x.pairs);
+      derived = subst (λ xs. AreSections deepest xs (section_of x.pairs ∷ [])) (sym (terminals_are bytes x.pairs x.form))
+          (are_sections x.pairs);
     };
     one_kind = no_clash alike_in_kind (λ a b. refl) (written_uses (section_of x.pairs ∷ [])) (written_plain x.pairs);
     one_arity = no_clash same_arity (λ a b. refl) (written_uses (section_of x.pairs ∷ [])) (written_plain x.pairs);
@@ -211,6 +225,7 @@ plain_is_spelled bytes spec x = record {
     assume_always = ap Some (sym x.nothing_assumed_always);
     guarantee_first = ap Some (sym x.nothing_guaranteed_first);
     guarantee_always =
-        ap (numbered_list spec.names) (append-nil (map formula_of x.pairs)) ∙ numbers_are spec.names x.pairs spec.guarantee_always x.guarantees;
+        ap (numbered_list spec.names) (append-nil (map formula_of x.pairs))
+        ∙ numbers_are spec.names x.pairs spec.guarantee_always x.guarantees;
   };
 }

@@ -20,8 +20,8 @@ both = codes "p cnf 1 2\n1 0\n-1 0\n"
 parted_before : cnf_part (codes "p cnf 0 0\nlrat\n1 0 0\n") 10 ≡ codes "p cnf 0 0\n"
 parted_before = refl
 
-parted_behind : log_part (codes "p cnf 0 0\nlrat\n1 0 0\n") 10 ≡ codes "1 0 0\n"
-parted_behind = refl
+parted_after : log_part (codes "p cnf 0 0\nlrat\n1 0 0\n") 10 ≡ codes "1 0 0\n"
+parted_after = refl
 
 accepted : reply_on both (codes "3 0 1 2 0\n") ≡ record { status = Done; text = codes "verified\n" }
 accepted = refl

@@ -1,16 +1,35 @@
 -- Which replies of `recheck` say yes and which say no.
-use Rattle.std.proofs.Common.{◌≡◌, ℕ, List, refl, ap, sym, ◌∙◌, subst, ◌↔◌}
-use Rattle.std.specs.Prelude.{◌+◌, ◌≤◌, take, drop, Option, Some, None, Result, Ok, Err, IfOk, codes}
+use Rattle.std.proofs.Common.{◌≡◌, ℕ, true, List, refl, ap, sym, ◌∙◌, ◌↔◌}
+use Rattle.std.specs.Prelude.{◌≤◌, Option, Some, None, Result, Ok, Err, IfOk, codes}
 use Rattle.tsl_text.specs.Places.{IsBetweenFeeds}
-use Rattle.clause_core.specs.Literals.{Lit}
-use Rattle.clause_core.specs.Clauses.{AreUnsatisfiable}
-use Rattle.refutation_check.specs.declared.steps.Step.{Step}
-use Rattle.refutation_check.specs.Checking.{Refusal, log_refusal}
+use Rattle.refutation_check.specs.Checking.{Refusal}
 use Rattle.refutation_check.specs.CnfText.{CnfAnswer, is_cnf, form_at as cnf_form_at, too_many_variables, too_many_clauses, cnf_answer}
 use Rattle.refutation_check.specs.LogText.{LogAnswer, is_log, form_at as log_form_at, log_answer}
+use Rattle.refutation_check.proofs.Refuting.{accepted_refutes}
+use Rattle.tsl_tool.specs.declared.status.Status.{Status}
 use Rattle.tsl_tool.specs.declared.status.Status.TheVariants.{Done, No}
 use Rattle.tsl_tool.specs.declared.reply.Reply.{Reply}
-use Rattle.tsl_tool.specs.Recheck.{verdict, log_reply, parts_reply, FormulaAndLog, IsAccepted, IsRefused, IsRefutation, OfParts, head_line}
+use Rattle.tsl_tool.specs.Statuses.{is_answer}
+use Rattle.tsl_tool.specs.Recheck.{verdict, parts_reply, FormulaAndLog, refusal_of, IsAccepted, IsRefused, IsRefutation, RecheckOutcome}
+use Rattle.tsl_tool.specs.Recheck.{of_parts, head_line, cnf_part, log_part}
+
+-- the reply on two texts
+abbrev pub reply_on : List ℕ → List ℕ → Reply
+reply_on cnf log = parts_reply (cnf_answer cnf) (log_answer log)
+
+-- an answer comes of a formula and a log that are spelled
+spelled_by : (cnf log : List ℕ) (formula : CnfAnswer) (steps : LogAnswer) → cnf_answer cnf ≡ formula → log_answer log ≡ steps →
+    is_answer (parts_reply formula steps).status ≡ true → FormulaAndLog cnf log
+spelled_by cnf log (is_cnf variables clauses) (is_log steps) is_formula is_steps h =
+    record { variables = variables; clauses = clauses; steps = steps; formula = is_formula; log = is_steps }
+spelled_by cnf log (is_cnf variables clauses) (log_form_at line) is_formula is_steps h = cc
+spelled_by cnf log (cnf_form_at line) steps is_formula is_steps h = cc
+spelled_by cnf log too_many_variables steps is_formula is_steps h = cc
+spelled_by cnf log too_many_clauses steps is_formula is_steps h = cc
+
+-- and is their verdict
+is_verdict : {cnf log : List ℕ} (spelled : FormulaAndLog cnf log) → reply_on cnf log ≡ verdict (refusal_of spelled)
+is_verdict spelled = rw (spelled.formula, spelled.log)
 
 verdict_yes : (refusal : Option Refusal) → (verdict refusal).status ≡ Done → refusal ≡ None
 verdict_yes None h = refl
@@ -20,92 +39,40 @@ verdict_no : (refusal : Option Refusal) → (verdict refusal).status ≡ No → 
 verdict_no None h = cc
 verdict_no (Some refusal) h = (refusal, refl)
 
--- a yes or a no comes of a log that is spelled
-log_yes : (variables : ℕ) (clauses : List (List Lit)) (answer : LogAnswer) → (log_reply variables clauses answer).status ≡ Done →
-    (steps : List Step) × (answer ≡ is_log steps) × (log_refusal variables clauses steps ≡ None)
-log_yes variables clauses (is_log steps) h = (steps, refl, verdict_yes (log_refusal variables clauses steps) h)
-log_yes variables clauses (log_form_at line) h = cc
+status_of : {a b : Reply} → a ≡ b → a.status ≡ b.status
+status_of h = ap (λ (r : Reply). r.status) h
 
-log_no : (variables : ℕ) (clauses : List (List Lit)) (answer : LogAnswer) → (log_reply variables clauses answer).status ≡ No →
-    (steps : List Step) × (answer ≡ is_log steps) × (r : Refusal) × (log_refusal variables clauses steps ≡ Some r)
-log_no variables clauses (is_log steps) h =
-    let found : (r : Refusal) × (log_refusal variables clauses steps ≡ Some r) = verdict_no (log_refusal variables clauses steps) h in
-    (steps, refl, found.0, found.1)
-log_no variables clauses (log_form_at line) h = cc
-
--- and of a formula that is spelled
-parts_yes : (formula : CnfAnswer) (log : LogAnswer) → (parts_reply formula log).status ≡ Done →
-    (variables : ℕ) × (clauses : List (List Lit)) × (steps : List Step) × (formula ≡ is_cnf variables clauses) × (log ≡ is_log steps)
-    × (log_refusal variables clauses steps ≡ None)
-parts_yes (is_cnf variables clauses) log h =
-    let found : (steps : List Step) × (log ≡ is_log steps) × (log_refusal variables clauses steps ≡ None) = log_yes variables clauses log h in
-    (variables, clauses, found.0, refl, found.1, found.2)
-parts_yes (cnf_form_at line) log h = cc
-parts_yes too_many_variables log h = cc
-parts_yes too_many_clauses log h = cc
-
-parts_no : (formula : CnfAnswer) (log : LogAnswer) → (parts_reply formula log).status ≡ No →
-    (variables : ℕ) × (clauses : List (List Lit)) × (steps : List Step) × (formula ≡ is_cnf variables clauses) × (log ≡ is_log steps)
-    × (r : Refusal) × (log_refusal variables clauses steps ≡ Some r)
-parts_no (is_cnf variables clauses) log h =
-    let found : (steps : List Step) × (log ≡ is_log steps) × (r : Refusal) × (log_refusal variables clauses steps ≡ Some r) = log_no variables clauses log h in
-    (variables, clauses, found.0, refl, found.1, found.2, found.3)
-parts_no (cnf_form_at line) log h = cc
-parts_no too_many_variables log h = cc
-parts_no too_many_clauses log h = cc
-
-reply_of_spelled : (cnf log : List ℕ) (spelled : FormulaAndLog cnf log) →
-    parts_reply (cnf_answer cnf) (log_answer log) ≡ verdict (log_refusal spelled.variables spelled.clauses spelled.steps)
-reply_of_spelled cnf log spelled = rw (spelled.formula, spelled.log)
-
-pub yes_exactly : (cnf log : List ℕ) → ((parts_reply (cnf_answer cnf) (log_answer log)).status ≡ Done) ↔ IsAccepted cnf log
+pub yes_exactly : (cnf log : List ℕ) → ((reply_on cnf log).status ≡ Done) ↔ IsAccepted cnf log
 yes_exactly cnf log = (
-  (λ h. let found = parts_yes (cnf_answer cnf) (log_answer log) h in
-      (record { variables = found.0; clauses = found.1; steps = found.2; formula = found.3; log = found.4 }, found.5)),
-  (λ (spelled, accepted). ap (λ (r : Reply). r.status) (reply_of_spelled cnf log spelled) ∙ ap (λ (r : Option Refusal). (verdict r).status) accepted),
+  (λ is_yes.
+      let spelled : FormulaAndLog cnf log = spelled_by cnf log (cnf_answer cnf) (log_answer log) refl refl (ap is_answer is_yes) in
+      (spelled, verdict_yes (refusal_of spelled) (sym (status_of (is_verdict spelled)) ∙ is_yes))),
+  (λ (spelled, accepted). status_of (is_verdict spelled ∙ ap verdict accepted)),
 )
 
-pub no_exactly : (cnf log : List ℕ) → ((parts_reply (cnf_answer cnf) (log_answer log)).status ≡ No) ↔ IsRefused cnf log
+pub no_exactly : (cnf log : List ℕ) → ((reply_on cnf log).status ≡ No) ↔ IsRefused cnf log
 no_exactly cnf log = (
-  (λ h. let found = parts_no (cnf_answer cnf) (log_answer log) h in
-      (record { variables = found.0; clauses = found.1; steps = found.2; formula = found.3; log = found.4 }, found.5, found.6)),
-  (λ (spelled, refusal, refused). ap (λ (r : Reply). r.status) (reply_of_spelled cnf log spelled) ∙ ap (λ (r : Option Refusal). (verdict r).status) refused),
+  (λ is_no.
+      let spelled : FormulaAndLog cnf log = spelled_by cnf log (cnf_answer cnf) (log_answer log) refl refl (ap is_answer is_no) in
+      let found : (r : Refusal) × (refusal_of spelled ≡ Some r) =
+      verdict_no (refusal_of spelled) (sym (status_of (is_verdict spelled)) ∙ is_no) in
+      (spelled, found.0, found.1)),
+  (λ (spelled, refusal, refused). status_of (is_verdict spelled ∙ ap verdict refused)),
 )
 
--- a yes that was given after a formula was read is a refutation
-pub refutation : (cnf log : List ℕ) (variables : ℕ) (clauses : List (List Lit)) (reply : Reply) → cnf_answer cnf ≡ is_cnf variables clauses →
-    reply ≡ log_reply variables clauses (log_answer log) → AreUnsatisfiable clauses → reply.status ≡ Done → IsRefutation cnf log
-refutation cnf log variables clauses reply spelled is unsatisfiable is_yes =
-    let found = log_yes variables clauses (log_answer log) (ap (λ (r : Reply). r.status) (sym is) ∙ is_yes) in
-    (record { variables = variables; clauses = clauses; steps = found.0; formula = spelled; log = found.1 }, found.2, unsatisfiable)
+-- a yes is a refutation, and says so
+pub yes_refutes : (cnf log : List ℕ) → (reply_on cnf log).status ≡ Done →
+    IsRefutation cnf log × ((reply_on cnf log).text ≡ codes "verified\n")
+yes_refutes cnf log is_yes =
+    let accepted : IsAccepted cnf log = (yes_exactly cnf log).0 is_yes in (
+      (accepted.0, accepted.1, accepted_refutes accepted.0.variables accepted.0.clauses accepted.0.steps accepted.1),
+      ap (λ (r : Reply). r.text) (is_verdict accepted.0 ∙ ap verdict accepted.1),
+    )
 
-pub refutations : {E : Type 0} (r : Result Reply E) (cnf log : List ℕ) (variables : ℕ) (clauses : List (List Lit)) →
-    cnf_answer cnf ≡ is_cnf variables clauses → IfOk r (λ reply. reply ≡ log_reply variables clauses (log_answer log)) →
-    IfOk r (λ reply. reply.status ≡ Done → AreUnsatisfiable clauses) → IfOk r (λ reply. reply.status ≡ Done → IsRefutation cnf log)
-refutations (Ok reply) cnf log variables clauses spelled is unsatisfiable =
-    λ done. refutation cnf log variables clauses reply spelled is (unsatisfiable done) done
-refutations (Err e) cnf log variables clauses spelled is unsatisfiable = tt
-
--- so are the parts of the bytes
-pub refuted_parts : {E : Type 0} (r : Result Reply E) (bytes log : List ℕ) (at : ℕ) → IsBetweenFeeds bytes head_line at →
-    ((other : ℕ) → IsBetweenFeeds bytes head_line other → at ≤ other) → log ≡ drop (at + 5) bytes →
-    IfOk r (λ reply. reply.status ≡ Done → IsRefutation (take at bytes) log) → IfOk r (λ reply. reply.status ≡ Done → OfParts bytes IsRefutation)
-refuted_parts (Ok reply) bytes log at line first behind h = λ done.
-    (at, record { is_line = line; first = first }, subst (IsRefutation (take at bytes)) behind (h done))
-refuted_parts (Err e) bytes log at line first behind h = tt
-
--- a yes is the line `verified`
-verdict_text : (refusal : Option Refusal) → (verdict refusal).status ≡ Done → (verdict refusal).text ≡ codes "verified\n"
-verdict_text None h = refl
-verdict_text (Some refusal) h = cc
-
-log_yes_text : (variables : ℕ) (clauses : List (List Lit)) (answer : LogAnswer) → (log_reply variables clauses answer).status ≡ Done →
-    (log_reply variables clauses answer).text ≡ codes "verified\n"
-log_yes_text variables clauses (is_log steps) h = verdict_text (log_refusal variables clauses steps) h
-log_yes_text variables clauses (log_form_at line) h = cc
-
-pub yes_text : (formula : CnfAnswer) (log : LogAnswer) → (parts_reply formula log).status ≡ Done → (parts_reply formula log).text ≡ codes "verified\n"
-yes_text (is_cnf variables clauses) log h = log_yes_text variables clauses log h
-yes_text (cnf_form_at line) log h = cc
-yes_text too_many_variables log h = cc
-yes_text too_many_clauses log h = cc
+-- the reply on the parts of the bytes is an outcome
+pub parts_outcome : {E : Type 0} (bytes log : List ℕ) (at : ℕ) (r : Result Reply E) → IsBetweenFeeds bytes head_line at →
+    ((other : ℕ) → IsBetweenFeeds bytes head_line other → at ≤ other) → log ≡ log_part bytes at →
+    IfOk r (λ reply. reply ≡ reply_on (cnf_part bytes at) log) → IfOk r (RecheckOutcome bytes)
+parts_outcome bytes log at (Ok reply) line first same is =
+    of_parts at (record { is_line = line; first = first }) (is ∙ ap (reply_on (cnf_part bytes at)) same)
+parts_outcome bytes log at (Err e) line first same is = tt

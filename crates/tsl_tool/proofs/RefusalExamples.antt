@@ -13,9 +13,9 @@ second_line = record {
   column = record { lines = codes "a;\n"; line = codes "b"; split = refl; begins = inr (codes "a;", refl); whole = refl; count = refl };
 }
 
--- the end of a text behind a line feed
-behind_all : IsPlaceOf (codes "a\n") 2 (record { line = 2; column = 1 })
-behind_all = record {
+-- the end of a text after a line feed
+after_all : IsPlaceOf (codes "a\n") 2 (record { line = 2; column = 1 })
+after_all = record {
   line = refl;
   column = record { lines = codes "a\n"; line = codes ""; split = refl; begins = inr (codes "a", refl); whole = refl; count = refl };
 }

@@ -10,8 +10,8 @@ use Rattle.tsl_reader.specs.declared.SpecError.{SpecError}
 use Rattle.tsl_reader.specs.declared.SpecError.TheVariants.{Byte, OpenComment, Form, Deep, Kind, Arity, Nodes, NoMemory}
 use Rattle.tsl_reader.specs.Syntax.{SectionSyntax}
 use Rattle.tsl_reader.specs.Spells.{Derives, HasClashAt, HasCause, name_tokens}
-use Rattle.tsl_tool.specs.Refusals.{StandsIn}
-use Rattle.tsl_tool.proofs.Members.{between_others, of_passing, at_place}
+use Rattle.tsl_tool.specs.internal.RefusalPlaces.{StandsIn}
+use Rattle.sequence.proofs.Each.{each_at, each_between, each_filtered}
 
 each_of : (text : List ℕ) (tokens : List Token) → AreTokens text tokens → AllByRecursion (IsTokenOf text) tokens
 each_of text tokens are = recursion_from_All (IsTokenOf text) tokens (each_token text tokens are)
@@ -19,14 +19,15 @@ each_of text tokens are = recursion_from_All (IsTokenOf text) tokens (each_token
 token_stands : (text : List ℕ) (before : List Token) (t : Token) (after : List Token) (at : ℕ) →
     AreTokens text (before ++ t ∷ after) → at ≡ t.start → at ≤ length text
 token_stands text before t after at are place =
-    let token : IsTokenOf text t = between_others (IsTokenOf text) before t after (each_of text (before ++ t ∷ after) are) in
+    let token : IsTokenOf text t = each_between (IsTokenOf text) before t after (each_of text (before ++ t ∷ after) are) in
     omega (arith, place, token.not_empty, token.inside)
 
 clash_stands : (alike : Name → Name → Bool) (text : List ℕ) (tokens : List Token) (sections : List SectionSyntax) (start end : ℕ) →
     Derives text tokens sections → HasClashAt alike text tokens sections start end → (start ≤ end) × (end ≤ length text)
 clash_stands alike text tokens sections start end derives h =
     let token : IsTokenOf text h.token =
-    at_place (IsTokenOf text) (name_tokens text tokens) h.at h.token (of_passing (IsTokenOf text) _ tokens (each_of text tokens derives.tokens_are)) h.there in
+    each_at (IsTokenOf text) (name_tokens text tokens) h.at h.token
+    (each_filtered (IsTokenOf text) _ tokens (each_of text tokens derives.tokens_are)) h.there in
     (omega (arith, h.starts, h.ends, token.not_empty), omega (arith, h.ends, token.inside))
 
 -- a refusal that has its cause stands in the text

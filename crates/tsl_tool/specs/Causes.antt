@@ -1,34 +1,24 @@
--- When faults come.
-use Rattle.std.specs.Prelude.{◌≡◌, ℕ, Bool, true, false}
-use Rattle.tsl_io.specs.Faults.{Faulted}
+-- What follows from how a run ends: when each status comes, and what a fault leads to.
+use Rattle.std.specs.Prelude.{◌≡◌, ℕ, ◌<◌, ◌⊎◌, List, None}
 use Rattle.tsl_tool.specs.declared.status.Status.{Status}
-use Rattle.tsl_tool.specs.declared.status.Status.TheVariants.{Done, No, Usage, Reading, Large, Spent, ReadFault, WriteFault, Memory}
+use Rattle.tsl_tool.specs.declared.status.Status.TheVariants.{Usage, ReadFault, WriteFault, Memory}
+use Rattle.tsl_tool.specs.Commands.{command_of}
+use Rattle.tsl_tool.specs.Effects.{Effect, HasFailed, IsUntouched}
 
--- the source's count of faults: it rose where the source failed, and is as it was otherwise
-abbrev pub CountsReads : Status → ℕ → ℕ → Type 0
-CountsReads ReadFault old new = Faulted old new
-CountsReads _ old new = new ≡ old
+-- a fault was counted
+abbrev pub Rises : Effect → Type 0
+Rises device = device.faults_old < device.faults_new
 
--- whether a command may reply so to the bytes that were read
-abbrev pub comes_of_bytes : Status → Bool
-comes_of_bytes Done = true
-comes_of_bytes No = true
-comes_of_bytes Reading = true
-comes_of_bytes Large = true
-comes_of_bytes Spent = true
-comes_of_bytes Usage = false
-comes_of_bytes ReadFault = false
-comes_of_bytes WriteFault = false
-comes_of_bytes Memory = false
-
--- whether it is the status of a reply, before anything is written
-abbrev pub is_replied : Status → Bool
-is_replied WriteFault = false
-is_replied Memory = false
-is_replied Done = true
-is_replied No = true
-is_replied Reading = true
-is_replied Large = true
-is_replied Spent = true
-is_replied Usage = true
-is_replied ReadFault = true
+pub record Causes (words : List (List ℕ)) (source out err : Effect) (result : Status) : Type 0 where
+  -- usage is answered to words of no command alone, and such words lead to nothing else
+  pub usage : result ≡ Usage → command_of words ≡ None
+  pub other_words : command_of words ≡ None → (result ≡ Usage) ⊎ ((result ≡ WriteFault) ⊎ (result ≡ Memory))
+  -- a fault is answered where one was counted
+  pub read_fault : result ≡ ReadFault → HasFailed source
+  pub write_fault : result ≡ WriteFault → HasFailed out ⊎ HasFailed err
+  -- and where one is counted, it is answered
+  pub read_rise : Rises source → ((result ≡ ReadFault) ⊎ (result ≡ WriteFault)) ⊎ (result ≡ Memory)
+  pub out_rise : Rises out → result ≡ WriteFault
+  pub err_rise : Rises err → result ≡ WriteFault
+  -- where memory runs out nothing is written
+  pub memory : result ≡ Memory → IsUntouched out × IsUntouched err

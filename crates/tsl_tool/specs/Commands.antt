@@ -1,26 +1,41 @@
 -- The commands, their words, and the most bytes of what each reads.
-use Rattle.std.specs.Prelude.{ℕ, Bool, false, cond, ◌&&◌, List, [], ◌∷◌, codes, Option, Some, None}
+use Rattle.std.specs.Prelude.{◌≡◌, ℕ, ◌≤◌, Bool, true, false, cond, ◌&&◌, List, [], ◌∷◌, codes, Option, Some, None, option_map}
 use Rattle.std.specs.Str.{bytes_eq}
+use Rattle.tsl_tool.specs.declared.words.Sizes.{Sizes}
 use Rattle.tsl_tool.specs.declared.words.Command.{Command}
 use Rattle.tsl_tool.specs.declared.words.Command.TheVariants.{Synth, Recheck}
+use Rattle.tsl_tool.specs.declared.words.TheConstants.{DEFAULT_STATES, MOST_STATES, MOST_SPECIFICATION_BYTES, MOST_LOG_BYTES}
 
--- the words are `synth`, or `synth --states 1`
-abbrev pub is_synth : List (List ℕ) → Bool
-is_synth (command ∷ []) = bytes_eq command (codes "synth")
-is_synth (command ∷ option ∷ value ∷ []) =
-    bytes_eq command (codes "synth") && (bytes_eq option (codes "--states") && bytes_eq value (codes "1"))
-is_synth _ = false
+-- the sizes that these words ask for after `synth`: none, or `--states 1`
+abbrev pub sizes_of : List (List ℕ) → Option Sizes
+sizes_of [] = Some (record { states = DEFAULT_STATES })
+sizes_of (option ∷ value ∷ []) =
+    cond (bytes_eq option (codes "--states") && bytes_eq value (codes "1")) (Some (record { states = 1 })) None
+sizes_of _ = None
 
--- the one word is `recheck`
-abbrev pub is_recheck : List (List ℕ) → Bool
-is_recheck (command ∷ []) = bytes_eq command (codes "recheck")
-is_recheck _ = false
+-- `recheck` has no options
+abbrev pub recheck_of : List (List ℕ) → Option Command
+recheck_of [] = Some Recheck
+recheck_of _ = None
 
--- the command of the words, where they are a command's
+-- The command of the words, with its options. There is none where the words are no command's.
 abbrev pub command_of : List (List ℕ) → Option Command
-command_of words = cond (is_synth words) (Some Synth) (cond (is_recheck words) (Some Recheck) None)
+command_of [] = None
+command_of (first ∷ options) =
+    cond (bytes_eq first (codes "synth")) (option_map Synth (sizes_of options))
+    (cond (bytes_eq first (codes "recheck")) (recheck_of options) None)
+
+-- each option is in its range
+abbrev pub IsInRange : Command → Type 0
+IsInRange (Synth sizes) = (1 ≤ sizes.states) × (sizes.states ≤ MOST_STATES)
+IsInRange Recheck = Unit {0}
+
+-- whether a run with this command reads its source
+abbrev pub reads : Option Command → Bool
+reads (Some command) = true
+reads None = false
 
 -- the most bytes that a command reads
 abbrev pub most_bytes : Command → ℕ
-most_bytes Synth = 1048576
-most_bytes Recheck = 268435456
+most_bytes (Synth sizes) = MOST_SPECIFICATION_BYTES
+most_bytes Recheck = MOST_LOG_BYTES

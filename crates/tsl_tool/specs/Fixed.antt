@@ -2,14 +2,14 @@
 use Rattle.std.specs.Prelude.{◌≡◌, ℕ, Bool, true, false, List, [], ◌∷◌, ◌++◌, take, flat_map, Contains, IsTrue}
 use Rattle.std.specs.List.{list_all}
 use Rattle.tsl_terms.specs.TermTree.{TermTree}
-use Rattle.tsl_terms.specs.FormulaTree.{FormulaTree, update}
+use Rattle.tsl_terms.specs.FormulaTree.{FormulaTree, atom, update}
 use Rattle.tsl_terms.specs.SpecTree.{SpecTree, whole_formula}
 use Rattle.tsl_terms.specs.Signals.{inputs_of, cells_of, outputs_of, terms_for}
 use Rattle.flow_program.specs.NodeTree.{assign}
 use Rattle.flow_program.specs.ProgramTree.{ProgramTree}
 
 abbrev pub is_update : FormulaTree → Bool
-is_update (update s t) = true
+is_update (atom (update s t)) = true
 is_update _ = false
 
 -- Every formula is an update that is always guaranteed, and no signal stands left of two different updates.
@@ -19,7 +19,7 @@ pub record IsFixed (spec : SpecTree) : Type 0 where
   pub nothing_guaranteed_first : spec.guarantee_first ≡ []
   pub updates : IsTrue (list_all is_update spec.guarantee_always)
   pub one_term : (s : ℕ) (t u : TermTree) →
-      Contains spec.guarantee_always (update s t) → Contains spec.guarantee_always (update s u) → t ≡ u
+      Contains (terms_for s (whole_formula spec)) t → Contains (terms_for s (whole_formula spec)) u → t ≡ u
 
 -- the first term that a signal is to take, if there is one
 abbrev pub first_term : SpecTree → ℕ → List TermTree

@@ -1,14 +1,16 @@
 -- The form of plain updates: `always guarantee { [y <- x]; [z <- y]; }`, with up to 1,000 updates of signals by
 -- signals. Blanks may stand anywhere between the tokens. Its definition stands on nothing of the grammar.
-use Rattle.std.specs.Prelude.{◌≡◌, ℕ, ◌≤◌, Bool, not, ◌&&◌, ◌==◌, List, [], ◌∷◌, ◌++◌, length, fold, flat_map, codes, Option, Some, None, IsTrue}
+use Rattle.std.specs.Prelude.{◌≡◌, ℕ, ◌≤◌, Bool, not, ◌&&◌, ◌==◌, List, [], ◌∷◌, ◌++◌, length, map, flat_map, codes, Some, IsTrue}
 use Rattle.std.specs.List.{list_all}
 use Rattle.tsl_text.specs.declared.TokenKind.TheVariants.{OpenBrace, CloseBrace, OpenSquare, CloseSquare, Semicolon, LeftArrow}
 use Rattle.tsl_text.specs.Division.{Part, Divides, lexemes_of}
 use Rattle.tsl_text.specs.Lexeme.{Lexeme, name, symbol}
 use Rattle.tsl_terms.specs.declared.names.NameKind.TheVariants.{Signal}
-use Rattle.tsl_terms.specs.Name.{Name, number_of, is_usable}
+use Rattle.tsl_terms.specs.Name.{Name, number_of}
+use Rattle.tsl_text.specs.Names.{is_usable}
+use Rattle.tsl_terms.specs.Clashes.{first_uses}
 use Rattle.tsl_terms.specs.TermTree.{signal}
-use Rattle.tsl_terms.specs.FormulaTree.{FormulaTree, update}
+use Rattle.tsl_terms.specs.FormulaTree.{FormulaTree, atom, update}
 use Rattle.tsl_terms.specs.SpecTree.{SpecTree}
 
 -- an update of a signal by a signal: the two names
@@ -35,24 +37,16 @@ has_usable_names pair = is_usable pair.left && is_usable pair.right
 abbrev pub signal_named : List ℕ → Name
 signal_named text = record { text = text; kind = Signal; arity = 0 }
 
-abbrev pub added_unless_found : List Name → List ℕ → Option ℕ → List Name
-added_unless_found names text (Some number) = names
-added_unless_found names text None = names ++ signal_named text ∷ []
-
--- the names, and at their end a signal of this name where they have none
-abbrev pub with_signal : List Name → List ℕ → List Name
-with_signal names text = added_unless_found names text (number_of names text)
-
 -- the names of the updates, by first appearance
 abbrev pub names_of : List Pair → List Name
-names_of pairs = fold with_signal [] (flat_map sides pairs)
+names_of pairs = first_uses (map signal_named (flat_map sides pairs))
 
 -- each formula is the update of its pair
 abbrev pub AreUpdates : List Name → List Pair → List FormulaTree → Type 0
 AreUpdates names [] [] = Unit {0}
 AreUpdates names (pair ∷ pairs) (f ∷ fs) =
     ((left right : ℕ) × (number_of names pair.left ≡ Some left) × (number_of names pair.right ≡ Some right)
-    × (f ≡ update left (signal right)))
+    × (f ≡ atom (update left (signal right))))
     × AreUpdates names pairs fs
 AreUpdates names [] (f ∷ fs) = ⊥
 AreUpdates names (pair ∷ pairs) [] = ⊥

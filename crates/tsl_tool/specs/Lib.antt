@@ -1,12 +1,14 @@
 pub mod Causes
 pub mod Commands
+pub mod Effects
+pub mod Ends
 pub mod Fixed
-pub mod FixedSlots
+pub mod internal
 pub mod Form
 pub mod Outcome
+pub mod Promise
 pub mod Recheck
 pub mod Refusals
 pub mod Replies
 pub mod Statuses
 pub mod Synth
-pub mod WholeTexts

@@ -1,5 +1,5 @@
 -- What the command `recheck` replies.
-use Rattle.std.specs.Prelude.{◌≡◌, ℕ, ◌+◌, ◌≤◌, ◌⊎◌, List, ◌++◌, take, drop, codes, decimal, Option, Some, None}
+use Rattle.std.specs.Prelude.{◌≡◌, ℕ, ◌+◌, ◌≤◌, List, ◌++◌, take, drop, codes, decimal, Option, Some, None}
 use Rattle.tsl_text.specs.Places.{IsBetweenFeeds}
 use Rattle.clause_core.specs.Literals.{Lit}
 use Rattle.clause_core.specs.Clauses.{AreUnsatisfiable}
@@ -10,6 +10,7 @@ use Rattle.refutation_check.specs.LogText.{LogAnswer, is_log, form_at as log_for
 use Rattle.tsl_report.specs.declared.fault.Head.TheVariants.{Lrat}
 use Rattle.tsl_report.specs.declared.fault.LimitName.TheVariants.{Variables, Clauses}
 use Rattle.tsl_report.specs.declared.fault.Fault.TheVariants.{Parts, CnfForm, LogForm, Large}
+use Rattle.tsl_tool.specs.declared.recheck.TheConstants.{MOST_VARIABLES, MOST_CLAUSES}
 use Rattle.tsl_tool.specs.declared.status.Status.TheVariants.{Done, No}
 use Rattle.tsl_tool.specs.declared.reply.Reply.{Reply}
 use Rattle.tsl_tool.specs.Replies.{fault_reply}
@@ -27,7 +28,7 @@ pub record IsFirstLineAt (text line : List ℕ) (at : ℕ) : Type 0 where
 abbrev pub HasNoLine : List ℕ → List ℕ → Type 0
 HasNoLine text line = (at : ℕ) → IsBetweenFeeds text line at → ⊥
 
--- All before the line `lrat` that begins at this offset, and all behind that line.
+-- All before the line `lrat` that begins at this offset, and all after that line.
 abbrev pub cnf_part : List ℕ → ℕ → List ℕ
 cnf_part bytes at = take at bytes
 
@@ -53,18 +54,18 @@ log_reply variables clauses (log_form_at line) = fault_reply (LogForm line)
 abbrev pub parts_reply : CnfAnswer → LogAnswer → Reply
 parts_reply (is_cnf variables clauses) log = log_reply variables clauses log
 parts_reply (cnf_form_at line) log = fault_reply (CnfForm line)
-parts_reply too_many_variables log = fault_reply (Large Variables 1048576)
-parts_reply too_many_clauses log = fault_reply (Large Clauses 2000000)
+parts_reply too_many_variables log = fault_reply (Large Variables MOST_VARIABLES)
+parts_reply too_many_clauses log = fault_reply (Large Clauses MOST_CLAUSES)
 
 -- the reply where the line `lrat` begins at this offset
 abbrev pub recheck_reply : List ℕ → ℕ → Reply
 recheck_reply bytes at = parts_reply (cnf_answer (cnf_part bytes at)) (log_answer (log_part bytes at))
 
--- no line is `lrat`, or the parts before and behind the first such line lead to the reply
-abbrev pub RecheckReplies : List ℕ → Reply → Type 0
-RecheckReplies bytes reply =
-    (HasNoLine bytes head_line × (reply ≡ fault_reply (Parts Lrat)))
-    ⊎ ((at : ℕ) × IsFirstLineAt bytes head_line at × (reply ≡ recheck_reply bytes at))
+pub data RecheckOutcome (bytes : List ℕ) (reply : Reply) : Type 0 where
+  -- no line is `lrat`
+  without_log : HasNoLine bytes head_line → reply ≡ fault_reply (Parts Lrat) → RecheckOutcome bytes reply
+  -- the parts before and after the first line `lrat` lead to the reply
+  of_parts : (at : ℕ) → IsFirstLineAt bytes head_line at → reply ≡ recheck_reply bytes at → RecheckOutcome bytes reply
 
 -- a formula that the first text spells, and the steps of a log that the second spells
 pub record FormulaAndLog (cnf_text log_text : List ℕ) : Type 0 where
@@ -89,6 +90,6 @@ abbrev pub IsRefutation : List ℕ → List ℕ → Type 0
 IsRefutation cnf_text log_text =
     (spelled : FormulaAndLog cnf_text log_text) × (refusal_of spelled ≡ None) × AreUnsatisfiable spelled.clauses
 
--- so are the parts before and behind the first line `lrat`
+-- so are the parts before and after the first line `lrat`
 abbrev pub OfParts : List ℕ → (List ℕ → List ℕ → Type 0) → Type 0
 OfParts bytes P = (at : ℕ) × IsFirstLineAt bytes head_line at × P (cnf_part bytes at) (log_part bytes at)

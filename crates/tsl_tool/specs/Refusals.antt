@@ -8,7 +8,8 @@ use Rattle.tsl_reader.specs.Spells.{most_nodes}
 use Rattle.tsl_report.specs.declared.fault.TokenPart.TheVariants.{Spec}
 use Rattle.tsl_report.specs.declared.fault.LimitName.TheVariants.{Nodes as NodesLimit}
 use Rattle.tsl_report.specs.declared.fault.Fault.{Fault}
-use Rattle.tsl_report.specs.declared.fault.Fault.TheVariants.{Byte as ByteFault, Comment as CommentFault, Form as FormFault, Deep as DeepFault, Kind as KindFault, Arity as ArityFault, Large}
+use Rattle.tsl_report.specs.declared.fault.Fault.TheVariants.{Byte as ByteFault, Comment as CommentFault, Form as FormFault}
+use Rattle.tsl_report.specs.declared.fault.Fault.TheVariants.{Deep as DeepFault, Kind as KindFault, Arity as ArityFault, Large}
 
 -- the place of the byte at this offset, or of the text's end
 pub record IsPlaceOf (text : List ℕ) (at : ℕ) (place : Place) : Type 0 where
@@ -31,14 +32,3 @@ IsFaultOf text (Arity start end) fault =
     (place : Place) × IsPlaceOf text start place × (fault ≡ ArityFault place (name_between text start end))
 IsFaultOf text Nodes fault = fault ≡ Large NodesLimit most_nodes
 IsFaultOf text NoMemory fault = ⊥
-
--- the offsets of a refusal lie in the text
-abbrev pub StandsIn : List ℕ → SpecError → Type 0
-StandsIn text (Byte at) = at ≤ length text
-StandsIn text (OpenComment at) = at ≤ length text
-StandsIn text (Form at) = at ≤ length text
-StandsIn text (Deep at) = at ≤ length text
-StandsIn text (Kind start end) = (start ≤ end) × (end ≤ length text)
-StandsIn text (Arity start end) = (start ≤ end) × (end ≤ length text)
-StandsIn text Nodes = Unit {0}
-StandsIn text NoMemory = Unit {0}

@@ -1,12 +1,10 @@
 -- What a run says: its status, and one text.
-use Rattle.std.specs.Prelude.{ℕ, cond, List, []}
 use Rattle.tsl_report.specs.declared.fault.Fault.{Fault}
 use Rattle.tsl_report.specs.declared.fault.Fault.TheVariants.{Usage as WrongWords, Read, Large as PastLimit}
 use Rattle.tsl_report.specs.FaultText.{fault_text}
 use Rattle.tsl_tool.specs.declared.status.Status.{Status}
 use Rattle.tsl_tool.specs.declared.status.Status.TheVariants.{Usage, Reading, Large, ReadFault}
 use Rattle.tsl_tool.specs.declared.reply.Reply.{Reply}
-use Rattle.tsl_tool.specs.Statuses.{is_answer}
 
 -- the status at a fault
 abbrev pub fault_status : Fault → Status
@@ -18,10 +16,3 @@ fault_status _ = Reading
 -- the reply at a fault: its line
 abbrev pub fault_reply : Fault → Reply
 fault_reply fault = record { status = fault_status fault; text = fault_text fault }
-
--- what goes to the first sink, and what to the second
-abbrev pub out_text : Reply → List ℕ
-out_text reply = cond (is_answer reply.status) reply.text []
-
-abbrev pub err_text : Reply → List ℕ
-err_text reply = cond (is_answer reply.status) [] reply.text

@@ -25,15 +25,3 @@ is_answer Large = false
 is_answer ReadFault = false
 is_answer WriteFault = false
 is_answer Memory = false
-
--- whether a line goes with it, which says why there is no answer
-abbrev pub is_refused : Status → Bool
-is_refused Usage = true
-is_refused Reading = true
-is_refused Large = true
-is_refused ReadFault = true
-is_refused Done = false
-is_refused No = false
-is_refused Spent = false
-is_refused WriteFault = false
-is_refused Memory = false

@@ -1,5 +1,5 @@
 -- What the command `synth` replies.
-use Rattle.std.specs.Prelude.{◌≡◌, ℕ, ◌⊎◌, List}
+use Rattle.std.specs.Prelude.{◌≡◌, ℕ, ◌≤◌, List, length}
 use Rattle.tsl_terms.specs.SpecTree.{SpecTree}
 use Rattle.tsl_reader.specs.declared.SpecError.{SpecError}
 use Rattle.tsl_reader.specs.Spells.{Spells, HasCause, IsRefused}
@@ -9,6 +9,7 @@ use Rattle.tsl_meaning.specs.Promise.{Realizes}
 use Rattle.tsl_report.specs.declared.fault.Fault.{Fault}
 use Rattle.tsl_report.specs.declared.fault.Fault.TheVariants.{Unbuilt}
 use Rattle.tsl_tool.specs.declared.status.Status.TheVariants.{Done}
+use Rattle.tsl_tool.specs.declared.words.Sizes.{Sizes}
 use Rattle.tsl_tool.specs.declared.reply.Reply.{Reply}
 use Rattle.tsl_tool.specs.Fixed.{IsFixed, fixed_program}
 use Rattle.tsl_tool.specs.Refusals.{IsFaultOf}
@@ -16,13 +17,15 @@ use Rattle.tsl_tool.specs.Replies.{fault_reply}
 
 -- The text that is written spells a program over the names of the specification that the bytes spell, and this
 -- program realizes the specification: every closed run of it, under every finite interpretation and every input
--- loop, meets the whole formula. It is the program of one node that the specification's updates give.
-pub record IsWritten (bytes text : List ℕ) : Type 0 where
+-- loop, meets the whole formula. It has at most as many states as were asked for. It is the program of one node that
+-- the specification's updates give.
+pub record IsWritten (sizes : Sizes) (bytes text : List ℕ) : Type 0 where
   pub spec : SpecTree
   pub spells : Spells bytes spec
   pub program : ProgramTree
   pub spelled : ProgramText text spec.names program
   pub realizes : Realizes spec program
+  pub few_states : length program.states ≤ sizes.states
   pub is_fixed : IsFixed spec
   pub is_fixed_program : program ≡ fixed_program spec
 
@@ -30,18 +33,17 @@ pub record IsWritten (bytes text : List ℕ) : Type 0 where
 abbrev pub IsUnbuilt : List ℕ → Type 0
 IsUnbuilt bytes = (spec : SpecTree) × Spells bytes spec × (IsFixed spec → ⊥)
 
--- the bytes spell no specification for a cause, and the reply is the line of its fault
-pub record IsRefusal (bytes : List ℕ) (reply : Reply) : Type 0 where
+-- the bytes spell no specification for a cause, and this is its fault
+pub record HasFault (bytes : List ℕ) (fault : Fault) : Type 0 where
   pub error : SpecError
-  pub fault : Fault
   pub cause : HasCause bytes error
   pub spells_none : IsRefused bytes error
   pub is_fault : IsFaultOf bytes error fault
-  pub is_reply : reply ≡ fault_reply fault
 
--- a program is written, or the line says that it is not built, or why the bytes are refused
-abbrev pub SynthReplies : List ℕ → Reply → Type 0
-SynthReplies bytes reply =
-    ((reply.status ≡ Done) × IsWritten bytes reply.text)
-    ⊎ ((IsUnbuilt bytes × (reply ≡ fault_reply Unbuilt))
-    ⊎ IsRefusal bytes reply)
+pub data SynthOutcome (sizes : Sizes) (bytes : List ℕ) (reply : Reply) : Type 0 where
+  -- a program is written
+  written : reply.status ≡ Done → IsWritten sizes bytes reply.text → SynthOutcome sizes bytes reply
+  -- no program is built yet for the specification
+  unbuilt : IsUnbuilt bytes → reply ≡ fault_reply Unbuilt → SynthOutcome sizes bytes reply
+  -- the bytes are refused at a fault
+  refused : (fault : Fault) → HasFault bytes fault → reply ≡ fault_reply fault → SynthOutcome sizes bytes reply

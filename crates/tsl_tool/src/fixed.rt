@@ -4,9 +4,10 @@ ghost use Rattle.std.specs.Prelude.{◌≡◌, ◌↔◌, ℕ, ◌++◌, length,
 ghost use Rattle.tsl_terms.specs.TermTree.{term_tree};
 ghost use Rattle.tsl_terms.specs.FormulaTree.{member_trees};
 ghost use Rattle.tsl_terms.specs.SpecView.{spec_tree};
+ghost use Rattle.tsl_terms.specs.WellFormed.{SpecFits};
 ghost use Rattle.flow_program.specs.ProgramView.{program_tree};
 ghost use Rattle.tsl_tool.specs.Fixed.{IsFixed, first_term, fixed_program};
-ghost use Rattle.tsl_tool.specs.FixedSlots.{lent_tree, noted_term, noted, noted_all, HasOnlyAlwaysGuarantees};
+ghost use Rattle.tsl_tool.specs.internal.FixedSlots.{lent_tree, noted_term, noted, noted_all, HasOnlyAlwaysGuarantees};
 
 use flow_program::{Node, Program};
 use sequence::{NoMemory, Sequence};
@@ -106,6 +107,7 @@ fn one_node_program(
     spec: &Spec,
     slots: &[Option<&Term>],
 ) -> Result<Program, NoMemory>
+    requires fits { SpecFits (spec_tree spec.now) }
     requires is_fixed { IsFixed (spec_tree spec.now) }
     requires first_terms { (s : ℕ) →
         noted_term (map lent_tree slots.now) s ≡ first_term (spec_tree spec.now) s }
@@ -144,6 +146,7 @@ fn has_only_always_guarantees(spec: &Spec) -> bool
 /// specification. It takes time in proportion to the formulas' nodes and the names. An `Err` says
 /// that memory ran out.
 pub(crate) fn program_of_fixed(alloc: Global, spec: &Spec) -> Result<Option<Program>, NoMemory>
+    requires { SpecFits (spec_tree spec.now) }
     ensures found { IfOk result (λ found. IfSome found (λ program.
         program_tree program ≡ fixed_program (spec_tree spec.now))) }
     ensures fixed { IfOk result (λ found. OnSome found (IsFixed (spec_tree spec.now))) }

@@ -1,13 +1,19 @@
 //! Laws of the definitions that the contracts cite.
 
-ghost use Rattle.std.specs.Prelude.{◌≡◌, ◌↔◌, ℕ, List, true};
+ghost use Rattle.std.specs.Prelude.{◌≡◌, ◌↔◌, ℕ, List};
 ghost use Rattle.refutation_check.specs.CnfText.{cnf_answer};
 ghost use Rattle.refutation_check.specs.LogText.{log_answer};
-ghost use Rattle.tsl_terms.specs.SpecTree.{SpecTree, whole_formula};
+ghost use Rattle.tsl_terms.specs.SpecTree.{SpecTree};
 ghost use Rattle.tsl_reader.specs.Spells.{Spells};
+ghost use Rattle.tsl_tool.specs.declared.reply.Reply.{Reply};
+ghost use Rattle.tsl_tool.specs.declared.status.Status.{Status};
+ghost use Rattle.tsl_tool.specs.Causes.{Causes};
+ghost use Rattle.tsl_tool.specs.Commands.{command_of};
+ghost use Rattle.tsl_tool.specs.Effects.{Effect};
+ghost use Rattle.tsl_tool.specs.Ends.{Ends};
 ghost use Rattle.tsl_tool.specs.Form.{Spells as SpellsUpdates};
-ghost use Rattle.tsl_report.specs.FormulaText.{can_be_written};
-ghost use Rattle.tsl_tool.specs.WholeTexts.{FormulasFit};
+ghost use Rattle.tsl_tool.specs.Outcome.{Outcome};
+ghost use Rattle.tsl_tool.specs.Promise.{Promise};
 ghost use Rattle.tsl_tool.specs.Recheck.{IsAccepted, IsRefused, parts_reply};
 
 use crate::status::Status;
@@ -22,13 +28,20 @@ pub fn plain_updates_are_spelled()
     ensures { (bytes : List ℕ) (spec : SpecTree) → SpellsUpdates bytes spec → Spells bytes spec }
 {}
 
-/// The whole formula of a specification whose formulas fit its names can be written as a text.
-pub fn whole_formulas_can_be_written()
-    ensures { (spec : SpecTree) → FormulasFit spec → can_be_written spec.names (whole_formula spec) ≡ true }
+/// Each status of a run has its cause, and each fault that was counted is answered.
+pub fn ends_have_causes()
+    ensures { (words : List (List ℕ)) (source out err : Effect) (result : Status) →
+        Ends words source out err result → Causes words source out err result }
 {}
 
-/// `recheck` says yes exactly where its parts are a formula and a log that is accepted, and no exactly
-/// where they are a formula and a log that is refused.
+/// The reply of each outcome keeps the promise of its command.
+pub fn outcomes_keep_their_promise()
+    ensures { (words : List (List ℕ)) (bytes : List ℕ) (reply : Reply) →
+        Outcome words bytes reply → Promise (command_of words) reply.status bytes reply.text }
+{}
+
+/// `recheck` says yes exactly where its parts are a formula and a log that is accepted, and no
+/// exactly where they are a formula and a log that is refused.
 pub fn verdicts_are_those_of_logs()
     ensures yes { (cnf log : List ℕ) → ((parts_reply (cnf_answer cnf) (log_answer log)).status ≡ Status.Done) ↔ IsAccepted cnf log }
     ensures no { (cnf log : List ℕ) → ((parts_reply (cnf_answer cnf) (log_answer log)).status ≡ Status.No) ↔ IsRefused cnf log }

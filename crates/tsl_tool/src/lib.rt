@@ -1,22 +1,45 @@
 //! The commands of `tsl`, and the top call.
 //!
-//! `tsl` takes the words behind the program's name, a source and two sinks, and answers a `Status`. Its
-//! contract is the promise of the whole tool. For `synth`, at `Done` the bytes added to the first sink
-//! spell a program over the names of the specification that the source's bytes spell, and every closed
-//! run of that program, under every finite interpretation and every input loop, meets the
-//! specification's whole formula. For `recheck`, at `Done` no assignment meets all clauses of the formula
-//! that the source's bytes spell. What stands in each sink at each status is that of an `Outcome`, and
-//! each fault has its cause. Three laws stand beside it: `one_specification`, that a text spells at most
-//! one specification, `plain_updates_are_spelled`, that a text of plain updates (`specs/Form.antt`), whose
-//! definition stands on nothing of the grammar, spells by the grammar what it spells by its form, and
-//! `verdicts_are_those_of_logs`, that `recheck` says yes exactly where the log is accepted and no exactly
-//! where it is refused.
+//! `tsl` takes the words after the program's name, a source and two sinks, and answers a `Status`.
+//! Its contract is the promise of the whole tool. Its words, in the order to read them:
 //!
-//! A run is: a `Command` from the words, all bytes up to the command's limit, a `Reply` of a status and
-//! one text, and that text to its sink. A command is a function from bytes to its reply. What is built:
-//! `recheck`, and `synth` or `synth --states 1`. `synth` reads every specification of the grammar, and
-//! each refusal has the line of its fault (`specs/Refusals.antt`); it writes a program for specifications
-//! of fixed updates (`specs/Fixed.antt`), and every other one is `Reading`, with the line `fault unbuilt`.
+//! 1. `Status` (`src/status.rt`): nine ways to end. `Done`, `No` and `Spent` are answers, whose
+//!    text goes to the first sink; the text of every other one goes to the second (`is_answer`).
+//! 2. `Command` (`src/words.rt`), with its options. `command_of` gives that of the words,
+//!    `most_bytes` what it reads at most, and `reads` says whether it reads at all
+//!    (`specs/Commands.antt`).
+//! 3. `Reply` (`src/reply.rt`): a status and one text. `fault_reply` is that of a fault.
+//! 4. `Outcome words bytes reply` (`specs/Outcome.antt`): what the words and the bytes of the
+//!    source may lead to. For each command it goes on to `SynthOutcome` (`specs/Synth.antt`) or
+//!    `RecheckOutcome` (`specs/Recheck.antt`).
+//! 5. `Effect` (`specs/Effects.antt`): the bytes and the count of faults of a source or a sink,
+//!    before the run and after it, and what can be said of them: untouched, written whole, cut off
+//!    by a fault.
+//! 6. `Ends` (`specs/Ends.antt`): the three ways in which a run ends. The text of a reply was
+//!    written whole, or it was cut off, or memory ran out. The reply is an outcome on the bytes of
+//!    the source: on those that the source tells, and on some bytes where it tells none, as
+//!    standard input does.
+//! 7. `Promise` (`specs/Promise.antt`): what the answer of each command promises. For `synth`, at
+//!    `Done` the text spells a program over the names of the specification that the bytes spell,
+//!    and every closed run of that program, under every finite interpretation and every input loop,
+//!    meets the specification's whole formula. For `recheck`, at `Done` no assignment meets all
+//!    clauses of the formula that the bytes spell.
+//!
+//! The clauses of `tsl` say: the status, what was read and what stands in the sinks are those of an
+//! `Ends`; an answer keeps the `Promise` of its command; words that read nothing leave the source
+//! as it was; what was written was handed on. What follows from them is said by laws:
+//! `ends_have_causes` gives each status its cause and each counted fault its answer, and
+//! `outcomes_keep_their_promise` says the promise of the outcomes alone. `one_specification` says
+//! that a text spells at most one specification, `plain_updates_are_spelled` that a text of plain
+//! updates (`specs/Form.antt`), whose definition does not use the grammar, spells the same
+//! specification by the grammar, and `verdicts_are_those_of_logs` that `recheck` says yes exactly
+//! where the log is accepted and no exactly where it is refused.
+//!
+//! What is built: `recheck`, and `synth` or `synth --states 1`. `synth` reads every specification
+//! of the grammar, and each refusal has the line of its fault (`specs/Refusals.antt`); it writes a
+//! program for specifications of fixed updates (`specs/Fixed.antt`), and every other one is
+//! `Reading`, with the line `fault unbuilt`. A new command adds a variant, its words, a line of
+//! `CommandOutcome` with a relation of its own, and its lines of `Promise`.
 #![tactic(auto)]
 
 mod fixed;
@@ -30,8 +53,8 @@ mod top;
 mod words;
 
 pub use laws::{
-    one_specification, plain_updates_are_spelled, verdicts_are_those_of_logs,
-    whole_formulas_can_be_written,
+    ends_have_causes, one_specification, outcomes_keep_their_promise, plain_updates_are_spelled,
+    verdicts_are_those_of_logs,
 };
 pub use status::Status;
 pub use top::tsl;

@@ -1,11 +1,10 @@
 //! The command `recheck`.
 
 ghost use Rattle.std.specs.Prelude.{◌≡◌, ◌+◌, ◌<◌, ◌≤◌, ◌^◌, length, drop, IfOk, Some, None};
-ghost use Rattle.clause_core.specs.Clauses.{AreUnsatisfiable};
 ghost use Rattle.refutation_check.specs.Checking.{HaveFewHints, log_refusal, at_line, at_hint, unfinished};
 ghost use Rattle.refutation_check.specs.CnfText.{cnf_answer};
 ghost use Rattle.refutation_check.specs.LogText.{log_answer};
-ghost use Rattle.tsl_tool.specs.Recheck.{RecheckReplies, IsRefutation, OfParts, parts_reply, log_reply, verdict};
+ghost use Rattle.tsl_tool.specs.Recheck.{RecheckOutcome, parts_reply, log_reply, verdict};
 
 use crate::reply::Reply;
 use crate::status::Status;
@@ -25,34 +24,32 @@ const MOST_VARIABLES: u32 = 1_048_576;
 /// The most clauses of a formula.
 const MOST_CLAUSES: u32 = 2_000_000;
 
-/// What `recheck` replies to these bytes: whether the log behind their first line `lrat` refutes the
+/// What `recheck` replies to these bytes: whether the log after their first line `lrat` refutes the
 /// formula before it.
 pub(crate) fn recheck(alloc: Global, bytes: &[u8]) -> Result<Reply, NoMemory>
     requires { length bytes.now < 2 ^ 31 }
-    ensures reply { IfOk result (λ reply. RecheckReplies bytes.now reply) }
-    ensures verified { IfOk result (λ reply. reply.status ≡ Status.Done → OfParts bytes.now IsRefutation) }
+    ensures { IfOk result (RecheckOutcome bytes.now) }
 {
     match line_at(bytes, HEAD_LINE) {
-        Some(at) => reply_to_parts(alloc, &bytes[..at as usize], behind_head(bytes, at)),
+        Some(at) => reply_to_parts(alloc, &bytes[..at as usize], after_head(bytes, at)),
         None => Reply::at_fault(alloc, &Fault::Parts(Head::Lrat)),
     }
 }
 
-/// What stands behind the line `lrat` that begins at this offset.
-fn behind_head(bytes: &[u8], at: u32) -> &[u8]
+/// What comes after the line `lrat` that begins at this offset.
+fn after_head(bytes: &[u8], at: u32) -> &[u8]
     requires { at ≤ length bytes.now }
     ensures { result.now ≡ drop (at + 5) bytes.now }
 {
-    let behind = at as usize + HEAD_LINE.len() + 1;
-    &bytes[behind.min(bytes.len())..]
+    let start = at as usize + HEAD_LINE.len() + 1;
+    &bytes[start.min(bytes.len())..]
 }
 
 /// What is replied to the text of a formula and that of a log.
 fn reply_to_parts(alloc: Global, cnf_text: &[u8], log_text: &[u8]) -> Result<Reply, NoMemory>
     requires cnf { length cnf_text.now < 2 ^ 31 }
     requires log { length log_text.now < 2 ^ 31 }
-    ensures reply { IfOk result (λ reply. reply ≡ parts_reply (cnf_answer cnf_text.now) (log_answer log_text.now)) }
-    ensures verified { IfOk result (λ reply. reply.status ≡ Status.Done → IsRefutation cnf_text.now log_text.now) }
+    ensures { IfOk result (λ reply. reply ≡ parts_reply (cnf_answer cnf_text.now) (log_answer log_text.now)) }
 {
     match read_dimacs(alloc, cnf_text) {
         Ok(cnf) => reply_to_log(alloc, &cnf, log_text),
@@ -70,8 +67,7 @@ fn reply_to_parts(alloc: Global, cnf_text: &[u8], log_text: &[u8]) -> Result<Rep
 /// What is replied to a formula and the text of a log.
 fn reply_to_log(alloc: Global, cnf: &Cnf, log_text: &[u8]) -> Result<Reply, NoMemory>
     requires { length log_text.now < 2 ^ 31 }
-    ensures reply { IfOk result (λ reply. reply ≡ log_reply cnf.now.variables cnf.now.clauses (log_answer log_text.now)) }
-    ensures verified { IfOk result (λ reply. reply.status ≡ Status.Done → AreUnsatisfiable cnf.now.clauses) }
+    ensures { IfOk result (λ reply. reply ≡ log_reply cnf.now.variables cnf.now.clauses (log_answer log_text.now)) }
 {
     match read_lrat(alloc, log_text) {
         Ok(log) => verdict_on(alloc, cnf, &log),
@@ -83,8 +79,7 @@ fn reply_to_log(alloc: Global, cnf: &Cnf, log_text: &[u8]) -> Result<Reply, NoMe
 /// The verdict on a formula and a log.
 fn verdict_on(alloc: Global, cnf: &Cnf, log: &Log) -> Result<Reply, NoMemory>
     requires { HaveFewHints log.now.steps }
-    ensures reply { IfOk result (λ reply. reply ≡ verdict (log_refusal cnf.now.variables cnf.now.clauses log.now.steps)) }
-    ensures verified { IfOk result (λ reply. reply.status ≡ Status.Done → AreUnsatisfiable cnf.now.clauses) }
+    ensures { IfOk result (λ reply. reply ≡ verdict (log_refusal cnf.now.variables cnf.now.clauses log.now.steps)) }
 {
     match check(alloc, cnf, log) {
         Ok(()) => verified(alloc),

@@ -1,16 +1,14 @@
 //! The fault of each refusal of a specification.
 
 ghost use Rattle.std.specs.Prelude.{◌≡◌, ◌-◌, ◌<◌, ◌≤◌, ◌^◌, length, IfOk};
-ghost use Rattle.tsl_tool.specs.Refusals.{IsPlaceOf, IsFaultOf, StandsIn, name_between};
+ghost use Rattle.tsl_tool.specs.Refusals.{IsPlaceOf, IsFaultOf, name_between};
+ghost use Rattle.tsl_tool.specs.internal.RefusalPlaces.{StandsIn};
 
 use sequence::{NoMemory, Sequence};
 use std::alloc::Global;
-use tsl_reader::SpecError;
+use tsl_reader::{MOST_NODES, SpecError};
 use tsl_report::{Fault, LimitName, TokenPart};
 use tsl_text::{Place, place_of};
-
-/// The most nodes of a specification's whole formula.
-const MOST_NODES: u32 = 10_000;
 
 /// The fault of a refusal of this text. An `Err` says that memory ran out, here or at the reading.
 pub(crate) fn fault_of(alloc: Global, text: &[u8], error: &SpecError) -> Result<Fault, NoMemory>

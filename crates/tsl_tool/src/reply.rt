@@ -1,6 +1,6 @@
 //! What a run says.
 
-ghost use Rattle.std.specs.Prelude.{◌≡◌, ◌≢◌, [], IfOk};
+ghost use Rattle.std.specs.Prelude.{◌≡◌, IfOk};
 ghost use Rattle.tsl_tool.specs.Replies.{fault_status, fault_reply};
 
 use crate::status::Status;
@@ -30,11 +30,9 @@ impl Reply {
         }
     }
 
-    #[tactic(auto, using(crate::proofs::SaysLaws::fault_says))]
     /// The reply at a fault: its line.
     pub(crate) fn at_fault(alloc: Global, fault: &Fault) -> Result<Reply, NoMemory>
-        ensures reply { IfOk result (λ reply. reply ≡ fault_reply fault.now) }
-        ensures says { IfOk result (λ reply. reply.text ≢ []) }
+        ensures { IfOk result (λ reply. reply ≡ fault_reply fault.now) }
     {
         Ok(Reply::new(fault_status(fault), fault_text(alloc, fault)?))
     }

@@ -31,17 +31,7 @@ impl Status {
     pub fn number(self) -> u8
         ensures { result ≡ status_number self }
     {
-        match self {
-            Status::Done => 0,
-            Status::No => 1,
-            Status::Usage => 2,
-            Status::Reading => 3,
-            Status::Large => 4,
-            Status::Spent => 5,
-            Status::ReadFault => 6,
-            Status::WriteFault => 7,
-            Status::Memory => 8,
-        }
+        self as u8
     }
 
     /// Whether it is the answer to a question, whose text goes to the first sink.

@@ -1,12 +1,13 @@
 //! The command `synth`.
 
-ghost use Rattle.std.specs.Prelude.{◌-◌, ◌<◌, ◌^◌, length, IfOk};
-ghost use Rattle.tsl_tool.specs.Synth.{SynthReplies};
+ghost use Rattle.std.specs.Prelude.{◌-◌, ◌<◌, ◌≤◌, ◌^◌, length, IfOk};
+ghost use Rattle.tsl_tool.specs.Synth.{SynthOutcome};
 
 use crate::fixed::program_of_fixed;
 use crate::refusal::fault_of;
 use crate::reply::Reply;
 use crate::status::Status;
+use crate::words::Sizes;
 use flow_program::write_program;
 use sequence::NoMemory;
 use std::alloc::Global;
@@ -14,9 +15,10 @@ use tsl_reader::read_spec;
 use tsl_report::Fault;
 
 /// What `synth` replies to these bytes: a program's text, or why there is none.
-pub(crate) fn synth(alloc: Global, bytes: &[u8]) -> Result<Reply, NoMemory>
-    requires { length bytes.now < 2 ^ 32 - 1 }
-    ensures { IfOk result (λ reply. SynthReplies bytes.now reply) }
+pub(crate) fn synth(alloc: Global, sizes: Sizes, bytes: &[u8]) -> Result<Reply, NoMemory>
+    requires a_state { 1 ≤ sizes.states }
+    requires few { length bytes.now < 2 ^ 32 - 1 }
+    ensures { IfOk result (SynthOutcome sizes bytes.now) }
 {
     match read_spec(alloc, bytes) {
         Ok(spec) => match program_of_fixed(alloc, &spec)? {

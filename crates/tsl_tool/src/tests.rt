@@ -3,11 +3,15 @@
 use crate::{Status, tsl};
 use sequence::NoMemory;
 use std::alloc::{AllocError, Global};
+use std::process::Abort;
 use std::test::Fail;
 use tsl_io::{MemorySink, MemorySource};
 use tsl_reader::read_spec;
 use tsl_report::formula_text;
 use tsl_terms::{Spec, whole};
+
+/// A text, and what a run says of it.
+type Case = (&'static [u8], &'static [u8]);
 
 const COPY: &[u8] = b"always guarantee { [y <- x]; }";
 
@@ -17,13 +21,151 @@ const COPIED: &[u8] =
 /// The program without signals.
 const EMPTY: &[u8] = b"tslprogram 1\nnode 0 set go 0\nstate 0 at 0\nend\n";
 
-const USAGE: &[u8] = b"usage: tsl synth|check|run|prove|recheck|gen\n";
+const UNBUILT: &[u8] = b"fault unbuilt\n";
 
-/// A formula whose four clauses are all signs of two variables, and a log that refutes it.
-const REFUTED: &[u8] =
-    b"p cnf 2 4\n1 2 0\n1 -2 0\n-1 2 0\n-1 -2 0\nlrat\n5 1 0 1 2 0\n6 0 5 3 4 0\n";
+/// A formula whose four clauses are all signs of two variables, and the line `lrat`.
+const SQUARE: &[u8] = b"p cnf 2 4\n1 2 0\n1 -2 0\n-1 2 0\n-1 -2 0\nlrat\n";
 
-/// What a run left behind.
+/// Words that are no command's.
+static OTHER_WORDS: [&[&str]; 6] = [
+    &[],
+    &["frob"],
+    &["synth", "--states", "9"],
+    &["synth", "--states"],
+    &["recheck", "x"],
+    &["recheck", "--states", "1"],
+];
+
+/// Specifications of one update, without signals, and others that are built.
+static BUILT: [Case; 12] = [
+    (COPY, COPIED),
+    (b"always guarantee { [y <- x]; } // copies", COPIED),
+    (b"/* a /* b */ { */ always guarantee{[y<-/**/x];}", COPIED),
+    (b"always guarantee { [y <- x] }", COPIED),
+    (b"always guarantee { [y <- (x)]; }", COPIED),
+    (
+        b"always guarantee{[y<-x];}guarantee{}always guarantee{[y<-x];}",
+        COPIED,
+    ),
+    (b"", EMPTY),
+    (b"always guarantee {}", EMPTY),
+    (b"assume {} initially guarantee {}", EMPTY),
+    (b"// nothing", EMPTY),
+    (
+        b"\talways\r\nguarantee{[y<-x];[z<-y];[w <- z] ; [v <- v];[ y <- x ];}\n",
+        b"tslprogram 1\ninput x\ncell y\ncell z\ncell v\noutput w\nnode 0 set [y <- x] [z <- y] [v <- v] [w <- z] go 0\nstate 0 at 0\nend\n",
+    ),
+    (
+        b"always guarantee { [y <- f x (g y) c()]; }",
+        b"tslprogram 1\ninput x\ncell y\nnode 0 set [y <- f x (g y) c()] go 0\nstate 0 at 0\nend\n",
+    ),
+];
+
+/// Specifications that are not built.
+static OTHERS: [Case; 8] = [
+    (b"guarantee { a; }", UNBUILT),
+    (b"guarantee { [y <- x]; }", UNBUILT),
+    (b"assume { a; }", UNBUILT),
+    (b"always assume { [y <- x]; }", UNBUILT),
+    (b"always guarantee { true; }", UNBUILT),
+    (b"always guarantee { [y <- x]; [y <- z]; }", UNBUILT),
+    (b"always guarantee { [y <- x] && [z <- x]; }", UNBUILT),
+    (
+        b"always guarantee{[y<-x];}always guarantee{[y<-f x];}",
+        UNBUILT,
+    ),
+];
+
+/// Texts that are refused: each refusal has its place and its name.
+static REFUSED: [Case; 18] = [
+    (b"guarantee { a U b && c; }", b"fault spec 1:19 form\n"),
+    (b"guarantee { p x; p x z; }", b"fault spec 1:18 arity p\n"),
+    (
+        b"guarantee { f x; [y <- f x]; }",
+        b"fault spec 1:24 kind f\n",
+    ),
+    (b"guarantee { /* a; }", b"fault spec 1:13 comment\n"),
+    (b"guarantee { a\x80; }", b"fault spec 1:14 byte\n"),
+    (b"guarantee { a; } }", b"fault spec 1:18 form\n"),
+    (b"guarantee {", b"fault spec 1:12 form\n"),
+    (b"guarantee {\n  a;\n}  }", b"fault spec 3:4 form\n"),
+    (b"guarantee {\n  a;\n", b"fault spec 3:1 form\n"),
+    (
+        b"guarantee {\n ab' x;\n\n  [y <- ab' x];\n}",
+        b"fault spec 4:9 kind ab'\n",
+    ),
+    (b"always guarantee { [X <- x]; }", b"fault spec 1:21 form\n"),
+    (b"always guarantee { [y <- 7]; }", b"fault spec 1:26 form\n"),
+    (b"alwaysguarantee { [y <- x]; }", b"fault spec 1:1 form\n"),
+    // A bad byte or an open comment goes before a fault of form that stands in front of it.
+    (b"} \x80", b"fault spec 1:3 byte\n"),
+    (b"} /*", b"fault spec 1:3 comment\n"),
+    // A fault of form goes before one of kind, which goes before one of arity.
+    (
+        b"guarantee { f x; [y <- f x]; } }",
+        b"fault spec 1:32 form\n",
+    ),
+    (
+        b"guarantee { p x; p x z; [y <- p]; }",
+        b"fault spec 1:31 kind p\n",
+    ),
+    // A refusal goes before what is not built.
+    (b"guarantee { a; } guarantee {", b"fault spec 1:29 form\n"),
+];
+
+/// What `recheck` says of texts.
+static FORMULAS: [Case; 8] = [
+    (b"p cnf 1 2\n1 0\n-1 0\n3 0 1 2 0\n", b"fault parts lrat\n"),
+    (b"p cnf 1 x\n lrat\nlrat \n", b"fault parts lrat\n"),
+    (b"", b"fault parts lrat\n"),
+    (b"lrat", b"fault cnf 1 form\n"),
+    (
+        b"p cnf 2 2\n1 2 0\nlrat\n5 0 1 2 0\n",
+        b"fault cnf 3 form\n",
+    ),
+    (b"p cnf 1048577 2000001\nlrat\n", b"fault cnf 2 form\n"),
+    (b"p cnf 1048577 0\nlrat\nx", b"large variables 1048576\n"),
+    (b"p cnf 1048576 0\nlrat\nx", b"fault log 1 form\n"),
+];
+
+/// What `recheck` says of the formula `SQUARE` and these logs.
+static LOGS: [Case; 10] = [
+    (b"5 1 0 1 2 0\n6 0 5 3 4 0\n", b"verified\n"),
+    (
+        b"5 1 0 1 2 0\n5 d 1 2 0\nc lrat\n6 0 5 3 4 0",
+        b"verified\n",
+    ),
+    (b"5 1 0 1 0\n6 0 5 3 4 0\n", b"refused hint 5 2\n"),
+    (b"5 1 0 2 3 0\n6 0 5 3 4 0\n", b"refused hint 5 2\n"),
+    (b"5 1 0 1 2 0\n", b"refused unfinished\n"),
+    (b"", b"refused unfinished\n"),
+    (b"4 1 0 1 2 0\n6 0 5 3 4 0\n", b"refused line 4\n"),
+    (b"5 1 0 -1 0\n6 0 5 3 4 0\n", b"fault log 1 form\n"),
+    (b"5 1 0 1 2 0\nlrat\n6 0 5 3 4 0\n", b"fault log 2 form\n"),
+    (b"5 1 0 1 2 0\n6 0 5 3 4\n", b"fault log 2 form\n"),
+];
+
+/// A piece, how often it comes in the braces of a section, an end, and what `synth` says.
+static REPEATED: [(&[u8], u32, &[u8], &[u8]); 7] = [
+    // Level 200 is read and level 201 is deep.
+    (b"!", 200, b"a; }", UNBUILT),
+    (b"!", 201, b"a; }", b"fault spec 1:213 deep\n"),
+    // The conjunction, two nodes for each name and one for `true`: 10,000 nodes, and one more.
+    (b"a; ", 4_999, b"true; }", UNBUILT),
+    (b"a; ", 5_000, b"}", b"large nodes 10000\n"),
+    // A fault of arity goes before too many nodes.
+    (
+        b"a; ",
+        5_000,
+        b"p x; p x z; }",
+        b"fault spec 1:15018 arity p\n",
+    ),
+    // With the braces 1,048,576 bytes, and one more.
+    (b" ", 1_048_563, b"}", EMPTY),
+    (b" ", 1_048_564, b"}", b"large text 1048576\n"),
+];
+
+/// What a run left.
 #[derive(Drop)]
 struct Ran {
     status: Status,
@@ -31,7 +173,8 @@ struct Ran {
     err: Vec<u8>,
 }
 
-/// How a device behaves: the most bytes of a call, at least 1, and the ordinals of the calls that fail.
+/// How a device behaves: the most bytes of a call, at least 1, and the ordinal of the call that
+/// fails.
 #[derive(Clone, Copy)]
 struct Device {
     piece: usize,
@@ -44,16 +187,9 @@ const PLAIN: Device = Device {
     fails_at: 0,
 };
 
-fn fails(alloc: Global, device: Device) -> Result<Vec<u64>, AllocError> {
-    let mut fails = Vec::new(alloc);
-    if device.fails_at > 0 {
-        fails.push(device.fails_at)?;
-    }
-    Ok(fails)
-}
-
 fn sink(alloc: Global, device: Device) -> Result<MemorySink, AllocError> {
-    MemorySink::new(alloc, 100_000, device.piece.max(1), fails(alloc, device)?)
+    let fails = Vec::from_slice(alloc, &[device.fails_at])?;
+    MemorySink::new(alloc, 100_000, device.piece.max(1), fails)
 }
 
 fn run(
@@ -69,7 +205,8 @@ fn run(
         given.push(String::from_str(alloc, word)?)?;
     }
     let bytes = Vec::from_slice(alloc, text)?;
-    let mut source = MemorySource::new(bytes, from.piece.max(1), fails(alloc, from)?);
+    let fails = Vec::from_slice(alloc, &[from.fails_at])?;
+    let mut source = MemorySource::new(bytes, from.piece.max(1), fails);
     let mut out = sink(alloc, to)?;
     let mut err = sink(alloc, errors_to)?;
     let status = tsl(alloc, &given, &mut source, &mut out, &mut err);
@@ -80,86 +217,98 @@ fn run(
     })
 }
 
-#[test]
-fn each_status_has_its_texts(rt: HostRuntime) -> Result<(), Fail> {
-    let synth: &[&str] = &["synth"];
-    let table: [(&[&str], &[u8], Status, &[u8], &[u8]); 13] = [
-        (&["synth", "--states", "1"], COPY, Status::Done, COPIED, b""),
-        (synth, COPY, Status::Done, COPIED, b""),
-        (synth, b"always guarantee {}", Status::Done, EMPTY, b""),
-        (
-            synth,
-            b"\talways\r\nguarantee{[y<-x];[z<-y];[w <- z] ; [v <- v];[ y <- x ];}\n",
-            Status::Done,
-            b"tslprogram 1\ninput x\ncell y\ncell z\ncell v\noutput w\nnode 0 set [y <- x] [z <- y] [v <- v] [w <- z] go 0\nstate 0 at 0\nend\n",
-            b"",
-        ),
-        (&[], COPY, Status::Usage, b"", USAGE),
-        (&["frob"], COPY, Status::Usage, b"", USAGE),
-        (&["synth", "--states", "9"], COPY, Status::Usage, b"", USAGE),
-        (&["synth", "--states"], COPY, Status::Usage, b"", USAGE),
-        (&["recheck", "x"], REFUTED, Status::Usage, b"", USAGE),
-        (
-            &["recheck", "--states", "1"],
-            REFUTED,
-            Status::Usage,
-            b"",
-            USAGE,
-        ),
-        (synth, b"", Status::Done, EMPTY, b""),
-        (
-            synth,
-            b"guarantee { a; }",
-            Status::Reading,
-            b"",
-            b"fault unbuilt\n",
-        ),
-        (
-            synth,
-            b"} guarantee",
-            Status::Reading,
-            b"",
-            b"fault spec 1:1 form\n",
-        ),
-    ];
-    for (words, text, status, out, err) in table {
-        let ran = run(rt.alloc(), words, text, PLAIN, PLAIN, PLAIN)?;
-        assert_eq!(rt; ran.status, status);
-        assert_eq!(rt; ran.out.as_slice(), out);
-        assert_eq!(rt; ran.err.as_slice(), err);
+/// The status of a run that says this.
+fn status_of(says: &[u8]) -> Status {
+    match says {
+        [b't' | b'v', ..] => Status::Done,
+        [b'r', ..] => Status::No,
+        [b'u', ..] => Status::Usage,
+        [b'l', ..] => Status::Large,
+        _ => Status::Reading,
+    }
+}
+
+/// Asserts that a run ended with this status and this text in its sink, and with nothing in the
+/// other.
+fn assert_says(rt: &impl Abort, ran: &Ran, status: Status, text: &[u8]) {
+    let (out, err): (&[u8], &[u8]) = match status {
+        Status::Done | Status::No => (text, b""),
+        _ => (b"", text),
+    };
+    assert_eq!(rt; ran.status, status);
+    assert_eq!(rt; ran.out.as_slice(), out);
+    assert_eq!(rt; ran.err.as_slice(), err);
+}
+
+/// Asserts what a run says of a text.
+fn assert_run(
+    rt: &impl Abort,
+    alloc: Global,
+    words: &[&str],
+    text: &[u8],
+    says: &[u8],
+) -> Result<(), AllocError> {
+    let ran = run(alloc, words, text, PLAIN, PLAIN, PLAIN)?;
+    assert_says(rt, &ran, status_of(says), says);
+    Ok(())
+}
+
+/// Asserts what runs say of each text after a front.
+fn assert_each(
+    rt: &impl Abort,
+    alloc: Global,
+    words: &[&str],
+    front: &[u8],
+    cases: &[Case],
+) -> Result<(), AllocError> {
+    for (text, says) in cases {
+        let mut whole = Vec::from_slice(alloc, front)?;
+        whole.extend_from_slice(text)?;
+        assert_run(rt, alloc, words, &whole, says)?;
     }
     Ok(())
 }
 
-/// What `synth` leaves behind.
-fn synth(alloc: Global, text: &[u8]) -> Result<Ran, AllocError> {
-    run(alloc, &["synth"], text, PLAIN, PLAIN, PLAIN)
+#[test]
+fn other_words_are_usage(rt: HostRuntime) -> Result<(), Fail> {
+    let usage = b"usage: tsl synth|check|run|prove|recheck|gen\n";
+    for words in OTHER_WORDS {
+        assert_run(&rt, rt.alloc(), words, COPY, usage)?;
+    }
+    Ok(())
 }
 
 #[test]
-fn each_specification_of_fixed_updates_has_its_program(rt: HostRuntime) -> Result<(), Fail> {
-    let table: [(&[u8], &[u8]); 9] = [
-        (COPY, COPIED),
-        (b"always guarantee { [y <- x]; } // copies", COPIED),
-        (b"/* a /* b */ { */ always guarantee{[y<-/**/x];}", COPIED),
-        (b"always guarantee { [y <- x] }", COPIED),
-        (b"always guarantee { [y <- (x)]; }", COPIED),
-        (
-            b"always guarantee { [y <- x]; } guarantee {} always guarantee { [y <- x]; }",
-            COPIED,
-        ),
-        (
-            b"always guarantee { [y <- f x (g y) c()]; }",
-            b"tslprogram 1\ninput x\ncell y\nnode 0 set [y <- f x (g y) c()] go 0\nstate 0 at 0\nend\n",
-        ),
-        (b"assume {} initially guarantee {}", EMPTY),
-        (b"// nothing", EMPTY),
-    ];
-    for (text, program) in table {
-        let ran = synth(rt.alloc(), text)?;
-        assert_eq!(rt; ran.status, Status::Done);
-        assert_eq!(rt; ran.out.as_slice(), program);
-        assert_eq!(rt; ran.err.is_empty(), true);
+fn synth_says_of_each_specification(rt: HostRuntime) -> Result<(), Fail> {
+    assert_each(&rt, rt.alloc(), &["synth"], b"", &BUILT)?;
+    assert_each(&rt, rt.alloc(), &["synth"], b"", &OTHERS)?;
+    assert_each(&rt, rt.alloc(), &["synth"], b"", &REFUSED)?;
+    assert_run(&rt, rt.alloc(), &["synth", "--states", "1"], COPY, COPIED)?;
+    Ok(())
+}
+
+#[test]
+fn recheck_says_of_each_formula_and_log(rt: HostRuntime) -> Result<(), Fail> {
+    assert_each(&rt, rt.alloc(), &["recheck"], b"", &FORMULAS)?;
+    assert_each(&rt, rt.alloc(), &["recheck"], SQUARE, &LOGS)?;
+    Ok(())
+}
+
+/// A section with a piece so many times before its end.
+fn repeated(alloc: Global, piece: &[u8], count: u32, end: &[u8]) -> Result<Vec<u8>, AllocError> {
+    let mut text = Vec::from_slice(alloc, b"guarantee { ")?;
+    for _ in 0..count {
+        text.extend_from_slice(piece)?;
+    }
+    text.extend_from_slice(end)?;
+    Ok(text)
+}
+
+#[test]
+fn limits_are_exact(rt: HostRuntime) -> Result<(), Fail> {
+    for (piece, count, end, says) in REPEATED {
+        let text = repeated(rt.alloc(), piece, count, end)?;
+        assert_run(&rt, rt.alloc(), &["synth"], &text, says)?;
     }
     Ok(())
 }
@@ -185,301 +334,6 @@ fn arrows_and_until_are_written_with_brackets(rt: HostRuntime) -> Result<(), Fai
 }
 
 #[test]
-fn each_other_specification_is_unbuilt(rt: HostRuntime) -> Result<(), Fail> {
-    let table: [&[u8]; 8] = [
-        b"guarantee { a; }",
-        b"guarantee { [y <- x]; }",
-        b"assume { a; }",
-        b"always assume { [y <- x]; }",
-        b"always guarantee { true; }",
-        b"always guarantee { [y <- x]; [y <- z]; }",
-        b"always guarantee { [y <- x] && [z <- x]; }",
-        b"always guarantee { [y <- x]; } always guarantee { [z <- y]; [y <- f x]; }",
-    ];
-    for text in table {
-        let ran = synth(rt.alloc(), text)?;
-        assert_eq!(rt; ran.status, Status::Reading);
-        assert_eq!(rt; ran.out.is_empty(), true);
-        assert_eq!(rt; ran.err.as_slice(), b"fault unbuilt\n".as_slice());
-    }
-    Ok(())
-}
-
-#[test]
-fn each_refusal_has_its_place_and_its_name(rt: HostRuntime) -> Result<(), Fail> {
-    let table: [(&[u8], &[u8]); 13] = [
-        (b"guarantee { a U b && c; }", b"fault spec 1:19 form\n"),
-        (b"guarantee { p x; p x z; }", b"fault spec 1:18 arity p\n"),
-        (
-            b"guarantee { f x; [y <- f x]; }",
-            b"fault spec 1:24 kind f\n",
-        ),
-        (b"guarantee { /* a; }", b"fault spec 1:13 comment\n"),
-        (b"guarantee { a\x80; }", b"fault spec 1:14 byte\n"),
-        (b"guarantee { a; } }", b"fault spec 1:18 form\n"),
-        (b"guarantee {", b"fault spec 1:12 form\n"),
-        (b"guarantee {\n  a;\n}  }", b"fault spec 3:4 form\n"),
-        (b"guarantee {\n  a;\n", b"fault spec 3:1 form\n"),
-        (
-            b"guarantee {\n long_er' x;\n\n  [y <- long_er' x];\n}",
-            b"fault spec 4:9 kind long_er'\n",
-        ),
-        (b"always guarantee { [X <- x]; }", b"fault spec 1:21 form\n"),
-        (b"always guarantee { [y <- 7]; }", b"fault spec 1:26 form\n"),
-        (b"alwaysguarantee { [y <- x]; }", b"fault spec 1:1 form\n"),
-    ];
-    for (text, line) in table {
-        let ran = synth(rt.alloc(), text)?;
-        assert_eq!(rt; ran.status, Status::Reading);
-        assert_eq!(rt; ran.out.is_empty(), true);
-        assert_eq!(rt; ran.err.as_slice(), line);
-    }
-    Ok(())
-}
-
-#[test]
-fn of_two_refusals_one_goes_first(rt: HostRuntime) -> Result<(), Fail> {
-    let table: [(&[u8], &[u8]); 5] = [
-        // A bad byte before a fault of form that stands in front of it.
-        (b"} \x80", b"fault spec 1:3 byte\n"),
-        (b"} /*", b"fault spec 1:3 comment\n"),
-        // A fault of form before one of kind.
-        (
-            b"guarantee { f x; [y <- f x]; } }",
-            b"fault spec 1:32 form\n",
-        ),
-        // A fault of kind before one of arity.
-        (
-            b"guarantee { p x; p x z; [y <- p]; }",
-            b"fault spec 1:31 kind p\n",
-        ),
-        // A refusal before what is not built.
-        (b"guarantee { a; } guarantee {", b"fault spec 1:29 form\n"),
-    ];
-    for (text, line) in table {
-        let ran = synth(rt.alloc(), text)?;
-        assert_eq!(rt; ran.status, Status::Reading);
-        assert_eq!(rt; ran.err.as_slice(), line);
-    }
-    Ok(())
-}
-
-/// A text with a piece so many times between its front and its end.
-fn repeated(
-    alloc: Global,
-    front: &[u8],
-    piece: &[u8],
-    count: u32,
-    end: &[u8],
-) -> Result<Vec<u8>, AllocError> {
-    let mut text = Vec::from_slice(alloc, front)?;
-    for _ in 0..count {
-        text.extend_from_slice(piece)?;
-    }
-    text.extend_from_slice(end)?;
-    Ok(text)
-}
-
-/// What `synth` leaves behind for a text with a piece so many times in the braces of a section.
-fn synth_repeated(alloc: Global, piece: &[u8], count: u32, end: &[u8]) -> Result<Ran, AllocError> {
-    synth(alloc, &repeated(alloc, b"guarantee { ", piece, count, end)?)
-}
-
-#[test]
-fn level_200_is_read_and_level_201_is_deep(rt: HostRuntime) -> Result<(), Fail> {
-    let alloc = rt.alloc();
-    let ran = synth_repeated(alloc, b"!", 200, b"a; }")?;
-    assert_eq!(rt; ran.status, Status::Reading);
-    assert_eq!(rt; ran.err.as_slice(), b"fault unbuilt\n".as_slice());
-    let ran = synth_repeated(alloc, b"!", 201, b"a; }")?;
-    assert_eq!(rt; ran.status, Status::Reading);
-    assert_eq!(rt; ran.err.as_slice(), b"fault spec 1:213 deep\n".as_slice());
-    Ok(())
-}
-
-#[test]
-fn more_than_10000_nodes_are_large(rt: HostRuntime) -> Result<(), Fail> {
-    let alloc = rt.alloc();
-    // The conjunction, two nodes for each name and one for `true`.
-    let ran = synth_repeated(alloc, b"a; ", 4_999, b"true; }")?;
-    assert_eq!(rt; ran.status, Status::Reading);
-    assert_eq!(rt; ran.err.as_slice(), b"fault unbuilt\n".as_slice());
-    let ran = synth_repeated(alloc, b"a; ", 5_000, b"}")?;
-    assert_eq!(rt; ran.status, Status::Large);
-    assert_eq!(rt; ran.out.is_empty(), true);
-    assert_eq!(rt; ran.err.as_slice(), b"large nodes 10000\n".as_slice());
-    Ok(())
-}
-
-#[test]
-fn a_fault_of_arity_goes_before_too_many_nodes(rt: HostRuntime) -> Result<(), Fail> {
-    let ran = synth_repeated(rt.alloc(), b"a; ", 5_000, b"p x; p x z; }")?;
-    assert_eq!(rt; ran.status, Status::Reading);
-    assert_eq!(rt;
-        ran.err.as_slice(),
-        b"fault spec 1:15018 arity p\n".as_slice()
-    );
-    Ok(())
-}
-
-/// The formula of `REFUTED`, the line `lrat` and this log.
-fn with_log(alloc: Global, log: &[u8]) -> Result<Vec<u8>, AllocError> {
-    let mut text = Vec::from_slice(alloc, b"p cnf 2 4\n1 2 0\n1 -2 0\n-1 2 0\n-1 -2 0\nlrat\n")?;
-    text.extend_from_slice(log)?;
-    Ok(text)
-}
-
-#[test]
-fn each_log_has_its_verdict(rt: HostRuntime) -> Result<(), Fail> {
-    let alloc = rt.alloc();
-    let table: [(&[u8], Status, &[u8], &[u8]); 10] = [
-        (
-            b"5 1 0 1 2 0\n6 0 5 3 4 0\n",
-            Status::Done,
-            b"verified\n",
-            b"",
-        ),
-        (
-            b"5 1 0 1 0\n6 0 5 3 4 0\n",
-            Status::No,
-            b"refused hint 5 2\n",
-            b"",
-        ),
-        (
-            b"5 1 0 2 3 0\n6 0 5 3 4 0\n",
-            Status::No,
-            b"refused hint 5 2\n",
-            b"",
-        ),
-        (b"5 1 0 1 2 0\n", Status::No, b"refused unfinished\n", b""),
-        (b"", Status::No, b"refused unfinished\n", b""),
-        (
-            b"4 1 0 1 2 0\n6 0 5 3 4 0\n",
-            Status::No,
-            b"refused line 4\n",
-            b"",
-        ),
-        (
-            b"5 1 0 1 2 0\n5 d 1 2 0\nc lrat\n6 0 5 3 4 0",
-            Status::Done,
-            b"verified\n",
-            b"",
-        ),
-        (
-            b"5 1 0 -1 0\n6 0 5 3 4 0\n",
-            Status::Reading,
-            b"",
-            b"fault log 1 form\n",
-        ),
-        (
-            b"5 1 0 1 2 0\nlrat\n6 0 5 3 4 0\n",
-            Status::Reading,
-            b"",
-            b"fault log 2 form\n",
-        ),
-        (
-            b"5 1 0 1 2 0\n6 0 5 3 4\n",
-            Status::Reading,
-            b"",
-            b"fault log 2 form\n",
-        ),
-    ];
-    for (log, status, out, err) in table {
-        let text = with_log(alloc, log)?;
-        let ran = run(alloc, &["recheck"], &text, PLAIN, PLAIN, PLAIN)?;
-        assert_eq!(rt; ran.status, status);
-        assert_eq!(rt; ran.out.as_slice(), out);
-        assert_eq!(rt; ran.err.as_slice(), err);
-    }
-    Ok(())
-}
-
-#[test]
-fn each_formula_has_its_fault(rt: HostRuntime) -> Result<(), Fail> {
-    let alloc = rt.alloc();
-    let table: [(&[u8], Status, &[u8], &[u8]); 9] = [
-        (REFUTED, Status::Done, b"verified\n", b""),
-        (
-            b"p cnf 2 5\n1 2 0\n1 -2 0\n-1 2 0\n-1 -2 0\nlrat\n5 1 0 1 2 0\n6 0 5 3 4 0\n",
-            Status::Reading,
-            b"",
-            b"fault cnf 6 form\n",
-        ),
-        (
-            b"p cnf 1 2\n1 0\n-1 0\n3 0 1 2 0\n",
-            Status::Reading,
-            b"",
-            b"fault parts lrat\n",
-        ),
-        (
-            b"p cnf 1 x\n lrat\nlrat \n",
-            Status::Reading,
-            b"",
-            b"fault parts lrat\n",
-        ),
-        (b"", Status::Reading, b"", b"fault parts lrat\n"),
-        (b"lrat", Status::Reading, b"", b"fault cnf 1 form\n"),
-        (
-            b"p cnf 1048577 2000001\nlrat\n",
-            Status::Reading,
-            b"",
-            b"fault cnf 2 form\n",
-        ),
-        (
-            b"p cnf 1048577 0\nlrat\nx",
-            Status::Large,
-            b"",
-            b"large variables 1048576\n",
-        ),
-        (
-            b"p cnf 1048576 0\nlrat\nx",
-            Status::Reading,
-            b"",
-            b"fault log 1 form\n",
-        ),
-    ];
-    for (text, status, out, err) in table {
-        let ran = run(alloc, &["recheck"], text, PLAIN, PLAIN, PLAIN)?;
-        assert_eq!(rt; ran.status, status);
-        assert_eq!(rt; ran.out.as_slice(), out);
-        assert_eq!(rt; ran.err.as_slice(), err);
-    }
-    Ok(())
-}
-
-#[test]
-fn a_verdict_that_cannot_be_written_is_a_write_fault(rt: HostRuntime) -> Result<(), Fail> {
-    let alloc = rt.alloc();
-    let to = Device {
-        piece: 1,
-        fails_at: 5,
-    };
-    let ran = run(alloc, &["recheck"], REFUTED, PLAIN, to, PLAIN)?;
-    assert_eq!(rt; ran.status, Status::WriteFault);
-    assert_eq!(rt; ran.out.as_slice(), b"veri".as_slice());
-    assert_eq!(rt; ran.err.is_empty(), true);
-    Ok(())
-}
-
-/// So many spaces, which are a specification without signals.
-fn spaces(alloc: Global, count: usize) -> Result<Vec<u8>, AllocError> {
-    vec![in alloc; b' '; count]
-}
-
-#[test]
-fn a_text_of_the_limit_is_read_and_a_longer_one_is_large(rt: HostRuntime) -> Result<(), Fail> {
-    let alloc = rt.alloc();
-    let ran = synth(alloc, &spaces(alloc, 1_048_576)?)?;
-    assert_eq!(rt; ran.status, Status::Done);
-    assert_eq!(rt; ran.out.as_slice(), EMPTY);
-    let ran = synth(alloc, &spaces(alloc, 1_048_577)?)?;
-    assert_eq!(rt; ran.status, Status::Large);
-    assert_eq!(rt; ran.out.is_empty(), true);
-    assert_eq!(rt; ran.err.as_slice(), b"large text 1048576\n".as_slice());
-    Ok(())
-}
-
-#[test]
 fn a_sink_that_fails_at_any_call_keeps_what_came_before(rt: HostRuntime) -> Result<(), Fail> {
     let alloc = rt.alloc();
     assert_eq!(rt; COPIED.len(), 72);
@@ -492,25 +346,11 @@ fn a_sink_that_fails_at_any_call_keeps_what_came_before(rt: HostRuntime) -> Resu
         assert_eq!(rt; COPIED.starts_with(&ran.out), true);
         assert_eq!(rt; ran.err.is_empty(), true);
     }
-    let to = Device {
-        piece: 1,
-        fails_at: 3,
-    };
-    let ran = run(alloc, &["synth"], COPY, PLAIN, to, PLAIN)?;
-    assert_eq!(rt; ran.out.as_slice(), b"ts".as_slice());
-    // All bytes at once: the second call is the flush.
-    let to = Device {
-        piece: 100,
-        fails_at: 2,
-    };
-    let ran = run(alloc, &["synth"], COPY, PLAIN, to, PLAIN)?;
-    assert_eq!(rt; ran.status, Status::WriteFault);
-    assert_eq!(rt; ran.out.as_slice(), COPIED);
-    let to = Device {
+    let errors_to = Device {
         piece: 7,
         fails_at: 2,
     };
-    let ran = run(alloc, &["frob"], COPY, PLAIN, PLAIN, to)?;
+    let ran = run(alloc, &["frob"], COPY, PLAIN, PLAIN, errors_to)?;
     assert_eq!(rt; ran.status, Status::WriteFault);
     assert_eq!(rt; ran.err.as_slice(), b"usage: ".as_slice());
     assert_eq!(rt; ran.out.is_empty(), true);
@@ -519,29 +359,17 @@ fn a_sink_that_fails_at_any_call_keeps_what_came_before(rt: HostRuntime) -> Resu
 
 #[test]
 fn a_source_that_fails_at_any_call_is_a_read_fault(rt: HostRuntime) -> Result<(), Fail> {
-    let alloc = rt.alloc();
     assert_eq!(rt; COPY.len(), 30);
     // One byte a call: the text takes the calls 1 to 30, and the end the last.
-    for fails_at in 1..=31u64 {
+    for fails_at in 1..=32u64 {
         let from = Device { piece: 1, fails_at };
-        let ran = run(alloc, &["synth"], COPY, from, PLAIN, PLAIN)?;
-        assert_eq!(rt; ran.status, Status::ReadFault);
-        assert_eq!(rt; ran.out.is_empty(), true);
-        assert_eq!(rt; ran.err.as_slice(), b"fault read\n".as_slice());
+        let ran = run(rt.alloc(), &["synth"], COPY, from, PLAIN, PLAIN)?;
+        if fails_at == 32 {
+            assert_says(&rt, &ran, Status::Done, COPIED);
+        } else {
+            assert_says(&rt, &ran, Status::ReadFault, b"fault read\n");
+        }
     }
-    let from = Device {
-        piece: 1,
-        fails_at: 32,
-    };
-    let ran = run(alloc, &["synth"], COPY, from, PLAIN, PLAIN)?;
-    assert_eq!(rt; ran.status, Status::Done);
-    // Words that are refused leave the source alone.
-    let from = Device {
-        piece: 1,
-        fails_at: 1,
-    };
-    let ran = run(alloc, &["frob"], COPY, from, PLAIN, PLAIN)?;
-    assert_eq!(rt; ran.status, Status::Usage);
     Ok(())
 }
 
@@ -575,8 +403,7 @@ fn chained(alloc: Global) -> Result<Vec<u8>, AllocError> {
 #[test]
 fn a_thousand_updates_over_five_hundred_signals(rt: HostRuntime) -> Result<(), Fail> {
     let alloc = rt.alloc();
-    let ran = run(alloc, &["synth"], &chain(alloc)?, PLAIN, PLAIN, PLAIN)?;
-    assert_eq!(rt; ran.status, Status::Done);
-    assert_eq!(rt; ran.out.as_slice(), chained(alloc)?.as_slice());
+    let program = chained(alloc)?;
+    assert_run(&rt, alloc, &["synth"], &chain(alloc)?, &program)?;
     Ok(())
 }

@@ -1,14 +1,33 @@
-//! The words behind the program's name.
+//! The words after the program's name.
 
-ghost use Rattle.std.specs.Prelude.{◌≡◌, map, string_bytes};
+ghost use Rattle.std.specs.Prelude.{◌≡◌, map, string_bytes, Some, option_map, IfSome};
 ghost use Rattle.std.specs.Str.{bytes_eq};
-ghost use Rattle.tsl_tool.specs.Commands.{is_synth, is_recheck, command_of, most_bytes};
+ghost use Rattle.tsl_tool.specs.Commands.{sizes_of, recheck_of, command_of, IsInRange, most_bytes};
 
-/// What the tool is asked for.
+/// The states of a program, where the words ask for no number.
+const DEFAULT_STATES: u32 = 2;
+
+/// The most states that the words can ask for.
+const MOST_STATES: u32 = 8;
+
+/// The most bytes of a specification.
+const MOST_SPECIFICATION_BYTES: u32 = 1_048_576;
+
+/// The most bytes of a formula and a log together.
+const MOST_LOG_BYTES: u32 = 268_435_456;
+
+/// The sizes of what `synth` looks for.
+#[derive(Clone, Copy, Debug, PartialEq, Eq)]
+pub(crate) struct Sizes {
+    /// The most states of the program, from 1 to 8.
+    pub(crate) states: u32,
+}
+
+/// What the tool is asked for, with its options.
 #[derive(Clone, Copy, Debug, PartialEq, Eq)]
 pub(crate) enum Command {
     /// A program for a specification.
-    Synth,
+    Synth(Sizes),
     /// A verdict on a formula and a log that is to refute it.
     Recheck,
 }
@@ -19,45 +38,54 @@ impl Command {
         ensures { result ≡ most_bytes self }
     {
         match self {
-            Command::Synth => 1_048_576,
-            Command::Recheck => 268_435_456,
+            Command::Synth(_) => MOST_SPECIFICATION_BYTES,
+            Command::Recheck => MOST_LOG_BYTES,
         }
     }
 }
 
-/// The command of these words, or None where they are no command's.
+/// The command of these words with its options, or None where they are no command's.
 pub(crate) fn command_of(words: &[String]) -> Option<Command>
-    ensures { result ≡ command_of (map string_bytes words.now) }
+    ensures found { result ≡ command_of (map string_bytes words.now) }
+    ensures in_range { IfSome result IsInRange }
 {
-    if is_synth(words) {
-        return Some(Command::Synth);
+    let [first, options @ ..] = words else {
+        return None;
+    };
+    if is_word(first, b"synth") {
+        return synth_of(options);
     }
-    if is_recheck(words) {
-        return Some(Command::Recheck);
+    if is_word(first, b"recheck") {
+        return recheck_of(options);
     }
     None
 }
 
-/// Whether the words are those of the command `synth`.
-fn is_synth(words: &[String]) -> bool
-    ensures { result ≡ is_synth (map string_bytes words.now) }
+/// `synth` with the sizes that these words ask for.
+fn synth_of(options: &[String]) -> Option<Command>
+    ensures found { result ≡ option_map Command.Synth (sizes_of (map string_bytes options.now)) }
+    ensures in_range { IfSome result IsInRange }
 {
-    match words {
-        [command] => is_word(command, b"synth"),
-        [command, option, value] => {
-            is_word(command, b"synth") && is_word(option, b"--states") && is_word(value, b"1")
+    match options {
+        [] => Some(Command::Synth(Sizes {
+            states: DEFAULT_STATES,
+        })),
+        [option, value] if is_word(option, b"--states") && is_word(value, b"1") => {
+            Some(Command::Synth(Sizes { states: 1 }))
         }
-        _ => false,
+        _ => None,
     }
 }
 
-/// Whether the words are those of the command `recheck`.
-fn is_recheck(words: &[String]) -> bool
-    ensures { result ≡ is_recheck (map string_bytes words.now) }
+/// `recheck`, where no word comes after it.
+fn recheck_of(options: &[String]) -> Option<Command>
+    ensures found { result ≡ recheck_of (map string_bytes options.now) }
+    ensures in_range { IfSome result IsInRange }
 {
-    match words {
-        [command] => is_word(command, b"recheck"),
-        _ => false,
+    if options.is_empty() {
+        Some(Command::Recheck)
+    } else {
+        None
     }
 }
 

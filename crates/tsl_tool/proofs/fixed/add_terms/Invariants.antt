@@ -1,7 +1,7 @@
 use Rattle.std.proofs.Common.{◌≡◌, ◌++◌, map, take}
 use Rattle.std.specs.List.{flat_map}
 use Rattle.tsl_terms.specs.TermTree.{term_tree}
-use Rattle.tsl_tool.specs.FixedSlots.{lent_tree, noted_term}
+use Rattle.tsl_tool.specs.internal.FixedSlots.{lent_tree, noted_term}
 use Rattle.tsl_tool.proofs.fixed.add_terms.Given as goal
 
 abbrev pub invariant-loop-signal : goal.invariant-loop-signal

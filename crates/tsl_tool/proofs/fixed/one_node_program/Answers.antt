@@ -2,9 +2,8 @@ use Rattle.std.proofs.Common.{◌∙◌, sym, map, [], ◌∷◌, ◌++◌}
 use Rattle.std.proofs.lemmas.List.{length-map}
 use Rattle.flow_program.specs.declared.node.Node.TheVariants.{Set}
 use Rattle.tsl_terms.specs.SpecView.{spec_tree}
-use Rattle.tsl_terms.specs.FormulaTree.{formula_trees}
-use Rattle.tsl_tool.specs.FixedSlots.{lent_tree, noted_term}
-use Rattle.tsl_tool.proofs.FixedCode.{Builds, built_is_program, formulas_fit_members}
+use Rattle.tsl_tool.specs.internal.FixedSlots.{lent_tree, noted_term}
+use Rattle.tsl_tool.proofs.FixedCode.{Builds, built_is_program}
 use Rattle.tsl_tool.proofs.fixed.one_node_program.Goals as goal
 
 pub invariant_of-result : goal.invariant_of-result
@@ -22,8 +21,7 @@ invariant_of-result c =
       one_node = c.in_ok-push.ensures.ok ∙ (λ i. c.new-nodes.ensures i ++ Set (c.from_vec.ensures i) 0 ∷ []);
       one_state = c.in_ok-push-2.ensures.ok ∙ (λ i. c.new-states.ensures i ++ 0 ∷ []);
     } in
-    let program = built_is_program _ _ _ _ _ _ _ _ _ builds c.requires.is_fixed
-    (sym (formulas_fit_members spec.names (formula_trees spec.guarantee_always)) ∙ spec.guarantee_always_fits) in
+    let program = built_is_program _ _ _ _ _ _ _ _ _ builds c.requires.is_fixed c.requires.fits in
     record {
       signals_distinct = program.signals_distinct;
       branches_fit = program.branches_fit;

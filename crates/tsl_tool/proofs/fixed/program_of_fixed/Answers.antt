@@ -1,7 +1,6 @@
 use Rattle.std.proofs.Common.{◌∙◌, refl, sym}
 use Rattle.tsl_terms.specs.SpecView.{spec_tree}
-use Rattle.tsl_terms.specs.FormulaTree.{formula_trees}
-use Rattle.tsl_tool.proofs.FixedCode.{fixed_if_noted, first_term_noted, not_fixed_if_unnoted, formulas_fit_members}
+use Rattle.tsl_tool.proofs.FixedCode.{fixed_if_noted, first_term_noted, not_fixed_if_unnoted}
 use Rattle.tsl_tool.proofs.fixed.program_of_fixed.Goals as goal
 
 pub returns-in_default-clause-none : goal.returns-in_default-clause-none
@@ -9,7 +8,7 @@ returns-in_default-clause-none c =
     let spec = c.args.spec.now in
     let none = rw c.in_default.is at c.in_ok-slots.ensures in
     not_fixed_if_unnoted (spec_tree spec) c.count-count.result c.count-count.ensures.count
-    (sym (formulas_fit_members spec.names (formula_trees spec.guarantee_always)) ∙ spec.guarantee_always_fits) (sym none)
+    spec.guarantee_always_fits (sym none)
 
 pub one_node_program-requires-clause-is_fixed : goal.one_node_program-requires-clause-is_fixed
 one_node_program-requires-clause-is_fixed c =

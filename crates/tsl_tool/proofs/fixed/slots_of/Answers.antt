@@ -1,5 +1,6 @@
 use Rattle.tsl_terms.specs.FormulaTree.{member_trees}
-use Rattle.tsl_tool.proofs.FixedSteps.{none_noted, only_none}
+use Rattle.sequence.proofs.Options.{only_none}
+use Rattle.tsl_tool.proofs.FixedSteps.{none_noted}
 use Rattle.tsl_tool.proofs.fixed.slots_of.Goals as goal
 
 pub loop-rest-init : goal.loop-rest-init

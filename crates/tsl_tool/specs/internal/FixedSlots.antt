@@ -1,3 +1,4 @@
+-- Internal: only private functions of this crate use these words.
 -- What a pass over updates notes: at each signal's number the term that the signal is to take, where one was seen.
 use Rattle.std.specs.Prelude.{◌≡◌, ℕ, List, [], ◌∷◌, Option, Some, None, option_map, option_and_then, slice_get, slice_set, if◌then◌else◌}
 use Rattle.std.specs.Option.{option_copied}
@@ -5,7 +6,7 @@ use Rattle.std.specs.Borrow.{Bor}
 use Rattle.tsl_terms.specs.declared.term.Term.{Term}
 use Rattle.tsl_terms.specs.TermTree.{TermTree, term_tree}
 use Rattle.tsl_terms.specs.SameTree.{same_tree}
-use Rattle.tsl_terms.specs.FormulaTree.{FormulaTree, update}
+use Rattle.tsl_terms.specs.FormulaTree.{FormulaTree, atom, update}
 use Rattle.tsl_terms.specs.SpecTree.{SpecTree}
 
 -- the tree of the term that is lent, where one is
@@ -33,7 +34,7 @@ noted slots s t = noted_in_slot (slice_get slots s) slots s t
 -- the slots after a list of formulas, unless one is no update or cannot be noted
 abbrev pub noted_all : List FormulaTree → List (Option TermTree) → Option (List (Option TermTree))
 noted_all [] slots = Some slots
-noted_all (update s t ∷ fs) slots = option_and_then (noted_all fs) (noted slots s t)
+noted_all (atom (update s t) ∷ fs) slots = option_and_then (noted_all fs) (noted slots s t)
 noted_all (f ∷ fs) slots = None
 
 -- nothing is assumed, and nothing is guaranteed at first

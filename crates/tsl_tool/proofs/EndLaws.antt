@@ -1,0 +1,206 @@
+-- How the reply of a run comes of its source, and how the run ends.
+use Rattle.std.proofs.Common.{◌≡◌, ◌≢◌, ℕ, ◌+◌, ◌<◌, ◌≤◌, ◌⊎◌, Bool, true, false, List, [], ◌++◌, length, refl, ap, sym, ◌∙◌, subst, inl}
+use Rattle.std.proofs.Common.{inr, arith, length-append}
+use Rattle.std.specs.Prelude.{Option, Some, None, Result, Ok, Err, IfOk, cond, IsTrue}
+use Rattle.tsl_io.specs.Told.{before, after, TakesFirst, WhereTold}
+use Rattle.tsl_report.specs.declared.fault.LimitName.TheVariants.{Text}
+use Rattle.tsl_report.specs.declared.fault.Fault.{Fault}
+use Rattle.tsl_report.specs.declared.fault.Fault.TheVariants.{Usage as WrongWords, Read, Large as PastLimit}
+use Rattle.tsl_tool.specs.declared.status.Status.{Status}
+use Rattle.tsl_tool.specs.declared.status.Status.TheVariants.{Done, No, Usage, Reading, Large, Spent, ReadFault, WriteFault, Memory}
+use Rattle.tsl_tool.specs.declared.words.Command.{Command}
+use Rattle.tsl_tool.specs.declared.reply.Reply.{Reply}
+use Rattle.tsl_tool.specs.Causes.{Causes, Rises}
+use Rattle.tsl_tool.specs.Commands.{command_of, most_bytes}
+use Rattle.tsl_tool.specs.Effects.{Effect, HasFailed, NeverFailed, IsUntouched, IsWhole, IsCutOff, sink_of, other_sink, AreTold}
+use Rattle.tsl_tool.specs.internal.Sending.{IsSent, sent_whole, sent_in_part}
+use Rattle.tsl_tool.specs.Ends.{CountsReads, IsReplyTo, Ends, answered, cut_off, out_of_memory}
+use Rattle.tsl_tool.specs.Outcome.{CommandOutcome, Outcome, usage, source_failed, too_long, on_bytes}
+use Rattle.tsl_tool.specs.Promise.{Promise}
+use Rattle.tsl_tool.specs.Replies.{fault_reply}
+use Rattle.tsl_tool.specs.Statuses.{is_answer}
+use Rattle.tsl_tool.proofs.OutcomeLaws.{comes_of_bytes, command_comes, usage_of_words, words_to_usage, no_write_fault, no_memory}
+use Rattle.tsl_tool.proofs.OutcomeLaws.{outcome_says, keeps_promise}
+
+if_ok : {A E : Type 0} {P Q : A → Type 0} (r : Result A E) → ((a : A) → P a → Q a) → IfOk r P → IfOk r Q
+if_ok (Ok a) f h = f a h
+if_ok (Err e) f h = tt
+
+-- Some bytes that a source may have.
+some_bytes : (told : Option (List ℕ)) → (bytes : List ℕ) × AreTold told bytes
+some_bytes None = ([], λ known is. cc)
+some_bytes (Some bytes) = (bytes, λ known is. cc)
+
+-- where so many bytes and one more were taken, the source has more than so many
+more_bytes : (limit : ℕ) (old new : Option (List ℕ)) → TakesFirst (limit + 1) old new →
+    (bytes : List ℕ) × AreTold old bytes × (limit < length bytes)
+more_bytes limit old None (taken, count, is) =
+    (taken, λ known told. (let e : Some known ≡ None = sym told ∙ is in cc), omega (arith, count))
+more_bytes limit old (Some rest) (taken, count, is) = (
+  taken ++ rest,
+  λ known told. (let e : Some known ≡ Some (taken ++ rest) = sym told ∙ is in cc),
+  omega (arith, count, length-append taken rest),
+)
+
+module _ {E : Type 0} (words : List (List ℕ)) (source : Effect) (r : Result Reply E) where
+  -- the reply to the words of no command
+  pub usage_reply : command_of words ≡ None → NeverFailed source → IfOk r (λ reply. reply ≡ fault_reply WrongWords) →
+      IfOk r (IsReplyTo words source)
+  usage_reply none count = if_ok r (λ reply is.
+      let bytes = some_bytes source.old in record {
+        bytes = bytes.0;
+        told = bytes.1;
+        outcome = usage none is;
+        count = subst (λ (r : Reply). CountsReads r.status source) (sym is) count;
+      })
+
+  -- where a read failed
+  pub fault_reply_to : (command : Command) → command_of words ≡ Some command → HasFailed source →
+      IfOk r (λ reply. reply ≡ fault_reply Read) →
+      IfOk r (IsReplyTo words source)
+  fault_reply_to command known fault = if_ok r (λ reply is.
+      let bytes = some_bytes source.old in record {
+        bytes = bytes.0;
+        told = bytes.1;
+        outcome = source_failed command known is;
+        count = subst (λ (r : Reply). CountsReads r.status source) (sym is) fault;
+      })
+
+  -- where there are too many bytes
+  pub large_reply : (command : Command) → command_of words ≡ Some command → NeverFailed source →
+      TakesFirst (most_bytes command + 1) source.old source.new →
+      IfOk r (λ reply. reply ≡ fault_reply (PastLimit Text (most_bytes command))) →
+      IfOk r (IsReplyTo words source)
+  large_reply command known count takes = if_ok r (λ reply is.
+      let bytes = more_bytes (most_bytes command) source.old source.new takes in record {
+        bytes = bytes.0;
+        told = bytes.1;
+        outcome = too_long command known bytes.2 is;
+        count = subst (λ (r : Reply). CountsReads r.status source) (sym is) count;
+      })
+
+counted : (status : Status) (source : Effect) → comes_of_bytes status ≡ true → NeverFailed source → CountsReads status source
+counted ReadFault source comes count = cc
+counted Done source comes count = count
+counted No source comes count = count
+counted Usage source comes count = count
+counted Reading source comes count = count
+counted Large source comes count = count
+counted Spent source comes count = count
+counted WriteFault source comes count = count
+counted Memory source comes count = count
+
+-- the reply to bytes that were read
+pub bytes_reply : {E : Type 0} (words : List (List ℕ)) (source : Effect) (r : Result Reply E) (command : Command) (text lent : List ℕ) →
+    command_of words ≡ Some command → NeverFailed source → WhereTold source.old (λ bytes. text ≡ bytes) → length text ≤ most_bytes command →
+    lent ≡ text → IfOk r (CommandOutcome command lent) → IfOk r (IsReplyTo words source)
+bytes_reply words source r command text lent known count told few same = if_ok r (λ reply outcome.
+    let on_text : CommandOutcome command text reply = subst (λ (b : List ℕ). CommandOutcome command b reply) same outcome in record {
+      bytes = text;
+      told = λ bytes is. sym (told bytes is);
+      outcome = on_bytes command known few on_text;
+      count = counted reply.status source (command_comes command text reply on_text) count;
+    })
+
+-- each reply has a text
+pub reply_says : (words : List (List ℕ)) (source : Effect) (reply : Reply) → IsReplyTo words source reply → reply.text ≢ []
+reply_says words source reply h = outcome_says words h.bytes reply h.outcome
+
+module _ (words : List (List ℕ)) (source out err : Effect) (reply : Reply) (result : Status) where
+  -- a reply that went to the first sink
+  pub out_ends : IsReplyTo words source reply → is_answer reply.status ≡ true → IsSent reply out result → IsUntouched err →
+      Ends words source out err result
+  out_ends h answer (sent_whole is whole) same =
+      answered reply h is (subst (λ (b : Bool). IsWhole reply.text (cond b out err)) (sym answer) whole)
+      (subst (λ (b : Bool). IsUntouched (cond b err out)) (sym answer) same)
+  out_ends h answer (sent_in_part is part) same =
+      cut_off reply h is (subst (λ (b : Bool). IsCutOff reply.text (cond b out err)) (sym answer) part)
+      (subst (λ (b : Bool). IsUntouched (cond b err out)) (sym answer) same)
+
+  -- a reply that went to the second sink
+  pub err_ends : IsReplyTo words source reply → is_answer reply.status ≡ false → IsSent reply err result → IsUntouched out →
+      Ends words source out err result
+  err_ends h other (sent_whole is whole) same =
+      answered reply h is (subst (λ (b : Bool). IsWhole reply.text (cond b out err)) (sym other) whole)
+      (subst (λ (b : Bool). IsUntouched (cond b err out)) (sym other) same)
+  err_ends h other (sent_in_part is part) same =
+      cut_off reply h is (subst (λ (b : Bool). IsCutOff reply.text (cond b out err)) (sym other) part)
+      (subst (λ (b : Bool). IsUntouched (cond b err out)) (sym other) same)
+
+  -- and what it promises
+  pub out_promises : IsReplyTo words source reply → IsSent reply out result → is_answer result ≡ true →
+      (bytes : List ℕ) × (text : List ℕ) × AreTold source.old bytes × Promise (command_of words) result bytes text ×
+      (out.new ≡ after text out.old)
+  out_promises h (sent_whole is whole) answer = (
+    h.bytes,
+    reply.text,
+    h.told,
+    subst (λ (s : Status). Promise (command_of words) s h.bytes reply.text) (sym is) (keeps_promise words h.bytes reply h.outcome),
+    whole.added,
+  )
+  out_promises h (sent_in_part is part) answer = let e : is_answer WriteFault ≡ true = sym (ap is_answer is) ∙ answer in cc
+
+-- what an end says of the sinks: one of them counted its fault, or none did
+sinks_at : (status : Status) (out err : Effect) (text : List ℕ) → IsWhole text (sink_of status out err) →
+    IsUntouched (other_sink status out err) → NeverFailed out × NeverFailed err
+sinks_at status out err text whole other = by (is_answer status) whole other
+  where
+    by : (answer : Bool) → IsWhole text (cond answer out err) → IsUntouched (cond answer err out) → NeverFailed out × NeverFailed err
+    by true whole other = (whole.count, other.count)
+    by false whole other = (other.count, whole.count)
+
+fault_at : (status : Status) (out err : Effect) (text : List ℕ) → IsCutOff text (sink_of status out err) → HasFailed out ⊎ HasFailed err
+fault_at status out err text part = by (is_answer status) part
+  where
+    by : (answer : Bool) → IsCutOff text (cond answer out err) → HasFailed out ⊎ HasFailed err
+    by true part = inl part.fault
+    by false part = inr part.fault
+
+-- the source failed at a read fault, and nowhere else
+reads_rise : (status : Status) (source : Effect) → CountsReads status source → Rises source → status ≡ ReadFault
+reads_rise ReadFault source counts rises = refl
+reads_rise Done source counts rises = absurd (omega (arith, counts, rises))
+reads_rise No source counts rises = absurd (omega (arith, counts, rises))
+reads_rise Usage source counts rises = absurd (omega (arith, counts, rises))
+reads_rise Reading source counts rises = absurd (omega (arith, counts, rises))
+reads_rise Large source counts rises = absurd (omega (arith, counts, rises))
+reads_rise Spent source counts rises = absurd (omega (arith, counts, rises))
+reads_rise WriteFault source counts rises = absurd (omega (arith, counts, rises))
+reads_rise Memory source counts rises = absurd (omega (arith, counts, rises))
+
+never_rises : (device : Effect) → NeverFailed device → Rises device → ⊥
+never_rises device never rises = omega (arith, never, rises)
+
+pub causes : (words : List (List ℕ)) (source out err : Effect) (result : Status) → Ends words source out err result →
+    Causes words source out err result
+causes words source out err result (answered reply h is whole other) =
+    let sinks = sinks_at reply.status out err reply.text whole other in record {
+      usage = λ e. usage_of_words words h.bytes reply h.outcome (sym is ∙ e);
+      other_words = λ none. inl (is ∙ words_to_usage words h.bytes reply h.outcome none);
+      read_fault = λ e. subst (λ (s : Status). CountsReads s source) (sym is ∙ e) h.count;
+      write_fault = λ e. absurd (no_write_fault words h.bytes reply h.outcome (sym is ∙ e));
+      read_rise = λ rises. inl (inl (is ∙ reads_rise reply.status source h.count rises));
+      out_rise = λ rises. absurd (never_rises out sinks.0 rises);
+      err_rise = λ rises. absurd (never_rises err sinks.1 rises);
+      memory = λ e. absurd (no_memory words h.bytes reply h.outcome (sym is ∙ e));
+    }
+causes words source out err result (cut_off reply h is part other) = record {
+  usage = λ e. (let clash : WriteFault ≡ Usage = sym is ∙ e in cc);
+  other_words = λ none. inr (inl is);
+  read_fault = λ e. (let clash : WriteFault ≡ ReadFault = sym is ∙ e in cc);
+  write_fault = λ e. fault_at reply.status out err reply.text part;
+  read_rise = λ rises. inl (inr is);
+  out_rise = λ rises. is;
+  err_rise = λ rises. is;
+  memory = λ e. (let clash : WriteFault ≡ Memory = sym is ∙ e in cc);
+}
+causes words source out err result (out_of_memory is same_out same_err) = record {
+  usage = λ e. (let clash : Memory ≡ Usage = sym is ∙ e in cc);
+  other_words = λ none. inr (inr is);
+  read_fault = λ e. (let clash : Memory ≡ ReadFault = sym is ∙ e in cc);
+  write_fault = λ e. (let clash : Memory ≡ WriteFault = sym is ∙ e in cc);
+  read_rise = λ rises. inr is;
+  out_rise = λ rises. absurd (never_rises out same_out.count rises);
+  err_rise = λ rises. absurd (never_rises err same_err.count rises);
+  memory = λ e. (same_out, same_err);
+}

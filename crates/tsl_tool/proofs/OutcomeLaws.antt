@@ -1,0 +1,197 @@
+-- Which status and which text the reply of an outcome has, and what it promises.
+use Rattle.std.proofs.Common.{◌≡◌, ◌≢◌, ℕ, Bool, true, false, List, [], ◌∷◌, ◌++◌, refl, ap, sym, ◌∙◌, subst}
+use Rattle.std.specs.Prelude.{Option, Some, None}
+use Rattle.clause_core.specs.Literals.{Lit}
+use Rattle.refutation_check.specs.Checking.{Refusal, at_line, at_hint, unfinished, log_refusal}
+use Rattle.refutation_check.specs.CnfText.{CnfAnswer, is_cnf, form_at as cnf_form_at, too_many_variables, too_many_clauses, cnf_answer}
+use Rattle.refutation_check.specs.LogText.{LogAnswer, is_log, form_at as log_form_at, log_answer}
+use Rattle.tsl_reader.specs.declared.SpecError.{SpecError}
+use Rattle.tsl_reader.specs.declared.SpecError.TheVariants.{Byte, OpenComment, Form, Deep, Kind, Arity, Nodes, NoMemory}
+use Rattle.tsl_report.specs.declared.fault.Fault.{Fault}
+use Rattle.tsl_report.specs.declared.fault.Fault.TheVariants.{Usage as WrongWords, Read, Parts, CnfForm, LogForm, Large as PastLimit}
+use Rattle.tsl_report.specs.declared.fault.Fault.TheVariants.{Unbuilt}
+use Rattle.tsl_report.specs.declared.fault.Head.TheVariants.{Lrat}
+use Rattle.tsl_report.specs.declared.fault.LimitName.TheVariants.{Text, Variables, Clauses}
+use Rattle.tsl_report.specs.FaultText.{fault_line, fault_text}
+use Rattle.flow_program.specs.ProgramText.{program_text}
+use Rattle.tsl_tool.specs.declared.status.Status.{Status}
+use Rattle.tsl_tool.specs.declared.status.Status.TheVariants.{Done, No, Usage, Reading, Large, Spent, ReadFault, WriteFault, Memory}
+use Rattle.tsl_tool.specs.declared.words.Sizes.{Sizes}
+use Rattle.tsl_tool.specs.declared.words.Command.{Command}
+use Rattle.tsl_tool.specs.declared.words.Command.TheVariants.{Synth, Recheck}
+use Rattle.tsl_tool.specs.declared.reply.Reply.{Reply}
+use Rattle.tsl_tool.specs.Commands.{command_of, most_bytes}
+use Rattle.tsl_tool.specs.Refusals.{IsFaultOf}
+use Rattle.tsl_tool.specs.Replies.{fault_status, fault_reply}
+use Rattle.tsl_tool.specs.Synth.{SynthOutcome, written, unbuilt, refused}
+use Rattle.tsl_tool.specs.Recheck.{RecheckOutcome, without_log, of_parts, IsFirstLineAt, head_line, verdict, log_reply, parts_reply}
+use Rattle.tsl_tool.specs.Recheck.{recheck_reply, cnf_part, log_part}
+use Rattle.tsl_tool.specs.Outcome.{CommandOutcome, Outcome, usage, source_failed, too_long, on_bytes}
+use Rattle.tsl_tool.specs.Promise.{Promise}
+use Rattle.tsl_tool.proofs.RecheckLaws.{yes_refutes, no_exactly}
+
+status_of : {a b : Reply} → a ≡ b → a.status ≡ b.status
+status_of h = ap (λ (r : Reply). r.status) h
+
+text_of : {a b : Reply} → a ≡ b → a.text ≡ b.text
+text_of h = ap (λ (r : Reply). r.text) h
+
+-- whether a command may reply so to bytes
+abbrev pub comes_of_bytes : Status → Bool
+comes_of_bytes Done = true
+comes_of_bytes No = true
+comes_of_bytes Reading = true
+comes_of_bytes Large = true
+comes_of_bytes Spent = true
+comes_of_bytes Usage = false
+comes_of_bytes ReadFault = false
+comes_of_bytes WriteFault = false
+comes_of_bytes Memory = false
+
+refusal_comes : (bytes : List ℕ) (error : SpecError) (fault : Fault) → IsFaultOf bytes error fault →
+    comes_of_bytes (fault_status fault) ≡ true
+refusal_comes bytes (Byte at) fault h = ap (λ f. comes_of_bytes (fault_status f)) h.2
+refusal_comes bytes (OpenComment at) fault h = ap (λ f. comes_of_bytes (fault_status f)) h.2
+refusal_comes bytes (Form at) fault h = ap (λ f. comes_of_bytes (fault_status f)) h.2
+refusal_comes bytes (Deep at) fault h = ap (λ f. comes_of_bytes (fault_status f)) h.2
+refusal_comes bytes (Kind start end) fault h = ap (λ f. comes_of_bytes (fault_status f)) h.2
+refusal_comes bytes (Arity start end) fault h = ap (λ f. comes_of_bytes (fault_status f)) h.2
+refusal_comes bytes Nodes fault h = ap (λ f. comes_of_bytes (fault_status f)) h
+refusal_comes bytes NoMemory fault h = absurd h
+
+verdict_comes : (refusal : Option Refusal) → comes_of_bytes (verdict refusal).status ≡ true
+verdict_comes None = refl
+verdict_comes (Some refusal) = refl
+
+parts_come : (formula : CnfAnswer) (log : LogAnswer) → comes_of_bytes (parts_reply formula log).status ≡ true
+parts_come (is_cnf variables clauses) (is_log steps) = verdict_comes (log_refusal variables clauses steps)
+parts_come (is_cnf variables clauses) (log_form_at line) = refl
+parts_come (cnf_form_at line) log = refl
+parts_come too_many_variables log = refl
+parts_come too_many_clauses log = refl
+
+pub command_comes : (command : Command) (bytes : List ℕ) (reply : Reply) → CommandOutcome command bytes reply →
+    comes_of_bytes reply.status ≡ true
+command_comes (Synth sizes) bytes reply (written done h) = ap comes_of_bytes done
+command_comes (Synth sizes) bytes reply (unbuilt h is) = ap comes_of_bytes (status_of is)
+command_comes (Synth sizes) bytes reply (refused fault h is) = ap comes_of_bytes (status_of is)
+    ∙ refusal_comes bytes h.error fault h.is_fault
+command_comes Recheck bytes reply (without_log h is) = ap comes_of_bytes (status_of is)
+command_comes Recheck bytes reply (of_parts at h is) =
+    ap comes_of_bytes (status_of is) ∙ parts_come (cnf_answer (cnf_part bytes at)) (log_answer (log_part bytes at))
+
+-- usage comes of words alone
+pub usage_of_words : (words : List (List ℕ)) (bytes : List ℕ) (reply : Reply) → Outcome words bytes reply → reply.status ≡ Usage →
+    command_of words ≡ None
+usage_of_words words bytes reply (usage none is) h = none
+usage_of_words words bytes reply (source_failed command known is) h = let e : ReadFault ≡ Usage = sym (status_of is) ∙ h in cc
+usage_of_words words bytes reply (too_long command known many is) h = let e : Large ≡ Usage = sym (status_of is) ∙ h in cc
+usage_of_words words bytes reply (on_bytes command known few outcome) h =
+    let e : false ≡ true = sym (ap comes_of_bytes h) ∙ command_comes command bytes reply outcome in cc
+
+-- and such words lead to nothing else
+pub words_to_usage : (words : List (List ℕ)) (bytes : List ℕ) (reply : Reply) → Outcome words bytes reply → command_of words ≡ None →
+    reply.status ≡ Usage
+words_to_usage words bytes reply (usage none is) h = status_of is
+words_to_usage words bytes reply (source_failed command known is) h = let e : Some command ≡ None = sym known ∙ h in cc
+words_to_usage words bytes reply (too_long command known many is) h = let e : Some command ≡ None = sym known ∙ h in cc
+words_to_usage words bytes reply (on_bytes command known few outcome) h = let e : Some command ≡ None = sym known ∙ h in cc
+
+-- no reply has the status of a write fault or of no memory
+pub no_write_fault : (words : List (List ℕ)) (bytes : List ℕ) (reply : Reply) → Outcome words bytes reply → reply.status ≡ WriteFault → ⊥
+no_write_fault words bytes reply (usage none is) h = let e : Usage ≡ WriteFault = sym (status_of is) ∙ h in cc
+no_write_fault words bytes reply (source_failed command known is) h = let e : ReadFault ≡ WriteFault = sym (status_of is) ∙ h in cc
+no_write_fault words bytes reply (too_long command known many is) h = let e : Large ≡ WriteFault = sym (status_of is) ∙ h in cc
+no_write_fault words bytes reply (on_bytes command known few outcome) h =
+    let e : false ≡ true = sym (ap comes_of_bytes h) ∙ command_comes command bytes reply outcome in cc
+
+pub no_memory : (words : List (List ℕ)) (bytes : List ℕ) (reply : Reply) → Outcome words bytes reply → reply.status ≡ Memory → ⊥
+no_memory words bytes reply (usage none is) h = let e : Usage ≡ Memory = sym (status_of is) ∙ h in cc
+no_memory words bytes reply (source_failed command known is) h = let e : ReadFault ≡ Memory = sym (status_of is) ∙ h in cc
+no_memory words bytes reply (too_long command known many is) h = let e : Large ≡ Memory = sym (status_of is) ∙ h in cc
+no_memory words bytes reply (on_bytes command known few outcome) h =
+    let e : false ≡ true = sym (ap comes_of_bytes h) ∙ command_comes command bytes reply outcome in cc
+
+-- each reply has a text
+some_byte : (xs : List ℕ) (y : ℕ) → xs ++ y ∷ [] ≢ []
+some_byte [] y e = cc
+some_byte (x ∷ xs) y e = cc
+
+line_says : (fault : Fault) → fault_text fault ≢ []
+line_says fault = some_byte (fault_line fault) 10
+
+fault_says : (fault : Fault) (reply : Reply) → reply ≡ fault_reply fault → reply.text ≢ []
+fault_says fault reply is e = line_says fault (sym (text_of is) ∙ e)
+
+verdict_says : (refusal : Option Refusal) → (verdict refusal).text ≢ []
+verdict_says None e = cc
+verdict_says (Some (at_line number)) e = cc
+verdict_says (Some (at_hint number position)) e = cc
+verdict_says (Some unfinished) e = cc
+
+parts_say : (formula : CnfAnswer) (log : LogAnswer) → (parts_reply formula log).text ≢ []
+parts_say (is_cnf variables clauses) (is_log steps) = verdict_says (log_refusal variables clauses steps)
+parts_say (is_cnf variables clauses) (log_form_at line) = line_says (LogForm line)
+parts_say (cnf_form_at line) log = line_says (CnfForm line)
+parts_say too_many_variables log = line_says (PastLimit Variables 1048576)
+parts_say too_many_clauses log = line_says (PastLimit Clauses 2000000)
+
+command_says : (command : Command) (bytes : List ℕ) (reply : Reply) → CommandOutcome command bytes reply → reply.text ≢ []
+command_says (Synth sizes) bytes reply (written done h) e =
+    let program : program_text h.spec.names h.program ≡ [] = sym h.spelled.text ∙ e in cc
+command_says (Synth sizes) bytes reply (unbuilt h is) e = fault_says Unbuilt reply is e
+command_says (Synth sizes) bytes reply (refused fault h is) e = fault_says fault reply is e
+command_says Recheck bytes reply (without_log h is) e = fault_says (Parts Lrat) reply is e
+command_says Recheck bytes reply (of_parts at h is) e =
+    parts_say (cnf_answer (cnf_part bytes at)) (log_answer (log_part bytes at)) (sym (text_of is) ∙ e)
+
+pub outcome_says : (words : List (List ℕ)) (bytes : List ℕ) (reply : Reply) → Outcome words bytes reply → reply.text ≢ []
+outcome_says words bytes reply (usage none is) = fault_says WrongWords reply is
+outcome_says words bytes reply (source_failed command known is) = fault_says Read reply is
+outcome_says words bytes reply (too_long command known many is) = fault_says (PastLimit Text (most_bytes command)) reply is
+outcome_says words bytes reply (on_bytes command known few outcome) = command_says command bytes reply outcome
+
+-- no fault promises anything
+fault_promises : (command : Option Command) (fault : Fault) (bytes text : List ℕ) → Promise command (fault_status fault) bytes text
+fault_promises None fault bytes text = tt
+fault_promises (Some (Synth sizes)) WrongWords bytes text = tt
+fault_promises (Some (Synth sizes)) Read bytes text = tt
+fault_promises (Some (Synth sizes)) (PastLimit name limit) bytes text = tt
+fault_promises (Some (Synth sizes)) _ bytes text = tt
+fault_promises (Some Recheck) WrongWords bytes text = tt
+fault_promises (Some Recheck) Read bytes text = tt
+fault_promises (Some Recheck) (PastLimit name limit) bytes text = tt
+fault_promises (Some Recheck) _ bytes text = tt
+
+fault_keeps : (command : Option Command) (fault : Fault) (bytes : List ℕ) (reply : Reply) → reply ≡ fault_reply fault →
+    Promise command reply.status bytes reply.text
+fault_keeps command fault bytes reply is =
+    subst (λ (s : Status). Promise command s bytes reply.text) (sym (status_of is)) (fault_promises command fault bytes reply.text)
+
+recheck_keeps : (bytes : List ℕ) (at : ℕ) (status : Status) → IsFirstLineAt bytes head_line at → (recheck_reply bytes at).status ≡ status →
+    Promise (Some Recheck) status bytes (recheck_reply bytes at).text
+recheck_keeps bytes at Done first is =
+    let says = yes_refutes (cnf_part bytes at) (log_part bytes at) is in ((at, first, says.0), says.1)
+recheck_keeps bytes at No first is = (at, first, (no_exactly (cnf_part bytes at) (log_part bytes at)).0 is)
+recheck_keeps bytes at _ first is = tt
+
+command_keeps : (command : Command) (bytes : List ℕ) (reply : Reply) → CommandOutcome command bytes reply →
+    Promise (Some command) reply.status bytes reply.text
+command_keeps (Synth sizes) bytes reply (written done h) =
+    subst (λ (s : Status). Promise (Some (Synth sizes)) s bytes reply.text) (sym done) h
+command_keeps (Synth sizes) bytes reply (unbuilt h is) = fault_keeps (Some (Synth sizes)) Unbuilt bytes reply is
+command_keeps (Synth sizes) bytes reply (refused fault h is) = fault_keeps (Some (Synth sizes)) fault bytes reply is
+command_keeps Recheck bytes reply (without_log h is) = fault_keeps (Some Recheck) (Parts Lrat) bytes reply is
+command_keeps Recheck bytes reply (of_parts at first is) =
+    subst (λ (r : Reply). Promise (Some Recheck) r.status bytes r.text) (sym is)
+    (recheck_keeps bytes at (recheck_reply bytes at).status first refl)
+
+-- the reply of an outcome keeps the promise of its command
+pub keeps_promise : (words : List (List ℕ)) (bytes : List ℕ) (reply : Reply) → Outcome words bytes reply →
+    Promise (command_of words) reply.status bytes reply.text
+keeps_promise words bytes reply (usage none is) = fault_keeps (command_of words) WrongWords bytes reply is
+keeps_promise words bytes reply (source_failed command known is) = fault_keeps (command_of words) Read bytes reply is
+keeps_promise words bytes reply (too_long command known many is) =
+    fault_keeps (command_of words) (PastLimit Text (most_bytes command)) bytes reply is
+keeps_promise words bytes reply (on_bytes command known few outcome) =
+    subst (λ (c : Option Command). Promise c reply.status bytes reply.text) (sym known) (command_keeps command bytes reply outcome)

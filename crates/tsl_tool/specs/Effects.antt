@@ -1,0 +1,52 @@
+-- What a run did to its source and to its sinks.
+use Rattle.std.specs.Prelude.{◌≡◌, ℕ, List, Option, cond}
+use Rattle.tsl_io.specs.Told.{after, AddsPrefix, WhereTold}
+use Rattle.tsl_io.specs.Faults.{Faulted}
+use Rattle.tsl_tool.specs.declared.status.Status.{Status}
+use Rattle.tsl_tool.specs.Statuses.{is_answer}
+
+-- The bytes that a source or a sink tells, and its count of faults, before a run and after it. Those of a source are the
+-- bytes that are left, and those of a sink the bytes that were written.
+pub record Effect : Type 0 where
+  pub old : Option (List ℕ)
+  pub new : Option (List ℕ)
+  pub faults_old : ℕ
+  pub faults_new : ℕ
+
+-- the effect on a source or a sink, by what it tells and counts
+abbrev pub effect : {D : Type 0} → (D → Option (List ℕ)) → (D → ℕ) → D → D → Effect
+effect tells counts old new = record { old = tells old; new = tells new; faults_old = counts old; faults_new = counts new }
+
+-- a call failed
+abbrev pub HasFailed : Effect → Type 0
+HasFailed device = Faulted device.faults_old device.faults_new
+
+-- no call failed
+abbrev pub NeverFailed : Effect → Type 0
+NeverFailed device = device.faults_new ≡ device.faults_old
+
+-- bytes and count are as before
+pub record IsUntouched (device : Effect) : Type 0 where
+  pub bytes : device.new ≡ device.old
+  pub count : device.faults_new ≡ device.faults_old
+
+-- the whole text was added, and no call failed
+pub record IsWhole (text : List ℕ) (sink : Effect) : Type 0 where
+  pub added : sink.new ≡ after text sink.old
+  pub count : NeverFailed sink
+
+-- some first bytes of the text were added, and then a call failed
+pub record IsCutOff (text : List ℕ) (sink : Effect) : Type 0 where
+  pub added : AddsPrefix text sink.old sink.new
+  pub fault : HasFailed sink
+
+-- the sink that the text of a status goes to, and the other one
+abbrev pub sink_of : Status → Effect → Effect → Effect
+sink_of status out err = cond (is_answer status) out err
+
+abbrev pub other_sink : Status → Effect → Effect → Effect
+other_sink status out err = cond (is_answer status) err out
+
+-- the bytes are those that a source tells, where it tells some
+abbrev pub AreTold : Option (List ℕ) → List ℕ → Type 0
+AreTold told bytes = WhereTold told (λ known. known ≡ bytes)

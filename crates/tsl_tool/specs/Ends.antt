@@ -1,0 +1,44 @@
+-- How a run ends: its status, what it read and what stands in the sinks.
+use Rattle.std.specs.Prelude.{◌≡◌, ℕ, List}
+use Rattle.tsl_tool.specs.declared.status.Status.{Status}
+use Rattle.tsl_tool.specs.declared.status.Status.TheVariants.{Done, No, Usage, Reading, Large, Spent, ReadFault, WriteFault, Memory}
+use Rattle.tsl_tool.specs.declared.reply.Reply.{Reply}
+use Rattle.tsl_tool.specs.Effects.{Effect, HasFailed, NeverFailed, IsUntouched, IsWhole, IsCutOff, sink_of, other_sink, AreTold}
+use Rattle.tsl_tool.specs.Outcome.{Outcome}
+
+-- the source failed where the reply says so, and nowhere else
+abbrev pub CountsReads : Status → Effect → Type 0
+CountsReads ReadFault source = HasFailed source
+CountsReads _ source = NeverFailed source
+
+-- The reply is an outcome on the bytes of the source: on those that it tells, where it tells some, and on some bytes
+-- where it tells nothing.
+pub record IsReplyTo (words : List (List ℕ)) (source : Effect) (reply : Reply) : Type 0 where
+  pub bytes : List ℕ
+  pub told : AreTold source.old bytes
+  pub outcome : Outcome words bytes reply
+  pub count : CountsReads reply.status source
+
+pub data Ends (words : List (List ℕ)) (source out err : Effect) (result : Status) : Type 0 where
+  -- the text of a reply was added whole to the sink of its status, and the other sink is as before
+  answered : (reply : Reply) → IsReplyTo words source reply → result ≡ reply.status →
+      IsWhole reply.text (sink_of reply.status out err) → IsUntouched (other_sink reply.status out err) →
+      Ends words source out err result
+  -- some first bytes of the text of a reply were added to the sink of its status, where a call failed, and the other sink is as before
+  cut_off : (reply : Reply) → IsReplyTo words source reply → result ≡ WriteFault →
+      IsCutOff reply.text (sink_of reply.status out err) → IsUntouched (other_sink reply.status out err) →
+      Ends words source out err result
+  -- nothing was written
+  out_of_memory : result ≡ Memory → IsUntouched out → IsUntouched err → Ends words source out err result
+
+-- what was written by a run with this status was handed on
+abbrev pub HandedOn : Status → Type 0 → Type 0 → Type 0
+HandedOn Done out err = out
+HandedOn No out err = out
+HandedOn Spent out err = out
+HandedOn Usage out err = err
+HandedOn Reading out err = err
+HandedOn Large out err = err
+HandedOn ReadFault out err = err
+HandedOn WriteFault out err = Unit {0}
+HandedOn Memory out err = Unit {0}

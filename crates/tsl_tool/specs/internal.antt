@@ -1,0 +1,3 @@
+pub mod FixedSlots
+pub mod RefusalPlaces
+pub mod Sending
