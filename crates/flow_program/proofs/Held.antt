@@ -1,12 +1,14 @@
 -- What can be written is held by the names.
 use Rattle.std.proofs.Common.{ℕ, ◌&&◌, List, IsTrue}
-use Rattle.std.proofs.lemmas.Bool.{and_parts}
+use Rattle.std.proofs.lemmas.Bool.{and_parts, and_from}
 use Rattle.std.specs.List.{list_all}
 use Rattle.tsl_terms.specs.declared.names.NameKind.TheVariants.{Signal}
 use Rattle.tsl_terms.specs.Name.{Name}
 use Rattle.tsl_terms.specs.TermTree.{TermTree, ProbeTree}
 use Rattle.tsl_terms.specs.WindowTree.{WindowTree, ListedTree}
+use Rattle.sequence.proofs.Passes.{list_all_weaker}
 use Rattle.term_text.specs.TermText.{is_held, term_is_held, probe_is_held}
+use Rattle.term_text.specs.WindowText.{listed_is_held, window_is_held}
 use Rattle.term_text.proofs.Held.{name_held, term_held, probe_held}
 use Rattle.flow_program.specs.ProgramText.{signal_fits, term_is_writable, probe_is_writable, listed_is_writable, window_is_writable}
 
@@ -37,3 +39,14 @@ window_parts names w h =
     (list_all (listed_is_writable names) w.updates) h in
     let probes = and_parts (probe_is_writable names w.left) (probe_is_writable names w.right) parts.0 in
     record { left = probes.0; right = probes.1; updates = parts.1 }
+
+updates_held : (names : List Name) (us : List ListedTree) → IsTrue (list_all (listed_is_writable names) us) → IsTrue (list_all (listed_is_held names) us)
+updates_held names us h =
+    list_all_weaker (listed_is_writable names) (listed_is_held names) (λ u k. let both = listed_held names u k in and_from _ _ both.0 both.1) us h
+
+pub window_held : (names : List Name) (w : WindowTree) → IsTrue (window_is_writable names w) → IsTrue (window_is_held names w)
+window_held names w h =
+    let parts = window_parts names w h in
+    and_from (probe_is_held names w.left && probe_is_held names w.right) (list_all (listed_is_held names) w.updates)
+    (and_from (probe_is_held names w.left) (probe_is_held names w.right) (written_probe_held names w.left parts.left) (written_probe_held names w.right parts.right))
+    (updates_held names w.updates parts.updates)

@@ -12,8 +12,9 @@ use Rattle.term_text.specs.TermText.{name_text, probe_text, update_text}
 use Rattle.sequence.proofs.Lists.{tails}
 use Rattle.tsl_text.proofs.Fronts.{begins, other_front}
 use Rattle.term_text.proofs.Spelling.{one_name, one_probe, one_update}
+use Rattle.term_text.specs.WindowText.{listed_text, window_text}
 use Rattle.flow_program.specs.NodeTree.{NodeTree, branch, assign}
-use Rattle.flow_program.specs.ProgramText.{listed_text, window_text, updates_text, node_text}
+use Rattle.flow_program.specs.ProgramText.{updates_text, node_text}
 use Rattle.flow_program.proofs.Lines.{is_letter, begins_lines, one_list_of_members}
 use Rattle.tsl_text.proofs.NumberLaws.{one_number}
 use Rattle.flow_program.proofs.Numbers.{at_ends, then_ends}

@@ -16,10 +16,11 @@ use Rattle.tsl_terms.specs.WellFormed.{is_usable_at, term_fits, probe_fits, brac
 use Rattle.tsl_terms.specs.WindowTree.{WindowTree, ListedTree}
 use Rattle.term_text.specs.TermText.{name_text}
 use Rattle.tsl_text.proofs.Fronts.{begins}
+use Rattle.term_text.specs.WindowText.{window_text}
 use Rattle.flow_program.specs.NodeTree.{NodeTree, branch, assign}
 use Rattle.flow_program.specs.ProgramTree.{ProgramTree, controlled}
 use Rattle.flow_program.specs.Fits.{StatesFit, window_fits, longest, rises}
-use Rattle.flow_program.specs.ProgramText.{declarations, window_text, node_text, nodes_text, states_text, program_text, signal_fits, term_is_writable, probe_is_writable, listed_is_writable, window_is_writable, node_is_writable, IsWritable, IsProgram, ProgramText}
+use Rattle.flow_program.specs.ProgramText.{declarations, node_text, nodes_text, states_text, program_text, signal_fits, term_is_writable, probe_is_writable, listed_is_writable, window_is_writable, node_is_writable, IsWritable, IsProgram, ProgramText}
 use Rattle.flow_program.proofs.Held.{window_parts}
 use Rattle.flow_program.proofs.Lines.{is_letter, numbered, begins_lines, begins_numbered, one_list_of_members, one_numbered_list}
 use Rattle.flow_program.proofs.OneLine.{newline, ListedKeeps, WindowKeeps, NodeKeeps, one_declaration, one_window, one_node, state_text, one_state}

@@ -9,6 +9,7 @@ use Rattle.tsl_terms.specs.TermTree.{TermTree, ProbeTree}
 use Rattle.tsl_terms.specs.WellFormed.{is_usable_at, term_fits, probe_fits, brackets, brackets_of_arguments, deepest}
 use Rattle.tsl_terms.specs.WindowTree.{WindowTree, ListedTree}
 use Rattle.term_text.specs.TermText.{name_text, probe_text, update_text}
+use Rattle.term_text.specs.WindowText.{window_text}
 use Rattle.flow_program.specs.declared.limits.TheConstants.{MOST_WINDOWS, MOST_NODES, MOST_STATES}
 use Rattle.flow_program.specs.NodeTree.{NodeTree, branch, assign}
 use Rattle.flow_program.specs.ProgramTree.{ProgramTree, controlled}
@@ -17,15 +18,6 @@ use Rattle.flow_program.specs.Fits.{BranchesFit, AssignmentsFit, StatesFit, wind
 -- a word and a name on each line
 abbrev pub declarations : List ℕ → List Name → List ℕ → List ℕ
 declarations word names ids = flat_map (λ id. word ++ name_text names id ++ codes "\n") ids
-
-abbrev pub listed_text : List Name → ListedTree → List ℕ
-listed_text names u = codes " when " ++ update_text names u.signal u.term ++ codes " at " ++ decimal u.offset
-
-abbrev pub window_text : List Name → WindowTree → List ℕ
-window_text names w =
-    codes "window " ++ probe_text names w.left ++ codes " at " ++ decimal w.left_at
-    ++ codes " is " ++ probe_text names w.right ++ codes " at " ++ decimal w.length
-    ++ flat_map (listed_text names) w.updates ++ codes "\n"
 
 -- each signal's update, a space before it
 abbrev pub updates_text : List Name → List ℕ → List TermTree → List ℕ

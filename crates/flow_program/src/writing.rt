@@ -3,18 +3,19 @@
 ghost use Rattle.std.specs.Prelude.{◌≡◌, ◌+◌, ◌∷◌, ◌++◌, ◌≤◌, ◌<◌, ◌^◌, map, flat_map, codes, decimal, length, IsTrue, IfOk, OnOk};
 ghost use Rattle.std.specs.List.{list_all};
 ghost use Rattle.tsl_terms.specs.TermTree.{term_tree, probe_tree};
-ghost use Rattle.tsl_terms.specs.WindowTree.{window_tree, listed_tree};
+ghost use Rattle.tsl_terms.specs.WindowTree.{window_tree};
 ghost use Rattle.term_text.specs.TermText.{name_text, probe_text, update_text};
+ghost use Rattle.term_text.specs.WindowText.{window_text};
 ghost use Rattle.flow_program.specs.NodeTree.{node_tree};
 ghost use Rattle.flow_program.specs.ProgramView.{program_tree};
-ghost use Rattle.flow_program.specs.ProgramText.{declarations, listed_text, window_text, updates_text, node_text, nodes_text, states_text, program_text, signal_fits, term_is_writable, probe_is_writable, listed_is_writable, window_is_writable, node_is_writable, IsWritable, ProgramText};
+ghost use Rattle.flow_program.specs.ProgramText.{declarations, updates_text, node_text, nodes_text, states_text, program_text, signal_fits, term_is_writable, probe_is_writable, window_is_writable, node_is_writable, IsWritable, ProgramText};
 
 use crate::node::Node;
 use crate::program::Program;
 use sequence::NoMemory;
 use std::alloc::Global;
-use term_text::{put_name, put_probe, put_update};
-use tsl_terms::{Listed, Names, Probe, Term, Window};
+use term_text::{put_name, put_probe, put_update, put_window};
+use tsl_terms::{Names, Probe, Term, Window};
 use tsl_text::put_number;
 
 /// The one text that spells the program over the names. An `Err` says that memory ran out.
@@ -73,59 +74,6 @@ fn put_windows(out: &mut Vec<u8>, names: &Names, windows: &[Window]) -> Result<(
     for window in windows {
         put_window(out, names, window)?;
     }
-    Ok(())
-}
-
-/// Appends the line of a window.
-fn put_window(out: &mut Vec<u8>, names: &Names, window: &Window) -> Result<(), NoMemory>
-    requires { IsTrue (window_is_writable names.now (window_tree window.now)) }
-    ensures { OnOk result (out.new.items ≡ out.old.items ++ window_text names.now (window_tree window.now)) }
-{
-    put_placed(out, names, b"window ", &window.left, window.left_at)?;
-    put_placed(out, names, b" is ", &window.right, window.length)?;
-    put_listed(out, names, window.updates.as_slice())?;
-    out.extend_from_slice(b"\n")?;
-    Ok(())
-}
-
-/// Appends a word, a probe and the step that it stands at.
-fn put_placed(
-    out: &mut Vec<u8>,
-    names: &Names,
-    word: &[u8],
-    probe: &Probe,
-    step: u32,
-) -> Result<(), NoMemory>
-    requires { IsTrue (probe_is_writable names.now (probe_tree probe.now)) }
-    ensures { OnOk result (out.new.items
-        ≡ out.old.items ++ (word.now ++ probe_text names.now (probe_tree probe.now) ++ codes " at " ++ decimal step)) }
-{
-    out.extend_from_slice(word)?;
-    put_probe(out, names, probe)?;
-    out.extend_from_slice(b" at ")?;
-    put_number(out, u64::from(step))
-}
-
-/// Appends the updates that a window lists.
-fn put_listed(out: &mut Vec<u8>, names: &Names, updates: &[Listed]) -> Result<(), NoMemory>
-    requires { IsTrue (list_all (listed_is_writable names.now) (map listed_tree updates.now)) }
-    ensures { OnOk result (out.new.items ≡ out.old.items ++ flat_map (listed_text names.now) (map listed_tree updates.now)) }
-{
-    for update in updates {
-        put_listed_update(out, names, update)?;
-    }
-    Ok(())
-}
-
-/// Appends one update that a window lists.
-fn put_listed_update(out: &mut Vec<u8>, names: &Names, update: &Listed) -> Result<(), NoMemory>
-    requires { IsTrue (listed_is_writable names.now (listed_tree update.now)) }
-    ensures { OnOk result (out.new.items ≡ out.old.items ++ listed_text names.now (listed_tree update.now)) }
-{
-    out.extend_from_slice(b" when ")?;
-    put_update(out, names, update.signal, &update.term)?;
-    out.extend_from_slice(b" at ")?;
-    put_number(out, u64::from(update.offset))?;
     Ok(())
 }
 
