@@ -1,6 +1,6 @@
 -- Worked examples of expansions.
-use Rattle.std.specs.Prelude.{◌≡◌, Some, None, List, [], ◌∷◌, refl}
-use Rattle.ltl_formula.specs.LtlTree.{LtlTree, top, bottom, bit, not_bit, conjunction, disjunction, next, until, release, LtlTrees, no_formulas, more_formulas}
+use Rattle.std.specs.Prelude.{◌≡◌, Some, [], ◌∷◌, refl}
+use Rattle.ltl_formula.specs.LtlTree.{LtlTree, top, bottom, bit, not_bit, conjunction, disjunction, until, release, no_formulas, more_formulas}
 use Rattle.obligations.specs.Choices.{empty_choice}
 use Rattle.obligations.specs.Expansion.{choices}
 

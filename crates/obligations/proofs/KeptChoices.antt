@@ -8,12 +8,12 @@ use Rattle.sequence.proofs.Booleans.{same_tests}
 use Rattle.sequence.proofs.Each.{each_at}
 use Rattle.sequence.proofs.Places.{contains_at}
 use Rattle.sequence.proofs.Passes.{list_any_place, list_any_contained, filter_has}
-use Rattle.ltl_formula.specs.LtlTree.{LtlTree}
 use Rattle.obligations.specs.Choices.{same_choice, is_within, is_larger, without_repeats, without_larger}
-use Rattle.obligations.specs.Numbers.{ChoiceKey, IsWell}
-use Rattle.obligations.proofs.WithinLemmas.{Within, within_is, within_itself, within_trans, weight, lighter, same_key_is}
+use Rattle.obligations.specs.Numbers.{ChoiceKey, IsRising}
+use Rattle.obligations.specs.Rounds.{weight}
+use Rattle.obligations.proofs.WithinLemmas.{Within, within_is, within_itself, within_trans, lighter, same_key_is}
 
-not_true : (b : Bool) → not b ≡ true → b ≡ false
+pub not_true : (b : Bool) → not b ≡ true → b ≡ false
 not_true true h = absurd (false≢true h)
 not_true false h = refl
 
@@ -35,7 +35,7 @@ any_push t (y ∷ xs) x = ap (λ b. t y || b) (any_push t xs x) ∙ by (t y)
     by true = refl
     by false = refl
 
-any_filtered : {A : Type 0} (t p : A → Bool) (xs : List A) → list_any t (filter p xs) ≡ true → list_any t xs ≡ true
+pub any_filtered : {A : Type 0} (t p : A → Bool) (xs : List A) → list_any t (filter p xs) ≡ true → list_any t xs ≡ true
 any_filtered t p [] h = h
 any_filtered t p (x ∷ xs) h = by (p x) h (any_filtered t p xs)
   where
@@ -51,7 +51,7 @@ any_filtered t p (x ∷ xs) h = by (p x) h (any_filtered t p xs)
         on true h = refl
         on false h = h
 
-any_at : {A : Type 0} (t : A → Bool) (xs : List A) (i : ℕ) (x : A) → slice_get xs i ≡ Some x → t x ≡ true → list_any t xs ≡ true
+pub any_at : {A : Type 0} (t : A → Bool) (xs : List A) (i : ℕ) (x : A) → slice_get xs i ≡ Some x → t x ≡ true → list_any t xs ≡ true
 any_at t xs i x at h = list_any_contained t xs x (contains_at xs i x at) h
 
 -- without repeats
@@ -72,7 +72,7 @@ any_new t kept (c ∷ cs) = by (list_any (λ k. same_choice nat_eq c k) kept) re
     by false is rest =
         rest (kept ++ c ∷ []) ∙ ap (λ b. b || list_any t cs) (any_push t kept c) ∙ or_move (list_any t kept) (t c) (list_any t cs)
 
-module _ (names : List LtlTree) (cs : List ChoiceKey) (well : AllByRecursion (IsWell names) cs) where
+module _ (cs : List ChoiceKey) (well : AllByRecursion IsRising cs) where
   abbrev small : ChoiceKey → Bool
   small c = not (is_larger nat_eq cs c)
 
@@ -84,16 +84,16 @@ module _ (names : List LtlTree) (cs : List ChoiceKey) (well : AllByRecursion (Is
     where
       by : (b : Bool) → is_larger nat_eq cs x ≡ b
           → ((k : ℕ) (z : ChoiceKey) → slice_get cs k ≡ Some z → weight z < n
-            → (j : ℕ) × (y : ChoiceKey) × (slice_get (without_larger nat_eq cs) j ≡ Some y) × Within y z × (weight y ≤ weight z))
+          → (j : ℕ) × (y : ChoiceKey) × (slice_get (without_larger nat_eq cs) j ≡ Some y) × Within y z × (weight y ≤ weight z))
           → (j : ℕ) × (y : ChoiceKey) × (slice_get (without_larger nat_eq cs) j ≡ Some y) × Within y x × (weight y ≤ weight x)
       by false is rest =
           let there = filter_has small cs i x at (ap not is) in
-          (there.0, x, there.1, within_itself names x (each_at (IsWell names) cs i x well at), omega arith)
+          (there.0, x, there.1, within_itself x (each_at IsRising cs i x well at), omega arith)
       by true is rest =
           let other = list_any_place (λ d. is_within nat_eq d x && not (same_choice nat_eq d x)) cs is in
           let parts = and_parts (is_within nat_eq other.1 x) (not (same_choice nat_eq other.1 x)) other.3 in
           let inside = within_is other.1 x parts.0 in
-          let less = lighter names other.1 x (each_at (IsWell names) cs other.0 other.1 well other.2) (each_at (IsWell names) cs i x well at) inside (not_true (same_choice nat_eq other.1 x) parts.1) in
+          let less = lighter other.1 x (each_at IsRising cs other.0 other.1 well other.2) (each_at IsRising cs i x well at) inside (not_true (same_choice nat_eq other.1 x) parts.1) in
           let r = rest other.0 other.1 other.2 (omega arith) in
           (r.0, r.1, r.2, within_trans r.1 other.1 x r.3 inside, omega (arith, r.4, less))
 

@@ -1,13 +1,16 @@
 pub mod CubeJoins
 pub mod Examples
 pub mod FormulaNumbers
+pub mod KeepLemmas
 pub mod KeptChoices
 pub mod NamedChoices
 pub mod NamingLemmas
 pub mod NumberLemmas
 pub mod ReducingLemmas
+pub mod RoundsLemmas
 pub mod SetLemmas
 pub mod StepLemmas
 pub mod StepLaws
 pub mod StepTruth
+pub mod WeightLemmas
 pub mod WithinLemmas

@@ -1,5 +1,5 @@
 -- Choices over numbers are choices of the formulas with these numbers: what is made of the ones is made of the others.
-use Rattle.std.proofs.Common.{◌≡◌, ◌∙◌, ℕ, zero, suc, ◌<◌, ◌^◌, Bool, true, false, cond, not, ◌&&◌, ◌||◌, ◌==◌, nat_lt, nat_eq, List, [], ◌∷◌, ◌++◌, map, filter, length, Option, Some, None, bit_and, bit_or, refl, sym, ap, subst}
+use Rattle.std.proofs.Common.{◌≡◌, ◌∙◌, ℕ, ◌<◌, ◌^◌, Bool, true, false, cond, not, ◌&&◌, ◌||◌, ◌==◌, nat_lt, nat_eq, List, [], ◌∷◌, ◌++◌, map, filter, length, Option, Some, None, bit_and, bit_or, refl, sym, ap, subst}
 use Rattle.std.specs.Prelude.{bit_xor, if◌then◌else◌}
 use Rattle.std.specs.List.{list_any, filter_map, cons_option, AllByRecursion}
 use Rattle.std.specs.Ordering.{nat_cmp}
@@ -15,8 +15,8 @@ use Rattle.ltl_formula.specs.LtlOrder.{tree_cmp}
 use Rattle.ltl_formula.specs.Increasing.{IsIncreasing, union}
 use Rattle.ltl_formula.proofs.LtlOrderLaws.{tree_cmp_total, equal_trees}
 use Rattle.ltl_formula.proofs.IncreasingLemmas.{rises-union, each-union, any-union}
-use Rattle.obligations.specs.Choices.{ChoiceOf, most_choices, letter_bits, empty_choice, bit_choices, not_bit_choices, goes_on, puts_off, then_list, is_within, same_choice, without_repeats, is_larger, without_larger, reduced, formed, joined, joins, product}
-use Rattle.obligations.specs.Expansion.{ChoiceTree, same_formula, expansion_by, all_choices_by, any_choices_by, choices_from, expansion, choices}
+use Rattle.obligations.specs.Choices.{most_choices, letter_bits, empty_choice, bit_choices, not_bit_choices, goes_on, puts_off, then_list, is_within, same_choice, without_repeats, is_larger, without_larger, reduced, formed, joined, joins, product}
+use Rattle.obligations.specs.Expansion.{ChoiceTree, same_formula, expansion_by, all_choices_by, any_choices_by, choices_from, expansion}
 use Rattle.obligations.specs.Numbers.{ChoiceKey, number_in, formula_named, choice_named, IsWell}
 use Rattle.obligations.specs.Obligations.{obligations, obligations_of_all, reachable, names_of}
 use Rattle.obligations.proofs.FormulaNumbers.{is_named, numbered, same_itself, keeps_order, pointwise-named, subset-named}

@@ -1,5 +1,5 @@
 -- A member is put where the lower ones end, and sets of places are sets of what stands there.
-use Rattle.std.proofs.Common.{◌≡◌, ◌∙◌, ℕ, ◌<◌, Bool, true, false, cond, ◌+◌, ◌≤◌, suc, length, List, [], ◌∷◌, map, slice_get, Some, None, nat_lt, refl, sym, ap, arith}
+use Rattle.std.proofs.Common.{◌≡◌, ◌∙◌, ℕ, ◌<◌, true, false, ◌+◌, ◌≤◌, suc, length, List, [], ◌∷◌, map, slice_get, Some, nat_lt, refl, sym, ap, arith}
 use Rattle.std.specs.List.{prefix_len, insert, AllByRecursion}
 use Rattle.std.specs.declared.cmp.Ordering.{Ordering}
 use Rattle.std.specs.declared.cmp.Ordering.TheVariants.{Less, Equal, Greater}

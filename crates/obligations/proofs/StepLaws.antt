@@ -1,9 +1,8 @@
 -- A set holds at a position exactly where one of its choices is true there, and exactly where one is good.
-use Rattle.std.proofs.Common.{◌≡◌, ◌∙◌, ℕ, ◌<◌, ◌^◌, Bool, true, false, cond, not, ◌&&◌, ◌||◌, ◌==◌, nat_lt, nat_eq, List, [], ◌∷◌, ◌++◌, map, Option, Some, None, refl, sym, ap, subst, arith, bit_and}
+use Rattle.std.proofs.Common.{◌≡◌, ◌∙◌, ℕ, ◌<◌, ◌^◌, Bool, true, false, cond, not, ◌&&◌, ◌||◌, ◌==◌, nat_lt, nat_eq, List, [], ◌∷◌, ◌++◌, map, Option, Some, None, refl, sym, ap, subst}
 use Rattle.std.specs.List.{list_any, list_all, AllByRecursion}
 use Rattle.std.specs.Option.{option_map_or}
 use Rattle.std.specs.Ordering.{nat_cmp}
-use Rattle.std.specs.Int.{bit_at}
 use Rattle.std.specs.Int.Bits.{and_zero_r}
 use Rattle.std.proofs.lemmas.Nat.Bits.{bit_at_above}
 use Rattle.std.proofs.lemmas.Option.{none-some, same_Some}
@@ -20,7 +19,7 @@ use Rattle.ltl_formula.specs.LetterLoop.{LetterLoop, shape_of, letter_at, bit_ho
 use Rattle.ltl_formula.specs.Cubes.{has_bit, cube_matches}
 use Rattle.obligations.specs.Choices.{letter_bits, empty_choice, bit_choices, not_bit_choices, goes_on, puts_off, then_list, formed, product}
 use Rattle.obligations.specs.Expansion.{ChoiceTree, expansion_by, all_choices_by, any_choices_by, choices_from, expansion, choices}
-use Rattle.obligations.specs.Numbers.{ChoiceKey, number_in, formula_named, choice_named, IsWell}
+use Rattle.obligations.specs.Numbers.{ChoiceKey, number_in, formula_named, choice_named}
 use Rattle.obligations.specs.Obligations.{obligations, obligations_of_all, names_of}
 use Rattle.obligations.specs.StepLaw.{is_true_with, is_true, is_waited_for, is_good}
 use Rattle.obligations.proofs.FormulaNumbers.{is_named, numbered}
@@ -188,7 +187,7 @@ module _ (loop : LetterLoop) (i : ℕ) (position : IsPosition (shape_of loop) i)
       by None from agree = absurd (none-some cs (sym agree ∙ at))
       by (Some found) from agree =
           sym (set_expands (names_of fs) (names_rise fs) (empty_choice ∷ []) fs (empty_well (names_of fs) (names_rise fs), tt) (names_are_enough fs) found from
-            ∙ ap (λ b. (b || false) && list_all (λ f. holds loop f i) fs) (of_empty (names_of fs) (names_rise fs)))
+          ∙ ap (λ b. (b || false) && list_all (λ f. holds loop f i) fs) (of_empty (names_of fs) (names_rise fs)))
           ∙ sym (list_any-map (choice_named (names_of fs)) (is_true_with letter later test) found)
           ∙ ap (list_any (is_true_with letter later test)) (same_Some (map (choice_named (names_of fs)) found) cs (sym agree.0 ∙ at))
 
@@ -197,7 +196,7 @@ module _ (loop : LetterLoop) (i letter : ℕ) (set : List LtlTree) (cs : List Ch
   pub some_true : list_all (λ f. holds loop f i) set ≡ list_any (is_true loop i letter) cs
   some_true = set_law loop i position letter here fits (λ u. true)
       (λ a b. ap (λ u. holds loop b i || (holds loop a i && u)) (and_true (holds loop (until a b) (after (shape_of loop) i)))
-        ∙ sym (until_unrolls (shape_of loop) (holds loop a) (holds loop b) i position)) set cs at
+      ∙ sym (until_unrolls (shape_of loop) (holds loop a) (holds loop b) i position)) set cs at
 
   waits : (b a u : Bool) → (b || (a && (u && (u && not b)))) ≡ (b || (a && u))
   waits true a u = refl
@@ -208,4 +207,4 @@ module _ (loop : LetterLoop) (i letter : ℕ) (set : List LtlTree) (cs : List Ch
   pub some_good : list_all (λ f. holds loop f i) set ≡ list_any (is_good loop i letter) cs
   some_good = set_law loop i position letter here fits (is_waited_for loop i)
       (λ a b. waits (holds loop b i) (holds loop a i) (holds loop (until a b) (after (shape_of loop) i))
-        ∙ sym (until_unrolls (shape_of loop) (holds loop a) (holds loop b) i position)) set cs at
+      ∙ sym (until_unrolls (shape_of loop) (holds loop a) (holds loop b) i position)) set cs at

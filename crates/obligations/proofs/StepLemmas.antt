@@ -1,12 +1,12 @@
 -- The choices of a set over numbers are its choices.
-use Rattle.std.proofs.Common.{◌≡◌, ℕ, ◌<◌, length, true, nat_eq, List, [], ◌∷◌, map, Option, Some, None, refl, sym, ap, subst}
+use Rattle.std.proofs.Common.{◌≡◌, ℕ, ◌<◌, length, true, nat_eq, List, [], ◌∷◌, map, Some, None, sym, subst}
 use Rattle.std.specs.List.{AllByRecursion}
 use Rattle.std.specs.Ordering.{nat_cmp}
 use Rattle.ltl_formula.specs.LtlTree.{LtlTree}
 use Rattle.ltl_formula.specs.LtlOrder.{tree_cmp}
 use Rattle.ltl_formula.specs.Increasing.{IsIncreasing}
 use Rattle.obligations.specs.Choices.{empty_choice}
-use Rattle.obligations.specs.Expansion.{ChoiceTree, choices_from, choices}
+use Rattle.obligations.specs.Expansion.{choices_from, choices}
 use Rattle.obligations.specs.Numbers.{ChoiceKey, number_in, formula_named, choice_named, IsWell}
 use Rattle.obligations.specs.Obligations.{obligations, names_of}
 use Rattle.obligations.proofs.FormulaNumbers.{is_named, rises-named}

@@ -1,28 +1,27 @@
 -- When choices over numbers are true with a letter, by which formulas hold later and a test of what is put off.
-use Rattle.std.proofs.Common.{◌≡◌, ◌∙◌, ℕ, ◌<◌, ◌^◌, Bool, true, false, cond, not, ◌&&◌, ◌||◌, ◌==◌, nat_lt, nat_eq, List, [], ◌∷◌, ◌++◌, map, length, Option, Some, None, refl, sym, ap, arith, inl, inr, bit_and, bit_or, min, eq-eqb}
+use Rattle.std.proofs.Common.{◌≡◌, ◌∙◌, ℕ, ◌<◌, ◌^◌, Bool, true, false, cond, not, ◌&&◌, ◌||◌, ◌==◌, nat_lt, nat_eq, List, [], ◌∷◌, ◌++◌, map, length, Some, None, refl, sym, ap, arith, inl, inr, bit_and, bit_or, min, eq-eqb}
 use Rattle.std.specs.Prelude.{bit_xor}
-use Rattle.std.specs.List.{list_any, list_all, filter_map, cons_option, AllByRecursion}
+use Rattle.std.specs.List.{list_any, list_all, filter_map, cons_option}
 use Rattle.std.specs.Ordering.{nat_cmp}
 use Rattle.std.specs.Int.{bit_at}
-use Rattle.std.specs.Int.Bits.{and_zero_r}
 use Rattle.std.proofs.lemmas.Nat.{and_assoc, and_comm}
-use Rattle.std.proofs.lemmas.Nat.Bits.{bit_at_and, bit_at-lt, bit_at-zero, bit_at-pow_same, bit_at-pow_other, bit_at_above, same_from_bits}
+use Rattle.std.proofs.lemmas.Nat.Bits.{bit_at_and, bit_at-lt, bit_at-zero, bit_at-pow_same, bit_at-pow_other, same_from_bits}
 use Rattle.std.proofs.lemmas.Option.{none-some, same_Some}
-use Rattle.std.proofs.lemmas.Bool.{eqb-true, eqb-false, false≢true, and_parts, and_from}
+use Rattle.std.proofs.lemmas.Bool.{eqb-true, false≢true, and_parts, and_from}
 use Rattle.std.proofs.lemmas.Bool.Decides.{eqb_tells}
 use Rattle.sequence.proofs.Booleans.{same_tests}
-use Rattle.sequence.proofs.Each.{each_joined}
+use Rattle.sequence.proofs.Each.{each_joined, each_weaker}
 use Rattle.ltl_formula.specs.LtlTree.{LtlTree}
 use Rattle.ltl_formula.specs.LtlOrder.{tree_cmp}
-use Rattle.ltl_formula.specs.Increasing.{IsIncreasing, union}
+use Rattle.ltl_formula.specs.Increasing.{IsIncreasing}
 use Rattle.ltl_formula.specs.Cubes.{has_bit, cube_matches}
 use Rattle.ltl_formula.proofs.LtlOrderLaws.{equal_trees}
 use Rattle.ltl_formula.proofs.IncreasingLemmas.{all-union}
 use Rattle.obligations.specs.Choices.{is_subset, most_choices, joined, joins, product, formed, reduced, without_repeats}
-use Rattle.obligations.specs.Numbers.{ChoiceKey, formula_named, choice_named, IsWell}
+use Rattle.obligations.specs.Numbers.{ChoiceKey, formula_named, choice_named, IsWell, IsRising}
 use Rattle.obligations.specs.StepLaw.{is_true_with}
 use Rattle.obligations.proofs.CubeJoins.{matches_left, matches_right, matches_both, matches_apart}
-use Rattle.obligations.proofs.WithinLemmas.{Within, subset_passes}
+use Rattle.obligations.proofs.WithinLemmas.{Within, subset_passes, rising as rising_of}
 use Rattle.obligations.proofs.KeptChoices.{any_without_larger, any_without_repeats}
 use Rattle.obligations.proofs.NamedChoices.{AreWell, join, join_named, joins-named, reduced-named, repeats_well}
 
@@ -30,10 +29,10 @@ use Rattle.obligations.proofs.NamedChoices.{AreWell, join, join_named, joins-nam
 pub literal_is : (l b : ℕ) → (bit_and l (2 ^ b) == 2 ^ b) ≡ has_bit b l
 literal_is l b = same_tests (bit_and l (2 ^ b) == 2 ^ b) (bit_at l b == 1)
     (λ h.
-      let e = ap (λ n. bit_at n b) (eqb-true (bit_and l (2 ^ b)) (2 ^ b) h) in
-      let one = bit_at-pow_same b in
-      let both = bit_at_and l (2 ^ b) b in
-      eq-eqb (bit_at l b) 1 (omega (arith, e, one, both, bit_at-lt l b)))
+    let e = ap (λ n. bit_at n b) (eqb-true (bit_and l (2 ^ b)) (2 ^ b) h) in
+    let one = bit_at-pow_same b in
+    let both = bit_at_and l (2 ^ b) b in
+    eq-eqb (bit_at l b) 1 (omega (arith, e, one, both, bit_at-lt l b)))
     (λ h. eq-eqb (bit_and l (2 ^ b)) (2 ^ b) (same_from_bits (bit_and l (2 ^ b)) (2 ^ b) (λ i. bit_at_and l (2 ^ b) i ∙ each (eqb-true (bit_at l b) 1 h) i)))
   where
     each : bit_at l b ≡ 1 → (i : ℕ) → min (bit_at l i) (bit_at (2 ^ b) i) ≡ bit_at (2 ^ b) i
@@ -48,11 +47,11 @@ not_one n h e = ap (λ m. not (m == 1)) e
 pub literal_is_not : (l b : ℕ) → (bit_and l (2 ^ b) == 0) ≡ not (has_bit b l)
 literal_is_not l b = same_tests (bit_and l (2 ^ b) == 0) (not (bit_at l b == 1))
     (λ h.
-      let e = ap (λ n. bit_at n b) (eqb-true (bit_and l (2 ^ b)) 0 h) in
-      let one = bit_at-pow_same b in
-      let both = bit_at_and l (2 ^ b) b in
-      let zero_bit = bit_at-zero b in
-      not_one (bit_at l b) (bit_at-lt l b) (omega (arith, e, one, both, zero_bit, bit_at-lt l b)))
+    let e = ap (λ n. bit_at n b) (eqb-true (bit_and l (2 ^ b)) 0 h) in
+    let one = bit_at-pow_same b in
+    let both = bit_at_and l (2 ^ b) b in
+    let zero_bit = bit_at-zero b in
+    not_one (bit_at l b) (bit_at-lt l b) (omega (arith, e, one, both, zero_bit, bit_at-lt l b)))
     (λ h. eq-eqb (bit_and l (2 ^ b)) 0 (same_from_bits (bit_and l (2 ^ b)) 0 (λ i. bit_at_and l (2 ^ b) i ∙ each h i ∙ sym (bit_at-zero i))))
   where
     each : not (bit_at l b == 1) ≡ true → (i : ℕ) → min (bit_at l i) (bit_at (2 ^ b) i) ≡ 0
@@ -107,24 +106,24 @@ module _ (names : List LtlTree) (rising : IsIncreasing tree_cmp names) (letter :
       → cube_matches (bit_or c.care d.care) (bit_or c.want d.want) letter ≡ (cube_matches c.care c.want letter && cube_matches d.care d.want letter)
   cube_both c d p q apart = same_tests _ _
       (λ h.
-        let e = eqb-true (bit_and letter (bit_or c.care d.care)) (bit_or c.want d.want) h in
-        and_from (cube_matches c.care c.want letter) (cube_matches d.care d.want letter)
-          (eq-eqb (bit_and letter c.care) c.want (matches_left letter c.care c.want d.care d.want p.within q.within apart e))
-          (eq-eqb (bit_and letter d.care) d.want (matches_right letter c.care c.want d.care d.want p.within q.within apart e)))
+      let e = eqb-true (bit_and letter (bit_or c.care d.care)) (bit_or c.want d.want) h in
+      and_from (cube_matches c.care c.want letter) (cube_matches d.care d.want letter)
+      (eq-eqb (bit_and letter c.care) c.want (matches_left letter c.care c.want d.care d.want p.within q.within apart e))
+      (eq-eqb (bit_and letter d.care) d.want (matches_right letter c.care c.want d.care d.want p.within q.within apart e)))
       (λ h.
-        let parts = and_parts (cube_matches c.care c.want letter) (cube_matches d.care d.want letter) h in
-        eq-eqb (bit_and letter (bit_or c.care d.care)) (bit_or c.want d.want)
-          (matches_both letter c.care c.want d.care d.want (eqb-true (bit_and letter c.care) c.want parts.0) (eqb-true (bit_and letter d.care) d.want parts.1)))
+      let parts = and_parts (cube_matches c.care c.want letter) (cube_matches d.care d.want letter) h in
+      eq-eqb (bit_and letter (bit_or c.care d.care)) (bit_or c.want d.want)
+      (matches_both letter c.care c.want d.care d.want (eqb-true (bit_and letter c.care) c.want parts.0) (eqb-true (bit_and letter d.care) d.want parts.1)))
 
   true_join : (c d : ChoiceKey) → IsWell names c → IsWell names d → bit_and (bit_xor c.want d.want) (bit_and c.care d.care) ≡ 0 → t (join names rising c d) ≡ (t c && t d)
   true_join c d p q apart =
       ap (is_true_with letter later test) (join_named names rising c d p q)
       ∙ (λ k. cube_both c d p q apart k
-          && (all-union tree_cmp equal_trees later (map (formula_named names) c.next_set) (map (formula_named names) d.next_set) k
-            && all-union tree_cmp equal_trees test (map (formula_named names) c.postponed) (map (formula_named names) d.postponed) k))
+      && (all-union tree_cmp equal_trees later (map (formula_named names) c.next_set) (map (formula_named names) d.next_set) k
+      && all-union tree_cmp equal_trees test (map (formula_named names) c.postponed) (map (formula_named names) d.postponed) k))
       ∙ shuffle (cube_matches c.care c.want letter) (cube_matches d.care d.want letter)
-          (list_all later (map (formula_named names) c.next_set)) (list_all later (map (formula_named names) d.next_set))
-          (list_all test (map (formula_named names) c.postponed)) (list_all test (map (formula_named names) d.postponed))
+      (list_all later (map (formula_named names) c.next_set)) (list_all later (map (formula_named names) d.next_set))
+      (list_all test (map (formula_named names) c.postponed)) (list_all test (map (formula_named names) d.postponed))
 
   -- choices that are both true do not contradict each other
   contradict : (c d : ChoiceKey) → (bit_and (bit_xor c.want d.want) (bit_and c.care d.care) == 0) ≡ false → (t c && t d) ≡ false
@@ -175,10 +174,10 @@ module _ (names : List LtlTree) (rising : IsIncreasing tree_cmp names) (letter :
       let sets = and_parts (list_all later (map (formula_named names) x.next_set)) (list_all test (map (formula_named names) x.postponed)) parts.1 in
       let at : bit_and letter x.care ≡ x.want = eqb-true (bit_and letter x.care) x.want parts.0 in
       let cube : bit_and letter y.care ≡ y.want =
-        ap (bit_and letter) (sym w.care ∙ and_comm y.care x.care) ∙ sym (and_assoc y.care letter x.care) ∙ ap (λ n. bit_and n y.care) at ∙ w.want in
+      ap (bit_and letter) (sym w.care ∙ and_comm y.care x.care) ∙ sym (and_assoc y.care letter x.care) ∙ ap (λ n. bit_and n y.care) at ∙ w.want in
       and_from (cube_matches y.care y.want letter) _ (eq-eqb (bit_and letter y.care) y.want cube)
-        (and_from (list_all later (map (formula_named names) y.next_set)) _
-          (passes later y.next_set x.next_set w.next sets.0) (passes test y.postponed x.postponed w.postponed sets.1))
+      (and_from (list_all later (map (formula_named names) y.next_set)) _
+      (passes later y.next_set x.next_set w.next sets.0) (passes test y.postponed x.postponed w.postponed sets.1))
     where
       passes : (p : LtlTree → Bool) (ys xs : List ℕ) → is_subset nat_eq ys xs ≡ true → list_all p (map (formula_named names) xs) ≡ true → list_all p (map (formula_named names) ys) ≡ true
       passes p ys xs sub all =
@@ -187,7 +186,7 @@ module _ (names : List LtlTree) (rising : IsIncreasing tree_cmp names) (letter :
 
   any_reduced : (cs : List ChoiceKey) → AreWell names rising cs → list_any t (reduced nat_eq cs) ≡ list_any t cs
   any_reduced cs each =
-      any_without_larger names (without_repeats nat_eq cs) (repeats_well names rising cs each) t down ∙ any_without_repeats t cs
+      any_without_larger (without_repeats nat_eq cs) (each_weaker (IsWell names) IsRising (rising_of names) (without_repeats nat_eq cs) (repeats_well names rising cs each)) t down ∙ any_without_repeats t cs
 
   -- a list that was formed is true exactly where it was before it was reduced
   pub of_formed : (cs r : List ChoiceKey) → AreWell names rising cs → formed nat_eq cs ≡ Some r → AreWell names rising r × (list_any t r ≡ list_any t cs)

@@ -1,23 +1,21 @@
 -- Choices over numbers that lie within others: the order is one of inclusion, and a different one within is lighter.
-use Rattle.std.proofs.Common.{◌≡◌, ◌∙◌, ℕ, zero, suc, ◌+◌, ◌*◌, ◌/◌, ◌%◌, ◌<◌, ◌≤◌, Bool, true, false, not, ◌&&◌, ◌||◌, ◌==◌, nat_eq, List, [], ◌∷◌, length, ◌⊎◌, inl, inr, refl, sym, ap, arith, bit_and, eq-eqb}
-use Rattle.std.specs.Prelude.{count_ones}
+use Rattle.std.proofs.Common.{◌≡◌, ◌∙◌, ℕ, zero, suc, ◌+◌, ◌/◌, ◌%◌, ◌<◌, ◌≤◌, Bool, true, false, ◌&&◌, ◌==◌, nat_eq, List, [], ◌∷◌, length, ◌⊎◌, inl, inr, refl, sym, ap, arith, bit_and, eq-eqb}
 use Rattle.std.specs.List.{list_any, list_all, AllByRecursion}
 use Rattle.std.specs.Cmp.Lexicographic.{pointwise}
 use Rattle.std.specs.declared.cmp.Ordering.TheVariants.{Less}
 use Rattle.std.specs.Ordering.{nat_cmp}
 use Rattle.std.specs.Int.Count.{ones, ones_step}
 use Rattle.std.specs.Int.Bits.{and_step, and_self}
-use Rattle.std.specs.Str.{bytes_eq}
 use Rattle.std.proofs.lemmas.Nat.{and_assoc, and_comm}
-use Rattle.std.proofs.lemmas.Bool.{eqb-true, eqb-false, ltb-true, false≢true, and_parts, and_from, or_cases, or_left, or_right}
-use Rattle.std.proofs.lemmas.Bool.Decides.{eqb_tells}
+use Rattle.std.proofs.lemmas.Bool.{eqb-true, eqb-false, false≢true, and_parts, and_from, or_cases, or_left, or_right}
 use Rattle.std.proofs.lemmas.Slice.Eq.{bytes_eq-Decides}
 use Rattle.std.proofs.lemmas.Cmp.{ranked}
 use Rattle.sequence.proofs.Booleans.{eqb_self}
 use Rattle.ltl_formula.specs.LtlTree.{LtlTree}
 use Rattle.ltl_formula.specs.Increasing.{IsIncreasing}
 use Rattle.obligations.specs.Choices.{is_subset, same_choice, is_within}
-use Rattle.obligations.specs.Numbers.{ChoiceKey, IsWell}
+use Rattle.obligations.specs.Numbers.{ChoiceKey, IsWell, IsRising}
+use Rattle.obligations.specs.Rounds.{weight}
 
 -- a number whose bits are among those of another is it, or has fewer
 fewer_within : (d y x : ℕ) → y ≤ d → x ≤ d → bit_and y x ≡ y → (y ≡ x) ⊎ (ones y < ones x)
@@ -81,8 +79,8 @@ drop_first x xs [] above sub = refl
 drop_first x xs (y ∷ ys) above sub =
     let parts = and_parts (has (x ∷ xs) y) (is_subset nat_eq ys (x ∷ xs)) sub in
     and_from (has xs y) (is_subset nat_eq ys xs)
-      (elim (or_cases (nat_eq x y) (has xs y) parts.0) [ inl same ↦ (let e = eqb-true x y same in absurd (omega (arith, above.0))) | inr later ↦ later ])
-      (drop_first x xs ys above.1 parts.1)
+    (elim (or_cases (nat_eq x y) (has xs y) parts.0) [ inl same ↦ (let e = eqb-true x y same in absurd (omega (arith, above.0))) | inr later ↦ later ])
+    (drop_first x xs ys above.1 parts.1)
 
 each_above : (x : ℕ) (ys : List ℕ) → AllByRecursion (λ n. nat_cmp x n ≡ Less) ys → AllByRecursion (λ n. x < n) ys
 each_above x [] each = tt
@@ -163,9 +161,9 @@ within_is c d h =
 pub is_within_key : (c d : ChoiceKey) → Within c d → is_within nat_eq c d ≡ true
 is_within_key c d w =
     and_from ((bit_and c.care d.care == c.care) && (bit_and d.want c.care == c.want) && is_subset nat_eq c.next_set d.next_set) _
-      (and_from ((bit_and c.care d.care == c.care) && (bit_and d.want c.care == c.want)) _
-        (and_from (bit_and c.care d.care == c.care) _ (eq-eqb (bit_and c.care d.care) c.care w.care) (eq-eqb (bit_and d.want c.care) c.want w.want)) w.next)
-      w.postponed
+    (and_from ((bit_and c.care d.care == c.care) && (bit_and d.want c.care == c.want)) _
+    (and_from (bit_and c.care d.care == c.care) _ (eq-eqb (bit_and c.care d.care) c.care w.care) (eq-eqb (bit_and d.want c.care) c.want w.want)) w.next)
+    w.postponed
 
 pub within_trans : (x y z : ChoiceKey) → Within x y → Within y z → Within x z
 within_trans x y z p q = record {
@@ -177,30 +175,29 @@ within_trans x y z p q = record {
   postponed = subset_trans x.postponed y.postponed z.postponed p.postponed q.postponed;
 }
 
-abbrev pub weight : ChoiceKey → ℕ
-weight c = ones c.care + length c.next_set + length c.postponed
+pub rising : (names : List LtlTree) (c : ChoiceKey) → IsWell names c → IsRising c
+rising names c p = record { within = p.within; next_rises = p.next_rises; postponed_rises = p.postponed_rises }
 
-module _ (names : List LtlTree) where
-  pub within_itself : (c : ChoiceKey) → IsWell names c → Within c c
-  within_itself c p = record { care = and_self c.care; want = p.within; next = subset_itself c.next_set; postponed = subset_itself c.postponed }
+pub within_itself : (c : ChoiceKey) → IsRising c → Within c c
+within_itself c p = record { care = and_self c.care; want = p.within; next = subset_itself c.next_set; postponed = subset_itself c.postponed }
 
-  pub lighter : (y x : ChoiceKey) → IsWell names y → IsWell names x → Within y x → same_choice nat_eq y x ≡ false → weight y < weight x
-  lighter y x p q w different =
-      by (fewer_bits y.care x.care w.care) (fewer_members y.next_set x.next_set p.next_rises q.next_rises w.next)
-        (fewer_members y.postponed x.postponed p.postponed_rises q.postponed_rises w.postponed)
-    where
-      size : {A : Type 0} (m n : List A) → m ≡ n → length m ≡ length n
-      size m n e = ap length e
+pub lighter : (y x : ChoiceKey) → IsRising y → IsRising x → Within y x → same_choice nat_eq y x ≡ false → weight y < weight x
+lighter y x p q w different =
+    by (fewer_bits y.care x.care w.care) (fewer_members y.next_set x.next_set p.next_rises q.next_rises w.next)
+    (fewer_members y.postponed x.postponed p.postponed_rises q.postponed_rises w.postponed)
+  where
+    size : {A : Type 0} (m n : List A) → m ≡ n → length m ≡ length n
+    size m n e = ap length e
 
-      by : (y.care ≡ x.care) ⊎ (ones y.care < ones x.care) → (y.next_set ≡ x.next_set) ⊎ (length y.next_set < length x.next_set)
-          → (y.postponed ≡ x.postponed) ⊎ (length y.postponed < length x.postponed) → weight y < weight x
-      by (inl a) (inl b) (inl c) =
-          let want : y.want ≡ x.want = sym w.want ∙ ap (bit_and x.want) a ∙ q.within in
-          absurd (false≢true (sym different ∙ is_same_key y x a want b c))
-      by (inl a) (inl b) (inr c) = let k = ap ones a in let l = size y.next_set x.next_set b in omega arith
-      by (inl a) (inr b) (inl c) = let k = ap ones a in let l = size y.postponed x.postponed c in omega arith
-      by (inl a) (inr b) (inr c) = let k = ap ones a in omega arith
-      by (inr a) (inl b) (inl c) = let k = size y.next_set x.next_set b in let l = size y.postponed x.postponed c in omega arith
-      by (inr a) (inl b) (inr c) = let k = size y.next_set x.next_set b in omega arith
-      by (inr a) (inr b) (inl c) = let l = size y.postponed x.postponed c in omega arith
-      by (inr a) (inr b) (inr c) = omega arith
+    by : (y.care ≡ x.care) ⊎ (ones y.care < ones x.care) → (y.next_set ≡ x.next_set) ⊎ (length y.next_set < length x.next_set)
+        → (y.postponed ≡ x.postponed) ⊎ (length y.postponed < length x.postponed) → weight y < weight x
+    by (inl a) (inl b) (inl c) =
+        let want : y.want ≡ x.want = sym w.want ∙ ap (bit_and x.want) a ∙ q.within in
+        absurd (false≢true (sym different ∙ is_same_key y x a want b c))
+    by (inl a) (inl b) (inr c) = let k = ap ones a in let l = size y.next_set x.next_set b in omega arith
+    by (inl a) (inr b) (inl c) = let k = ap ones a in let l = size y.postponed x.postponed c in omega arith
+    by (inl a) (inr b) (inr c) = let k = ap ones a in omega arith
+    by (inr a) (inl b) (inl c) = let k = size y.next_set x.next_set b in let l = size y.postponed x.postponed c in omega arith
+    by (inr a) (inl b) (inr c) = let k = size y.next_set x.next_set b in omega arith
+    by (inr a) (inr b) (inl c) = let l = size y.postponed x.postponed c in omega arith
+    by (inr a) (inr b) (inr c) = omega arith

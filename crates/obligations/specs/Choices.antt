@@ -2,7 +2,7 @@
 -- of any type, which an order sorts: here formulas are their own names, and the code names them by numbers.
 -- Source: Gerth, Peled, Vardi, Wolper: Simple On-the-fly Automatic Verification of Linear Temporal Logic (PSTV 1995),
 -- the expansion of a node. Here choices that another one lies within are dropped, and untils that are put off are kept.
-use Rattle.std.specs.Prelude.{ℕ, ◌^◌, Bool, true, false, not, ◌&&◌, ◌==◌, List, [], ◌∷◌, ◌++◌, cond, length, filter, nat_lt, bit_and, bit_or, bit_xor, Option, None, Some}
+use Rattle.std.specs.Prelude.{ℕ, ◌^◌, Bool, not, ◌&&◌, ◌==◌, List, [], ◌∷◌, ◌++◌, cond, length, filter, nat_lt, bit_and, bit_or, bit_xor, Option, None, Some}
 use Rattle.std.specs.List.{list_any, list_all, filter_map}
 use Rattle.std.specs.declared.cmp.Ordering.{Ordering}
 use Rattle.std.specs.Cmp.Lexicographic.{pointwise}

@@ -1,5 +1,5 @@
 -- Choices over the numbers of formulas, as they lie in memory and without where they lie.
-use Rattle.std.specs.Prelude.{ℕ, ◌<◌, Bool, not, List, map, length, nat_eq, slice_get, Option, unwrap_or}
+use Rattle.std.specs.Prelude.{ℕ, ◌<◌, not, List, map, length, nat_eq, slice_get, Option, unwrap_or}
 use Rattle.std.specs.Borrow.{Bor}
 use Rattle.std.specs.List.{prefix_len, AllByRecursion}
 use Rattle.std.specs.Ordering.{nat_cmp}
@@ -53,3 +53,9 @@ pub record IsWell (names : List LtlTree) (c : ChoiceKey) : Type 0 where
   pub next_named : AllByRecursion (λ n. n < length names) c.next_set
   pub postponed_rises : IsIncreasing nat_cmp c.postponed
   pub postponed_named : AllByRecursion (λ n. n < length names) c.postponed
+
+-- the cube wants no bit that it does not ask for, and both sets rise
+pub record IsRising (c : ChoiceKey) : Type 0 where
+  pub within : IsWithin c.care c.want
+  pub next_rises : IsIncreasing nat_cmp c.next_set
+  pub postponed_rises : IsIncreasing nat_cmp c.postponed

@@ -19,6 +19,7 @@ mod naming;
 mod numbered;
 mod products;
 mod reducing;
+mod rounds;
 mod set;
 mod sets;
 mod step_error;

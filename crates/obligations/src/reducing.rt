@@ -5,6 +5,7 @@ ghost use Rattle.obligations.specs.Choices.{is_within, same_choice, without_repe
 ghost use Rattle.obligations.specs.Numbers.{choice_key, choice_keys};
 
 use crate::numbered::NumberedChoice;
+use crate::rounds::{are_rising, without_larger_by_rounds};
 use indexmap::IndexSet;
 use sequence::NoMemory;
 use std::alloc::Global;
@@ -44,7 +45,7 @@ fn is_larger(choices: &[NumberedChoice], choice: &NumberedChoice) -> bool
 }
 
 /// Adds an equal choice at the end of a list where a test says so.
-fn add_if(
+pub(crate) fn add_if(
     alloc: Global,
     list: &mut Vec<NumberedChoice>,
     choice: &NumberedChoice,
@@ -73,7 +74,8 @@ fn without_larger(
     Ok(kept)
 }
 
-/// The choices of a list, equal ones once, that no different one lies within. An `Err` says that
+/// The choices of a list, equal ones once, that no different one lies within: by rising weight where
+/// the sets rise, as those of expansions do, and otherwise by comparing each pair. An `Err` says that
 /// memory ran out.
 pub(crate) fn reduced(
     alloc: Global,
@@ -82,5 +84,8 @@ pub(crate) fn reduced(
     ensures { IfOk result (λ kept. choice_keys kept.items ≡ reduced nat_eq (choice_keys choices.items)) }
 {
     let distinct = without_repeats(alloc, choices)?;
+    if are_rising(distinct.as_slice()) {
+        return without_larger_by_rounds(alloc, distinct.as_slice());
+    }
     without_larger(alloc, distinct.as_slice())
 }

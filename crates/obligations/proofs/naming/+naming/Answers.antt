@@ -1,4 +1,4 @@
-use Rattle.std.proofs.Common.{◌≡◌, ◌∙◌, rules, sym, ap}
+use Rattle.std.proofs.Common.{◌∙◌, rules, sym, ap}
 use Rattle.ltl_formula.specs.declared.formula.LtlList.{the_lemmas}
 use Rattle.ltl_formula.specs.LtlTree.{more_formulas, ltl_tree, ltl_trees}
 use Rattle.obligations.proofs.NamingLemmas.{rest_step}

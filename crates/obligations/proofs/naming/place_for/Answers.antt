@@ -1,6 +1,5 @@
-use Rattle.obligations.specs.Numbers.{lent_trees}
 use Rattle.ltl_formula.specs.LtlTree.{ltl_tree}
-use Rattle.std.proofs.Common.{◌≡◌, ◌∙◌, sym}
+use Rattle.std.proofs.Common.{sym}
 use Rattle.obligations.proofs.NamingLemmas.{at_less, at_equal, at_greater}
 use Rattle.obligations.proofs.naming.place_for.Goals as goal
 

@@ -1,4 +1,4 @@
-use Rattle.std.proofs.Common.{◌≡◌, ◌∙◌, arith, sym, true≢false}
+use Rattle.std.proofs.Common.{◌∙◌, arith, sym, true≢false}
 use Rattle.obligations.proofs.SetLemmas.{when_there, when_absent, lower-le}
 use Rattle.obligations.proofs.sets.insert_member.Goals as goal
 
