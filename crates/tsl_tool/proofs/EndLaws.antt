@@ -1,10 +1,9 @@
 -- How the reply of a run comes of its source, and how the run ends.
 use Rattle.std.proofs.Common.{◌≡◌, ◌≢◌, ℕ, ◌+◌, ◌<◌, ◌≤◌, ◌⊎◌, Bool, true, false, List, [], ◌++◌, length, refl, ap, sym, ◌∙◌, subst, inl}
 use Rattle.std.proofs.Common.{inr, arith, length-append}
-use Rattle.std.specs.Prelude.{Option, Some, None, Result, Ok, Err, IfOk, cond, IsTrue}
-use Rattle.tsl_io.specs.Told.{before, after, TakesFirst, WhereTold}
+use Rattle.std.specs.Prelude.{Option, Some, None, Result, Ok, Err, IfOk, cond}
+use Rattle.tsl_io.specs.Told.{after, TakesFirst, WhereTold}
 use Rattle.tsl_report.specs.declared.fault.LimitName.TheVariants.{Text}
-use Rattle.tsl_report.specs.declared.fault.Fault.{Fault}
 use Rattle.tsl_report.specs.declared.fault.Fault.TheVariants.{Usage as WrongWords, Read, Large as PastLimit}
 use Rattle.tsl_tool.specs.declared.status.Status.{Status}
 use Rattle.tsl_tool.specs.declared.status.Status.TheVariants.{Done, No, Usage, Reading, Large, Spent, ReadFault, WriteFault, Memory}
@@ -15,7 +14,7 @@ use Rattle.tsl_tool.specs.Commands.{command_of, most_bytes}
 use Rattle.tsl_tool.specs.Effects.{Effect, HasFailed, NeverFailed, IsUntouched, IsWhole, IsCutOff, sink_of, other_sink, AreTold}
 use Rattle.tsl_tool.specs.internal.Sending.{IsSent, sent_whole, sent_in_part}
 use Rattle.tsl_tool.specs.Ends.{CountsReads, IsReplyTo, Ends, answered, cut_off, out_of_memory}
-use Rattle.tsl_tool.specs.Outcome.{CommandOutcome, Outcome, usage, source_failed, too_long, on_bytes}
+use Rattle.tsl_tool.specs.Outcome.{CommandOutcome, usage, source_failed, too_long, on_bytes}
 use Rattle.tsl_tool.specs.Promise.{Promise}
 use Rattle.tsl_tool.specs.Replies.{fault_reply}
 use Rattle.tsl_tool.specs.Statuses.{is_answer}

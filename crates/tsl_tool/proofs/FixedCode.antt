@@ -1,6 +1,6 @@
 -- What the code of fixed updates builds and answers, in the words of the definitions.
 use Rattle.std.proofs.Common.{◌≡◌, ℕ, ◌<◌, ◌==◌, true, ◌&&◌, List, [], ◌∷◌, ◌++◌, length, map, take, replicate, Option, Some, None}
-use Rattle.std.proofs.Common.{Contains, refl, sym, ap, subst, ◌∙◌}
+use Rattle.std.proofs.Common.{Contains, sym, ap, subst, ◌∙◌}
 use Rattle.std.specs.List.{list_all, flat_map}
 use Rattle.std.proofs.lemmas.Bool.{and_parts}
 use Rattle.sequence.proofs.Lists.{flat_map_agree}

@@ -1,6 +1,6 @@
 -- The program of a specification of fixed updates: it is a program, it can be written, and it realizes
 -- the specification.
-use Rattle.std.proofs.Common.{◌≡◌, ℕ, zero, suc, ◌+◌, ◌<◌, ◌==◌, Bool, true, false, not, ◌&&◌, ◌||◌, List, [], ◌∷◌, ◌++◌, length, map}
+use Rattle.std.proofs.Common.{◌≡◌, ℕ, zero, suc, ◌+◌, ◌<◌, ◌==◌, Bool, true, List, [], ◌∷◌, ◌++◌, length, map}
 use Rattle.std.proofs.Common.{take, Some, slice_get, Contains, IsTrue, inl, inr, refl, sym, ap, subst, ◌∙◌, lit≤, arith}
 use Rattle.std.specs.List.{list_all, list_any, flat_map}
 use Rattle.std.proofs.lemmas.Grind.{flat_map-append}

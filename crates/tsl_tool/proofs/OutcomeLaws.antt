@@ -1,7 +1,6 @@
 -- Which status and which text the reply of an outcome has, and what it promises.
 use Rattle.std.proofs.Common.{◌≡◌, ◌≢◌, ℕ, Bool, true, false, List, [], ◌∷◌, ◌++◌, refl, ap, sym, ◌∙◌, subst}
 use Rattle.std.specs.Prelude.{Option, Some, None}
-use Rattle.clause_core.specs.Literals.{Lit}
 use Rattle.refutation_check.specs.Checking.{Refusal, at_line, at_hint, unfinished, log_refusal}
 use Rattle.refutation_check.specs.CnfText.{CnfAnswer, is_cnf, form_at as cnf_form_at, too_many_variables, too_many_clauses, cnf_answer}
 use Rattle.refutation_check.specs.LogText.{LogAnswer, is_log, form_at as log_form_at, log_answer}
@@ -16,15 +15,14 @@ use Rattle.tsl_report.specs.FaultText.{fault_line, fault_text}
 use Rattle.flow_program.specs.ProgramText.{program_text}
 use Rattle.tsl_tool.specs.declared.status.Status.{Status}
 use Rattle.tsl_tool.specs.declared.status.Status.TheVariants.{Done, No, Usage, Reading, Large, Spent, ReadFault, WriteFault, Memory}
-use Rattle.tsl_tool.specs.declared.words.Sizes.{Sizes}
 use Rattle.tsl_tool.specs.declared.words.Command.{Command}
 use Rattle.tsl_tool.specs.declared.words.Command.TheVariants.{Synth, Recheck}
 use Rattle.tsl_tool.specs.declared.reply.Reply.{Reply}
 use Rattle.tsl_tool.specs.Commands.{command_of, most_bytes}
 use Rattle.tsl_tool.specs.Refusals.{IsFaultOf}
 use Rattle.tsl_tool.specs.Replies.{fault_status, fault_reply}
-use Rattle.tsl_tool.specs.Synth.{SynthOutcome, written, unbuilt, refused}
-use Rattle.tsl_tool.specs.Recheck.{RecheckOutcome, without_log, of_parts, IsFirstLineAt, head_line, verdict, log_reply, parts_reply}
+use Rattle.tsl_tool.specs.Synth.{written, unbuilt, refused}
+use Rattle.tsl_tool.specs.Recheck.{without_log, of_parts, IsFirstLineAt, head_line, verdict, parts_reply}
 use Rattle.tsl_tool.specs.Recheck.{recheck_reply, cnf_part, log_part}
 use Rattle.tsl_tool.specs.Outcome.{CommandOutcome, Outcome, usage, source_failed, too_long, on_bytes}
 use Rattle.tsl_tool.specs.Promise.{Promise}

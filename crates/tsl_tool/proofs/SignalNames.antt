@@ -1,5 +1,5 @@
 -- A name that may be written and is a signal is usable.
-use Rattle.std.proofs.Common.{◌≡◌, ℕ, ◌==◌, true, false, ◌&&◌, ◌||◌, IsTrue, List, Option, Some, None, slice_get, inl, inr, refl}
+use Rattle.std.proofs.Common.{◌≡◌, ℕ, ◌==◌, true, false, ◌&&◌, IsTrue, List, Option, Some, None, slice_get, inl, inr, refl}
 use Rattle.std.specs.List.{list_all}
 use Rattle.std.specs.Option.{option_map_or}
 use Rattle.std.specs.Str.{bytes_eq}

@@ -1,5 +1,5 @@
 -- The commands, their words, and the most bytes of what each reads.
-use Rattle.std.specs.Prelude.{◌≡◌, ℕ, ◌≤◌, Bool, true, false, cond, ◌&&◌, List, [], ◌∷◌, codes, Option, Some, None, option_map}
+use Rattle.std.specs.Prelude.{ℕ, ◌≤◌, Bool, true, false, cond, ◌&&◌, List, [], ◌∷◌, codes, Option, Some, None, option_map}
 use Rattle.std.specs.Str.{bytes_eq}
 use Rattle.tsl_tool.specs.declared.words.Sizes.{Sizes}
 use Rattle.tsl_tool.specs.declared.words.Command.{Command}

@@ -1,5 +1,5 @@
 -- The fault that is answered where a text is refused as a specification.
-use Rattle.std.specs.Prelude.{◌≡◌, ℕ, ◌+◌, ◌-◌, ◌≤◌, ◌==◌, List, length, take, drop, count_by}
+use Rattle.std.specs.Prelude.{◌≡◌, ℕ, ◌+◌, ◌-◌, ◌==◌, List, take, drop, count_by}
 use Rattle.tsl_text.specs.declared.places.Place.{Place}
 use Rattle.tsl_text.specs.Places.{IsColumn}
 use Rattle.tsl_reader.specs.declared.SpecError.{SpecError}

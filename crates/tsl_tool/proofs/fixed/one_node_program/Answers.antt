@@ -1,4 +1,4 @@
-use Rattle.std.proofs.Common.{◌∙◌, sym, map, [], ◌∷◌, ◌++◌}
+use Rattle.std.proofs.Common.{◌∙◌, map, [], ◌∷◌, ◌++◌}
 use Rattle.std.proofs.lemmas.List.{length-map}
 use Rattle.flow_program.specs.declared.node.Node.TheVariants.{Set}
 use Rattle.tsl_terms.specs.SpecView.{spec_tree}

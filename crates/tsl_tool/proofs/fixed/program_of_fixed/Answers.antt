@@ -1,4 +1,4 @@
-use Rattle.std.proofs.Common.{◌∙◌, refl, sym}
+use Rattle.std.proofs.Common.{refl, sym}
 use Rattle.tsl_terms.specs.SpecView.{spec_tree}
 use Rattle.tsl_tool.proofs.FixedCode.{fixed_if_noted, first_term_noted, not_fixed_if_unnoted}
 use Rattle.tsl_tool.proofs.fixed.program_of_fixed.Goals as goal
