@@ -4,6 +4,7 @@ use Rattle.std.specs.Prelude.{Option, Some, None, Ok, Err}
 use Rattle.token_readers.specs.Readers.{Fault, Answer, Reader, and_then, go_on, iterate_most, iterate, map_read}
 use Rattle.token_readers.specs.Exact.{Grammar, SameFirst, both_end, both_begin, Before, Outcome, gives, wrong, too_deep, ends_with, Says, Run, Agrees, Exact}
 use Rattle.token_readers.proofs.Runs.{same_first, before_map, run_after, map_same, same_read}
+use Rattle.token_readers.proofs.Terminals.{Turn}
 use Rattle.token_readers.proofs.Then.{IsThen, Fits, run_then, agrees_then}
 
 module _ {T V : Type 0} where
@@ -103,7 +104,7 @@ module _ {T S : Type 0} where
     pub follows : (s : S) (r : ℕ) (xs : List T) (t : S) → IsStep s r xs t → (x : T) → starts t x ≡ true → steps s x
     pub stops : (s : S) (x : T) → ends x → starts s x ≡ false
     pub weaker : (s : S) (x : T) → ends x → steps s x
-    pub exact : (s : S) → Exact (IsStep s) (steps s) room (reader s)
+    pub turn : (s : S) (x : T) → starts s x ≡ true → Turn (IsStep s) (steps s) room (reader s) x
 
   module _ {IsStep : S → Grammar T S} {steps : S → T → Type 0} {ends : T → Type 0} {room : ℕ} {step : S → List T → Option (Answer T S)} {starts : S → T → Bool} {reader : S → Reader T S} where
     pub step_shrinks : Stepping IsStep steps ends room step starts reader → Shrinks step
@@ -114,7 +115,7 @@ module _ {T S : Type 0} where
       by true e =
           let some : step s (x ∷ xs) ≡ Some (reader s (x ∷ xs)) = k.some s x xs e in
           let read : reader s (x ∷ xs) ≡ Ok (t, rest) = cc in
-          let front = taken (x ∷ xs) ((k.exact s).run (x ∷ xs)) t rest read in
+          let front = taken (x ∷ xs) ((k.turn s x e).run xs) t rest read in
           let first = k.begins s room front.0 t front.2 in
           let whole : suc (length xs) ≡ length (front.0 ++ rest) = ap length front.1 in
           let taken_some : length front.0 ≡ suc (length first.1) = ap length first.2 in
@@ -153,7 +154,7 @@ module _ {T S : Type 0} where
       by false e = record { front = []; rest = x ∷ rest; outcome = gives s; split = refl; reads = stays e; says = stop }
       by true e =
           run_after (λ t. t) [] (iterate step s) (goes e) (joined IsStep s)
-          (run_then (IsStep s) (AreSteps IsStep) (fits k s) room (reader s) (iterate step) (x ∷ rest) ((k.exact s).run (x ∷ rest)) (λ t left h.
+          (run_then (IsStep s) (AreSteps IsStep) (fits k s) room (reader s) (iterate step) (x ∷ rest) ((k.turn s x e).run rest) (λ t left h.
           further t left (step_shrinks k s (x ∷ rest) t left (k.some s x rest e ∙ ap Some h))))
 
     run_most : Stepping IsStep steps ends room step starts reader → (most : ℕ) (s : S) (xs : List T) → length xs < most → Run (AreSteps IsStep s) room (iterate step s) xs
@@ -180,6 +181,14 @@ module _ {T S : Type 0} where
         let read : iterate step s (first.0 ∷ (first.1 ++ ys)) ≡ and_then (reader s (first.0 ∷ (first.1 ++ ys))) (iterate step) = stepped k s first.0 (first.1 ++ ys) first.3 in
         ap (λ zs. iterate step s (zs ++ ys)) first.2 ∙ read ∙ ap (λ zs. and_then (reader s (zs ++ ys)) (iterate step)) (sym first.2)
 
+    step_again : Stepping IsStep steps ends room step starts reader → (r : ℕ) (s : S) (xs : List T) (t : S) → IsStep s r xs t → (rest : List T) → Before (steps s) rest →
+        Agrees room r t rest (reader s (xs ++ rest))
+    step_again k r s xs t h rest b =
+        let first = k.begins s r xs t h in
+        let derived : IsStep s r (first.0 ∷ first.1) t = rw first.2 at h in
+        let agrees : Agrees room r t rest (reader s (first.0 ∷ (first.1 ++ rest))) = (k.turn s first.0 first.3).again r first.1 t derived rest b in
+        rw first.2 agrees
+
     steps_again : Stepping IsStep steps ends room step starts reader → (r : ℕ) (s : S) (xs : List T) (t : S) → Steps IsStep r s xs t → (rest : List T) → Before ends rest →
         Agrees room r t rest (iterate step s (xs ++ rest))
     steps_again k r s xs t stop rest b = rw (ends_here k s rest b) (refl, refl)
@@ -187,7 +196,7 @@ module _ {T S : Type 0} where
         let further : Agrees room r u rest (iterate step t (g ++ rest)) = steps_again k r t g u m rest b in
         let whole : Agrees room r u rest (and_then (reader s (f ++ (g ++ rest))) (iterate step)) =
         agrees_then room r t u (g ++ rest) rest (reader s (f ++ (g ++ rest))) (iterate step)
-        ((k.exact s).again r f t h (g ++ rest) (before_steps k r s t f h g u m rest b)) further in
+        (step_again k r s f t h (g ++ rest) (before_steps k r s t f h g u m rest b)) further in
         rw (append_assoc, begun k s r f t h (g ++ rest)) whole
 
     -- as many steps as there are

@@ -82,6 +82,11 @@ module _ {T V : Type 0} where
   IsTail is make Low v r [] w = w ≡ v
   IsTail is make Low v r (x ∷ ys) w = (is x ≡ true) × ((u : V) × Up Low r ys u × (w ≡ make u))
 
+  pub lift_tail : (is : T → Bool) (make : V → V) (Low : Grammar T V) → ((r : ℕ) (xs : List T) (v : V) → Low r xs v → Low (suc (suc r)) xs v) → (v : V) (r : ℕ) (xs : List T) (w : V) →
+      IsTail is make Low v r xs w → IsTail is make Low v (suc (suc r)) xs w
+  lift_tail is make Low lift v r [] w h = h
+  lift_tail is make Low lift v r (x ∷ ys) w h = (h.0, (h.1.0, lift_up Low lift r ys h.1.0 h.1.1, h.1.2))
+
 module _ {L T V : Type 0} where
   pub tail_exact : (is : T → Bool) (make : V → V) {Low : Grammar T V} {lows ends : T → Type 0} {Holds : ℕ → L → Type 0} {room : ℕ} {reader : Reader T V} (v : V) (low : Option L)
       (pick : L → Reader T V) → ((k : ℕ) (l : L) → Holds k l → Exact Low lows k (pick l)) → Below Holds room low → reader [] ≡ Ok (v, []) →

@@ -4,7 +4,8 @@ use Rattle.std.proofs.lemmas.List.{append-nil}
 use Rattle.std.specs.Prelude.{Option, Some, None}
 use Rattle.token_readers.specs.Readers.{Answer, Reader, map_read, push, push_read, members}
 use Rattle.token_readers.specs.Exact.{Grammar, Exact}
-use Rattle.token_readers.proofs.Runs.{exact_map, exact_as}
+use Rattle.token_readers.proofs.Runs.{exact_as}
+use Rattle.token_readers.proofs.Terminals.{Turn, turn_map}
 use Rattle.token_readers.proofs.Iterates.{Steps, stop, more, Stepping, iterate_exact}
 
 module _ {T V : Type 0} where
@@ -23,7 +24,7 @@ module _ {T V : Type 0} where
     pub follows : (x : T) → starts x ≡ true → each x
     pub stops : (x : T) → ends x → starts x ≡ false
     pub weaker : (x : T) → ends x → each x
-    pub exact : Exact Is each room reader
+    pub turn : (x : T) → starts x ≡ true → Turn Is each room reader x
 
   -- a member after those that were read
   abbrev IsPushed : Grammar T V → List V → Grammar T (List V)
@@ -41,7 +42,7 @@ module _ {T V : Type 0} where
       follows = λ vs r xs ws h. k.follows;
       stops = λ vs. k.stops;
       weaker = λ vs. k.weaker;
-      exact = λ vs. exact_map (λ v. vs ++ v ∷ []) (λ r xs v h. (v, h, refl)) (λ r xs ws h. h) k.exact;
+      turn = λ vs x e. turn_map (λ v. vs ++ v ∷ []) (λ r xs v h. (v, h, refl)) (λ r xs ws h. h) (k.turn x e);
     }
 
   listed : (Is : Grammar T V) (r : ℕ) (vs : List V) (xs : List T) (ws : List V) → Steps (IsPushed Is) r vs xs ws → (us : List V) × AreAll Is r xs us × (ws ≡ vs ++ us)

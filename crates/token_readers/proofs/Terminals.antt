@@ -85,7 +85,22 @@ module _ {T V : Type 0} where
     again = λ r ys w h rest b. let is = only r ys w h in rw (is.0, is.1, e rest) (refl, refl);
   }
 
+module _ {T V : Type 0} where
+  pub turn_of : {Is : Grammar T V} {ends : T → Type 0} {room : ℕ} {reader : Reader T V} → Exact Is ends room reader → (x : T) → Turn Is ends room reader x
+  turn_of k x = record { run = λ rest. k.run (x ∷ rest); again = λ r ys v h rest b. k.again r (x ∷ ys) v h rest b }
+
 module _ {T U V : Type 0} where
+  -- another value of what is read
+  pub turn_map : {Is : Grammar T U} {Made : Grammar T V} {ends : T → Type 0} {room : ℕ} {reader : Reader T U} {x : T} (make : U → V) →
+      ((r : ℕ) (xs : List T) (u : U) → Is r xs u → Made r xs (make u)) → ((r : ℕ) (xs : List T) (v : V) → Made r xs v → (u : U) × Is r xs u × (v ≡ make u)) →
+      Turn Is ends room reader x → Turn Made ends room (λ xs. map_read make (reader xs)) x
+  turn_map {room = room} {reader = reader} {x = x} make to from k = record {
+    run = λ rest. run_after make [] (λ ys. map_read make (reader ys)) (λ ys same. refl) to (k.run rest);
+    again = λ r ys v h rest b.
+        let is = from r (x ∷ ys) v h in
+        rw is.2 (agrees_map make room r is.0 rest (reader (x ∷ (ys ++ rest))) (k.again r ys is.0 is.1 rest b));
+  }
+
   -- the terminal is taken, and another reader goes on
   pub turn_takes : {Goes : Grammar T U} {Is : Grammar T V} {goes ends : T → Type 0} {room : ℕ} {reader : Reader T V} {x : T} (make : U → V) (next : Reader T U) →
       ((rest : List T) → reader (x ∷ rest) ≡ map_read make (next rest)) → ((y : T) → ends y → goes y) →

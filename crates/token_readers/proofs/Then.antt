@@ -194,6 +194,12 @@ module _ {T V : Type 0} where
       follow : (r : ℕ) (v : V) (xs : List T) (w : V) → IsClosing is v r xs w → (rest : List T) → Before Any rest → Before ends (xs ++ rest)
       follow r v xs w h rest b = rw h.1 (follows h.0 h.2)
 
+module _ {T V W : Type 0} where
+  pub map_first : (A B : Grammar T V) (Next : V → Grammar T W) → ((r : ℕ) (xs : List T) (v : V) → A r xs v → B r xs v) → (r : ℕ) (xs : List T) (w : W) →
+      IsThen A Next r xs w → IsThen B Next r xs w
+  map_first A B Next to r xs w h =
+      record { value = h.value; front = h.front; tail = h.tail; split = h.split; first = to r h.front h.value h.first; second = h.second }
+
 module _ {T U V W : Type 0} where
   -- three forms one after another, by the first two or by the last two
   pub then_right : (A : Grammar T U) (B : U → Grammar T V) (C : V → Grammar T W) (r : ℕ) (xs : List T) (w : W) →

@@ -66,6 +66,11 @@ module _ {T S : Type 0} where
   iterate step s xs = iterate_most (suc (length xs)) step s xs
 
 module _ {T V : Type 0} where
+  -- the answer of a step or a member that was found; where none was, something else is wanted
+  abbrev pub found_or_wrong : Option (Answer T V) → Reader T V
+  found_or_wrong None xs = form_at xs
+  found_or_wrong (Some answer) xs = answer
+
   -- a member after those that were read
   abbrev pub push_read : List V → Option (Answer T V) → Option (Answer T (List V))
   push_read vs None = None
