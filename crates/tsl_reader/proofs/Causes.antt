@@ -17,10 +17,11 @@ use Rattle.tsl_reader.specs.declared.syntax.Part.{Part}
 use Rattle.tsl_reader.specs.declared.syntax.Part.TheVariants.{AssumeFirst, AssumeAlways, GuaranteeFirst, GuaranteeAlways}
 use Rattle.tsl_reader.specs.Syntax.{SectionSyntax}
 use Rattle.tsl_reader.specs.Grammar.{AreSections}
-use Rattle.tsl_reader.specs.Reading.{form, deep, sections}
+use Rattle.token_readers.specs.Readers.{form, deep}
+use Rattle.tsl_reader.specs.Reading.{sections}
 use Rattle.tsl_reader.specs.Naming.{names_of, numbered_list, formulas_in}
 use Rattle.tsl_reader.specs.Spells.{deepest, most_nodes, terminal_at, terminals, Derives, IsDerived, Spells, HasWrongToken, HasFormFault, HasDeepFault, HasTooManyNodes}
-use Rattle.tsl_reader.proofs.AgainSections.{one_tree}
+use Rattle.tsl_reader.proofs.ExactSections.{one_tree}
 use Rattle.tsl_reader.proofs.Faults.{form_is_within, deep_is_within, form_stops_all, form_begins, deep_stops, deep_begins, deep_goes_on, no_text}
 
 -- the tokens before one at a place, and those behind it

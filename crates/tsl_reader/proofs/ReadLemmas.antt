@@ -1,21 +1,22 @@
 -- One step of reading, over plain variables.
-use Rattle.std.proofs.Common.{◌≡◌, ℕ, zero, suc, ◌+◌, ◌-◌, List, [], ◌∷◌, length, refl, ap, ◌∙◌, arith}
+use Rattle.std.proofs.Common.{◌≡◌, ℕ, zero, suc, ◌+◌, ◌-◌, ◌<◌, List, [], ◌∷◌, length, get_or, refl, ap, sym, ◌∙◌, arith}
 use Rattle.std.proofs.lemmas.List.{length-map}
 use Rattle.std.proofs.lemmas.Grind.{common_steps}
 use Rattle.std.proofs.lemmas.Result.{err_from_is_err_and}
 use Rattle.std.specs.Prelude.{◌≤◌, Bool, true, false, Option, Some, None, Result, Ok, Err, IfErr, if◌then◌else◌, take, drop}
 use Rattle.std.specs.Result.{IsErrAnd}
-use Rattle.tsl_text.specs.declared.TokenKind.TheVariants.{OpenRound, CloseRound, CloseSquare, OpenBrace, CloseBrace, LeftArrow}
+use Rattle.tsl_text.specs.declared.TokenKind.TheVariants.{OpenRound, CloseRound, OpenBrace, LeftArrow}
+use Rattle.token_readers.specs.Readers.{Fault, form, deep, Answer, Reader, form_at, deep_at, closing, closed_by, and_then, map_read, below as below_level}
 use Rattle.tsl_reader.specs.declared.fault.ReadFault.{ReadFault}
 use Rattle.tsl_reader.specs.declared.fault.ReadFault.TheVariants.{Form, Deep, NoMemory}
 use Rattle.tsl_reader.specs.declared.terminals.Terminal.{Terminal as LentTerminal}
-use Rattle.tsl_reader.specs.Syntax.{Terminal, free, mark, TermSyntax, alone, FormulaSyntax, updated}
+use Rattle.tsl_reader.specs.Syntax.{Terminal, free, mark, TermSyntax, FormulaSyntax, updated}
 use Rattle.tsl_reader.specs.SyntaxView.{terminal_view, terminals_view, HasFault}
 use Rattle.tsl_reader.specs.declared.syntax.Part.{Part}
 use Rattle.tsl_reader.specs.declared.formulas.Form.{Form as GrammarForm}
 use Rattle.tsl_reader.specs.declared.formulas.Form.TheVariants.{Prefix, Implication, Equivalence, Formula}
 use Rattle.tsl_reader.specs.Forms.{reader_of, form_with}
-use Rattle.tsl_reader.specs.Reading.{Fault, Answer, Reader, and_then, lower, above, below as below_level, bracketed, form, deep, form_at, deep_at, begins_term, beyond, close_round, close_square, close_brace, item, items, section_made, update_with, Level, name_alone, behind_name, made, some_arguments, chain, argument, term_with}
+use Rattle.tsl_reader.specs.Reading.{is_close_brace, bracketed_formula, formulas, items, section_made, Level, is_close_round, is_close_square, lower, above, bracketed_term, begins_term, beyond, opened, term_with, update_with}
 
 pub no_level : (room : ℕ) → room ≡ 0 → lower room ≡ None
 unfolding lower
@@ -27,7 +28,95 @@ unfolding lower
 one_level zero below h = absurd (omega (arith, h))
 one_level (suc room) below h = let e : room ≡ below = omega (arith, h) in rw e refl
 
--- behind a name and an opening bracket, where there is no level below
+-- a fault that is passed on
+pub passed_on : {T : Type 0} (r : Result T ReadFault) (fault : ReadFault) (P : ReadFault → Type 0) →
+    IsErrAnd r (λ e. e ≡ fault) → P fault → IfErr r P
+passed_on r fault P h k = let p = err_from_is_err_and r h in rw (p.1, p.2) k
+
+-- the terminals after the first
+pub after_first : (xs : List LentTerminal) → 1 ≤ length xs →
+    (x : Terminal) × (terminals_view xs ≡ x ∷ terminals_view (take (length xs - 1) (drop 1 xs)))
+after_first [] h = absurd (omega (arith, h))
+after_first (x ∷ xs) h = (terminal_view x, grind (arith, common_steps))
+
+-- the first terminal, and the others
+pub first_view : (xs : List LentTerminal) (d : LentTerminal) → 1 ≤ length xs →
+    terminals_view xs ≡ terminal_view (get_or xs 0 d) ∷ terminals_view (take (length xs - 1) (drop 1 xs))
+first_view [] d h = absurd (omega (arith, h))
+first_view (x ∷ xs) d h = grind (arith, common_steps)
+
+-- a closing bracket, by its test
+pub close_read : (is : Terminal → Bool) (xs : List LentTerminal) (d : LentTerminal) → 1 ≤ length xs → is (terminal_view (get_or xs 0 d)) ≡ true →
+    closing is (tt {0}) (terminals_view xs) ≡ Ok (tt {0}, terminals_view (take (length xs - 1) (drop 1 xs)))
+unfolding closing
+close_read is xs d h e = rw (first_view xs d h, e) refl
+
+pub close_wrong : (is : Terminal → Bool) (xs : List LentTerminal) (d : LentTerminal) → 1 ≤ length xs → is (terminal_view (get_or xs 0 d)) ≡ false →
+    closing is (tt {0}) (terminals_view xs) ≡ Err (form (length xs))
+unfolding closing
+close_wrong is [] d h e = absurd (omega (arith, h))
+close_wrong is (x ∷ xs) d h e =
+    ap (λ b. if b then Ok (tt {0}, terminals_view xs) else form_at (terminals_view (x ∷ xs))) e ∙ ap (λ n. Err (form n)) (length-map (x ∷ xs) terminal_view)
+
+pub close_end : (is : Terminal → Bool) (xs : List LentTerminal) → length xs < 1 → closing is (tt {0}) (terminals_view xs) ≡ Err (form 0)
+unfolding closing
+close_end is [] h = refl
+close_end is (x ∷ xs) h = absurd (omega (arith, h))
+
+module _ {V W : Type 0} where
+  pub then_fault : (answer : Answer Terminal V) (next : V → Reader Terminal W) (fault : ReadFault) → HasFault answer fault → HasFault (and_then answer next) fault
+  then_fault answer next (Form left) h = rw h refl
+  then_fault answer next (Deep left) h = rw h refl
+  then_fault answer next NoMemory h = tt
+
+  pub map_fault : (make : V → W) (answer : Answer Terminal V) (fault : ReadFault) → HasFault answer fault → HasFault (map_read make answer) fault
+  map_fault make answer (Form left) h = rw h refl
+  map_fault make answer (Deep left) h = rw h refl
+  map_fault make answer NoMemory h = tt
+
+-- the terminals after what was read
+rest_of : {V : Type 0} → Answer Terminal V → List Terminal
+rest_of (Ok (v, rest)) = rest
+rest_of (Err fault) = []
+
+closing_value : {V : Type 0} (is : Terminal → Bool) (v : V) (xs rest : List Terminal) → closing is (tt {0}) xs ≡ Ok (tt {0}, rest) → closing is v xs ≡ Ok (v, rest)
+unfolding closing rest_of
+closing_value is v [] rest h = cc
+closing_value is v (x ∷ xs) rest h = by (is x) h where
+  by : (b : Bool) → (if b then Ok (tt {0}, xs) else form_at (x ∷ xs)) ≡ Ok (tt {0}, rest) → (if b then Ok (v, xs) else form_at (x ∷ xs)) ≡ Ok (v, rest)
+  by true h = let e : xs ≡ rest = ap rest_of h in rw e refl
+  by false h = cc
+
+closing_fault : {V : Type 0} (is : Terminal → Bool) (v : V) (xs : List Terminal) (fault : ReadFault) → HasFault (closing is (tt {0}) xs) fault → HasFault (closing is v xs) fault
+unfolding closing
+closing_fault is v [] (Form left) h = cc
+closing_fault is v [] (Deep left) h = cc
+closing_fault is v xs NoMemory h = tt
+closing_fault is v (x ∷ xs) (Form left) h = by (is x) h where
+  by : (b : Bool) → (if b then Ok (tt {0}, xs) else form_at (x ∷ xs)) ≡ Err (form left) → (if b then Ok (v, xs) else form_at (x ∷ xs)) ≡ Err (form left)
+  by true h = cc
+  by false h = cc
+closing_fault is v (x ∷ xs) (Deep left) h = by (is x) h where
+  by : (b : Bool) → (if b then Ok (tt {0}, xs) else form_at (x ∷ xs)) ≡ Err (deep left) → (if b then Ok (v, xs) else form_at (x ∷ xs)) ≡ Err (deep left)
+  by true h = cc
+  by false h = cc
+
+module _ {V : Type 0} where
+  -- a form and its closing bracket
+  pub closed_read : (is : Terminal → Bool) (reader : Reader Terminal V) (xs : List Terminal) (v : V) (rest after : List Terminal) → reader xs ≡ Ok (v, rest) →
+      closing is (tt {0}) rest ≡ Ok (tt {0}, after) → closed_by is reader xs ≡ Ok (v, after)
+  closed_read is reader xs v rest after h k = ap (λ answer. and_then answer (closing is)) h ∙ closing_value is v rest after k
+
+  pub closed_fault : (is : Terminal → Bool) (reader : Reader Terminal V) (xs : List Terminal) (v : V) (rest : List Terminal) (fault : ReadFault) → reader xs ≡ Ok (v, rest) →
+      HasFault (closing is (tt {0}) rest) fault → HasFault (closed_by is reader xs) fault
+  closed_fault is reader xs v rest fault h k = rw h (closing_fault is v rest fault k)
+
+  -- what is read of the level below, after the first terminal
+  pub below_is : (L : Type 0) (low : Option L) (l : L) (reader : L → Reader Terminal V) (xs : List LentTerminal) → low ≡ Some l → 1 ≤ length xs →
+      below_level low reader (terminals_view xs) ≡ reader l (terminals_view (take (length xs - 1) (drop 1 xs)))
+  below_is L low l reader xs h k = rw (h, (after_first xs k).1) refl
+
+-- after a name and an opening bracket, where there is no level below
 pub beyond_fault : (V : Type 0) (xs : List LentTerminal) (fault : ReadFault) →
     fault ≡ (if begins_term (terminals_view xs) then Deep (length xs) else Form (length xs)) →
     HasFault {V = V} (beyond (terminals_view xs)) fault
@@ -38,142 +127,74 @@ beyond_fault V xs fault h = rw h (by_test V (begins_term (terminals_view xs)) (l
     by_test V true e = ap (λ n. Err (deep n)) e
     by_test V false e = ap (λ n. Err (form n)) e
 
-pub alone_beyond : (room : ℕ) (name : List ℕ) (xs : List LentTerminal) (fault : ReadFault) → room ≡ 0 →
-    fault ≡ (if begins_term (terminals_view xs) then Deep (length xs) else Form (length xs)) →
-    HasFault (name_alone (lower room) name (mark OpenRound ∷ terminals_view xs)) fault
-unfolding lower name_alone
-alone_beyond zero name xs fault none h = beyond_fault _ xs fault h
-alone_beyond (suc room) name xs fault none h = absurd (omega (arith, none))
-
-pub alone_within : (room : ℕ) (name : List ℕ) (xs : List Terminal) → (room ≡ 0 → ⊥) →
-    name_alone (lower room) name xs ≡ Ok (alone name, xs)
-unfolding lower name_alone
-alone_within zero name xs some = absurd (some refl)
-alone_within (suc room) name xs some = refl
-
 -- whether a closing bracket stands at the front
 abbrev pub begins_close : List Terminal → Bool
 begins_close (mark CloseRound ∷ rest) = true
 begins_close _ = false
 
-open_name : (xs : List Terminal) → begins_close xs ≡ false → behind_name None (mark OpenRound ∷ xs) ≡ beyond xs
-unfolding behind_name
-open_name (mark CloseRound ∷ xs) h = cc
-open_name xs h = refl
+opened_beyond : (xs : List Terminal) → begins_close xs ≡ false → opened None xs ≡ beyond xs
+unfolding opened
+opened_beyond (mark CloseRound ∷ xs) h = cc
+opened_beyond xs h = refl
 
-pub behind_beyond : (room : ℕ) (xs : List LentTerminal) (fault : ReadFault) → room ≡ 0 → begins_close (terminals_view xs) ≡ false →
+pub not_opened : (room : ℕ) (xs : List LentTerminal) (fault : ReadFault) → lower room ≡ None → begins_close (terminals_view xs) ≡ false →
     fault ≡ (if begins_term (terminals_view xs) then Deep (length xs) else Form (length xs)) →
-    HasFault (behind_name (lower room) (mark OpenRound ∷ terminals_view xs)) fault
-unfolding lower
-behind_beyond zero xs fault none h e = rw (open_name (terminals_view xs) h) (beyond_fault _ xs fault e)
-behind_beyond (suc room) xs fault none h e = absurd (omega (arith, none))
+    HasFault (opened (lower room) (terminals_view xs)) fault
+not_opened room xs fault none h e = rw (none, opened_beyond (terminals_view xs) h) (beyond_fault (Option TermSyntax) xs fault e)
 
--- a fault that is passed on
-pub passed_on : {T : Type 0} (r : Result T ReadFault) (fault : ReadFault) (P : ReadFault → Type 0) →
-    IsErrAnd r (λ e. e ≡ fault) → P fault → IfErr r P
-passed_on r fault P h k = let p = err_from_is_err_and r h in rw (p.1, p.2) k
+opened_is : (low : Option Level) (l : Level) (xs : List Terminal) → low ≡ Some l → begins_close xs ≡ false → opened low xs ≡ map_read (λ t. Some t) (bracketed_term l xs)
+unfolding opened
+opened_is None l xs e h = cc
+opened_is (Some m) l (mark CloseRound ∷ xs) e h = cc
+opened_is (Some m) l xs e h = let same : m ≡ l = cc in rw same refl
 
--- behind the first terminal
-pub behind_first : (xs : List LentTerminal) → 1 ≤ length xs →
-    (x : Terminal) × (terminals_view xs ≡ x ∷ terminals_view (take (length xs - 1) (drop 1 xs)))
-behind_first [] h = absurd (omega (arith, h))
-behind_first (x ∷ xs) h = (terminal_view x, grind (arith, common_steps))
+pub opened_read : (room below : ℕ) (xs : List Terminal) (t : TermSyntax) (rest : List Terminal) → lower room ≡ Some (above (lower below)) → begins_close xs ≡ false →
+    bracketed_term (above (lower below)) xs ≡ Ok (t, rest) → opened (lower room) xs ≡ Ok (Some t, rest)
+opened_read room below xs t rest e h k =
+    opened_is (lower room) (above (lower below)) xs e h ∙ ap (map_read (λ t. Some t)) k
 
-and_then_fault : {V W : Type 0} (answer : Answer V) (next : V → Reader W) (fault : ReadFault) → HasFault answer fault → HasFault (and_then answer next) fault
-and_then_fault answer next (Form left) h = rw h refl
-and_then_fault answer next (Deep left) h = rw h refl
-and_then_fault answer next NoMemory h = tt
+pub opened_fault : (room below : ℕ) (xs : List Terminal) (fault : ReadFault) → lower room ≡ Some (above (lower below)) → begins_close xs ≡ false →
+    HasFault (bracketed_term (above (lower below)) xs) fault → HasFault (opened (lower room) xs) fault
+opened_fault room below xs fault e h k =
+    rw (opened_is (lower room) (above (lower below)) xs e h) (map_fault (λ t. Some t) (bracketed_term (above (lower below)) xs) fault k)
 
--- the terminals behind what was read
-abbrev rest_of : {V : Type 0} → Answer V → List Terminal
-rest_of (Ok (v, rest)) = rest
-rest_of (Err fault) = []
-
--- a closing bracket closes what stands before it
-closes : {V : Type 0} (v : V) (xs rest : List Terminal) → close_round (tt {0}) xs ≡ Ok (tt {0}, rest) → close_round v xs ≡ Ok (v, rest)
-unfolding close_round
-closes v (mark CloseRound ∷ xs) rest h = let e : xs ≡ rest = ap rest_of h in rw e refl
-closes v xs rest h = cc
-
-closes_not_at : {V : Type 0} (v : V) (xs : List Terminal) (fault : Fault) → close_round (tt {0}) xs ≡ Err fault → close_round v xs ≡ Err fault
-unfolding close_round
-closes_not_at v (mark CloseRound ∷ xs) fault h = cc
-closes_not_at v xs fault h = cc
-
-closes_not : {V : Type 0} (v : V) (xs : List Terminal) (fault : ReadFault) → HasFault (close_round (tt {0}) xs) fault → HasFault (close_round v xs) fault
-closes_not v xs (Form left) h = closes_not_at v xs (form left) h
-closes_not v xs (Deep left) h = closes_not_at v xs (deep left) h
-closes_not v xs NoMemory h = tt
-
-closes_square : {V : Type 0} (v : V) (xs rest : List Terminal) → close_square (tt {0}) xs ≡ Ok (tt {0}, rest) → close_square v xs ≡ Ok (v, rest)
-unfolding close_square
-closes_square v (mark CloseSquare ∷ xs) rest h = let e : xs ≡ rest = ap rest_of h in rw e refl
-closes_square v xs rest h = cc
-
-closes_square_not_at : {V : Type 0} (v : V) (xs : List Terminal) (fault : Fault) → close_square (tt {0}) xs ≡ Err fault → close_square v xs ≡ Err fault
-unfolding close_square
-closes_square_not_at v (mark CloseSquare ∷ xs) fault h = cc
-closes_square_not_at v xs fault h = cc
-
-closes_square_not : {V : Type 0} (v : V) (xs : List Terminal) (fault : ReadFault) → HasFault (close_square (tt {0}) xs) fault → HasFault (close_square v xs) fault
-closes_square_not v xs (Form left) h = closes_square_not_at v xs (form left) h
-closes_square_not v xs (Deep left) h = closes_square_not_at v xs (deep left) h
-closes_square_not v xs NoMemory h = tt
-
-pub made_fault : {V W : Type 0} (make : V → W) (answer : Answer V) (fault : ReadFault) → HasFault answer fault → HasFault (made make answer) fault
-made_fault make answer (Form left) h = rw h refl
-made_fault make answer (Deep left) h = rw h refl
-made_fault make answer NoMemory h = tt
-
--- an update
+-- ---- an update
 
 pub updated_read : (l : Option Level) (name : List ℕ) (xs : List Terminal) (t : TermSyntax) (rest after : List Terminal) →
-    term_with l xs ≡ Ok (t, rest) → close_square (tt {0}) rest ≡ Ok (tt {0}, after) →
+    term_with l xs ≡ Ok (t, rest) → closing is_close_square (tt {0}) rest ≡ Ok (tt {0}, after) →
     update_with l (free name ∷ mark LeftArrow ∷ xs) ≡ Ok (updated name t, after)
 unfolding update_with
-updated_read l name xs t rest after h k = rw (h, closes_square t rest after k) refl
+updated_read l name xs t rest after h k = ap (map_read (updated name)) (closed_read is_close_square (term_with l) xs t rest after h k)
 
 pub unclosed_update : (l : Option Level) (name : List ℕ) (xs : List Terminal) (t : TermSyntax) (rest : List Terminal) (fault : ReadFault) →
-    term_with l xs ≡ Ok (t, rest) → HasFault (close_square (tt {0}) rest) fault →
+    term_with l xs ≡ Ok (t, rest) → HasFault (closing is_close_square (tt {0}) rest) fault →
     HasFault (update_with l (free name ∷ mark LeftArrow ∷ xs)) fault
 unfolding update_with
-unclosed_update l name xs t rest fault h k = rw h (made_fault (updated name) (close_square t rest) fault (closes_square_not t rest fault k))
+unclosed_update l name xs t rest fault h k =
+    map_fault (updated name) (closed_by is_close_square (term_with l) xs) fault (closed_fault is_close_square (term_with l) xs t rest fault h k)
 
--- the items of a section between their braces
-
-closes_brace : {V : Type 0} (v : V) (xs rest : List Terminal) → close_brace (tt {0}) xs ≡ Ok (tt {0}, rest) → close_brace v xs ≡ Ok (v, rest)
-unfolding close_brace
-closes_brace v (mark CloseBrace ∷ xs) rest h = let e : xs ≡ rest = ap rest_of h in rw e refl
-closes_brace v xs rest h = cc
-
-closes_brace_not_at : {V : Type 0} (v : V) (xs : List Terminal) (fault : Fault) → close_brace (tt {0}) xs ≡ Err fault → close_brace v xs ≡ Err fault
-unfolding close_brace
-closes_brace_not_at v (mark CloseBrace ∷ xs) fault h = cc
-closes_brace_not_at v xs fault h = cc
-
-closes_brace_not : {V : Type 0} (v : V) (xs : List Terminal) (fault : ReadFault) → HasFault (close_brace (tt {0}) xs) fault → HasFault (close_brace v xs) fault
-closes_brace_not v xs (Form left) h = closes_brace_not_at v xs (form left) h
-closes_brace_not v xs (Deep left) h = closes_brace_not_at v xs (deep left) h
-closes_brace_not v xs NoMemory h = tt
+-- ---- the items of a section between their braces
 
 pub items_read : (room : ℕ) (part : Part) (xs : List Terminal) (fs : List FormulaSyntax) (rest after : List Terminal) →
-    chain (item room) xs ≡ Ok (fs, rest) → close_brace (tt {0}) rest ≡ Ok (tt {0}, after) →
+    formulas room xs ≡ Ok (fs, rest) → closing is_close_brace (tt {0}) rest ≡ Ok (tt {0}, after) →
     items room part (mark OpenBrace ∷ xs) ≡ Ok (section_made part fs, after)
 unfolding items
-items_read room part xs fs rest after h k = rw (h, closes_brace fs rest after k) refl
+items_read room part xs fs rest after h k = ap (map_read (section_made part)) (closed_read is_close_brace (formulas room) xs fs rest after h k)
 
 pub items_unclosed : (room : ℕ) (part : Part) (xs : List Terminal) (fs : List FormulaSyntax) (rest : List Terminal) (fault : ReadFault) →
-    chain (item room) xs ≡ Ok (fs, rest) → HasFault (close_brace (tt {0}) rest) fault →
+    formulas room xs ≡ Ok (fs, rest) → HasFault (closing is_close_brace (tt {0}) rest) fault →
     HasFault (items room part (mark OpenBrace ∷ xs)) fault
 unfolding items
 items_unclosed room part xs fs rest fault h k =
-    rw h (made_fault (section_made part) (close_brace fs rest) fault (closes_brace_not fs rest fault k))
+    map_fault (section_made part) (closed_by is_close_brace (formulas room) xs) fault (closed_fault is_close_brace (formulas room) xs fs rest fault h k)
 
--- a form below, behind the first terminal
-pub form_behind_first : (room below : ℕ) (kind : GrammarForm) (xs : List LentTerminal) → lower room ≡ Some (above (lower below)) → 1 ≤ length xs →
+-- ---- a form of the level below
+
+-- after the first terminal
+pub form_after_first : (room below : ℕ) (kind : GrammarForm) (xs : List LentTerminal) → lower room ≡ Some (above (lower below)) → 1 ≤ length xs →
     below_level (lower room) (reader_of kind) (terminals_view xs) ≡ form_with kind (lower below) (terminals_view (take (length xs - 1) (drop 1 xs)))
 unfolding above
-form_behind_first room below kind xs h k = rw (h, (behind_first xs k).1) (by_form kind)
+form_after_first room below kind xs h k = rw (h, (after_first xs k).1) (by_form kind)
   where
     by_form : (kind : GrammarForm) → reader_of kind (above (lower below)) (terminals_view (take (length xs - 1) (drop 1 xs)))
         ≡ form_with kind (lower below) (terminals_view (take (length xs - 1) (drop 1 xs)))
@@ -182,59 +203,20 @@ form_behind_first room below kind xs h k = rw (h, (behind_first xs k).1) (by_for
     by_form Equivalence = refl
     by_form Formula = refl
 
--- a formula in brackets
-
-below_bracketed : {V : Type 0} (l : Option Level) (reader : Level → Reader V) (xs : List Terminal) →
-    below_level l (λ m. bracketed (reader m)) xs ≡ and_then (below_level l reader xs) close_round
-below_bracketed None reader xs = refl
-below_bracketed (Some m) reader [] = refl
-below_bracketed (Some m) reader (x ∷ xs) = refl
+-- in brackets
+below_bracketed : (l : Option Level) (xs : List Terminal) →
+    below_level l bracketed_formula xs ≡ and_then (below_level l (reader_of Formula) xs) (closing is_close_round)
+below_bracketed None xs = refl
+below_bracketed (Some m) [] = refl
+below_bracketed (Some m) (x ∷ xs) = refl
 
 pub formula_in_brackets : (l : Option Level) (xs : List Terminal) (f : FormulaSyntax) (rest after : List Terminal) →
-    below_level l (reader_of Formula) xs ≡ Ok (f, rest) → close_round (tt {0}) rest ≡ Ok (tt {0}, after) →
-    below_level l (λ m. bracketed m.formula) xs ≡ Ok (f, after)
-formula_in_brackets l xs f rest after h k =
-    below_bracketed l (reader_of Formula) xs ∙ ap (λ answer. and_then answer close_round) h ∙ closes f rest after k
+    below_level l (reader_of Formula) xs ≡ Ok (f, rest) → closing is_close_round (tt {0}) rest ≡ Ok (tt {0}, after) →
+    below_level l bracketed_formula xs ≡ Ok (f, after)
+formula_in_brackets l xs f rest after h k = below_bracketed l xs ∙ closed_read is_close_round (below_level l (reader_of Formula)) xs f rest after h k
 
 pub formula_unclosed : (l : Option Level) (xs : List Terminal) (f : FormulaSyntax) (rest : List Terminal) (fault : ReadFault) →
-    below_level l (reader_of Formula) xs ≡ Ok (f, rest) → HasFault (close_round (tt {0}) rest) fault →
-    HasFault (below_level l (λ m. bracketed m.formula) xs) fault
+    below_level l (reader_of Formula) xs ≡ Ok (f, rest) → HasFault (closing is_close_round (tt {0}) rest) fault →
+    HasFault (below_level l bracketed_formula xs) fault
 formula_unclosed l xs f rest fault h k =
-    rw (below_bracketed l (reader_of Formula) xs ∙ ap (λ answer. and_then answer close_round) h) (closes_not f rest fault k)
-
--- a term in brackets
-
-pub bracketed_fault : (room below : ℕ) (xs : List LentTerminal) (fault : ReadFault) → lower room ≡ Some (above (lower below)) → 1 ≤ length xs →
-    HasFault (term_with (lower below) (terminals_view (take (length xs - 1) (drop 1 xs)))) fault →
-    HasFault (below_level (lower room) (λ l. bracketed l.term) (terminals_view xs)) fault
-unfolding above
-bracketed_fault room below xs fault h k e =
-    let front = behind_first xs k in
-    rw (h, front.1) (and_then_fault (term_with (lower below) (terminals_view (take (length xs - 1) (drop 1 xs)))) close_round fault e)
-
-pub unclosed_fault : (room below : ℕ) (xs : List LentTerminal) (t : TermSyntax) (rest : List Terminal) (fault : ReadFault) →
-    lower room ≡ Some (above (lower below)) → 1 ≤ length xs →
-    term_with (lower below) (terminals_view (take (length xs - 1) (drop 1 xs))) ≡ Ok (t, rest) →
-    HasFault (close_round (tt {0}) rest) fault →
-    HasFault (below_level (lower room) (λ l. bracketed l.term) (terminals_view xs)) fault
-unfolding above
-unclosed_fault room below xs t rest fault h k read e =
-    let front = behind_first xs k in
-    rw (h, front.1, read) (closes_not t rest fault e)
-
-pub bracketed_read : (room below : ℕ) (xs : List LentTerminal) (t : TermSyntax) (rest after : List Terminal) →
-    lower room ≡ Some (above (lower below)) → 1 ≤ length xs →
-    term_with (lower below) (terminals_view (take (length xs - 1) (drop 1 xs))) ≡ Ok (t, rest) →
-    close_round (tt {0}) rest ≡ Ok (tt {0}, after) →
-    below_level (lower room) (λ l. bracketed l.term) (terminals_view xs) ≡ Ok (t, after)
-unfolding above
-bracketed_read room below xs t rest after h k read e =
-    let front = behind_first xs k in
-    rw (h, front.1, read) (closes t rest after e)
-
-pub behind_within : (room : ℕ) (xs : List Terminal) → (room ≡ 0 → ⊥) → begins_close xs ≡ false →
-    behind_name (lower room) (mark OpenRound ∷ xs) ≡ made some_arguments (chain (argument (lower room)) (mark OpenRound ∷ xs))
-unfolding lower behind_name
-behind_within zero xs some h = absurd (some refl)
-behind_within (suc room) (mark CloseRound ∷ xs) some h = cc
-behind_within (suc room) xs some h = refl
+    rw (below_bracketed l xs) (closed_fault is_close_round (below_level l (reader_of Formula)) xs f rest fault h k)

@@ -17,14 +17,15 @@ use Rattle.tsl_reader.specs.declared.syntax.Part.{Part}
 use Rattle.tsl_reader.specs.declared.syntax.Part.TheVariants.{AssumeFirst, AssumeAlways, GuaranteeFirst, GuaranteeAlways}
 use Rattle.tsl_reader.specs.declared.terminals.Terminal.{Terminal as LentTerminal}
 use Rattle.tsl_reader.specs.Syntax.{Terminal, FormulaSyntax, SectionSyntax}
-use Rattle.tsl_reader.specs.Reading.{form, deep, sections}
+use Rattle.token_readers.specs.Readers.{form, deep}
+use Rattle.tsl_reader.specs.Reading.{sections}
 use Rattle.tsl_reader.specs.Naming.{Use, all_uses, written_uses, named_by, names_of, numbered_list, formulas_in}
 use Rattle.tsl_reader.specs.Numbering.{HasNumbers}
 use Rattle.tsl_reader.specs.Spells.{deepest, terminal_at, terminals, is_free, name_tokens, Derives, HasFormFault, HasDeepFault, HasClashAt, IsDerived, Spells, HasTooManyNodes, most_nodes}
 use Rattle.tsl_reader.specs.SyntaxView.{terminals_view}
 use Rattle.tsl_reader.proofs.Faults.{form_is_within}
 use Rattle.tsl_reader.proofs.Causes.{form_at_token, form_at_end, deep_at_token, deep_has_token}
-use Rattle.tsl_reader.proofs.AgainSections.{sections_derive}
+use Rattle.tsl_reader.proofs.ExactSections.{sections_derive}
 use Rattle.tsl_reader.proofs.Counts.{uses_within}
 use Rattle.tsl_reader.proofs.NameBounds.{names_within, firsts_within}
 use Rattle.tsl_reader.proofs.Results.{list_of_part}

@@ -1,100 +1,52 @@
--- Reading terminals, as functions that compute it. Each gives what is read at the front and the terminals behind it,
--- or the first fault.
-use Rattle.std.specs.Prelude.{ℕ, zero, suc, Bool, true, false, List, [], ◌∷◌, length, Option, Some, None, Result, Ok, Err, if◌then◌else◌}
+-- Reading terminals, as functions that compute. Each gives what is read at the front and the terminals after it,
+-- or the first fault. Each decides by its first terminal.
+use Rattle.std.specs.Prelude.{ℕ, zero, suc, Bool, true, false, List, [], ◌∷◌, ◌++◌, Option, Some, None, Ok, if◌then◌else◌}
 use Rattle.tsl_text.specs.declared.TokenKind.TheVariants.{OpenBrace, CloseBrace, OpenRound, CloseRound, OpenSquare, CloseSquare, Semicolon, And, Or, Arrow, BothArrow, LeftArrow}
+use Rattle.token_readers.specs.Readers.{Answer, Reader, form_at, deep_at, closed_by, and_then, map_read, iterate, members, below}
 use Rattle.tsl_reader.specs.declared.syntax.Word.TheVariants.{Assume, Guarantee, Always, Initially, True, False}
 use Rattle.tsl_terms.specs.declared.operator.UnaryOperator.{UnaryOperator}
 use Rattle.tsl_terms.specs.declared.operator.BinaryOperator.{BinaryOperator}
 use Rattle.tsl_terms.specs.declared.operator.BinaryOperator.TheVariants.{Implication, Equivalence}
+use Rattle.tsl_reader.specs.declared.syntax.Closer.{Closer}
+use Rattle.tsl_reader.specs.declared.syntax.Closer.TheVariants.{Round, Square, Brace}
 use Rattle.tsl_reader.specs.declared.syntax.Part.{Part}
 use Rattle.tsl_reader.specs.declared.syntax.Part.TheVariants.{AssumeFirst, AssumeAlways, GuaranteeFirst, GuaranteeAlways}
 use Rattle.tsl_reader.specs.Syntax.{Terminal, free, word, mark, TermSyntax, alone, applied, no_terms, terms_of, FormulaSyntax, truth, falsehood, bare, tested, updated, under, between, all_of, any_of, SectionSyntax}
 use Rattle.tsl_reader.specs.Grammar.{unary_of, temporal_of}
 
--- The first fault, by how many terminals are left where it stands: no text of the grammar without a bound on levels
--- goes on with that terminal, or only texts with a level above the bound do.
-pub data Fault : Type 0 where
-  form : (left : ℕ) → Fault
-  deep : (left : ℕ) → Fault
+abbrev pub is_close_round : Terminal → Bool
+is_close_round (mark CloseRound) = true
+is_close_round _ = false
 
--- what was read and what is left, or the first fault
-abbrev pub Answer : Type 0 → Type 0
-Answer V = Result (V × List Terminal) Fault
+abbrev pub is_close_square : Terminal → Bool
+is_close_square (mark CloseSquare) = true
+is_close_square _ = false
 
-abbrev pub Reader : Type 0 → Type 0
-Reader V = List Terminal → Answer V
+abbrev pub is_close_brace : Terminal → Bool
+is_close_brace (mark CloseBrace) = true
+is_close_brace _ = false
 
--- a form fault at the front
-abbrev pub form_at : {V : Type 0} → Reader V
-form_at xs = Err (form (length xs))
-
--- a level too many at the front
-abbrev pub deep_at : {V : Type 0} → Reader V
-deep_at xs = Err (deep (length xs))
-
-module _ {V W : Type 0} where
-  -- what was read, and then what is read behind it
-  abbrev pub and_then : Answer V → (V → Reader W) → Answer W
-  and_then (Err fault) next = Err fault
-  and_then (Ok (v, rest)) next = next v rest
-
-  -- what is made of what was read
-  abbrev pub made : (V → W) → Answer V → Answer W
-  made make (Err fault) = Err fault
-  made make (Ok (v, rest)) = Ok (make v, rest)
-
-module _ {V : Type 0} where
-  -- a member in front of the members that were read
-  abbrev pub in_front : V → Answer (List V) → Answer (List V)
-  in_front v (Err fault) = Err fault
-  in_front v (Ok (vs, rest)) = Ok (v ∷ vs, rest)
-
-  -- a member where one was read, and then the further members; no member where the chain ends
-  abbrev pub linked : List Terminal → Option (Answer V) → Reader (List V) → Answer (List V)
-  linked xs None further = Ok ([], xs)
-  linked xs (Some (Err fault)) further = Err fault
-  linked xs (Some (Ok (v, rest))) further = in_front v (further rest)
-
-  -- A chain of at most so many members. `member` reads one, or says that the chain ends.
-  unfoldable pub chain_of : ℕ → (List Terminal → Option (Answer V)) → Reader (List V)
-  chain_of zero member xs = Ok ([], xs)
-  chain_of (suc most) member xs = linked xs (member xs) (chain_of most member)
-
-  -- a chain: each member takes a terminal at least, so there are not more members than terminals
-  unfoldable pub chain : (List Terminal → Option (Answer V)) → Reader (List V)
-  chain member xs = chain_of (suc (length xs)) member xs
-
-  -- what was read, where the closing mark follows
-  unfoldable pub close_round : V → Reader V
-  close_round v (mark CloseRound ∷ rest) = Ok (v, rest)
-  close_round v xs = form_at xs
-
-  unfoldable pub close_square : V → Reader V
-  close_square v (mark CloseSquare ∷ rest) = Ok (v, rest)
-  close_square v xs = form_at xs
-
-  unfoldable pub close_brace : V → Reader V
-  close_brace v (mark CloseBrace ∷ rest) = Ok (v, rest)
-  close_brace v xs = form_at xs
-
-  -- a form behind its opening bracket, and the closing one
-  abbrev pub bracketed : Reader V → Reader V
-  bracketed inner xs = and_then (inner xs) close_round
+-- whether the terminal closes brackets of this kind
+abbrev pub closes : Closer → Terminal → Bool
+closes Round = is_close_round
+closes Square = is_close_square
+closes Brace = is_close_brace
 
 -- the readers of one level
 pub record Level : Type 0 where
-  pub term : Reader TermSyntax
-  pub prefix : Reader FormulaSyntax
-  pub imp : Reader FormulaSyntax
-  pub iff : Reader FormulaSyntax
-  pub formula : Reader FormulaSyntax
+  pub term : Reader Terminal TermSyntax
+  pub prefix : Reader Terminal FormulaSyntax
+  pub imp : Reader Terminal FormulaSyntax
+  pub iff : Reader Terminal FormulaSyntax
+  pub formula : Reader Terminal FormulaSyntax
 
--- What the level below reads behind the first of these terminals. Where there is no level below, the first one is a
--- level too many.
-abbrev pub below : {V : Type 0} → Option Level → (Level → Reader V) → Reader V
-below None reader xs = deep_at xs
-below (Some level) reader [] = form_at []
-below (Some level) reader (x ∷ rest) = reader level rest
+-- a term of a level in brackets, after the opening one
+abbrev pub bracketed_term : Level → Reader Terminal TermSyntax
+bracketed_term l = closed_by is_close_round l.term
+
+-- a formula of a level in brackets, after the opening one
+abbrev pub bracketed_formula : Level → Reader Terminal FormulaSyntax
+bracketed_formula l = closed_by is_close_round l.formula
 
 -- whether a term begins here
 abbrev pub begins_term : List Terminal → Bool
@@ -102,33 +54,79 @@ begins_term (free x ∷ rest) = true
 begins_term (mark OpenRound ∷ rest) = true
 begins_term _ = false
 
--- Behind a name and an opening bracket, where there is no level below: the closing bracket could follow, but a term
+-- After a name and an opening bracket, where there is no level below: the closing bracket could follow, but a term
 -- would be a level too many.
-abbrev pub beyond : {V : Type 0} → Reader V
+abbrev pub beyond : {V : Type 0} → Reader Terminal V
 beyond xs = if begins_term xs then deep_at xs else form_at xs
 
--- a name alone, which stands before these terminals
-unfoldable pub name_alone : Option Level → List ℕ → Reader TermSyntax
-name_alone None x (mark OpenRound ∷ rest) = beyond rest
-name_alone _ x xs = Ok (alone x, xs)
+-- after a name and an opening bracket: the closing one, or a term and the closing one
+unfoldable pub opened : Option Level → Reader Terminal (Option TermSyntax)
+opened lower (mark CloseRound ∷ rest) = Ok (None, rest)
+opened None xs = beyond xs
+opened (Some l) xs = map_read (λ t. Some t) (bracketed_term l xs)
 
--- the argument at the front, if one begins there
-unfoldable pub argument : Option Level → List Terminal → Option (Answer TermSyntax)
-argument lower (free c ∷ mark OpenRound ∷ mark CloseRound ∷ rest) = Some (Ok (applied c no_terms, rest))
-argument lower (free x ∷ rest) = Some (name_alone lower x rest)
-argument lower (mark OpenRound ∷ rest) = Some (below lower (λ l. bracketed l.term) (mark OpenRound ∷ rest))
-argument lower _ = None
+-- the arguments of a name so far
+pub data Arguments : Type 0 where
+  -- there is none yet
+  fresh : Arguments
+  -- there is none, by `()`
+  empty : Arguments
+  -- the last one is a name, which brackets may follow
+  name_last : (before : List TermSyntax) → (last : List ℕ) → Arguments
+  -- the last one is complete
+  term_last : (terms : List TermSyntax) → Arguments
 
--- arguments that stand behind a name, if there are any
-abbrev pub some_arguments : List TermSyntax → Option (List TermSyntax)
-some_arguments [] = None
-some_arguments (t ∷ ts) = Some (t ∷ ts)
+abbrev pub complete : Arguments → List TermSyntax
+complete fresh = []
+complete empty = []
+complete (name_last ts x) = ts ++ alone x ∷ []
+complete (term_last ts) = ts
 
--- what stands behind a name: nothing, or arguments, of which `()` has none
-unfoldable pub behind_name : Option Level → Reader (Option (List TermSyntax))
-behind_name lower (mark OpenRound ∷ mark CloseRound ∷ rest) = Ok (Some [], rest)
-behind_name None (mark OpenRound ∷ rest) = beyond rest
-behind_name lower xs = made some_arguments (chain (argument lower) xs)
+-- a further argument that begins with a name
+abbrev pub with_name : Arguments → List ℕ → Arguments
+with_name s x = name_last (complete s) x
+
+-- a further argument in brackets
+abbrev pub with_term : Arguments → TermSyntax → Arguments
+with_term s t = term_last (complete s ++ t ∷ [])
+
+-- brackets after a name: a further argument, or `()`, which is the name's
+abbrev pub with_brackets : Option TermSyntax → Arguments → Arguments
+with_brackets (Some t) s = with_term s t
+with_brackets None fresh = empty
+with_brackets None empty = empty
+with_brackets None (name_last ts x) = term_last (ts ++ applied x no_terms ∷ [])
+with_brackets None (term_last ts) = term_last ts
+
+-- a name or brackets, where arguments go on
+unfoldable pub argument : Option Level → Arguments → List Terminal → Option (Answer Terminal Arguments)
+argument lower empty xs = None
+argument lower s (free x ∷ rest) = Some (Ok (with_name s x, rest))
+argument lower (term_last ts) (mark OpenRound ∷ rest) =
+    Some (map_read (with_term (term_last ts)) (below lower bracketed_term (mark OpenRound ∷ rest)))
+argument lower s (mark OpenRound ∷ rest) = Some (map_read (λ o. with_brackets o s) (opened lower rest))
+argument lower s _ = None
+
+-- whether arguments go on with this terminal, and with the first of these
+abbrev pub starts_argument : Arguments → Terminal → Bool
+starts_argument empty x = false
+starts_argument s (free x) = true
+starts_argument s (mark OpenRound) = true
+starts_argument s _ = false
+
+abbrev pub goes_on : Arguments → List Terminal → Bool
+goes_on s [] = false
+goes_on s (x ∷ rest) = starts_argument s x
+
+abbrev pub arguments_of : Arguments → Option (List TermSyntax)
+arguments_of fresh = None
+arguments_of empty = Some []
+arguments_of (name_last ts x) = Some (ts ++ alone x ∷ [])
+arguments_of (term_last ts) = Some ts
+
+-- what follows a name: nothing, or arguments, of which `()` has none
+unfoldable pub after_name : Option Level → Reader Terminal (Option (List TermSyntax))
+after_name lower xs = map_read arguments_of (iterate (argument lower) fresh xs)
 
 abbrev pub term_named : List ℕ → Option (List TermSyntax) → TermSyntax
 term_named x None = alone x
@@ -138,99 +136,99 @@ abbrev pub atom_named : List ℕ → Option (List TermSyntax) → FormulaSyntax
 atom_named x None = bare x
 atom_named p (Some ts) = tested p (terms_of ts)
 
-unfoldable pub term_with : Option Level → Reader TermSyntax
-term_with lower (free f ∷ rest) = made (term_named f) (behind_name lower rest)
-term_with lower (mark OpenRound ∷ rest) = below lower (λ l. bracketed l.term) (mark OpenRound ∷ rest)
+unfoldable pub term_with : Option Level → Reader Terminal TermSyntax
+term_with lower (free f ∷ rest) = map_read (term_named f) (after_name lower rest)
+term_with lower (mark OpenRound ∷ rest) = below lower bracketed_term (mark OpenRound ∷ rest)
 term_with lower xs = form_at xs
 
--- an update behind its opening bracket
-unfoldable pub update_with : Option Level → Reader FormulaSyntax
-update_with lower (free x ∷ mark LeftArrow ∷ rest) = made (updated x) (and_then (term_with lower rest) close_square)
+-- an update after its opening bracket
+unfoldable pub update_with : Option Level → Reader Terminal FormulaSyntax
+update_with lower (free x ∷ mark LeftArrow ∷ rest) = map_read (updated x) (closed_by is_close_square (term_with lower) rest)
 update_with lower (free x ∷ rest) = form_at rest
 update_with lower xs = form_at xs
 
-unfoldable pub atom_with : Option Level → Reader FormulaSyntax
+unfoldable pub atom_with : Option Level → Reader Terminal FormulaSyntax
 atom_with lower (word True ∷ rest) = Ok (truth, rest)
 atom_with lower (word False ∷ rest) = Ok (falsehood, rest)
-atom_with lower (mark OpenRound ∷ rest) = below lower (λ l. bracketed l.formula) (mark OpenRound ∷ rest)
+atom_with lower (mark OpenRound ∷ rest) = below lower bracketed_formula (mark OpenRound ∷ rest)
 atom_with lower (mark OpenSquare ∷ rest) = update_with lower rest
-atom_with lower (free p ∷ rest) = made (atom_named p) (behind_name lower rest)
+atom_with lower (free p ∷ rest) = map_read (atom_named p) (after_name lower rest)
 atom_with lower xs = form_at xs
 
--- the operand of an operator that stands in front of it, or an atom where none does
-unfoldable pub prefix_from : Option Level → Option UnaryOperator → Reader FormulaSyntax
-prefix_from lower (Some op) xs = made (under op) (below lower (λ l. l.prefix) xs)
+-- the operand of an operator before it, or an atom where there is no operator
+unfoldable pub prefix_from : Option Level → Option UnaryOperator → Reader Terminal FormulaSyntax
+prefix_from lower (Some op) xs = map_read (under op) (below lower (λ l. l.prefix) xs)
 prefix_from lower None xs = atom_with lower xs
 
 abbrev pub unary_in : List Terminal → Option UnaryOperator
 unary_in [] = None
 unary_in (x ∷ rest) = unary_of x
 
-unfoldable pub prefix_with : Option Level → Reader FormulaSyntax
+unfoldable pub prefix_with : Option Level → Reader Terminal FormulaSyntax
 prefix_with lower xs = prefix_from lower (unary_in xs) xs
 
 -- a further operand of `&&`
-unfoldable pub conjunct : Option Level → List Terminal → Option (Answer FormulaSyntax)
+unfoldable pub conjunct : Option Level → List Terminal → Option (Answer Terminal FormulaSyntax)
 conjunct lower (mark And ∷ rest) = Some (prefix_with lower rest)
 conjunct lower _ = None
 
--- the operands of `&&` behind the first one
-unfoldable pub and_behind : Option Level → FormulaSyntax → Reader FormulaSyntax
-and_behind lower a xs = made (all_of a) (chain (conjunct lower) xs)
+-- the operands of `&&` after the first one
+unfoldable pub and_after : Option Level → FormulaSyntax → Reader Terminal FormulaSyntax
+and_after lower a xs = map_read (all_of a) (members (conjunct lower) xs)
 
-unfoldable pub and_with : Option Level → Reader FormulaSyntax
-and_with lower xs = and_then (prefix_with lower xs) (and_behind lower)
+unfoldable pub and_with : Option Level → Reader Terminal FormulaSyntax
+and_with lower xs = and_then (prefix_with lower xs) (and_after lower)
 
 -- a further operand of `||`
-unfoldable pub disjunct : Option Level → List Terminal → Option (Answer FormulaSyntax)
+unfoldable pub disjunct : Option Level → List Terminal → Option (Answer Terminal FormulaSyntax)
 disjunct lower (mark Or ∷ rest) = Some (and_with lower rest)
 disjunct lower _ = None
 
--- the operands of `||` behind the first one
-unfoldable pub or_behind_and : Option Level → FormulaSyntax → Reader FormulaSyntax
-or_behind_and lower a xs = made (any_of a) (chain (disjunct lower) xs)
+-- the operands of `||` after the first one
+unfoldable pub or_after_and : Option Level → FormulaSyntax → Reader Terminal FormulaSyntax
+or_after_and lower a xs = map_read (any_of a) (members (disjunct lower) xs)
 
 -- a form of `||` whose first operand of `&&` was read
-unfoldable pub or_behind : Option Level → FormulaSyntax → Reader FormulaSyntax
-or_behind lower a xs = and_then (and_behind lower a xs) (or_behind_and lower)
+unfoldable pub or_after : Option Level → FormulaSyntax → Reader Terminal FormulaSyntax
+or_after lower a xs = and_then (and_after lower a xs) (or_after_and lower)
 
 -- `->` and its right side, where they follow
-unfoldable pub imp_behind_or : Option Level → FormulaSyntax → Reader FormulaSyntax
-imp_behind_or lower a (mark Arrow ∷ rest) = made (between Implication a) (below lower (λ l. l.imp) (mark Arrow ∷ rest))
-imp_behind_or lower a xs = Ok (a, xs)
+unfoldable pub imp_after_or : Option Level → FormulaSyntax → Reader Terminal FormulaSyntax
+imp_after_or lower a (mark Arrow ∷ rest) = map_read (between Implication a) (below lower (λ l. l.imp) (mark Arrow ∷ rest))
+imp_after_or lower a xs = Ok (a, xs)
 
-unfoldable pub imp_behind : Option Level → FormulaSyntax → Reader FormulaSyntax
-imp_behind lower a xs = and_then (or_behind lower a xs) (imp_behind_or lower)
+unfoldable pub imp_after : Option Level → FormulaSyntax → Reader Terminal FormulaSyntax
+imp_after lower a xs = and_then (or_after lower a xs) (imp_after_or lower)
 
-unfoldable pub imp_with : Option Level → Reader FormulaSyntax
-imp_with lower xs = and_then (prefix_with lower xs) (imp_behind lower)
+unfoldable pub imp_with : Option Level → Reader Terminal FormulaSyntax
+imp_with lower xs = and_then (prefix_with lower xs) (imp_after lower)
 
 -- `<->` and its right side, where they follow
-unfoldable pub iff_behind_imp : Option Level → FormulaSyntax → Reader FormulaSyntax
-iff_behind_imp lower a (mark BothArrow ∷ rest) = made (between Equivalence a) (below lower (λ l. l.iff) (mark BothArrow ∷ rest))
-iff_behind_imp lower a xs = Ok (a, xs)
+unfoldable pub iff_after_imp : Option Level → FormulaSyntax → Reader Terminal FormulaSyntax
+iff_after_imp lower a (mark BothArrow ∷ rest) = map_read (between Equivalence a) (below lower (λ l. l.iff) (mark BothArrow ∷ rest))
+iff_after_imp lower a xs = Ok (a, xs)
 
-unfoldable pub iff_behind : Option Level → FormulaSyntax → Reader FormulaSyntax
-iff_behind lower a xs = and_then (imp_behind lower a xs) (iff_behind_imp lower)
+unfoldable pub iff_after : Option Level → FormulaSyntax → Reader Terminal FormulaSyntax
+iff_after lower a xs = and_then (imp_after lower a xs) (iff_after_imp lower)
 
-unfoldable pub iff_with : Option Level → Reader FormulaSyntax
-iff_with lower xs = and_then (prefix_with lower xs) (iff_behind lower)
+unfoldable pub iff_with : Option Level → Reader Terminal FormulaSyntax
+iff_with lower xs = and_then (prefix_with lower xs) (iff_after lower)
 
 abbrev pub temporal_in : List Terminal → Option BinaryOperator
 temporal_in [] = None
 temporal_in (x ∷ rest) = temporal_of x
 
--- the right side of an operator that stands in front of it, or the rest of a chain where none does
-unfoldable pub formula_from : Option Level → Option BinaryOperator → FormulaSyntax → Reader FormulaSyntax
+-- the right side of an operator after it, or the rest of a chain where there is no operator
+unfoldable pub formula_from : Option Level → Option BinaryOperator → FormulaSyntax → Reader Terminal FormulaSyntax
 formula_from lower (Some op) a [] = form_at []
-formula_from lower (Some op) a (x ∷ rest) = made (between op a) (prefix_with lower rest)
-formula_from lower None a xs = iff_behind lower a xs
+formula_from lower (Some op) a (x ∷ rest) = map_read (between op a) (prefix_with lower rest)
+formula_from lower None a xs = iff_after lower a xs
 
-unfoldable pub formula_behind : Option Level → FormulaSyntax → Reader FormulaSyntax
-formula_behind lower a xs = formula_from lower (temporal_in xs) a xs
+unfoldable pub formula_after : Option Level → FormulaSyntax → Reader Terminal FormulaSyntax
+formula_after lower a xs = formula_from lower (temporal_in xs) a xs
 
-unfoldable pub formula_with : Option Level → Reader FormulaSyntax
-formula_with lower xs = and_then (prefix_with lower xs) (formula_behind lower)
+unfoldable pub formula_with : Option Level → Reader Terminal FormulaSyntax
+formula_with lower xs = and_then (prefix_with lower xs) (formula_after lower)
 
 -- the level above this one
 unfoldable pub above : Option Level → Level
@@ -241,41 +239,59 @@ unfoldable pub lower : ℕ → Option Level
 lower zero = None
 lower (suc room) = Some (above (lower room))
 
--- behind a formula: a semicolon, or the brace that closes the items
-unfoldable pub end_item : FormulaSyntax → Reader FormulaSyntax
-end_item f (mark Semicolon ∷ rest) = Ok (f, rest)
-end_item f (mark CloseBrace ∷ rest) = Ok (f, mark CloseBrace ∷ rest)
-end_item f xs = form_at xs
+-- the items of a section so far
+pub data Items : Type 0 where
+  -- an item may follow
+  open_items : (formulas : List FormulaSyntax) → Items
+  -- the last one may be closed by a semicolon
+  item_last : (formulas : List FormulaSyntax) → Items
 
--- the formula at the front with its semicolon, unless the items end here
-unfoldable pub item : ℕ → List Terminal → Option (Answer FormulaSyntax)
-item room (mark CloseBrace ∷ rest) = None
-item room xs = Some (and_then (formula_with (lower room) xs) end_item)
+abbrev pub items_of : Items → List FormulaSyntax
+items_of (open_items fs) = fs
+items_of (item_last fs) = fs
+
+-- a formula or a semicolon, where items go on
+unfoldable pub item : ℕ → Items → List Terminal → Option (Answer Terminal Items)
+item room s [] = None
+item room (open_items fs) (mark CloseBrace ∷ rest) = None
+item room (open_items fs) xs = Some (map_read (λ f. item_last (fs ++ f ∷ [])) (formula_with (lower room) xs))
+item room (item_last fs) (mark Semicolon ∷ rest) = Some (Ok (open_items fs, rest))
+item room (item_last fs) xs = None
+
+-- whether an item begins here
+abbrev pub begins_item : List Terminal → Bool
+begins_item [] = false
+begins_item (mark CloseBrace ∷ rest) = false
+begins_item _ = true
+
+-- the formulas of a section
+unfoldable pub formulas : ℕ → Reader Terminal (List FormulaSyntax)
+formulas room xs = map_read items_of (iterate (item room) (open_items []) xs)
 
 abbrev pub section_made : Part → List FormulaSyntax → SectionSyntax
 section_made part formulas = record { part = part; formulas = formulas }
 
 -- the items of a section between their braces
-unfoldable pub items : ℕ → Part → Reader SectionSyntax
-items room part (mark OpenBrace ∷ rest) = made (section_made part) (and_then (chain (item room) rest) close_brace)
+unfoldable pub items : ℕ → Part → Reader Terminal SectionSyntax
+items room part (mark OpenBrace ∷ rest) = map_read (section_made part) (closed_by is_close_brace (formulas room) rest)
 items room part xs = form_at xs
 
--- a section behind its first word
-unfoldable pub side : ℕ → Part → Part → Reader SectionSyntax
+-- a section after its first word
+unfoldable pub side : ℕ → Part → Part → Reader Terminal SectionSyntax
 side room assumed guaranteed (word Assume ∷ rest) = items room assumed rest
 side room assumed guaranteed (word Guarantee ∷ rest) = items room guaranteed rest
 side room assumed guaranteed xs = form_at xs
 
-unfoldable pub section_at : ℕ → Reader SectionSyntax
+unfoldable pub section_at : ℕ → Reader Terminal SectionSyntax
 section_at room (word Always ∷ rest) = side room AssumeAlways GuaranteeAlways rest
 section_at room (word Initially ∷ rest) = side room AssumeFirst GuaranteeFirst rest
 section_at room xs = side room AssumeFirst GuaranteeFirst xs
 
 -- the section at the front, unless the text ends here
-unfoldable pub section : ℕ → List Terminal → Option (Answer SectionSyntax)
+unfoldable pub section : ℕ → List Terminal → Option (Answer Terminal SectionSyntax)
 section room [] = None
 section room (x ∷ xs) = Some (section_at room (x ∷ xs))
 
 -- the sections of a text
-unfoldable pub sections : ℕ → Reader (List SectionSyntax)
-sections room = chain (section room)
+unfoldable pub sections : ℕ → Reader Terminal (List SectionSyntax)
+sections room = members (section room)

@@ -18,7 +18,10 @@ use Rattle.tsl_reader.specs.declared.trees.ReadFormulas.{ReadFormulas}
 use Rattle.tsl_reader.specs.declared.trees.ReadFormulas.TheVariants.{Empty, More'}
 use Rattle.tsl_reader.specs.declared.trees.ReadSection.{ReadSection}
 use Rattle.tsl_reader.specs.Syntax.{Terminal, free, word, mark, TermSyntax, alone, applied, TermsSyntax, no_terms, more_terms, FormulaSyntax, truth, falsehood, bare, tested, updated, under, between, all, any, FormulasSyntax, no_formulas, more_formulas, SectionSyntax}
-use Rattle.tsl_reader.specs.Reading.{Answer, form, deep}
+use Rattle.token_readers.specs.Readers.{Answer, form, deep}
+use Rattle.tsl_reader.specs.declared.terms.Arguments.{Arguments as LentArguments}
+use Rattle.tsl_reader.specs.declared.terms.Arguments.TheVariants.{Fresh, Empty as NoArguments, NameLast, TermLast}
+use Rattle.tsl_reader.specs.Reading.{Arguments, fresh, empty, name_last, term_last}
 
 abbrev pub terminal_view : LentTerminal → Terminal
 terminal_view (Free text) = free text.now
@@ -57,17 +60,24 @@ abbrev pub section_syntax : ReadSection → SectionSyntax
 section_syntax s = record { part = s.part; formulas = map formula_syntax s.formulas.items }
 
 -- the fault is the answer's, unless memory ran out
-abbrev pub HasFault : {V : Type 0} → Answer V → ReadFault → Type 0
+abbrev pub HasFault : {V : Type 0} → Answer Terminal V → ReadFault → Type 0
 HasFault answer (Form left) = answer ≡ Err (form left)
 HasFault answer (Deep left) = answer ≡ Err (deep left)
 HasFault answer NoMemory = Unit {0}
 
--- what stands behind a name: nothing, or arguments
+-- the arguments of a name so far
+abbrev pub arguments_view : LentArguments → Arguments
+arguments_view Fresh = fresh
+arguments_view NoArguments = empty
+arguments_view (NameLast terms name) = name_last (map term_syntax terms.items) name.now
+arguments_view (TermLast terms) = term_last (map term_syntax terms.items)
+
+-- what follows a name: nothing, or arguments
 abbrev pub arguments_syntax : Option (Vec ReadTerm Global) → Option (List TermSyntax)
 arguments_syntax arguments = option_map (λ ts. map term_syntax ts.items) arguments
 
 -- the fault is that of the member at the front, unless memory ran out
-abbrev pub HasFaultOfMember : {V : Type 0} → Option (Answer V) → ReadFault → Type 0
+abbrev pub HasFaultOfMember : {V : Type 0} → Option (Answer Terminal V) → ReadFault → Type 0
 HasFaultOfMember member (Form left) = member ≡ Some (Err (form left))
 HasFaultOfMember member (Deep left) = member ≡ Some (Err (deep left))
 HasFaultOfMember member NoMemory = Unit {0}

@@ -3,13 +3,14 @@
 ghost use Rattle.std.specs.Prelude.{◌≡◌, ◌<◌, ◌≤◌, length, map, Option, Some, None, Ok, IfOk, IfErr, IfSome, IfNone};
 ghost use Rattle.tsl_reader.specs.Syntax.{FormulaSyntax, between, all_of, any_of};
 ghost use Rattle.tsl_reader.specs.Forms.{reader_of, form_with};
-ghost use Rattle.tsl_reader.specs.Reading.{Level, lower, below, bracketed, made, chain, close_square, atom_named, update_with, atom_with, unary_in, prefix_with, conjunct, and_behind, and_with, disjunct, or_behind_and, or_behind, imp_behind_or, imp_behind, iff_behind_imp, iff_behind, temporal_in, formula_behind};
+ghost use Rattle.token_readers.specs.Readers.{below, members};
+ghost use Rattle.tsl_reader.specs.Reading.{Level, lower, bracketed_formula, atom_named, update_with, atom_with, unary_in, prefix_with, conjunct, and_after, and_with, disjunct, or_after_and, or_after, imp_after_or, imp_after, iff_after_imp, iff_after, temporal_in, formula_after};
 ghost use Rattle.tsl_reader.specs.SyntaxView.{terminals_view, arguments_syntax, formula_syntax, HasFault};
 
 use crate::fault::ReadFault;
-use crate::syntax::Word;
+use crate::syntax::{Closer, Word};
 use crate::terminals::{Left, Terminal};
-use crate::terms::{Answer, behind_name, close_round, level_below, term_with};
+use crate::terms::{Answer, after_name, close, level_below, term_with};
 use crate::trees::{ReadFormula, ReadFormulas, ReadTerm, ReadTerms};
 use sequence::NoMemory;
 use std::alloc::Global;
@@ -27,20 +28,6 @@ pub(crate) enum Form {
     Equivalence,
     /// A whole formula.
     Formula,
-}
-
-/// The terminals behind the closing bracket.
-#[tactic(auto, unfolding(crate::specs::Reading::close_square))]
-fn close_square<'a, 'b>(xs: &'b [Terminal<'a>]) -> Result<&'b [Terminal<'a>], ReadFault>
-    ensures ok { IfOk result (λ rest.
-        close_square (tt {0}) (terminals_view xs.now) ≡ Ok (tt {0}, terminals_view rest.now)) }
-    ensures fault { IfErr result (HasFault (close_square (tt {0}) (terminals_view xs.now))) }
-    ensures shorter { IfOk result (λ rest. length rest.now < length xs.now) }
-{
-    match xs {
-        [Terminal::Mark(TokenKind::CloseSquare), rest @ ..] => Ok(rest),
-        _ => Err(ReadFault::Form(xs.len())),
-    }
 }
 
 /// The operator at the front that stands before its operand.
@@ -68,9 +55,9 @@ fn temporal_in(xs: &[Terminal]) -> Option<BinaryOperator>
     }
 }
 
-/// The terminals behind `&&` at the front.
+/// The terminals after `&&` at the front.
 #[tactic(auto, unfolding(crate::specs::Reading::conjunct))]
-fn behind_and<'a, 'b>(xs: &'b [Terminal<'a>]) -> Option<&'b [Terminal<'a>]>
+fn after_and<'a, 'b>(xs: &'b [Terminal<'a>]) -> Option<&'b [Terminal<'a>]>
     ensures some { IfSome result (λ rest. (l : Option Level) →
         conjunct l (terminals_view xs.now) ≡ Some (prefix_with l (terminals_view rest.now))) }
     ensures none { IfNone result ((l : Option Level) → conjunct l (terminals_view xs.now) ≡ None) }
@@ -82,9 +69,9 @@ fn behind_and<'a, 'b>(xs: &'b [Terminal<'a>]) -> Option<&'b [Terminal<'a>]>
     }
 }
 
-/// The terminals behind `||` at the front.
+/// The terminals after `||` at the front.
 #[tactic(auto, unfolding(crate::specs::Reading::disjunct))]
-fn behind_or<'a, 'b>(xs: &'b [Terminal<'a>]) -> Option<&'b [Terminal<'a>]>
+fn after_or<'a, 'b>(xs: &'b [Terminal<'a>]) -> Option<&'b [Terminal<'a>]>
     ensures some { IfSome result (λ rest. (l : Option Level) →
         disjunct l (terminals_view xs.now) ≡ Some (and_with l (terminals_view rest.now))) }
     ensures none { IfNone result ((l : Option Level) → disjunct l (terminals_view xs.now) ≡ None) }
@@ -96,7 +83,7 @@ fn behind_or<'a, 'b>(xs: &'b [Terminal<'a>]) -> Option<&'b [Terminal<'a>]>
     }
 }
 
-/// A name with what stands behind it.
+/// A name with what follows it.
 fn atom_named<'a>(
     alloc: Global,
     name: &'a [u8],
@@ -155,7 +142,7 @@ fn any_of<'a>(
     Ok(ReadFormula::Any(ReadFormulas::More(Box::new(alloc, first)?, Box::new(alloc, others)?)))
 }
 
-/// An update behind its opening bracket.
+/// An update after its opening bracket.
 #[tactic(auto, unfolding(crate::specs::Reading::update_with))]
 fn update_with<'a, 'b>(
     alloc: Global,
@@ -174,7 +161,7 @@ fn update_with<'a, 'b>(
             rest @ ..,
         ] => {
             let (term, rest) = term_with(alloc, room, rest)?;
-            let rest = close_square(rest)?;
+            let rest = close(Closer::Square, rest)?;
             Ok((ReadFormula::Updated(name, term), rest))
         }
         [Terminal::Free(_), rest @ ..] => Err(ReadFault::Form(rest.len())),
@@ -182,7 +169,7 @@ fn update_with<'a, 'b>(
     }
 }
 
-/// What a form of the level below reads behind the first terminal, which is a level too many where
+/// What a form of the level below reads after the first terminal, which is a level too many where
 /// there is no level below.
 #[cycle(read)]
 fn form_below<'a, 'b>(
@@ -220,9 +207,9 @@ pub(crate) fn form_with<'a, 'b>(
     let (first, rest) = prefix_with(alloc, room, xs)?;
     match form {
         Form::Prefix => Ok((first, rest)),
-        Form::Implication => imp_behind(alloc, room, first, rest),
-        Form::Equivalence => iff_behind(alloc, room, first, rest),
-        Form::Formula => formula_behind(alloc, room, first, rest),
+        Form::Implication => imp_after(alloc, room, first, rest),
+        Form::Equivalence => iff_after(alloc, room, first, rest),
+        Form::Formula => formula_after(alloc, room, first, rest),
     }
 }
 
@@ -233,13 +220,13 @@ fn bracketed_formula<'a, 'b>(
     room: u32,
     xs: &'b [Terminal<'a>],
 ) -> Answer<'a, 'b, ReadFormula<'a>>
-    ensures ok { IfOk result (λ read. below (lower room) (λ l. bracketed l.formula) (terminals_view xs.now)
+    ensures ok { IfOk result (λ read. below (lower room) bracketed_formula (terminals_view xs.now)
         ≡ Ok (formula_syntax read.0, terminals_view read.1.now)) }
-    ensures fault { IfErr result (HasFault (below (lower room) (λ l. bracketed l.formula) (terminals_view xs.now))) }
+    ensures fault { IfErr result (HasFault (below (lower room) bracketed_formula (terminals_view xs.now))) }
     ensures shorter { IfOk result (λ read. length read.1.now < length xs.now) }
 {
     let (formula, rest) = form_below(alloc, room, Form::Formula, xs)?;
-    let rest = close_round(rest)?;
+    let rest = close(Closer::Round, rest)?;
     Ok((formula, rest))
 }
 
@@ -262,7 +249,7 @@ fn atom_with<'a, 'b>(
         [Terminal::Mark(TokenKind::OpenRound), ..] => bracketed_formula(alloc, room, xs),
         [Terminal::Mark(TokenKind::OpenSquare), rest @ ..] => update_with(alloc, room, rest),
         [Terminal::Free(name), rest @ ..] => {
-            let (arguments, rest) = behind_name(alloc, room, rest)?;
+            let (arguments, rest) = after_name(alloc, room, rest)?;
             let atom = atom_named(alloc, name, arguments)?;
             Ok((atom, rest))
         }
@@ -299,14 +286,14 @@ fn conjuncts<'a, 'b>(
     room: u32,
     xs: &'b [Terminal<'a>],
 ) -> Answer<'a, 'b, Vec<ReadFormula<'a>>>
-    ensures ok { IfOk result (λ read. chain (conjunct (lower room)) (terminals_view xs.now)
+    ensures ok { IfOk result (λ read. members (conjunct (lower room)) (terminals_view xs.now)
         ≡ Ok (map formula_syntax read.0.items, terminals_view read.1.now)) }
-    ensures fault { IfErr result (HasFault (chain (conjunct (lower room)) (terminals_view xs.now))) }
+    ensures fault { IfErr result (HasFault (members (conjunct (lower room)) (terminals_view xs.now))) }
     ensures shorter { IfOk result (λ read. length read.1.now ≤ length xs.now) }
 {
     let mut operands = Vec::new(alloc);
     let mut left = Left { terminals: xs };
-    while let Some(rest) = behind_and(left.terminals) {
+    while let Some(rest) = after_and(left.terminals) {
         let (operand, rest) = prefix_with(alloc, room, rest)?;
         operands.push(operand)?;
         left = Left { terminals: rest };
@@ -314,18 +301,18 @@ fn conjuncts<'a, 'b>(
     Ok((operands, left.terminals))
 }
 
-/// The operands of `&&` behind the first one.
+/// The operands of `&&` after the first one.
 #[cycle(read)]
-#[tactic(auto, unfolding(crate::specs::Reading::and_behind))]
-fn and_behind<'a, 'b>(
+#[tactic(auto, unfolding(crate::specs::Reading::and_after))]
+fn and_after<'a, 'b>(
     alloc: Global,
     room: u32,
     first: ReadFormula<'a>,
     xs: &'b [Terminal<'a>],
 ) -> Answer<'a, 'b, ReadFormula<'a>>
-    ensures ok { IfOk result (λ read. and_behind (lower room) (formula_syntax first.entry) (terminals_view xs.now)
+    ensures ok { IfOk result (λ read. and_after (lower room) (formula_syntax first.entry) (terminals_view xs.now)
         ≡ Ok (formula_syntax read.0, terminals_view read.1.now)) }
-    ensures fault { IfErr result (HasFault (and_behind (lower room) (formula_syntax first.entry) (terminals_view xs.now))) }
+    ensures fault { IfErr result (HasFault (and_after (lower room) (formula_syntax first.entry) (terminals_view xs.now))) }
     ensures shorter { IfOk result (λ read. length read.1.now ≤ length xs.now) }
 {
     let (operands, rest) = conjuncts(alloc, room, xs)?;
@@ -347,7 +334,7 @@ fn and_with<'a, 'b>(
     ensures shorter { IfOk result (λ read. length read.1.now < length xs.now) }
 {
     let (first, rest) = prefix_with(alloc, room, xs)?;
-    and_behind(alloc, room, first, rest)
+    and_after(alloc, room, first, rest)
 }
 
 /// The further operands of `||`.
@@ -357,14 +344,14 @@ fn disjuncts<'a, 'b>(
     room: u32,
     xs: &'b [Terminal<'a>],
 ) -> Answer<'a, 'b, Vec<ReadFormula<'a>>>
-    ensures ok { IfOk result (λ read. chain (disjunct (lower room)) (terminals_view xs.now)
+    ensures ok { IfOk result (λ read. members (disjunct (lower room)) (terminals_view xs.now)
         ≡ Ok (map formula_syntax read.0.items, terminals_view read.1.now)) }
-    ensures fault { IfErr result (HasFault (chain (disjunct (lower room)) (terminals_view xs.now))) }
+    ensures fault { IfErr result (HasFault (members (disjunct (lower room)) (terminals_view xs.now))) }
     ensures shorter { IfOk result (λ read. length read.1.now ≤ length xs.now) }
 {
     let mut operands = Vec::new(alloc);
     let mut left = Left { terminals: xs };
-    while let Some(rest) = behind_or(left.terminals) {
+    while let Some(rest) = after_or(left.terminals) {
         let (operand, rest) = and_with(alloc, room, rest)?;
         operands.push(operand)?;
         left = Left { terminals: rest };
@@ -374,19 +361,19 @@ fn disjuncts<'a, 'b>(
 
 /// A form of `||` whose first prefix was read.
 #[cycle(read)]
-#[tactic(auto, unfolding(crate::specs::Reading::or_behind, crate::specs::Reading::or_behind_and))]
-fn or_behind<'a, 'b>(
+#[tactic(auto, unfolding(crate::specs::Reading::or_after, crate::specs::Reading::or_after_and))]
+fn or_after<'a, 'b>(
     alloc: Global,
     room: u32,
     first: ReadFormula<'a>,
     xs: &'b [Terminal<'a>],
 ) -> Answer<'a, 'b, ReadFormula<'a>>
-    ensures ok { IfOk result (λ read. or_behind (lower room) (formula_syntax first.entry) (terminals_view xs.now)
+    ensures ok { IfOk result (λ read. or_after (lower room) (formula_syntax first.entry) (terminals_view xs.now)
         ≡ Ok (formula_syntax read.0, terminals_view read.1.now)) }
-    ensures fault { IfErr result (HasFault (or_behind (lower room) (formula_syntax first.entry) (terminals_view xs.now))) }
+    ensures fault { IfErr result (HasFault (or_after (lower room) (formula_syntax first.entry) (terminals_view xs.now))) }
     ensures shorter { IfOk result (λ read. length read.1.now ≤ length xs.now) }
 {
-    let (operand, rest) = and_behind(alloc, room, first, xs)?;
+    let (operand, rest) = and_after(alloc, room, first, xs)?;
     let (operands, rest) = disjuncts(alloc, room, rest)?;
     let formula = any_of(alloc, operand, operands)?;
     Ok((formula, rest))
@@ -394,16 +381,16 @@ fn or_behind<'a, 'b>(
 
 /// `->` and its right side, where they follow.
 #[cycle(read)]
-#[tactic(auto, unfolding(crate::specs::Reading::imp_behind_or))]
-fn imp_behind_or<'a, 'b>(
+#[tactic(auto, unfolding(crate::specs::Reading::imp_after_or))]
+fn imp_after_or<'a, 'b>(
     alloc: Global,
     room: u32,
     left: ReadFormula<'a>,
     xs: &'b [Terminal<'a>],
 ) -> Answer<'a, 'b, ReadFormula<'a>>
-    ensures ok { IfOk result (λ read. imp_behind_or (lower room) (formula_syntax left.entry) (terminals_view xs.now)
+    ensures ok { IfOk result (λ read. imp_after_or (lower room) (formula_syntax left.entry) (terminals_view xs.now)
         ≡ Ok (formula_syntax read.0, terminals_view read.1.now)) }
-    ensures fault { IfErr result (HasFault (imp_behind_or (lower room) (formula_syntax left.entry) (terminals_view xs.now))) }
+    ensures fault { IfErr result (HasFault (imp_after_or (lower room) (formula_syntax left.entry) (terminals_view xs.now))) }
     ensures shorter { IfOk result (λ read. length read.1.now ≤ length xs.now) }
 {
     match xs {
@@ -418,34 +405,34 @@ fn imp_behind_or<'a, 'b>(
 
 /// A form of `->` whose first prefix was read.
 #[cycle(read)]
-#[tactic(auto, unfolding(crate::specs::Reading::imp_behind))]
-fn imp_behind<'a, 'b>(
+#[tactic(auto, unfolding(crate::specs::Reading::imp_after))]
+fn imp_after<'a, 'b>(
     alloc: Global,
     room: u32,
     first: ReadFormula<'a>,
     xs: &'b [Terminal<'a>],
 ) -> Answer<'a, 'b, ReadFormula<'a>>
-    ensures ok { IfOk result (λ read. imp_behind (lower room) (formula_syntax first.entry) (terminals_view xs.now)
+    ensures ok { IfOk result (λ read. imp_after (lower room) (formula_syntax first.entry) (terminals_view xs.now)
         ≡ Ok (formula_syntax read.0, terminals_view read.1.now)) }
-    ensures fault { IfErr result (HasFault (imp_behind (lower room) (formula_syntax first.entry) (terminals_view xs.now))) }
+    ensures fault { IfErr result (HasFault (imp_after (lower room) (formula_syntax first.entry) (terminals_view xs.now))) }
     ensures shorter { IfOk result (λ read. length read.1.now ≤ length xs.now) }
 {
-    let (left, rest) = or_behind(alloc, room, first, xs)?;
-    imp_behind_or(alloc, room, left, rest)
+    let (left, rest) = or_after(alloc, room, first, xs)?;
+    imp_after_or(alloc, room, left, rest)
 }
 
 /// `<->` and its right side, where they follow.
 #[cycle(read)]
-#[tactic(auto, unfolding(crate::specs::Reading::iff_behind_imp))]
-fn iff_behind_imp<'a, 'b>(
+#[tactic(auto, unfolding(crate::specs::Reading::iff_after_imp))]
+fn iff_after_imp<'a, 'b>(
     alloc: Global,
     room: u32,
     left: ReadFormula<'a>,
     xs: &'b [Terminal<'a>],
 ) -> Answer<'a, 'b, ReadFormula<'a>>
-    ensures ok { IfOk result (λ read. iff_behind_imp (lower room) (formula_syntax left.entry) (terminals_view xs.now)
+    ensures ok { IfOk result (λ read. iff_after_imp (lower room) (formula_syntax left.entry) (terminals_view xs.now)
         ≡ Ok (formula_syntax read.0, terminals_view read.1.now)) }
-    ensures fault { IfErr result (HasFault (iff_behind_imp (lower room) (formula_syntax left.entry) (terminals_view xs.now))) }
+    ensures fault { IfErr result (HasFault (iff_after_imp (lower room) (formula_syntax left.entry) (terminals_view xs.now))) }
     ensures shorter { IfOk result (λ read. length read.1.now ≤ length xs.now) }
 {
     match xs {
@@ -460,38 +447,38 @@ fn iff_behind_imp<'a, 'b>(
 
 /// A form of `<->` whose first prefix was read.
 #[cycle(read)]
-#[tactic(auto, unfolding(crate::specs::Reading::iff_behind))]
-fn iff_behind<'a, 'b>(
+#[tactic(auto, unfolding(crate::specs::Reading::iff_after))]
+fn iff_after<'a, 'b>(
     alloc: Global,
     room: u32,
     first: ReadFormula<'a>,
     xs: &'b [Terminal<'a>],
 ) -> Answer<'a, 'b, ReadFormula<'a>>
-    ensures ok { IfOk result (λ read. iff_behind (lower room) (formula_syntax first.entry) (terminals_view xs.now)
+    ensures ok { IfOk result (λ read. iff_after (lower room) (formula_syntax first.entry) (terminals_view xs.now)
         ≡ Ok (formula_syntax read.0, terminals_view read.1.now)) }
-    ensures fault { IfErr result (HasFault (iff_behind (lower room) (formula_syntax first.entry) (terminals_view xs.now))) }
+    ensures fault { IfErr result (HasFault (iff_after (lower room) (formula_syntax first.entry) (terminals_view xs.now))) }
     ensures shorter { IfOk result (λ read. length read.1.now ≤ length xs.now) }
 {
-    let (left, rest) = imp_behind(alloc, room, first, xs)?;
-    iff_behind_imp(alloc, room, left, rest)
+    let (left, rest) = imp_after(alloc, room, first, xs)?;
+    iff_after_imp(alloc, room, left, rest)
 }
 
 /// A whole formula whose first prefix was read.
 #[cycle(read)]
-#[tactic(auto, unfolding(crate::specs::Reading::formula_behind, crate::specs::Reading::formula_from))]
-fn formula_behind<'a, 'b>(
+#[tactic(auto, unfolding(crate::specs::Reading::formula_after, crate::specs::Reading::formula_from))]
+fn formula_after<'a, 'b>(
     alloc: Global,
     room: u32,
     first: ReadFormula<'a>,
     xs: &'b [Terminal<'a>],
 ) -> Answer<'a, 'b, ReadFormula<'a>>
-    ensures ok { IfOk result (λ read. formula_behind (lower room) (formula_syntax first.entry) (terminals_view xs.now)
+    ensures ok { IfOk result (λ read. formula_after (lower room) (formula_syntax first.entry) (terminals_view xs.now)
         ≡ Ok (formula_syntax read.0, terminals_view read.1.now)) }
-    ensures fault { IfErr result (HasFault (formula_behind (lower room) (formula_syntax first.entry) (terminals_view xs.now))) }
+    ensures fault { IfErr result (HasFault (formula_after (lower room) (formula_syntax first.entry) (terminals_view xs.now))) }
     ensures shorter { IfOk result (λ read. length read.1.now ≤ length xs.now) }
 {
     let Some(op) = temporal_in(xs) else {
-        return iff_behind(alloc, room, first, xs);
+        return iff_after(alloc, room, first, xs);
     };
     match xs {
         [] => Err(ReadFault::Form(0)),

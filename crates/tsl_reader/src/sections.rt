@@ -1,84 +1,37 @@
 //! Reading sections.
 
-ghost use Rattle.std.specs.Prelude.{◌≡◌, ◌<◌, ◌≤◌, length, map, None, Some, Ok, IfOk, IfErr, IfSome, IfNone};
-ghost use Rattle.tsl_reader.specs.Reading.{lower, chain, and_then, close_brace, formula_with, end_item, item, items, side, section_at, section, sections};
+ghost use Rattle.std.specs.Prelude.{◌≡◌, ◌<◌, ◌≤◌, ℕ, List, ◌∷◌, length, map, None, Some, Ok, IfOk, IfErr, IfSome, IfNone};
+ghost use Rattle.tsl_text.specs.declared.TokenKind.TheVariants.{Semicolon};
+ghost use Rattle.tsl_reader.specs.Syntax.{mark, FormulaSyntax};
+ghost use Rattle.tsl_reader.specs.Reading.{item, item_last, begins_item, formulas, items, side, section_at, section, sections};
 ghost use Rattle.tsl_reader.specs.SyntaxView.{terminals_view, formula_syntax, section_syntax, HasFault, HasFaultOfMember};
 
 use crate::fault::ReadFault;
 use crate::formulas::{Form, form_with};
-use crate::syntax::{Part, Word};
+use crate::syntax::{Closer, Part, Word};
 use crate::terminals::{Left, Terminal};
-use crate::terms::Answer;
+use crate::terms::{Answer, close};
 use crate::trees::{ReadFormula, ReadSection};
 use std::alloc::Global;
 use tsl_text::TokenKind;
 
-/// The terminals behind the closing brace.
-#[tactic(auto, unfolding(crate::specs::Reading::close_brace))]
-fn close_brace<'a, 'b>(xs: &'b [Terminal<'a>]) -> Result<&'b [Terminal<'a>], ReadFault>
-    ensures ok { IfOk result (λ rest.
-        close_brace (tt {0}) (terminals_view xs.now) ≡ Ok (tt {0}, terminals_view rest.now)) }
-    ensures fault { IfErr result (HasFault (close_brace (tt {0}) (terminals_view xs.now))) }
-    ensures shorter { IfOk result (λ rest. length rest.now < length xs.now) }
+/// Whether an item begins here.
+fn begins_item(xs: &[Terminal]) -> bool
+    ensures { result ≡ begins_item (terminals_view xs.now) }
 {
-    match xs {
-        [Terminal::Mark(TokenKind::CloseBrace), rest @ ..] => Ok(rest),
-        _ => Err(ReadFault::Form(xs.len())),
-    }
+    !matches!(xs, [] | [Terminal::Mark(TokenKind::CloseBrace), ..])
 }
 
-/// The terminals behind a formula: a semicolon is taken, and the brace that closes the items is left.
-#[tactic(auto, unfolding(crate::specs::Reading::end_item))]
-fn end_item<'a, 'b>(
-    formula: ReadFormula<'a>,
-    xs: &'b [Terminal<'a>],
-) -> Answer<'a, 'b, ReadFormula<'a>>
-    ensures ok { IfOk result (λ read. end_item (formula_syntax formula.entry) (terminals_view xs.now)
-        ≡ Ok (formula_syntax read.0, terminals_view read.1.now)) }
-    ensures fault { IfErr result (HasFault (end_item (formula_syntax formula.entry) (terminals_view xs.now))) }
-    ensures shorter { IfOk result (λ read. length read.1.now ≤ length xs.now) }
-{
-    match xs {
-        [Terminal::Mark(TokenKind::Semicolon), rest @ ..] => Ok((formula, rest)),
-        [Terminal::Mark(TokenKind::CloseBrace), ..] => Ok((formula, xs)),
-        _ => Err(ReadFault::Form(xs.len())),
-    }
-}
-
-/// The formula at the front with its semicolon.
-fn whole_item<'a, 'b>(
-    alloc: Global,
-    room: u32,
-    xs: &'b [Terminal<'a>],
-) -> Answer<'a, 'b, ReadFormula<'a>>
-    ensures ok { IfOk result (λ read. and_then (formula_with (lower room) (terminals_view xs.now)) end_item
-        ≡ Ok (formula_syntax read.0, terminals_view read.1.now)) }
-    ensures fault { IfErr result (HasFault (and_then (formula_with (lower room) (terminals_view xs.now)) end_item)) }
-    ensures shorter { IfOk result (λ read. length read.1.now < length xs.now) }
-{
-    let (formula, rest) = form_with(alloc, room, Form::Formula, xs)?;
-    end_item(formula, rest)
-}
-
-/// The formula at the front with its semicolon, unless the items end here.
+/// The terminals after a semicolon at the front.
 #[tactic(auto, unfolding(crate::specs::Reading::item))]
-fn item<'a, 'b>(
-    alloc: Global,
-    room: u32,
-    xs: &'b [Terminal<'a>],
-) -> Result<Option<(ReadFormula<'a>, &'b [Terminal<'a>])>, ReadFault>
-    ensures some { IfOk result (λ found. IfSome found (λ read. item room (terminals_view xs.now)
-        ≡ Some (Ok (formula_syntax read.0, terminals_view read.1.now)))) }
-    ensures none { IfOk result (λ found. IfNone found (item room (terminals_view xs.now) ≡ None)) }
-    ensures fault { IfErr result (HasFaultOfMember (item room (terminals_view xs.now))) }
-    ensures shorter { IfOk result (λ found. IfSome found (λ read. length read.1.now < length xs.now)) }
+fn after_semicolon<'a, 'b>(xs: &'b [Terminal<'a>]) -> Option<&'b [Terminal<'a>]>
+    ensures some { IfSome result (λ rest. terminals_view xs.now ≡ mark Semicolon ∷ terminals_view rest.now) }
+    ensures none { IfNone result ((room : ℕ) (fs : List FormulaSyntax) → item room (item_last fs) (terminals_view xs.now) ≡ None) }
+    ensures shorter { IfSome result (λ rest. length rest.now < length xs.now) }
 {
     match xs {
-        [Terminal::Mark(TokenKind::CloseBrace), ..] => Ok(None),
-        _ => {
-            let read = whole_item(alloc, room, xs)?;
-            Ok(Some(read))
-        }
+        [Terminal::Mark(TokenKind::Semicolon), rest @ ..] => Some(rest),
+        _ => None,
     }
 }
 
@@ -88,16 +41,20 @@ fn formulas<'a, 'b>(
     room: u32,
     xs: &'b [Terminal<'a>],
 ) -> Answer<'a, 'b, Vec<ReadFormula<'a>>>
-    ensures ok { IfOk result (λ read. chain (item room) (terminals_view xs.now)
+    ensures ok { IfOk result (λ read. formulas room (terminals_view xs.now)
         ≡ Ok (map formula_syntax read.0.items, terminals_view read.1.now)) }
-    ensures fault { IfErr result (HasFault (chain (item room) (terminals_view xs.now))) }
+    ensures fault { IfErr result (HasFault (formulas room (terminals_view xs.now))) }
     ensures shorter { IfOk result (λ read. length read.1.now ≤ length xs.now) }
 {
     let mut formulas = Vec::new(alloc);
     let mut left = Left { terminals: xs };
-    while let Some((formula, rest)) = item(alloc, room, left.terminals)? {
+    while begins_item(left.terminals) {
+        let (formula, rest) = form_with(alloc, room, Form::Formula, left.terminals)?;
         formulas.push(formula)?;
-        left = Left { terminals: rest };
+        match after_semicolon(rest) {
+            Some(rest) => left = Left { terminals: rest },
+            None => return Ok((formulas, rest)),
+        }
     }
     Ok((formulas, left.terminals))
 }
@@ -118,14 +75,14 @@ fn items<'a, 'b>(
     match xs {
         [Terminal::Mark(TokenKind::OpenBrace), rest @ ..] => {
             let (formulas, rest) = formulas(alloc, room, rest)?;
-            let rest = close_brace(rest)?;
+            let rest = close(Closer::Brace, rest)?;
             Ok((ReadSection { part, formulas }, rest))
         }
         _ => Err(ReadFault::Form(xs.len())),
     }
 }
 
-/// A section behind its first word.
+/// A section after its first word.
 #[tactic(auto, unfolding(crate::specs::Reading::side))]
 fn side<'a, 'b>(
     alloc: Global,

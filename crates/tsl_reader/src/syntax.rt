@@ -43,3 +43,14 @@ pub(crate) enum Part {
     /// What is guaranteed at every position.
     GuaranteeAlways,
 }
+
+/// A kind of closing bracket.
+#[derive(Clone, Copy, Debug)]
+pub(crate) enum Closer {
+    /// `)`
+    Round,
+    /// `]`
+    Square,
+    /// `}`
+    Brace,
+}

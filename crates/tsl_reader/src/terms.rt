@@ -1,21 +1,48 @@
 //! Reading terms.
 
-ghost use Rattle.std.specs.Prelude.{◌≡◌, ◌<◌, ◌≤◌, length, map, Some, None, Ok, IfOk, IfErr, IfSome, IfNone, if◌then◌else◌};
+ghost use Rattle.std.specs.Prelude.{◌≡◌, ◌<◌, ◌≤◌, length, map, option_map, Bool, true, false, Option, None, Some, Ok, IfOk, IfErr, IfSome, IfNone, if◌then◌else◌};
+ghost use Rattle.token_readers.specs.Readers.{closing, below, map_read, found_or_wrong};
 ghost use Rattle.tsl_reader.specs.declared.fault.ReadFault.TheVariants.{Form, Deep};
-ghost use Rattle.tsl_reader.specs.Reading.{lower, above, below, bracketed, made, chain, close_round, begins_term, argument, some_arguments, behind_name, name_alone, beyond, term_named, term_with};
-ghost use Rattle.tsl_reader.specs.SyntaxView.{terminals_view, term_syntax, arguments_syntax, HasFault, HasFaultOfMember};
+ghost use Rattle.tsl_reader.specs.Reading.{lower, above, closes, bracketed_term, begins_term, opened, complete, with_name, with_term, with_brackets, argument, goes_on, arguments_of, after_name, name_last, term_last, fresh, term_named, term_with};
+ghost use Rattle.tsl_reader.specs.SyntaxView.{terminal_view, terminals_view, term_syntax, arguments_view, arguments_syntax, HasFault};
 
 use crate::fault::ReadFault;
+use crate::syntax::Closer;
 use crate::terminals::{Left, Terminal};
 use crate::trees::{ReadTerm, ReadTerms};
 use sequence::NoMemory;
 use std::alloc::Global;
 use tsl_text::TokenKind;
 
-/// What was read, and the terminals behind it.
+/// What was read, and the terminals after it.
 pub(crate) type Answer<'a, 'b, V> = Result<(V, &'b [Terminal<'a>]), ReadFault>;
 
+/// The arguments of a name so far.
+#[derive(Debug, Drop)]
+pub(crate) enum Arguments<'a> {
+    /// There is none yet.
+    Fresh,
+    /// There is none, by `()`.
+    Empty,
+    /// The last one is a name, which brackets may follow.
+    NameLast(Vec<ReadTerm<'a>>, &'a [u8]),
+    /// The last one is complete.
+    TermLast(Vec<ReadTerm<'a>>),
+}
+
+/// The room of the level below, where there is one.
 #[tactic(auto, using(crate::proofs::ReadLemmas::no_level, crate::proofs::ReadLemmas::one_level))]
+fn room_below(room: u32) -> Option<u32>
+    ensures some { IfSome result (λ below. lower room ≡ Some (above (lower below))) }
+    ensures smaller { IfSome result (λ below. below < room) }
+    ensures none { IfNone result (lower room ≡ None) }
+{
+    match room.checked_sub(1) {
+        Some(below) => Some(below),
+        None => None,
+    }
+}
+
 /// The room of the level below. Where there is none, the first of the terminals is a level too many.
 pub(crate) fn level_below(room: u32, xs: &[Terminal]) -> Result<u32, ReadFault>
     ensures ok { IfOk result (λ below. lower room ≡ Some (above (lower below))) }
@@ -23,23 +50,42 @@ pub(crate) fn level_below(room: u32, xs: &[Terminal]) -> Result<u32, ReadFault>
     ensures none { IfErr result (λ fault. lower room ≡ None) }
     ensures fault { IfErr result (λ fault. fault ≡ Deep (length xs.now)) }
 {
-    match room.checked_sub(1) {
+    match room_below(room) {
         Some(below) => Ok(below),
         None => Err(ReadFault::Deep(xs.len())),
     }
 }
 
-/// The terminals behind the closing bracket.
-#[tactic(auto, unfolding(crate::specs::Reading::close_round))]
-pub(crate) fn close_round<'a, 'b>(xs: &'b [Terminal<'a>]) -> Result<&'b [Terminal<'a>], ReadFault>
+/// Whether the terminal closes brackets of this kind.
+fn closes(closer: Closer, terminal: &Terminal) -> bool
+    ensures { result ≡ closes closer (terminal_view terminal.now) }
+{
+    match closer {
+        Closer::Round => matches!(terminal, Terminal::Mark(TokenKind::CloseRound)),
+        Closer::Square => matches!(terminal, Terminal::Mark(TokenKind::CloseSquare)),
+        Closer::Brace => matches!(terminal, Terminal::Mark(TokenKind::CloseBrace)),
+    }
+}
+
+/// The terminals after the closing bracket.
+pub(crate) fn close<'a, 'b>(
+    closer: Closer,
+    xs: &'b [Terminal<'a>],
+) -> Result<&'b [Terminal<'a>], ReadFault>
     ensures ok { IfOk result (λ rest.
-        close_round (tt {0}) (terminals_view xs.now) ≡ Ok (tt {0}, terminals_view rest.now)) }
-    ensures fault { IfErr result (HasFault (close_round (tt {0}) (terminals_view xs.now))) }
+        closing (closes closer) (tt {0}) (terminals_view xs.now) ≡ Ok (tt {0}, terminals_view rest.now)) }
+    ensures fault { IfErr result (HasFault (closing (closes closer) (tt {0}) (terminals_view xs.now))) }
     ensures shorter { IfOk result (λ rest. length rest.now < length xs.now) }
 {
     match xs {
-        [Terminal::Mark(TokenKind::CloseRound), rest @ ..] => Ok(rest),
-        _ => Err(ReadFault::Form(xs.len())),
+        [] => Err(ReadFault::Form(0)),
+        [first, rest @ ..] => {
+            if closes(closer, first) {
+                Ok(rest)
+            } else {
+                Err(ReadFault::Form(xs.len()))
+            }
+        }
     }
 }
 
@@ -53,7 +99,7 @@ fn begins_term(xs: &[Terminal]) -> bool
     )
 }
 
-/// The fault behind a name and an opening bracket, where there is no level below: the closing bracket
+/// The fault after a name and an opening bracket, where there is no level below: the closing bracket
 /// could follow, but a term would be a level too many.
 fn beyond(xs: &[Terminal]) -> ReadFault
     ensures { result ≡ (if begins_term (terminals_view xs.now) then Deep (length xs.now) else Form (length xs.now)) }
@@ -65,27 +111,21 @@ fn beyond(xs: &[Terminal]) -> ReadFault
     }
 }
 
-/// A name alone, which stands before these terminals.
-#[tactic(auto, unfolding(crate::specs::Reading::name_alone))]
-fn name_alone<'a>(
+/// A term in brackets, after the opening one.
+#[cycle(read)]
+fn term_then_bracket<'a, 'b>(
+    alloc: Global,
     room: u32,
-    name: &'a [u8],
-    rest: &[Terminal<'a>],
-) -> Result<ReadTerm<'a>, ReadFault>
-    ensures ok { IfOk result (λ term. name_alone (lower room) name.now (terminals_view rest.now)
-        ≡ Ok (term_syntax term, terminals_view rest.now)) }
-    ensures fault { IfErr result (HasFault (name_alone (lower room) name.now (terminals_view rest.now))) }
+    xs: &'b [Terminal<'a>],
+) -> Answer<'a, 'b, ReadTerm<'a>>
+    ensures ok { IfOk result (λ read. bracketed_term (above (lower room)) (terminals_view xs.now)
+        ≡ Ok (term_syntax read.0, terminals_view read.1.now)) }
+    ensures fault { IfErr result (HasFault (bracketed_term (above (lower room)) (terminals_view xs.now))) }
+    ensures shorter { IfOk result (λ read. length read.1.now < length xs.now) }
 {
-    match rest {
-        [Terminal::Mark(TokenKind::OpenRound), inner @ ..] => {
-            if room == 0 {
-                Err(beyond(inner))
-            } else {
-                Ok(ReadTerm::Alone(name))
-            }
-        }
-        _ => Ok(ReadTerm::Alone(name)),
-    }
+    let (term, rest) = term_with(alloc, room, xs)?;
+    let rest = close(Closer::Round, rest)?;
+    Ok((term, rest))
 }
 
 /// A term in brackets, of which the opening one stands at the front.
@@ -95,134 +135,284 @@ pub(crate) fn bracketed_term<'a, 'b>(
     room: u32,
     xs: &'b [Terminal<'a>],
 ) -> Answer<'a, 'b, ReadTerm<'a>>
-    ensures ok { IfOk result (λ read. below (lower room) (λ l. bracketed l.term) (terminals_view xs.now)
+    ensures ok { IfOk result (λ read. below (lower room) bracketed_term (terminals_view xs.now)
         ≡ Ok (term_syntax read.0, terminals_view read.1.now)) }
-    ensures fault { IfErr result (HasFault (below (lower room) (λ l. bracketed l.term) (terminals_view xs.now))) }
+    ensures fault { IfErr result (HasFault (below (lower room) bracketed_term (terminals_view xs.now))) }
     ensures shorter { IfOk result (λ read. length read.1.now < length xs.now) }
 {
     let below = level_below(room, xs)?;
     match xs {
         [] => Err(ReadFault::Form(0)),
-        [_, rest @ ..] => {
-            let (term, rest) = term_with(alloc, below, rest)?;
-            let rest = close_round(rest)?;
-            Ok((term, rest))
-        }
+        [_, rest @ ..] => term_then_bracket(alloc, below, rest),
     }
 }
 
-/// The argument at the front, if one begins there.
+/// What follows a name and an opening bracket: the closing one, or a term and the closing one.
+#[cycle(read)]
+#[tactic(auto, unfolding(crate::specs::Reading::opened))]
+fn opened<'a, 'b>(
+    alloc: Global,
+    room: u32,
+    xs: &'b [Terminal<'a>],
+) -> Answer<'a, 'b, Option<ReadTerm<'a>>>
+    ensures ok { IfOk result (λ read. opened (lower room) (terminals_view xs.now)
+        ≡ Ok (option_map term_syntax read.0, terminals_view read.1.now)) }
+    ensures fault { IfErr result (HasFault (opened (lower room) (terminals_view xs.now))) }
+    ensures shorter { IfOk result (λ read. length read.1.now < length xs.now) }
+{
+    match xs {
+        [Terminal::Mark(TokenKind::CloseRound), rest @ ..] => Ok((None, rest)),
+        _ => match room_below(room) {
+            None => Err(beyond(xs)),
+            Some(below) => {
+                let (term, rest) = term_then_bracket(alloc, below, xs)?;
+                Ok((Some(term), rest))
+            }
+        },
+    }
+}
+
+/// The arguments, with the name that stands last among them. An `Err` says that memory ran out.
+fn complete<'a>(alloc: Global, arguments: Arguments<'a>) -> Result<Vec<ReadTerm<'a>>, NoMemory>
+    ensures { IfOk result (λ terms. map term_syntax terms.items ≡ complete (arguments_view arguments.entry)) }
+{
+    match arguments {
+        Arguments::Fresh => Ok(Vec::new(alloc)),
+        Arguments::Empty => Ok(Vec::new(alloc)),
+        Arguments::NameLast(terms, name) => {
+            let mut terms = terms;
+            terms.push(ReadTerm::Alone(name))?;
+            Ok(terms)
+        }
+        Arguments::TermLast(terms) => Ok(terms),
+    }
+}
+
+/// A further argument that begins with a name. An `Err` says that memory ran out.
+fn with_name<'a>(
+    alloc: Global,
+    arguments: Arguments<'a>,
+    name: &'a [u8],
+) -> Result<Arguments<'a>, NoMemory>
+    ensures { IfOk result (λ next. arguments_view next ≡ with_name (arguments_view arguments.entry) name.now) }
+{
+    let terms = complete(alloc, arguments)?;
+    Ok(Arguments::NameLast(terms, name))
+}
+
+/// A further argument in brackets. An `Err` says that memory ran out.
+fn with_term<'a>(
+    alloc: Global,
+    arguments: Arguments<'a>,
+    term: ReadTerm<'a>,
+) -> Result<Arguments<'a>, NoMemory>
+    ensures { IfOk result (λ next. arguments_view next ≡ with_term (arguments_view arguments.entry) (term_syntax term.entry)) }
+{
+    let mut terms = complete(alloc, arguments)?;
+    terms.push(term)?;
+    Ok(Arguments::TermLast(terms))
+}
+
+/// Brackets after a name: a further argument, or `()`, which is the name's. An `Err` says that memory
+/// ran out.
+fn with_brackets<'a>(
+    alloc: Global,
+    found: Option<ReadTerm<'a>>,
+    arguments: Arguments<'a>,
+) -> Result<Arguments<'a>, NoMemory>
+    ensures { IfOk result (λ next.
+        arguments_view next ≡ with_brackets (option_map term_syntax found.entry) (arguments_view arguments.entry)) }
+{
+    match found {
+        Some(term) => with_term(alloc, arguments, term),
+        None => without_term(arguments),
+    }
+}
+
+/// `()` after a name. An `Err` says that memory ran out.
+fn without_term<'a>(arguments: Arguments<'a>) -> Result<Arguments<'a>, NoMemory>
+    ensures { IfOk result (λ next. arguments_view next ≡ with_brackets None (arguments_view arguments.entry)) }
+{
+    match arguments {
+        Arguments::Fresh => Ok(Arguments::Empty),
+        Arguments::Empty => Ok(Arguments::Empty),
+        Arguments::NameLast(terms, name) => {
+            let mut terms = terms;
+            terms.push(ReadTerm::Applied(name, ReadTerms::Empty))?;
+            Ok(Arguments::TermLast(terms))
+        }
+        Arguments::TermLast(terms) => Ok(Arguments::TermLast(terms)),
+    }
+}
+
+/// Whether arguments go on with the first of these terminals.
+fn goes_on(arguments: &Arguments, xs: &[Terminal]) -> bool
+    ensures { result ≡ goes_on (arguments_view arguments.now) (terminals_view xs.now) }
+{
+    match arguments {
+        Arguments::Empty => false,
+        Arguments::Fresh => begins_term(xs),
+        Arguments::NameLast(_, _) => begins_term(xs),
+        Arguments::TermLast(_) => begins_term(xs),
+    }
+}
+
+/// A first argument, or the last bracket of none.
+#[cycle(read)]
+#[tactic(auto, unfolding(crate::specs::Reading::argument))]
+fn first_argument<'a, 'b>(
+    alloc: Global,
+    room: u32,
+    xs: &'b [Terminal<'a>],
+) -> Answer<'a, 'b, Arguments<'a>>
+    ensures ok { IfOk result (λ read. found_or_wrong (argument (lower room) fresh (terminals_view xs.now)) (terminals_view xs.now)
+        ≡ Ok (arguments_view read.0, terminals_view read.1.now)) }
+    ensures fault { IfErr result (HasFault (found_or_wrong (argument (lower room) fresh (terminals_view xs.now)) (terminals_view xs.now))) }
+    ensures shorter { IfOk result (λ read. length read.1.now < length xs.now) }
+{
+    match xs {
+        [Terminal::Free(name), rest @ ..] => {
+            let next = with_name(alloc, Arguments::Fresh, name)?;
+            Ok((next, rest))
+        }
+        [Terminal::Mark(TokenKind::OpenRound), rest @ ..] => {
+            let (found, rest) = opened(alloc, room, rest)?;
+            let next = with_brackets(alloc, found, Arguments::Fresh)?;
+            Ok((next, rest))
+        }
+        _ => Err(ReadFault::Form(xs.len())),
+    }
+}
+
+/// An argument after a name, or brackets that are the name's.
+#[cycle(read)]
+#[tactic(auto, unfolding(crate::specs::Reading::argument))]
+fn argument_after_name<'a, 'b>(
+    alloc: Global,
+    room: u32,
+    terms: Vec<ReadTerm<'a>>,
+    last: &'a [u8],
+    xs: &'b [Terminal<'a>],
+) -> Answer<'a, 'b, Arguments<'a>>
+    ensures ok { IfOk result (λ read. found_or_wrong
+        (argument (lower room) (name_last (map term_syntax terms.entry.items) last.now) (terminals_view xs.now)) (terminals_view xs.now)
+        ≡ Ok (arguments_view read.0, terminals_view read.1.now)) }
+    ensures fault { IfErr result (HasFault (found_or_wrong
+        (argument (lower room) (name_last (map term_syntax terms.entry.items) last.now) (terminals_view xs.now)) (terminals_view xs.now))) }
+    ensures shorter { IfOk result (λ read. length read.1.now < length xs.now) }
+{
+    match xs {
+        [Terminal::Free(name), rest @ ..] => {
+            let next = with_name(alloc, Arguments::NameLast(terms, last), name)?;
+            Ok((next, rest))
+        }
+        [Terminal::Mark(TokenKind::OpenRound), rest @ ..] => {
+            let (found, rest) = opened(alloc, room, rest)?;
+            let next = with_brackets(alloc, found, Arguments::NameLast(terms, last))?;
+            Ok((next, rest))
+        }
+        _ => Err(ReadFault::Form(xs.len())),
+    }
+}
+
+/// An argument after one that is complete.
+#[cycle(read)]
+#[tactic(auto, unfolding(crate::specs::Reading::argument))]
+fn argument_after_term<'a, 'b>(
+    alloc: Global,
+    room: u32,
+    terms: Vec<ReadTerm<'a>>,
+    xs: &'b [Terminal<'a>],
+) -> Answer<'a, 'b, Arguments<'a>>
+    ensures ok { IfOk result (λ read. found_or_wrong
+        (argument (lower room) (term_last (map term_syntax terms.entry.items)) (terminals_view xs.now)) (terminals_view xs.now)
+        ≡ Ok (arguments_view read.0, terminals_view read.1.now)) }
+    ensures fault { IfErr result (HasFault (found_or_wrong
+        (argument (lower room) (term_last (map term_syntax terms.entry.items)) (terminals_view xs.now)) (terminals_view xs.now))) }
+    ensures shorter { IfOk result (λ read. length read.1.now < length xs.now) }
+{
+    match xs {
+        [Terminal::Free(name), rest @ ..] => {
+            let next = with_name(alloc, Arguments::TermLast(terms), name)?;
+            Ok((next, rest))
+        }
+        [Terminal::Mark(TokenKind::OpenRound), ..] => {
+            let (term, rest) = bracketed_term(alloc, room, xs)?;
+            let next = with_term(alloc, Arguments::TermLast(terms), term)?;
+            Ok((next, rest))
+        }
+        _ => Err(ReadFault::Form(xs.len())),
+    }
+}
+
+/// The next argument, or brackets that belong to the last one.
 #[cycle(read)]
 #[tactic(auto, unfolding(crate::specs::Reading::argument))]
 fn argument<'a, 'b>(
     alloc: Global,
     room: u32,
+    arguments: Arguments<'a>,
     xs: &'b [Terminal<'a>],
-) -> Result<Option<(ReadTerm<'a>, &'b [Terminal<'a>])>, ReadFault>
-    ensures some { IfOk result (λ found. IfSome found (λ read. argument (lower room) (terminals_view xs.now)
-        ≡ Some (Ok (term_syntax read.0, terminals_view read.1.now)))) }
-    ensures none { IfOk result (λ found. IfNone found (argument (lower room) (terminals_view xs.now) ≡ None)) }
-    ensures fault { IfErr result (HasFaultOfMember (argument (lower room) (terminals_view xs.now))) }
-    ensures shorter { IfOk result (λ found. IfSome found (λ read. length read.1.now < length xs.now)) }
+) -> Answer<'a, 'b, Arguments<'a>>
+    ensures ok { IfOk result (λ read. found_or_wrong
+        (argument (lower room) (arguments_view arguments.entry) (terminals_view xs.now)) (terminals_view xs.now)
+        ≡ Ok (arguments_view read.0, terminals_view read.1.now)) }
+    ensures fault { IfErr result (HasFault (found_or_wrong
+        (argument (lower room) (arguments_view arguments.entry) (terminals_view xs.now)) (terminals_view xs.now))) }
+    ensures shorter { IfOk result (λ read. length read.1.now < length xs.now) }
 {
-    match xs {
-        [
-            Terminal::Free(name),
-            Terminal::Mark(TokenKind::OpenRound),
-            Terminal::Mark(TokenKind::CloseRound),
-            rest @ ..,
-        ] => Ok(Some((ReadTerm::Applied(name, ReadTerms::Empty), rest))),
-        [Terminal::Free(name), rest @ ..] => {
-            let term = name_alone(room, name, rest)?;
-            Ok(Some((term, rest)))
-        }
-        [Terminal::Mark(TokenKind::OpenRound), ..] => {
-            let read = bracketed_term(alloc, room, xs)?;
-            Ok(Some(read))
-        }
-        _ => Ok(None),
+    match arguments {
+        Arguments::Empty => Err(ReadFault::Form(xs.len())),
+        Arguments::Fresh => first_argument(alloc, room, xs),
+        Arguments::NameLast(terms, last) => argument_after_name(alloc, room, terms, last, xs),
+        Arguments::TermLast(terms) => argument_after_term(alloc, room, terms, xs),
     }
 }
 
-/// The arguments at the front.
+/// What follows a name: nothing, or arguments, of which `()` has none.
 #[cycle(read)]
-fn arguments<'a, 'b>(
+#[tactic(auto, unfolding(crate::specs::Reading::after_name))]
+pub(crate) fn after_name<'a, 'b>(
     alloc: Global,
     room: u32,
     xs: &'b [Terminal<'a>],
-) -> Answer<'a, 'b, Vec<ReadTerm<'a>>>
-    ensures ok { IfOk result (λ read. chain (argument (lower room)) (terminals_view xs.now)
-        ≡ Ok (map term_syntax read.0.items, terminals_view read.1.now)) }
-    ensures fault { IfErr result (HasFault (chain (argument (lower room)) (terminals_view xs.now))) }
+) -> Answer<'a, 'b, Option<Vec<ReadTerm<'a>>>>
+    ensures ok { IfOk result (λ read. after_name (lower room) (terminals_view xs.now)
+        ≡ Ok (arguments_syntax read.0, terminals_view read.1.now)) }
+    ensures fault { IfErr result (HasFault (after_name (lower room) (terminals_view xs.now))) }
     ensures shorter { IfOk result (λ read. length read.1.now ≤ length xs.now) }
 {
-    let mut arguments = Vec::new(alloc);
+    let mut arguments = Arguments::Fresh;
     let mut left = Left { terminals: xs };
-    while let Some((term, rest)) = argument(alloc, room, left.terminals)? {
-        arguments.push(term)?;
+    while goes_on(&arguments, left.terminals) {
+        let (next, rest) = argument(alloc, room, arguments, left.terminals)?;
+        arguments = next;
         left = Left { terminals: rest };
     }
-    Ok((arguments, left.terminals))
+    let terms = arguments_of(alloc, arguments)?;
+    Ok((terms, left.terminals))
 }
 
-/// What stands behind a name, where it is no `()`.
-#[cycle(read)]
-fn arguments_behind_name<'a, 'b>(
+/// The arguments, where there are any. An `Err` says that memory ran out.
+fn arguments_of<'a>(
     alloc: Global,
-    room: u32,
-    xs: &'b [Terminal<'a>],
-) -> Answer<'a, 'b, Option<Vec<ReadTerm<'a>>>>
-    ensures ok { IfOk result (λ read. made some_arguments (chain (argument (lower room)) (terminals_view xs.now))
-        ≡ Ok (arguments_syntax read.0, terminals_view read.1.now)) }
-    ensures fault { IfErr result (HasFault (made some_arguments (chain (argument (lower room)) (terminals_view xs.now)))) }
-    ensures shorter { IfOk result (λ read. length read.1.now ≤ length xs.now) }
+    arguments: Arguments<'a>,
+) -> Result<Option<Vec<ReadTerm<'a>>>, NoMemory>
+    ensures { IfOk result (λ terms. arguments_syntax terms ≡ arguments_of (arguments_view arguments.entry)) }
 {
-    let (arguments, rest) = arguments(alloc, room, xs)?;
-    Ok((some_arguments(arguments), rest))
-}
-
-/// What stands behind a name: nothing, or arguments, of which `()` has none.
-#[cycle(read)]
-#[tactic(auto, unfolding(crate::specs::Reading::behind_name))]
-pub(crate) fn behind_name<'a, 'b>(
-    alloc: Global,
-    room: u32,
-    xs: &'b [Terminal<'a>],
-) -> Answer<'a, 'b, Option<Vec<ReadTerm<'a>>>>
-    ensures ok { IfOk result (λ read. behind_name (lower room) (terminals_view xs.now)
-        ≡ Ok (arguments_syntax read.0, terminals_view read.1.now)) }
-    ensures fault { IfErr result (HasFault (behind_name (lower room) (terminals_view xs.now))) }
-    ensures shorter { IfOk result (λ read. length read.1.now ≤ length xs.now) }
-{
-    match xs {
-        [
-            Terminal::Mark(TokenKind::OpenRound),
-            Terminal::Mark(TokenKind::CloseRound),
-            rest @ ..,
-        ] => Ok((Some(Vec::new(alloc)), rest)),
-        [Terminal::Mark(TokenKind::OpenRound), inner @ ..] => {
-            if room == 0 {
-                Err(beyond(inner))
-            } else {
-                arguments_behind_name(alloc, room, xs)
-            }
+    match arguments {
+        Arguments::Fresh => Ok(None),
+        Arguments::Empty => Ok(Some(Vec::new(alloc))),
+        Arguments::NameLast(terms, name) => {
+            let mut terms = terms;
+            terms.push(ReadTerm::Alone(name))?;
+            Ok(Some(terms))
         }
-        _ => arguments_behind_name(alloc, room, xs),
+        Arguments::TermLast(terms) => Ok(Some(terms)),
     }
 }
 
-/// Arguments that stand behind a name, if there are any.
-fn some_arguments<'a>(arguments: Vec<ReadTerm<'a>>) -> Option<Vec<ReadTerm<'a>>>
-    ensures { arguments_syntax result ≡ some_arguments (map term_syntax arguments.entry.items) }
-{
-    if arguments.is_empty() {
-        None
-    } else {
-        Some(arguments)
-    }
-}
-
-/// A name with what stands behind it.
+/// A name with what follows it.
 fn term_named<'a>(
     alloc: Global,
     name: &'a [u8],
@@ -251,7 +441,7 @@ pub(crate) fn term_with<'a, 'b>(
 {
     match xs {
         [Terminal::Free(name), rest @ ..] => {
-            let (arguments, rest) = behind_name(alloc, room, rest)?;
+            let (arguments, rest) = after_name(alloc, room, rest)?;
             let term = term_named(alloc, name, arguments)?;
             Ok((term, rest))
         }

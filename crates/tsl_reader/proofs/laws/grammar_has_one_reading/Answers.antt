@@ -1,5 +1,4 @@
-use Rattle.tsl_reader.proofs.AgainSections.{one_tree}
-use Rattle.tsl_reader.proofs.Faults.{more_room}
+use Rattle.tsl_reader.proofs.ExactSections.{one_tree, more_room}
 use Rattle.tsl_reader.proofs.laws.grammar_has_one_reading.Goals as goal
 
 pub returns-clause-one : goal.returns-clause-one

@@ -1,16 +1,16 @@
-use Rattle.std.proofs.Common.{◌≡◌, ◌≤◌, length, map}
-use Rattle.tsl_reader.specs.Reading.{chain, item}
+use Rattle.std.proofs.Common.{◌≡◌, ◌≤◌, [], length, map}
+use Rattle.token_readers.specs.Readers.{iterate}
+use Rattle.tsl_reader.specs.Reading.{item, open_items}
 use Rattle.tsl_reader.specs.SyntaxView.{terminals_view, formula_syntax}
-use Rattle.tsl_reader.proofs.ReadChains.{with_members}
 use Rattle.tsl_reader.proofs.sections.formulas.Given as goal
 
 -- the formulas so far, and then those of the terminals that are left
-abbrev pub invariant-loop-formulas : goal.invariant-loop-formulas
-invariant-loop-formulas l = record {
-  chain_is : with_members (map formula_syntax l.formulas.items) (chain (item l.room) (terminals_view l.left.terminals.now))
-      ≡ chain (item l.room) (terminals_view l.fn.xs);
+abbrev pub invariant-loop-alloc : goal.invariant-loop-alloc
+invariant-loop-alloc l = record {
+  rest_is : iterate (item l.room) (open_items (map formula_syntax l.formulas.items)) (terminals_view l.left.terminals.now)
+      ≡ iterate (item l.room) (open_items []) (terminals_view l.fn.xs);
   shorter : length l.left.terminals.now ≤ length l.fn.xs;
 }
 
-abbrev pub decreases-loop-formulas : goal.decreases-loop-formulas
-decreases-loop-formulas l = length l.left.terminals.now
+abbrev pub decreases-loop-alloc : goal.decreases-loop-alloc
+decreases-loop-alloc l = length l.left.terminals.now

@@ -1,0 +1,710 @@
+-- Formulas are read exactly: atoms, prefixes, chains of operands, and the right sides of operators.
+use Rattle.std.proofs.Common.{◌≡◌, ℕ, zero, suc, ◌<◌, Bool, true, false, List, [], ◌∷◌, ◌++◌, refl, ap, sym, ◌∙◌, arith}
+use Rattle.std.proofs.lemmas.List.{append-nil}
+use Rattle.std.specs.Prelude.{Option, Some, None, Ok, codes}
+use Rattle.tsl_text.specs.declared.TokenKind.TheVariants.{OpenRound, CloseRound, OpenSquare, CloseSquare, LeftArrow, And, Or, Arrow, BothArrow}
+use Rattle.token_readers.specs.Readers.{Answer, Reader, form_at, map_read, and_then, below, closed_by, after, members}
+use Rattle.token_readers.specs.Exact.{Grammar, Before, Begins, Exact}
+use Rattle.token_readers.proofs.Runs.{map_same, exact_map, exact_as, before_join, before_map}
+use Rattle.token_readers.proofs.Then.{IsThen, Fits, Any, IsClosed, lift_then, lift_closed, closed_exact, exact_then, map_first, then_left, then_right}
+use Rattle.token_readers.proofs.Terminals.{Turn, AtEnd, by_first, end_wrong, end_gives, end_as, turn_of, turn_wrong, turn_alone, turn_takes, turn_as, IsAfter, after_exact}
+use Rattle.token_readers.proofs.Levels.{Below, Up, lift_up, turn_below, IsTail, lift_tail, tail_exact}
+use Rattle.token_readers.proofs.Lists.{AreAll, none, some, Member, members_exact}
+use Rattle.tsl_reader.specs.declared.syntax.Word.TheVariants.{True, False, X, F, G, U, W, R}
+use Rattle.tsl_terms.specs.declared.operator.UnaryOperator.{UnaryOperator}
+use Rattle.tsl_terms.specs.declared.operator.BinaryOperator.{BinaryOperator}
+use Rattle.tsl_terms.specs.declared.operator.BinaryOperator.TheVariants.{Implication, Equivalence}
+use Rattle.tsl_reader.specs.Syntax.{Terminal, free, word, mark, TermSyntax, alone, terms_of, FormulaSyntax, truth, falsehood, bare, tested, updated, under, between, all_of, any_of}
+use Rattle.tsl_reader.specs.Grammar.{unary_of, temporal_of, IsTerm, signal, in_brackets, IsFormula, temporal, chain as chained, IsIff, no_iff, iff, IsImp, no_imp, imp, IsOr, disjunction, AreDisjuncts, no_disjunct, more_disjuncts, IsAnd, conjunction, AreConjuncts, no_conjunct, more_conjuncts, IsPrefix, prefix, atom, IsAtom, true_atom, false_atom, brackets_atom, update, bare_name, no_argument, test}
+use Rattle.tsl_reader.specs.Reading.{is_close_round, is_close_square, Level, bracketed_formula, atom_named, term_with, update_with, atom_with, after_name, unary_in, prefix_from, prefix_with, conjunct, and_after, and_with, disjunct, or_after_and, or_after, imp_after_or, imp_after, imp_with, iff_after_imp, iff_after, iff_with, temporal_in, formula_from, formula_after, formula_with, above, lower}
+use Rattle.tsl_reader.proofs.Lift.{lift_formula, lift_iff, lift_imp, lift_or, lift_and, lift_prefix, lift_conjuncts, lift_disjuncts}
+use Rattle.tsl_reader.proofs.ExactTerms.{tie, Below_tie, TermExact, lift_terms, round_loose, closed_round, round_closed, a, AreAfterName, nothing, no_arguments, some_arguments, after_name_exact, term_exact}
+
+-- what holds of each level's readers
+pub record LevelExact (room : ℕ) (l : Level) : Type 0 where
+  pub term : TermExact room l
+  pub prefix : Exact IsPrefix (Below_tie 6) room l.prefix
+  pub imp : Exact IsImp (Below_tie 3) room l.imp
+  pub iff : Exact IsIff (Below_tie 2) room l.iff
+  pub formula : Exact IsFormula (Below_tie 1) room l.formula
+
+pub terms_below : (room : ℕ) (low : Option Level) → Below LevelExact room low → Below TermExact room low
+terms_below zero None h = tt
+terms_below zero (Some l) h = absurd h
+terms_below (suc room) None h = absurd h
+terms_below (suc room) (Some l) h = h.term
+
+lift_formulas : (r : ℕ) (xs : List Terminal) (f : FormulaSyntax) → IsFormula r xs f → IsFormula (suc (suc r)) xs f
+lift_formulas r xs f h = lift_formula (omega arith) h
+
+lift_prefixes : (r : ℕ) (xs : List Terminal) (f : FormulaSyntax) → IsPrefix r xs f → IsPrefix (suc (suc r)) xs f
+lift_prefixes r xs f h = lift_prefix (omega arith) h
+
+-- ---- `a` as each form
+
+an_atom : (r : ℕ) → IsAtom r (a ∷ []) (bare (codes "a"))
+an_atom r = bare_name (codes "a")
+
+a_prefix : (r : ℕ) → Begins (IsPrefix r) []
+a_prefix r = record { ending = a ∷ []; value = bare (codes "a"); derives = atom (an_atom r) }
+
+an_and : (r : ℕ) → IsAnd r (a ∷ []) (bare (codes "a"))
+an_and r = conjunction (atom (an_atom r)) no_conjunct
+
+an_or : (r : ℕ) → IsOr r (a ∷ []) (bare (codes "a"))
+an_or r = disjunction (an_and r) no_disjunct
+
+an_imp : (r : ℕ) → Begins (IsImp r) []
+an_imp r = record { ending = a ∷ []; value = bare (codes "a"); derives = no_imp (an_or r) }
+
+an_iff : (r : ℕ) → Begins (IsIff r) []
+an_iff r = record { ending = a ∷ []; value = bare (codes "a"); derives = no_iff (no_imp (an_or r)) }
+
+pub a_formula : (r : ℕ) → IsFormula r (a ∷ []) (bare (codes "a"))
+a_formula r = chained (no_iff (no_imp (an_or r)))
+
+-- ---- updates
+
+is_left_arrow : Terminal → Bool
+is_left_arrow (mark LeftArrow) = true
+is_left_arrow _ = false
+
+is_square : (x : Terminal) → is_close_square x ≡ true → x ≡ mark CloseSquare
+is_square (mark CloseSquare) h = refl
+is_square _ h = cc
+
+square_loose : (x : Terminal) → is_close_square x ≡ true → tie x < 6
+square_loose (mark CloseSquare) h = omega arith
+square_loose _ h = cc
+
+-- an update after its opening bracket, and after its name
+abbrev IsAssigned : Grammar Terminal TermSyntax
+IsAssigned = IsClosed is_close_square IsTerm
+
+abbrev IsUpdate : Grammar Terminal FormulaSyntax
+IsUpdate r (free x ∷ mark LeftArrow ∷ ys) f = (t : TermSyntax) × IsAssigned r ys t × (f ≡ updated x t)
+IsUpdate r _ f = ⊥
+
+abbrev IsArrowed : List ℕ → Grammar Terminal FormulaSyntax
+IsArrowed x r (mark LeftArrow ∷ ys) f = (t : TermSyntax) × IsAssigned r ys t × (f ≡ updated x t)
+IsArrowed x r _ f = ⊥
+
+assigned : Option Level → List ℕ → Reader Terminal FormulaSyntax
+assigned low x (mark LeftArrow ∷ rest) = map_read (updated x) (closed_by is_close_square (term_with low) rest)
+assigned low x xs = form_at xs
+
+an_arrowed : (r : ℕ) (x : List ℕ) → Begins (IsArrowed x r) []
+an_arrowed r x = record {
+  ending = mark LeftArrow ∷ a ∷ mark CloseSquare ∷ [];
+  value = updated x (alone (codes "a"));
+  derives = (alone (codes "a"), record { value = alone (codes "a"); front = a ∷ []; tail = mark CloseSquare ∷ []; split = refl; first = signal (codes "a"); second = (mark CloseSquare, refl, refl, refl) }, refl);
+}
+
+assigned_exact : (room : ℕ) (low : Option Level) → Below TermExact room low → (x : List ℕ) → Exact (IsArrowed x) Any room (assigned low x)
+unfolding assigned
+assigned_exact room low b x = by_first (end_wrong refl (an_arrowed room x) (λ r v h. h)) turn where
+  turn : (y : Terminal) → Turn (IsArrowed x) Any room (assigned low x) y
+  turn (mark LeftArrow) =
+      turn_takes (updated x) (closed_by is_close_square (term_with low)) (λ rest. refl) (λ y h. h) (λ r ys t h. (t, h, refl)) (λ r ys f h. h)
+      (closed_exact is_close_square (mark CloseSquare) refl square_loose lift_terms (term_exact room low b))
+  turn _ = turn_wrong (λ rest. refl) (an_arrowed room x) (λ r ys f h. h)
+
+update_is : (low : Option Level) (x : List ℕ) (rest : List Terminal) → update_with low (free x ∷ rest) ≡ map_read (λ f. f) (assigned low x rest)
+unfolding update_with assigned
+update_is low x (mark LeftArrow ∷ rest) = sym (map_same (map_read (updated x) (closed_by is_close_square (term_with low) rest)))
+update_is low x [] = refl
+update_is low x _ = refl
+
+update_exact : (room : ℕ) (low : Option Level) → Below TermExact room low → Exact IsUpdate Any room (update_with low)
+unfolding update_with
+update_exact room low b = by_first (end_wrong refl an_update (λ r v h. h)) turn where
+  an_update : Begins (IsUpdate room) []
+  an_update = let an = an_arrowed room (codes "a") in record { ending = a ∷ an.ending; value = an.value; derives = an.derives }
+  to : (x : List ℕ) (r : ℕ) (ys : List Terminal) (f : FormulaSyntax) → IsArrowed x r ys f → IsUpdate r (free x ∷ ys) f
+  to x r (mark LeftArrow ∷ ys) f h = h
+  to x r _ f h = absurd h
+  from : (x : List ℕ) (r : ℕ) (ys : List Terminal) (f : FormulaSyntax) → IsUpdate r (free x ∷ ys) f → (g : FormulaSyntax) × IsArrowed x r ys g × (f ≡ g)
+  from x r (mark LeftArrow ∷ ys) f h = (f, h, refl)
+  from x r _ f h = absurd h
+  turn : (y : Terminal) → Turn IsUpdate Any room (update_with low) y
+  turn (free x) = turn_takes (λ f. f) (assigned low x) (update_is low x) (λ y h. h) (to x) (from x) (assigned_exact room low b x)
+  turn _ = turn_wrong (λ rest. refl) an_update (λ r ys f h. h)
+
+-- ---- atoms
+
+abbrev AtomCase : Grammar Terminal FormulaSyntax
+AtomCase r (word True ∷ ys) f = (ys ≡ []) × (f ≡ truth)
+AtomCase r (word False ∷ ys) f = (ys ≡ []) × (f ≡ falsehood)
+AtomCase r (mark OpenRound ∷ ys) f = Up (IsClosed is_close_round IsFormula) r ys f
+AtomCase r (mark OpenSquare ∷ ys) f = IsUpdate r ys f
+AtomCase r (free p ∷ ys) f = (o : Option (List TermSyntax)) × AreAfterName r ys o × (f ≡ atom_named p o)
+AtomCase r _ f = ⊥
+
+atom_case : {r : ℕ} {xs : List Terminal} {f : FormulaSyntax} → IsAtom r xs f → AtomCase r xs f
+atom_case true_atom = (refl, refl)
+atom_case false_atom = (refl, refl)
+atom_case (brackets_atom {room = r} {xs = xs} {a = f} h) = round_closed IsFormula r xs f h
+atom_case (update {xs = xs} {t = t} x h) =
+    (t, record { value = t; front = xs; tail = mark CloseSquare ∷ []; split = refl; first = h; second = (mark CloseSquare, refl, refl, refl) }, refl)
+atom_case (bare_name x) = (None, nothing, refl)
+atom_case (no_argument p) = (Some [], no_arguments, refl)
+atom_case (test {t = t} {ts = ts} p h) = (Some (t ∷ ts), some_arguments h, refl)
+
+atom_of_name : (r : ℕ) (p : List ℕ) (xs : List Terminal) (o : Option (List TermSyntax)) → AreAfterName r xs o → IsAtom r (free p ∷ xs) (atom_named p o)
+atom_of_name r p xs o nothing = bare_name p
+atom_of_name r p xs o no_arguments = no_argument p
+atom_of_name r p xs o (some_arguments h) = test p h
+
+atom_of_update : (r : ℕ) (xs : List Terminal) (f : FormulaSyntax) → IsUpdate r xs f → IsAtom r (mark OpenSquare ∷ xs) f
+atom_of_update r (free x ∷ mark LeftArrow ∷ ys) f h =
+    let closer = h.1.second in
+    let inner : IsTerm r h.1.front h.0 = rw closer.3 h.1.first in
+    let split : ys ≡ h.1.front ++ mark CloseSquare ∷ [] = h.1.split ∙ ap (λ zs. h.1.front ++ zs) (closer.1 ∙ ap (λ c. c ∷ []) (is_square closer.0 closer.2)) in
+    rw (split, h.2) (update x inner)
+atom_of_update r _ f h = absurd h
+
+case_atom : (r : ℕ) (xs : List Terminal) (f : FormulaSyntax) → AtomCase r xs f → IsAtom r xs f
+case_atom r (word True ∷ ys) f h = rw (h.0, h.1) true_atom
+case_atom r (word False ∷ ys) f h = rw (h.0, h.1) false_atom
+case_atom zero (mark OpenRound ∷ ys) f h = absurd h
+case_atom (suc r) (mark OpenRound ∷ ys) f h = let inner = closed_round IsFormula r ys f h in rw inner.1 (brackets_atom inner.2)
+case_atom r (mark OpenSquare ∷ ys) f h = atom_of_update r ys f h
+case_atom r (free p ∷ ys) f h = rw h.2 (atom_of_name r p ys h.0 h.1)
+case_atom r _ f h = absurd h
+
+brackets_below : (k : ℕ) (l : Level) → LevelExact k l → Exact (IsClosed is_close_round IsFormula) Any k (bracketed_formula l)
+brackets_below k l h = closed_exact is_close_round (mark CloseRound) refl (round_loose 0) lift_formulas h.formula
+
+atom_exact : (room : ℕ) (low : Option Level) → Below LevelExact room low → Exact IsAtom (Below_tie 6) room (atom_with low)
+unfolding atom_with
+atom_exact room low b = exact_as case_atom (λ r xs f h. atom_case h) (λ x h. h) (by_first (end_wrong refl some_atom (λ r f h. h)) turn) where
+  some_atom : Begins (AtomCase room) []
+  some_atom = record { ending = a ∷ []; value = bare (codes "a"); derives = (None, nothing, refl) }
+  low_formula : Begins (IsClosed is_close_round IsFormula (suc room)) []
+  low_formula = record { ending = a ∷ mark CloseRound ∷ []; value = bare (codes "a"); derives = round_closed IsFormula (suc room) (a ∷ []) (bare (codes "a")) (a_formula (suc room)) }
+  turn : (x : Terminal) → Turn AtomCase (Below_tie 6) room (atom_with low) x
+  turn (word True) = turn_alone truth (λ rest. refl) (λ r. (refl, refl)) (λ r ys f h. h)
+  turn (word False) = turn_alone falsehood (λ rest. refl) (λ r. (refl, refl)) (λ r ys f h. h)
+  turn (mark OpenRound) =
+      turn_below {Holds = LevelExact} (λ f. f) low bracketed_formula brackets_below b (λ rest. sym (map_same (below low bracketed_formula (mark OpenRound ∷ rest)))) (λ y h. tt)
+      some_atom low_formula (λ r ys f h. h) (λ r ys f h. (f, h, refl))
+  turn (mark OpenSquare) =
+      turn_takes (λ f. f) (update_with low) (λ rest. sym (map_same (update_with low rest))) (λ y h. tt) (λ r ys f h. h) (λ r ys f h. (f, h, refl))
+      (update_exact room low (terms_below room low b))
+  turn (free p) =
+      turn_takes (atom_named p) (after_name low) (λ rest. refl) (λ y h. h) (λ r ys o h. (o, h, refl)) (λ r ys f h. h) (after_name_exact room low (terms_below room low b))
+  turn _ = turn_wrong (λ rest. refl) some_atom (λ r ys f h. h)
+
+-- ---- prefixes
+
+-- the operand of an operator, or an atom
+abbrev PrefixFrom : Option UnaryOperator → Terminal → Grammar Terminal FormulaSyntax
+PrefixFrom None x r ys f = IsAtom r (x ∷ ys) f
+PrefixFrom (Some op) x r ys f = (g : FormulaSyntax) × Up IsPrefix r ys g × (f ≡ under op g)
+
+abbrev PrefixCase : Grammar Terminal FormulaSyntax
+PrefixCase r [] f = ⊥
+PrefixCase r (x ∷ ys) f = PrefixFrom (unary_of x) x r ys f
+
+prefix_of_atom : {r : ℕ} {xs : List Terminal} {f : FormulaSyntax} → IsAtom r xs f → PrefixCase r xs f
+prefix_of_atom true_atom = true_atom
+prefix_of_atom false_atom = false_atom
+prefix_of_atom (brackets_atom h) = brackets_atom h
+prefix_of_atom (update x h) = update x h
+prefix_of_atom (bare_name x) = bare_name x
+prefix_of_atom (no_argument p) = no_argument p
+prefix_of_atom (test p h) = test p h
+
+prefix_case : {r : ℕ} {xs : List Terminal} {f : FormulaSyntax} → IsPrefix r xs f → PrefixCase r xs f
+prefix_case (prefix {a = g} op t is h) = rw is (g, h, refl)
+prefix_case (atom h) = prefix_of_atom h
+
+case_prefix : (r : ℕ) (xs : List Terminal) (f : FormulaSyntax) → PrefixCase r xs f → IsPrefix r xs f
+case_prefix r [] f h = absurd h
+case_prefix r (x ∷ ys) f h = by (unary_of x) refl r h where
+  by : (found : Option UnaryOperator) → unary_of x ≡ found → (r : ℕ) → PrefixFrom found x r ys f → IsPrefix r (x ∷ ys) f
+  by None e r h = atom h
+  by (Some op) e zero h = absurd h.1
+  by (Some op) e (suc r) h = rw h.2 (prefix op x e h.1)
+
+pub prefix_exact : (room : ℕ) (low : Option Level) → Below LevelExact room low → Exact IsPrefix (Below_tie 6) room (prefix_with low)
+unfolding prefix_with prefix_from atom_with
+prefix_exact room low b = exact_as case_prefix (λ r xs f h. prefix_case h) (λ x h. h) (by_first (end_wrong wrong_end some_prefix (λ r f h. h)) (λ x. by x (unary_of x) refl)) where
+  some_prefix : Begins (PrefixCase room) []
+  some_prefix = record { ending = a ∷ []; value = bare (codes "a"); derives = bare_name (codes "a") }
+  wrong_end : prefix_with low [] ≡ form_at []
+  wrong_end = refl
+  as_from : (x : Terminal) (found : Option UnaryOperator) → unary_of x ≡ found → (rest : List Terminal) → prefix_with low (x ∷ rest) ≡ prefix_from low found (x ∷ rest)
+  as_from x found e rest = ap (λ o. prefix_from low o (x ∷ rest)) e
+  by : (x : Terminal) (found : Option UnaryOperator) → unary_of x ≡ found → Turn PrefixCase (Below_tie 6) room (prefix_with low) x
+  by x None e =
+      turn_as (λ f. f) (atom_with low) (λ rest. as_from x None e rest ∙ sym (map_same (atom_with low (x ∷ rest)))) (λ y h. h) (λ r ys f h. prefix_of_atom h)
+      (λ r ys f h. (f, is_atom r ys f h, refl)) (atom_exact room low b) where
+    is_atom : (r : ℕ) (ys : List Terminal) (f : FormulaSyntax) → PrefixFrom (unary_of x) x r ys f → IsAtom r (x ∷ ys) f
+    is_atom r ys f h = rw e at h
+  by x (Some op) e =
+      turn_below {Holds = LevelExact} (under op) low (λ l. l.prefix) (λ k l h. h.prefix) b (as_from x (Some op) e) (λ y h. h) some_prefix (a_prefix (suc room))
+      (λ r ys f h. rw e (f, h, refl)) (λ r ys f h. rw e at h)
+
+-- ---- chains of operands
+
+abbrev is_and : Terminal → Bool
+is_and (mark And) = true
+is_and _ = false
+
+abbrev is_or : Terminal → Bool
+is_or (mark Or) = true
+is_or _ = false
+
+and_is : (x : Terminal) → is_and x ≡ true → x ≡ mark And
+and_is (mark And) h = refl
+and_is _ h = cc
+
+or_is : (x : Terminal) → is_or x ≡ true → x ≡ mark Or
+or_is (mark Or) h = refl
+or_is _ h = cc
+
+pub conjunct_member : (room : ℕ) (low : Option Level) → Below LevelExact room low →
+    Member (IsAfter is_and IsPrefix) (Below_tie 6) (Below_tie 5) room (conjunct low) is_and (after is_and (prefix_with low))
+unfolding conjunct after
+conjunct_member room low b = record {
+  at_end = refl;
+  none = none_here;
+  some = some_here;
+  begins = begins;
+  lift = lift;
+  follows = follows;
+  stops = stops;
+  weaker = λ x h. omega (arith, h);
+  turn = λ x e. turn_of (after_exact is_and (mark And) refl (a_prefix room) (prefix_exact room low b)) x;
+} where
+  none_here : (x : Terminal) (rest : List Terminal) → is_and x ≡ false → conjunct low (x ∷ rest) ≡ None
+  none_here (mark And) rest e = cc
+  none_here _ rest e = refl
+  some_here : (x : Terminal) (rest : List Terminal) → is_and x ≡ true → conjunct low (x ∷ rest) ≡ Some (after is_and (prefix_with low) (x ∷ rest))
+  some_here (mark And) rest e = refl
+  some_here _ rest e = cc
+  begins : (r : ℕ) (xs : List Terminal) (f : FormulaSyntax) → IsAfter is_and IsPrefix r xs f → (x : Terminal) × (ys : List Terminal) × (xs ≡ x ∷ ys) × (is_and x ≡ true)
+  begins r [] f h = absurd h
+  begins r (x ∷ ys) f h = (x, ys, refl, h.0)
+  lift : (r : ℕ) (xs : List Terminal) (f : FormulaSyntax) → IsAfter is_and IsPrefix r xs f → IsAfter is_and IsPrefix (suc (suc r)) xs f
+  lift r [] f h = h
+  lift r (x ∷ ys) f h = (h.0, lift_prefixes r ys f h.1)
+  follows : (x : Terminal) → is_and x ≡ true → tie x < 6
+  follows (mark And) e = omega arith
+  follows _ e = cc
+  stops : (x : Terminal) → tie x < 5 → is_and x ≡ false
+  stops (mark And) e = absurd (omega (arith, e))
+  stops _ e = refl
+
+conjuncts_of : (r : ℕ) (xs : List Terminal) (fs : List FormulaSyntax) → AreAll (IsAfter is_and IsPrefix) r xs fs → AreConjuncts r xs fs
+conjuncts_of r xs fs none = no_conjunct
+conjuncts_of r xs fs (some {f = []} h k) = absurd h
+conjuncts_of r xs fs (some {f = x ∷ f} {g = g} {vs = vs} h k) = rw (and_is x h.0) (more_conjuncts h.1 (conjuncts_of r g vs k))
+
+all_conjuncts : {r : ℕ} {xs : List Terminal} {fs : List FormulaSyntax} → AreConjuncts r xs fs → AreAll (IsAfter is_and IsPrefix) r xs fs
+all_conjuncts no_conjunct = none
+all_conjuncts (more_conjuncts {xs = xs} h k) = some {f = mark And ∷ xs} (refl, h) (all_conjuncts k)
+
+-- the further operands of `&&`
+abbrev AndTail : FormulaSyntax → Grammar Terminal FormulaSyntax
+AndTail a r xs f = (fs : List FormulaSyntax) × AreConjuncts r xs fs × (f ≡ all_of a fs)
+
+and_after_exact : (room : ℕ) (low : Option Level) → Below LevelExact room low → (a : FormulaSyntax) → Exact (AndTail a) (Below_tie 5) room (and_after low a)
+unfolding and_after
+and_after_exact room low b a =
+    exact_map (all_of a) (λ r xs fs h. (fs, h, refl)) (λ r xs f h. h) (exact_as conjuncts_of (λ r xs fs h. all_conjuncts h) (λ x h. h) (members_exact (conjunct_member room low b)))
+
+-- a tail that begins with a terminal which ties so strongly, before one that ties less
+follow : (n : ℕ) (xs rest : List Terminal) → Before (λ x. tie x ≡ n) xs → Before (Below_tie n) rest → Before (Below_tie (suc n)) (xs ++ rest)
+follow n xs rest h k =
+    before_join (Below_tie (suc n)) xs rest (before_map (λ x. tie x ≡ n) (Below_tie (suc n)) (λ x e. omega (arith, e)) xs h)
+    (before_map (Below_tie n) (Below_tie (suc n)) (λ x e. omega (arith, e)) rest k)
+
+and_tail_ties : (a : FormulaSyntax) (r : ℕ) (xs : List Terminal) (f : FormulaSyntax) → AndTail a r xs f → Before (λ x. tie x ≡ 5) xs
+and_tail_ties a r xs f h = by h.1 where
+  by : {xs : List Terminal} {fs : List FormulaSyntax} → AreConjuncts r xs fs → Before (λ x. tie x ≡ 5) xs
+  by no_conjunct = tt
+  by (more_conjuncts h k) = refl
+
+lift_and_tail : (a : FormulaSyntax) (r : ℕ) (xs : List Terminal) (f : FormulaSyntax) → AndTail a r xs f → AndTail a (suc (suc r)) xs f
+lift_and_tail a r xs f h = (h.0, lift_conjuncts (omega arith) h.1, h.2)
+
+and_tails : Fits IsPrefix AndTail
+and_tails = record { lift = lift_prefixes; default = λ r a. record { ending = []; value = a; derives = ([], no_conjunct, refl) } }
+
+and_parts : (r : ℕ) (xs : List Terminal) (f : FormulaSyntax) → IsAnd r xs f → IsThen IsPrefix AndTail r xs f
+and_parts r xs f (conjunction {xs = front} {ys = tail} {a = a} {fs = fs} h k) = record { value = a; front = front; tail = tail; split = refl; first = h; second = (fs, k, refl) }
+
+and_of : (r : ℕ) (xs : List Terminal) (f : FormulaSyntax) → IsThen IsPrefix AndTail r xs f → IsAnd r xs f
+and_of r xs f h = rw (h.split, h.second.2) (conjunction h.first h.second.1)
+
+and_exact : (room : ℕ) (low : Option Level) → Below LevelExact room low → Exact IsAnd (Below_tie 5) room (and_with low)
+unfolding and_with
+and_exact room low b =
+    exact_as and_of and_parts (λ x h. h)
+    (exact_then and_tails (λ r a xs f h rest k. follow 5 xs rest (and_tail_ties a r xs f h) k) (prefix_exact room low b) (and_after_exact room low b))
+
+pub disjunct_member : (room : ℕ) (low : Option Level) → Below LevelExact room low →
+    Member (IsAfter is_or IsAnd) (Below_tie 5) (Below_tie 4) room (disjunct low) is_or (after is_or (and_with low))
+unfolding disjunct after
+disjunct_member room low b = record {
+  at_end = refl;
+  none = none_here;
+  some = some_here;
+  begins = begins;
+  lift = lift;
+  follows = follows;
+  stops = stops;
+  weaker = λ x h. omega (arith, h);
+  turn = λ x e. turn_of (after_exact is_or (mark Or) refl (record { ending = a ∷ []; value = bare (codes "a"); derives = an_and room }) (and_exact room low b)) x;
+} where
+  none_here : (x : Terminal) (rest : List Terminal) → is_or x ≡ false → disjunct low (x ∷ rest) ≡ None
+  none_here (mark Or) rest e = cc
+  none_here _ rest e = refl
+  some_here : (x : Terminal) (rest : List Terminal) → is_or x ≡ true → disjunct low (x ∷ rest) ≡ Some (after is_or (and_with low) (x ∷ rest))
+  some_here (mark Or) rest e = refl
+  some_here _ rest e = cc
+  begins : (r : ℕ) (xs : List Terminal) (f : FormulaSyntax) → IsAfter is_or IsAnd r xs f → (x : Terminal) × (ys : List Terminal) × (xs ≡ x ∷ ys) × (is_or x ≡ true)
+  begins r [] f h = absurd h
+  begins r (x ∷ ys) f h = (x, ys, refl, h.0)
+  lift : (r : ℕ) (xs : List Terminal) (f : FormulaSyntax) → IsAfter is_or IsAnd r xs f → IsAfter is_or IsAnd (suc (suc r)) xs f
+  lift r [] f h = h
+  lift r (x ∷ ys) f h = (h.0, lift_and (omega arith) h.1)
+  follows : (x : Terminal) → is_or x ≡ true → tie x < 5
+  follows (mark Or) e = omega arith
+  follows _ e = cc
+  stops : (x : Terminal) → tie x < 4 → is_or x ≡ false
+  stops (mark Or) e = absurd (omega (arith, e))
+  stops _ e = refl
+
+disjuncts_of : (r : ℕ) (xs : List Terminal) (fs : List FormulaSyntax) → AreAll (IsAfter is_or IsAnd) r xs fs → AreDisjuncts r xs fs
+disjuncts_of r xs fs none = no_disjunct
+disjuncts_of r xs fs (some {f = []} h k) = absurd h
+disjuncts_of r xs fs (some {f = x ∷ f} {g = g} {vs = vs} h k) = rw (or_is x h.0) (more_disjuncts h.1 (disjuncts_of r g vs k))
+
+all_disjuncts : {r : ℕ} {xs : List Terminal} {fs : List FormulaSyntax} → AreDisjuncts r xs fs → AreAll (IsAfter is_or IsAnd) r xs fs
+all_disjuncts no_disjunct = none
+all_disjuncts (more_disjuncts {xs = xs} h k) = some {f = mark Or ∷ xs} (refl, h) (all_disjuncts k)
+
+-- the further operands of `||`
+abbrev OrTail : FormulaSyntax → Grammar Terminal FormulaSyntax
+OrTail a r xs f = (fs : List FormulaSyntax) × AreDisjuncts r xs fs × (f ≡ any_of a fs)
+
+or_tail_exact : (room : ℕ) (low : Option Level) → Below LevelExact room low → (a : FormulaSyntax) → Exact (OrTail a) (Below_tie 4) room (or_after_and low a)
+unfolding or_after_and
+or_tail_exact room low b a =
+    exact_map (any_of a) (λ r xs fs h. (fs, h, refl)) (λ r xs f h. h) (exact_as disjuncts_of (λ r xs fs h. all_disjuncts h) (λ x h. h) (members_exact (disjunct_member room low b)))
+
+or_tail_ties : (a : FormulaSyntax) (r : ℕ) (xs : List Terminal) (f : FormulaSyntax) → OrTail a r xs f → Before (λ x. tie x ≡ 4) xs
+or_tail_ties a r xs f h = by h.1 where
+  by : {xs : List Terminal} {fs : List FormulaSyntax} → AreDisjuncts r xs fs → Before (λ x. tie x ≡ 4) xs
+  by no_disjunct = tt
+  by (more_disjuncts h k) = refl
+
+lift_or_tail : (a : FormulaSyntax) (r : ℕ) (xs : List Terminal) (f : FormulaSyntax) → OrTail a r xs f → OrTail a (suc (suc r)) xs f
+lift_or_tail a r xs f h = (h.0, lift_disjuncts (omega arith) h.1, h.2)
+
+or_parts : (r : ℕ) (xs : List Terminal) (f : FormulaSyntax) → IsOr r xs f → IsThen IsAnd OrTail r xs f
+or_parts r xs f (disjunction {xs = front} {ys = tail} {a = a} {fs = fs} h k) = record { value = a; front = front; tail = tail; split = refl; first = h; second = (fs, k, refl) }
+
+or_of : (r : ℕ) (xs : List Terminal) (f : FormulaSyntax) → IsThen IsAnd OrTail r xs f → IsOr r xs f
+or_of r xs f h = rw (h.split, h.second.2) (disjunction h.first h.second.1)
+
+-- ---- the right sides of arrows
+
+abbrev is_arrow : Terminal → Bool
+is_arrow (mark Arrow) = true
+is_arrow _ = false
+
+abbrev is_both : Terminal → Bool
+is_both (mark BothArrow) = true
+is_both _ = false
+
+arrow_is : (x : Terminal) → is_arrow x ≡ true → (x ≡ mark Arrow) × (tie x ≡ 3)
+arrow_is (mark Arrow) h = (refl, refl)
+arrow_is _ h = cc
+
+both_is : (x : Terminal) → is_both x ≡ true → (x ≡ mark BothArrow) × (tie x ≡ 2)
+both_is (mark BothArrow) h = (refl, refl)
+both_is _ h = cc
+
+abbrev ImpTail : FormulaSyntax → Grammar Terminal FormulaSyntax
+ImpTail a = IsTail is_arrow (between Implication a) IsImp a
+
+abbrev IffTail : FormulaSyntax → Grammar Terminal FormulaSyntax
+IffTail a = IsTail is_both (between Equivalence a) IsIff a
+
+imp_tail_exact : (room : ℕ) (low : Option Level) → Below LevelExact room low → (a : FormulaSyntax) → Exact (ImpTail a) (Below_tie 3) room (imp_after_or low a)
+unfolding imp_after_or
+imp_tail_exact room low b a =
+    tail_exact is_arrow (between Implication a) {Holds = LevelExact} a low (λ l. l.imp) (λ k l h. h.imp) b refl goes stays stops (λ x h. h) (an_imp (suc room)) where
+  goes : (x : Terminal) (rest : List Terminal) → is_arrow x ≡ true → imp_after_or low a (x ∷ rest) ≡ map_read (between Implication a) (below low (λ l. l.imp) (x ∷ rest))
+  goes (mark Arrow) rest e = refl
+  goes _ rest e = cc
+  stays : (x : Terminal) (rest : List Terminal) → is_arrow x ≡ false → imp_after_or low a (x ∷ rest) ≡ Ok (a, x ∷ rest)
+  stays (mark Arrow) rest e = cc
+  stays _ rest e = refl
+  stops : (x : Terminal) → tie x < 3 → is_arrow x ≡ false
+  stops (mark Arrow) e = absurd (omega (arith, e))
+  stops _ e = refl
+
+iff_tail_exact : (room : ℕ) (low : Option Level) → Below LevelExact room low → (a : FormulaSyntax) → Exact (IffTail a) (Below_tie 2) room (iff_after_imp low a)
+unfolding iff_after_imp
+iff_tail_exact room low b a =
+    tail_exact is_both (between Equivalence a) {Holds = LevelExact} a low (λ l. l.iff) (λ k l h. h.iff) b refl goes stays stops (λ x h. h) (an_iff (suc room)) where
+  goes : (x : Terminal) (rest : List Terminal) → is_both x ≡ true → iff_after_imp low a (x ∷ rest) ≡ map_read (between Equivalence a) (below low (λ l. l.iff) (x ∷ rest))
+  goes (mark BothArrow) rest e = refl
+  goes _ rest e = cc
+  stays : (x : Terminal) (rest : List Terminal) → is_both x ≡ false → iff_after_imp low a (x ∷ rest) ≡ Ok (a, x ∷ rest)
+  stays (mark BothArrow) rest e = cc
+  stays _ rest e = refl
+  stops : (x : Terminal) → tie x < 2 → is_both x ≡ false
+  stops (mark BothArrow) e = absurd (omega (arith, e))
+  stops _ e = refl
+
+tail_ties : (is : Terminal → Bool) (make : FormulaSyntax → FormulaSyntax) (Low : Grammar Terminal FormulaSyntax) (n : ℕ) → ((x : Terminal) → is x ≡ true → tie x ≡ n) →
+    (a : FormulaSyntax) (r : ℕ) (xs : List Terminal) (f : FormulaSyntax) → IsTail is make Low a r xs f → Before (λ x. tie x ≡ n) xs
+tail_ties is make Low n ties a r [] f h = tt
+tail_ties is make Low n ties a r (x ∷ ys) f h = ties x h.0
+
+imp_tail_ties : (a : FormulaSyntax) (r : ℕ) (xs : List Terminal) (f : FormulaSyntax) → ImpTail a r xs f → Before (λ x. tie x ≡ 3) xs
+imp_tail_ties a = tail_ties is_arrow (between Implication a) IsImp 3 (λ x e. (arrow_is x e).1) a
+
+iff_tail_ties : (a : FormulaSyntax) (r : ℕ) (xs : List Terminal) (f : FormulaSyntax) → IffTail a r xs f → Before (λ x. tie x ≡ 2) xs
+iff_tail_ties a = tail_ties is_both (between Equivalence a) IsIff 2 (λ x e. (both_is x e).1) a
+
+imp_parts : (r : ℕ) (xs : List Terminal) (f : FormulaSyntax) → IsImp r xs f → IsThen IsOr ImpTail r xs f
+imp_parts r xs f (no_imp h) = record { value = f; front = xs; tail = []; split = sym (append-nil xs); first = h; second = refl }
+imp_parts r xs f (imp {xs = front} {ys = ys} {a = a} {b = c} h k) =
+    record { value = a; front = front; tail = mark Arrow ∷ ys; split = refl; first = h; second = (refl, (c, k, refl)) }
+
+imp_of : (r : ℕ) (xs : List Terminal) (f : FormulaSyntax) → IsThen IsOr ImpTail r xs f → IsImp r xs f
+imp_of r xs f h = by r h.tail h.first h.second h.split where
+  by : (r : ℕ) (tail : List Terminal) → IsOr r h.front h.value → ImpTail h.value r tail f → xs ≡ h.front ++ tail → IsImp r xs f
+  by r [] first second split = rw (split, append-nil, second) (no_imp first)
+  by zero (x ∷ ys) first second split = absurd second.1.1
+  by (suc r) (x ∷ ys) first second split = rw (split, (arrow_is x second.0).0, second.1.2) (imp first second.1.1)
+
+iff_parts : (r : ℕ) (xs : List Terminal) (f : FormulaSyntax) → IsIff r xs f → IsThen IsImp IffTail r xs f
+iff_parts r xs f (no_iff h) = record { value = f; front = xs; tail = []; split = sym (append-nil xs); first = h; second = refl }
+iff_parts r xs f (iff {xs = front} {ys = ys} {a = a} {b = c} h k) =
+    record { value = a; front = front; tail = mark BothArrow ∷ ys; split = refl; first = h; second = (refl, (c, k, refl)) }
+
+iff_of : (r : ℕ) (xs : List Terminal) (f : FormulaSyntax) → IsThen IsImp IffTail r xs f → IsIff r xs f
+iff_of r xs f h = by r h.tail h.first h.second h.split where
+  by : (r : ℕ) (tail : List Terminal) → IsImp r h.front h.value → IffTail h.value r tail f → xs ≡ h.front ++ tail → IsIff r xs f
+  by r [] first second split = rw (split, append-nil, second) (no_iff first)
+  by zero (x ∷ ys) first second split = absurd second.1.1
+  by (suc r) (x ∷ ys) first second split = rw (split, (both_is x second.0).0, second.1.2) (iff first second.1.1)
+
+-- ---- each form, by its first prefix and what follows it
+
+abbrev OrAfter : FormulaSyntax → Grammar Terminal FormulaSyntax
+OrAfter a = IsThen (AndTail a) OrTail
+
+abbrev ImpAfter : FormulaSyntax → Grammar Terminal FormulaSyntax
+ImpAfter a = IsThen (OrAfter a) ImpTail
+
+abbrev IffAfter : FormulaSyntax → Grammar Terminal FormulaSyntax
+IffAfter a = IsThen (ImpAfter a) IffTail
+
+lift_or_after : (a : FormulaSyntax) (r : ℕ) (xs : List Terminal) (f : FormulaSyntax) → OrAfter a r xs f → OrAfter a (suc (suc r)) xs f
+lift_or_after a = lift_then (AndTail a) OrTail (lift_and_tail a) lift_or_tail
+
+lift_imp_after : (a : FormulaSyntax) (r : ℕ) (xs : List Terminal) (f : FormulaSyntax) → ImpAfter a r xs f → ImpAfter a (suc (suc r)) xs f
+lift_imp_after a = lift_then (OrAfter a) ImpTail (lift_or_after a) (λ c. lift_tail is_arrow (between Implication c) IsImp (λ r xs f h. lift_imp (omega arith) h) c)
+
+or_after_exact : (room : ℕ) (low : Option Level) → Below LevelExact room low → (a : FormulaSyntax) → Exact (OrAfter a) (Below_tie 4) room (or_after low a)
+unfolding or_after
+or_after_exact room low b a =
+    exact_then (record { lift = lift_and_tail a; default = λ r c. record { ending = []; value = c; derives = ([], no_disjunct, refl) } })
+    (λ r c xs f h rest k. follow 4 xs rest (or_tail_ties c r xs f h) k) (and_after_exact room low b a) (or_tail_exact room low b)
+
+imp_after_exact : (room : ℕ) (low : Option Level) → Below LevelExact room low → (a : FormulaSyntax) → Exact (ImpAfter a) (Below_tie 3) room (imp_after low a)
+unfolding imp_after
+imp_after_exact room low b a =
+    exact_then (record { lift = lift_or_after a; default = λ r c. record { ending = []; value = c; derives = refl } })
+    (λ r c xs f h rest k. follow 3 xs rest (imp_tail_ties c r xs f h) k) (or_after_exact room low b a) (imp_tail_exact room low b)
+
+iff_after_exact : (room : ℕ) (low : Option Level) → Below LevelExact room low → (a : FormulaSyntax) → Exact (IffAfter a) (Below_tie 2) room (iff_after low a)
+unfolding iff_after
+iff_after_exact room low b a =
+    exact_then (record { lift = lift_imp_after a; default = λ r c. record { ending = []; value = c; derives = refl } })
+    (λ r c xs f h rest k. follow 2 xs rest (iff_tail_ties c r xs f h) k) (imp_after_exact room low b a) (iff_tail_exact room low b)
+
+or_first : (r : ℕ) (xs : List Terminal) (f : FormulaSyntax) → IsOr r xs f → IsThen IsPrefix OrAfter r xs f
+or_first r xs f h = then_right IsPrefix AndTail OrTail r xs f (map_first IsAnd (IsThen IsPrefix AndTail) OrTail and_parts r xs f (or_parts r xs f h))
+
+first_or : (r : ℕ) (xs : List Terminal) (f : FormulaSyntax) → IsThen IsPrefix OrAfter r xs f → IsOr r xs f
+first_or r xs f h = or_of r xs f (map_first (IsThen IsPrefix AndTail) IsAnd OrTail and_of r xs f (then_left IsPrefix AndTail OrTail r xs f h))
+
+imp_first : (r : ℕ) (xs : List Terminal) (f : FormulaSyntax) → IsImp r xs f → IsThen IsPrefix ImpAfter r xs f
+imp_first r xs f h = then_right IsPrefix OrAfter ImpTail r xs f (map_first IsOr (IsThen IsPrefix OrAfter) ImpTail or_first r xs f (imp_parts r xs f h))
+
+first_imp : (r : ℕ) (xs : List Terminal) (f : FormulaSyntax) → IsThen IsPrefix ImpAfter r xs f → IsImp r xs f
+first_imp r xs f h = imp_of r xs f (map_first (IsThen IsPrefix OrAfter) IsOr ImpTail first_or r xs f (then_left IsPrefix OrAfter ImpTail r xs f h))
+
+iff_first : (r : ℕ) (xs : List Terminal) (f : FormulaSyntax) → IsIff r xs f → IsThen IsPrefix IffAfter r xs f
+iff_first r xs f h = then_right IsPrefix ImpAfter IffTail r xs f (map_first IsImp (IsThen IsPrefix ImpAfter) IffTail imp_first r xs f (iff_parts r xs f h))
+
+first_iff : (r : ℕ) (xs : List Terminal) (f : FormulaSyntax) → IsThen IsPrefix IffAfter r xs f → IsIff r xs f
+first_iff r xs f h = iff_of r xs f (map_first (IsThen IsPrefix ImpAfter) IsImp IffTail first_imp r xs f (then_left IsPrefix ImpAfter IffTail r xs f h))
+
+-- an operator between formulas begins what follows a prefix
+abbrev Infix : Terminal → Type 0
+Infix x = (1 < tie x) × (tie x < 6)
+
+is_infix : (n : ℕ) → 1 < n → n < 6 → (xs : List Terminal) → Before (λ x. tie x ≡ n) xs → Before Infix xs
+is_infix n more few xs h = before_map (λ x. tie x ≡ n) Infix (λ x e. (omega (arith, e, more), omega (arith, e, few))) xs h
+
+or_after_infix : (a : FormulaSyntax) (r : ℕ) (xs : List Terminal) (f : FormulaSyntax) → OrAfter a r xs f → Before Infix xs
+or_after_infix a r xs f h =
+    rw h.split (before_join Infix h.front h.tail (is_infix 5 (omega arith) (omega arith) h.front (and_tail_ties a r h.front h.value h.first))
+    (is_infix 4 (omega arith) (omega arith) h.tail (or_tail_ties h.value r h.tail f h.second)))
+
+imp_after_infix : (a : FormulaSyntax) (r : ℕ) (xs : List Terminal) (f : FormulaSyntax) → ImpAfter a r xs f → Before Infix xs
+imp_after_infix a r xs f h =
+    rw h.split (before_join Infix h.front h.tail (or_after_infix a r h.front h.value h.first)
+    (is_infix 3 (omega arith) (omega arith) h.tail (imp_tail_ties h.value r h.tail f h.second)))
+
+iff_after_infix : (a : FormulaSyntax) (r : ℕ) (xs : List Terminal) (f : FormulaSyntax) → IffAfter a r xs f → Before Infix xs
+iff_after_infix a r xs f h =
+    rw h.split (before_join Infix h.front h.tail (imp_after_infix a r h.front h.value h.first)
+    (is_infix 2 (omega arith) (omega arith) h.tail (iff_tail_ties h.value r h.tail f h.second)))
+
+-- before terminals that tie so weakly
+before_prefix : (n : ℕ) → n < 6 → (xs rest : List Terminal) → Before Infix xs → Before (Below_tie n) rest → Before (Below_tie 6) (xs ++ rest)
+before_prefix n few xs rest h k =
+    before_join (Below_tie 6) xs rest (before_map Infix (Below_tie 6) (λ x e. e.1) xs h) (before_map (Below_tie n) (Below_tie 6) (λ x e. omega (arith, e, few)) rest k)
+
+abbrev nothing_more : (a : FormulaSyntax) (r : ℕ) → IffAfter a r [] a
+nothing_more a r = record {
+  value = a;
+  front = [];
+  tail = [];
+  split = refl;
+  first = record {
+    value = a;
+    front = [];
+    tail = [];
+    split = refl;
+    first = record { value = a; front = []; tail = []; split = refl; first = ([], no_conjunct, refl); second = ([], no_disjunct, refl) };
+    second = refl;
+  };
+  second = refl;
+}
+
+pub imp_exact : (room : ℕ) (low : Option Level) → Below LevelExact room low → Exact IsImp (Below_tie 3) room (imp_with low)
+unfolding imp_with
+imp_exact room low b =
+    exact_as first_imp imp_first (λ x h. h)
+    (exact_then (record { lift = lift_prefixes; default = λ r c. record { ending = []; value = c; derives = (nothing_more c r).first } })
+    (λ r c xs f h rest k. before_prefix 3 (omega arith) xs rest (imp_after_infix c r xs f h) k) (prefix_exact room low b) (imp_after_exact room low b))
+
+pub iff_exact : (room : ℕ) (low : Option Level) → Below LevelExact room low → Exact IsIff (Below_tie 2) room (iff_with low)
+unfolding iff_with
+iff_exact room low b =
+    exact_as first_iff iff_first (λ x h. h)
+    (exact_then (record { lift = lift_prefixes; default = λ r c. record { ending = []; value = c; derives = nothing_more c r } })
+    (λ r c xs f h rest k. before_prefix 2 (omega arith) xs rest (iff_after_infix c r xs f h) k) (prefix_exact room low b) (iff_after_exact room low b))
+
+-- ---- whole formulas
+
+-- what follows the first prefix of a formula
+abbrev FormulaFrom : Option BinaryOperator → FormulaSyntax → Terminal → Grammar Terminal FormulaSyntax
+FormulaFrom None a x r ys f = IffAfter a r (x ∷ ys) f
+FormulaFrom (Some op) a x r ys f = (g : FormulaSyntax) × IsPrefix r ys g × (f ≡ between op a g)
+
+abbrev FormulaTail : FormulaSyntax → Grammar Terminal FormulaSyntax
+FormulaTail a r [] f = IffAfter a r [] f
+FormulaTail a r (x ∷ ys) f = FormulaFrom (temporal_of x) a x r ys f
+
+not_temporal : (x : Terminal) → Infix x → temporal_of x ≡ None
+not_temporal (word U) h = absurd (omega (arith, h.0))
+not_temporal (word W) h = absurd (omega (arith, h.0))
+not_temporal (word R) h = absurd (omega (arith, h.0))
+not_temporal _ h = refl
+
+loose_not_temporal : (x : Terminal) → tie x < 1 → temporal_of x ≡ None
+loose_not_temporal (word U) h = absurd (omega (arith, h))
+loose_not_temporal (word W) h = absurd (omega (arith, h))
+loose_not_temporal (word R) h = absurd (omega (arith, h))
+loose_not_temporal _ h = refl
+
+temporal_ties : (x : Terminal) (op : BinaryOperator) → temporal_of x ≡ Some op → tie x < 6
+temporal_ties (word U) op h = omega arith
+temporal_ties (word W) op h = omega arith
+temporal_ties (word R) op h = omega arith
+temporal_ties _ op h = cc
+
+as_tail : (a : FormulaSyntax) (r : ℕ) (xs : List Terminal) (f : FormulaSyntax) → IffAfter a r xs f → FormulaTail a r xs f
+as_tail a r [] f h = h
+as_tail a r (x ∷ ys) f h = rw (not_temporal x (iff_after_infix a r (x ∷ ys) f h)) h
+
+formula_after_exact : (room : ℕ) (low : Option Level) → Below LevelExact room low → (a : FormulaSyntax) → Exact (FormulaTail a) (Below_tie 1) room (formula_after low a)
+unfolding formula_after formula_from
+formula_after_exact room low b a =
+    by_first
+    (end_as (λ f. f) (iff_after low a) (sym (map_same (iff_after low a []))) (λ y h. omega (arith, h)) (as_tail a) (λ r f h. (f, h, refl))
+    (λ r f h y rest e. as_from y None (loose_not_temporal y e) rest ∙ sym (map_same (iff_after low a (y ∷ rest)))) (iff_after_exact room low b a))
+    (λ x. by x (temporal_of x) refl) where
+  as_from : (x : Terminal) (found : Option BinaryOperator) → temporal_of x ≡ found → (rest : List Terminal) → formula_after low a (x ∷ rest) ≡ formula_from low found a (x ∷ rest)
+  as_from x found e rest = ap (λ o. formula_from low o a (x ∷ rest)) e
+  by : (x : Terminal) (found : Option BinaryOperator) → temporal_of x ≡ found → Turn (FormulaTail a) (Below_tie 1) room (formula_after low a) x
+  by x None e =
+      turn_as (λ f. f) (iff_after low a) (λ rest. as_from x None e rest ∙ sym (map_same (iff_after low a (x ∷ rest)))) (λ y h. omega (arith, h)) (as_tail a)
+      (λ r ys f h. (f, is_after r ys f h, refl)) (iff_after_exact room low b a) where
+    is_after : (r : ℕ) (ys : List Terminal) (f : FormulaSyntax) → FormulaFrom (temporal_of x) a x r ys f → IffAfter a r (x ∷ ys) f
+    is_after r ys f h = rw e at h
+  by x (Some op) e =
+      turn_takes (between op a) (prefix_with low) (as_from x (Some op) e) (λ y h. omega (arith, h)) (λ r ys f h. rw e (f, h, refl)) (λ r ys f h. rw e at h) (prefix_exact room low b)
+
+pub formula_parts : (r : ℕ) (xs : List Terminal) (f : FormulaSyntax) → IsFormula r xs f → IsThen IsPrefix FormulaTail r xs f
+formula_parts r xs f (temporal {xs = front} {ys = ys} {a = a} {b = c} op t is h k) =
+    record { value = a; front = front; tail = t ∷ ys; split = refl; first = h; second = rw is (c, k, refl) }
+formula_parts r xs f (chained h) =
+    let parts : IsThen IsPrefix IffAfter r xs f = iff_first r xs f h in
+    record { value = parts.value; front = parts.front; tail = parts.tail; split = parts.split; first = parts.first; second = as_tail parts.value r parts.tail f parts.second }
+
+formula_of : (r : ℕ) (xs : List Terminal) (f : FormulaSyntax) → IsThen IsPrefix FormulaTail r xs f → IsFormula r xs f
+formula_of r xs f h = by h.tail h.second h.split where
+  whole : (tail : List Terminal) → IffAfter h.value r tail f → xs ≡ h.front ++ tail → IsFormula r xs f
+  whole tail second split = chained (first_iff r xs f (record { value = h.value; front = h.front; tail = tail; split = split; first = h.first; second = second }))
+  by_operator : (x : Terminal) (ys : List Terminal) (found : Option BinaryOperator) → temporal_of x ≡ found → FormulaFrom found h.value x r ys f → xs ≡ h.front ++ x ∷ ys → IsFormula r xs f
+  by_operator x ys None e second split = whole (x ∷ ys) second split
+  by_operator x ys (Some op) e second split = rw (split, second.2) (temporal op x e h.first second.1)
+  by : (tail : List Terminal) → FormulaTail h.value r tail f → xs ≡ h.front ++ tail → IsFormula r xs f
+  by [] second split = whole [] second split
+  by (x ∷ ys) second split = by_operator x ys (temporal_of x) refl second split
+
+pub formula_exact : (room : ℕ) (low : Option Level) → Below LevelExact room low → Exact IsFormula (Below_tie 1) room (formula_with low)
+unfolding formula_with
+formula_exact room low b =
+    exact_as formula_of formula_parts (λ x h. h)
+    (exact_then (record { lift = lift_prefixes; default = λ r c. record { ending = []; value = c; derives = nothing_more c r } }) follow_tail (prefix_exact room low b)
+    (formula_after_exact room low b)) where
+  by_found : (r : ℕ) (c : FormulaSyntax) (x : Terminal) (ys : List Terminal) (f : FormulaSyntax) (found : Option BinaryOperator) → temporal_of x ≡ found → FormulaFrom found c x r ys f → tie x < 6
+  by_found r c x ys f None e h = (iff_after_infix c r (x ∷ ys) f h).1
+  by_found r c x ys f (Some op) e h = temporal_ties x op e
+  follow_tail : (r : ℕ) (c : FormulaSyntax) (xs : List Terminal) (f : FormulaSyntax) → FormulaTail c r xs f → (rest : List Terminal) → Before (Below_tie 1) rest → Before (Below_tie 6) (xs ++ rest)
+  follow_tail r c [] f h rest k = before_map (Below_tie 1) (Below_tie 6) (λ x e. omega (arith, e)) rest k
+  follow_tail r c (x ∷ ys) f h rest k = by_found r c x ys f (temporal_of x) refl h
+
+-- ---- all levels
+
+level_exact : (room : ℕ) → Below LevelExact room (lower room) → LevelExact room (above (lower room))
+unfolding above
+level_exact room b = record {
+  term = term_exact room (lower room) (terms_below room (lower room) b);
+  prefix = prefix_exact room (lower room) b;
+  imp = imp_exact room (lower room) b;
+  iff = iff_exact room (lower room) b;
+  formula = formula_exact room (lower room) b;
+}
+
+-- each level is read exactly
+pub below_exact : (room : ℕ) → Below LevelExact room (lower room)
+unfolding lower
+below_exact zero = tt
+below_exact (suc room) = level_exact room (below_exact room)
