@@ -1,23 +1,62 @@
 -- A step as often as it goes on.
-use Rattle.std.proofs.Common.{◌≡◌, ℕ, zero, suc, ◌<◌, Bool, true, false, List, [], ◌∷◌, ◌++◌, length, refl, ap, sym, ◌∙◌, append_assoc, length-append, arith}
+use Rattle.std.proofs.Common.{
+  ◌≡◌,
+  ℕ,
+  zero,
+  suc,
+  ◌<◌,
+  Bool,
+  true,
+  false,
+  List,
+  [],
+  ◌∷◌,
+  ◌++◌,
+  length,
+  refl,
+  ap,
+  sym,
+  ◌∙◌,
+  append_assoc,
+  length-append,
+  arith,
+}
 use Rattle.std.specs.Prelude.{Option, Some, None, Ok, Err}
 use Rattle.token_readers.specs.Readers.{Fault, Answer, Reader, and_then, go_on, iterate_most, iterate, map_read}
-use Rattle.token_readers.specs.Exact.{Grammar, SameFirst, both_end, both_begin, Before, Outcome, gives, wrong, too_deep, ends_with, Says, Run, Agrees, Exact}
+use Rattle.token_readers.specs.Exact.{
+  Grammar,
+  SameFirst,
+  both_end,
+  both_begin,
+  Before,
+  Outcome,
+  gives,
+  wrong,
+  too_deep,
+  ends_with,
+  Says,
+  Run,
+  Agrees,
+  Exact,
+}
 use Rattle.token_readers.proofs.Runs.{same_first, before_map, run_after, map_same, same_read}
 use Rattle.token_readers.proofs.Terminals.{Turn}
 use Rattle.token_readers.proofs.Then.{IsThen, Fits, run_then, agrees_then}
 
 module _ {T V : Type 0} where
   -- what a reader that gives a value has taken
-  pub taken : {Is : Grammar T V} {room : ℕ} {reader : Reader T V} (xs : List T) → Run Is room reader xs → (v : V) (rest : List T) → reader xs ≡ Ok (v, rest) →
+  pub taken : {Is : Grammar T V} {room : ℕ} {reader : Reader T V} (xs : List T) → Run Is room reader xs → (v : V) (rest : List T) →
+      reader xs ≡ Ok (v, rest) →
       (front : List T) × (xs ≡ front ++ rest) × Is room front v
-  taken {Is = Is} {room = room} {reader = reader} xs k v rest h = by k.outcome (ap reader k.split ∙ k.reads k.rest (same_first k.rest)) k.says where
-    by : (outcome : Outcome V) → reader xs ≡ ends_with outcome k.rest → Says Is room outcome k.front k.rest → (front : List T) × (xs ≡ front ++ rest) × Is room front v
-    by (gives u) e says =
-        let same = same_read (reader xs) u v k.rest rest e h in
-        (k.front, k.split ∙ ap (λ ys. k.front ++ ys) same.1, rw (← same.0) says)
-    by wrong e says = cc
-    by too_deep e says = cc
+  taken {Is = Is} {room = room} {reader = reader} xs k v rest h =
+      by k.outcome (ap reader k.split ∙ k.reads k.rest (same_first k.rest)) k.says where
+        by : (outcome : Outcome V) → reader xs ≡ ends_with outcome k.rest → Says Is room outcome k.front k.rest →
+            (front : List T) × (xs ≡ front ++ rest) × Is room front v
+        by (gives u) e says =
+            let same = same_read (reader xs) u v k.rest rest e h in
+            (k.front, k.split ∙ ap (λ ys. k.front ++ ys) same.1, rw (← same.0) says)
+        by wrong e says = cc
+        by too_deep e says = cc
 
 module _ {T S : Type 0} where
   -- each step takes a terminal at least
@@ -42,7 +81,8 @@ module _ {T S : Type 0} where
       enough step shrinks m n t rest (omega (arith, less, a)) (omega (arith, less, b)))
 
   -- a step, and then further steps
-  pub one_step : (step : S → List T → Option (Answer T S)) → Shrinks step → (s : S) (xs : List T) → iterate step s xs ≡ go_on s xs (step s xs) (iterate step)
+  pub one_step : (step : S → List T → Option (Answer T S)) → Shrinks step → (s : S) (xs : List T) →
+      iterate step s xs ≡ go_on s xs (step s xs) (iterate step)
   unfolding iterate iterate_most
   one_step step shrinks s xs =
       go_on_alike s xs (step s xs) (iterate_most (length xs) step) (iterate step) (λ t rest e.
@@ -55,20 +95,24 @@ module _ {T S : Type 0} where
     no_step s xs h = one_step step shrinks s xs ∙ ap (λ found. go_on s xs found (iterate step)) h
 
     -- one step was read
-    pub next_step : (s : S) (xs : List T) (t : S) (rest : List T) → step s xs ≡ Some (Ok (t, rest)) → iterate step t rest ≡ iterate step s xs
+    pub next_step : (s : S) (xs : List T) (t : S) (rest : List T) → step s xs ≡ Some (Ok (t, rest)) →
+        iterate step t rest ≡ iterate step s xs
     next_step s xs t rest h = sym (one_step step shrinks s xs ∙ ap (λ found. go_on s xs found (iterate step)) h)
 
     -- a step has a fault
     pub wrong_step : (s : S) (xs : List T) (fault : Fault) → step s xs ≡ Some (Err fault) → iterate step s xs ≡ Err fault
     wrong_step s xs fault h = one_step step shrinks s xs ∙ ap (λ found. go_on s xs found (iterate step)) h
 
-    left_most : (most : ℕ) (s : S) (xs : List T) → length xs < most → (t : S) (rest : List T) → iterate step s xs ≡ Ok (t, rest) → step t rest ≡ None
+    left_most : (most : ℕ) (s : S) (xs : List T) → length xs < most → (t : S) (rest : List T) → iterate step s xs ≡ Ok (t, rest) →
+        step t rest ≡ None
     left_most zero s xs few t rest h = absurd (omega (arith, few))
     left_most (suc most) s xs few t rest h =
-        by (step s xs) refl (sym (one_step step shrinks s xs) ∙ h) (λ u left e. left_most most u left (omega (arith, few, shrinks s xs u left e)) t rest)
+        by (step s xs) refl (sym (one_step step shrinks s xs)
+        ∙ h) (λ u left e. left_most most u left (omega (arith, few, shrinks s xs u left e)) t rest)
       where
         by : (found : Option (Answer T S)) → step s xs ≡ found → go_on s xs found (iterate step) ≡ Ok (t, rest) →
-            ((u : S) (left : List T) → step s xs ≡ Some (Ok (u, left)) → iterate step u left ≡ Ok (t, rest) → step t rest ≡ None) → step t rest ≡ None
+            ((u : S) (left : List T) → step s xs ≡ Some (Ok (u, left)) → iterate step u left ≡ Ok (t, rest) → step t rest ≡ None) →
+            step t rest ≡ None
         by None e g further =
             let same = same_read (Ok (s, xs)) s t xs rest refl g in
             rw (← same.0, ← same.1) e
@@ -87,15 +131,18 @@ module _ {T S : Type 0} where
   abbrev pub AreSteps : (S → Grammar T S) → S → Grammar T S
   AreSteps IsStep s r xs t = Steps IsStep r s xs t
 
-  as_then : (further : S → Reader T S) (s : S) (xs : List T) (answer : Answer T S) → go_on s xs (Some answer) further ≡ and_then answer further
+  as_then : (further : S → Reader T S) (s : S) (xs : List T) (answer : Answer T S) →
+      go_on s xs (Some answer) further ≡ and_then answer further
   as_then further s xs (Ok (t, rest)) = refl
   as_then further s xs (Err fault) = refl
 
-  joined : (IsStep : S → Grammar T S) (s : S) (r : ℕ) (xs : List T) (t : S) → IsThen (IsStep s) (AreSteps IsStep) r xs t → AreSteps IsStep s r xs t
+  joined : (IsStep : S → Grammar T S) (s : S) (r : ℕ) (xs : List T) (t : S) → IsThen (IsStep s) (AreSteps IsStep) r xs t →
+      AreSteps IsStep s r xs t
   joined IsStep s r xs t h = rw h.split (more h.first h.second)
 
   -- A step is decided by the first terminal, and read exactly.
-  pub record Stepping (IsStep : S → Grammar T S) (steps : S → T → Type 0) (ends : T → Type 0) (room : ℕ) (step : S → List T → Option (Answer T S)) (starts : S → T → Bool) (reader : S → Reader T S) : Type 0 where
+  pub record Stepping (IsStep : S → Grammar T S) (steps : S → T → Type 0) (ends : T → Type 0) (room : ℕ) (step : S → List T →
+      Option (Answer T S)) (starts : S → T → Bool) (reader : S → Reader T S) : Type 0 where
     pub at_end : (s : S) → step s [] ≡ None
     pub none : (s : S) (x : T) (rest : List T) → starts s x ≡ false → step s (x ∷ rest) ≡ None
     pub some : (s : S) (x : T) (rest : List T) → starts s x ≡ true → step s (x ∷ rest) ≡ Some (reader s (x ∷ rest))
@@ -106,7 +153,8 @@ module _ {T S : Type 0} where
     pub weaker : (s : S) (x : T) → ends x → steps s x
     pub turn : (s : S) (x : T) → starts s x ≡ true → Turn (IsStep s) (steps s) room (reader s) x
 
-  module _ {IsStep : S → Grammar T S} {steps : S → T → Type 0} {ends : T → Type 0} {room : ℕ} {step : S → List T → Option (Answer T S)} {starts : S → T → Bool} {reader : S → Reader T S} where
+  module _ {IsStep : S → Grammar T S} {steps : S → T → Type 0} {ends : T → Type 0} {room : ℕ} {step : S → List T →
+      Option (Answer T S)} {starts : S → T → Bool} {reader : S → Reader T S} where
     pub step_shrinks : Stepping IsStep steps ends room step starts reader → Shrinks step
     step_shrinks k s [] t rest h = let none : step s [] ≡ None = k.at_end s in cc
     step_shrinks k s (x ∷ xs) t rest h = by (starts s x) refl where
@@ -142,12 +190,14 @@ module _ {T S : Type 0} where
 
     -- a run from this terminal on, by runs after the first step
     run_first : Stepping IsStep steps ends room step starts reader → (s : S) (x : T) (rest : List T) →
-        ((t : S) (left : List T) → length left < suc (length rest) → Run (AreSteps IsStep t) room (iterate step t) left) → Run (AreSteps IsStep s) room (iterate step s) (x ∷ rest)
+        ((t : S) (left : List T) → length left < suc (length rest) → Run (AreSteps IsStep t) room (iterate step t) left) →
+        Run (AreSteps IsStep s) room (iterate step s) (x ∷ rest)
     run_first k s x rest further = by (starts s x) refl where
       stays : starts s x ≡ false → (other : List T) → SameFirst (x ∷ rest) other → iterate step s other ≡ Ok (s, other)
       stays e other (both_begin y ys zs) = ended k s (x ∷ zs) (k.none s x zs e)
 
-      goes : starts s x ≡ true → (other : List T) → SameFirst (x ∷ rest) other → iterate step s other ≡ map_read (λ t. t) (and_then (reader s other) (iterate step))
+      goes : starts s x ≡ true → (other : List T) → SameFirst (x ∷ rest) other →
+          iterate step s other ≡ map_read (λ t. t) (and_then (reader s other) (iterate step))
       goes e other (both_begin y ys zs) = stepped k s x zs e ∙ sym (map_same (and_then (reader s (x ∷ zs)) (iterate step)))
 
       by : (b : Bool) → starts s x ≡ b → Run (AreSteps IsStep s) room (iterate step s) (x ∷ rest)
@@ -157,20 +207,23 @@ module _ {T S : Type 0} where
           (run_then (IsStep s) (AreSteps IsStep) (fits k s) room (reader s) (iterate step) (x ∷ rest) ((k.turn s x e).run rest) (λ t left h.
           further t left (step_shrinks k s (x ∷ rest) t left (k.some s x rest e ∙ ap Some h))))
 
-    run_most : Stepping IsStep steps ends room step starts reader → (most : ℕ) (s : S) (xs : List T) → length xs < most → Run (AreSteps IsStep s) room (iterate step s) xs
+    run_most : Stepping IsStep steps ends room step starts reader → (most : ℕ) (s : S) (xs : List T) → length xs < most →
+        Run (AreSteps IsStep s) room (iterate step s) xs
     run_most k zero s xs few = absurd (omega (arith, few))
     run_most k (suc most) s [] few = run_end k s
     run_most k (suc most) s (x ∷ rest) few = run_first k s x rest (λ t left less. run_most k most t left (omega (arith, less, few)))
 
     -- what follows a step: further steps, or terminals after which there are none
-    before_steps : Stepping IsStep steps ends room step starts reader → (r : ℕ) (s t : S) (f : List T) → IsStep s r f t → (xs : List T) (u : S) → Steps IsStep r t xs u →
+    before_steps : Stepping IsStep steps ends room step starts reader → (r : ℕ) (s t : S) (f : List T) → IsStep s r f t →
+        (xs : List T) (u : S) → Steps IsStep r t xs u →
         (rest : List T) → Before ends rest → Before (steps s) (xs ++ rest)
     before_steps k r s t f h xs u stop rest b = before_map ends (steps s) (k.weaker s) rest b
     before_steps k r s t f h xs u (more {t = v} {f = g} {g = ys} i m) rest b =
         let first = k.begins t r g v i in
         rw first.2 (k.follows s r f t h first.0 first.3)
 
-    ends_here : Stepping IsStep steps ends room step starts reader → (s : S) (rest : List T) → Before ends rest → iterate step s rest ≡ Ok (s, rest)
+    ends_here : Stepping IsStep steps ends room step starts reader → (s : S) (rest : List T) → Before ends rest →
+        iterate step s rest ≡ Ok (s, rest)
     ends_here k s [] b = ended k s [] (k.at_end s)
     ends_here k s (x ∷ rest) b = ended k s (x ∷ rest) (k.none s x rest (k.stops s x b))
 
@@ -178,18 +231,22 @@ module _ {T S : Type 0} where
         iterate step s (xs ++ ys) ≡ and_then (reader s (xs ++ ys)) (iterate step)
     begun k s r xs t h ys =
         let first = k.begins s r xs t h in
-        let read : iterate step s (first.0 ∷ (first.1 ++ ys)) ≡ and_then (reader s (first.0 ∷ (first.1 ++ ys))) (iterate step) = stepped k s first.0 (first.1 ++ ys) first.3 in
+        let read : iterate step s (first.0 ∷ (first.1 ++ ys)) ≡ and_then (reader s (first.0 ∷ (first.1 ++ ys))) (iterate step) =
+        stepped k s first.0 (first.1 ++ ys) first.3 in
         ap (λ zs. iterate step s (zs ++ ys)) first.2 ∙ read ∙ ap (λ zs. and_then (reader s (zs ++ ys)) (iterate step)) (sym first.2)
 
-    step_again : Stepping IsStep steps ends room step starts reader → (r : ℕ) (s : S) (xs : List T) (t : S) → IsStep s r xs t → (rest : List T) → Before (steps s) rest →
+    step_again : Stepping IsStep steps ends room step starts reader → (r : ℕ) (s : S) (xs : List T) (t : S) → IsStep s r xs t →
+        (rest : List T) → Before (steps s) rest →
         Agrees room r t rest (reader s (xs ++ rest))
     step_again k r s xs t h rest b =
         let first = k.begins s r xs t h in
         let derived : IsStep s r (first.0 ∷ first.1) t = rw first.2 at h in
-        let agrees : Agrees room r t rest (reader s (first.0 ∷ (first.1 ++ rest))) = (k.turn s first.0 first.3).again r first.1 t derived rest b in
+        let agrees : Agrees room r t rest (reader s (first.0 ∷ (first.1 ++ rest))) =
+        (k.turn s first.0 first.3).again r first.1 t derived rest b in
         rw first.2 agrees
 
-    steps_again : Stepping IsStep steps ends room step starts reader → (r : ℕ) (s : S) (xs : List T) (t : S) → Steps IsStep r s xs t → (rest : List T) → Before ends rest →
+    steps_again : Stepping IsStep steps ends room step starts reader → (r : ℕ) (s : S) (xs : List T) (t : S) → Steps IsStep r s xs t →
+        (rest : List T) → Before ends rest →
         Agrees room r t rest (iterate step s (xs ++ rest))
     steps_again k r s xs t stop rest b = rw (ends_here k s rest b) (refl, refl)
     steps_again k r s xs u (more {t = t} {f = f} {g = g} h m) rest b =

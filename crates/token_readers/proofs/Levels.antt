@@ -18,23 +18,29 @@ Up Is zero xs v = ⊥
 Up Is (suc r) xs v = Is r xs v
 
 module _ {T V : Type 0} where
-  pub lift_up : (Is : Grammar T V) → ((r : ℕ) (xs : List T) (v : V) → Is r xs v → Is (suc (suc r)) xs v) → (r : ℕ) (xs : List T) (v : V) → Up Is r xs v → Up Is (suc (suc r)) xs v
+  pub lift_up : (Is : Grammar T V) → ((r : ℕ) (xs : List T) (v : V) → Is r xs v → Is (suc (suc r)) xs v) → (r : ℕ) (xs : List T) (v : V) →
+      Up Is r xs v → Up Is (suc (suc r)) xs v
   lift_up Is lift zero xs v h = absurd h
   lift_up Is lift (suc r) xs v h = lift r xs v h
 
-  says_up : (Is : Grammar T V) (room : ℕ) (outcome : Outcome V) (front rest : List T) → Says Is room outcome front rest → Says (Up Is) (suc room) outcome front rest
+  says_up : (Is : Grammar T V) (room : ℕ) (outcome : Outcome V) (front rest : List T) → Says Is room outcome front rest →
+      Says (Up Is) (suc room) outcome front rest
   says_up Is room (gives v) front rest h = h
   says_up Is room wrong front rest h = record { ending = h.ending; value = h.value; derives = h.derives }
   says_up Is room too_deep front [] h = h
-  says_up Is room too_deep front (x ∷ rest) h =
-      (record { ending = h.0.ending; value = h.0.value; derives = h.0.derives }, record { ending = h.1.ending; value = h.1.value; derives = h.1.derives })
+  says_up Is room too_deep front (x ∷ rest) h = (
+    record { ending = h.0.ending; value = h.0.value; derives = h.0.derives },
+    record { ending = h.1.ending; value = h.1.value; derives = h.1.derives },
+  )
 
-  agrees_up : (room r : ℕ) (v : V) (rest : List T) (answer : Answer T V) → Agrees room r v rest answer → Agrees (suc room) (suc r) v rest answer
+  agrees_up : (room r : ℕ) (v : V) (rest : List T) (answer : Answer T V) → Agrees room r v rest answer →
+      Agrees (suc room) (suc r) v rest answer
   agrees_up room r v rest (Ok (w, left)) h = h
   agrees_up room r v rest (Err (form left)) h = h
   agrees_up room r v rest (Err (deep left)) h = omega (arith, h)
 
-  pub exact_up : {Is : Grammar T V} {ends : T → Type 0} {room : ℕ} {reader : Reader T V} → Exact Is ends room reader → Exact (Up Is) ends (suc room) reader
+  pub exact_up : {Is : Grammar T V} {ends : T → Type 0} {room : ℕ} {reader : Reader T V} → Exact Is ends room reader →
+      Exact (Up Is) ends (suc room) reader
   exact_up {Is = Is} {ends = ends} {room = room} {reader = reader} k = record { run = λ xs. run xs (k.run xs); again = again } where
     run : (xs : List T) → Run Is room reader xs → Run (Up Is) (suc room) reader xs
     run xs h = record {
@@ -46,19 +52,23 @@ module _ {T V : Type 0} where
       says = says_up Is room h.outcome h.front h.rest h.says;
     }
 
-    again : (r : ℕ) (xs : List T) (v : V) → Up Is r xs v → (rest : List T) → Before ends rest → Agrees (suc room) r v rest (reader (xs ++ rest))
+    again : (r : ℕ) (xs : List T) (v : V) → Up Is r xs v → (rest : List T) → Before ends rest →
+        Agrees (suc room) r v rest (reader (xs ++ rest))
     again zero xs v h rest b = absurd h
     again (suc r) xs v h rest b = agrees_up room r v rest (reader (xs ++ rest)) (k.again r xs v h rest b)
 
 module _ {L T U V : Type 0} where
   -- The terminal opens a form of the level below. Where there is none, it is a level too many.
-  pub turn_below : {Low : Grammar T U} {Is : Grammar T V} {lows ends : T → Type 0} {Holds : ℕ → L → Type 0} {room : ℕ} {reader : Reader T V} {x : T} (make : U → V)
+  pub turn_below : {Low : Grammar T U} {Is : Grammar T V} {lows ends : T → Type 0} {Holds : ℕ → L →
+      Type 0} {room : ℕ} {reader : Reader T V} {x : T} (make : U → V)
       (low : Option L) (pick : L → Reader T U) → ((k : ℕ) (l : L) → Holds k l → Exact Low lows k (pick l)) → Below Holds room low →
       ((rest : List T) → reader (x ∷ rest) ≡ map_read make (below low pick (x ∷ rest))) → ((y : T) → ends y → lows y) →
       Begins (Is room) [] → Begins (Low (suc room)) [] →
-      ((r : ℕ) (ys : List T) (u : U) → Low r ys u → Is (suc r) (x ∷ ys) (make u)) → ((r : ℕ) (ys : List T) (v : V) → Is r (x ∷ ys) v → (u : U) × Up Low r ys u × (v ≡ make u)) →
+      ((r : ℕ) (ys : List T) (u : U) → Low r ys u → Is (suc r) (x ∷ ys) (make u)) →
+      ((r : ℕ) (ys : List T) (v : V) → Is r (x ∷ ys) v → (u : U) × Up Low r ys u × (v ≡ make u)) →
       Turn Is ends room reader x
-  turn_below {Low = Low} {Is = Is} {lows = lows} {ends = ends} {Holds = Holds} {room = room} {reader = reader} {x = x} make low pick of h e weaker some some_low to from =
+  turn_below {Low = Low} {Is = Is} {lows = lows} {ends = ends} {Holds = Holds} {room = room} {reader = reader} {x =
+      x} make low pick of h e weaker some some_low to from =
       by room low h e some some_low where
         up : (r : ℕ) (ys : List T) (u : U) → Up Low r ys u → Is r (x ∷ ys) (make u)
         up zero ys u k = absurd k
@@ -68,10 +78,16 @@ module _ {L T U V : Type 0} where
         more zero ys v k = absurd ((from zero ys v k).1)
         more (suc r) ys v k = omega arith
 
-        by : (room : ℕ) (low : Option L) → Below Holds room low → ((rest : List T) → reader (x ∷ rest) ≡ map_read make (below low pick (x ∷ rest))) →
+        by : (room : ℕ) (low : Option L) → Below Holds room low →
+            ((rest : List T) → reader (x ∷ rest) ≡ map_read make (below low pick (x ∷ rest))) →
             Begins (Is room) [] → Begins (Low (suc room)) [] → Turn Is ends room reader x
         by zero None h e some some_low =
-            turn_deep e some (record { ending = some_low.ending; value = make some_low.value; derives = to 1 some_low.ending some_low.value some_low.derives }) more
+            turn_deep e some (record {
+              ending = some_low.ending;
+              value = make some_low.value;
+              derives =
+                  to 1 some_low.ending some_low.value some_low.derives;
+            }) more
         by zero (Some l) h e some some_low = absurd h
         by (suc k) None h e some some_low = absurd h
         by (suc k) (Some l) h e some some_low = turn_takes make (pick l) e weaker up from (exact_up (of k l h))
@@ -82,24 +98,29 @@ module _ {T V : Type 0} where
   IsTail is make Low v r [] w = w ≡ v
   IsTail is make Low v r (x ∷ ys) w = (is x ≡ true) × ((u : V) × Up Low r ys u × (w ≡ make u))
 
-  pub lift_tail : (is : T → Bool) (make : V → V) (Low : Grammar T V) → ((r : ℕ) (xs : List T) (v : V) → Low r xs v → Low (suc (suc r)) xs v) → (v : V) (r : ℕ) (xs : List T) (w : V) →
+  pub lift_tail : (is : T → Bool) (make : V → V) (Low : Grammar T V) →
+      ((r : ℕ) (xs : List T) (v : V) → Low r xs v → Low (suc (suc r)) xs v) → (v : V) (r : ℕ) (xs : List T) (w : V) →
       IsTail is make Low v r xs w → IsTail is make Low v (suc (suc r)) xs w
   lift_tail is make Low lift v r [] w h = h
   lift_tail is make Low lift v r (x ∷ ys) w h = (h.0, (h.1.0, lift_up Low lift r ys h.1.0 h.1.1, h.1.2))
 
 module _ {L T V : Type 0} where
-  pub tail_exact : (is : T → Bool) (make : V → V) {Low : Grammar T V} {lows ends : T → Type 0} {Holds : ℕ → L → Type 0} {room : ℕ} {reader : Reader T V} (v : V) (low : Option L)
+  pub tail_exact : (is : T → Bool) (make : V → V) {Low : Grammar T V} {lows ends : T → Type 0} {Holds : ℕ → L →
+      Type 0} {room : ℕ} {reader : Reader T V} (v : V) (low : Option L)
       (pick : L → Reader T V) → ((k : ℕ) (l : L) → Holds k l → Exact Low lows k (pick l)) → Below Holds room low → reader [] ≡ Ok (v, []) →
       ((x : T) (rest : List T) → is x ≡ true → reader (x ∷ rest) ≡ map_read make (below low pick (x ∷ rest))) →
-      ((x : T) (rest : List T) → is x ≡ false → reader (x ∷ rest) ≡ Ok (v, x ∷ rest)) → ((x : T) → ends x → is x ≡ false) → ((x : T) → ends x → lows x) →
+      ((x : T) (rest : List T) → is x ≡ false → reader (x ∷ rest) ≡ Ok (v, x ∷ rest)) → ((x : T) → ends x → is x ≡ false) →
+      ((x : T) → ends x → lows x) →
       Begins (Low (suc room)) [] → Exact (IsTail is make Low v) ends room reader
-  tail_exact is make {Low = Low} {ends = ends} {Holds = Holds} {room = room} {reader = reader} v low pick of h at_end goes stays stops weaker some_low =
+  tail_exact is make {Low = Low} {ends = ends} {Holds = Holds} {room = room} {reader =
+      reader} v low pick of h at_end goes stays stops weaker some_low =
       by_first (end_gives v at_end refl (λ r w e. e) (λ x rest e. stays x rest (stops x e))) (λ x. by x (is x) refl) where
         never : (x : T) → is x ≡ false → (r : ℕ) (ys : List T) (w : V) → IsTail is make Low v r (x ∷ ys) w → ⊥
         never x e r ys w h = let yes_it : is x ≡ true = h.0 in cc
 
         by : (x : T) (b : Bool) → is x ≡ b → Turn (IsTail is make Low v) ends room reader x
         by x true e =
-            turn_below {Holds = Holds} make low pick of h (λ rest. goes x rest e) weaker (record { ending = []; value = v; derives = refl }) some_low (λ r ys u k. (e, (u, k, refl)))
+            turn_below {Holds = Holds} make low pick of h (λ rest. goes x rest e) weaker
+            (record { ending = []; value = v; derives = refl }) some_low (λ r ys u k. (e, (u, k, refl)))
             (λ r ys w k. k.1)
         by x false e = turn_gives v (λ rest. stays x rest e) refl (never x e)

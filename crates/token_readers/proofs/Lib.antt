@@ -1,3 +1,4 @@
+mod Examples
 pub mod Runs
 pub mod Then
 pub mod Terminals

@@ -1,11 +1,11 @@
 -- A list of members.
 use Rattle.std.proofs.Common.{◌≡◌, ℕ, suc, Bool, true, false, List, [], ◌∷◌, ◌++◌, refl, ap, sym, ◌∙◌, append_assoc}
 use Rattle.std.proofs.lemmas.List.{append-nil}
-use Rattle.std.specs.Prelude.{Option, Some, None}
-use Rattle.token_readers.specs.Readers.{Answer, Reader, map_read, push, push_read, members}
-use Rattle.token_readers.specs.Exact.{Grammar, Exact}
+use Rattle.std.specs.Prelude.{Option, Some, None, if◌then◌else◌}
+use Rattle.token_readers.specs.Readers.{Answer, Reader, form_at, after, map_read, push, push_read, members}
+use Rattle.token_readers.specs.Exact.{Grammar, Begins, Exact}
 use Rattle.token_readers.proofs.Runs.{exact_as}
-use Rattle.token_readers.proofs.Terminals.{Turn, turn_map}
+use Rattle.token_readers.proofs.Terminals.{Turn, turn_of, turn_map, IsAfter, after_exact}
 use Rattle.token_readers.proofs.Iterates.{Steps, stop, more, Stepping, iterate_exact}
 
 module _ {T V : Type 0} where
@@ -15,7 +15,8 @@ module _ {T V : Type 0} where
     some : {f g : List T} {v : V} {vs : List V} → Is r f v → AreAll Is r g vs → AreAll Is r (f ++ g) (v ∷ vs)
 
   -- A member is decided by the first terminal, and read exactly.
-  pub record Member (Is : Grammar T V) (each ends : T → Type 0) (room : ℕ) (member : List T → Option (Answer T V)) (starts : T → Bool) (reader : Reader T V) : Type 0 where
+  pub record Member (Is : Grammar T V) (each ends : T → Type 0) (room : ℕ) (member : List T → Option (Answer T V)) (starts : T →
+      Bool) (reader : Reader T V) : Type 0 where
     pub at_end : member [] ≡ None
     pub none : (x : T) (rest : List T) → starts x ≡ false → member (x ∷ rest) ≡ None
     pub some : (x : T) (rest : List T) → starts x ≡ true → member (x ∷ rest) ≡ Some (reader (x ∷ rest))
@@ -30,7 +31,8 @@ module _ {T V : Type 0} where
   abbrev IsPushed : Grammar T V → List V → Grammar T (List V)
   IsPushed Is vs r xs ws = (v : V) × Is r xs v × (ws ≡ vs ++ v ∷ [])
 
-  module _ {Is : Grammar T V} {each ends : T → Type 0} {room : ℕ} {member : List T → Option (Answer T V)} {starts : T → Bool} {reader : Reader T V} where
+  module _ {Is : Grammar T V} {each ends : T → Type 0} {room : ℕ} {member : List T → Option (Answer T V)} {starts : T →
+      Bool} {reader : Reader T V} where
     pub stepping : Member Is each ends room member starts reader →
         Stepping (IsPushed Is) (λ vs. each) ends room (push member) (λ vs. starts) (λ vs xs. map_read (λ v. vs ++ v ∷ []) (reader xs))
     stepping k = record {
@@ -45,20 +47,52 @@ module _ {T V : Type 0} where
       turn = λ vs x e. turn_map (λ v. vs ++ v ∷ []) (λ r xs v h. (v, h, refl)) (λ r xs ws h. h) (k.turn x e);
     }
 
-  listed : (Is : Grammar T V) (r : ℕ) (vs : List V) (xs : List T) (ws : List V) → Steps (IsPushed Is) r vs xs ws → (us : List V) × AreAll Is r xs us × (ws ≡ vs ++ us)
+  listed : (Is : Grammar T V) (r : ℕ) (vs : List V) (xs : List T) (ws : List V) → Steps (IsPushed Is) r vs xs ws →
+      (us : List V) × AreAll Is r xs us × (ws ≡ vs ++ us)
   listed Is r vs xs ws stop = ([], none, sym (append-nil vs))
   listed Is r vs xs ws (more {t = ts} {f = f} {g = g} h m) =
       let further = listed Is r ts g ws m in
       (h.0 ∷ further.0, some h.1 further.1, further.2 ∙ ap (λ us. us ++ further.0) h.2 ∙ append_assoc vs (h.0 ∷ []) further.0)
 
-  stepped : (Is : Grammar T V) (r : ℕ) (vs : List V) (xs : List T) (us : List V) → AreAll Is r xs us → Steps (IsPushed Is) r vs xs (vs ++ us)
+  stepped : (Is : Grammar T V) (r : ℕ) (vs : List V) (xs : List T) (us : List V) → AreAll Is r xs us →
+      Steps (IsPushed Is) r vs xs (vs ++ us)
   stepped Is r vs xs us none = rw append-nil stop
   stepped Is r vs xs us (some {f = f} {g = g} {v = v} {vs = ws} h k) =
       let further : Steps (IsPushed Is) r (vs ++ v ∷ []) g ((vs ++ v ∷ []) ++ ws) = stepped Is r (vs ++ v ∷ []) g ws k in
       more (v, h, refl) (rw append_assoc at further)
 
   -- a list of members
-  pub members_exact : {Is : Grammar T V} {each ends : T → Type 0} {room : ℕ} {member : List T → Option (Answer T V)} {starts : T → Bool} {reader : Reader T V} →
+  pub members_exact : {Is : Grammar T V} {each ends : T → Type 0} {room : ℕ} {member : List T → Option (Answer T V)} {starts : T →
+      Bool} {reader : Reader T V} →
       Member Is each ends room member starts reader → Exact (AreAll Is) ends room (members member)
   members_exact {Is = Is} k =
-      exact_as (λ r xs ws h. let is = listed Is r [] xs ws h in rw is.2 is.1) (λ r xs us h. stepped Is r [] xs us h) (λ x h. h) (iterate_exact (stepping k) [])
+      exact_as (λ r xs ws h. let is = listed Is r [] xs ws h in
+      rw is.2 is.1) (λ r xs us h. stepped Is r [] xs us h) (λ x h. h) (iterate_exact (stepping k) [])
+
+module _ {T V : Type 0} where
+  -- members that each begin with a terminal that passes the test
+  pub marked_member : (is : T → Bool) (opener : T) → is opener ≡ true → {Is : Grammar T V} {each ends : T → Type 0} {room : ℕ}
+      {member : List T → Option (Answer T V)} {reader : Reader T V} → Begins (Is room) [] →
+      ((r : ℕ) (xs : List T) (v : V) → Is r xs v → Is (suc (suc r)) xs v) → member [] ≡ None →
+      ((x : T) (rest : List T) → is x ≡ false → member (x ∷ rest) ≡ None) →
+      ((x : T) (rest : List T) → is x ≡ true → member (x ∷ rest) ≡ Some (reader rest)) → ((x : T) → is x ≡ true → each x) →
+      ((x : T) → ends x → is x ≡ false) → ((x : T) → ends x → each x) → Exact Is each room reader →
+      Member (IsAfter is Is) each ends room member is (after is reader)
+  unfolding after
+  marked_member is opener opens {Is = Is} {reader = reader} some_form lift_form at_end none_here some_here follows stops weaker k = record {
+    at_end = at_end;
+    none = none_here;
+    some = λ x rest e. some_here x rest e ∙ ap (λ b. Some (if b then reader rest else form_at (x ∷ rest))) (sym e);
+    begins = begins;
+    lift = lift;
+    follows = follows;
+    stops = stops;
+    weaker = weaker;
+    turn = λ x e. turn_of (after_exact is opener opens some_form k) x;
+  } where
+    begins : (r : ℕ) (xs : List T) (v : V) → IsAfter is Is r xs v → (x : T) × (ys : List T) × (xs ≡ x ∷ ys) × (is x ≡ true)
+    begins r [] v h = absurd h
+    begins r (x ∷ ys) v h = (x, ys, refl, h.0)
+    lift : (r : ℕ) (xs : List T) (v : V) → IsAfter is Is r xs v → IsAfter is Is (suc (suc r)) xs v
+    lift r [] v h = h
+    lift r (x ∷ ys) v h = (h.0, lift_form r ys v h.1)

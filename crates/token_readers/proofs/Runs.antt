@@ -2,7 +2,23 @@
 use Rattle.std.proofs.Common.{◌≡◌, ℕ, suc, List, [], ◌∷◌, ◌++◌, refl, ap, sym, ◌∙◌, append_assoc}
 use Rattle.std.specs.Prelude.{Ok, Err}
 use Rattle.token_readers.specs.Readers.{form, deep, Answer, Reader, map_read}
-use Rattle.token_readers.specs.Exact.{Grammar, SameFirst, both_end, both_begin, Before, Outcome, gives, wrong, too_deep, ends_with, Begins, Says, Run, Agrees, Exact}
+use Rattle.token_readers.specs.Exact.{
+  Grammar,
+  SameFirst,
+  both_end,
+  both_begin,
+  Before,
+  Outcome,
+  gives,
+  wrong,
+  too_deep,
+  ends_with,
+  Begins,
+  Says,
+  Run,
+  Agrees,
+  Exact,
+}
 
 module _ {T : Type 0} where
   pub same_first : (xs : List T) → SameFirst xs xs
@@ -49,7 +65,8 @@ map_outcome make wrong = wrong
 map_outcome make too_deep = too_deep
 
 module _ {T V W : Type 0} where
-  map_ends : (make : V → W) (outcome : Outcome V) (xs : List T) → map_read make (ends_with outcome xs) ≡ ends_with (map_outcome make outcome) xs
+  map_ends : (make : V → W) (outcome : Outcome V) (xs : List T) →
+      map_read make (ends_with outcome xs) ≡ ends_with (map_outcome make outcome) xs
   map_ends make (gives v) xs = refl
   map_ends make wrong xs = refl
   map_ends make too_deep xs = refl
@@ -72,9 +89,11 @@ module _ {T V W : Type 0} where
   )
 
   -- A run of a reader gives one of another that reads the same after these first terminals, with another value.
-  pub run_after : {Is : Grammar T V} {Made : Grammar T W} {room : ℕ} {reader : Reader T V} {xs : List T} (make : V → W) (first : List T) (other : Reader T W) →
+  pub run_after : {Is : Grammar T V} {Made : Grammar T W} {room : ℕ} {reader : Reader T V} {xs : List T} (make : V →
+      W) (first : List T) (other : Reader T W) →
       ((ys : List T) → SameFirst xs ys → other (first ++ ys) ≡ map_read make (reader ys)) →
-      ((r : ℕ) (ys : List T) (v : V) → Is r ys v → Made r (first ++ ys) (make v)) → Run Is room reader xs → Run Made room other (first ++ xs)
+      ((r : ℕ) (ys : List T) (v : V) → Is r ys v → Made r (first ++ ys) (make v)) → Run Is room reader xs →
+      Run Made room other (first ++ xs)
   run_after {Is = Is} {Made = Made} {room = room} {reader = reader} {xs = xs} make first other agree to k = record {
     front = first ++ k.front;
     rest = k.rest;

@@ -9,14 +9,16 @@ module _ {T V : Type 0} where
   -- what is read where this terminal is the first
   pub record Turn (Is : Grammar T V) (ends : T → Type 0) (room : ℕ) (reader : Reader T V) (x : T) : Type 0 where
     pub run : (rest : List T) → Run Is room reader (x ∷ rest)
-    pub again : (r : ℕ) (ys : List T) (v : V) → Is r (x ∷ ys) v → (rest : List T) → Before ends rest → Agrees room r v rest (reader (x ∷ (ys ++ rest)))
+    pub again : (r : ℕ) (ys : List T) (v : V) → Is r (x ∷ ys) v → (rest : List T) → Before ends rest →
+        Agrees room r v rest (reader (x ∷ (ys ++ rest)))
 
   -- what is read where no terminal is left, and of what derives from none
   pub record AtEnd (Is : Grammar T V) (ends : T → Type 0) (room : ℕ) (reader : Reader T V) : Type 0 where
     pub run : Run Is room reader []
     pub again : (r : ℕ) (v : V) → Is r [] v → (rest : List T) → Before ends rest → Agrees room r v rest (reader rest)
 
-  pub by_first : {Is : Grammar T V} {ends : T → Type 0} {room : ℕ} {reader : Reader T V} → AtEnd Is ends room reader → ((x : T) → Turn Is ends room reader x) →
+  pub by_first : {Is : Grammar T V} {ends : T → Type 0} {room : ℕ} {reader : Reader T V} → AtEnd Is ends room reader →
+      ((x : T) → Turn Is ends room reader x) →
       Exact Is ends room reader
   by_first {Is = Is} {ends = ends} {room = room} {reader = reader} end turn = record { run = run; again = again } where
     run : (xs : List T) → Run Is room reader xs
@@ -27,10 +29,12 @@ module _ {T V : Type 0} where
     again r [] v h rest b = end.again r v h rest b
     again r (x ∷ ys) v h rest b = (turn x).again r ys v h rest b
 
-  at_end_like : (reader : Reader T V) (at : Reader T V) → reader [] ≡ at [] → (other : List T) → SameFirst [] other → reader other ≡ at other
+  at_end_like : (reader : Reader T V) (at : Reader T V) → reader [] ≡ at [] → (other : List T) → SameFirst [] other →
+      reader other ≡ at other
   at_end_like reader at h other both_end = h
 
-  at_first_like : (reader : Reader T V) (at : Reader T V) (x : T) (rest : List T) → ((other : List T) → reader (x ∷ other) ≡ at (x ∷ other)) →
+  at_first_like : (reader : Reader T V) (at : Reader T V) (x : T) (rest : List T) →
+      ((other : List T) → reader (x ∷ other) ≡ at (x ∷ other)) →
       (other : List T) → SameFirst (x ∷ rest) other → reader other ≡ at other
   at_first_like reader at x rest h other (both_begin y xs ys) = h ys
 
@@ -44,9 +48,18 @@ module _ {T V : Type 0} where
 
   -- nothing is read as this value, before the end and before each terminal that may follow
   pub end_gives : {Is : Grammar T V} {ends : T → Type 0} {room : ℕ} {reader : Reader T V} (v : V) → reader [] ≡ Ok (v, []) → Is room [] v →
-      ((r : ℕ) (w : V) → Is r [] w → w ≡ v) → ((x : T) (rest : List T) → ends x → reader (x ∷ rest) ≡ Ok (v, x ∷ rest)) → AtEnd Is ends room reader
+      ((r : ℕ) (w : V) → Is r [] w → w ≡ v) → ((x : T) (rest : List T) → ends x → reader (x ∷ rest) ≡ Ok (v, x ∷ rest)) →
+      AtEnd Is ends room reader
   end_gives {Is = Is} {ends = ends} {room = room} {reader = reader} v e derived one stays = record {
-    run = record { front = []; rest = []; outcome = gives v; split = refl; reads = at_end_like reader (λ ys. Ok (v, ys)) e; says = derived };
+    run = record {
+      front = [];
+      rest = [];
+      outcome = gives v;
+      split = refl;
+      reads = at_end_like reader (λ ys. Ok (v, ys)) e;
+      says =
+          derived;
+    };
     again = λ r w h rest b. again r w h rest b;
   } where
     again : (r : ℕ) (w : V) → Is r [] w → (rest : List T) → Before ends rest → Agrees room r w rest (reader rest)
@@ -54,45 +67,84 @@ module _ {T V : Type 0} where
     again r w h (x ∷ rest) b = rw (stays x rest b) (sym (one r w h), refl)
 
   -- no form begins with the terminal
-  pub turn_wrong : {Is : Grammar T V} {ends : T → Type 0} {room : ℕ} {reader : Reader T V} {x : T} → ((rest : List T) → reader (x ∷ rest) ≡ form_at (x ∷ rest)) →
+  pub turn_wrong : {Is : Grammar T V} {ends : T → Type 0} {room : ℕ} {reader : Reader T V} {x : T} →
+      ((rest : List T) → reader (x ∷ rest) ≡ form_at (x ∷ rest)) →
       Begins (Is room) [] → ((r : ℕ) (ys : List T) (v : V) → Is r (x ∷ ys) v → ⊥) → Turn Is ends room reader x
   turn_wrong {reader = reader} {x = x} e some none = record {
-    run = λ rest. record { front = []; rest = x ∷ rest; outcome = wrong; split = refl; reads = at_first_like reader form_at x rest e; says = some };
+    run = λ rest. record {
+      front = [];
+      rest = x ∷ rest;
+      outcome = wrong;
+      split = refl;
+      reads = at_first_like reader form_at x rest e;
+      says =
+          some;
+    };
     again = λ r ys v h rest b. absurd (none r ys v h);
   }
 
   -- only forms with more levels begin with the terminal
-  pub turn_deep : {Is : Grammar T V} {ends : T → Type 0} {room : ℕ} {reader : Reader T V} {x : T} → ((rest : List T) → reader (x ∷ rest) ≡ deep_at (x ∷ rest)) →
-      Begins (Is room) [] → Begins (Is (suc (suc room))) (x ∷ []) → ((r : ℕ) (ys : List T) (v : V) → Is r (x ∷ ys) v → room < r) → Turn Is ends room reader x
+  pub turn_deep : {Is : Grammar T V} {ends : T → Type 0} {room : ℕ} {reader : Reader T V} {x : T} →
+      ((rest : List T) → reader (x ∷ rest) ≡ deep_at (x ∷ rest)) →
+      Begins (Is room) [] → Begins (Is (suc (suc room))) (x ∷ []) → ((r : ℕ) (ys : List T) (v : V) → Is r (x ∷ ys) v → room < r) →
+      Turn Is ends room reader x
   turn_deep {Is = Is} {ends = ends} {room = room} {reader = reader} {x = x} e some higher more = record {
-    run = λ rest. record { front = []; rest = x ∷ rest; outcome = too_deep; split = refl; reads = at_first_like reader deep_at x rest e; says = (some, higher) };
+    run = λ rest. record {
+      front = [];
+      rest = x ∷ rest;
+      outcome = too_deep;
+      split = refl;
+      reads =
+          at_first_like reader deep_at x rest e;
+      says = (some, higher);
+    };
     again = λ r ys v h rest b. rw (e (ys ++ rest)) (more r ys v h);
   }
 
   -- the terminal is left, and nothing before it has this value
-  pub turn_gives : {Is : Grammar T V} {ends : T → Type 0} {room : ℕ} {reader : Reader T V} {x : T} (v : V) → ((rest : List T) → reader (x ∷ rest) ≡ Ok (v, x ∷ rest)) →
+  pub turn_gives : {Is : Grammar T V} {ends : T → Type 0} {room : ℕ} {reader : Reader T V} {x : T} (v : V) →
+      ((rest : List T) → reader (x ∷ rest) ≡ Ok (v, x ∷ rest)) →
       Is room [] v → ((r : ℕ) (ys : List T) (w : V) → Is r (x ∷ ys) w → ⊥) → Turn Is ends room reader x
   turn_gives {reader = reader} {x = x} v e derived none = record {
-    run = λ rest. record { front = []; rest = x ∷ rest; outcome = gives v; split = refl; reads = at_first_like reader (λ ys. Ok (v, ys)) x rest e; says = derived };
+    run = λ rest. record {
+      front = [];
+      rest = x ∷ rest;
+      outcome = gives v;
+      split = refl;
+      reads =
+          at_first_like reader (λ ys. Ok (v, ys)) x rest e;
+      says = derived;
+    };
     again = λ r ys w h rest b. absurd (none r ys w h);
   }
 
   -- the terminal alone has this value
-  pub turn_alone : {Is : Grammar T V} {ends : T → Type 0} {room : ℕ} {reader : Reader T V} {x : T} (v : V) → ((rest : List T) → reader (x ∷ rest) ≡ Ok (v, rest)) →
+  pub turn_alone : {Is : Grammar T V} {ends : T → Type 0} {room : ℕ} {reader : Reader T V} {x : T} (v : V) →
+      ((rest : List T) → reader (x ∷ rest) ≡ Ok (v, rest)) →
       ((r : ℕ) → Is r (x ∷ []) v) → ((r : ℕ) (ys : List T) (w : V) → Is r (x ∷ ys) w → (ys ≡ []) × (w ≡ v)) → Turn Is ends room reader x
   turn_alone {room = room} {reader = reader} {x = x} v e derived only = record {
-    run = λ rest. record { front = x ∷ []; rest = rest; outcome = gives v; split = refl; reads = λ other same. e other; says = derived room };
+    run = λ rest. record {
+      front = x ∷ [];
+      rest = rest;
+      outcome = gives v;
+      split = refl;
+      reads = λ other same. e other;
+      says =
+          derived room;
+    };
     again = λ r ys w h rest b. let is = only r ys w h in rw (is.0, is.1, e rest) (refl, refl);
   }
 
 module _ {T V : Type 0} where
-  pub turn_of : {Is : Grammar T V} {ends : T → Type 0} {room : ℕ} {reader : Reader T V} → Exact Is ends room reader → (x : T) → Turn Is ends room reader x
+  pub turn_of : {Is : Grammar T V} {ends : T → Type 0} {room : ℕ} {reader : Reader T V} → Exact Is ends room reader → (x : T) →
+      Turn Is ends room reader x
   turn_of k x = record { run = λ rest. k.run (x ∷ rest); again = λ r ys v h rest b. k.again r (x ∷ ys) v h rest b }
 
 module _ {T U V : Type 0} where
   -- another value of what is read
   pub turn_map : {Is : Grammar T U} {Made : Grammar T V} {ends : T → Type 0} {room : ℕ} {reader : Reader T U} {x : T} (make : U → V) →
-      ((r : ℕ) (xs : List T) (u : U) → Is r xs u → Made r xs (make u)) → ((r : ℕ) (xs : List T) (v : V) → Made r xs v → (u : U) × Is r xs u × (v ≡ make u)) →
+      ((r : ℕ) (xs : List T) (u : U) → Is r xs u → Made r xs (make u)) →
+      ((r : ℕ) (xs : List T) (v : V) → Made r xs v → (u : U) × Is r xs u × (v ≡ make u)) →
       Turn Is ends room reader x → Turn Made ends room (λ xs. map_read make (reader xs)) x
   turn_map {room = room} {reader = reader} {x = x} make to from k = record {
     run = λ rest. run_after make [] (λ ys. map_read make (reader ys)) (λ ys same. refl) to (k.run rest);
@@ -102,52 +154,63 @@ module _ {T U V : Type 0} where
   }
 
   -- the terminal is taken, and another reader goes on
-  pub turn_takes : {Goes : Grammar T U} {Is : Grammar T V} {goes ends : T → Type 0} {room : ℕ} {reader : Reader T V} {x : T} (make : U → V) (next : Reader T U) →
+  pub turn_takes : {Goes : Grammar T U} {Is : Grammar T V} {goes ends : T → Type 0} {room : ℕ} {reader : Reader T V} {x : T} (make : U →
+      V) (next : Reader T U) →
       ((rest : List T) → reader (x ∷ rest) ≡ map_read make (next rest)) → ((y : T) → ends y → goes y) →
-      ((r : ℕ) (ys : List T) (u : U) → Goes r ys u → Is r (x ∷ ys) (make u)) → ((r : ℕ) (ys : List T) (v : V) → Is r (x ∷ ys) v → (u : U) × Goes r ys u × (v ≡ make u)) →
+      ((r : ℕ) (ys : List T) (u : U) → Goes r ys u → Is r (x ∷ ys) (make u)) →
+      ((r : ℕ) (ys : List T) (v : V) → Is r (x ∷ ys) v → (u : U) × Goes r ys u × (v ≡ make u)) →
       Exact Goes goes room next → Turn Is ends room reader x
   turn_takes {Goes = Goes} {goes = goes} {ends = ends} {room = room} {reader = reader} {x = x} make next e weaker to from k = record {
     run = λ rest. run_after make (x ∷ []) reader (λ ys same. e ys) to (k.run rest);
     again = λ r ys v h rest b.
         let is = from r ys v h in
-        rw (is.2, e (ys ++ rest)) (agrees_map make room r is.0 rest (next (ys ++ rest)) (k.again r ys is.0 is.1 rest (before_map ends goes weaker rest b)));
+        rw (is.2, e (ys ++ rest))
+        (agrees_map make room r is.0 rest (next (ys ++ rest)) (k.again r ys is.0 is.1 rest (before_map ends goes weaker rest b)));
   }
 
   -- another reader begins with the terminal
-  pub turn_as : {Others : Grammar T U} {Is : Grammar T V} {others ends : T → Type 0} {room : ℕ} {reader : Reader T V} {x : T} (make : U → V) (other : Reader T U) →
+  pub turn_as : {Others : Grammar T U} {Is : Grammar T V} {others ends : T → Type 0} {room : ℕ} {reader : Reader T V} {x : T} (make : U →
+      V) (other : Reader T U) →
       ((rest : List T) → reader (x ∷ rest) ≡ map_read make (other (x ∷ rest))) → ((y : T) → ends y → others y) →
-      ((r : ℕ) (ys : List T) (u : U) → Others r ys u → Is r ys (make u)) → ((r : ℕ) (ys : List T) (v : V) → Is r (x ∷ ys) v → (u : U) × Others r (x ∷ ys) u × (v ≡ make u)) →
+      ((r : ℕ) (ys : List T) (u : U) → Others r ys u → Is r ys (make u)) →
+      ((r : ℕ) (ys : List T) (v : V) → Is r (x ∷ ys) v → (u : U) × Others r (x ∷ ys) u × (v ≡ make u)) →
       Exact Others others room other → Turn Is ends room reader x
   turn_as {Others = Others} {others = others} {ends = ends} {room = room} {reader = reader} {x = x} make other e weaker to from k = record {
     run = λ rest. run_after make [] reader (agree rest) to (k.run (x ∷ rest));
     again = λ r ys v h rest b.
         let is = from r ys v h in
-        rw (is.2, e (ys ++ rest)) (agrees_map make room r is.0 rest (other (x ∷ (ys ++ rest))) (k.again r (x ∷ ys) is.0 is.1 rest (before_map ends others weaker rest b)));
+        rw (is.2, e (ys ++ rest))
+        (agrees_map make room r is.0 rest (other (x ∷ (ys ++ rest)))
+        (k.again r (x ∷ ys) is.0 is.1 rest (before_map ends others weaker rest b)));
   } where
     agree : (rest ys : List T) → SameFirst (x ∷ rest) ys → reader ys ≡ map_read make (other ys)
     agree rest ys (both_begin y xs zs) = e zs
 
   -- at the end it reads as another reader
-  pub end_as : {Others : Grammar T U} {Is : Grammar T V} {others ends : T → Type 0} {room : ℕ} {reader : Reader T V} (make : U → V) (other : Reader T U) →
+  pub end_as : {Others : Grammar T U} {Is : Grammar T V} {others ends : T → Type 0} {room : ℕ} {reader : Reader T V} (make : U →
+      V) (other : Reader T U) →
       reader [] ≡ map_read make (other []) → ((y : T) → ends y → others y) →
-      ((r : ℕ) (ys : List T) (u : U) → Others r ys u → Is r ys (make u)) → ((r : ℕ) (v : V) → Is r [] v → (u : U) × Others r [] u × (v ≡ make u)) →
+      ((r : ℕ) (ys : List T) (u : U) → Others r ys u → Is r ys (make u)) →
+      ((r : ℕ) (v : V) → Is r [] v → (u : U) × Others r [] u × (v ≡ make u)) →
       ((r : ℕ) (v : V) → Is r [] v → (y : T) (rest : List T) → ends y → reader (y ∷ rest) ≡ map_read make (other (y ∷ rest))) →
       Exact Others others room other → AtEnd Is ends room reader
-  end_as {Others = Others} {Is = Is} {others = others} {ends = ends} {room = room} {reader = reader} make other e weaker to from stays k = record {
-    run = run_after make [] reader agree to (k.run []);
-    again = again;
-  } where
-    agree : (ys : List T) → SameFirst [] ys → reader ys ≡ map_read make (other ys)
-    agree ys both_end = e
+  end_as {Others = Others} {Is = Is} {others = others} {ends = ends} {room = room} {reader = reader} make other e weaker to from stays k =
+      record {
+        run = run_after make [] reader agree to (k.run []);
+        again = again;
+      } where
+        agree : (ys : List T) → SameFirst [] ys → reader ys ≡ map_read make (other ys)
+        agree ys both_end = e
 
-    same : (r : ℕ) (v : V) → Is r [] v → (rest : List T) → Before ends rest → reader rest ≡ map_read make (other rest)
-    same r v h [] b = e
-    same r v h (y ∷ rest) b = stays r v h y rest b
+        same : (r : ℕ) (v : V) → Is r [] v → (rest : List T) → Before ends rest → reader rest ≡ map_read make (other rest)
+        same r v h [] b = e
+        same r v h (y ∷ rest) b = stays r v h y rest b
 
-    again : (r : ℕ) (v : V) → Is r [] v → (rest : List T) → Before ends rest → Agrees room r v rest (reader rest)
-    again r v h rest b =
-        let is = from r v h in
-        rw (same r v h rest b, is.2) (agrees_map make room r is.0 rest (other rest) (k.again r [] is.0 is.1 rest (before_map ends others weaker rest b)))
+        again : (r : ℕ) (v : V) → Is r [] v → (rest : List T) → Before ends rest → Agrees room r v rest (reader rest)
+        again r v h rest b =
+            let is = from r v h in
+            rw (same r v h rest b, is.2)
+            (agrees_map make room r is.0 rest (other rest) (k.again r [] is.0 is.1 rest (before_map ends others weaker rest b)))
 
 module _ {T V : Type 0} where
   -- a terminal that passes the test, and then a form
@@ -155,7 +218,8 @@ module _ {T V : Type 0} where
   IsAfter is Is r [] v = ⊥
   IsAfter is Is r (x ∷ ys) v = (is x ≡ true) × Is r ys v
 
-  pub after_exact : (is : T → Bool) (opener : T) → is opener ≡ true → {Is : Grammar T V} {ends : T → Type 0} {room : ℕ} {reader : Reader T V} → Begins (Is room) [] →
+  pub after_exact : (is : T → Bool) (opener : T) → is opener ≡ true →
+      {Is : Grammar T V} {ends : T → Type 0} {room : ℕ} {reader : Reader T V} → Begins (Is room) [] →
       Exact Is ends room reader → Exact (IsAfter is Is) ends room (after is reader)
   unfolding after
   after_exact is opener opens {Is = Is} {ends = ends} {room = room} {reader = reader} some k =
@@ -168,6 +232,7 @@ module _ {T V : Type 0} where
 
         by : (x : T) (b : Bool) → is x ≡ b → Turn (IsAfter is Is) ends room (after is reader) x
         by x true e =
-            turn_takes (λ v. v) reader (λ rest. ap (λ b. if b then reader rest else form_at (x ∷ rest)) e ∙ sym (map_same (reader rest))) (λ y h. h) (λ r ys v h. (e, h))
+            turn_takes (λ v. v) reader (λ rest. ap (λ b. if b then reader rest else form_at (x ∷ rest)) e
+            ∙ sym (map_same (reader rest))) (λ y h. h) (λ r ys v h. (e, h))
             (λ r ys v h. (v, h.1, refl)) k
         by x false e = turn_wrong (λ rest. ap (λ b. if b then reader rest else form_at (x ∷ rest)) e) begins (never x e)

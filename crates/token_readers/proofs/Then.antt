@@ -2,7 +2,23 @@
 use Rattle.std.proofs.Common.{◌≡◌, ℕ, suc, Bool, true, false, List, [], ◌∷◌, ◌++◌, refl, ap, sym, ◌∙◌, append_assoc}
 use Rattle.std.specs.Prelude.{Ok, Err, if◌then◌else◌}
 use Rattle.token_readers.specs.Readers.{form, deep, Answer, Reader, form_at, and_then, closing, closed_by}
-use Rattle.token_readers.specs.Exact.{Grammar, SameFirst, both_end, both_begin, Before, Outcome, gives, wrong, too_deep, ends_with, Begins, Says, Run, Agrees, Exact}
+use Rattle.token_readers.specs.Exact.{
+  Grammar,
+  SameFirst,
+  both_end,
+  both_begin,
+  Before,
+  Outcome,
+  gives,
+  wrong,
+  too_deep,
+  ends_with,
+  Begins,
+  Says,
+  Run,
+  Agrees,
+  Exact,
+}
 use Rattle.token_readers.proofs.Runs.{same_first, same_split}
 
 module _ {T V W : Type 0} where
@@ -16,16 +32,26 @@ module _ {T V W : Type 0} where
     pub second : Next value r tail w
 
   pub lift_then : (Is : Grammar T V) (Next : V → Grammar T W) → ((r : ℕ) (xs : List T) (v : V) → Is r xs v → Is (suc (suc r)) xs v) →
-      ((v : V) (r : ℕ) (xs : List T) (w : W) → Next v r xs w → Next v (suc (suc r)) xs w) → (r : ℕ) (xs : List T) (w : W) → IsThen Is Next r xs w → IsThen Is Next (suc (suc r)) xs w
+      ((v : V) (r : ℕ) (xs : List T) (w : W) → Next v r xs w → Next v (suc (suc r)) xs w) → (r : ℕ) (xs : List T) (w : W) →
+      IsThen Is Next r xs w → IsThen Is Next (suc (suc r)) xs w
   lift_then Is Next lift further r xs w h =
-      record { value = h.value; front = h.front; tail = h.tail; split = h.split; first = lift r h.front h.value h.first; second = further h.value r h.tail w h.second }
+      record {
+        value = h.value;
+        front = h.front;
+        tail = h.tail;
+        split = h.split;
+        first = lift r h.front h.value h.first;
+        second =
+            further h.value r h.tail w h.second;
+      }
 
   -- the first grammar needs no more room than there is, and something derives after each of its values
   pub record Fits (Is : Grammar T V) (Next : V → Grammar T W) : Type 0 where
     pub lift : (r : ℕ) (xs : List T) (v : V) → Is r xs v → Is (suc (suc r)) xs v
     pub default : (r : ℕ) (v : V) → Begins (Next v r) []
 
-  first_begins : (Is : Grammar T V) (Next : V → Grammar T W) → Fits Is Next → (r : ℕ) (front : List T) → Begins (Is r) front → Begins (IsThen Is Next r) front
+  first_begins : (Is : Grammar T V) (Next : V → Grammar T W) → Fits Is Next → (r : ℕ) (front : List T) → Begins (Is r) front →
+      Begins (IsThen Is Next r) front
   first_begins Is Next fits r front b =
       let second : Begins (Next b.value r) [] = fits.default r b.value in
       record {
@@ -41,16 +67,27 @@ module _ {T V W : Type 0} where
         };
       }
 
-  second_begins : (Is : Grammar T V) (Next : V → Grammar T W) (r : ℕ) (f front : List T) (v : V) → Is r f v → Begins (Next v r) front → Begins (IsThen Is Next r) (f ++ front)
+  second_begins : (Is : Grammar T V) (Next : V → Grammar T W) (r : ℕ) (f front : List T) (v : V) → Is r f v → Begins (Next v r) front →
+      Begins (IsThen Is Next r) (f ++ front)
   second_begins Is Next r f front v h b = record {
     ending = b.ending;
     value = b.value;
-    derives = record { value = v; front = f; tail = front ++ b.ending; split = append_assoc f front b.ending; first = h; second = b.derives };
+    derives = record {
+      value = v;
+      front = f;
+      tail = front ++ b.ending;
+      split = append_assoc f front b.ending;
+      first = h;
+      second =
+          b.derives;
+    };
   }
 
-  says_then : (Is : Grammar T V) (Next : V → Grammar T W) → Fits Is Next → (room : ℕ) (f : List T) (v : V) → Is room f v → (outcome : Outcome W) (front rest : List T) →
+  says_then : (Is : Grammar T V) (Next : V → Grammar T W) → Fits Is Next → (room : ℕ) (f : List T) (v : V) → Is room f v →
+      (outcome : Outcome W) (front rest : List T) →
       Says (Next v) room outcome front rest → Says (IsThen Is Next) room outcome (f ++ front) rest
-  says_then Is Next fits room f v h (gives w) front rest k = record { value = v; front = f; tail = front; split = refl; first = h; second = k }
+  says_then Is Next fits room f v h (gives w) front rest k =
+      record { value = v; front = f; tail = front; split = refl; first = h; second = k }
   says_then Is Next fits room f v h wrong front rest k = second_begins Is Next room f front v h k
   says_then Is Next fits room f v h too_deep front [] k = absurd k
   says_then Is Next fits room f v h too_deep front (x ∷ rest) k = (
@@ -58,8 +95,10 @@ module _ {T V W : Type 0} where
     rw append_assoc (second_begins Is Next (suc (suc room)) f (front ++ x ∷ []) v (fits.lift room f v h) k.1),
   )
 
-  run_second : (Is : Grammar T V) (Next : V → Grammar T W) → Fits Is Next → (room : ℕ) (reader : Reader T V) (next : V → Reader T W) (xs front rest : List T) (v : V) →
-      xs ≡ front ++ rest → ((other : List T) → SameFirst rest other → reader (front ++ other) ≡ Ok (v, other)) → Is room front v → Run (Next v) room (next v) rest →
+  run_second : (Is : Grammar T V) (Next : V → Grammar T W) → Fits Is Next →
+      (room : ℕ) (reader : Reader T V) (next : V → Reader T W) (xs front rest : List T) (v : V) →
+      xs ≡ front ++ rest → ((other : List T) → SameFirst rest other → reader (front ++ other) ≡ Ok (v, other)) → Is room front v →
+      Run (Next v) room (next v) rest →
       Run (IsThen Is Next) room (λ ys. and_then (reader ys) next) xs
   run_second Is Next fits room reader next xs front rest v split reads h k = record {
     front = front ++ k.front;
@@ -68,18 +107,23 @@ module _ {T V W : Type 0} where
     split = split ∙ ap (λ ys. front ++ ys) k.split ∙ sym (append_assoc front k.front k.rest);
     reads = λ other same.
         ap (λ ys. and_then (reader ys) next) (append_assoc front k.front other)
-        ∙ ap (λ answer. and_then answer next) (reads (k.front ++ other) (same_split k.front k.rest rest other k.split same)) ∙ k.reads other same;
+        ∙ ap (λ answer. and_then answer next) (reads (k.front ++ other) (same_split k.front k.rest rest other k.split same))
+        ∙ k.reads other same;
     says = says_then Is Next fits room front v h k.outcome k.front k.rest k.says;
   }
 
   -- a run of the first reader, and one of the second where the first gives a value
-  pub run_then : (Is : Grammar T V) (Next : V → Grammar T W) → Fits Is Next → (room : ℕ) (reader : Reader T V) (next : V → Reader T W) (xs : List T) → Run Is room reader xs →
-      ((v : V) (rest : List T) → reader xs ≡ Ok (v, rest) → Run (Next v) room (next v) rest) → Run (IsThen Is Next) room (λ ys. and_then (reader ys) next) xs
+  pub run_then : (Is : Grammar T V) (Next : V → Grammar T W) → Fits Is Next →
+      (room : ℕ) (reader : Reader T V) (next : V → Reader T W) (xs : List T) → Run Is room reader xs →
+      ((v : V) (rest : List T) → reader xs ≡ Ok (v, rest) → Run (Next v) room (next v) rest) →
+      Run (IsThen Is Next) room (λ ys. and_then (reader ys) next) xs
   run_then Is Next fits room reader next xs k second = by k.front k.rest k.outcome k.split k.reads k.says where
-    by : (front rest : List T) (outcome : Outcome V) → xs ≡ front ++ rest → ((other : List T) → SameFirst rest other → reader (front ++ other) ≡ ends_with outcome other) →
+    by : (front rest : List T) (outcome : Outcome V) → xs ≡ front ++ rest →
+        ((other : List T) → SameFirst rest other → reader (front ++ other) ≡ ends_with outcome other) →
         Says Is room outcome front rest → Run (IsThen Is Next) room (λ ys. and_then (reader ys) next) xs
     by front rest (gives v) split reads says =
-        run_second Is Next fits room reader next xs front rest v split reads says (second v rest (ap reader split ∙ reads rest (same_first rest)))
+        run_second Is Next fits room reader next xs front rest v split reads says (second v rest (ap reader split
+        ∙ reads rest (same_first rest)))
     by front rest wrong split reads says = record {
       front = front;
       rest = rest;
@@ -98,27 +142,32 @@ module _ {T V W : Type 0} where
       says = (first_begins Is Next fits room front says.0, first_begins Is Next fits (suc (suc room)) (front ++ x ∷ []) says.1);
     }
 
-  pub agrees_then : (room needed : ℕ) (v : V) (w : W) (ys rest : List T) (answer : Answer T V) (next : V → Reader T W) → Agrees room needed v ys answer →
+  pub agrees_then : (room needed : ℕ) (v : V) (w : W) (ys rest : List T) (answer : Answer T V) (next : V → Reader T W) →
+      Agrees room needed v ys answer →
       Agrees room needed w rest (next v ys) → Agrees room needed w rest (and_then answer next)
   agrees_then room needed v w ys rest (Ok (u, left)) next h k = rw (h.0, h.1) k
   agrees_then room needed v w ys rest (Err (form left)) next h k = h
   agrees_then room needed v w ys rest (Err (deep left)) next h k = h
 
   -- one reader after another
-  pub exact_then : {Is : Grammar T V} {Next : V → Grammar T W} {firsts ends : T → Type 0} {room : ℕ} {reader : Reader T V} {next : V → Reader T W} → Fits Is Next →
+  pub exact_then : {Is : Grammar T V} {Next : V → Grammar T W} {firsts ends : T → Type 0} {room : ℕ} {reader : Reader T V} {next : V →
+      Reader T W} → Fits Is Next →
       ((r : ℕ) (v : V) (xs : List T) (w : W) → Next v r xs w → (rest : List T) → Before ends rest → Before firsts (xs ++ rest)) →
-      Exact Is firsts room reader → ((v : V) → Exact (Next v) ends room (next v)) → Exact (IsThen Is Next) ends room (λ xs. and_then (reader xs) next)
-  exact_then {Is = Is} {Next = Next} {firsts = firsts} {ends = ends} {room = room} {reader = reader} {next = next} fits follow k second = record {
-    run = λ xs. run_then Is Next fits room reader next xs (k.run xs) (λ v rest e. (second v).run rest);
-    again = λ r xs w h rest b. again r xs w h rest b;
-  } where
-    again : (r : ℕ) (xs : List T) (w : W) → IsThen Is Next r xs w → (rest : List T) → Before ends rest → Agrees room r w rest (and_then (reader (xs ++ rest)) next)
-    again r xs w h rest b =
-        let whole : Agrees room r w rest (and_then (reader (h.front ++ (h.tail ++ rest))) next) =
-        agrees_then room r h.value w (h.tail ++ rest) rest (reader (h.front ++ (h.tail ++ rest))) next
-        (k.again r h.front h.value h.first (h.tail ++ rest) (follow r h.value h.tail w h.second rest b))
-        ((second h.value).again r h.tail w h.second rest b) in
-        rw (h.split, append_assoc) whole
+      Exact Is firsts room reader → ((v : V) → Exact (Next v) ends room (next v)) →
+      Exact (IsThen Is Next) ends room (λ xs. and_then (reader xs) next)
+  exact_then {Is = Is} {Next = Next} {firsts = firsts} {ends = ends} {room = room} {reader = reader} {next = next} fits follow k second =
+      record {
+        run = λ xs. run_then Is Next fits room reader next xs (k.run xs) (λ v rest e. (second v).run rest);
+        again = λ r xs w h rest b. again r xs w h rest b;
+      } where
+        again : (r : ℕ) (xs : List T) (w : W) → IsThen Is Next r xs w → (rest : List T) → Before ends rest →
+            Agrees room r w rest (and_then (reader (xs ++ rest)) next)
+        again r xs w h rest b =
+            let whole : Agrees room r w rest (and_then (reader (h.front ++ (h.tail ++ rest))) next) =
+            agrees_then room r h.value w (h.tail ++ rest) rest (reader (h.front ++ (h.tail ++ rest))) next
+            (k.again r h.front h.value h.first (h.tail ++ rest) (follow r h.value h.tail w h.second rest b))
+            ((second h.value).again r h.tail w h.second rest b) in
+            rw (h.split, append_assoc) whole
 
 -- any terminal may follow
 abbrev pub Any : {T : Type 0} → T → Type 0
@@ -129,7 +178,8 @@ module _ {T V : Type 0} where
   abbrev pub IsClosing : (T → Bool) → V → Grammar T V
   IsClosing is v r xs w = (x : T) × (xs ≡ x ∷ []) × (is x ≡ true) × (w ≡ v)
 
-  closing_run : (is : T → Bool) (closer : T) → is closer ≡ true → (v : V) (room : ℕ) (xs : List T) → Run (IsClosing is v) room (closing is v) xs
+  closing_run : (is : T → Bool) (closer : T) → is closer ≡ true → (v : V) (room : ℕ) (xs : List T) →
+      Run (IsClosing is v) room (closing is v) xs
   unfolding closing
   closing_run is closer closes v room [] = record {
     front = [];
@@ -184,18 +234,24 @@ module _ {T V : Type 0} where
       (r : ℕ) (xs : List T) (v : V) → IsClosed is Is r xs v → IsClosed is Is (suc (suc r)) xs v
   lift_closed is Is lift = lift_then Is (IsClosing is) lift (λ v r xs w h. h)
 
-  pub closed_exact : (is : T → Bool) (closer : T) → is closer ≡ true → {Is : Grammar T V} {ends : T → Type 0} {room : ℕ} {reader : Reader T V} →
+  pub closed_exact : (is : T → Bool) (closer : T) → is closer ≡ true →
+      {Is : Grammar T V} {ends : T → Type 0} {room : ℕ} {reader : Reader T V} →
       ((x : T) → is x ≡ true → ends x) → ((r : ℕ) (xs : List T) (v : V) → Is r xs v → Is (suc (suc r)) xs v) → Exact Is ends room reader →
       Exact (IsClosed is Is) Any room (closed_by is reader)
   closed_exact is closer closes {Is = Is} {ends = ends} {room = room} {reader = reader} follows lift k =
-      exact_then (record { lift = lift; default = λ r v. record { ending = closer ∷ []; value = v; derives = (closer, refl, closes, refl) } }) follow k
+      exact_then (record {
+        lift = lift;
+        default =
+            λ r v. record { ending = closer ∷ []; value = v; derives = (closer, refl, closes, refl) };
+      }) follow k
       (λ v. closing_exact is closer closes v room)
     where
       follow : (r : ℕ) (v : V) (xs : List T) (w : V) → IsClosing is v r xs w → (rest : List T) → Before Any rest → Before ends (xs ++ rest)
       follow r v xs w h rest b = rw h.1 (follows h.0 h.2)
 
 module _ {T V W : Type 0} where
-  pub map_first : (A B : Grammar T V) (Next : V → Grammar T W) → ((r : ℕ) (xs : List T) (v : V) → A r xs v → B r xs v) → (r : ℕ) (xs : List T) (w : W) →
+  pub map_first : (A B : Grammar T V) (Next : V → Grammar T W) → ((r : ℕ) (xs : List T) (v : V) → A r xs v → B r xs v) →
+      (r : ℕ) (xs : List T) (w : W) →
       IsThen A Next r xs w → IsThen B Next r xs w
   map_first A B Next to r xs w h =
       record { value = h.value; front = h.front; tail = h.tail; split = h.split; first = to r h.front h.value h.first; second = h.second }

@@ -3,7 +3,21 @@ use Rattle.std.proofs.Common.{◌≡◌, ℕ, suc, ◌<◌, ◌≤◌, List, [],
 use Rattle.std.proofs.lemmas.List.{append-nil}
 use Rattle.std.specs.Prelude.{Ok, Err}
 use Rattle.token_readers.specs.Readers.{form, deep, Answer, Reader}
-use Rattle.token_readers.specs.Exact.{Grammar, SameFirst, both_begin, Outcome, gives, wrong, too_deep, ends_with, Begins, Says, Run, Agrees, Exact}
+use Rattle.token_readers.specs.Exact.{
+  Grammar,
+  SameFirst,
+  both_begin,
+  Outcome,
+  gives,
+  wrong,
+  too_deep,
+  ends_with,
+  Begins,
+  Says,
+  Run,
+  Agrees,
+  Exact,
+}
 use Rattle.token_readers.proofs.Runs.{same_first, same_read}
 
 module _ {T V : Type 0} where
@@ -60,7 +74,8 @@ module _ {T V : Type 0} where
       run : Run Is room reader xs
       run = k.run xs
 
-      by : (outcome : Outcome V) → reader xs ≡ ends_with outcome run.rest → ((other : List T) → SameFirst run.rest other → reader (run.front ++ other) ≡ ends_with outcome other) →
+      by : (outcome : Outcome V) → reader xs ≡ ends_with outcome run.rest →
+          ((other : List T) → SameFirst run.rest other → reader (run.front ++ other) ≡ ends_with outcome other) →
           Says Is room outcome run.front run.rest → FirstForm Is room xs left
       by (gives v) e reads says = cc
       by too_deep e reads says = cc
@@ -70,28 +85,32 @@ module _ {T V : Type 0} where
         split = run.split;
         place = cc;
         begins = says;
-        stops = λ other same r v derived. no_form room r v (reader (run.front ++ other)) (length other) (reads other same) (whole k r (run.front ++ other) v derived);
+        stops = λ other same r v derived. no_form room r v (reader (run.front ++ other)) (length other) (reads other same)
+            (whole k r (run.front ++ other) v derived);
       }
 
     -- and a level too many is
     pub first_deep : Exact Is ends room reader → (xs : List T) (left : ℕ) → reader xs ≡ Err (deep left) → FirstDeep Is room xs left
-    first_deep k xs left h = by run.outcome run.rest (ap reader run.split ∙ run.reads run.rest (same_first run.rest)) run.split run.reads run.says where
-      run : Run Is room reader xs
-      run = k.run xs
+    first_deep k xs left h =
+        by run.outcome run.rest (ap reader run.split ∙ run.reads run.rest (same_first run.rest)) run.split run.reads run.says where
+          run : Run Is room reader xs
+          run = k.run xs
 
-      by : (outcome : Outcome V) (rest : List T) → reader xs ≡ ends_with outcome rest → xs ≡ run.front ++ rest →
-          ((other : List T) → SameFirst rest other → reader (run.front ++ other) ≡ ends_with outcome other) → Says Is room outcome run.front rest → FirstDeep Is room xs left
-      by (gives v) rest e split reads says = cc
-      by wrong rest e split reads says = cc
-      by too_deep [] e split reads says = absurd says
-      by too_deep (x ∷ rest) e split reads says = record {
-        front = run.front;
-        at = x;
-        rest = rest;
-        split = split;
-        place = cc;
-        begins = says.0;
-        stops = λ other v derived.
-            no_deep room v (reader (run.front ++ x ∷ other)) (suc (length other)) (reads (x ∷ other) (both_begin x rest other)) (whole k room (run.front ++ x ∷ other) v derived);
-        goes_on = says.1;
-      }
+          by : (outcome : Outcome V) (rest : List T) → reader xs ≡ ends_with outcome rest → xs ≡ run.front ++ rest →
+              ((other : List T) → SameFirst rest other → reader (run.front ++ other) ≡ ends_with outcome other) →
+              Says Is room outcome run.front rest → FirstDeep Is room xs left
+          by (gives v) rest e split reads says = cc
+          by wrong rest e split reads says = cc
+          by too_deep [] e split reads says = absurd says
+          by too_deep (x ∷ rest) e split reads says = record {
+            front = run.front;
+            at = x;
+            rest = rest;
+            split = split;
+            place = cc;
+            begins = says.0;
+            stops = λ other v derived.
+                no_deep room v (reader (run.front ++ x ∷ other)) (suc (length other)) (reads (x ∷ other) (both_begin x rest other))
+                (whole k room (run.front ++ x ∷ other) v derived);
+            goes_on = says.1;
+          }

@@ -2,23 +2,33 @@
 use Rattle.std.proofs.Common.{◌≡◌, ℕ, zero, suc, ◌<◌, Bool, true, false, List, [], ◌∷◌, ◌++◌, refl, ap, sym, ◌∙◌, arith}
 use Rattle.std.proofs.lemmas.List.{append-nil}
 use Rattle.std.specs.Prelude.{Option, Some, None, Ok, codes}
-use Rattle.tsl_text.specs.declared.TokenKind.TheVariants.{OpenRound, CloseRound, OpenSquare, CloseSquare, LeftArrow, And, Or, Arrow, BothArrow}
+use Rattle.tsl_text.specs.declared.TokenKind.TheVariants.{OpenRound, CloseRound, OpenSquare, CloseSquare, LeftArrow, And, Or, Arrow,
+    BothArrow}
 use Rattle.token_readers.specs.Readers.{Answer, Reader, form_at, map_read, and_then, below, closed_by, after, members}
 use Rattle.token_readers.specs.Exact.{Grammar, Before, Begins, Exact}
 use Rattle.token_readers.proofs.Runs.{map_same, exact_map, exact_as, before_join, before_map}
-use Rattle.token_readers.proofs.Then.{IsThen, Fits, Any, IsClosed, lift_then, lift_closed, closed_exact, exact_then, map_first, then_left, then_right}
-use Rattle.token_readers.proofs.Terminals.{Turn, AtEnd, by_first, end_wrong, end_gives, end_as, turn_of, turn_wrong, turn_alone, turn_takes, turn_as, IsAfter, after_exact}
+use Rattle.token_readers.proofs.Then.{IsThen, Fits, Any, IsClosed, lift_then, lift_closed, closed_exact, exact_then, map_first, then_left,
+    then_right}
+use Rattle.token_readers.proofs.Terminals.{Turn, AtEnd, by_first, end_wrong, end_gives, end_as, turn_wrong, turn_alone, turn_takes, turn_as,
+    IsAfter}
 use Rattle.token_readers.proofs.Levels.{Below, Up, lift_up, turn_below, IsTail, lift_tail, tail_exact}
-use Rattle.token_readers.proofs.Lists.{AreAll, none, some, Member, members_exact}
+use Rattle.token_readers.proofs.Lists.{AreAll, none, some, Member, marked_member, members_exact}
 use Rattle.tsl_reader.specs.declared.syntax.Word.TheVariants.{True, False, X, F, G, U, W, R}
 use Rattle.tsl_terms.specs.declared.operator.UnaryOperator.{UnaryOperator}
 use Rattle.tsl_terms.specs.declared.operator.BinaryOperator.{BinaryOperator}
 use Rattle.tsl_terms.specs.declared.operator.BinaryOperator.TheVariants.{Implication, Equivalence}
-use Rattle.tsl_reader.specs.Syntax.{Terminal, free, word, mark, TermSyntax, alone, terms_of, FormulaSyntax, truth, falsehood, bare, tested, updated, under, between, all_of, any_of}
-use Rattle.tsl_reader.specs.Grammar.{unary_of, temporal_of, IsTerm, signal, in_brackets, IsFormula, temporal, chain as chained, IsIff, no_iff, iff, IsImp, no_imp, imp, IsOr, disjunction, AreDisjuncts, no_disjunct, more_disjuncts, IsAnd, conjunction, AreConjuncts, no_conjunct, more_conjuncts, IsPrefix, prefix, atom, IsAtom, true_atom, false_atom, brackets_atom, update, bare_name, no_argument, test}
-use Rattle.tsl_reader.specs.Reading.{is_close_round, is_close_square, Level, bracketed_formula, atom_named, term_with, update_with, atom_with, after_name, unary_in, prefix_from, prefix_with, conjunct, and_after, and_with, disjunct, or_after_and, or_after, imp_after_or, imp_after, imp_with, iff_after_imp, iff_after, iff_with, temporal_in, formula_from, formula_after, formula_with, above, lower}
+use Rattle.tsl_reader.specs.Syntax.{Terminal, free, word, mark, TermSyntax, alone, terms_of, FormulaSyntax, truth, falsehood, bare, tested,
+    updated, under, between, all_of, any_of}
+use Rattle.tsl_reader.specs.Grammar.{unary_of, temporal_of, IsTerm, signal, in_brackets, IsFormula, temporal, chain as chained, IsIff,
+    no_iff, iff, IsImp, no_imp, imp, IsOr, disjunction, AreDisjuncts, no_disjunct, more_disjuncts, IsAnd, conjunction, AreConjuncts,
+    no_conjunct, more_conjuncts, IsPrefix, prefix, atom, IsAtom, true_atom, false_atom, brackets_atom, update, bare_name, no_argument, test}
+use Rattle.tsl_reader.specs.Reading.{is_close_round, is_close_square, Level, bracketed_formula, atom_named, term_with, update_with,
+    atom_with, after_name, unary_in, prefix_from, prefix_with, conjunct, and_after, and_with, disjunct, or_after_and, or_after,
+    imp_after_or, imp_after, imp_with, iff_after_imp, iff_after, iff_with, temporal_in, formula_from, formula_after, formula_with, above,
+    lower}
 use Rattle.tsl_reader.proofs.Lift.{lift_formula, lift_iff, lift_imp, lift_or, lift_and, lift_prefix, lift_conjuncts, lift_disjuncts}
-use Rattle.tsl_reader.proofs.ExactTerms.{tie, Below_tie, TermExact, lift_terms, round_loose, closed_round, round_closed, a, AreAfterName, nothing, no_arguments, some_arguments, after_name_exact, term_exact}
+use Rattle.tsl_reader.proofs.ExactTerms.{tie, Below_tie, TermExact, lift_terms, round_loose, closed_round, round_closed, a, AreAfterName,
+    nothing, no_arguments, some_arguments, after_name_exact, term_exact}
 
 -- what holds of each level's readers
 pub record LevelExact (room : ℕ) (l : Level) : Type 0 where
@@ -97,7 +107,9 @@ an_arrowed : (r : ℕ) (x : List ℕ) → Begins (IsArrowed x r) []
 an_arrowed r x = record {
   ending = mark LeftArrow ∷ a ∷ mark CloseSquare ∷ [];
   value = updated x (alone (codes "a"));
-  derives = (alone (codes "a"), record { value = alone (codes "a"); front = a ∷ []; tail = mark CloseSquare ∷ []; split = refl; first = signal (codes "a"); second = (mark CloseSquare, refl, refl, refl) }, refl);
+  derives = (alone (codes "a"),
+      record { value = alone (codes "a"); front = a ∷ []; tail = mark CloseSquare ∷ []; split = refl; first = signal (codes "a"); second =
+      (mark CloseSquare, refl, refl, refl) }, refl);
 }
 
 assigned_exact : (room : ℕ) (low : Option Level) → Below TermExact room low → (x : List ℕ) → Exact (IsArrowed x) Any room (assigned low x)
@@ -105,11 +117,13 @@ unfolding assigned
 assigned_exact room low b x = by_first (end_wrong refl (an_arrowed room x) (λ r v h. h)) turn where
   turn : (y : Terminal) → Turn (IsArrowed x) Any room (assigned low x) y
   turn (mark LeftArrow) =
-      turn_takes (updated x) (closed_by is_close_square (term_with low)) (λ rest. refl) (λ y h. h) (λ r ys t h. (t, h, refl)) (λ r ys f h. h)
+      turn_takes (updated x) (closed_by is_close_square (term_with low)) (λ rest. refl) (λ y h. h) (λ r ys t h. (t, h, refl))
+          (λ r ys f h. h)
       (closed_exact is_close_square (mark CloseSquare) refl square_loose lift_terms (term_exact room low b))
   turn _ = turn_wrong (λ rest. refl) (an_arrowed room x) (λ r ys f h. h)
 
-update_is : (low : Option Level) (x : List ℕ) (rest : List Terminal) → update_with low (free x ∷ rest) ≡ map_read (λ f. f) (assigned low x rest)
+update_is : (low : Option Level) (x : List ℕ) (rest : List Terminal) →
+    update_with low (free x ∷ rest) ≡ map_read (λ f. f) (assigned low x rest)
 unfolding update_with assigned
 update_is low x (mark LeftArrow ∷ rest) = sym (map_same (map_read (updated x) (closed_by is_close_square (term_with low) rest)))
 update_is low x [] = refl
@@ -123,7 +137,8 @@ update_exact room low b = by_first (end_wrong refl an_update (λ r v h. h)) turn
   to : (x : List ℕ) (r : ℕ) (ys : List Terminal) (f : FormulaSyntax) → IsArrowed x r ys f → IsUpdate r (free x ∷ ys) f
   to x r (mark LeftArrow ∷ ys) f h = h
   to x r _ f h = absurd h
-  from : (x : List ℕ) (r : ℕ) (ys : List Terminal) (f : FormulaSyntax) → IsUpdate r (free x ∷ ys) f → (g : FormulaSyntax) × IsArrowed x r ys g × (f ≡ g)
+  from : (x : List ℕ) (r : ℕ) (ys : List Terminal) (f : FormulaSyntax) → IsUpdate r (free x ∷ ys) f →
+      (g : FormulaSyntax) × IsArrowed x r ys g × (f ≡ g)
   from x r (mark LeftArrow ∷ ys) f h = (f, h, refl)
   from x r _ f h = absurd h
   turn : (y : Terminal) → Turn IsUpdate Any room (update_with low) y
@@ -145,12 +160,14 @@ atom_case true_atom = (refl, refl)
 atom_case false_atom = (refl, refl)
 atom_case (brackets_atom {room = r} {xs = xs} {a = f} h) = round_closed IsFormula r xs f h
 atom_case (update {xs = xs} {t = t} x h) =
-    (t, record { value = t; front = xs; tail = mark CloseSquare ∷ []; split = refl; first = h; second = (mark CloseSquare, refl, refl, refl) }, refl)
+    (t, record { value = t; front = xs; tail = mark CloseSquare ∷ []; split = refl; first = h; second =
+        (mark CloseSquare, refl, refl, refl) }, refl)
 atom_case (bare_name x) = (None, nothing, refl)
 atom_case (no_argument p) = (Some [], no_arguments, refl)
 atom_case (test {t = t} {ts = ts} p h) = (Some (t ∷ ts), some_arguments h, refl)
 
-atom_of_name : (r : ℕ) (p : List ℕ) (xs : List Terminal) (o : Option (List TermSyntax)) → AreAfterName r xs o → IsAtom r (free p ∷ xs) (atom_named p o)
+atom_of_name : (r : ℕ) (p : List ℕ) (xs : List Terminal) (o : Option (List TermSyntax)) → AreAfterName r xs o →
+    IsAtom r (free p ∷ xs) (atom_named p o)
 atom_of_name r p xs o nothing = bare_name p
 atom_of_name r p xs o no_arguments = no_argument p
 atom_of_name r p xs o (some_arguments h) = test p h
@@ -159,7 +176,8 @@ atom_of_update : (r : ℕ) (xs : List Terminal) (f : FormulaSyntax) → IsUpdate
 atom_of_update r (free x ∷ mark LeftArrow ∷ ys) f h =
     let closer = h.1.second in
     let inner : IsTerm r h.1.front h.0 = rw closer.3 h.1.first in
-    let split : ys ≡ h.1.front ++ mark CloseSquare ∷ [] = h.1.split ∙ ap (λ zs. h.1.front ++ zs) (closer.1 ∙ ap (λ c. c ∷ []) (is_square closer.0 closer.2)) in
+    let split : ys ≡ h.1.front ++ mark CloseSquare ∷ [] = h.1.split
+        ∙ ap (λ zs. h.1.front ++ zs) (closer.1 ∙ ap (λ c. c ∷ []) (is_square closer.0 closer.2)) in
     rw (split, h.2) (update x inner)
 atom_of_update r _ f h = absurd h
 
@@ -177,22 +195,27 @@ brackets_below k l h = closed_exact is_close_round (mark CloseRound) refl (round
 
 atom_exact : (room : ℕ) (low : Option Level) → Below LevelExact room low → Exact IsAtom (Below_tie 6) room (atom_with low)
 unfolding atom_with
-atom_exact room low b = exact_as case_atom (λ r xs f h. atom_case h) (λ x h. h) (by_first (end_wrong refl some_atom (λ r f h. h)) turn) where
+atom_exact room low b =
+    exact_as case_atom (λ r xs f h. atom_case h) (λ x h. h) (by_first (end_wrong refl some_atom (λ r f h. h)) turn) where
   some_atom : Begins (AtomCase room) []
   some_atom = record { ending = a ∷ []; value = bare (codes "a"); derives = (None, nothing, refl) }
   low_formula : Begins (IsClosed is_close_round IsFormula (suc room)) []
-  low_formula = record { ending = a ∷ mark CloseRound ∷ []; value = bare (codes "a"); derives = round_closed IsFormula (suc room) (a ∷ []) (bare (codes "a")) (a_formula (suc room)) }
+  low_formula = record { ending = a ∷ mark CloseRound ∷ []; value = bare (codes "a"); derives =
+      round_closed IsFormula (suc room) (a ∷ []) (bare (codes "a")) (a_formula (suc room)) }
   turn : (x : Terminal) → Turn AtomCase (Below_tie 6) room (atom_with low) x
   turn (word True) = turn_alone truth (λ rest. refl) (λ r. (refl, refl)) (λ r ys f h. h)
   turn (word False) = turn_alone falsehood (λ rest. refl) (λ r. (refl, refl)) (λ r ys f h. h)
   turn (mark OpenRound) =
-      turn_below {Holds = LevelExact} (λ f. f) low bracketed_formula brackets_below b (λ rest. sym (map_same (below low bracketed_formula (mark OpenRound ∷ rest)))) (λ y h. tt)
+      turn_below {Holds = LevelExact} (λ f. f) low bracketed_formula brackets_below b
+          (λ rest. sym (map_same (below low bracketed_formula (mark OpenRound ∷ rest)))) (λ y h. tt)
       some_atom low_formula (λ r ys f h. h) (λ r ys f h. (f, h, refl))
   turn (mark OpenSquare) =
-      turn_takes (λ f. f) (update_with low) (λ rest. sym (map_same (update_with low rest))) (λ y h. tt) (λ r ys f h. h) (λ r ys f h. (f, h, refl))
+      turn_takes (λ f. f) (update_with low) (λ rest. sym (map_same (update_with low rest))) (λ y h. tt) (λ r ys f h. h)
+          (λ r ys f h. (f, h, refl))
       (update_exact room low (terms_below room low b))
   turn (free p) =
-      turn_takes (atom_named p) (after_name low) (λ rest. refl) (λ y h. h) (λ r ys o h. (o, h, refl)) (λ r ys f h. h) (after_name_exact room low (terms_below room low b))
+      turn_takes (atom_named p) (after_name low) (λ rest. refl) (λ y h. h) (λ r ys o h. (o, h, refl)) (λ r ys f h. h)
+          (after_name_exact room low (terms_below room low b))
   turn _ = turn_wrong (λ rest. refl) some_atom (λ r ys f h. h)
 
 -- ---- prefixes
@@ -229,21 +252,26 @@ case_prefix r (x ∷ ys) f h = by (unary_of x) refl r h where
 
 pub prefix_exact : (room : ℕ) (low : Option Level) → Below LevelExact room low → Exact IsPrefix (Below_tie 6) room (prefix_with low)
 unfolding prefix_with prefix_from atom_with
-prefix_exact room low b = exact_as case_prefix (λ r xs f h. prefix_case h) (λ x h. h) (by_first (end_wrong wrong_end some_prefix (λ r f h. h)) (λ x. by x (unary_of x) refl)) where
+prefix_exact room low b =
+    exact_as case_prefix (λ r xs f h. prefix_case h) (λ x h. h)
+    (by_first (end_wrong wrong_end some_prefix (λ r f h. h)) (λ x. by x (unary_of x) refl)) where
   some_prefix : Begins (PrefixCase room) []
   some_prefix = record { ending = a ∷ []; value = bare (codes "a"); derives = bare_name (codes "a") }
   wrong_end : prefix_with low [] ≡ form_at []
   wrong_end = refl
-  as_from : (x : Terminal) (found : Option UnaryOperator) → unary_of x ≡ found → (rest : List Terminal) → prefix_with low (x ∷ rest) ≡ prefix_from low found (x ∷ rest)
+  as_from : (x : Terminal) (found : Option UnaryOperator) → unary_of x ≡ found → (rest : List Terminal) →
+      prefix_with low (x ∷ rest) ≡ prefix_from low found (x ∷ rest)
   as_from x found e rest = ap (λ o. prefix_from low o (x ∷ rest)) e
   by : (x : Terminal) (found : Option UnaryOperator) → unary_of x ≡ found → Turn PrefixCase (Below_tie 6) room (prefix_with low) x
   by x None e =
-      turn_as (λ f. f) (atom_with low) (λ rest. as_from x None e rest ∙ sym (map_same (atom_with low (x ∷ rest)))) (λ y h. h) (λ r ys f h. prefix_of_atom h)
+      turn_as (λ f. f) (atom_with low) (λ rest. as_from x None e rest
+          ∙ sym (map_same (atom_with low (x ∷ rest)))) (λ y h. h) (λ r ys f h. prefix_of_atom h)
       (λ r ys f h. (f, is_atom r ys f h, refl)) (atom_exact room low b) where
     is_atom : (r : ℕ) (ys : List Terminal) (f : FormulaSyntax) → PrefixFrom (unary_of x) x r ys f → IsAtom r (x ∷ ys) f
     is_atom r ys f h = rw e at h
   by x (Some op) e =
-      turn_below {Holds = LevelExact} (under op) low (λ l. l.prefix) (λ k l h. h.prefix) b (as_from x (Some op) e) (λ y h. h) some_prefix (a_prefix (suc room))
+      turn_below {Holds = LevelExact} (under op) low (λ l. l.prefix) (λ k l h. h.prefix) b (as_from x (Some op) e) (λ y h. h) some_prefix
+          (a_prefix (suc room))
       (λ r ys f h. rw e (f, h, refl)) (λ r ys f h. rw e at h)
 
 -- ---- chains of operands
@@ -266,30 +294,16 @@ or_is _ h = cc
 
 pub conjunct_member : (room : ℕ) (low : Option Level) → Below LevelExact room low →
     Member (IsAfter is_and IsPrefix) (Below_tie 6) (Below_tie 5) room (conjunct low) is_and (after is_and (prefix_with low))
-unfolding conjunct after
-conjunct_member room low b = record {
-  at_end = refl;
-  none = none_here;
-  some = some_here;
-  begins = begins;
-  lift = lift;
-  follows = follows;
-  stops = stops;
-  weaker = λ x h. omega (arith, h);
-  turn = λ x e. turn_of (after_exact is_and (mark And) refl (a_prefix room) (prefix_exact room low b)) x;
-} where
+unfolding conjunct
+conjunct_member room low b =
+    marked_member is_and (mark And) refl (a_prefix room) lift_prefixes refl none_here some_here follows stops (λ x h. omega (arith, h))
+        (prefix_exact room low b) where
   none_here : (x : Terminal) (rest : List Terminal) → is_and x ≡ false → conjunct low (x ∷ rest) ≡ None
   none_here (mark And) rest e = cc
   none_here _ rest e = refl
-  some_here : (x : Terminal) (rest : List Terminal) → is_and x ≡ true → conjunct low (x ∷ rest) ≡ Some (after is_and (prefix_with low) (x ∷ rest))
+  some_here : (x : Terminal) (rest : List Terminal) → is_and x ≡ true → conjunct low (x ∷ rest) ≡ Some (prefix_with low rest)
   some_here (mark And) rest e = refl
   some_here _ rest e = cc
-  begins : (r : ℕ) (xs : List Terminal) (f : FormulaSyntax) → IsAfter is_and IsPrefix r xs f → (x : Terminal) × (ys : List Terminal) × (xs ≡ x ∷ ys) × (is_and x ≡ true)
-  begins r [] f h = absurd h
-  begins r (x ∷ ys) f h = (x, ys, refl, h.0)
-  lift : (r : ℕ) (xs : List Terminal) (f : FormulaSyntax) → IsAfter is_and IsPrefix r xs f → IsAfter is_and IsPrefix (suc (suc r)) xs f
-  lift r [] f h = h
-  lift r (x ∷ ys) f h = (h.0, lift_prefixes r ys f h.1)
   follows : (x : Terminal) → is_and x ≡ true → tie x < 6
   follows (mark And) e = omega arith
   follows _ e = cc
@@ -310,13 +324,16 @@ all_conjuncts (more_conjuncts {xs = xs} h k) = some {f = mark And ∷ xs} (refl,
 abbrev AndTail : FormulaSyntax → Grammar Terminal FormulaSyntax
 AndTail a r xs f = (fs : List FormulaSyntax) × AreConjuncts r xs fs × (f ≡ all_of a fs)
 
-and_after_exact : (room : ℕ) (low : Option Level) → Below LevelExact room low → (a : FormulaSyntax) → Exact (AndTail a) (Below_tie 5) room (and_after low a)
+and_after_exact : (room : ℕ) (low : Option Level) → Below LevelExact room low → (a : FormulaSyntax) →
+    Exact (AndTail a) (Below_tie 5) room (and_after low a)
 unfolding and_after
 and_after_exact room low b a =
-    exact_map (all_of a) (λ r xs fs h. (fs, h, refl)) (λ r xs f h. h) (exact_as conjuncts_of (λ r xs fs h. all_conjuncts h) (λ x h. h) (members_exact (conjunct_member room low b)))
+    exact_map (all_of a) (λ r xs fs h. (fs, h, refl)) (λ r xs f h. h)
+        (exact_as conjuncts_of (λ r xs fs h. all_conjuncts h) (λ x h. h) (members_exact (conjunct_member room low b)))
 
 -- a tail that begins with a terminal which ties so strongly, before one that ties less
-follow : (n : ℕ) (xs rest : List Terminal) → Before (λ x. tie x ≡ n) xs → Before (Below_tie n) rest → Before (Below_tie (suc n)) (xs ++ rest)
+follow : (n : ℕ) (xs rest : List Terminal) → Before (λ x. tie x ≡ n) xs → Before (Below_tie n) rest →
+    Before (Below_tie (suc n)) (xs ++ rest)
 follow n xs rest h k =
     before_join (Below_tie (suc n)) xs rest (before_map (λ x. tie x ≡ n) (Below_tie (suc n)) (λ x e. omega (arith, e)) xs h)
     (before_map (Below_tie n) (Below_tie (suc n)) (λ x e. omega (arith, e)) rest k)
@@ -334,7 +351,8 @@ and_tails : Fits IsPrefix AndTail
 and_tails = record { lift = lift_prefixes; default = λ r a. record { ending = []; value = a; derives = ([], no_conjunct, refl) } }
 
 and_parts : (r : ℕ) (xs : List Terminal) (f : FormulaSyntax) → IsAnd r xs f → IsThen IsPrefix AndTail r xs f
-and_parts r xs f (conjunction {xs = front} {ys = tail} {a = a} {fs = fs} h k) = record { value = a; front = front; tail = tail; split = refl; first = h; second = (fs, k, refl) }
+and_parts r xs f (conjunction {xs = front} {ys = tail} {a = a} {fs = fs} h k) =
+    record { value = a; front = front; tail = tail; split = refl; first = h; second = (fs, k, refl) }
 
 and_of : (r : ℕ) (xs : List Terminal) (f : FormulaSyntax) → IsThen IsPrefix AndTail r xs f → IsAnd r xs f
 and_of r xs f h = rw (h.split, h.second.2) (conjunction h.first h.second.1)
@@ -343,34 +361,21 @@ and_exact : (room : ℕ) (low : Option Level) → Below LevelExact room low → 
 unfolding and_with
 and_exact room low b =
     exact_as and_of and_parts (λ x h. h)
-    (exact_then and_tails (λ r a xs f h rest k. follow 5 xs rest (and_tail_ties a r xs f h) k) (prefix_exact room low b) (and_after_exact room low b))
+    (exact_then and_tails (λ r a xs f h rest k. follow 5 xs rest (and_tail_ties a r xs f h) k) (prefix_exact room low b)
+        (and_after_exact room low b))
 
 pub disjunct_member : (room : ℕ) (low : Option Level) → Below LevelExact room low →
     Member (IsAfter is_or IsAnd) (Below_tie 5) (Below_tie 4) room (disjunct low) is_or (after is_or (and_with low))
-unfolding disjunct after
-disjunct_member room low b = record {
-  at_end = refl;
-  none = none_here;
-  some = some_here;
-  begins = begins;
-  lift = lift;
-  follows = follows;
-  stops = stops;
-  weaker = λ x h. omega (arith, h);
-  turn = λ x e. turn_of (after_exact is_or (mark Or) refl (record { ending = a ∷ []; value = bare (codes "a"); derives = an_and room }) (and_exact room low b)) x;
-} where
+unfolding disjunct
+disjunct_member room low b =
+    marked_member is_or (mark Or) refl (record { ending = a ∷ []; value = bare (codes "a"); derives = an_and room })
+        (λ r xs f h. lift_and (omega arith) h) refl none_here some_here follows stops (λ x h. omega (arith, h)) (and_exact room low b) where
   none_here : (x : Terminal) (rest : List Terminal) → is_or x ≡ false → disjunct low (x ∷ rest) ≡ None
   none_here (mark Or) rest e = cc
   none_here _ rest e = refl
-  some_here : (x : Terminal) (rest : List Terminal) → is_or x ≡ true → disjunct low (x ∷ rest) ≡ Some (after is_or (and_with low) (x ∷ rest))
+  some_here : (x : Terminal) (rest : List Terminal) → is_or x ≡ true → disjunct low (x ∷ rest) ≡ Some (and_with low rest)
   some_here (mark Or) rest e = refl
   some_here _ rest e = cc
-  begins : (r : ℕ) (xs : List Terminal) (f : FormulaSyntax) → IsAfter is_or IsAnd r xs f → (x : Terminal) × (ys : List Terminal) × (xs ≡ x ∷ ys) × (is_or x ≡ true)
-  begins r [] f h = absurd h
-  begins r (x ∷ ys) f h = (x, ys, refl, h.0)
-  lift : (r : ℕ) (xs : List Terminal) (f : FormulaSyntax) → IsAfter is_or IsAnd r xs f → IsAfter is_or IsAnd (suc (suc r)) xs f
-  lift r [] f h = h
-  lift r (x ∷ ys) f h = (h.0, lift_and (omega arith) h.1)
   follows : (x : Terminal) → is_or x ≡ true → tie x < 5
   follows (mark Or) e = omega arith
   follows _ e = cc
@@ -391,10 +396,12 @@ all_disjuncts (more_disjuncts {xs = xs} h k) = some {f = mark Or ∷ xs} (refl, 
 abbrev OrTail : FormulaSyntax → Grammar Terminal FormulaSyntax
 OrTail a r xs f = (fs : List FormulaSyntax) × AreDisjuncts r xs fs × (f ≡ any_of a fs)
 
-or_tail_exact : (room : ℕ) (low : Option Level) → Below LevelExact room low → (a : FormulaSyntax) → Exact (OrTail a) (Below_tie 4) room (or_after_and low a)
+or_tail_exact : (room : ℕ) (low : Option Level) → Below LevelExact room low → (a : FormulaSyntax) →
+    Exact (OrTail a) (Below_tie 4) room (or_after_and low a)
 unfolding or_after_and
 or_tail_exact room low b a =
-    exact_map (any_of a) (λ r xs fs h. (fs, h, refl)) (λ r xs f h. h) (exact_as disjuncts_of (λ r xs fs h. all_disjuncts h) (λ x h. h) (members_exact (disjunct_member room low b)))
+    exact_map (any_of a) (λ r xs fs h. (fs, h, refl)) (λ r xs f h. h)
+        (exact_as disjuncts_of (λ r xs fs h. all_disjuncts h) (λ x h. h) (members_exact (disjunct_member room low b)))
 
 or_tail_ties : (a : FormulaSyntax) (r : ℕ) (xs : List Terminal) (f : FormulaSyntax) → OrTail a r xs f → Before (λ x. tie x ≡ 4) xs
 or_tail_ties a r xs f h = by h.1 where
@@ -406,7 +413,8 @@ lift_or_tail : (a : FormulaSyntax) (r : ℕ) (xs : List Terminal) (f : FormulaSy
 lift_or_tail a r xs f h = (h.0, lift_disjuncts (omega arith) h.1, h.2)
 
 or_parts : (r : ℕ) (xs : List Terminal) (f : FormulaSyntax) → IsOr r xs f → IsThen IsAnd OrTail r xs f
-or_parts r xs f (disjunction {xs = front} {ys = tail} {a = a} {fs = fs} h k) = record { value = a; front = front; tail = tail; split = refl; first = h; second = (fs, k, refl) }
+or_parts r xs f (disjunction {xs = front} {ys = tail} {a = a} {fs = fs} h k) =
+    record { value = a; front = front; tail = tail; split = refl; first = h; second = (fs, k, refl) }
 
 or_of : (r : ℕ) (xs : List Terminal) (f : FormulaSyntax) → IsThen IsAnd OrTail r xs f → IsOr r xs f
 or_of r xs f h = rw (h.split, h.second.2) (disjunction h.first h.second.1)
@@ -435,11 +443,14 @@ ImpTail a = IsTail is_arrow (between Implication a) IsImp a
 abbrev IffTail : FormulaSyntax → Grammar Terminal FormulaSyntax
 IffTail a = IsTail is_both (between Equivalence a) IsIff a
 
-imp_tail_exact : (room : ℕ) (low : Option Level) → Below LevelExact room low → (a : FormulaSyntax) → Exact (ImpTail a) (Below_tie 3) room (imp_after_or low a)
+imp_tail_exact : (room : ℕ) (low : Option Level) → Below LevelExact room low → (a : FormulaSyntax) →
+    Exact (ImpTail a) (Below_tie 3) room (imp_after_or low a)
 unfolding imp_after_or
 imp_tail_exact room low b a =
-    tail_exact is_arrow (between Implication a) {Holds = LevelExact} a low (λ l. l.imp) (λ k l h. h.imp) b refl goes stays stops (λ x h. h) (an_imp (suc room)) where
-  goes : (x : Terminal) (rest : List Terminal) → is_arrow x ≡ true → imp_after_or low a (x ∷ rest) ≡ map_read (between Implication a) (below low (λ l. l.imp) (x ∷ rest))
+    tail_exact is_arrow (between Implication a) {Holds =
+        LevelExact} a low (λ l. l.imp) (λ k l h. h.imp) b refl goes stays stops (λ x h. h) (an_imp (suc room)) where
+  goes : (x : Terminal) (rest : List Terminal) → is_arrow x ≡ true →
+      imp_after_or low a (x ∷ rest) ≡ map_read (between Implication a) (below low (λ l. l.imp) (x ∷ rest))
   goes (mark Arrow) rest e = refl
   goes _ rest e = cc
   stays : (x : Terminal) (rest : List Terminal) → is_arrow x ≡ false → imp_after_or low a (x ∷ rest) ≡ Ok (a, x ∷ rest)
@@ -449,11 +460,14 @@ imp_tail_exact room low b a =
   stops (mark Arrow) e = absurd (omega (arith, e))
   stops _ e = refl
 
-iff_tail_exact : (room : ℕ) (low : Option Level) → Below LevelExact room low → (a : FormulaSyntax) → Exact (IffTail a) (Below_tie 2) room (iff_after_imp low a)
+iff_tail_exact : (room : ℕ) (low : Option Level) → Below LevelExact room low → (a : FormulaSyntax) →
+    Exact (IffTail a) (Below_tie 2) room (iff_after_imp low a)
 unfolding iff_after_imp
 iff_tail_exact room low b a =
-    tail_exact is_both (between Equivalence a) {Holds = LevelExact} a low (λ l. l.iff) (λ k l h. h.iff) b refl goes stays stops (λ x h. h) (an_iff (suc room)) where
-  goes : (x : Terminal) (rest : List Terminal) → is_both x ≡ true → iff_after_imp low a (x ∷ rest) ≡ map_read (between Equivalence a) (below low (λ l. l.iff) (x ∷ rest))
+    tail_exact is_both (between Equivalence a) {Holds =
+        LevelExact} a low (λ l. l.iff) (λ k l h. h.iff) b refl goes stays stops (λ x h. h) (an_iff (suc room)) where
+  goes : (x : Terminal) (rest : List Terminal) → is_both x ≡ true →
+      iff_after_imp low a (x ∷ rest) ≡ map_read (between Equivalence a) (below low (λ l. l.iff) (x ∷ rest))
   goes (mark BothArrow) rest e = refl
   goes _ rest e = cc
   stays : (x : Terminal) (rest : List Terminal) → is_both x ≡ false → iff_after_imp low a (x ∷ rest) ≡ Ok (a, x ∷ rest)
@@ -463,7 +477,8 @@ iff_tail_exact room low b a =
   stops (mark BothArrow) e = absurd (omega (arith, e))
   stops _ e = refl
 
-tail_ties : (is : Terminal → Bool) (make : FormulaSyntax → FormulaSyntax) (Low : Grammar Terminal FormulaSyntax) (n : ℕ) → ((x : Terminal) → is x ≡ true → tie x ≡ n) →
+tail_ties : (is : Terminal → Bool) (make : FormulaSyntax → FormulaSyntax) (Low : Grammar Terminal FormulaSyntax) (n : ℕ) →
+    ((x : Terminal) → is x ≡ true → tie x ≡ n) →
     (a : FormulaSyntax) (r : ℕ) (xs : List Terminal) (f : FormulaSyntax) → IsTail is make Low a r xs f → Before (λ x. tie x ≡ n) xs
 tail_ties is make Low n ties a r [] f h = tt
 tail_ties is make Low n ties a r (x ∷ ys) f h = ties x h.0
@@ -513,43 +528,53 @@ lift_or_after : (a : FormulaSyntax) (r : ℕ) (xs : List Terminal) (f : FormulaS
 lift_or_after a = lift_then (AndTail a) OrTail (lift_and_tail a) lift_or_tail
 
 lift_imp_after : (a : FormulaSyntax) (r : ℕ) (xs : List Terminal) (f : FormulaSyntax) → ImpAfter a r xs f → ImpAfter a (suc (suc r)) xs f
-lift_imp_after a = lift_then (OrAfter a) ImpTail (lift_or_after a) (λ c. lift_tail is_arrow (between Implication c) IsImp (λ r xs f h. lift_imp (omega arith) h) c)
+lift_imp_after a = lift_then (OrAfter a) ImpTail (lift_or_after a)
+    (λ c. lift_tail is_arrow (between Implication c) IsImp (λ r xs f h. lift_imp (omega arith) h) c)
 
-or_after_exact : (room : ℕ) (low : Option Level) → Below LevelExact room low → (a : FormulaSyntax) → Exact (OrAfter a) (Below_tie 4) room (or_after low a)
+or_after_exact : (room : ℕ) (low : Option Level) → Below LevelExact room low → (a : FormulaSyntax) →
+    Exact (OrAfter a) (Below_tie 4) room (or_after low a)
 unfolding or_after
 or_after_exact room low b a =
     exact_then (record { lift = lift_and_tail a; default = λ r c. record { ending = []; value = c; derives = ([], no_disjunct, refl) } })
     (λ r c xs f h rest k. follow 4 xs rest (or_tail_ties c r xs f h) k) (and_after_exact room low b a) (or_tail_exact room low b)
 
-imp_after_exact : (room : ℕ) (low : Option Level) → Below LevelExact room low → (a : FormulaSyntax) → Exact (ImpAfter a) (Below_tie 3) room (imp_after low a)
+imp_after_exact : (room : ℕ) (low : Option Level) → Below LevelExact room low → (a : FormulaSyntax) →
+    Exact (ImpAfter a) (Below_tie 3) room (imp_after low a)
 unfolding imp_after
 imp_after_exact room low b a =
     exact_then (record { lift = lift_or_after a; default = λ r c. record { ending = []; value = c; derives = refl } })
     (λ r c xs f h rest k. follow 3 xs rest (imp_tail_ties c r xs f h) k) (or_after_exact room low b a) (imp_tail_exact room low b)
 
-iff_after_exact : (room : ℕ) (low : Option Level) → Below LevelExact room low → (a : FormulaSyntax) → Exact (IffAfter a) (Below_tie 2) room (iff_after low a)
+iff_after_exact : (room : ℕ) (low : Option Level) → Below LevelExact room low → (a : FormulaSyntax) →
+    Exact (IffAfter a) (Below_tie 2) room (iff_after low a)
 unfolding iff_after
 iff_after_exact room low b a =
     exact_then (record { lift = lift_imp_after a; default = λ r c. record { ending = []; value = c; derives = refl } })
     (λ r c xs f h rest k. follow 2 xs rest (iff_tail_ties c r xs f h) k) (imp_after_exact room low b a) (iff_tail_exact room low b)
 
 or_first : (r : ℕ) (xs : List Terminal) (f : FormulaSyntax) → IsOr r xs f → IsThen IsPrefix OrAfter r xs f
-or_first r xs f h = then_right IsPrefix AndTail OrTail r xs f (map_first IsAnd (IsThen IsPrefix AndTail) OrTail and_parts r xs f (or_parts r xs f h))
+or_first r xs f h = then_right IsPrefix AndTail OrTail r xs f
+    (map_first IsAnd (IsThen IsPrefix AndTail) OrTail and_parts r xs f (or_parts r xs f h))
 
 first_or : (r : ℕ) (xs : List Terminal) (f : FormulaSyntax) → IsThen IsPrefix OrAfter r xs f → IsOr r xs f
-first_or r xs f h = or_of r xs f (map_first (IsThen IsPrefix AndTail) IsAnd OrTail and_of r xs f (then_left IsPrefix AndTail OrTail r xs f h))
+first_or r xs f h = or_of r xs f
+    (map_first (IsThen IsPrefix AndTail) IsAnd OrTail and_of r xs f (then_left IsPrefix AndTail OrTail r xs f h))
 
 imp_first : (r : ℕ) (xs : List Terminal) (f : FormulaSyntax) → IsImp r xs f → IsThen IsPrefix ImpAfter r xs f
-imp_first r xs f h = then_right IsPrefix OrAfter ImpTail r xs f (map_first IsOr (IsThen IsPrefix OrAfter) ImpTail or_first r xs f (imp_parts r xs f h))
+imp_first r xs f h = then_right IsPrefix OrAfter ImpTail r xs f
+    (map_first IsOr (IsThen IsPrefix OrAfter) ImpTail or_first r xs f (imp_parts r xs f h))
 
 first_imp : (r : ℕ) (xs : List Terminal) (f : FormulaSyntax) → IsThen IsPrefix ImpAfter r xs f → IsImp r xs f
-first_imp r xs f h = imp_of r xs f (map_first (IsThen IsPrefix OrAfter) IsOr ImpTail first_or r xs f (then_left IsPrefix OrAfter ImpTail r xs f h))
+first_imp r xs f h = imp_of r xs f
+    (map_first (IsThen IsPrefix OrAfter) IsOr ImpTail first_or r xs f (then_left IsPrefix OrAfter ImpTail r xs f h))
 
 iff_first : (r : ℕ) (xs : List Terminal) (f : FormulaSyntax) → IsIff r xs f → IsThen IsPrefix IffAfter r xs f
-iff_first r xs f h = then_right IsPrefix ImpAfter IffTail r xs f (map_first IsImp (IsThen IsPrefix ImpAfter) IffTail imp_first r xs f (iff_parts r xs f h))
+iff_first r xs f h = then_right IsPrefix ImpAfter IffTail r xs f
+    (map_first IsImp (IsThen IsPrefix ImpAfter) IffTail imp_first r xs f (iff_parts r xs f h))
 
 first_iff : (r : ℕ) (xs : List Terminal) (f : FormulaSyntax) → IsThen IsPrefix IffAfter r xs f → IsIff r xs f
-first_iff r xs f h = iff_of r xs f (map_first (IsThen IsPrefix ImpAfter) IsImp IffTail first_imp r xs f (then_left IsPrefix ImpAfter IffTail r xs f h))
+first_iff r xs f h = iff_of r xs f
+    (map_first (IsThen IsPrefix ImpAfter) IsImp IffTail first_imp r xs f (then_left IsPrefix ImpAfter IffTail r xs f h))
 
 -- an operator between formulas begins what follows a prefix
 abbrev Infix : Terminal → Type 0
@@ -560,7 +585,8 @@ is_infix n more few xs h = before_map (λ x. tie x ≡ n) Infix (λ x e. (omega 
 
 or_after_infix : (a : FormulaSyntax) (r : ℕ) (xs : List Terminal) (f : FormulaSyntax) → OrAfter a r xs f → Before Infix xs
 or_after_infix a r xs f h =
-    rw h.split (before_join Infix h.front h.tail (is_infix 5 (omega arith) (omega arith) h.front (and_tail_ties a r h.front h.value h.first))
+    rw h.split (before_join Infix h.front h.tail
+        (is_infix 5 (omega arith) (omega arith) h.front (and_tail_ties a r h.front h.value h.first))
     (is_infix 4 (omega arith) (omega arith) h.tail (or_tail_ties h.value r h.tail f h.second)))
 
 imp_after_infix : (a : FormulaSyntax) (r : ℕ) (xs : List Terminal) (f : FormulaSyntax) → ImpAfter a r xs f → Before Infix xs
@@ -574,9 +600,11 @@ iff_after_infix a r xs f h =
     (is_infix 2 (omega arith) (omega arith) h.tail (iff_tail_ties h.value r h.tail f h.second)))
 
 -- before terminals that tie so weakly
-before_prefix : (n : ℕ) → n < 6 → (xs rest : List Terminal) → Before Infix xs → Before (Below_tie n) rest → Before (Below_tie 6) (xs ++ rest)
+before_prefix : (n : ℕ) → n < 6 → (xs rest : List Terminal) → Before Infix xs → Before (Below_tie n) rest →
+    Before (Below_tie 6) (xs ++ rest)
 before_prefix n few xs rest h k =
-    before_join (Below_tie 6) xs rest (before_map Infix (Below_tie 6) (λ x e. e.1) xs h) (before_map (Below_tie n) (Below_tie 6) (λ x e. omega (arith, e, few)) rest k)
+    before_join (Below_tie 6) xs rest (before_map Infix (Below_tie 6) (λ x e. e.1) xs h)
+        (before_map (Below_tie n) (Below_tie 6) (λ x e. omega (arith, e, few)) rest k)
 
 abbrev nothing_more : (a : FormulaSyntax) (r : ℕ) → IffAfter a r [] a
 nothing_more a r = record {
@@ -600,14 +628,16 @@ unfolding imp_with
 imp_exact room low b =
     exact_as first_imp imp_first (λ x h. h)
     (exact_then (record { lift = lift_prefixes; default = λ r c. record { ending = []; value = c; derives = (nothing_more c r).first } })
-    (λ r c xs f h rest k. before_prefix 3 (omega arith) xs rest (imp_after_infix c r xs f h) k) (prefix_exact room low b) (imp_after_exact room low b))
+    (λ r c xs f h rest k. before_prefix 3 (omega arith) xs rest (imp_after_infix c r xs f h) k) (prefix_exact room low b)
+        (imp_after_exact room low b))
 
 pub iff_exact : (room : ℕ) (low : Option Level) → Below LevelExact room low → Exact IsIff (Below_tie 2) room (iff_with low)
 unfolding iff_with
 iff_exact room low b =
     exact_as first_iff iff_first (λ x h. h)
     (exact_then (record { lift = lift_prefixes; default = λ r c. record { ending = []; value = c; derives = nothing_more c r } })
-    (λ r c xs f h rest k. before_prefix 2 (omega arith) xs rest (iff_after_infix c r xs f h) k) (prefix_exact room low b) (iff_after_exact room low b))
+    (λ r c xs f h rest k. before_prefix 2 (omega arith) xs rest (iff_after_infix c r xs f h) k) (prefix_exact room low b)
+        (iff_after_exact room low b))
 
 -- ---- whole formulas
 
@@ -642,36 +672,45 @@ as_tail : (a : FormulaSyntax) (r : ℕ) (xs : List Terminal) (f : FormulaSyntax)
 as_tail a r [] f h = h
 as_tail a r (x ∷ ys) f h = rw (not_temporal x (iff_after_infix a r (x ∷ ys) f h)) h
 
-formula_after_exact : (room : ℕ) (low : Option Level) → Below LevelExact room low → (a : FormulaSyntax) → Exact (FormulaTail a) (Below_tie 1) room (formula_after low a)
+formula_after_exact : (room : ℕ) (low : Option Level) → Below LevelExact room low → (a : FormulaSyntax) →
+    Exact (FormulaTail a) (Below_tie 1) room (formula_after low a)
 unfolding formula_after formula_from
 formula_after_exact room low b a =
     by_first
     (end_as (λ f. f) (iff_after low a) (sym (map_same (iff_after low a []))) (λ y h. omega (arith, h)) (as_tail a) (λ r f h. (f, h, refl))
-    (λ r f h y rest e. as_from y None (loose_not_temporal y e) rest ∙ sym (map_same (iff_after low a (y ∷ rest)))) (iff_after_exact room low b a))
+    (λ r f h y rest e. as_from y None (loose_not_temporal y e) rest
+        ∙ sym (map_same (iff_after low a (y ∷ rest)))) (iff_after_exact room low b a))
     (λ x. by x (temporal_of x) refl) where
-  as_from : (x : Terminal) (found : Option BinaryOperator) → temporal_of x ≡ found → (rest : List Terminal) → formula_after low a (x ∷ rest) ≡ formula_from low found a (x ∷ rest)
+  as_from : (x : Terminal) (found : Option BinaryOperator) → temporal_of x ≡ found → (rest : List Terminal) →
+      formula_after low a (x ∷ rest) ≡ formula_from low found a (x ∷ rest)
   as_from x found e rest = ap (λ o. formula_from low o a (x ∷ rest)) e
-  by : (x : Terminal) (found : Option BinaryOperator) → temporal_of x ≡ found → Turn (FormulaTail a) (Below_tie 1) room (formula_after low a) x
+  by : (x : Terminal) (found : Option BinaryOperator) → temporal_of x ≡ found →
+      Turn (FormulaTail a) (Below_tie 1) room (formula_after low a) x
   by x None e =
-      turn_as (λ f. f) (iff_after low a) (λ rest. as_from x None e rest ∙ sym (map_same (iff_after low a (x ∷ rest)))) (λ y h. omega (arith, h)) (as_tail a)
+      turn_as (λ f. f) (iff_after low a) (λ rest. as_from x None e rest
+          ∙ sym (map_same (iff_after low a (x ∷ rest)))) (λ y h. omega (arith, h)) (as_tail a)
       (λ r ys f h. (f, is_after r ys f h, refl)) (iff_after_exact room low b a) where
     is_after : (r : ℕ) (ys : List Terminal) (f : FormulaSyntax) → FormulaFrom (temporal_of x) a x r ys f → IffAfter a r (x ∷ ys) f
     is_after r ys f h = rw e at h
   by x (Some op) e =
-      turn_takes (between op a) (prefix_with low) (as_from x (Some op) e) (λ y h. omega (arith, h)) (λ r ys f h. rw e (f, h, refl)) (λ r ys f h. rw e at h) (prefix_exact room low b)
+      turn_takes (between op a) (prefix_with low) (as_from x (Some op) e) (λ y h. omega (arith, h)) (λ r ys f h. rw e (f, h, refl))
+          (λ r ys f h. rw e at h) (prefix_exact room low b)
 
 pub formula_parts : (r : ℕ) (xs : List Terminal) (f : FormulaSyntax) → IsFormula r xs f → IsThen IsPrefix FormulaTail r xs f
 formula_parts r xs f (temporal {xs = front} {ys = ys} {a = a} {b = c} op t is h k) =
     record { value = a; front = front; tail = t ∷ ys; split = refl; first = h; second = rw is (c, k, refl) }
 formula_parts r xs f (chained h) =
     let parts : IsThen IsPrefix IffAfter r xs f = iff_first r xs f h in
-    record { value = parts.value; front = parts.front; tail = parts.tail; split = parts.split; first = parts.first; second = as_tail parts.value r parts.tail f parts.second }
+    record { value = parts.value; front = parts.front; tail = parts.tail; split = parts.split; first = parts.first; second =
+        as_tail parts.value r parts.tail f parts.second }
 
 formula_of : (r : ℕ) (xs : List Terminal) (f : FormulaSyntax) → IsThen IsPrefix FormulaTail r xs f → IsFormula r xs f
 formula_of r xs f h = by h.tail h.second h.split where
   whole : (tail : List Terminal) → IffAfter h.value r tail f → xs ≡ h.front ++ tail → IsFormula r xs f
-  whole tail second split = chained (first_iff r xs f (record { value = h.value; front = h.front; tail = tail; split = split; first = h.first; second = second }))
-  by_operator : (x : Terminal) (ys : List Terminal) (found : Option BinaryOperator) → temporal_of x ≡ found → FormulaFrom found h.value x r ys f → xs ≡ h.front ++ x ∷ ys → IsFormula r xs f
+  whole tail second split =
+      chained (first_iff r xs f (record { value = h.value; front = h.front; tail = tail; split = split; first = h.first; second = second }))
+  by_operator : (x : Terminal) (ys : List Terminal) (found : Option BinaryOperator) → temporal_of x ≡ found →
+      FormulaFrom found h.value x r ys f → xs ≡ h.front ++ x ∷ ys → IsFormula r xs f
   by_operator x ys None e second split = whole (x ∷ ys) second split
   by_operator x ys (Some op) e second split = rw (split, second.2) (temporal op x e h.first second.1)
   by : (tail : List Terminal) → FormulaTail h.value r tail f → xs ≡ h.front ++ tail → IsFormula r xs f
@@ -682,12 +721,15 @@ pub formula_exact : (room : ℕ) (low : Option Level) → Below LevelExact room 
 unfolding formula_with
 formula_exact room low b =
     exact_as formula_of formula_parts (λ x h. h)
-    (exact_then (record { lift = lift_prefixes; default = λ r c. record { ending = []; value = c; derives = nothing_more c r } }) follow_tail (prefix_exact room low b)
+    (exact_then (record { lift = lift_prefixes; default =
+        λ r c. record { ending = []; value = c; derives = nothing_more c r } }) follow_tail (prefix_exact room low b)
     (formula_after_exact room low b)) where
-  by_found : (r : ℕ) (c : FormulaSyntax) (x : Terminal) (ys : List Terminal) (f : FormulaSyntax) (found : Option BinaryOperator) → temporal_of x ≡ found → FormulaFrom found c x r ys f → tie x < 6
+  by_found : (r : ℕ) (c : FormulaSyntax) (x : Terminal) (ys : List Terminal) (f : FormulaSyntax) (found : Option BinaryOperator) →
+      temporal_of x ≡ found → FormulaFrom found c x r ys f → tie x < 6
   by_found r c x ys f None e h = (iff_after_infix c r (x ∷ ys) f h).1
   by_found r c x ys f (Some op) e h = temporal_ties x op e
-  follow_tail : (r : ℕ) (c : FormulaSyntax) (xs : List Terminal) (f : FormulaSyntax) → FormulaTail c r xs f → (rest : List Terminal) → Before (Below_tie 1) rest → Before (Below_tie 6) (xs ++ rest)
+  follow_tail : (r : ℕ) (c : FormulaSyntax) (xs : List Terminal) (f : FormulaSyntax) → FormulaTail c r xs f → (rest : List Terminal) →
+      Before (Below_tie 1) rest → Before (Below_tie 6) (xs ++ rest)
   follow_tail r c [] f h rest k = before_map (Below_tie 1) (Below_tie 6) (λ x e. omega (arith, e)) rest k
   follow_tail r c (x ∷ ys) f h rest k = by_found r c x ys f (temporal_of x) refl h
 

@@ -1,5 +1,6 @@
 -- Sections and whole texts are read exactly.
-use Rattle.std.proofs.Common.{◌≡◌, ℕ, suc, ◌<◌, ◌≤◌, ◌+◌, Bool, true, false, List, [], ◌∷◌, ◌++◌, length, refl, ap, sym, ◌∙◌, append_assoc, arith}
+use Rattle.std.proofs.Common.{◌≡◌, ℕ, suc, ◌<◌, ◌≤◌, ◌+◌, Bool, true, false, List, [], ◌∷◌, ◌++◌, length, refl, ap, sym, ◌∙◌, append_assoc,
+    arith}
 use Rattle.std.proofs.lemmas.List.{append-nil}
 use Rattle.std.specs.Prelude.{Option, Some, None, Ok, Err, codes}
 use Rattle.tsl_text.specs.declared.TokenKind.TheVariants.{OpenBrace, CloseBrace, Semicolon}
@@ -16,8 +17,11 @@ use Rattle.tsl_reader.specs.declared.syntax.Part.{Part}
 use Rattle.tsl_reader.specs.declared.syntax.Part.TheVariants.{AssumeFirst, AssumeAlways, GuaranteeFirst, GuaranteeAlways}
 use Rattle.tsl_reader.specs.Syntax.{Terminal, free, word, mark, FormulaSyntax, bare, SectionSyntax}
 use Rattle.tsl_terms.specs.declared.operator.UnaryOperator.{UnaryOperator}
-use Rattle.tsl_reader.specs.Grammar.{unary_of, IsAtom, true_atom, false_atom, brackets_atom, update, bare_name, no_argument, test, IsPrefix, prefix, atom, IsFormula, AreItems, nothing, last_item, item as item_of, IsHead, assume, guarantee, initially_assume, initially_guarantee, always_assume, always_guarantee, IsSection, braces, AreSections, no_section, section as section_of}
-use Rattle.tsl_reader.specs.Reading.{is_close_brace, formula_with, lower, Items, open_items, item_last, items_of, item, formulas, section_made, items, side, section_at, section, sections}
+use Rattle.tsl_reader.specs.Grammar.{unary_of, IsAtom, true_atom, false_atom, brackets_atom, update, bare_name, no_argument, test, IsPrefix,
+    prefix, atom, IsFormula, AreItems, nothing, last_item, item as item_of, IsHead, assume, guarantee, initially_assume,
+    initially_guarantee, always_assume, always_guarantee, IsSection, braces, AreSections, no_section, section as section_of}
+use Rattle.tsl_reader.specs.Reading.{is_close_brace, formula_with, lower, Items, open_items, item_last, items_of, item, formulas,
+    section_made, items, side, section_at, section, sections}
 use Rattle.tsl_reader.proofs.Lift.{lift_formula, lift_items, lift_section, lift_sections}
 use Rattle.tsl_reader.proofs.ExactTerms.{tie, Below_tie, a}
 use Rattle.tsl_reader.proofs.ExactFormulas.{formula_parts, formula_exact, below_exact}
@@ -105,12 +109,14 @@ item_stepping room = record {
   none_here (open_items fs) _ rest e = cc
   none_here (item_last fs) (mark Semicolon) rest e = cc
   none_here (item_last fs) _ rest e = refl
-  some_here : (s : Items) (x : Terminal) (rest : List Terminal) → starts s x ≡ true → item room s (x ∷ rest) ≡ Some (found_or_wrong (item room s (x ∷ rest)) (x ∷ rest))
+  some_here : (s : Items) (x : Terminal) (rest : List Terminal) → starts s x ≡ true →
+      item room s (x ∷ rest) ≡ Some (found_or_wrong (item room s (x ∷ rest)) (x ∷ rest))
   some_here (open_items fs) (mark CloseBrace) rest e = cc
   some_here (open_items fs) _ rest e = refl
   some_here (item_last fs) (mark Semicolon) rest e = refl
   some_here (item_last fs) _ rest e = cc
-  begins : (s : Items) (r : ℕ) (xs : List Terminal) (t : Items) → IsItemStep s r xs t → (x : Terminal) × (ys : List Terminal) × (xs ≡ x ∷ ys) × (starts s x ≡ true)
+  begins : (s : Items) (r : ℕ) (xs : List Terminal) (t : Items) → IsItemStep s r xs t →
+      (x : Terminal) × (ys : List Terminal) × (xs ≡ x ∷ ys) × (starts s x ≡ true)
   begins (open_items fs) r xs t h =
       let first = formula_begins r xs h.0 h.1 in
       (first.0, first.1, first.2, starts_item fs first.0 first.3)
@@ -135,7 +141,8 @@ item_stepping room = record {
   turn : (s : Items) (x : Terminal) → starts s x ≡ true → Turn (IsItemStep s) (Ends s) room (λ xs. found_or_wrong (item room s xs) xs) x
   turn (open_items fs) (mark CloseBrace) e = cc
   turn (open_items fs) _ e =
-      turn_as (λ f. item_last (fs ++ f ∷ [])) (formula_with (lower room)) (λ rest. refl) (λ y h. h) (λ r ys f h. (f, h, refl)) (λ r ys t h. h) formula
+      turn_as (λ f. item_last (fs ++ f ∷ [])) (formula_with (lower room)) (λ rest. refl) (λ y h. h) (λ r ys f h. (f, h, refl))
+          (λ r ys t h. h) formula
   turn (item_last fs) (mark Semicolon) e = turn_alone (open_items fs) (λ rest. refl) (λ r. (refl, refl)) (λ r ys t h. h)
   turn (item_last fs) _ e = cc
 
@@ -152,11 +159,13 @@ abbrev Decoded : Items → (r : ℕ) → List Terminal → List FormulaSyntax �
 Decoded (open_items fs) r xs gs = (us : List FormulaSyntax) × AreItems r xs us × (gs ≡ fs ++ us)
 Decoded (item_last fs) r xs gs = (us : List FormulaSyntax) × AreFurther r xs us × (gs ≡ fs ++ us)
 
-with_first : (r : ℕ) (f : FormulaSyntax) (xs ys : List Terminal) (us : List FormulaSyntax) → IsFormula r xs f → AreFurther r ys us → AreItems r (xs ++ ys) (f ∷ us)
+with_first : (r : ℕ) (f : FormulaSyntax) (xs ys : List Terminal) (us : List FormulaSyntax) → IsFormula r xs f → AreFurther r ys us →
+    AreItems r (xs ++ ys) (f ∷ us)
 with_first r f xs ys us h no_further = rw append-nil (last_item h)
 with_first r f xs ys us h (further k) = item_of h k
 
-after_step : (r : ℕ) (s t : Items) (f g : List Terminal) (gs : List FormulaSyntax) → IsItemStep s r f t → Decoded t r g gs → Decoded s r (f ++ g) gs
+after_step : (r : ℕ) (s t : Items) (f g : List Terminal) (gs : List FormulaSyntax) → IsItemStep s r f t → Decoded t r g gs →
+    Decoded s r (f ++ g) gs
 after_step r (open_items fs) t f g gs h k =
     let rest : Decoded (item_last (fs ++ h.0 ∷ [])) r g gs = rw h.2 at k in
     (h.0 ∷ rest.0, with_first r h.0 f g rest.0 h.1 rest.1, rest.2 ∙ append_assoc fs (h.0 ∷ []) rest.0)
@@ -187,7 +196,8 @@ unfolding formulas
 formulas_exact room = exact_map items_of to from (iterate_exact (item_stepping room) (open_items [])) where
   to : (r : ℕ) (xs : List Terminal) (s : Items) → Steps IsItemStep r (open_items []) xs s → AreItems r xs (items_of s)
   to r xs s h = let is = decode r (open_items []) xs s h in rw is.2 is.1
-  from : (r : ℕ) (xs : List Terminal) (fs : List FormulaSyntax) → AreItems r xs fs → (s : Items) × Steps IsItemStep r (open_items []) xs s × (fs ≡ items_of s)
+  from : (r : ℕ) (xs : List Terminal) (fs : List FormulaSyntax) → AreItems r xs fs →
+      (s : Items) × Steps IsItemStep r (open_items []) xs s × (fs ≡ items_of s)
   from r xs fs h = let is = encode h [] in (is.0, is.1, sym is.2)
 
 -- ---- sections
@@ -215,7 +225,8 @@ no_items : (room : ℕ) (part : Part) → Begins (ItemsCase part room) []
 no_items room part = record {
   ending = mark OpenBrace ∷ mark CloseBrace ∷ [];
   value = section_made part [];
-  derives = ([], record { value = []; front = []; tail = mark CloseBrace ∷ []; split = refl; first = nothing; second = (mark CloseBrace, refl, refl, refl) }, refl);
+  derives = ([], record { value = []; front = []; tail = mark CloseBrace ∷ []; split = refl; first = nothing; second =
+      (mark CloseBrace, refl, refl, refl) }, refl);
 }
 
 items_exact : (room : ℕ) (part : Part) → Exact (ItemsCase part) Any room (items room part)
@@ -223,7 +234,8 @@ unfolding items
 items_exact room part = by_first (end_wrong refl (no_items room part) (λ r s h. h)) turn where
   turn : (x : Terminal) → Turn (ItemsCase part) Any room (items room part) x
   turn (mark OpenBrace) =
-      turn_takes (section_made part) (closed_by is_close_brace (formulas room)) (λ rest. refl) (λ y h. h) (λ r ys fs h. (fs, h, refl)) (λ r ys s h. h)
+      turn_takes (section_made part) (closed_by is_close_brace (formulas room)) (λ rest. refl) (λ y h. h) (λ r ys fs h. (fs, h, refl))
+          (λ r ys s h. h)
       (closed_exact is_close_brace (mark CloseBrace) refl (λ x h. h) (λ r xs fs h. lift_items (omega arith) h) (formulas_exact room))
   turn _ = turn_wrong (λ rest. refl) (no_items room part) (λ r ys s h. h)
 
@@ -234,9 +246,11 @@ side_exact room assumed guaranteed = by_first (end_wrong refl some_side (λ r s 
   some_side = let none = no_items room assumed in record { ending = word Assume ∷ none.ending; value = none.value; derives = none.derives }
   turn : (x : Terminal) → Turn (SideCase assumed guaranteed) Any room (side room assumed guaranteed) x
   turn (word Assume) =
-      turn_takes (λ s. s) (items room assumed) (λ rest. sym (map_same (items room assumed rest))) (λ y h. h) (λ r ys s h. h) (λ r ys s h. (s, h, refl)) (items_exact room assumed)
+      turn_takes (λ s. s) (items room assumed) (λ rest. sym (map_same (items room assumed rest))) (λ y h. h) (λ r ys s h. h)
+          (λ r ys s h. (s, h, refl)) (items_exact room assumed)
   turn (word Guarantee) =
-      turn_takes (λ s. s) (items room guaranteed) (λ rest. sym (map_same (items room guaranteed rest))) (λ y h. h) (λ r ys s h. h) (λ r ys s h. (s, h, refl)) (items_exact room guaranteed)
+      turn_takes (λ s. s) (items room guaranteed) (λ rest. sym (map_same (items room guaranteed rest))) (λ y h. h) (λ r ys s h. h)
+          (λ r ys s h. (s, h, refl)) (items_exact room guaranteed)
   turn _ = turn_wrong (λ rest. refl) some_side (λ r ys s h. h)
 
 as_section : (r : ℕ) (xs : List Terminal) (s : SectionSyntax) → SideCase AssumeFirst GuaranteeFirst r xs s → SectionCase r xs s
@@ -249,22 +263,28 @@ section_at_exact : (room : ℕ) → Exact SectionCase Any room (section_at room)
 unfolding section_at side
 section_at_exact room = by_first (end_wrong refl some_section (λ r s h. h)) turn where
   some_section : Begins (SectionCase room) []
-  some_section = let none = no_items room AssumeFirst in record { ending = word Assume ∷ none.ending; value = none.value; derives = none.derives }
-  after_word : (assumed guaranteed : Part) → (rest : List Terminal) → side room assumed guaranteed rest ≡ map_read (λ s. s) (side room assumed guaranteed rest)
+  some_section = let none = no_items room AssumeFirst in
+      record { ending = word Assume ∷ none.ending; value = none.value; derives = none.derives }
+  after_word : (assumed guaranteed : Part) → (rest : List Terminal) →
+      side room assumed guaranteed rest ≡ map_read (λ s. s) (side room assumed guaranteed rest)
   after_word assumed guaranteed rest = sym (map_same (side room assumed guaranteed rest))
   turn : (x : Terminal) → Turn SectionCase Any room (section_at room) x
   turn (word Always) =
-      turn_takes (λ s. s) (side room AssumeAlways GuaranteeAlways) (after_word AssumeAlways GuaranteeAlways) (λ y h. h) (λ r ys s h. h) (λ r ys s h. (s, h, refl))
+      turn_takes (λ s. s) (side room AssumeAlways GuaranteeAlways) (after_word AssumeAlways GuaranteeAlways) (λ y h. h) (λ r ys s h. h)
+          (λ r ys s h. (s, h, refl))
       (side_exact room AssumeAlways GuaranteeAlways)
   turn (word Initially) =
-      turn_takes (λ s. s) (side room AssumeFirst GuaranteeFirst) (after_word AssumeFirst GuaranteeFirst) (λ y h. h) (λ r ys s h. h) (λ r ys s h. (s, h, refl))
+      turn_takes (λ s. s) (side room AssumeFirst GuaranteeFirst) (after_word AssumeFirst GuaranteeFirst) (λ y h. h) (λ r ys s h. h)
+          (λ r ys s h. (s, h, refl))
       (side_exact room AssumeFirst GuaranteeFirst)
   turn _ =
       turn_as (λ s. s) (side room AssumeFirst GuaranteeFirst) (λ rest. sym (map_same _)) (λ y h. h) as_section (λ r ys s h. (s, h, refl))
       (side_exact room AssumeFirst GuaranteeFirst)
 
-closed_items : (r : ℕ) (xs : List Terminal) (fs : List FormulaSyntax) → AreItems r xs fs → IsClosed is_close_brace AreItems r (xs ++ mark CloseBrace ∷ []) fs
-closed_items r xs fs h = record { value = fs; front = xs; tail = mark CloseBrace ∷ []; split = refl; first = h; second = (mark CloseBrace, refl, refl, refl) }
+closed_items : (r : ℕ) (xs : List Terminal) (fs : List FormulaSyntax) → AreItems r xs fs →
+    IsClosed is_close_brace AreItems r (xs ++ mark CloseBrace ∷ []) fs
+closed_items r xs fs h =
+    record { value = fs; front = xs; tail = mark CloseBrace ∷ []; split = refl; first = h; second = (mark CloseBrace, refl, refl, refl) }
 
 section_case : {r : ℕ} {xs : List Terminal} {s : SectionSyntax} → IsSection r xs s → SectionCase r xs s
 section_case (braces {room = r} {ys = ys} {fs = fs} assume k) = (fs, closed_items r ys fs k, refl)
@@ -274,21 +294,26 @@ section_case (braces {room = r} {ys = ys} {fs = fs} initially_guarantee k) = (fs
 section_case (braces {room = r} {ys = ys} {fs = fs} always_assume k) = (fs, closed_items r ys fs k, refl)
 section_case (braces {room = r} {ys = ys} {fs = fs} always_guarantee k) = (fs, closed_items r ys fs k, refl)
 
-with_items : (r : ℕ) (head : List Terminal) (part : Part) → IsHead head part → (xs : List Terminal) (s : SectionSyntax) → ItemsCase part r xs s → IsSection r (head ++ xs) s
+with_items : (r : ℕ) (head : List Terminal) (part : Part) → IsHead head part → (xs : List Terminal) (s : SectionSyntax) →
+    ItemsCase part r xs s → IsSection r (head ++ xs) s
 with_items r head part is (mark OpenBrace ∷ ys) s h =
     let closer = h.1.second in
     let inner : AreItems r h.1.front h.0 = rw closer.3 h.1.first in
-    let split : ys ≡ h.1.front ++ mark CloseBrace ∷ [] = h.1.split ∙ ap (λ zs. h.1.front ++ zs) (closer.1 ∙ ap (λ x. x ∷ []) (brace_is closer.0 closer.2)) in
+    let split : ys ≡ h.1.front ++ mark CloseBrace ∷ [] = h.1.split
+        ∙ ap (λ zs. h.1.front ++ zs) (closer.1 ∙ ap (λ x. x ∷ []) (brace_is closer.0 closer.2)) in
     rw (split, h.2) (braces is inner)
 with_items r head part is _ s h = absurd h
 
 case_section : (r : ℕ) (xs : List Terminal) (s : SectionSyntax) → SectionCase r xs s → IsSection r xs s
 case_section r (word Assume ∷ ys) s h = with_items r (word Assume ∷ []) AssumeFirst assume ys s h
 case_section r (word Guarantee ∷ ys) s h = with_items r (word Guarantee ∷ []) GuaranteeFirst guarantee ys s h
-case_section r (word Initially ∷ word Assume ∷ ys) s h = with_items r (word Initially ∷ word Assume ∷ []) AssumeFirst initially_assume ys s h
-case_section r (word Initially ∷ word Guarantee ∷ ys) s h = with_items r (word Initially ∷ word Guarantee ∷ []) GuaranteeFirst initially_guarantee ys s h
+case_section r (word Initially ∷ word Assume ∷ ys) s h =
+    with_items r (word Initially ∷ word Assume ∷ []) AssumeFirst initially_assume ys s h
+case_section r (word Initially ∷ word Guarantee ∷ ys) s h =
+    with_items r (word Initially ∷ word Guarantee ∷ []) GuaranteeFirst initially_guarantee ys s h
 case_section r (word Always ∷ word Assume ∷ ys) s h = with_items r (word Always ∷ word Assume ∷ []) AssumeAlways always_assume ys s h
-case_section r (word Always ∷ word Guarantee ∷ ys) s h = with_items r (word Always ∷ word Guarantee ∷ []) GuaranteeAlways always_guarantee ys s h
+case_section r (word Always ∷ word Guarantee ∷ ys) s h =
+    with_items r (word Always ∷ word Guarantee ∷ []) GuaranteeAlways always_guarantee ys s h
 case_section r _ s h = absurd h
 
 -- ---- whole texts
@@ -306,10 +331,12 @@ section_member room = record {
   weaker = λ x h. tt;
   turn = λ x e. turn_of (exact_as case_section (λ r xs s h. section_case h) (λ y h. h) (section_at_exact room)) x;
 } where
-  some_case : (r : ℕ) (xs : List Terminal) (s : SectionSyntax) → SectionCase r xs s → (x : Terminal) × (ys : List Terminal) × (xs ≡ x ∷ ys) × (true ≡ true)
+  some_case : (r : ℕ) (xs : List Terminal) (s : SectionSyntax) → SectionCase r xs s →
+      (x : Terminal) × (ys : List Terminal) × (xs ≡ x ∷ ys) × (true ≡ true)
   some_case r [] s h = absurd h
   some_case r (x ∷ ys) s h = (x, ys, refl, refl)
-  begins : (r : ℕ) (xs : List Terminal) (s : SectionSyntax) → IsSection r xs s → (x : Terminal) × (ys : List Terminal) × (xs ≡ x ∷ ys) × (true ≡ true)
+  begins : (r : ℕ) (xs : List Terminal) (s : SectionSyntax) → IsSection r xs s →
+      (x : Terminal) × (ys : List Terminal) × (xs ≡ x ∷ ys) × (true ≡ true)
   begins r xs s h = some_case r xs s (section_case h)
 
 pub section_shrinks : (room : ℕ) → Shrinks (push (section room))
@@ -337,11 +364,12 @@ pub one_tree : (room : ℕ) (xs : List Terminal) (ss rs : List SectionSyntax) �
 one_tree room xs ss rs h k = one_value (sections_exact room) xs ss rs h k
 
 -- what is a text is one with more room
-pub more_room : (more room : ℕ) (xs : List Terminal) (ss : List SectionSyntax) → AreSections room xs ss → AreSections (more + room) xs ss
-more_room more room xs ss h = lift_sections (omega arith) h
+pub more_room : (extra room : ℕ) (xs : List Terminal) (ss : List SectionSyntax) → AreSections room xs ss → AreSections (extra + room) xs ss
+more_room extra room xs ss h = lift_sections (omega arith) h
 
 -- nothing is left where a text is read
-pub all_read : (room : ℕ) (xs : List Terminal) (ss : List SectionSyntax) (rest : List Terminal) → sections room xs ≡ Ok (ss, rest) → rest ≡ []
+pub all_read : (room : ℕ) (xs : List Terminal) (ss : List SectionSyntax) (rest : List Terminal) → sections room xs ≡ Ok (ss, rest) →
+    rest ≡ []
 unfolding sections section
 all_read room xs ss [] h = refl
 all_read room xs ss (x ∷ rest) h =
@@ -349,7 +377,8 @@ all_read room xs ss (x ∷ rest) h =
     cc
 
 -- what is read as a whole text derives so
-pub sections_derive : (room : ℕ) (xs : List Terminal) (ss : List SectionSyntax) (rest : List Terminal) → sections room xs ≡ Ok (ss, rest) → AreSections room xs ss
+pub sections_derive : (room : ℕ) (xs : List Terminal) (ss : List SectionSyntax) (rest : List Terminal) → sections room xs ≡ Ok (ss, rest) →
+    AreSections room xs ss
 sections_derive room xs ss rest h =
     let front = taken xs ((sections_exact room).run xs) ss rest h in
     let whole : xs ≡ front.0 = front.1 ∙ ap (λ r. front.0 ++ r) (all_read room xs ss rest h) ∙ append-nil front.0 in

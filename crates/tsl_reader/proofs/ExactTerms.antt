@@ -13,8 +13,10 @@ use Rattle.token_readers.proofs.Iterates.{Steps, stop, more, Stepping, iterate_e
 use Rattle.token_readers.proofs.Lists.{AreAll, none, some}
 use Rattle.tsl_reader.specs.declared.syntax.Word.TheVariants.{U, W, R}
 use Rattle.tsl_reader.specs.Syntax.{Terminal, free, word, mark, TermSyntax, alone, applied, no_terms, terms_of}
-use Rattle.tsl_reader.specs.Grammar.{IsTerm, signal, constant, application, brackets, AreArguments, one_argument, more_arguments, IsArgument, signal_argument, constant_argument, brackets_argument, in_brackets}
-use Rattle.tsl_reader.specs.Reading.{is_close_round, Level, bracketed_term, begins_term, opened, Arguments, fresh, empty, name_last, term_last, complete, with_name, with_term, with_brackets, argument, starts_argument, arguments_of, after_name, term_named, term_with}
+use Rattle.tsl_reader.specs.Grammar.{IsTerm, signal, constant, application, brackets, AreArguments, one_argument, more_arguments,
+    IsArgument, signal_argument, constant_argument, brackets_argument, in_brackets}
+use Rattle.tsl_reader.specs.Reading.{is_close_round, Level, bracketed_term, begins_term, opened, Arguments, fresh, empty, name_last,
+    term_last, complete, with_name, with_term, with_brackets, argument, starts_argument, arguments_of, after_name, term_named, term_with}
 use Rattle.tsl_reader.proofs.Lift.{lift_term}
 
 -- how strongly a terminal ties to the form before it: an argument most, and what ends a form not at all
@@ -55,7 +57,8 @@ closed_round Is r xs v h =
     let closer = h.second in
     (h.front, h.split ∙ ap (λ ys. h.front ++ ys) (closer.1 ∙ ap (λ x. x ∷ []) (is_round closer.0 closer.2)), rw closer.3 h.first)
 
-pub round_closed : {V : Type 0} (Is : Grammar Terminal V) (r : ℕ) (xs : List Terminal) (v : V) → Is r xs v → IsClosed is_close_round Is r (xs ++ mark CloseRound ∷ []) v
+pub round_closed : {V : Type 0} (Is : Grammar Terminal V) (r : ℕ) (xs : List Terminal) (v : V) → Is r xs v →
+    IsClosed is_close_round Is r (xs ++ mark CloseRound ∷ []) v
 round_closed Is r xs v h =
     record { value = v; front = xs; tail = mark CloseRound ∷ []; split = refl; first = h; second = (mark CloseRound, refl, refl, refl) }
 
@@ -89,7 +92,8 @@ some_opened : (room : ℕ) → Begins (IsOpened room) []
 some_opened room = record { ending = mark CloseRound ∷ []; value = None; derives = (refl, refl) }
 
 as_opened : (r : ℕ) (xs : List Terminal) (t : TermSyntax) → IsBracketed r xs t → IsOpened r xs (Some t)
-as_opened r (mark CloseRound ∷ ys) t h = let begins : begins_term (mark CloseRound ∷ ys) ≡ true = bracketed_begins r (mark CloseRound ∷ ys) t h in cc
+as_opened r (mark CloseRound ∷ ys) t h = let begins : begins_term (mark CloseRound ∷ ys) ≡ true =
+    bracketed_begins r (mark CloseRound ∷ ys) t h in cc
 as_opened r _ t h = (t, h, refl)
 
 not_opened : (r : ℕ) (xs : List Terminal) (t : TermSyntax) → begins_term xs ≡ false → IsBracketed r xs t → ⊥
@@ -114,16 +118,19 @@ opened_exact zero None h = by_first (end_wrong refl (some_opened 0) (λ r o e. n
       (record {
         ending = a ∷ mark CloseRound ∷ mark CloseRound ∷ [];
         value = Some (alone (codes "a"));
-        derives = (alone (codes "a"), round_closed IsTerm 1 (mark OpenRound ∷ a ∷ mark CloseRound ∷ []) (alone (codes "a")) (brackets (signal (codes "a"))), refl);
+        derives = (alone (codes "a"),
+            round_closed IsTerm 1 (mark OpenRound ∷ a ∷ mark CloseRound ∷ []) (alone (codes "a")) (brackets (signal (codes "a"))), refl);
       })
       (λ r ys o e. needs_room r (mark OpenRound ∷ ys) e.0 e.1)
   turn (free x) =
       turn_deep (λ rest. refl) (some_opened 0)
-      (record { ending = mark CloseRound ∷ []; value = Some (alone x); derives = (alone x, round_closed IsTerm 1 (free x ∷ []) (alone x) (signal x), refl) })
+      (record { ending = mark CloseRound ∷ []; value = Some (alone x); derives =
+          (alone x, round_closed IsTerm 1 (free x ∷ []) (alone x) (signal x), refl) })
       (λ r ys o e. needs_room r (free x ∷ ys) e.0 e.1)
   turn _ = turn_wrong (λ rest. refl) (some_opened 0) (λ r ys o e. not_opened r _ e.0 refl e.1)
 opened_exact (suc k) (Some l) h =
-    by_first (end_as (λ t. Some t) (bracketed_term l) refl (λ y e. e) as_opened (λ r o e. e) (λ r o e. absurd (not_opened r [] e.0 refl e.1)) inner) turn where
+    by_first (end_as (λ t. Some t) (bracketed_term l) refl (λ y e. e) as_opened (λ r o e. e)
+        (λ r o e. absurd (not_opened r [] e.0 refl e.1)) inner) turn where
   inner : Exact IsBracketed Any (suc k) (bracketed_term l)
   inner = exact_up (brackets_exact k l h)
   turn : (x : Terminal) → Turn IsOpened Any (suc k) (opened (Some l)) x
@@ -142,7 +149,8 @@ IsArgumentStep s r _ t = ⊥
 
 -- the room of the level below that a term needs
 low_term : (room : ℕ) → Begins (IsClosed is_close_round IsTerm (suc room)) []
-low_term room = record { ending = a ∷ mark CloseRound ∷ []; value = alone (codes "a"); derives = round_closed IsTerm (suc room) (a ∷ []) (alone (codes "a")) (signal (codes "a")) }
+low_term room = record { ending = a ∷ mark CloseRound ∷ []; value = alone (codes "a"); derives =
+    round_closed IsTerm (suc room) (a ∷ []) (alone (codes "a")) (signal (codes "a")) }
 
 lift_opened : (r : ℕ) (xs : List Terminal) (o : Option TermSyntax) → IsOpened r xs o → IsOpened (suc (suc r)) xs o
 lift_opened r (mark CloseRound ∷ ys) o h = h
@@ -158,7 +166,8 @@ lift_step fresh r (mark OpenRound ∷ ys) t h = (h.0, lift_opened r ys h.0 h.1, 
 lift_step (name_last ts y) r (mark OpenRound ∷ ys) t h = (h.0, lift_opened r ys h.0 h.1, h.2)
 lift_step _ r _ t h = absurd h
 
-step_begins : (s : Arguments) (r : ℕ) (xs : List Terminal) (t : Arguments) → IsArgumentStep s r xs t → (x : Terminal) × (ys : List Terminal) × (xs ≡ x ∷ ys) × (starts_argument s x ≡ true)
+step_begins : (s : Arguments) (r : ℕ) (xs : List Terminal) (t : Arguments) → IsArgumentStep s r xs t →
+    (x : Terminal) × (ys : List Terminal) × (xs ≡ x ∷ ys) × (starts_argument s x ≡ true)
 step_begins fresh r (free x ∷ ys) t h = (free x, ys, refl, refl)
 step_begins (name_last ts y) r (free x ∷ ys) t h = (free x, ys, refl, refl)
 step_begins (term_last ts) r (free x ∷ ys) t h = (free x, ys, refl, refl)
@@ -167,7 +176,8 @@ step_begins fresh r (mark OpenRound ∷ ys) t h = (mark OpenRound, ys, refl, ref
 step_begins (name_last ts y) r (mark OpenRound ∷ ys) t h = (mark OpenRound, ys, refl, refl)
 step_begins _ r _ t h = absurd h
 
-pub no_step : (low : Option Level) (s : Arguments) (x : Terminal) (rest : List Terminal) → starts_argument s x ≡ false → argument low s (x ∷ rest) ≡ None
+pub no_step : (low : Option Level) (s : Arguments) (x : Terminal) (rest : List Terminal) → starts_argument s x ≡ false →
+    argument low s (x ∷ rest) ≡ None
 unfolding argument
 no_step low empty x rest h = refl
 no_step low fresh (free x) rest h = cc
@@ -206,12 +216,15 @@ turn room low b fresh (free x) h = turn_alone (with_name fresh x) (λ rest. refl
 turn room low b (name_last ts y) (free x) h = turn_alone (with_name (name_last ts y) x) (λ rest. refl) (λ r. (refl, refl)) (λ r ys t e. e)
 turn room low b (term_last ts) (free x) h = turn_alone (with_name (term_last ts) x) (λ rest. refl) (λ r. (refl, refl)) (λ r ys t e. e)
 turn room low b fresh (mark OpenRound) h =
-    turn_takes (λ o. with_brackets o fresh) (opened low) (λ rest. refl) (λ y e. e) (λ r ys o e. (o, e, refl)) (λ r ys t e. e) (opened_exact room low b)
+    turn_takes (λ o. with_brackets o fresh) (opened low) (λ rest. refl) (λ y e. e) (λ r ys o e. (o, e, refl)) (λ r ys t e. e)
+        (opened_exact room low b)
 turn room low b (name_last ts y) (mark OpenRound) h =
-    turn_takes (λ o. with_brackets o (name_last ts y)) (opened low) (λ rest. refl) (λ z e. e) (λ r ys o e. (o, e, refl)) (λ r ys t e. e) (opened_exact room low b)
+    turn_takes (λ o. with_brackets o (name_last ts y)) (opened low) (λ rest. refl) (λ z e. e) (λ r ys o e. (o, e, refl)) (λ r ys t e. e)
+        (opened_exact room low b)
 turn room low b (term_last ts) (mark OpenRound) h =
     turn_below {Holds = TermExact} (with_term (term_last ts)) low bracketed_term brackets_exact b (λ rest. refl) (λ y e. e)
-    (record { ending = a ∷ []; value = with_name (term_last ts) (codes "a"); derives = (refl, refl) }) (low_term room) (λ r ys u e. (u, e, refl)) (λ r ys t e. e)
+    (record { ending = a ∷ []; value = with_name (term_last ts) (codes "a"); derives = (refl, refl) }) (low_term room)
+        (λ r ys u e. (u, e, refl)) (λ r ys t e. e)
 turn room low b empty x h = cc
 turn room low b _ _ h = cc
 
@@ -242,9 +255,11 @@ stepping room low b = record {
 pub data AreAfterName (r : ℕ) : List Terminal → Option (List TermSyntax) → Type 0 where
   nothing : AreAfterName r [] None
   no_arguments : AreAfterName r (mark OpenRound ∷ mark CloseRound ∷ []) (Some [])
-  some_arguments : {xs : List Terminal} {t : TermSyntax} {ts : List TermSyntax} → AreArguments r xs (t ∷ ts) → AreAfterName r xs (Some (t ∷ ts))
+  some_arguments : {xs : List Terminal} {t : TermSyntax} {ts : List TermSyntax} → AreArguments r xs (t ∷ ts) →
+      AreAfterName r xs (Some (t ∷ ts))
 
-are_arguments : (r : ℕ) (xs : List Terminal) (t : TermSyntax) (ts : List TermSyntax) → AreAll IsArgument r xs (t ∷ ts) → AreArguments r xs (t ∷ ts)
+are_arguments : (r : ℕ) (xs : List Terminal) (t : TermSyntax) (ts : List TermSyntax) → AreAll IsArgument r xs (t ∷ ts) →
+    AreArguments r xs (t ∷ ts)
 are_arguments r xs t ts (some {f = f} {g = g} h none) = rw (append-nil f) (one_argument h)
 are_arguments r xs t ts (some h (some k rest)) = more_arguments h (are_arguments r _ _ _ (some k rest))
 
@@ -252,7 +267,8 @@ all_arguments : {r : ℕ} {xs : List Terminal} {ts : List TermSyntax} → AreArg
 all_arguments (one_argument {xs = xs} h) = rw (← append-nil xs) (some h none)
 all_arguments (more_arguments h k) = some h (all_arguments k)
 
-in_order : (r : ℕ) (xs : List Terminal) (ts : List TermSyntax) → AreAll IsArgument r xs ts → (o : Option (List TermSyntax)) → o ≡ Some ts → (xs ≡ [] → ⊥) → AreAfterName r xs o
+in_order : (r : ℕ) (xs : List Terminal) (ts : List TermSyntax) → AreAll IsArgument r xs ts → (o : Option (List TermSyntax)) → o ≡ Some ts →
+    (xs ≡ [] → ⊥) → AreAfterName r xs o
 in_order r xs [] none o e some_xs = absurd (some_xs refl)
 in_order r xs (t ∷ ts) h o e some_xs = rw e (some_arguments (are_arguments r xs t ts h))
 
@@ -278,19 +294,23 @@ opened_empty r [] h = let never = h.2 in cc
 opened_empty r (x ∷ ys) h = let never = h.2 in cc
 
 -- further arguments after one
-one_more : (r : ℕ) (ts : List TermSyntax) (t : TermSyntax) (xs ys : List Terminal) (o : Option (List TermSyntax)) → IsArgument r xs t → Decoded (term_last (ts ++ t ∷ [])) r ys o →
+one_more : (r : ℕ) (ts : List TermSyntax) (t : TermSyntax) (xs ys : List Terminal) (o : Option (List TermSyntax)) → IsArgument r xs t →
+    Decoded (term_last (ts ++ t ∷ [])) r ys o →
     (us : List TermSyntax) × AreAll IsArgument r (xs ++ ys) us × (o ≡ Some (ts ++ us))
 one_more r ts t xs ys o h k = (t ∷ k.0, some h k.1, k.2 ∙ ap (λ us. Some us) (append_assoc ts (t ∷ []) k.0))
 
 -- a name that is open
-name_more : (r : ℕ) (ts : List TermSyntax) (x : List ℕ) (ys : List Terminal) (o : Option (List TermSyntax)) → Decoded (name_last ts x) r ys o →
+name_more : (r : ℕ) (ts : List TermSyntax) (x : List ℕ) (ys : List Terminal) (o : Option (List TermSyntax)) →
+    Decoded (name_last ts x) r ys o →
     (us : List TermSyntax) × AreAll IsArgument r (free x ∷ ys) us × (o ≡ Some (ts ++ us))
 name_more r ts x ys o k = k
 
-by_brackets : (r : ℕ) (ts : List TermSyntax) (x : List ℕ) (xs ys : List Terminal) (found : Option TermSyntax) (o : Option (List TermSyntax)) → IsOpened r xs found →
+by_brackets : (r : ℕ) (ts : List TermSyntax) (x : List ℕ) (xs ys : List Terminal) (found : Option TermSyntax)
+    (o : Option (List TermSyntax)) → IsOpened r xs found →
     Decoded (with_brackets found (name_last ts x)) r ys o → Decoded (name_last ts x) r (mark OpenRound ∷ (xs ++ ys)) o
 by_brackets r ts x xs ys None o h k =
-    rw (opened_empty r xs h) (one_more r ts (applied x no_terms) (free x ∷ mark OpenRound ∷ mark CloseRound ∷ []) ys o (constant_argument x) k)
+    rw (opened_empty r xs h)
+        (one_more r ts (applied x no_terms) (free x ∷ mark OpenRound ∷ mark CloseRound ∷ []) ys o (constant_argument x) k)
 by_brackets r ts x xs ys (Some t) o h k =
     let further = one_more r (ts ++ alone x ∷ []) t (mark OpenRound ∷ xs) ys o (bracket_argument r xs t (opened_bracket r xs t h)) k in
     (alone x ∷ further.0, some (signal_argument x) further.1, further.2 ∙ ap (λ us. Some us) (append_assoc ts (alone x ∷ []) further.0))
@@ -302,7 +322,8 @@ first_brackets r xs ys (Some t) o h k =
     let further = one_more r [] t (mark OpenRound ∷ xs) ys o (bracket_argument r xs t (opened_bracket r xs t h)) k in
     in_order r (mark OpenRound ∷ (xs ++ ys)) further.0 further.1 o further.2 (λ e. cc)
 
-after : (r : ℕ) (s t : Arguments) (f g : List Terminal) (o : Option (List TermSyntax)) → IsArgumentStep s r f t → Decoded t r g o → Decoded s r (f ++ g) o
+after : (r : ℕ) (s t : Arguments) (f g : List Terminal) (o : Option (List TermSyntax)) → IsArgumentStep s r f t → Decoded t r g o →
+    Decoded s r (f ++ g) o
 after r fresh t (free x ∷ ys) g o h k =
     let named : Decoded (name_last [] x) r g o = rw h.1 at k in
     rw h.0 (in_order r (free x ∷ g) named.0 named.1 o named.2 (λ e. cc))
@@ -344,7 +365,8 @@ name_steps r (name_last ts y) x h = (refl, refl)
 name_steps r (term_last ts) x h = (refl, refl)
 name_steps r empty x h = absurd h
 
-term_steps : (r : ℕ) (s : Arguments) (xs : List Terminal) (t : TermSyntax) → GoesOn s → IsTerm r xs t → IsArgumentStep s (suc r) (in_brackets xs) (with_term s t)
+term_steps : (r : ℕ) (s : Arguments) (xs : List Terminal) (t : TermSyntax) → GoesOn s → IsTerm r xs t →
+    IsArgumentStep s (suc r) (in_brackets xs) (with_term s t)
 term_steps r fresh xs t h k = (Some t, as_opened (suc r) (xs ++ mark CloseRound ∷ []) t (round_closed IsTerm r xs t k), refl)
 term_steps r (name_last ts y) xs t h k = (Some t, as_opened (suc r) (xs ++ mark CloseRound ∷ []) t (round_closed IsTerm r xs t k), refl)
 term_steps r (term_last ts) xs t h k = (t, round_closed IsTerm r xs t k, refl)
@@ -354,14 +376,19 @@ encode : (r : ℕ) (s : Arguments) → GoesOn s → (xs : List Terminal) (us : L
 encode r s ok xs us none = record { state = s; steps = stop; goes_on = ok; terms = sym (append-nil (complete s)) }
 encode r s ok xs us (some {g = g} {vs = vs} (signal_argument x) k) =
     let e : Encoded r (with_name s x) g vs = encode r (with_name s x) tt g vs k in
-    record { state = e.state; steps = more (name_steps r s x ok) e.steps; goes_on = e.goes_on; terms = e.terms ∙ append_assoc (complete s) (alone x ∷ []) vs }
+    record { state = e.state; steps = more (name_steps r s x ok) e.steps; goes_on = e.goes_on; terms = e.terms
+        ∙ append_assoc (complete s) (alone x ∷ []) vs }
 encode r s ok xs us (some {g = g} {vs = vs} (constant_argument c) k) =
-    let e : Encoded r (term_last (complete s ++ applied c no_terms ∷ [])) g vs = encode r (term_last (complete s ++ applied c no_terms ∷ [])) tt g vs k in
-    let call : IsArgumentStep (with_name s c) r (mark OpenRound ∷ mark CloseRound ∷ []) (term_last (complete s ++ applied c no_terms ∷ [])) = (None, (refl, refl), refl) in
-    record { state = e.state; steps = more (name_steps r s c ok) (more {f = mark OpenRound ∷ mark CloseRound ∷ []} call e.steps); goes_on = e.goes_on; terms = e.terms ∙ append_assoc (complete s) (applied c no_terms ∷ []) vs }
+    let e : Encoded r (term_last (complete s ++ applied c no_terms ∷ [])) g vs =
+        encode r (term_last (complete s ++ applied c no_terms ∷ [])) tt g vs k in
+    let call : IsArgumentStep (with_name s c) r (mark OpenRound ∷ mark CloseRound ∷ [])
+        (term_last (complete s ++ applied c no_terms ∷ [])) = (None, (refl, refl), refl) in
+    record { state = e.state; steps = more (name_steps r s c ok) (more {f = mark OpenRound ∷ mark CloseRound ∷ []} call e.steps); goes_on =
+        e.goes_on; terms = e.terms ∙ append_assoc (complete s) (applied c no_terms ∷ []) vs }
 encode r s ok xs us (some {g = g} {vs = vs} (brackets_argument {room = low} {xs = inner} {t = t} h) k) =
     let e : Encoded r (with_term s t) g vs = encode r (with_term s t) tt g vs k in
-    record { state = e.state; steps = more (term_steps low s inner t ok h) e.steps; goes_on = e.goes_on; terms = e.terms ∙ append_assoc (complete s) (t ∷ []) vs }
+    record { state = e.state; steps = more (term_steps low s inner t ok h) e.steps; goes_on = e.goes_on; terms = e.terms
+        ∙ append_assoc (complete s) (t ∷ []) vs }
 
 some_complete : (s : Arguments) (t : TermSyntax) (ts : List TermSyntax) → GoesOn s → complete s ≡ t ∷ ts → Some (t ∷ ts) ≡ arguments_of s
 some_complete fresh t ts ok e = cc
@@ -369,7 +396,8 @@ some_complete (name_last us x) t ts ok e = ap (λ vs. Some vs) (sym e)
 some_complete (term_last us) t ts ok e = ap (λ vs. Some vs) (sym e)
 some_complete empty t ts ok e = absurd ok
 
-steps_after_name : (r : ℕ) (xs : List Terminal) (o : Option (List TermSyntax)) → AreAfterName r xs o → (s : Arguments) × Steps IsArgumentStep r fresh xs s × (o ≡ arguments_of s)
+steps_after_name : (r : ℕ) (xs : List Terminal) (o : Option (List TermSyntax)) → AreAfterName r xs o →
+    (s : Arguments) × Steps IsArgumentStep r fresh xs s × (o ≡ arguments_of s)
 steps_after_name r xs o nothing = (fresh, stop, refl)
 steps_after_name r xs o no_arguments =
     let call : IsArgumentStep fresh r (mark OpenRound ∷ mark CloseRound ∷ []) empty = (None, (refl, refl), refl) in
@@ -399,7 +427,8 @@ term_case (constant c) = (Some [], no_arguments, refl)
 term_case (application {t = t} {ts = ts} f h) = (Some (t ∷ ts), some_arguments h, refl)
 term_case (brackets {room = room} {xs = xs} {t = t} h) = round_closed IsTerm room xs t h
 
-term_of_name : (r : ℕ) (f : List ℕ) (xs : List Terminal) (o : Option (List TermSyntax)) → AreAfterName r xs o → IsTerm r (free f ∷ xs) (term_named f o)
+term_of_name : (r : ℕ) (f : List ℕ) (xs : List Terminal) (o : Option (List TermSyntax)) → AreAfterName r xs o →
+    IsTerm r (free f ∷ xs) (term_named f o)
 term_of_name r f xs o nothing = signal f
 term_of_name r f xs o no_arguments = constant f
 term_of_name r f xs o (some_arguments h) = application f h
@@ -413,13 +442,16 @@ case_term r _ t h = absurd h
 -- a term is read exactly
 pub term_exact : (room : ℕ) (low : Option Level) → Below TermExact room low → Exact IsTerm (Below_tie 6) room (term_with low)
 unfolding term_with
-term_exact room low b = exact_as case_term (λ r xs t h. term_case h) (λ x h. h) (by_first (end_wrong refl some_term (λ r t h. h)) turn) where
+term_exact room low b =
+    exact_as case_term (λ r xs t h. term_case h) (λ x h. h) (by_first (end_wrong refl some_term (λ r t h. h)) turn) where
   some_term : Begins (TermCase room) []
   some_term = record { ending = a ∷ []; value = alone (codes "a"); derives = (None, nothing, refl) }
   turn : (x : Terminal) → Turn TermCase (Below_tie 6) room (term_with low) x
-  turn (free f) = turn_takes (term_named f) (after_name low) (λ rest. refl) (λ y h. h) (λ r ys o h. (o, h, refl)) (λ r ys t h. h) (after_name_exact room low b)
+  turn (free f) = turn_takes (term_named f) (after_name low) (λ rest. refl) (λ y h. h) (λ r ys o h. (o, h, refl)) (λ r ys t h. h)
+      (after_name_exact room low b)
   turn (mark OpenRound) =
-      turn_below {Holds = TermExact} (λ t. t) low bracketed_term brackets_exact b (λ rest. sym (map_same (below_term rest))) (λ y h. tt) some_term (low_term room)
+      turn_below {Holds = TermExact} (λ t. t) low bracketed_term brackets_exact b (λ rest. sym (map_same (below_term rest)))
+          (λ y h. tt) some_term (low_term room)
       (λ r ys t h. h) (λ r ys t h. (t, h, refl)) where
     below_term : List Terminal → Answer Terminal TermSyntax
     below_term rest = below low bracketed_term (mark OpenRound ∷ rest)

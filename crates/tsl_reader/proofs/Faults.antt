@@ -1,5 +1,5 @@
 -- What a fault of the reading functions says of the grammar.
-use Rattle.std.proofs.Common.{◌≡◌, ℕ, suc, ◌+◌, ◌<◌, ◌≤◌, List, [], ◌∷◌, ◌++◌, length, ap, sym, ◌∙◌, append_assoc, length-append, arith}
+use Rattle.std.proofs.Common.{◌≡◌, ℕ, suc, ◌+◌, ◌<◌, ◌≤◌, List, [], ◌∷◌, ◌++◌, length, refl, ap, sym, ◌∙◌, append_assoc, length-append, arith}
 use Rattle.std.specs.Prelude.{Err}
 use Rattle.token_readers.specs.Readers.{form, deep}
 use Rattle.token_readers.specs.Exact.{SameFirst, both_begin}
@@ -50,7 +50,8 @@ deep_is_within room xs left h =
     (omega (arith, first.place), omega (arith, whole, first.place, length-append first.front (first.at ∷ first.rest)))
 
 -- no text begins with the terminals up to and with the faulty one, for any room
-pub form_stops_all : (room : ℕ) (xs : List Terminal) (left : ℕ) → sections room xs ≡ Err (form left) → (front : List Terminal) (x : Terminal) (more : List Terminal) →
+pub form_stops_all : (room : ℕ) (xs : List Terminal) (left : ℕ) → sections room xs ≡ Err (form left) →
+    (front : List Terminal) (x : Terminal) (more : List Terminal) →
     xs ≡ front ++ x ∷ more → left ≡ suc (length more) → (other : ℕ) → NoTextBegins other (front ++ x ∷ [])
 form_stops_all room xs left h front x more split here other zs ss derived =
     let first : FirstForm AreSections room xs left = form_of room xs left h in
@@ -58,7 +59,8 @@ form_stops_all room xs left h front x more split here other zs ss derived =
     let begins : SameFirst first.rest (x ∷ zs) = rw same.1 (both_begin x more zs) in
     first.stops (x ∷ zs) begins other ss (rw (same.0, ← append_assoc front (x ∷ []) zs) derived)
 
-pub deep_stops : (room : ℕ) (xs : List Terminal) (left : ℕ) → sections room xs ≡ Err (deep left) → (front : List Terminal) (x : Terminal) (more : List Terminal) →
+pub deep_stops : (room : ℕ) (xs : List Terminal) (left : ℕ) → sections room xs ≡ Err (deep left) →
+    (front : List Terminal) (x : Terminal) (more : List Terminal) →
     xs ≡ front ++ x ∷ more → left ≡ suc (length more) → NoTextBegins room (front ++ x ∷ [])
 deep_stops room xs left h front x more split here zs ss derived =
     let first : FirstDeep AreSections room xs left = deep_of room xs left h in
@@ -73,14 +75,16 @@ no_text room xs left h other ss derived =
     first.stops first.rest (same_first first.rest) other ss (rw (← first.split) derived)
 
 -- some text begins with the terminals before a form fault
-pub form_begins : (room : ℕ) (xs : List Terminal) (left : ℕ) → sections room xs ≡ Err (form left) → (front rest : List Terminal) → xs ≡ front ++ rest → left ≡ length rest → SomeTextBegins room front
+pub form_begins : (room : ℕ) (xs : List Terminal) (left : ℕ) → sections room xs ≡ Err (form left) → (front rest : List Terminal) →
+    xs ≡ front ++ rest → left ≡ length rest → SomeTextBegins room front
 form_begins room xs left h front rest split here =
     let first : FirstForm AreSections room xs left = form_of room xs left h in
     let same = one_split first.front front first.rest rest (sym first.split ∙ split) (sym first.place ∙ here) in
     rw (← same.0) (first.begins.ending, first.begins.value, first.begins.derives)
 
 -- and with those before a level too many
-pub deep_begins : (room : ℕ) (xs : List Terminal) (left : ℕ) → sections room xs ≡ Err (deep left) → (front : List Terminal) (x : Terminal) (more : List Terminal) →
+pub deep_begins : (room : ℕ) (xs : List Terminal) (left : ℕ) → sections room xs ≡ Err (deep left) →
+    (front : List Terminal) (x : Terminal) (more : List Terminal) →
     xs ≡ front ++ x ∷ more → left ≡ suc (length more) → SomeTextBegins room front
 deep_begins room xs left h front x more split here =
     let first : FirstDeep AreSections room xs left = deep_of room xs left h in
@@ -88,7 +92,8 @@ deep_begins room xs left h front x more split here =
     rw (← same.0) (first.begins.ending, first.begins.value, first.begins.derives)
 
 -- with two levels more, some text begins with those up to and with it
-pub deep_goes_on : (room : ℕ) (xs : List Terminal) (left : ℕ) → sections room xs ≡ Err (deep left) → (front : List Terminal) (x : Terminal) (more : List Terminal) →
+pub deep_goes_on : (room : ℕ) (xs : List Terminal) (left : ℕ) → sections room xs ≡ Err (deep left) →
+    (front : List Terminal) (x : Terminal) (more : List Terminal) →
     xs ≡ front ++ x ∷ more → left ≡ suc (length more) → SomeTextBegins (suc (suc room)) (front ++ x ∷ [])
 deep_goes_on room xs left h front x more split here =
     let first : FirstDeep AreSections room xs left = deep_of room xs left h in

@@ -1,7 +1,11 @@
 -- What derives with some room derives with more.
 use Rattle.std.proofs.Common.{ℕ, zero, suc, ◌≤◌, List, arith}
 use Rattle.tsl_reader.specs.Syntax.{Terminal, TermSyntax, FormulaSyntax, SectionSyntax}
-use Rattle.tsl_reader.specs.Grammar.{IsTerm, signal, constant, application, brackets, AreArguments, one_argument, more_arguments, IsArgument, signal_argument, constant_argument, brackets_argument, IsFormula, temporal, chain as chained, IsIff, no_iff, iff, IsImp, no_imp, imp, IsOr, disjunction, AreDisjuncts, no_disjunct, more_disjuncts, IsAnd, conjunction, AreConjuncts, no_conjunct, more_conjuncts, IsPrefix, prefix, atom, IsAtom, true_atom, false_atom, brackets_atom, update, bare_name, no_argument, test, AreItems, nothing, last_item, item, IsSection, braces, AreSections, no_section, section}
+use Rattle.tsl_reader.specs.Grammar.{IsTerm, signal, constant, application, brackets, AreArguments, one_argument, more_arguments,
+    IsArgument, signal_argument, constant_argument, brackets_argument, IsFormula, temporal, chain as chained, IsIff, no_iff, iff, IsImp,
+    no_imp, imp, IsOr, disjunction, AreDisjuncts, no_disjunct, more_disjuncts, IsAnd, conjunction, AreConjuncts, no_conjunct,
+    more_conjuncts, IsPrefix, prefix, atom, IsAtom, true_atom, false_atom, brackets_atom, update, bare_name, no_argument, test, AreItems,
+    nothing, last_item, item, IsSection, braces, AreSections, no_section, section}
 
 mutual
   pub lift_term : {room r : ℕ} {xs : List Terminal} {t : TermSyntax} → room ≤ r → IsTerm room xs t → IsTerm r xs t
@@ -39,14 +43,16 @@ mutual
   pub lift_or : {room r : ℕ} {xs : List Terminal} {f : FormulaSyntax} → room ≤ r → IsOr room xs f → IsOr r xs f
   lift_or few (disjunction h k) = disjunction (lift_and few h) (lift_disjuncts few k)
 
-  pub lift_disjuncts : {room r : ℕ} {xs : List Terminal} {fs : List FormulaSyntax} → room ≤ r → AreDisjuncts room xs fs → AreDisjuncts r xs fs
+  pub lift_disjuncts : {room r : ℕ} {xs : List Terminal} {fs : List FormulaSyntax} → room ≤ r → AreDisjuncts room xs fs →
+      AreDisjuncts r xs fs
   lift_disjuncts few no_disjunct = no_disjunct
   lift_disjuncts few (more_disjuncts h k) = more_disjuncts (lift_and few h) (lift_disjuncts few k)
 
   pub lift_and : {room r : ℕ} {xs : List Terminal} {f : FormulaSyntax} → room ≤ r → IsAnd room xs f → IsAnd r xs f
   lift_and few (conjunction h k) = conjunction (lift_prefix few h) (lift_conjuncts few k)
 
-  pub lift_conjuncts : {room r : ℕ} {xs : List Terminal} {fs : List FormulaSyntax} → room ≤ r → AreConjuncts room xs fs → AreConjuncts r xs fs
+  pub lift_conjuncts : {room r : ℕ} {xs : List Terminal} {fs : List FormulaSyntax} → room ≤ r → AreConjuncts room xs fs →
+      AreConjuncts r xs fs
   lift_conjuncts few no_conjunct = no_conjunct
   lift_conjuncts few (more_conjuncts h k) = more_conjuncts (lift_prefix few h) (lift_conjuncts few k)
 

@@ -6,7 +6,8 @@ use Rattle.std.proofs.lemmas.Result.{err_from_is_err_and}
 use Rattle.std.specs.Prelude.{◌≤◌, Bool, true, false, Option, Some, None, Result, Ok, Err, IfErr, if◌then◌else◌, take, drop}
 use Rattle.std.specs.Result.{IsErrAnd}
 use Rattle.tsl_text.specs.declared.TokenKind.TheVariants.{OpenRound, CloseRound, OpenBrace, LeftArrow}
-use Rattle.token_readers.specs.Readers.{Fault, form, deep, Answer, Reader, form_at, deep_at, closing, closed_by, and_then, map_read, below as below_level}
+use Rattle.token_readers.specs.Readers.{Fault, form, deep, Answer, Reader, form_at, deep_at, closing, closed_by, and_then, map_read,
+    below as below_level}
 use Rattle.tsl_reader.specs.declared.fault.ReadFault.{ReadFault}
 use Rattle.tsl_reader.specs.declared.fault.ReadFault.TheVariants.{Form, Deep, NoMemory}
 use Rattle.tsl_reader.specs.declared.terminals.Terminal.{Terminal as LentTerminal}
@@ -16,7 +17,8 @@ use Rattle.tsl_reader.specs.declared.syntax.Part.{Part}
 use Rattle.tsl_reader.specs.declared.formulas.Form.{Form as GrammarForm}
 use Rattle.tsl_reader.specs.declared.formulas.Form.TheVariants.{Prefix, Implication, Equivalence, Formula}
 use Rattle.tsl_reader.specs.Forms.{reader_of, form_with}
-use Rattle.tsl_reader.specs.Reading.{is_close_brace, bracketed_formula, formulas, items, section_made, Level, is_close_round, is_close_square, lower, above, bracketed_term, begins_term, beyond, opened, term_with, update_with}
+use Rattle.tsl_reader.specs.Reading.{is_close_brace, bracketed_formula, formulas, items, section_made, Level, is_close_round,
+    is_close_square, lower, above, bracketed_term, begins_term, beyond, opened, term_with, update_with}
 
 pub no_level : (room : ℕ) → room ≡ 0 → lower room ≡ None
 unfolding lower
@@ -46,17 +48,20 @@ first_view [] d h = absurd (omega (arith, h))
 first_view (x ∷ xs) d h = grind (arith, common_steps)
 
 -- a closing bracket, by its test
-pub close_read : (is : Terminal → Bool) (xs : List LentTerminal) (d : LentTerminal) → 1 ≤ length xs → is (terminal_view (get_or xs 0 d)) ≡ true →
+pub close_read : (is : Terminal → Bool) (xs : List LentTerminal) (d : LentTerminal) → 1 ≤ length xs →
+    is (terminal_view (get_or xs 0 d)) ≡ true →
     closing is (tt {0}) (terminals_view xs) ≡ Ok (tt {0}, terminals_view (take (length xs - 1) (drop 1 xs)))
 unfolding closing
 close_read is xs d h e = rw (first_view xs d h, e) refl
 
-pub close_wrong : (is : Terminal → Bool) (xs : List LentTerminal) (d : LentTerminal) → 1 ≤ length xs → is (terminal_view (get_or xs 0 d)) ≡ false →
+pub close_wrong : (is : Terminal → Bool) (xs : List LentTerminal) (d : LentTerminal) → 1 ≤ length xs →
+    is (terminal_view (get_or xs 0 d)) ≡ false →
     closing is (tt {0}) (terminals_view xs) ≡ Err (form (length xs))
 unfolding closing
 close_wrong is [] d h e = absurd (omega (arith, h))
 close_wrong is (x ∷ xs) d h e =
-    ap (λ b. if b then Ok (tt {0}, terminals_view xs) else form_at (terminals_view (x ∷ xs))) e ∙ ap (λ n. Err (form n)) (length-map (x ∷ xs) terminal_view)
+    ap (λ b. if b then Ok (tt {0}, terminals_view xs) else form_at (terminals_view (x ∷ xs))) e
+        ∙ ap (λ n. Err (form n)) (length-map (x ∷ xs) terminal_view)
 
 pub close_end : (is : Terminal → Bool) (xs : List LentTerminal) → length xs < 1 → closing is (tt {0}) (terminals_view xs) ≡ Err (form 0)
 unfolding closing
@@ -64,12 +69,14 @@ close_end is [] h = refl
 close_end is (x ∷ xs) h = absurd (omega (arith, h))
 
 module _ {V W : Type 0} where
-  pub then_fault : (answer : Answer Terminal V) (next : V → Reader Terminal W) (fault : ReadFault) → HasFault answer fault → HasFault (and_then answer next) fault
+  pub then_fault : (answer : Answer Terminal V) (next : V → Reader Terminal W) (fault : ReadFault) → HasFault answer fault →
+      HasFault (and_then answer next) fault
   then_fault answer next (Form left) h = rw h refl
   then_fault answer next (Deep left) h = rw h refl
   then_fault answer next NoMemory h = tt
 
-  pub map_fault : (make : V → W) (answer : Answer Terminal V) (fault : ReadFault) → HasFault answer fault → HasFault (map_read make answer) fault
+  pub map_fault : (make : V → W) (answer : Answer Terminal V) (fault : ReadFault) → HasFault answer fault →
+      HasFault (map_read make answer) fault
   map_fault make answer (Form left) h = rw h refl
   map_fault make answer (Deep left) h = rw h refl
   map_fault make answer NoMemory h = tt
@@ -79,40 +86,49 @@ rest_of : {V : Type 0} → Answer Terminal V → List Terminal
 rest_of (Ok (v, rest)) = rest
 rest_of (Err fault) = []
 
-closing_value : {V : Type 0} (is : Terminal → Bool) (v : V) (xs rest : List Terminal) → closing is (tt {0}) xs ≡ Ok (tt {0}, rest) → closing is v xs ≡ Ok (v, rest)
+closing_value : {V : Type 0} (is : Terminal → Bool) (v : V) (xs rest : List Terminal) → closing is (tt {0}) xs ≡ Ok (tt {0}, rest) →
+    closing is v xs ≡ Ok (v, rest)
 unfolding closing rest_of
 closing_value is v [] rest h = cc
 closing_value is v (x ∷ xs) rest h = by (is x) h where
-  by : (b : Bool) → (if b then Ok (tt {0}, xs) else form_at (x ∷ xs)) ≡ Ok (tt {0}, rest) → (if b then Ok (v, xs) else form_at (x ∷ xs)) ≡ Ok (v, rest)
+  by : (b : Bool) → (if b then Ok (tt {0}, xs) else form_at (x ∷ xs)) ≡ Ok (tt {0}, rest) →
+      (if b then Ok (v, xs) else form_at (x ∷ xs)) ≡ Ok (v, rest)
   by true h = let e : xs ≡ rest = ap rest_of h in rw e refl
   by false h = cc
 
-closing_fault : {V : Type 0} (is : Terminal → Bool) (v : V) (xs : List Terminal) (fault : ReadFault) → HasFault (closing is (tt {0}) xs) fault → HasFault (closing is v xs) fault
+closing_fault : {V : Type 0} (is : Terminal → Bool) (v : V) (xs : List Terminal) (fault : ReadFault) →
+    HasFault (closing is (tt {0}) xs) fault → HasFault (closing is v xs) fault
 unfolding closing
 closing_fault is v [] (Form left) h = cc
 closing_fault is v [] (Deep left) h = cc
 closing_fault is v xs NoMemory h = tt
 closing_fault is v (x ∷ xs) (Form left) h = by (is x) h where
-  by : (b : Bool) → (if b then Ok (tt {0}, xs) else form_at (x ∷ xs)) ≡ Err (form left) → (if b then Ok (v, xs) else form_at (x ∷ xs)) ≡ Err (form left)
+  by : (b : Bool) → (if b then Ok (tt {0}, xs) else form_at (x ∷ xs)) ≡ Err (form left) →
+      (if b then Ok (v, xs) else form_at (x ∷ xs)) ≡ Err (form left)
   by true h = cc
   by false h = cc
 closing_fault is v (x ∷ xs) (Deep left) h = by (is x) h where
-  by : (b : Bool) → (if b then Ok (tt {0}, xs) else form_at (x ∷ xs)) ≡ Err (deep left) → (if b then Ok (v, xs) else form_at (x ∷ xs)) ≡ Err (deep left)
+  by : (b : Bool) → (if b then Ok (tt {0}, xs) else form_at (x ∷ xs)) ≡ Err (deep left) →
+      (if b then Ok (v, xs) else form_at (x ∷ xs)) ≡ Err (deep left)
   by true h = cc
   by false h = cc
 
 module _ {V : Type 0} where
   -- a form and its closing bracket
-  pub closed_read : (is : Terminal → Bool) (reader : Reader Terminal V) (xs : List Terminal) (v : V) (rest after : List Terminal) → reader xs ≡ Ok (v, rest) →
+  pub closed_read : (is : Terminal → Bool) (reader : Reader Terminal V) (xs : List Terminal) (v : V) (rest after : List Terminal) →
+      reader xs ≡ Ok (v, rest) →
       closing is (tt {0}) rest ≡ Ok (tt {0}, after) → closed_by is reader xs ≡ Ok (v, after)
   closed_read is reader xs v rest after h k = ap (λ answer. and_then answer (closing is)) h ∙ closing_value is v rest after k
 
-  pub closed_fault : (is : Terminal → Bool) (reader : Reader Terminal V) (xs : List Terminal) (v : V) (rest : List Terminal) (fault : ReadFault) → reader xs ≡ Ok (v, rest) →
+  pub closed_fault : (is : Terminal →
+      Bool) (reader : Reader Terminal V) (xs : List Terminal) (v : V) (rest : List Terminal) (fault : ReadFault) →
+      reader xs ≡ Ok (v, rest) →
       HasFault (closing is (tt {0}) rest) fault → HasFault (closed_by is reader xs) fault
   closed_fault is reader xs v rest fault h k = rw h (closing_fault is v rest fault k)
 
   -- what is read of the level below, after the first terminal
-  pub below_is : (L : Type 0) (low : Option L) (l : L) (reader : L → Reader Terminal V) (xs : List LentTerminal) → low ≡ Some l → 1 ≤ length xs →
+  pub below_is : (L : Type 0) (low : Option L) (l : L) (reader : L → Reader Terminal V) (xs : List LentTerminal) → low ≡ Some l →
+      1 ≤ length xs →
       below_level low reader (terminals_view xs) ≡ reader l (terminals_view (take (length xs - 1) (drop 1 xs)))
   below_is L low l reader xs h k = rw (h, (after_first xs k).1) refl
 
@@ -123,7 +139,8 @@ pub beyond_fault : (V : Type 0) (xs : List LentTerminal) (fault : ReadFault) →
 beyond_fault V xs fault h = rw h (by_test V (begins_term (terminals_view xs)) (length-map xs terminal_view))
   where
     by_test : (V : Type 0) (b : Bool) → length (terminals_view xs) ≡ length xs →
-        HasFault {V = V} (if b then deep_at (terminals_view xs) else form_at (terminals_view xs)) (if b then Deep (length xs) else Form (length xs))
+        HasFault {V = V} (if b then deep_at (terminals_view xs) else form_at (terminals_view xs))
+            (if b then Deep (length xs) else Form (length xs))
     by_test V true e = ap (λ n. Err (deep n)) e
     by_test V false e = ap (λ n. Err (form n)) e
 
@@ -142,18 +159,21 @@ pub not_opened : (room : ℕ) (xs : List LentTerminal) (fault : ReadFault) → l
     HasFault (opened (lower room) (terminals_view xs)) fault
 not_opened room xs fault none h e = rw (none, opened_beyond (terminals_view xs) h) (beyond_fault (Option TermSyntax) xs fault e)
 
-opened_is : (low : Option Level) (l : Level) (xs : List Terminal) → low ≡ Some l → begins_close xs ≡ false → opened low xs ≡ map_read (λ t. Some t) (bracketed_term l xs)
+opened_is : (low : Option Level) (l : Level) (xs : List Terminal) → low ≡ Some l → begins_close xs ≡ false →
+    opened low xs ≡ map_read (λ t. Some t) (bracketed_term l xs)
 unfolding opened
 opened_is None l xs e h = cc
 opened_is (Some m) l (mark CloseRound ∷ xs) e h = cc
 opened_is (Some m) l xs e h = let same : m ≡ l = cc in rw same refl
 
-pub opened_read : (room below : ℕ) (xs : List Terminal) (t : TermSyntax) (rest : List Terminal) → lower room ≡ Some (above (lower below)) → begins_close xs ≡ false →
+pub opened_read : (room below : ℕ) (xs : List Terminal) (t : TermSyntax) (rest : List Terminal) → lower room ≡ Some (above (lower below)) →
+    begins_close xs ≡ false →
     bracketed_term (above (lower below)) xs ≡ Ok (t, rest) → opened (lower room) xs ≡ Ok (Some t, rest)
 opened_read room below xs t rest e h k =
     opened_is (lower room) (above (lower below)) xs e h ∙ ap (map_read (λ t. Some t)) k
 
-pub opened_fault : (room below : ℕ) (xs : List Terminal) (fault : ReadFault) → lower room ≡ Some (above (lower below)) → begins_close xs ≡ false →
+pub opened_fault : (room below : ℕ) (xs : List Terminal) (fault : ReadFault) → lower room ≡ Some (above (lower below)) →
+    begins_close xs ≡ false →
     HasFault (bracketed_term (above (lower below)) xs) fault → HasFault (opened (lower room) xs) fault
 opened_fault room below xs fault e h k =
     rw (opened_is (lower room) (above (lower below)) xs e h) (map_fault (λ t. Some t) (bracketed_term (above (lower below)) xs) fault k)
@@ -171,7 +191,8 @@ pub unclosed_update : (l : Option Level) (name : List ℕ) (xs : List Terminal) 
     HasFault (update_with l (free name ∷ mark LeftArrow ∷ xs)) fault
 unfolding update_with
 unclosed_update l name xs t rest fault h k =
-    map_fault (updated name) (closed_by is_close_square (term_with l) xs) fault (closed_fault is_close_square (term_with l) xs t rest fault h k)
+    map_fault (updated name) (closed_by is_close_square (term_with l) xs) fault
+        (closed_fault is_close_square (term_with l) xs t rest fault h k)
 
 -- ---- the items of a section between their braces
 
@@ -179,20 +200,24 @@ pub items_read : (room : ℕ) (part : Part) (xs : List Terminal) (fs : List Form
     formulas room xs ≡ Ok (fs, rest) → closing is_close_brace (tt {0}) rest ≡ Ok (tt {0}, after) →
     items room part (mark OpenBrace ∷ xs) ≡ Ok (section_made part fs, after)
 unfolding items
-items_read room part xs fs rest after h k = ap (map_read (section_made part)) (closed_read is_close_brace (formulas room) xs fs rest after h k)
+items_read room part xs fs rest after h k =
+    ap (map_read (section_made part)) (closed_read is_close_brace (formulas room) xs fs rest after h k)
 
 pub items_unclosed : (room : ℕ) (part : Part) (xs : List Terminal) (fs : List FormulaSyntax) (rest : List Terminal) (fault : ReadFault) →
     formulas room xs ≡ Ok (fs, rest) → HasFault (closing is_close_brace (tt {0}) rest) fault →
     HasFault (items room part (mark OpenBrace ∷ xs)) fault
 unfolding items
 items_unclosed room part xs fs rest fault h k =
-    map_fault (section_made part) (closed_by is_close_brace (formulas room) xs) fault (closed_fault is_close_brace (formulas room) xs fs rest fault h k)
+    map_fault (section_made part) (closed_by is_close_brace (formulas room) xs) fault
+        (closed_fault is_close_brace (formulas room) xs fs rest fault h k)
 
 -- ---- a form of the level below
 
 -- after the first terminal
-pub form_after_first : (room below : ℕ) (kind : GrammarForm) (xs : List LentTerminal) → lower room ≡ Some (above (lower below)) → 1 ≤ length xs →
-    below_level (lower room) (reader_of kind) (terminals_view xs) ≡ form_with kind (lower below) (terminals_view (take (length xs - 1) (drop 1 xs)))
+pub form_after_first : (room below : ℕ) (kind : GrammarForm) (xs : List LentTerminal) → lower room ≡ Some (above (lower below)) →
+    1 ≤ length xs →
+    below_level (lower room) (reader_of kind) (terminals_view xs)
+        ≡ form_with kind (lower below) (terminals_view (take (length xs - 1) (drop 1 xs)))
 unfolding above
 form_after_first room below kind xs h k = rw (h, (after_first xs k).1) (by_form kind)
   where
@@ -213,7 +238,8 @@ below_bracketed (Some m) (x ∷ xs) = refl
 pub formula_in_brackets : (l : Option Level) (xs : List Terminal) (f : FormulaSyntax) (rest after : List Terminal) →
     below_level l (reader_of Formula) xs ≡ Ok (f, rest) → closing is_close_round (tt {0}) rest ≡ Ok (tt {0}, after) →
     below_level l bracketed_formula xs ≡ Ok (f, after)
-formula_in_brackets l xs f rest after h k = below_bracketed l xs ∙ closed_read is_close_round (below_level l (reader_of Formula)) xs f rest after h k
+formula_in_brackets l xs f rest after h k = below_bracketed l xs
+    ∙ closed_read is_close_round (below_level l (reader_of Formula)) xs f rest after h k
 
 pub formula_unclosed : (l : Option Level) (xs : List Terminal) (f : FormulaSyntax) (rest : List Terminal) (fault : ReadFault) →
     below_level l (reader_of Formula) xs ≡ Ok (f, rest) → HasFault (closing is_close_round (tt {0}) rest) fault →

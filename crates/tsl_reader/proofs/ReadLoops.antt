@@ -11,7 +11,8 @@ use Rattle.tsl_reader.specs.declared.fault.ReadFault.{ReadFault}
 use Rattle.tsl_reader.specs.declared.fault.ReadFault.TheVariants.{Form, Deep, NoMemory}
 use Rattle.tsl_reader.specs.Syntax.{Terminal, mark, FormulaSyntax, SectionSyntax}
 use Rattle.tsl_reader.specs.SyntaxView.{formula_syntax, HasFault, HasFaultOfMember}
-use Rattle.tsl_reader.specs.Reading.{lower, Arguments, argument, fresh, goes_on, arguments_of, after_name, conjunct, disjunct, section, Items, open_items, item_last, items_of, item, begins_item, formula_with, formulas}
+use Rattle.tsl_reader.specs.Reading.{lower, Arguments, argument, fresh, goes_on, arguments_of, after_name, conjunct, disjunct, section,
+    Items, open_items, item_last, items_of, item, begins_item, formula_with, formulas}
 use Rattle.tsl_reader.proofs.ReadLemmas.{map_fault}
 use Rattle.tsl_reader.proofs.ExactTerms.{stepping as argument_stepping, no_step as no_argument, some_step as some_argument, at_end}
 use Rattle.tsl_reader.proofs.ExactFormulas.{terms_below, below_exact, conjunct_member, disjunct_member}
@@ -30,7 +31,8 @@ module _ {V : Type 0} where
   member_fault answer (Deep left) h = ap Some h
   member_fault answer NoMemory h = tt
 
-  push_fault : (vs : List V) (found : Option (Answer Terminal V)) (fault : ReadFault) → HasFaultOfMember found fault → HasFaultOfMember (push_read vs found) fault
+  push_fault : (vs : List V) (found : Option (Answer Terminal V)) (fault : ReadFault) → HasFaultOfMember found fault →
+      HasFaultOfMember (push_read vs found) fault
   push_fault vs found (Form left) h = ap (push_read vs) h
   push_fault vs found (Deep left) h = ap (push_read vs) h
   push_fault vs found NoMemory h = tt
@@ -48,12 +50,14 @@ module _ {U V : Type 0} (view : U → V) (member : List Terminal → Option (Ans
   members_end xs vs h = no_step shrinks vs xs (ap (push_read vs) h)
 
   -- a member has a fault
-  pub members_fault : (xs : List Terminal) (vs : List V) (whole : Answer Terminal (List V)) (fault : ReadFault) → iterate (push member) vs xs ≡ whole →
+  pub members_fault : (xs : List Terminal) (vs : List V) (whole : Answer Terminal (List V)) (fault : ReadFault) →
+      iterate (push member) vs xs ≡ whole →
       HasFaultOfMember (member xs) fault → HasFault whole fault
   members_fault xs vs whole fault h k = rw (← h) (step_fault shrinks vs xs fault (push_fault vs (member xs) fault k))
 
   -- the reader of a member has one
-  pub member_found_fault : (xs : List Terminal) (vs : List V) (whole : Answer Terminal (List V)) (answer : Answer Terminal V) (fault : ReadFault) → iterate (push member) vs xs ≡ whole →
+  pub member_found_fault : (xs : List Terminal) (vs : List V) (whole : Answer Terminal (List V)) (answer : Answer Terminal V)
+      (fault : ReadFault) → iterate (push member) vs xs ≡ whole →
       member xs ≡ Some answer → HasFault answer fault → HasFault whole fault
   member_found_fault xs vs whole answer fault h k e = members_fault xs vs whole fault h (rw k (member_fault answer fault e))
 
@@ -68,7 +72,8 @@ disjuncts_shrink room = step_shrinks (list_stepping (disjunct_member room (lower
 arguments_shrink : (room : ℕ) → Shrinks (argument (lower room))
 arguments_shrink room = step_shrinks (argument_stepping room (lower room) (terms_below room (lower room) (below_exact room)))
 
-argument_is : (room : ℕ) (s : Arguments) (xs : List Terminal) → goes_on s xs ≡ true → argument (lower room) s xs ≡ Some (found_or_wrong (argument (lower room) s xs) xs)
+argument_is : (room : ℕ) (s : Arguments) (xs : List Terminal) → goes_on s xs ≡ true →
+    argument (lower room) s xs ≡ Some (found_or_wrong (argument (lower room) s xs) xs)
 argument_is room s [] h = cc
 argument_is room s (x ∷ rest) h = some_argument (lower room) s x rest h
 
@@ -76,24 +81,29 @@ no_argument_is : (room : ℕ) (s : Arguments) (xs : List Terminal) → goes_on s
 no_argument_is room s [] h = at_end (lower room) s
 no_argument_is room s (x ∷ rest) h = no_argument (lower room) s x rest h
 
-pub arguments_more : (room : ℕ) (s t : Arguments) (xs rest : List Terminal) → goes_on s xs ≡ true → found_or_wrong (argument (lower room) s xs) xs ≡ Ok (t, rest) →
+pub arguments_more : (room : ℕ) (s t : Arguments) (xs rest : List Terminal) → goes_on s xs ≡ true →
+    found_or_wrong (argument (lower room) s xs) xs ≡ Ok (t, rest) →
     iterate (argument (lower room)) t rest ≡ iterate (argument (lower room)) s xs
 arguments_more room s t xs rest h k = next_step (arguments_shrink room) s xs t rest (argument_is room s xs h ∙ ap Some k)
 
-pub arguments_end : (room : ℕ) (s : Arguments) (xs : List Terminal) → goes_on s xs ≡ false → iterate (argument (lower room)) s xs ≡ Ok (s, xs)
+pub arguments_end : (room : ℕ) (s : Arguments) (xs : List Terminal) → goes_on s xs ≡ false →
+    iterate (argument (lower room)) s xs ≡ Ok (s, xs)
 arguments_end room s xs h = no_step (arguments_shrink room) s xs (no_argument_is room s xs h)
 
-found_fault : {V : Type 0} (found : Option (Answer Terminal V)) (xs : List Terminal) (fault : ReadFault) → found ≡ Some (found_or_wrong found xs) →
+found_fault : {V : Type 0} (found : Option (Answer Terminal V)) (xs : List Terminal) (fault : ReadFault) →
+    found ≡ Some (found_or_wrong found xs) →
     HasFault (found_or_wrong found xs) fault → HasFaultOfMember found fault
 found_fault None xs fault e h = cc
 found_fault (Some answer) xs fault e h = member_fault answer fault h
 
 pub arguments_fault : (room : ℕ) (s : Arguments) (xs ys : List Terminal) (fault : ReadFault) → goes_on s xs ≡ true →
-    HasFault (found_or_wrong (argument (lower room) s xs) xs) fault → iterate (argument (lower room)) s xs ≡ iterate (argument (lower room)) fresh ys →
+    HasFault (found_or_wrong (argument (lower room) s xs) xs) fault →
+        iterate (argument (lower room)) s xs ≡ iterate (argument (lower room)) fresh ys →
     HasFault (map_read arguments_of (iterate (argument (lower room)) fresh ys)) fault
 arguments_fault room s xs ys fault h k e =
     map_fault arguments_of (iterate (argument (lower room)) fresh ys) fault
-    (rw (← e) (step_fault (arguments_shrink room) s xs fault (found_fault (argument (lower room) s xs) xs fault (argument_is room s xs h) k)))
+    (rw (← e) (step_fault (arguments_shrink room) s xs fault
+        (found_fault (argument (lower room) s xs) xs fault (argument_is room s xs h) k)))
 
 -- ---- the items of a section
 
@@ -110,16 +120,19 @@ no_item_is room fs [] h = refl
 no_item_is room fs (mark CloseBrace ∷ xs) h = refl
 no_item_is room fs _ h = cc
 
-semicolon_is : (room : ℕ) (fs : List FormulaSyntax) (xs : List Terminal) → item room (item_last fs) (mark Semicolon ∷ xs) ≡ Some (Ok (open_items fs, xs))
+semicolon_is : (room : ℕ) (fs : List FormulaSyntax) (xs : List Terminal) →
+    item room (item_last fs) (mark Semicolon ∷ xs) ≡ Some (Ok (open_items fs, xs))
 unfolding item
 semicolon_is room fs xs = refl
 
 -- a formula was read
-item_read : (room : ℕ) (fs : List ReadFormula) (f : ReadFormula) (xs rest : List Terminal) → begins_item xs ≡ true → formula_with (lower room) xs ≡ Ok (formula_syntax f, rest) →
+item_read : (room : ℕ) (fs : List ReadFormula) (f : ReadFormula) (xs rest : List Terminal) → begins_item xs ≡ true →
+    formula_with (lower room) xs ≡ Ok (formula_syntax f, rest) →
     iterate (item room) (item_last (map formula_syntax (fs ++ f ∷ []))) rest ≡ iterate (item room) (open_items (map formula_syntax fs)) xs
 item_read room fs f xs rest h k =
     ap (λ gs. iterate (item room) (item_last gs) rest) (map-append formula_syntax fs (f ∷ []))
-    ∙ next_step (item_shrinks room) (open_items (map formula_syntax fs)) xs (item_last (map formula_syntax fs ++ formula_syntax f ∷ [])) rest
+    ∙ next_step (item_shrinks room) (open_items (map formula_syntax fs)) xs
+        (item_last (map formula_syntax fs ++ formula_syntax f ∷ [])) rest
     (item_is room (map formula_syntax fs) xs h ∙ ap (λ answer. Some (map_read (λ g. item_last (map formula_syntax fs ++ g ∷ [])) answer)) k)
 
 -- a formula and its semicolon were read
@@ -127,7 +140,8 @@ pub items_more : (room : ℕ) (fs : List ReadFormula) (f : ReadFormula) (xs rest
     formula_with (lower room) xs ≡ Ok (formula_syntax f, rest) → rest ≡ mark Semicolon ∷ after →
     iterate (item room) (open_items (map formula_syntax (fs ++ f ∷ []))) after ≡ iterate (item room) (open_items (map formula_syntax fs)) xs
 items_more room fs f xs rest after h k e =
-    next_step (item_shrinks room) (item_last (map formula_syntax (fs ++ f ∷ []))) rest (open_items (map formula_syntax (fs ++ f ∷ []))) after
+    next_step (item_shrinks room) (item_last (map formula_syntax (fs ++ f ∷ []))) rest
+        (open_items (map formula_syntax (fs ++ f ∷ []))) after
     (ap (item room (item_last (map formula_syntax (fs ++ f ∷ [])))) e ∙ semicolon_is room (map formula_syntax (fs ++ f ∷ [])) after)
     ∙ item_read room fs f xs rest h k
 
@@ -148,7 +162,8 @@ unfolding formulas
 items_end room fs xs ys h e = ap (map_read items_of) (sym e ∙ no_step (item_shrinks room) (open_items fs) xs (no_item_is room fs xs h))
 
 -- a formula has a fault
-pub items_fault : (room : ℕ) (fs : List FormulaSyntax) (xs ys : List Terminal) (fault : ReadFault) → begins_item xs ≡ true → HasFault (formula_with (lower room) xs) fault →
+pub items_fault : (room : ℕ) (fs : List FormulaSyntax) (xs ys : List Terminal) (fault : ReadFault) → begins_item xs ≡ true →
+    HasFault (formula_with (lower room) xs) fault →
     iterate (item room) (open_items fs) xs ≡ iterate (item room) (open_items []) ys → HasFault (formulas room ys) fault
 unfolding formulas
 items_fault room fs xs ys fault h k e =

@@ -8,7 +8,7 @@ ghost use Rattle.tsl_terms.specs.WellFormed.{SpecFits};
 ghost use Rattle.tsl_reader.specs.declared.SpecError.{SpecError};
 ghost use Rattle.tsl_reader.specs.Syntax.{Terminal, SectionSyntax};
 ghost use Rattle.tsl_reader.specs.Grammar.{AreSections};
-ghost use Rattle.token_readers.specs.Readers.{form, deep}
+ghost use Rattle.token_readers.specs.Readers.{form, deep};
 ghost use Rattle.tsl_reader.specs.Reading.{sections};
 ghost use Rattle.tsl_reader.specs.Naming.{written_uses};
 ghost use Rattle.tsl_reader.specs.Spells.{Spells, Derives, SomeTextBegins, NoTextBegins, IsNoText, name_tokens, HasCause, IsOfText, IsRefused};
