@@ -93,6 +93,7 @@ module _ {T V : Type 0} where
     begins : (r : ℕ) (xs : List T) (v : V) → IsAfter is Is r xs v → (x : T) × (ys : List T) × (xs ≡ x ∷ ys) × (is x ≡ true)
     begins r [] v h = absurd h
     begins r (x ∷ ys) v h = (x, ys, refl, h.0)
+
     lift : (r : ℕ) (xs : List T) (v : V) → IsAfter is Is r xs v → IsAfter is Is (suc (suc r)) xs v
     lift r [] v h = h
     lift r (x ∷ ys) v h = (h.0, lift_form r ys v h.1)
