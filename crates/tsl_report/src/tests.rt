@@ -1,10 +1,10 @@
 //! The text of each form of formula.
 
-ghost use Rattle.std.specs.Prelude.{◌≡◌, ◌&&◌, List, length, IsTrue, IfOk};
+ghost use Rattle.std.specs.Prelude.{◌≡◌, List, length, IsTrue, IfOk};
 ghost use Rattle.tsl_terms.specs.Name.{Name};
-ghost use Rattle.tsl_terms.specs.FormulaTree.{formula_tree, formula_trees};
-ghost use Rattle.tsl_terms.specs.Atoms.{has_two, members_are_made_of};
-ghost use Rattle.tsl_report.specs.FormulaText.{atom_is_held, can_be_written};
+ghost use Rattle.tsl_terms.specs.declared.operator.ManyOperator.TheVariants.{Conjunction};
+ghost use Rattle.tsl_terms.specs.FormulaTree.{many, formula_tree, formula_trees};
+ghost use Rattle.tsl_report.specs.FormulaText.{can_be_written};
 
 use crate::formula_text;
 use sequence::NoMemory;
@@ -108,7 +108,8 @@ fn connectives_stand_between_their_sides_in_brackets(rt: HostRuntime) -> Result<
 }
 
 fn three(alloc: Global) -> Result<FormulaList, NoMemory>
-    ensures { (names : List Name) → IfOk result (λ fs. IsTrue (has_two (formula_trees fs) && members_are_made_of (atom_is_held names) (formula_trees fs))) }
+    ensures { (names : List Name) →
+        IfOk result (λ fs. IsTrue (can_be_written names (many Conjunction (formula_trees fs)))) }
 {
     let last = FormulaList::More(yes(alloc)?, Box::new(alloc, FormulaList::Empty)?);
     let two = FormulaList::More(no(alloc)?, Box::new(alloc, last)?);
