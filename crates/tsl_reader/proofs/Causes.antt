@@ -1,12 +1,11 @@
 -- The faults of a text, by the tokens where they stand, and that each cause leaves no specification.
-use Rattle.std.proofs.Common.{◌≡◌, ℕ, zero, suc, ◌-◌, ◌<◌, ◌≤◌, List, [], ◌∷◌, ◌++◌, length, refl, ap, sym, ◌∙◌, subst, ⊎_elim, inl, inr, length-append, append_assoc, arith}
+use Rattle.std.proofs.Common.{◌≡◌, ℕ, zero, suc, ◌-◌, ◌<◌, ◌≤◌, List, [], ◌∷◌, ◌++◌, length, refl, ap, sym, ◌∙◌, subst, inl, inr, length-append, arith}
 use Rattle.std.proofs.lemmas.List.{map-append, append-nil}
 use Rattle.std.proofs.lemmas.Option.{slice_get_past}
-use Rattle.std.specs.Prelude.{Option, Some, None, Ok, Err, slice_get}
+use Rattle.std.specs.Prelude.{Some, None, Ok, Err, slice_get}
 use Rattle.sequence.proofs.Options.{one_value}
 use Rattle.tsl_text.specs.declared.Token.{Token}
 use Rattle.tsl_text.specs.declared.TextError.{TextError}
-use Rattle.tsl_text.specs.declared.TextError.TheVariants.{Byte, OpenComment}
 use Rattle.tsl_text.specs.Division.{AreTokens, IsAnswer}
 use Rattle.tsl_text.proofs.Parts.{one_answer}
 use Rattle.tsl_terms.specs.Name.{Name}

@@ -2,33 +2,48 @@
 use Rattle.std.proofs.Common.{◌≡◌, ℕ, zero, suc, ◌<◌, Bool, true, false, List, [], ◌∷◌, ◌++◌, refl, ap, sym, ◌∙◌, arith}
 use Rattle.std.proofs.lemmas.List.{append-nil}
 use Rattle.std.specs.Prelude.{Option, Some, None, Ok, codes}
-use Rattle.tsl_text.specs.declared.TokenKind.TheVariants.{OpenRound, CloseRound, OpenSquare, CloseSquare, LeftArrow, And, Or, Arrow,
-    BothArrow}
-use Rattle.token_readers.specs.Readers.{Answer, Reader, form_at, map_read, and_then, below, closed_by, after, members}
+use Rattle.tsl_text.specs.declared.TokenKind.TheVariants.{
+  OpenRound,
+  CloseRound,
+  OpenSquare,
+  CloseSquare,
+  LeftArrow,
+  And,
+  Or,
+  Arrow,
+  BothArrow,
+}
+use Rattle.token_readers.specs.Readers.{Reader, form_at, map_read, below, closed_by, after}
 use Rattle.token_readers.specs.Exact.{Grammar, Before, Begins, Exact}
 use Rattle.token_readers.proofs.Runs.{map_same, exact_map, exact_as, before_join, before_map}
-use Rattle.token_readers.proofs.Then.{IsThen, Fits, Any, IsClosed, lift_then, lift_closed, closed_exact, exact_then, map_first, then_left,
-    then_right}
-use Rattle.token_readers.proofs.Terminals.{Turn, AtEnd, by_first, end_wrong, end_gives, end_as, turn_wrong, turn_alone, turn_takes, turn_as,
-    IsAfter}
-use Rattle.token_readers.proofs.Levels.{Below, Up, lift_up, turn_below, IsTail, lift_tail, tail_exact}
+use Rattle.token_readers.proofs.Then.{IsThen, Fits, Any, IsClosed, lift_then, closed_exact, exact_then, map_first, then_left, then_right}
+use Rattle.token_readers.proofs.Terminals.{Turn, by_first, end_wrong, end_as, turn_wrong, turn_alone, turn_takes, turn_as, IsAfter}
+use Rattle.token_readers.proofs.Levels.{Below, Up, turn_below, IsTail, lift_tail, tail_exact}
 use Rattle.token_readers.proofs.Lists.{AreAll, none, some, Member, marked_member, members_exact}
-use Rattle.tsl_reader.specs.declared.syntax.Word.TheVariants.{True, False, X, F, G, U, W, R}
+use Rattle.tsl_reader.specs.declared.syntax.Word.TheVariants.{True, False, U, W, R}
 use Rattle.tsl_terms.specs.declared.operator.UnaryOperator.{UnaryOperator}
 use Rattle.tsl_terms.specs.declared.operator.BinaryOperator.{BinaryOperator}
 use Rattle.tsl_terms.specs.declared.operator.BinaryOperator.TheVariants.{Implication, Equivalence}
-use Rattle.tsl_reader.specs.Syntax.{Terminal, free, word, mark, TermSyntax, alone, terms_of, FormulaSyntax, truth, falsehood, bare, tested,
-    updated, under, between, all_of, any_of}
-use Rattle.tsl_reader.specs.Grammar.{unary_of, temporal_of, IsTerm, signal, in_brackets, IsFormula, temporal, chain as chained, IsIff,
-    no_iff, iff, IsImp, no_imp, imp, IsOr, disjunction, AreDisjuncts, no_disjunct, more_disjuncts, IsAnd, conjunction, AreConjuncts,
-    no_conjunct, more_conjuncts, IsPrefix, prefix, atom, IsAtom, true_atom, false_atom, brackets_atom, update, bare_name, no_argument, test}
-use Rattle.tsl_reader.specs.Reading.{is_close_round, is_close_square, Level, bracketed_formula, atom_named, term_with, update_with,
-    atom_with, after_name, unary_in, prefix_from, prefix_with, conjunct, and_after, and_with, disjunct, or_after_and, or_after,
-    imp_after_or, imp_after, imp_with, iff_after_imp, iff_after, iff_with, temporal_in, formula_from, formula_after, formula_with, above,
-    lower}
-use Rattle.tsl_reader.proofs.Lift.{lift_formula, lift_iff, lift_imp, lift_or, lift_and, lift_prefix, lift_conjuncts, lift_disjuncts}
-use Rattle.tsl_reader.proofs.ExactTerms.{tie, Below_tie, TermExact, lift_terms, round_loose, closed_round, round_closed, a, AreAfterName,
-    nothing, no_arguments, some_arguments, after_name_exact, term_exact}
+use Rattle.tsl_reader.specs.Syntax.{Terminal, free, word, mark, TermSyntax, alone, FormulaSyntax, truth, falsehood, bare, updated, under, between, all_of, any_of}
+use Rattle.tsl_reader.specs.Grammar.{unary_of, temporal_of, IsTerm, signal, IsFormula, temporal, chain as chained, IsIff, no_iff, iff, IsImp, no_imp, imp, IsOr, disjunction, AreDisjuncts, no_disjunct, more_disjuncts, IsAnd, conjunction, AreConjuncts, no_conjunct, more_conjuncts, IsPrefix, prefix, atom, IsAtom, true_atom, false_atom, brackets_atom, update, bare_name, no_argument, test}
+use Rattle.tsl_reader.specs.Reading.{is_close_round, is_close_square, Level, bracketed_formula, atom_named, term_with, update_with, atom_with, after_name, prefix_from, prefix_with, conjunct, and_after, and_with, disjunct, or_after_and, or_after, imp_after_or, imp_after, imp_with, iff_after_imp, iff_after, iff_with, formula_from, formula_after, formula_with, above, lower}
+use Rattle.tsl_reader.proofs.Lift.{lift_formula, lift_imp, lift_and, lift_prefix, lift_conjuncts, lift_disjuncts}
+use Rattle.tsl_reader.proofs.ExactTerms.{
+  tie,
+  Below_tie,
+  TermExact,
+  lift_terms,
+  round_loose,
+  closed_round,
+  round_closed,
+  a,
+  AreAfterName,
+  nothing,
+  no_arguments,
+  some_arguments,
+  after_name_exact,
+  term_exact,
+}
 
 -- what holds of each level's readers
 pub record LevelExact (room : ℕ) (l : Level) : Type 0 where
@@ -107,9 +122,19 @@ an_arrowed : (r : ℕ) (x : List ℕ) → Begins (IsArrowed x r) []
 an_arrowed r x = record {
   ending = mark LeftArrow ∷ a ∷ mark CloseSquare ∷ [];
   value = updated x (alone (codes "a"));
-  derives = (alone (codes "a"),
-      record { value = alone (codes "a"); front = a ∷ []; tail = mark CloseSquare ∷ []; split = refl; first = signal (codes "a"); second =
-      (mark CloseSquare, refl, refl, refl) }, refl);
+  derives = (
+    alone (codes "a"),
+    record {
+      value = alone (codes "a");
+      front = a ∷ [];
+      tail = mark CloseSquare ∷ [];
+      split = refl;
+      first = signal (codes "a");
+      second =
+          (mark CloseSquare, refl, refl, refl);
+    },
+    refl,
+  );
 }
 
 assigned_exact : (room : ℕ) (low : Option Level) → Below TermExact room low → (x : List ℕ) → Exact (IsArrowed x) Any room (assigned low x)
@@ -118,7 +143,7 @@ assigned_exact room low b x = by_first (end_wrong refl (an_arrowed room x) (λ r
   turn : (y : Terminal) → Turn (IsArrowed x) Any room (assigned low x) y
   turn (mark LeftArrow) =
       turn_takes (updated x) (closed_by is_close_square (term_with low)) (λ rest. refl) (λ y h. h) (λ r ys t h. (t, h, refl))
-          (λ r ys f h. h)
+      (λ r ys f h. h)
       (closed_exact is_close_square (mark CloseSquare) refl square_loose lift_terms (term_exact room low b))
   turn _ = turn_wrong (λ rest. refl) (an_arrowed room x) (λ r ys f h. h)
 
@@ -134,13 +159,16 @@ unfolding update_with
 update_exact room low b = by_first (end_wrong refl an_update (λ r v h. h)) turn where
   an_update : Begins (IsUpdate room) []
   an_update = let an = an_arrowed room (codes "a") in record { ending = a ∷ an.ending; value = an.value; derives = an.derives }
+
   to : (x : List ℕ) (r : ℕ) (ys : List Terminal) (f : FormulaSyntax) → IsArrowed x r ys f → IsUpdate r (free x ∷ ys) f
   to x r (mark LeftArrow ∷ ys) f h = h
   to x r _ f h = absurd h
+
   from : (x : List ℕ) (r : ℕ) (ys : List Terminal) (f : FormulaSyntax) → IsUpdate r (free x ∷ ys) f →
       (g : FormulaSyntax) × IsArrowed x r ys g × (f ≡ g)
   from x r (mark LeftArrow ∷ ys) f h = (f, h, refl)
   from x r _ f h = absurd h
+
   turn : (y : Terminal) → Turn IsUpdate Any room (update_with low) y
   turn (free x) = turn_takes (λ f. f) (assigned low x) (update_is low x) (λ y h. h) (to x) (from x) (assigned_exact room low b x)
   turn _ = turn_wrong (λ rest. refl) an_update (λ r ys f h. h)
@@ -159,9 +187,19 @@ atom_case : {r : ℕ} {xs : List Terminal} {f : FormulaSyntax} → IsAtom r xs f
 atom_case true_atom = (refl, refl)
 atom_case false_atom = (refl, refl)
 atom_case (brackets_atom {room = r} {xs = xs} {a = f} h) = round_closed IsFormula r xs f h
-atom_case (update {xs = xs} {t = t} x h) =
-    (t, record { value = t; front = xs; tail = mark CloseSquare ∷ []; split = refl; first = h; second =
-        (mark CloseSquare, refl, refl, refl) }, refl)
+atom_case (update {xs = xs} {t = t} x h) = (
+  t,
+  record {
+    value = t;
+    front = xs;
+    tail = mark CloseSquare ∷ [];
+    split = refl;
+    first = h;
+    second =
+        (mark CloseSquare, refl, refl, refl);
+  },
+  refl,
+)
 atom_case (bare_name x) = (None, nothing, refl)
 atom_case (no_argument p) = (Some [], no_arguments, refl)
 atom_case (test {t = t} {ts = ts} p h) = (Some (t ∷ ts), some_arguments h, refl)
@@ -177,7 +215,7 @@ atom_of_update r (free x ∷ mark LeftArrow ∷ ys) f h =
     let closer = h.1.second in
     let inner : IsTerm r h.1.front h.0 = rw closer.3 h.1.first in
     let split : ys ≡ h.1.front ++ mark CloseSquare ∷ [] = h.1.split
-        ∙ ap (λ zs. h.1.front ++ zs) (closer.1 ∙ ap (λ c. c ∷ []) (is_square closer.0 closer.2)) in
+    ∙ ap (λ zs. h.1.front ++ zs) (closer.1 ∙ ap (λ c. c ∷ []) (is_square closer.0 closer.2)) in
     rw (split, h.2) (update x inner)
 atom_of_update r _ f h = absurd h
 
@@ -197,26 +235,32 @@ atom_exact : (room : ℕ) (low : Option Level) → Below LevelExact room low →
 unfolding atom_with
 atom_exact room low b =
     exact_as case_atom (λ r xs f h. atom_case h) (λ x h. h) (by_first (end_wrong refl some_atom (λ r f h. h)) turn) where
-  some_atom : Begins (AtomCase room) []
-  some_atom = record { ending = a ∷ []; value = bare (codes "a"); derives = (None, nothing, refl) }
-  low_formula : Begins (IsClosed is_close_round IsFormula (suc room)) []
-  low_formula = record { ending = a ∷ mark CloseRound ∷ []; value = bare (codes "a"); derives =
-      round_closed IsFormula (suc room) (a ∷ []) (bare (codes "a")) (a_formula (suc room)) }
-  turn : (x : Terminal) → Turn AtomCase (Below_tie 6) room (atom_with low) x
-  turn (word True) = turn_alone truth (λ rest. refl) (λ r. (refl, refl)) (λ r ys f h. h)
-  turn (word False) = turn_alone falsehood (λ rest. refl) (λ r. (refl, refl)) (λ r ys f h. h)
-  turn (mark OpenRound) =
-      turn_below {Holds = LevelExact} (λ f. f) low bracketed_formula brackets_below b
+      some_atom : Begins (AtomCase room) []
+      some_atom = record { ending = a ∷ []; value = bare (codes "a"); derives = (None, nothing, refl) }
+
+      low_formula : Begins (IsClosed is_close_round IsFormula (suc room)) []
+      low_formula = record {
+        ending = a ∷ mark CloseRound ∷ [];
+        value = bare (codes "a");
+        derives =
+            round_closed IsFormula (suc room) (a ∷ []) (bare (codes "a")) (a_formula (suc room));
+      }
+
+      turn : (x : Terminal) → Turn AtomCase (Below_tie 6) room (atom_with low) x
+      turn (word True) = turn_alone truth (λ rest. refl) (λ r. (refl, refl)) (λ r ys f h. h)
+      turn (word False) = turn_alone falsehood (λ rest. refl) (λ r. (refl, refl)) (λ r ys f h. h)
+      turn (mark OpenRound) =
+          turn_below {Holds = LevelExact} (λ f. f) low bracketed_formula brackets_below b
           (λ rest. sym (map_same (below low bracketed_formula (mark OpenRound ∷ rest)))) (λ y h. tt)
-      some_atom low_formula (λ r ys f h. h) (λ r ys f h. (f, h, refl))
-  turn (mark OpenSquare) =
-      turn_takes (λ f. f) (update_with low) (λ rest. sym (map_same (update_with low rest))) (λ y h. tt) (λ r ys f h. h)
+          some_atom low_formula (λ r ys f h. h) (λ r ys f h. (f, h, refl))
+      turn (mark OpenSquare) =
+          turn_takes (λ f. f) (update_with low) (λ rest. sym (map_same (update_with low rest))) (λ y h. tt) (λ r ys f h. h)
           (λ r ys f h. (f, h, refl))
-      (update_exact room low (terms_below room low b))
-  turn (free p) =
-      turn_takes (atom_named p) (after_name low) (λ rest. refl) (λ y h. h) (λ r ys o h. (o, h, refl)) (λ r ys f h. h)
+          (update_exact room low (terms_below room low b))
+      turn (free p) =
+          turn_takes (atom_named p) (after_name low) (λ rest. refl) (λ y h. h) (λ r ys o h. (o, h, refl)) (λ r ys f h. h)
           (after_name_exact room low (terms_below room low b))
-  turn _ = turn_wrong (λ rest. refl) some_atom (λ r ys f h. h)
+      turn _ = turn_wrong (λ rest. refl) some_atom (λ r ys f h. h)
 
 -- ---- prefixes
 
@@ -255,24 +299,27 @@ unfolding prefix_with prefix_from atom_with
 prefix_exact room low b =
     exact_as case_prefix (λ r xs f h. prefix_case h) (λ x h. h)
     (by_first (end_wrong wrong_end some_prefix (λ r f h. h)) (λ x. by x (unary_of x) refl)) where
-  some_prefix : Begins (PrefixCase room) []
-  some_prefix = record { ending = a ∷ []; value = bare (codes "a"); derives = bare_name (codes "a") }
-  wrong_end : prefix_with low [] ≡ form_at []
-  wrong_end = refl
-  as_from : (x : Terminal) (found : Option UnaryOperator) → unary_of x ≡ found → (rest : List Terminal) →
-      prefix_with low (x ∷ rest) ≡ prefix_from low found (x ∷ rest)
-  as_from x found e rest = ap (λ o. prefix_from low o (x ∷ rest)) e
-  by : (x : Terminal) (found : Option UnaryOperator) → unary_of x ≡ found → Turn PrefixCase (Below_tie 6) room (prefix_with low) x
-  by x None e =
-      turn_as (λ f. f) (atom_with low) (λ rest. as_from x None e rest
+      some_prefix : Begins (PrefixCase room) []
+      some_prefix = record { ending = a ∷ []; value = bare (codes "a"); derives = bare_name (codes "a") }
+
+      wrong_end : prefix_with low [] ≡ form_at []
+      wrong_end = refl
+
+      as_from : (x : Terminal) (found : Option UnaryOperator) → unary_of x ≡ found → (rest : List Terminal) →
+          prefix_with low (x ∷ rest) ≡ prefix_from low found (x ∷ rest)
+      as_from x found e rest = ap (λ o. prefix_from low o (x ∷ rest)) e
+
+      by : (x : Terminal) (found : Option UnaryOperator) → unary_of x ≡ found → Turn PrefixCase (Below_tie 6) room (prefix_with low) x
+      by x None e =
+          turn_as (λ f. f) (atom_with low) (λ rest. as_from x None e rest
           ∙ sym (map_same (atom_with low (x ∷ rest)))) (λ y h. h) (λ r ys f h. prefix_of_atom h)
-      (λ r ys f h. (f, is_atom r ys f h, refl)) (atom_exact room low b) where
-    is_atom : (r : ℕ) (ys : List Terminal) (f : FormulaSyntax) → PrefixFrom (unary_of x) x r ys f → IsAtom r (x ∷ ys) f
-    is_atom r ys f h = rw e at h
-  by x (Some op) e =
-      turn_below {Holds = LevelExact} (under op) low (λ l. l.prefix) (λ k l h. h.prefix) b (as_from x (Some op) e) (λ y h. h) some_prefix
+          (λ r ys f h. (f, is_atom r ys f h, refl)) (atom_exact room low b) where
+            is_atom : (r : ℕ) (ys : List Terminal) (f : FormulaSyntax) → PrefixFrom (unary_of x) x r ys f → IsAtom r (x ∷ ys) f
+            is_atom r ys f h = rw e at h
+      by x (Some op) e =
+          turn_below {Holds = LevelExact} (under op) low (λ l. l.prefix) (λ k l h. h.prefix) b (as_from x (Some op) e) (λ y h. h) some_prefix
           (a_prefix (suc room))
-      (λ r ys f h. rw e (f, h, refl)) (λ r ys f h. rw e at h)
+          (λ r ys f h. rw e (f, h, refl)) (λ r ys f h. rw e at h)
 
 -- ---- chains of operands
 
@@ -297,19 +344,22 @@ pub conjunct_member : (room : ℕ) (low : Option Level) → Below LevelExact roo
 unfolding conjunct
 conjunct_member room low b =
     marked_member is_and (mark And) refl (a_prefix room) lift_prefixes refl none_here some_here follows stops (λ x h. omega (arith, h))
-        (prefix_exact room low b) where
-  none_here : (x : Terminal) (rest : List Terminal) → is_and x ≡ false → conjunct low (x ∷ rest) ≡ None
-  none_here (mark And) rest e = cc
-  none_here _ rest e = refl
-  some_here : (x : Terminal) (rest : List Terminal) → is_and x ≡ true → conjunct low (x ∷ rest) ≡ Some (prefix_with low rest)
-  some_here (mark And) rest e = refl
-  some_here _ rest e = cc
-  follows : (x : Terminal) → is_and x ≡ true → tie x < 6
-  follows (mark And) e = omega arith
-  follows _ e = cc
-  stops : (x : Terminal) → tie x < 5 → is_and x ≡ false
-  stops (mark And) e = absurd (omega (arith, e))
-  stops _ e = refl
+    (prefix_exact room low b) where
+      none_here : (x : Terminal) (rest : List Terminal) → is_and x ≡ false → conjunct low (x ∷ rest) ≡ None
+      none_here (mark And) rest e = cc
+      none_here _ rest e = refl
+
+      some_here : (x : Terminal) (rest : List Terminal) → is_and x ≡ true → conjunct low (x ∷ rest) ≡ Some (prefix_with low rest)
+      some_here (mark And) rest e = refl
+      some_here _ rest e = cc
+
+      follows : (x : Terminal) → is_and x ≡ true → tie x < 6
+      follows (mark And) e = omega arith
+      follows _ e = cc
+
+      stops : (x : Terminal) → tie x < 5 → is_and x ≡ false
+      stops (mark And) e = absurd (omega (arith, e))
+      stops _ e = refl
 
 conjuncts_of : (r : ℕ) (xs : List Terminal) (fs : List FormulaSyntax) → AreAll (IsAfter is_and IsPrefix) r xs fs → AreConjuncts r xs fs
 conjuncts_of r xs fs none = no_conjunct
@@ -329,7 +379,7 @@ and_after_exact : (room : ℕ) (low : Option Level) → Below LevelExact room lo
 unfolding and_after
 and_after_exact room low b a =
     exact_map (all_of a) (λ r xs fs h. (fs, h, refl)) (λ r xs f h. h)
-        (exact_as conjuncts_of (λ r xs fs h. all_conjuncts h) (λ x h. h) (members_exact (conjunct_member room low b)))
+    (exact_as conjuncts_of (λ r xs fs h. all_conjuncts h) (λ x h. h) (members_exact (conjunct_member room low b)))
 
 -- a tail that begins with a terminal which ties so strongly, before one that ties less
 follow : (n : ℕ) (xs rest : List Terminal) → Before (λ x. tie x ≡ n) xs → Before (Below_tie n) rest →
@@ -362,26 +412,29 @@ unfolding and_with
 and_exact room low b =
     exact_as and_of and_parts (λ x h. h)
     (exact_then and_tails (λ r a xs f h rest k. follow 5 xs rest (and_tail_ties a r xs f h) k) (prefix_exact room low b)
-        (and_after_exact room low b))
+    (and_after_exact room low b))
 
 pub disjunct_member : (room : ℕ) (low : Option Level) → Below LevelExact room low →
     Member (IsAfter is_or IsAnd) (Below_tie 5) (Below_tie 4) room (disjunct low) is_or (after is_or (and_with low))
 unfolding disjunct
 disjunct_member room low b =
     marked_member is_or (mark Or) refl (record { ending = a ∷ []; value = bare (codes "a"); derives = an_and room })
-        (λ r xs f h. lift_and (omega arith) h) refl none_here some_here follows stops (λ x h. omega (arith, h)) (and_exact room low b) where
-  none_here : (x : Terminal) (rest : List Terminal) → is_or x ≡ false → disjunct low (x ∷ rest) ≡ None
-  none_here (mark Or) rest e = cc
-  none_here _ rest e = refl
-  some_here : (x : Terminal) (rest : List Terminal) → is_or x ≡ true → disjunct low (x ∷ rest) ≡ Some (and_with low rest)
-  some_here (mark Or) rest e = refl
-  some_here _ rest e = cc
-  follows : (x : Terminal) → is_or x ≡ true → tie x < 5
-  follows (mark Or) e = omega arith
-  follows _ e = cc
-  stops : (x : Terminal) → tie x < 4 → is_or x ≡ false
-  stops (mark Or) e = absurd (omega (arith, e))
-  stops _ e = refl
+    (λ r xs f h. lift_and (omega arith) h) refl none_here some_here follows stops (λ x h. omega (arith, h)) (and_exact room low b) where
+      none_here : (x : Terminal) (rest : List Terminal) → is_or x ≡ false → disjunct low (x ∷ rest) ≡ None
+      none_here (mark Or) rest e = cc
+      none_here _ rest e = refl
+
+      some_here : (x : Terminal) (rest : List Terminal) → is_or x ≡ true → disjunct low (x ∷ rest) ≡ Some (and_with low rest)
+      some_here (mark Or) rest e = refl
+      some_here _ rest e = cc
+
+      follows : (x : Terminal) → is_or x ≡ true → tie x < 5
+      follows (mark Or) e = omega arith
+      follows _ e = cc
+
+      stops : (x : Terminal) → tie x < 4 → is_or x ≡ false
+      stops (mark Or) e = absurd (omega (arith, e))
+      stops _ e = refl
 
 disjuncts_of : (r : ℕ) (xs : List Terminal) (fs : List FormulaSyntax) → AreAll (IsAfter is_or IsAnd) r xs fs → AreDisjuncts r xs fs
 disjuncts_of r xs fs none = no_disjunct
@@ -401,7 +454,7 @@ or_tail_exact : (room : ℕ) (low : Option Level) → Below LevelExact room low 
 unfolding or_after_and
 or_tail_exact room low b a =
     exact_map (any_of a) (λ r xs fs h. (fs, h, refl)) (λ r xs f h. h)
-        (exact_as disjuncts_of (λ r xs fs h. all_disjuncts h) (λ x h. h) (members_exact (disjunct_member room low b)))
+    (exact_as disjuncts_of (λ r xs fs h. all_disjuncts h) (λ x h. h) (members_exact (disjunct_member room low b)))
 
 or_tail_ties : (a : FormulaSyntax) (r : ℕ) (xs : List Terminal) (f : FormulaSyntax) → OrTail a r xs f → Before (λ x. tie x ≡ 4) xs
 or_tail_ties a r xs f h = by h.1 where
@@ -448,34 +501,38 @@ imp_tail_exact : (room : ℕ) (low : Option Level) → Below LevelExact room low
 unfolding imp_after_or
 imp_tail_exact room low b a =
     tail_exact is_arrow (between Implication a) {Holds =
-        LevelExact} a low (λ l. l.imp) (λ k l h. h.imp) b refl goes stays stops (λ x h. h) (an_imp (suc room)) where
-  goes : (x : Terminal) (rest : List Terminal) → is_arrow x ≡ true →
-      imp_after_or low a (x ∷ rest) ≡ map_read (between Implication a) (below low (λ l. l.imp) (x ∷ rest))
-  goes (mark Arrow) rest e = refl
-  goes _ rest e = cc
-  stays : (x : Terminal) (rest : List Terminal) → is_arrow x ≡ false → imp_after_or low a (x ∷ rest) ≡ Ok (a, x ∷ rest)
-  stays (mark Arrow) rest e = cc
-  stays _ rest e = refl
-  stops : (x : Terminal) → tie x < 3 → is_arrow x ≡ false
-  stops (mark Arrow) e = absurd (omega (arith, e))
-  stops _ e = refl
+    LevelExact} a low (λ l. l.imp) (λ k l h. h.imp) b refl goes stays stops (λ x h. h) (an_imp (suc room)) where
+      goes : (x : Terminal) (rest : List Terminal) → is_arrow x ≡ true →
+          imp_after_or low a (x ∷ rest) ≡ map_read (between Implication a) (below low (λ l. l.imp) (x ∷ rest))
+      goes (mark Arrow) rest e = refl
+      goes _ rest e = cc
+
+      stays : (x : Terminal) (rest : List Terminal) → is_arrow x ≡ false → imp_after_or low a (x ∷ rest) ≡ Ok (a, x ∷ rest)
+      stays (mark Arrow) rest e = cc
+      stays _ rest e = refl
+
+      stops : (x : Terminal) → tie x < 3 → is_arrow x ≡ false
+      stops (mark Arrow) e = absurd (omega (arith, e))
+      stops _ e = refl
 
 iff_tail_exact : (room : ℕ) (low : Option Level) → Below LevelExact room low → (a : FormulaSyntax) →
     Exact (IffTail a) (Below_tie 2) room (iff_after_imp low a)
 unfolding iff_after_imp
 iff_tail_exact room low b a =
     tail_exact is_both (between Equivalence a) {Holds =
-        LevelExact} a low (λ l. l.iff) (λ k l h. h.iff) b refl goes stays stops (λ x h. h) (an_iff (suc room)) where
-  goes : (x : Terminal) (rest : List Terminal) → is_both x ≡ true →
-      iff_after_imp low a (x ∷ rest) ≡ map_read (between Equivalence a) (below low (λ l. l.iff) (x ∷ rest))
-  goes (mark BothArrow) rest e = refl
-  goes _ rest e = cc
-  stays : (x : Terminal) (rest : List Terminal) → is_both x ≡ false → iff_after_imp low a (x ∷ rest) ≡ Ok (a, x ∷ rest)
-  stays (mark BothArrow) rest e = cc
-  stays _ rest e = refl
-  stops : (x : Terminal) → tie x < 2 → is_both x ≡ false
-  stops (mark BothArrow) e = absurd (omega (arith, e))
-  stops _ e = refl
+    LevelExact} a low (λ l. l.iff) (λ k l h. h.iff) b refl goes stays stops (λ x h. h) (an_iff (suc room)) where
+      goes : (x : Terminal) (rest : List Terminal) → is_both x ≡ true →
+          iff_after_imp low a (x ∷ rest) ≡ map_read (between Equivalence a) (below low (λ l. l.iff) (x ∷ rest))
+      goes (mark BothArrow) rest e = refl
+      goes _ rest e = cc
+
+      stays : (x : Terminal) (rest : List Terminal) → is_both x ≡ false → iff_after_imp low a (x ∷ rest) ≡ Ok (a, x ∷ rest)
+      stays (mark BothArrow) rest e = cc
+      stays _ rest e = refl
+
+      stops : (x : Terminal) → tie x < 2 → is_both x ≡ false
+      stops (mark BothArrow) e = absurd (omega (arith, e))
+      stops _ e = refl
 
 tail_ties : (is : Terminal → Bool) (make : FormulaSyntax → FormulaSyntax) (Low : Grammar Terminal FormulaSyntax) (n : ℕ) →
     ((x : Terminal) → is x ≡ true → tie x ≡ n) →
@@ -586,7 +643,7 @@ is_infix n more few xs h = before_map (λ x. tie x ≡ n) Infix (λ x e. (omega 
 or_after_infix : (a : FormulaSyntax) (r : ℕ) (xs : List Terminal) (f : FormulaSyntax) → OrAfter a r xs f → Before Infix xs
 or_after_infix a r xs f h =
     rw h.split (before_join Infix h.front h.tail
-        (is_infix 5 (omega arith) (omega arith) h.front (and_tail_ties a r h.front h.value h.first))
+    (is_infix 5 (omega arith) (omega arith) h.front (and_tail_ties a r h.front h.value h.first))
     (is_infix 4 (omega arith) (omega arith) h.tail (or_tail_ties h.value r h.tail f h.second)))
 
 imp_after_infix : (a : FormulaSyntax) (r : ℕ) (xs : List Terminal) (f : FormulaSyntax) → ImpAfter a r xs f → Before Infix xs
@@ -604,7 +661,7 @@ before_prefix : (n : ℕ) → n < 6 → (xs rest : List Terminal) → Before Inf
     Before (Below_tie 6) (xs ++ rest)
 before_prefix n few xs rest h k =
     before_join (Below_tie 6) xs rest (before_map Infix (Below_tie 6) (λ x e. e.1) xs h)
-        (before_map (Below_tie n) (Below_tie 6) (λ x e. omega (arith, e, few)) rest k)
+    (before_map (Below_tie n) (Below_tie 6) (λ x e. omega (arith, e, few)) rest k)
 
 abbrev nothing_more : (a : FormulaSyntax) (r : ℕ) → IffAfter a r [] a
 nothing_more a r = record {
@@ -629,7 +686,7 @@ imp_exact room low b =
     exact_as first_imp imp_first (λ x h. h)
     (exact_then (record { lift = lift_prefixes; default = λ r c. record { ending = []; value = c; derives = (nothing_more c r).first } })
     (λ r c xs f h rest k. before_prefix 3 (omega arith) xs rest (imp_after_infix c r xs f h) k) (prefix_exact room low b)
-        (imp_after_exact room low b))
+    (imp_after_exact room low b))
 
 pub iff_exact : (room : ℕ) (low : Option Level) → Below LevelExact room low → Exact IsIff (Below_tie 2) room (iff_with low)
 unfolding iff_with
@@ -637,7 +694,7 @@ iff_exact room low b =
     exact_as first_iff iff_first (λ x h. h)
     (exact_then (record { lift = lift_prefixes; default = λ r c. record { ending = []; value = c; derives = nothing_more c r } })
     (λ r c xs f h rest k. before_prefix 2 (omega arith) xs rest (iff_after_infix c r xs f h) k) (prefix_exact room low b)
-        (iff_after_exact room low b))
+    (iff_after_exact room low b))
 
 -- ---- whole formulas
 
@@ -679,21 +736,22 @@ formula_after_exact room low b a =
     by_first
     (end_as (λ f. f) (iff_after low a) (sym (map_same (iff_after low a []))) (λ y h. omega (arith, h)) (as_tail a) (λ r f h. (f, h, refl))
     (λ r f h y rest e. as_from y None (loose_not_temporal y e) rest
-        ∙ sym (map_same (iff_after low a (y ∷ rest)))) (iff_after_exact room low b a))
+    ∙ sym (map_same (iff_after low a (y ∷ rest)))) (iff_after_exact room low b a))
     (λ x. by x (temporal_of x) refl) where
-  as_from : (x : Terminal) (found : Option BinaryOperator) → temporal_of x ≡ found → (rest : List Terminal) →
-      formula_after low a (x ∷ rest) ≡ formula_from low found a (x ∷ rest)
-  as_from x found e rest = ap (λ o. formula_from low o a (x ∷ rest)) e
-  by : (x : Terminal) (found : Option BinaryOperator) → temporal_of x ≡ found →
-      Turn (FormulaTail a) (Below_tie 1) room (formula_after low a) x
-  by x None e =
-      turn_as (λ f. f) (iff_after low a) (λ rest. as_from x None e rest
+      as_from : (x : Terminal) (found : Option BinaryOperator) → temporal_of x ≡ found → (rest : List Terminal) →
+          formula_after low a (x ∷ rest) ≡ formula_from low found a (x ∷ rest)
+      as_from x found e rest = ap (λ o. formula_from low o a (x ∷ rest)) e
+
+      by : (x : Terminal) (found : Option BinaryOperator) → temporal_of x ≡ found →
+          Turn (FormulaTail a) (Below_tie 1) room (formula_after low a) x
+      by x None e =
+          turn_as (λ f. f) (iff_after low a) (λ rest. as_from x None e rest
           ∙ sym (map_same (iff_after low a (x ∷ rest)))) (λ y h. omega (arith, h)) (as_tail a)
-      (λ r ys f h. (f, is_after r ys f h, refl)) (iff_after_exact room low b a) where
-    is_after : (r : ℕ) (ys : List Terminal) (f : FormulaSyntax) → FormulaFrom (temporal_of x) a x r ys f → IffAfter a r (x ∷ ys) f
-    is_after r ys f h = rw e at h
-  by x (Some op) e =
-      turn_takes (between op a) (prefix_with low) (as_from x (Some op) e) (λ y h. omega (arith, h)) (λ r ys f h. rw e (f, h, refl))
+          (λ r ys f h. (f, is_after r ys f h, refl)) (iff_after_exact room low b a) where
+            is_after : (r : ℕ) (ys : List Terminal) (f : FormulaSyntax) → FormulaFrom (temporal_of x) a x r ys f → IffAfter a r (x ∷ ys) f
+            is_after r ys f h = rw e at h
+      by x (Some op) e =
+          turn_takes (between op a) (prefix_with low) (as_from x (Some op) e) (λ y h. omega (arith, h)) (λ r ys f h. rw e (f, h, refl))
           (λ r ys f h. rw e at h) (prefix_exact room low b)
 
 pub formula_parts : (r : ℕ) (xs : List Terminal) (f : FormulaSyntax) → IsFormula r xs f → IsThen IsPrefix FormulaTail r xs f
@@ -701,18 +759,27 @@ formula_parts r xs f (temporal {xs = front} {ys = ys} {a = a} {b = c} op t is h 
     record { value = a; front = front; tail = t ∷ ys; split = refl; first = h; second = rw is (c, k, refl) }
 formula_parts r xs f (chained h) =
     let parts : IsThen IsPrefix IffAfter r xs f = iff_first r xs f h in
-    record { value = parts.value; front = parts.front; tail = parts.tail; split = parts.split; first = parts.first; second =
-        as_tail parts.value r parts.tail f parts.second }
+    record {
+      value = parts.value;
+      front = parts.front;
+      tail = parts.tail;
+      split = parts.split;
+      first = parts.first;
+      second =
+          as_tail parts.value r parts.tail f parts.second;
+    }
 
 formula_of : (r : ℕ) (xs : List Terminal) (f : FormulaSyntax) → IsThen IsPrefix FormulaTail r xs f → IsFormula r xs f
 formula_of r xs f h = by h.tail h.second h.split where
   whole : (tail : List Terminal) → IffAfter h.value r tail f → xs ≡ h.front ++ tail → IsFormula r xs f
   whole tail second split =
       chained (first_iff r xs f (record { value = h.value; front = h.front; tail = tail; split = split; first = h.first; second = second }))
+
   by_operator : (x : Terminal) (ys : List Terminal) (found : Option BinaryOperator) → temporal_of x ≡ found →
       FormulaFrom found h.value x r ys f → xs ≡ h.front ++ x ∷ ys → IsFormula r xs f
   by_operator x ys None e second split = whole (x ∷ ys) second split
   by_operator x ys (Some op) e second split = rw (split, second.2) (temporal op x e h.first second.1)
+
   by : (tail : List Terminal) → FormulaTail h.value r tail f → xs ≡ h.front ++ tail → IsFormula r xs f
   by [] second split = whole [] second split
   by (x ∷ ys) second split = by_operator x ys (temporal_of x) refl second split
@@ -721,17 +788,21 @@ pub formula_exact : (room : ℕ) (low : Option Level) → Below LevelExact room 
 unfolding formula_with
 formula_exact room low b =
     exact_as formula_of formula_parts (λ x h. h)
-    (exact_then (record { lift = lift_prefixes; default =
-        λ r c. record { ending = []; value = c; derives = nothing_more c r } }) follow_tail (prefix_exact room low b)
+    (exact_then (record {
+      lift = lift_prefixes;
+      default =
+          λ r c. record { ending = []; value = c; derives = nothing_more c r };
+    }) follow_tail (prefix_exact room low b)
     (formula_after_exact room low b)) where
-  by_found : (r : ℕ) (c : FormulaSyntax) (x : Terminal) (ys : List Terminal) (f : FormulaSyntax) (found : Option BinaryOperator) →
-      temporal_of x ≡ found → FormulaFrom found c x r ys f → tie x < 6
-  by_found r c x ys f None e h = (iff_after_infix c r (x ∷ ys) f h).1
-  by_found r c x ys f (Some op) e h = temporal_ties x op e
-  follow_tail : (r : ℕ) (c : FormulaSyntax) (xs : List Terminal) (f : FormulaSyntax) → FormulaTail c r xs f → (rest : List Terminal) →
-      Before (Below_tie 1) rest → Before (Below_tie 6) (xs ++ rest)
-  follow_tail r c [] f h rest k = before_map (Below_tie 1) (Below_tie 6) (λ x e. omega (arith, e)) rest k
-  follow_tail r c (x ∷ ys) f h rest k = by_found r c x ys f (temporal_of x) refl h
+      by_found : (r : ℕ) (c : FormulaSyntax) (x : Terminal) (ys : List Terminal) (f : FormulaSyntax) (found : Option BinaryOperator) →
+          temporal_of x ≡ found → FormulaFrom found c x r ys f → tie x < 6
+      by_found r c x ys f None e h = (iff_after_infix c r (x ∷ ys) f h).1
+      by_found r c x ys f (Some op) e h = temporal_ties x op e
+
+      follow_tail : (r : ℕ) (c : FormulaSyntax) (xs : List Terminal) (f : FormulaSyntax) → FormulaTail c r xs f → (rest : List Terminal) →
+          Before (Below_tie 1) rest → Before (Below_tie 6) (xs ++ rest)
+      follow_tail r c [] f h rest k = before_map (Below_tie 1) (Below_tie 6) (λ x e. omega (arith, e)) rest k
+      follow_tail r c (x ∷ ys) f h rest k = by_found r c x ys f (temporal_of x) refl h
 
 -- ---- all levels
 

@@ -1,29 +1,71 @@
 -- Sections and whole texts are read exactly.
-use Rattle.std.proofs.Common.{◌≡◌, ℕ, suc, ◌<◌, ◌≤◌, ◌+◌, Bool, true, false, List, [], ◌∷◌, ◌++◌, length, refl, ap, sym, ◌∙◌, append_assoc,
-    arith}
+use Rattle.std.proofs.Common.{◌≡◌, ℕ, suc, ◌<◌, ◌+◌, Bool, true, false, List, [], ◌∷◌, ◌++◌, refl, ap, sym, ◌∙◌, append_assoc, arith}
 use Rattle.std.proofs.lemmas.List.{append-nil}
-use Rattle.std.specs.Prelude.{Option, Some, None, Ok, Err, codes}
+use Rattle.std.specs.Prelude.{Some, None, Ok}
 use Rattle.tsl_text.specs.declared.TokenKind.TheVariants.{OpenBrace, CloseBrace, Semicolon}
-use Rattle.token_readers.specs.Readers.{Answer, Reader, Fault, form, deep, map_read, closed_by, iterate, members, push, found_or_wrong}
+use Rattle.token_readers.specs.Readers.{map_read, closed_by, push, found_or_wrong}
 use Rattle.token_readers.specs.Exact.{Grammar, Begins, Exact}
 use Rattle.token_readers.proofs.Runs.{map_same, exact_map, exact_as}
-use Rattle.token_readers.proofs.Then.{IsThen, Any, IsClosed, closed_exact, lift_closed}
-use Rattle.token_readers.proofs.Terminals.{Turn, by_first, end_wrong, turn_of, turn_wrong, turn_alone, turn_takes, turn_as, turn_map}
+use Rattle.token_readers.proofs.Then.{Any, IsClosed, closed_exact}
+use Rattle.token_readers.proofs.Terminals.{Turn, by_first, end_wrong, turn_of, turn_wrong, turn_alone, turn_takes, turn_as}
 use Rattle.token_readers.proofs.Iterates.{Shrinks, Steps, stop, more, Stepping, step_shrinks, no_step_left, taken, iterate_exact}
 use Rattle.token_readers.proofs.Whole.{reads_all, one_value}
 use Rattle.token_readers.proofs.Lists.{AreAll, none, some, Member, stepping, members_exact}
 use Rattle.tsl_reader.specs.declared.syntax.Word.TheVariants.{Assume, Guarantee, Always, Initially}
 use Rattle.tsl_reader.specs.declared.syntax.Part.{Part}
 use Rattle.tsl_reader.specs.declared.syntax.Part.TheVariants.{AssumeFirst, AssumeAlways, GuaranteeFirst, GuaranteeAlways}
-use Rattle.tsl_reader.specs.Syntax.{Terminal, free, word, mark, FormulaSyntax, bare, SectionSyntax}
+use Rattle.tsl_reader.specs.Syntax.{Terminal, word, mark, FormulaSyntax, SectionSyntax}
 use Rattle.tsl_terms.specs.declared.operator.UnaryOperator.{UnaryOperator}
-use Rattle.tsl_reader.specs.Grammar.{unary_of, IsAtom, true_atom, false_atom, brackets_atom, update, bare_name, no_argument, test, IsPrefix,
-    prefix, atom, IsFormula, AreItems, nothing, last_item, item as item_of, IsHead, assume, guarantee, initially_assume,
-    initially_guarantee, always_assume, always_guarantee, IsSection, braces, AreSections, no_section, section as section_of}
-use Rattle.tsl_reader.specs.Reading.{is_close_brace, formula_with, lower, Items, open_items, item_last, items_of, item, formulas,
-    section_made, items, side, section_at, section, sections}
+use Rattle.tsl_reader.specs.Grammar.{
+  unary_of,
+  IsAtom,
+  true_atom,
+  false_atom,
+  brackets_atom,
+  update,
+  bare_name,
+  no_argument,
+  test,
+  IsPrefix,
+  prefix,
+  atom,
+  IsFormula,
+  AreItems,
+  nothing,
+  last_item,
+  item as item_of,
+  IsHead,
+  assume,
+  guarantee,
+  initially_assume,
+  initially_guarantee,
+  always_assume,
+  always_guarantee,
+  IsSection,
+  braces,
+  AreSections,
+  no_section,
+  section as section_of,
+}
+use Rattle.tsl_reader.specs.Reading.{
+  is_close_brace,
+  formula_with,
+  lower,
+  Items,
+  open_items,
+  item_last,
+  items_of,
+  item,
+  formulas,
+  section_made,
+  items,
+  side,
+  section_at,
+  section,
+  sections,
+}
 use Rattle.tsl_reader.proofs.Lift.{lift_formula, lift_items, lift_section, lift_sections}
-use Rattle.tsl_reader.proofs.ExactTerms.{tie, Below_tie, a}
+use Rattle.tsl_reader.proofs.ExactTerms.{tie, Below_tie}
 use Rattle.tsl_reader.proofs.ExactFormulas.{formula_parts, formula_exact, below_exact}
 
 -- ---- items
@@ -104,17 +146,20 @@ item_stepping room = record {
   at_end : (s : Items) → item room s [] ≡ None
   at_end (open_items fs) = refl
   at_end (item_last fs) = refl
+
   none_here : (s : Items) (x : Terminal) (rest : List Terminal) → starts s x ≡ false → item room s (x ∷ rest) ≡ None
   none_here (open_items fs) (mark CloseBrace) rest e = refl
   none_here (open_items fs) _ rest e = cc
   none_here (item_last fs) (mark Semicolon) rest e = cc
   none_here (item_last fs) _ rest e = refl
+
   some_here : (s : Items) (x : Terminal) (rest : List Terminal) → starts s x ≡ true →
       item room s (x ∷ rest) ≡ Some (found_or_wrong (item room s (x ∷ rest)) (x ∷ rest))
   some_here (open_items fs) (mark CloseBrace) rest e = cc
   some_here (open_items fs) _ rest e = refl
   some_here (item_last fs) (mark Semicolon) rest e = refl
   some_here (item_last fs) _ rest e = cc
+
   begins : (s : Items) (r : ℕ) (xs : List Terminal) (t : Items) → IsItemStep s r xs t →
       (x : Terminal) × (ys : List Terminal) × (xs ≡ x ∷ ys) × (starts s x ≡ true)
   begins (open_items fs) r xs t h =
@@ -122,27 +167,33 @@ item_stepping room = record {
       (first.0, first.1, first.2, starts_item fs first.0 first.3)
   begins (item_last fs) r (mark Semicolon ∷ ys) t h = (mark Semicolon, ys, refl, refl)
   begins (item_last fs) r _ t h = absurd h
+
   lift : (s : Items) (r : ℕ) (xs : List Terminal) (t : Items) → IsItemStep s r xs t → IsItemStep s (suc (suc r)) xs t
   lift (open_items fs) r xs t h = (h.0, lift_formula (omega arith) h.1, h.2)
   lift (item_last fs) r (mark Semicolon ∷ ys) t h = h
   lift (item_last fs) r _ t h = absurd h
+
   follows : (s : Items) (r : ℕ) (xs : List Terminal) (t : Items) → IsItemStep s r xs t → (x : Terminal) → starts t x ≡ true → Ends s x
   follows (open_items fs) r xs t h x e = semicolon_loose (fs ++ h.0 ∷ []) x (rw h.2 at e)
   follows (item_last fs) r xs t h x e = tt
+
   stops : (s : Items) (x : Terminal) → is_close_brace x ≡ true → starts s x ≡ false
   stops (open_items fs) (mark CloseBrace) e = refl
   stops (item_last fs) (mark CloseBrace) e = refl
   stops s _ e = cc
+
   weaker : (s : Items) (x : Terminal) → is_close_brace x ≡ true → Ends s x
   weaker (open_items fs) x e = brace_loose x e
   weaker (item_last fs) x e = tt
+
   formula : Exact IsFormula (Below_tie 1) room (formula_with (lower room))
   formula = formula_exact room (lower room) (below_exact room)
+
   turn : (s : Items) (x : Terminal) → starts s x ≡ true → Turn (IsItemStep s) (Ends s) room (λ xs. found_or_wrong (item room s xs) xs) x
   turn (open_items fs) (mark CloseBrace) e = cc
   turn (open_items fs) _ e =
       turn_as (λ f. item_last (fs ++ f ∷ [])) (formula_with (lower room)) (λ rest. refl) (λ y h. h) (λ r ys f h. (f, h, refl))
-          (λ r ys t h. h) formula
+      (λ r ys t h. h) formula
   turn (item_last fs) (mark Semicolon) e = turn_alone (open_items fs) (λ rest. refl) (λ r. (refl, refl)) (λ r ys t h. h)
   turn (item_last fs) _ e = cc
 
@@ -196,6 +247,7 @@ unfolding formulas
 formulas_exact room = exact_map items_of to from (iterate_exact (item_stepping room) (open_items [])) where
   to : (r : ℕ) (xs : List Terminal) (s : Items) → Steps IsItemStep r (open_items []) xs s → AreItems r xs (items_of s)
   to r xs s h = let is = decode r (open_items []) xs s h in rw is.2 is.1
+
   from : (r : ℕ) (xs : List Terminal) (fs : List FormulaSyntax) → AreItems r xs fs →
       (s : Items) × Steps IsItemStep r (open_items []) xs s × (fs ≡ items_of s)
   from r xs fs h = let is = encode h [] in (is.0, is.1, sym is.2)
@@ -225,8 +277,19 @@ no_items : (room : ℕ) (part : Part) → Begins (ItemsCase part room) []
 no_items room part = record {
   ending = mark OpenBrace ∷ mark CloseBrace ∷ [];
   value = section_made part [];
-  derives = ([], record { value = []; front = []; tail = mark CloseBrace ∷ []; split = refl; first = nothing; second =
-      (mark CloseBrace, refl, refl, refl) }, refl);
+  derives = (
+    [],
+    record {
+      value = [];
+      front = [];
+      tail = mark CloseBrace ∷ [];
+      split = refl;
+      first = nothing;
+      second =
+          (mark CloseBrace, refl, refl, refl);
+    },
+    refl,
+  );
 }
 
 items_exact : (room : ℕ) (part : Part) → Exact (ItemsCase part) Any room (items room part)
@@ -235,7 +298,7 @@ items_exact room part = by_first (end_wrong refl (no_items room part) (λ r s h.
   turn : (x : Terminal) → Turn (ItemsCase part) Any room (items room part) x
   turn (mark OpenBrace) =
       turn_takes (section_made part) (closed_by is_close_brace (formulas room)) (λ rest. refl) (λ y h. h) (λ r ys fs h. (fs, h, refl))
-          (λ r ys s h. h)
+      (λ r ys s h. h)
       (closed_exact is_close_brace (mark CloseBrace) refl (λ x h. h) (λ r xs fs h. lift_items (omega arith) h) (formulas_exact room))
   turn _ = turn_wrong (λ rest. refl) (no_items room part) (λ r ys s h. h)
 
@@ -244,13 +307,14 @@ unfolding side
 side_exact room assumed guaranteed = by_first (end_wrong refl some_side (λ r s h. h)) turn where
   some_side : Begins (SideCase assumed guaranteed room) []
   some_side = let none = no_items room assumed in record { ending = word Assume ∷ none.ending; value = none.value; derives = none.derives }
+
   turn : (x : Terminal) → Turn (SideCase assumed guaranteed) Any room (side room assumed guaranteed) x
   turn (word Assume) =
       turn_takes (λ s. s) (items room assumed) (λ rest. sym (map_same (items room assumed rest))) (λ y h. h) (λ r ys s h. h)
-          (λ r ys s h. (s, h, refl)) (items_exact room assumed)
+      (λ r ys s h. (s, h, refl)) (items_exact room assumed)
   turn (word Guarantee) =
       turn_takes (λ s. s) (items room guaranteed) (λ rest. sym (map_same (items room guaranteed rest))) (λ y h. h) (λ r ys s h. h)
-          (λ r ys s h. (s, h, refl)) (items_exact room guaranteed)
+      (λ r ys s h. (s, h, refl)) (items_exact room guaranteed)
   turn _ = turn_wrong (λ rest. refl) some_side (λ r ys s h. h)
 
 as_section : (r : ℕ) (xs : List Terminal) (s : SectionSyntax) → SideCase AssumeFirst GuaranteeFirst r xs s → SectionCase r xs s
@@ -265,17 +329,19 @@ section_at_exact room = by_first (end_wrong refl some_section (λ r s h. h)) tur
   some_section : Begins (SectionCase room) []
   some_section = let none = no_items room AssumeFirst in
       record { ending = word Assume ∷ none.ending; value = none.value; derives = none.derives }
+
   after_word : (assumed guaranteed : Part) → (rest : List Terminal) →
       side room assumed guaranteed rest ≡ map_read (λ s. s) (side room assumed guaranteed rest)
   after_word assumed guaranteed rest = sym (map_same (side room assumed guaranteed rest))
+
   turn : (x : Terminal) → Turn SectionCase Any room (section_at room) x
   turn (word Always) =
       turn_takes (λ s. s) (side room AssumeAlways GuaranteeAlways) (after_word AssumeAlways GuaranteeAlways) (λ y h. h) (λ r ys s h. h)
-          (λ r ys s h. (s, h, refl))
+      (λ r ys s h. (s, h, refl))
       (side_exact room AssumeAlways GuaranteeAlways)
   turn (word Initially) =
       turn_takes (λ s. s) (side room AssumeFirst GuaranteeFirst) (after_word AssumeFirst GuaranteeFirst) (λ y h. h) (λ r ys s h. h)
-          (λ r ys s h. (s, h, refl))
+      (λ r ys s h. (s, h, refl))
       (side_exact room AssumeFirst GuaranteeFirst)
   turn _ =
       turn_as (λ s. s) (side room AssumeFirst GuaranteeFirst) (λ rest. sym (map_same _)) (λ y h. h) as_section (λ r ys s h. (s, h, refl))
@@ -300,7 +366,7 @@ with_items r head part is (mark OpenBrace ∷ ys) s h =
     let closer = h.1.second in
     let inner : AreItems r h.1.front h.0 = rw closer.3 h.1.first in
     let split : ys ≡ h.1.front ++ mark CloseBrace ∷ [] = h.1.split
-        ∙ ap (λ zs. h.1.front ++ zs) (closer.1 ∙ ap (λ x. x ∷ []) (brace_is closer.0 closer.2)) in
+    ∙ ap (λ zs. h.1.front ++ zs) (closer.1 ∙ ap (λ x. x ∷ []) (brace_is closer.0 closer.2)) in
     rw (split, h.2) (braces is inner)
 with_items r head part is _ s h = absurd h
 
@@ -335,6 +401,7 @@ section_member room = record {
       (x : Terminal) × (ys : List Terminal) × (xs ≡ x ∷ ys) × (true ≡ true)
   some_case r [] s h = absurd h
   some_case r (x ∷ ys) s h = (x, ys, refl, refl)
+
   begins : (r : ℕ) (xs : List Terminal) (s : SectionSyntax) → IsSection r xs s →
       (x : Terminal) × (ys : List Terminal) × (xs ≡ x ∷ ys) × (true ≡ true)
   begins r xs s h = some_case r xs s (section_case h)

@@ -1,22 +1,55 @@
 -- Terms are read exactly: what follows a name, arguments, brackets.
-use Rattle.std.proofs.Common.{◌≡◌, ℕ, zero, suc, ◌<◌, Bool, true, false, List, [], ◌∷◌, ◌++◌, refl, ap, sym, ◌∙◌, append_assoc, arith}
+use Rattle.std.proofs.Common.{◌≡◌, ℕ, zero, suc, ◌<◌, true, false, List, [], ◌∷◌, ◌++◌, refl, ap, sym, ◌∙◌, append_assoc, arith}
 use Rattle.std.proofs.lemmas.List.{append-nil}
-use Rattle.std.specs.Prelude.{Option, Some, None, Ok, codes}
+use Rattle.std.specs.Prelude.{Option, Some, None, codes}
 use Rattle.tsl_text.specs.declared.TokenKind.TheVariants.{OpenRound, CloseRound, And, Or, Arrow, BothArrow}
-use Rattle.token_readers.specs.Readers.{Answer, Reader, map_read, iterate, below, found_or_wrong}
+use Rattle.token_readers.specs.Readers.{Answer, below, found_or_wrong}
 use Rattle.token_readers.specs.Exact.{Grammar, Begins, Exact}
 use Rattle.token_readers.proofs.Runs.{map_same, exact_map, exact_as}
-use Rattle.token_readers.proofs.Then.{IsThen, Any, IsClosed, lift_closed, closed_exact}
+use Rattle.token_readers.proofs.Then.{Any, IsClosed, lift_closed, closed_exact}
 use Rattle.token_readers.proofs.Terminals.{Turn, by_first, end_wrong, end_as, turn_wrong, turn_deep, turn_alone, turn_takes, turn_as}
 use Rattle.token_readers.proofs.Levels.{Below, Up, lift_up, exact_up, turn_below}
 use Rattle.token_readers.proofs.Iterates.{Steps, stop, more, Stepping, iterate_exact}
 use Rattle.token_readers.proofs.Lists.{AreAll, none, some}
 use Rattle.tsl_reader.specs.declared.syntax.Word.TheVariants.{U, W, R}
-use Rattle.tsl_reader.specs.Syntax.{Terminal, free, word, mark, TermSyntax, alone, applied, no_terms, terms_of}
-use Rattle.tsl_reader.specs.Grammar.{IsTerm, signal, constant, application, brackets, AreArguments, one_argument, more_arguments,
-    IsArgument, signal_argument, constant_argument, brackets_argument, in_brackets}
-use Rattle.tsl_reader.specs.Reading.{is_close_round, Level, bracketed_term, begins_term, opened, Arguments, fresh, empty, name_last,
-    term_last, complete, with_name, with_term, with_brackets, argument, starts_argument, arguments_of, after_name, term_named, term_with}
+use Rattle.tsl_reader.specs.Syntax.{Terminal, free, word, mark, TermSyntax, alone, applied, no_terms}
+use Rattle.tsl_reader.specs.Grammar.{
+  IsTerm,
+  signal,
+  constant,
+  application,
+  brackets,
+  AreArguments,
+  one_argument,
+  more_arguments,
+  IsArgument,
+  signal_argument,
+  constant_argument,
+  brackets_argument,
+  in_brackets,
+}
+use Rattle.tsl_reader.specs.Reading.{
+  is_close_round,
+  Level,
+  bracketed_term,
+  begins_term,
+  opened,
+  Arguments,
+  fresh,
+  empty,
+  name_last,
+  term_last,
+  complete,
+  with_name,
+  with_term,
+  with_brackets,
+  argument,
+  starts_argument,
+  arguments_of,
+  after_name,
+  term_named,
+  term_with,
+}
 use Rattle.tsl_reader.proofs.Lift.{lift_term}
 
 -- how strongly a terminal ties to the form before it: an argument most, and what ends a form not at all
@@ -118,24 +151,32 @@ opened_exact zero None h = by_first (end_wrong refl (some_opened 0) (λ r o e. n
       (record {
         ending = a ∷ mark CloseRound ∷ mark CloseRound ∷ [];
         value = Some (alone (codes "a"));
-        derives = (alone (codes "a"),
-            round_closed IsTerm 1 (mark OpenRound ∷ a ∷ mark CloseRound ∷ []) (alone (codes "a")) (brackets (signal (codes "a"))), refl);
+        derives = (
+          alone (codes "a"),
+          round_closed IsTerm 1 (mark OpenRound ∷ a ∷ mark CloseRound ∷ []) (alone (codes "a")) (brackets (signal (codes "a"))),
+          refl,
+        );
       })
       (λ r ys o e. needs_room r (mark OpenRound ∷ ys) e.0 e.1)
   turn (free x) =
       turn_deep (λ rest. refl) (some_opened 0)
-      (record { ending = mark CloseRound ∷ []; value = Some (alone x); derives =
-          (alone x, round_closed IsTerm 1 (free x ∷ []) (alone x) (signal x), refl) })
+      (record {
+        ending = mark CloseRound ∷ [];
+        value = Some (alone x);
+        derives =
+            (alone x, round_closed IsTerm 1 (free x ∷ []) (alone x) (signal x), refl);
+      })
       (λ r ys o e. needs_room r (free x ∷ ys) e.0 e.1)
   turn _ = turn_wrong (λ rest. refl) (some_opened 0) (λ r ys o e. not_opened r _ e.0 refl e.1)
 opened_exact (suc k) (Some l) h =
     by_first (end_as (λ t. Some t) (bracketed_term l) refl (λ y e. e) as_opened (λ r o e. e)
-        (λ r o e. absurd (not_opened r [] e.0 refl e.1)) inner) turn where
-  inner : Exact IsBracketed Any (suc k) (bracketed_term l)
-  inner = exact_up (brackets_exact k l h)
-  turn : (x : Terminal) → Turn IsOpened Any (suc k) (opened (Some l)) x
-  turn (mark CloseRound) = turn_alone None (λ rest. refl) (λ r. (refl, refl)) (λ r ys o e. e)
-  turn _ = turn_as (λ t. Some t) (bracketed_term l) (λ rest. refl) (λ y e. e) as_opened (λ r ys o e. e) inner
+    (λ r o e. absurd (not_opened r [] e.0 refl e.1)) inner) turn where
+      inner : Exact IsBracketed Any (suc k) (bracketed_term l)
+      inner = exact_up (brackets_exact k l h)
+
+      turn : (x : Terminal) → Turn IsOpened Any (suc k) (opened (Some l)) x
+      turn (mark CloseRound) = turn_alone None (λ rest. refl) (λ r. (refl, refl)) (λ r ys o e. e)
+      turn _ = turn_as (λ t. Some t) (bracketed_term l) (λ rest. refl) (λ y e. e) as_opened (λ r ys o e. e) inner
 
 -- ---- arguments
 
@@ -149,8 +190,12 @@ IsArgumentStep s r _ t = ⊥
 
 -- the room of the level below that a term needs
 low_term : (room : ℕ) → Begins (IsClosed is_close_round IsTerm (suc room)) []
-low_term room = record { ending = a ∷ mark CloseRound ∷ []; value = alone (codes "a"); derives =
-    round_closed IsTerm (suc room) (a ∷ []) (alone (codes "a")) (signal (codes "a")) }
+low_term room = record {
+  ending = a ∷ mark CloseRound ∷ [];
+  value = alone (codes "a");
+  derives =
+      round_closed IsTerm (suc room) (a ∷ []) (alone (codes "a")) (signal (codes "a"));
+}
 
 lift_opened : (r : ℕ) (xs : List Terminal) (o : Option TermSyntax) → IsOpened r xs o → IsOpened (suc (suc r)) xs o
 lift_opened r (mark CloseRound ∷ ys) o h = h
@@ -217,14 +262,14 @@ turn room low b (name_last ts y) (free x) h = turn_alone (with_name (name_last t
 turn room low b (term_last ts) (free x) h = turn_alone (with_name (term_last ts) x) (λ rest. refl) (λ r. (refl, refl)) (λ r ys t e. e)
 turn room low b fresh (mark OpenRound) h =
     turn_takes (λ o. with_brackets o fresh) (opened low) (λ rest. refl) (λ y e. e) (λ r ys o e. (o, e, refl)) (λ r ys t e. e)
-        (opened_exact room low b)
+    (opened_exact room low b)
 turn room low b (name_last ts y) (mark OpenRound) h =
     turn_takes (λ o. with_brackets o (name_last ts y)) (opened low) (λ rest. refl) (λ z e. e) (λ r ys o e. (o, e, refl)) (λ r ys t e. e)
-        (opened_exact room low b)
+    (opened_exact room low b)
 turn room low b (term_last ts) (mark OpenRound) h =
     turn_below {Holds = TermExact} (with_term (term_last ts)) low bracketed_term brackets_exact b (λ rest. refl) (λ y e. e)
     (record { ending = a ∷ []; value = with_name (term_last ts) (codes "a"); derives = (refl, refl) }) (low_term room)
-        (λ r ys u e. (u, e, refl)) (λ r ys t e. e)
+    (λ r ys u e. (u, e, refl)) (λ r ys t e. e)
 turn room low b empty x h = cc
 turn room low b _ _ h = cc
 
@@ -310,7 +355,7 @@ by_brackets : (r : ℕ) (ts : List TermSyntax) (x : List ℕ) (xs ys : List Term
     Decoded (with_brackets found (name_last ts x)) r ys o → Decoded (name_last ts x) r (mark OpenRound ∷ (xs ++ ys)) o
 by_brackets r ts x xs ys None o h k =
     rw (opened_empty r xs h)
-        (one_more r ts (applied x no_terms) (free x ∷ mark OpenRound ∷ mark CloseRound ∷ []) ys o (constant_argument x) k)
+    (one_more r ts (applied x no_terms) (free x ∷ mark OpenRound ∷ mark CloseRound ∷ []) ys o (constant_argument x) k)
 by_brackets r ts x xs ys (Some t) o h k =
     let further = one_more r (ts ++ alone x ∷ []) t (mark OpenRound ∷ xs) ys o (bracket_argument r xs t (opened_bracket r xs t h)) k in
     (alone x ∷ further.0, some (signal_argument x) further.1, further.2 ∙ ap (λ us. Some us) (append_assoc ts (alone x ∷ []) further.0))
@@ -376,19 +421,34 @@ encode : (r : ℕ) (s : Arguments) → GoesOn s → (xs : List Terminal) (us : L
 encode r s ok xs us none = record { state = s; steps = stop; goes_on = ok; terms = sym (append-nil (complete s)) }
 encode r s ok xs us (some {g = g} {vs = vs} (signal_argument x) k) =
     let e : Encoded r (with_name s x) g vs = encode r (with_name s x) tt g vs k in
-    record { state = e.state; steps = more (name_steps r s x ok) e.steps; goes_on = e.goes_on; terms = e.terms
-        ∙ append_assoc (complete s) (alone x ∷ []) vs }
+    record {
+      state = e.state;
+      steps = more (name_steps r s x ok) e.steps;
+      goes_on = e.goes_on;
+      terms = e.terms
+          ∙ append_assoc (complete s) (alone x ∷ []) vs;
+    }
 encode r s ok xs us (some {g = g} {vs = vs} (constant_argument c) k) =
     let e : Encoded r (term_last (complete s ++ applied c no_terms ∷ [])) g vs =
-        encode r (term_last (complete s ++ applied c no_terms ∷ [])) tt g vs k in
+    encode r (term_last (complete s ++ applied c no_terms ∷ [])) tt g vs k in
     let call : IsArgumentStep (with_name s c) r (mark OpenRound ∷ mark CloseRound ∷ [])
-        (term_last (complete s ++ applied c no_terms ∷ [])) = (None, (refl, refl), refl) in
-    record { state = e.state; steps = more (name_steps r s c ok) (more {f = mark OpenRound ∷ mark CloseRound ∷ []} call e.steps); goes_on =
-        e.goes_on; terms = e.terms ∙ append_assoc (complete s) (applied c no_terms ∷ []) vs }
+    (term_last (complete s ++ applied c no_terms ∷ [])) = (None, (refl, refl), refl) in
+    record {
+      state = e.state;
+      steps = more (name_steps r s c ok) (more {f = mark OpenRound ∷ mark CloseRound ∷ []} call e.steps);
+      goes_on =
+          e.goes_on;
+      terms = e.terms ∙ append_assoc (complete s) (applied c no_terms ∷ []) vs;
+    }
 encode r s ok xs us (some {g = g} {vs = vs} (brackets_argument {room = low} {xs = inner} {t = t} h) k) =
     let e : Encoded r (with_term s t) g vs = encode r (with_term s t) tt g vs k in
-    record { state = e.state; steps = more (term_steps low s inner t ok h) e.steps; goes_on = e.goes_on; terms = e.terms
-        ∙ append_assoc (complete s) (t ∷ []) vs }
+    record {
+      state = e.state;
+      steps = more (term_steps low s inner t ok h) e.steps;
+      goes_on = e.goes_on;
+      terms = e.terms
+          ∙ append_assoc (complete s) (t ∷ []) vs;
+    }
 
 some_complete : (s : Arguments) (t : TermSyntax) (ts : List TermSyntax) → GoesOn s → complete s ≡ t ∷ ts → Some (t ∷ ts) ≡ arguments_of s
 some_complete fresh t ts ok e = cc
@@ -444,15 +504,16 @@ pub term_exact : (room : ℕ) (low : Option Level) → Below TermExact room low 
 unfolding term_with
 term_exact room low b =
     exact_as case_term (λ r xs t h. term_case h) (λ x h. h) (by_first (end_wrong refl some_term (λ r t h. h)) turn) where
-  some_term : Begins (TermCase room) []
-  some_term = record { ending = a ∷ []; value = alone (codes "a"); derives = (None, nothing, refl) }
-  turn : (x : Terminal) → Turn TermCase (Below_tie 6) room (term_with low) x
-  turn (free f) = turn_takes (term_named f) (after_name low) (λ rest. refl) (λ y h. h) (λ r ys o h. (o, h, refl)) (λ r ys t h. h)
-      (after_name_exact room low b)
-  turn (mark OpenRound) =
-      turn_below {Holds = TermExact} (λ t. t) low bracketed_term brackets_exact b (λ rest. sym (map_same (below_term rest)))
+      some_term : Begins (TermCase room) []
+      some_term = record { ending = a ∷ []; value = alone (codes "a"); derives = (None, nothing, refl) }
+
+      turn : (x : Terminal) → Turn TermCase (Below_tie 6) room (term_with low) x
+      turn (free f) = turn_takes (term_named f) (after_name low) (λ rest. refl) (λ y h. h) (λ r ys o h. (o, h, refl)) (λ r ys t h. h)
+          (after_name_exact room low b)
+      turn (mark OpenRound) =
+          turn_below {Holds = TermExact} (λ t. t) low bracketed_term brackets_exact b (λ rest. sym (map_same (below_term rest)))
           (λ y h. tt) some_term (low_term room)
-      (λ r ys t h. h) (λ r ys t h. (t, h, refl)) where
-    below_term : List Terminal → Answer Terminal TermSyntax
-    below_term rest = below low bracketed_term (mark OpenRound ∷ rest)
-  turn _ = turn_wrong (λ rest. refl) some_term (λ r ys t h. h)
+          (λ r ys t h. h) (λ r ys t h. (t, h, refl)) where
+            below_term : List Terminal → Answer Terminal TermSyntax
+            below_term rest = below low bracketed_term (mark OpenRound ∷ rest)
+      turn _ = turn_wrong (λ rest. refl) some_term (λ r ys t h. h)

@@ -1,11 +1,11 @@
 -- What a fault of the reading functions says of the grammar.
-use Rattle.std.proofs.Common.{◌≡◌, ℕ, suc, ◌+◌, ◌<◌, ◌≤◌, List, [], ◌∷◌, ◌++◌, length, refl, ap, sym, ◌∙◌, append_assoc, length-append, arith}
+use Rattle.std.proofs.Common.{◌≡◌, ℕ, suc, ◌<◌, ◌≤◌, List, [], ◌∷◌, ◌++◌, length, refl, ap, sym, ◌∙◌, append_assoc, length-append, arith}
 use Rattle.std.specs.Prelude.{Err}
 use Rattle.token_readers.specs.Readers.{form, deep}
 use Rattle.token_readers.specs.Exact.{SameFirst, both_begin}
 use Rattle.token_readers.proofs.Runs.{same_first}
 use Rattle.token_readers.proofs.Whole.{FirstForm, FirstDeep, first_form, first_deep}
-use Rattle.tsl_reader.specs.Syntax.{Terminal, SectionSyntax}
+use Rattle.tsl_reader.specs.Syntax.{Terminal}
 use Rattle.tsl_reader.specs.Grammar.{AreSections}
 use Rattle.tsl_reader.specs.Reading.{sections}
 use Rattle.tsl_reader.specs.Spells.{SomeTextBegins, NoTextBegins, IsNoText}

@@ -1,6 +1,6 @@
 -- The numbered formulas of a text fit its names.
-use Rattle.std.proofs.Common.{◌≡◌, ℕ, ◌+◌, ◌≤◌, ◌==◌, Bool, true, false, ◌&&◌, ◌||◌, List, [], ◌∷◌, ◌++◌, refl, ap, sym, ◌∙◌}
-use Rattle.std.specs.Prelude.{Some, option_map, option_and_then, nat_le, max, IsTrue}
+use Rattle.std.proofs.Common.{◌≡◌, ℕ, ◌+◌, ◌≤◌, ◌==◌, Bool, true, false, ◌&&◌, ◌||◌, List, [], ◌∷◌, ◌++◌, refl, ap, ◌∙◌}
+use Rattle.std.specs.Prelude.{Some, option_map, option_and_then, nat_le, max}
 use Rattle.std.specs.List.{list_all, AllByRecursion}
 use Rattle.std.specs.Option.{option_map_or}
 use Rattle.std.specs.Str.{bytes_eq}
@@ -18,7 +18,7 @@ use Rattle.tsl_terms.specs.FormulaTree.{Atom, test, update, FormulaTree, Formula
 use Rattle.tsl_terms.specs.Atoms.{atoms, atoms_of_members, has_two, joins_two, all_join_two}
 use Rattle.tsl_terms.specs.WellFormed.{is_usable_at, is_question, term_fits, terms_fit, bracketed as bracketed_tree, brackets, brackets_of_arguments, deepest as most_brackets, atom_fits, formula_fits}
 use Rattle.tsl_reader.specs.Syntax.{TermSyntax, alone, applied, TermsSyntax, no_terms, more_terms, FormulaSyntax, truth, falsehood, bare, tested, updated, under, between, all, any, FormulasSyntax, no_formulas, more_formulas}
-use Rattle.tsl_reader.specs.Naming.{Use, use_as, tested_signal, question_use, count_of, term_uses, terms_uses, uses, members_uses, numbered_term, numbered_terms, test_of, numbered, numbered_members, numbered_list}
+use Rattle.tsl_reader.specs.Naming.{use_as, tested_signal, question_use, count_of, term_uses, terms_uses, uses, members_uses, numbered_term, numbered_terms, test_of, numbered, numbered_members, numbered_list}
 use Rattle.tsl_reader.proofs.Shapes.{IsShaped, AreShaped, HasTwo, bracketed, depth, depth_of_arguments}
 use Rattle.tsl_reader.proofs.Known.{Known, KnownUse}
 use Rattle.tsl_reader.proofs.Usable.{IsUsable}

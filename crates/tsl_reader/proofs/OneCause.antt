@@ -1,12 +1,11 @@
 -- A text has at most one cause of refusal, and none where it spells a specification.
-use Rattle.std.proofs.Common.{◌≡◌, ℕ, zero, suc, ◌<◌, ◌≤◌, ◌⊎◌, Bool, List, [], ◌∷◌, ◌++◌, refl, ap, sym, ◌∙◌, subst, inl, inr, ⊎_elim, append_assoc, arith}
+use Rattle.std.proofs.Common.{◌≡◌, ℕ, zero, suc, ◌≤◌, Bool, List, [], ◌∷◌, ◌++◌, refl, ap, sym, ◌∙◌, subst, inl, inr, ⊎_elim, append_assoc, arith}
 use Rattle.std.proofs.lemmas.Bool.{cases_lt}
 use Rattle.std.proofs.lemmas.List.{map-append, append-nil}
-use Rattle.std.specs.Prelude.{Option, Some, Err, slice_get}
+use Rattle.std.specs.Prelude.{Some, Err, slice_get}
 use Rattle.tsl_text.specs.declared.Token.{Token}
-use Rattle.tsl_text.specs.declared.TextError.{TextError}
 use Rattle.tsl_text.specs.declared.TextError.TheVariants.{Byte, OpenComment}
-use Rattle.tsl_text.specs.Division.{AreTokens, IsAnswer}
+use Rattle.tsl_text.specs.Division.{AreTokens}
 use Rattle.tsl_text.proofs.Parts.{one_answer}
 use Rattle.tsl_terms.specs.Name.{Name}
 use Rattle.tsl_terms.specs.Clashes.{alike_in_kind, same_arity, IsFirstClash, HasNoClash}
@@ -16,7 +15,7 @@ use Rattle.tsl_reader.specs.declared.SpecError.TheVariants as error
 use Rattle.tsl_reader.specs.Syntax.{SectionSyntax}
 use Rattle.tsl_reader.specs.Grammar.{AreSections}
 use Rattle.tsl_reader.specs.Naming.{written_uses}
-use Rattle.tsl_reader.specs.Spells.{deepest, terminals, Derives, Spells, SomeTextBegins, NoTextBegins, HasWrongToken, EndsTooEarly, HasFormFault, HasDeepFault, HasClashAt, HasCause, IsRefused, IsOfText}
+use Rattle.tsl_reader.specs.Spells.{deepest, terminals, Derives, Spells, SomeTextBegins, NoTextBegins, HasWrongToken, HasFormFault, HasDeepFault, HasClashAt, HasCause, IsRefused, IsOfText}
 use Rattle.tsl_reader.proofs.Causes.{one_list, one_derivation, no_tokens, nodes_refuse}
 
 -- ---- the first token that no text goes on with

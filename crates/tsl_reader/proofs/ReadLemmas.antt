@@ -1,13 +1,12 @@
 -- One step of reading, over plain variables.
-use Rattle.std.proofs.Common.{◌≡◌, ℕ, zero, suc, ◌+◌, ◌-◌, ◌<◌, List, [], ◌∷◌, length, get_or, refl, ap, sym, ◌∙◌, arith}
+use Rattle.std.proofs.Common.{◌≡◌, ℕ, zero, suc, ◌+◌, ◌-◌, ◌<◌, List, [], ◌∷◌, length, get_or, refl, ap, ◌∙◌, arith}
 use Rattle.std.proofs.lemmas.List.{length-map}
 use Rattle.std.proofs.lemmas.Grind.{common_steps}
 use Rattle.std.proofs.lemmas.Result.{err_from_is_err_and}
 use Rattle.std.specs.Prelude.{◌≤◌, Bool, true, false, Option, Some, None, Result, Ok, Err, IfErr, if◌then◌else◌, take, drop}
 use Rattle.std.specs.Result.{IsErrAnd}
-use Rattle.tsl_text.specs.declared.TokenKind.TheVariants.{OpenRound, CloseRound, OpenBrace, LeftArrow}
-use Rattle.token_readers.specs.Readers.{Fault, form, deep, Answer, Reader, form_at, deep_at, closing, closed_by, and_then, map_read,
-    below as below_level}
+use Rattle.tsl_text.specs.declared.TokenKind.TheVariants.{CloseRound, OpenBrace, LeftArrow}
+use Rattle.token_readers.specs.Readers.{form, deep, Answer, Reader, form_at, deep_at, closing, closed_by, and_then, map_read, below as below_level}
 use Rattle.tsl_reader.specs.declared.fault.ReadFault.{ReadFault}
 use Rattle.tsl_reader.specs.declared.fault.ReadFault.TheVariants.{Form, Deep, NoMemory}
 use Rattle.tsl_reader.specs.declared.terminals.Terminal.{Terminal as LentTerminal}
@@ -17,8 +16,24 @@ use Rattle.tsl_reader.specs.declared.syntax.Part.{Part}
 use Rattle.tsl_reader.specs.declared.formulas.Form.{Form as GrammarForm}
 use Rattle.tsl_reader.specs.declared.formulas.Form.TheVariants.{Prefix, Implication, Equivalence, Formula}
 use Rattle.tsl_reader.specs.Forms.{reader_of, form_with}
-use Rattle.tsl_reader.specs.Reading.{is_close_brace, bracketed_formula, formulas, items, section_made, Level, is_close_round,
-    is_close_square, lower, above, bracketed_term, begins_term, beyond, opened, term_with, update_with}
+use Rattle.tsl_reader.specs.Reading.{
+  is_close_brace,
+  bracketed_formula,
+  formulas,
+  items,
+  section_made,
+  Level,
+  is_close_round,
+  is_close_square,
+  lower,
+  above,
+  bracketed_term,
+  begins_term,
+  beyond,
+  opened,
+  term_with,
+  update_with,
+}
 
 pub no_level : (room : ℕ) → room ≡ 0 → lower room ≡ None
 unfolding lower
@@ -61,7 +76,7 @@ unfolding closing
 close_wrong is [] d h e = absurd (omega (arith, h))
 close_wrong is (x ∷ xs) d h e =
     ap (λ b. if b then Ok (tt {0}, terminals_view xs) else form_at (terminals_view (x ∷ xs))) e
-        ∙ ap (λ n. Err (form n)) (length-map (x ∷ xs) terminal_view)
+    ∙ ap (λ n. Err (form n)) (length-map (x ∷ xs) terminal_view)
 
 pub close_end : (is : Terminal → Bool) (xs : List LentTerminal) → length xs < 1 → closing is (tt {0}) (terminals_view xs) ≡ Err (form 0)
 unfolding closing
@@ -140,7 +155,7 @@ beyond_fault V xs fault h = rw h (by_test V (begins_term (terminals_view xs)) (l
   where
     by_test : (V : Type 0) (b : Bool) → length (terminals_view xs) ≡ length xs →
         HasFault {V = V} (if b then deep_at (terminals_view xs) else form_at (terminals_view xs))
-            (if b then Deep (length xs) else Form (length xs))
+        (if b then Deep (length xs) else Form (length xs))
     by_test V true e = ap (λ n. Err (deep n)) e
     by_test V false e = ap (λ n. Err (form n)) e
 
@@ -192,7 +207,7 @@ pub unclosed_update : (l : Option Level) (name : List ℕ) (xs : List Terminal) 
 unfolding update_with
 unclosed_update l name xs t rest fault h k =
     map_fault (updated name) (closed_by is_close_square (term_with l) xs) fault
-        (closed_fault is_close_square (term_with l) xs t rest fault h k)
+    (closed_fault is_close_square (term_with l) xs t rest fault h k)
 
 -- ---- the items of a section between their braces
 
@@ -209,7 +224,7 @@ pub items_unclosed : (room : ℕ) (part : Part) (xs : List Terminal) (fs : List 
 unfolding items
 items_unclosed room part xs fs rest fault h k =
     map_fault (section_made part) (closed_by is_close_brace (formulas room) xs) fault
-        (closed_fault is_close_brace (formulas room) xs fs rest fault h k)
+    (closed_fault is_close_brace (formulas room) xs fs rest fault h k)
 
 -- ---- a form of the level below
 
@@ -217,7 +232,7 @@ items_unclosed room part xs fs rest fault h k =
 pub form_after_first : (room below : ℕ) (kind : GrammarForm) (xs : List LentTerminal) → lower room ≡ Some (above (lower below)) →
     1 ≤ length xs →
     below_level (lower room) (reader_of kind) (terminals_view xs)
-        ≡ form_with kind (lower below) (terminals_view (take (length xs - 1) (drop 1 xs)))
+    ≡ form_with kind (lower below) (terminals_view (take (length xs - 1) (drop 1 xs)))
 unfolding above
 form_after_first room below kind xs h k = rw (h, (after_first xs k).1) (by_form kind)
   where

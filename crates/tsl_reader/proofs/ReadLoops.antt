@@ -1,22 +1,21 @@
 -- The loops of reading: what is read so far, and then what is read of the terminals that are left.
-use Rattle.std.proofs.Common.{◌≡◌, ℕ, List, [], ◌∷◌, ◌++◌, length, map, refl, ap, sym, ◌∙◌}
+use Rattle.std.proofs.Common.{◌≡◌, ℕ, List, [], ◌∷◌, ◌++◌, map, refl, ap, sym, ◌∙◌}
 use Rattle.std.proofs.lemmas.List.{map-append}
-use Rattle.std.specs.Prelude.{Bool, true, false, Option, Some, None, Ok, Err}
+use Rattle.std.specs.Prelude.{true, false, Option, Some, None, Ok}
 use Rattle.tsl_text.specs.declared.TokenKind.TheVariants.{CloseBrace, Semicolon}
 use Rattle.tsl_reader.specs.declared.trees.ReadFormula.{ReadFormula}
-use Rattle.token_readers.specs.Readers.{Fault, form, deep, Answer, iterate, push, push_read, map_read, found_or_wrong}
+use Rattle.token_readers.specs.Readers.{form, deep, Answer, iterate, push, push_read, map_read, found_or_wrong}
 use Rattle.token_readers.proofs.Iterates.{Shrinks, step_shrinks, no_step, next_step, wrong_step}
 use Rattle.token_readers.proofs.Lists.{stepping as list_stepping}
 use Rattle.tsl_reader.specs.declared.fault.ReadFault.{ReadFault}
 use Rattle.tsl_reader.specs.declared.fault.ReadFault.TheVariants.{Form, Deep, NoMemory}
-use Rattle.tsl_reader.specs.Syntax.{Terminal, mark, FormulaSyntax, SectionSyntax}
+use Rattle.tsl_reader.specs.Syntax.{Terminal, mark, FormulaSyntax}
 use Rattle.tsl_reader.specs.SyntaxView.{formula_syntax, HasFault, HasFaultOfMember}
-use Rattle.tsl_reader.specs.Reading.{lower, Arguments, argument, fresh, goes_on, arguments_of, after_name, conjunct, disjunct, section,
-    Items, open_items, item_last, items_of, item, begins_item, formula_with, formulas}
+use Rattle.tsl_reader.specs.Reading.{lower, Arguments, argument, fresh, goes_on, arguments_of, conjunct, disjunct, open_items, item_last, items_of, item, begins_item, formula_with, formulas}
 use Rattle.tsl_reader.proofs.ReadLemmas.{map_fault}
 use Rattle.tsl_reader.proofs.ExactTerms.{stepping as argument_stepping, no_step as no_argument, some_step as some_argument, at_end}
 use Rattle.tsl_reader.proofs.ExactFormulas.{terms_below, below_exact, conjunct_member, disjunct_member}
-use Rattle.tsl_reader.proofs.ExactSections.{item_shrinks, section_shrinks}
+use Rattle.tsl_reader.proofs.ExactSections.{item_shrinks}
 
 module _ {S : Type 0} {step : S → List Terminal → Option (Answer Terminal S)} (shrinks : Shrinks step) where
   step_fault : (s : S) (xs : List Terminal) (fault : ReadFault) → HasFaultOfMember (step s xs) fault → HasFault (iterate step s xs) fault
@@ -98,12 +97,12 @@ found_fault (Some answer) xs fault e h = member_fault answer fault h
 
 pub arguments_fault : (room : ℕ) (s : Arguments) (xs ys : List Terminal) (fault : ReadFault) → goes_on s xs ≡ true →
     HasFault (found_or_wrong (argument (lower room) s xs) xs) fault →
-        iterate (argument (lower room)) s xs ≡ iterate (argument (lower room)) fresh ys →
+    iterate (argument (lower room)) s xs ≡ iterate (argument (lower room)) fresh ys →
     HasFault (map_read arguments_of (iterate (argument (lower room)) fresh ys)) fault
 arguments_fault room s xs ys fault h k e =
     map_fault arguments_of (iterate (argument (lower room)) fresh ys) fault
     (rw (← e) (step_fault (arguments_shrink room) s xs fault
-        (found_fault (argument (lower room) s xs) xs fault (argument_is room s xs h) k)))
+    (found_fault (argument (lower room) s xs) xs fault (argument_is room s xs h) k)))
 
 -- ---- the items of a section
 
@@ -132,7 +131,7 @@ item_read : (room : ℕ) (fs : List ReadFormula) (f : ReadFormula) (xs rest : Li
 item_read room fs f xs rest h k =
     ap (λ gs. iterate (item room) (item_last gs) rest) (map-append formula_syntax fs (f ∷ []))
     ∙ next_step (item_shrinks room) (open_items (map formula_syntax fs)) xs
-        (item_last (map formula_syntax fs ++ formula_syntax f ∷ [])) rest
+    (item_last (map formula_syntax fs ++ formula_syntax f ∷ [])) rest
     (item_is room (map formula_syntax fs) xs h ∙ ap (λ answer. Some (map_read (λ g. item_last (map formula_syntax fs ++ g ∷ [])) answer)) k)
 
 -- a formula and its semicolon were read
@@ -141,7 +140,7 @@ pub items_more : (room : ℕ) (fs : List ReadFormula) (f : ReadFormula) (xs rest
     iterate (item room) (open_items (map formula_syntax (fs ++ f ∷ []))) after ≡ iterate (item room) (open_items (map formula_syntax fs)) xs
 items_more room fs f xs rest after h k e =
     next_step (item_shrinks room) (item_last (map formula_syntax (fs ++ f ∷ []))) rest
-        (open_items (map formula_syntax (fs ++ f ∷ []))) after
+    (open_items (map formula_syntax (fs ++ f ∷ []))) after
     (ap (item room (item_last (map formula_syntax (fs ++ f ∷ [])))) e ∙ semicolon_is room (map formula_syntax (fs ++ f ∷ [])) after)
     ∙ item_read room fs f xs rest h k
 

@@ -1,5 +1,5 @@
 -- What a text that derives gives: formulas that get their numbers and fit the names.
-use Rattle.std.proofs.Common.{◌≡◌, ℕ, Bool, List, [], ◌∷◌, ◌++◌, arith}
+use Rattle.std.proofs.Common.{ℕ, List, [], ◌∷◌, arith}
 use Rattle.std.specs.Prelude.{filter, flat_map}
 use Rattle.std.specs.List.{AllByRecursion}
 use Rattle.sequence.proofs.Each.{each_flat_map, each_left, each_right, each_filtered}

@@ -5,9 +5,9 @@ use Rattle.std.specs.List.{list_all, AllByRecursion}
 use Rattle.std.proofs.lemmas.List.Folds.{list_all-append}
 use Rattle.std.proofs.lemmas.Bool.{and_from}
 use Rattle.tsl_terms.specs.Name.{Name, number_of}
-use Rattle.tsl_terms.specs.Clashes.{added_unless_found, with_use, with_uses, first_uses}
+use Rattle.tsl_terms.specs.Clashes.{added_unless_found, with_use, with_uses}
 use Rattle.tsl_terms.specs.FormulaTree.{FormulaTree}
-use Rattle.tsl_terms.specs.SpecTree.{SpecTree, all_formulas}
+use Rattle.tsl_terms.specs.SpecTree.{SpecTree}
 use Rattle.tsl_terms.specs.WellFormed.{formula_fits, name_fits, SpecFits}
 use Rattle.tsl_terms.proofs.FirstUses.{first_uses_distinct}
 use Rattle.tsl_reader.specs.declared.syntax.Part.{Part}

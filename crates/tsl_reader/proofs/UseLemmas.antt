@@ -2,7 +2,7 @@
 use Rattle.std.proofs.Common.{◌≡◌, ℕ, zero, suc, ◌<◌, ◌≤◌, Bool, true, false, cond, List, [], ◌∷◌, ◌++◌, map, length, get_or, refl, ap, ◌∙◌, arith, length-append}
 use Rattle.std.specs.Prelude.{Some, flat_map}
 use Rattle.std.specs.Str.{bytes_eq}
-use Rattle.tsl_terms.specs.Name.{Name, question}
+use Rattle.tsl_terms.specs.Name.{question}
 use Rattle.tsl_terms.proofs.FirstUses.{first_of}
 use Rattle.tsl_reader.specs.Syntax.{TermSyntax, alone, applied, TermsSyntax, no_terms, more_terms}
 use Rattle.tsl_reader.specs.Naming.{Use, count_of, term_uses, terms_uses, question_use, named_by}

@@ -3,8 +3,21 @@
 -- grammar without a bound is that of any room.
 -- The grammar is that of tsltools' specification format, in this project's profile.
 use Rattle.std.specs.Prelude.{◌≡◌, ℕ, suc, List, [], ◌∷◌, ◌++◌, Option, Some, None}
-use Rattle.tsl_text.specs.declared.TokenKind.TheVariants.{OpenBrace, CloseBrace, OpenRound, CloseRound, OpenSquare, CloseSquare, Semicolon,
-    Not, And, Or, Arrow, BothArrow, LeftArrow}
+use Rattle.tsl_text.specs.declared.TokenKind.TheVariants.{
+  OpenBrace,
+  CloseBrace,
+  OpenRound,
+  CloseRound,
+  OpenSquare,
+  CloseSquare,
+  Semicolon,
+  Not,
+  And,
+  Or,
+  Arrow,
+  BothArrow,
+  LeftArrow,
+}
 use Rattle.tsl_reader.specs.declared.syntax.Word.TheVariants.{Assume, Guarantee, Always, Initially, True, False, X, F, G, U, W, R}
 use Rattle.tsl_terms.specs.declared.operator.UnaryOperator.{UnaryOperator}
 use Rattle.tsl_terms.specs.declared.operator.UnaryOperator.TheVariants.{Negation, Next, Finally, Globally}
@@ -12,8 +25,28 @@ use Rattle.tsl_terms.specs.declared.operator.BinaryOperator.{BinaryOperator}
 use Rattle.tsl_terms.specs.declared.operator.BinaryOperator.TheVariants.{Implication, Equivalence, Until, WeakUntil, Release}
 use Rattle.tsl_reader.specs.declared.syntax.Part.{Part}
 use Rattle.tsl_reader.specs.declared.syntax.Part.TheVariants.{AssumeFirst, AssumeAlways, GuaranteeFirst, GuaranteeAlways}
-use Rattle.tsl_reader.specs.Syntax.{Terminal, free, word, mark, TermSyntax, alone, applied, no_terms, terms_of, FormulaSyntax, truth,
-    falsehood, bare, tested, updated, under, between, all_of, any_of, SectionSyntax}
+use Rattle.tsl_reader.specs.Syntax.{
+  Terminal,
+  free,
+  word,
+  mark,
+  TermSyntax,
+  alone,
+  applied,
+  no_terms,
+  terms_of,
+  FormulaSyntax,
+  truth,
+  falsehood,
+  bare,
+  tested,
+  updated,
+  under,
+  between,
+  all_of,
+  any_of,
+  SectionSyntax,
+}
 
 -- the operators `!`, `X`, `F` and `G`
 abbrev pub unary_of : Terminal → Option UnaryOperator

@@ -1,8 +1,20 @@
 -- Reading terminals, as functions that compute. Each gives what is read at the front and the terminals after it,
 -- or the first fault. Each decides by its first terminal.
 use Rattle.std.specs.Prelude.{ℕ, zero, suc, Bool, true, false, List, [], ◌∷◌, ◌++◌, Option, Some, None, Ok, if◌then◌else◌}
-use Rattle.tsl_text.specs.declared.TokenKind.TheVariants.{OpenBrace, CloseBrace, OpenRound, CloseRound, OpenSquare, CloseSquare, Semicolon,
-    And, Or, Arrow, BothArrow, LeftArrow}
+use Rattle.tsl_text.specs.declared.TokenKind.TheVariants.{
+  OpenBrace,
+  CloseBrace,
+  OpenRound,
+  CloseRound,
+  OpenSquare,
+  CloseSquare,
+  Semicolon,
+  And,
+  Or,
+  Arrow,
+  BothArrow,
+  LeftArrow,
+}
 use Rattle.token_readers.specs.Readers.{Answer, Reader, form_at, deep_at, closed_by, and_then, map_read, iterate, members, below}
 use Rattle.tsl_reader.specs.declared.syntax.Word.TheVariants.{Assume, Guarantee, Always, Initially, True, False}
 use Rattle.tsl_terms.specs.declared.operator.UnaryOperator.{UnaryOperator}
@@ -12,8 +24,28 @@ use Rattle.tsl_reader.specs.declared.syntax.Closer.{Closer}
 use Rattle.tsl_reader.specs.declared.syntax.Closer.TheVariants.{Round, Square, Brace}
 use Rattle.tsl_reader.specs.declared.syntax.Part.{Part}
 use Rattle.tsl_reader.specs.declared.syntax.Part.TheVariants.{AssumeFirst, AssumeAlways, GuaranteeFirst, GuaranteeAlways}
-use Rattle.tsl_reader.specs.Syntax.{Terminal, free, word, mark, TermSyntax, alone, applied, no_terms, terms_of, FormulaSyntax, truth,
-    falsehood, bare, tested, updated, under, between, all_of, any_of, SectionSyntax}
+use Rattle.tsl_reader.specs.Syntax.{
+  Terminal,
+  free,
+  word,
+  mark,
+  TermSyntax,
+  alone,
+  applied,
+  no_terms,
+  terms_of,
+  FormulaSyntax,
+  truth,
+  falsehood,
+  bare,
+  tested,
+  updated,
+  under,
+  between,
+  all_of,
+  any_of,
+  SectionSyntax,
+}
 use Rattle.tsl_reader.specs.Grammar.{unary_of, temporal_of}
 
 abbrev pub is_close_round : Terminal → Bool
@@ -234,8 +266,14 @@ formula_with lower xs = and_then (prefix_with lower xs) (formula_after lower)
 
 -- the level above this one
 unfoldable pub above : Option Level → Level
-above lower = record { term = term_with lower; prefix = prefix_with lower; imp = imp_with lower; iff = iff_with lower; formula =
-    formula_with lower }
+above lower = record {
+  term = term_with lower;
+  prefix = prefix_with lower;
+  imp = imp_with lower;
+  iff = iff_with lower;
+  formula =
+      formula_with lower;
+}
 
 -- the next level, where there is room for so many levels
 unfoldable pub lower : ℕ → Option Level

@@ -16,32 +16,68 @@ const FORMULAS: &[(&[u8], &str)] = &[
     (b"F true", "Finally(True)"),
     (b"G true", "Globally(True)"),
     (b"!X F G true", "Not(Next(Finally(Globally(True))))"),
-    (b"!true && false", "All(More(Not(True), More(False, Empty)))"),
+    (
+        b"!true && false",
+        "All(More(Not(True), More(False, Empty)))",
+    ),
     // operands of one operator make one list
-    (b"true && false && true", "All(More(True, More(False, More(True, Empty))))"),
-    (b"true || false || true", "Any(More(True, More(False, More(True, Empty))))"),
-    (b"true || false && true", "Any(More(True, More(All(More(False, More(True, Empty))), Empty)))"),
-    (b"true && false || true", "Any(More(All(More(True, More(False, Empty))), More(True, Empty)))"),
+    (
+        b"true && false && true",
+        "All(More(True, More(False, More(True, Empty))))",
+    ),
+    (
+        b"true || false || true",
+        "Any(More(True, More(False, More(True, Empty))))",
+    ),
+    (
+        b"true || false && true",
+        "Any(More(True, More(All(More(False, More(True, Empty))), Empty)))",
+    ),
+    (
+        b"true && false || true",
+        "Any(More(All(More(True, More(False, Empty))), More(True, Empty)))",
+    ),
     // brackets leave no node, and keep lists apart
     (b"(((true)))", "True"),
-    (b"(true && false) && true", "All(More(All(More(True, More(False, Empty))), More(True, Empty)))"),
-    (b"true || (false || true)", "Any(More(True, More(Any(More(False, More(True, Empty))), Empty)))"),
-    (b"(true -> false) -> true", "Implies(Implies(True, False), True)"),
+    (
+        b"(true && false) && true",
+        "All(More(All(More(True, More(False, Empty))), More(True, Empty)))",
+    ),
+    (
+        b"true || (false || true)",
+        "Any(More(True, More(Any(More(False, More(True, Empty))), Empty)))",
+    ),
+    (
+        b"(true -> false) -> true",
+        "Implies(Implies(True, False), True)",
+    ),
     (b"!(true -> false)", "Not(Implies(True, False))"),
     // arrows are read from the right
     (b"true -> false", "Implies(True, False)"),
-    (b"true -> false -> true", "Implies(True, Implies(False, True))"),
+    (
+        b"true -> false -> true",
+        "Implies(True, Implies(False, True))",
+    ),
     (b"true <-> false <-> true", "Iff(True, Iff(False, True))"),
     (b"true -> false <-> true", "Iff(Implies(True, False), True)"),
     (b"true <-> false -> true", "Iff(True, Implies(False, True))"),
-    (b"true || false -> true", "Implies(Any(More(True, More(False, Empty))), True)"),
+    (
+        b"true || false -> true",
+        "Implies(Any(More(True, More(False, Empty))), True)",
+    ),
     // `U`, `W` and `R` stand between two operands
     (b"true U false", "Until(True, False)"),
     (b"true W false", "Weak(True, False)"),
     (b"true R false", "Release(True, False)"),
     (b"!true U X false", "Until(Not(True), Next(False))"),
-    (b"(true U false) R true", "Release(Until(True, False), True)"),
-    (b"true U (false R true)", "Until(True, Release(False, True))"),
+    (
+        b"(true U false) R true",
+        "Release(Until(True, False), True)",
+    ),
+    (
+        b"true U (false R true)",
+        "Until(True, Release(False, True))",
+    ),
     // and are neither chained nor mixed with others without brackets
     (b"a U b U c", "Form(18)"),
     (b"a W b R c", "Form(18)"),
@@ -55,11 +91,23 @@ const FORMULAS: &[(&[u8], &str)] = &[
     (b"a <-> b U c", "Form(20)"),
     (b"!a U b U c", "Form(19)"),
     // a name alone is a test of its signal
-    (b"a", "Test(Probe { predicate: 1, arguments: More(Signal(0), Empty) })"),
-    (b"(a)", "Test(Probe { predicate: 1, arguments: More(Signal(0), Empty) })"),
+    (
+        b"a",
+        "Test(Probe { predicate: 1, arguments: More(Signal(0), Empty) })",
+    ),
+    (
+        b"(a)",
+        "Test(Probe { predicate: 1, arguments: More(Signal(0), Empty) })",
+    ),
     (b"p()", "Test(Probe { predicate: 0, arguments: Empty })"),
-    (b"p x", "Test(Probe { predicate: 0, arguments: More(Signal(1), Empty) })"),
-    (b"p x x", "Test(Probe { predicate: 0, arguments: More(Signal(1), More(Signal(1), Empty)) })"),
+    (
+        b"p x",
+        "Test(Probe { predicate: 0, arguments: More(Signal(1), Empty) })",
+    ),
+    (
+        b"p x x",
+        "Test(Probe { predicate: 0, arguments: More(Signal(1), More(Signal(1), Empty)) })",
+    ),
     // round brackets after a name are an empty list or an argument
     (b"[y <- x]", "Update(0, Signal(1))"),
     (b"[y <- (x)]", "Update(0, Signal(1))"),
@@ -67,16 +115,31 @@ const FORMULAS: &[(&[u8], &str)] = &[
     (b"[y <- f()]", "Update(0, Apply(1, Empty))"),
     (b"[y <- f ()]", "Update(0, Apply(1, Empty))"),
     (b"[y <- (f())]", "Update(0, Apply(1, Empty))"),
-    (b"[y <- f (x)]", "Update(0, Apply(1, More(Signal(2), Empty)))"),
+    (
+        b"[y <- f (x)]",
+        "Update(0, Apply(1, More(Signal(2), Empty)))",
+    ),
     (b"[y <- f x]", "Update(0, Apply(1, More(Signal(2), Empty)))"),
-    (b"[y <- f x (g y)]", "Update(0, Apply(1, More(Signal(2), More(Apply(3, More(Signal(0), Empty)), Empty))))"),
+    (
+        b"[y <- f x (g y)]",
+        "Update(0, Apply(1, More(Signal(2), More(Apply(3, More(Signal(0), Empty)), Empty))))",
+    ),
     (b"[y <- f (x)()]", "Form(24)"),
     (b"[y <- f () x]", "Form(23)"),
     (b"[y <- (f) x]", "Form(22)"),
     // an argument takes the brackets after it
-    (b"p c ()", "Test(Probe { predicate: 0, arguments: More(Apply(1, Empty), Empty) })"),
-    (b"p c() x", "Test(Probe { predicate: 0, arguments: More(Apply(1, Empty), More(Signal(2), Empty)) })"),
-    (b"p x (c())", "Test(Probe { predicate: 0, arguments: More(Signal(1), More(Apply(2, Empty), Empty)) })"),
+    (
+        b"p c ()",
+        "Test(Probe { predicate: 0, arguments: More(Apply(1, Empty), Empty) })",
+    ),
+    (
+        b"p c() x",
+        "Test(Probe { predicate: 0, arguments: More(Apply(1, Empty), More(Signal(2), Empty)) })",
+    ),
+    (
+        b"p x (c())",
+        "Test(Probe { predicate: 0, arguments: More(Signal(1), More(Apply(2, Empty), Empty)) })",
+    ),
     (b"p c () ()", "Form(20)"),
     (b"p () x", "Form(17)"),
     (b"p () ()", "Form(17)"),
@@ -107,43 +170,91 @@ const NAMES: &[(&[u8], &str)] = &[
     // by first appearance
     (b"", ""),
     (b"[y <- x]; [x <- y]", "y:Signal0 x:Signal0 "),
-    (b"[y <- f x c()]", "y:Signal0 f:Function2 x:Signal0 c:Function0 "),
-    (b"p x (f x); q()", "p:Predicate2 x:Signal0 f:Function1 q:Predicate0 "),
-    (b"X' && _ && a_1'", "X':Signal0 ?:Predicate1 _:Signal0 a_1':Signal0 "),
+    (
+        b"[y <- f x c()]",
+        "y:Signal0 f:Function2 x:Signal0 c:Function0 ",
+    ),
+    (
+        b"p x (f x); q()",
+        "p:Predicate2 x:Signal0 f:Function1 q:Predicate0 ",
+    ),
+    (
+        b"X' && _ && a_1'",
+        "X':Signal0 ?:Predicate1 _:Signal0 a_1':Signal0 ",
+    ),
     // `?` after the signal that it first tests
     (b"a; b", "a:Signal0 ?:Predicate1 b:Signal0 "),
-    (b"[y <- x]; p z; x", "y:Signal0 x:Signal0 p:Predicate1 z:Signal0 ?:Predicate1 "),
-    (b"p a; b; a", "p:Predicate1 a:Signal0 b:Signal0 ?:Predicate1 "),
+    (
+        b"[y <- x]; p z; x",
+        "y:Signal0 x:Signal0 p:Predicate1 z:Signal0 ?:Predicate1 ",
+    ),
+    (
+        b"p a; b; a",
+        "p:Predicate1 a:Signal0 b:Signal0 ?:Predicate1 ",
+    ),
 ];
 
 /// Texts, and the four lists of formulas that they are read as, or the refusal.
 const LISTS: &[(&[u8], &str)] = &[
     // each kind of section has its list
     (b"assume { true }", "More(True, Empty) Empty Empty Empty"),
-    (b"initially assume { true }", "More(True, Empty) Empty Empty Empty"),
-    (b"always assume { true }", "Empty More(True, Empty) Empty Empty"),
+    (
+        b"initially assume { true }",
+        "More(True, Empty) Empty Empty Empty",
+    ),
+    (
+        b"always assume { true }",
+        "Empty More(True, Empty) Empty Empty",
+    ),
     (b"guarantee { true }", "Empty Empty More(True, Empty) Empty"),
-    (b"initially guarantee { true }", "Empty Empty More(True, Empty) Empty"),
-    (b"always guarantee { true }", "Empty Empty Empty More(True, Empty)"),
-    (b"guarantee { true } assume { false } initially guarantee { false }", "More(False, Empty) Empty More(True, More(False, Empty)) Empty"),
+    (
+        b"initially guarantee { true }",
+        "Empty Empty More(True, Empty) Empty",
+    ),
+    (
+        b"always guarantee { true }",
+        "Empty Empty Empty More(True, Empty)",
+    ),
+    (
+        b"guarantee { true } assume { false } initially guarantee { false }",
+        "More(False, Empty) Empty More(True, More(False, Empty)) Empty",
+    ),
     // sections and texts may be empty
     (b"", "Empty Empty Empty Empty"),
     (b" \t\r\n", "Empty Empty Empty Empty"),
     (b"// nothing", "Empty Empty Empty Empty"),
     (b"guarantee {}", "Empty Empty Empty Empty"),
-    (b"assume {} guarantee {} always assume {} always guarantee {}", "Empty Empty Empty Empty"),
-    (b"initially assume { } initially guarantee { }", "Empty Empty Empty Empty"),
+    (
+        b"assume {} guarantee {} always assume {} always guarantee {}",
+        "Empty Empty Empty Empty",
+    ),
+    (
+        b"initially assume { } initially guarantee { }",
+        "Empty Empty Empty Empty",
+    ),
     // semicolons divide, and the last one is free
-    (b"guarantee { true; false; }", "Empty Empty More(True, More(False, Empty)) Empty"),
-    (b"guarantee { true; false }", "Empty Empty More(True, More(False, Empty)) Empty"),
+    (
+        b"guarantee { true; false; }",
+        "Empty Empty More(True, More(False, Empty)) Empty",
+    ),
+    (
+        b"guarantee { true; false }",
+        "Empty Empty More(True, More(False, Empty)) Empty",
+    ),
     (b"guarantee { ; }", "Form(12)"),
     (b"guarantee { true;; }", "Form(17)"),
     (b"guarantee { true false }", "Form(17)"),
     (b"guarantee { [y <- x] [y <- x] }", "Form(21)"),
     (b"guarantee { true; };", "Form(19)"),
     // comments stand between any tokens
-    (b"/**/guarantee/* { */{/* /* } */ \x80 */true/*;*/;/**/}/**/", "Empty Empty More(True, Empty) Empty"),
-    (b"// {\nguarantee // {\n{ // }\ntrue // ;\n; // }\n} // {", "Empty Empty More(True, Empty) Empty"),
+    (
+        b"/**/guarantee/* { */{/* /* } */ \x80 */true/*;*/;/**/}/**/",
+        "Empty Empty More(True, Empty) Empty",
+    ),
+    (
+        b"// {\nguarantee // {\n{ // }\ntrue // ;\n; // }\n} // {",
+        "Empty Empty More(True, Empty) Empty",
+    ),
 ];
 
 /// Texts, and why they are refused.
@@ -255,19 +366,79 @@ const LONG: &[(&[u8], u32, &[u8], &[u8], &str)] = &[
     (b"guarantee { ", 4999, b"a; ", b"true; }", "read"),
     (b"guarantee { ", 5000, b"a; ", b"}", "Nodes"),
     // `always` counts a node for each formula
-    (b"guarantee { true } always guarantee { ", 4999, b"true; ", b"}", "read"),
-    (b"guarantee { true } always guarantee { ", 4999, b"true; ", b"!true }", "Nodes"),
+    (
+        b"guarantee { true } always guarantee { ",
+        4999,
+        b"true; ",
+        b"}",
+        "read",
+    ),
+    (
+        b"guarantee { true } always guarantee { ",
+        4999,
+        b"true; ",
+        b"!true }",
+        "Nodes",
+    ),
     // both sides of an equivalence count twice
-    (b"guarantee { X (true <-> ", 4996, b"true && ", b"true) }", "read"),
-    (b"guarantee { X X (", 4996, b"true && ", b"true <-> true) }", "Nodes"),
-    (b"guarantee { X X (true <-> ", 4996, b"true && ", b"true) }", "Nodes"),
+    (
+        b"guarantee { X (true <-> ",
+        4996,
+        b"true && ",
+        b"true) }",
+        "read",
+    ),
+    (
+        b"guarantee { X X (",
+        4996,
+        b"true && ",
+        b"true <-> true) }",
+        "Nodes",
+    ),
+    (
+        b"guarantee { X X (true <-> ",
+        4996,
+        b"true && ",
+        b"true) }",
+        "Nodes",
+    ),
     // the right side of a weak until counts twice
-    (b"guarantee { true W (", 4997, b"true && ", b"true) }", "read"),
-    (b"guarantee { X (true W (", 4997, b"true && ", b"true)) }", "Nodes"),
-    (b"guarantee { X ((", 9994, b"true && ", b"true) W true) }", "read"),
+    (
+        b"guarantee { true W (",
+        4997,
+        b"true && ",
+        b"true) }",
+        "read",
+    ),
+    (
+        b"guarantee { X (true W (",
+        4997,
+        b"true && ",
+        b"true)) }",
+        "Nodes",
+    ),
+    (
+        b"guarantee { X ((",
+        9994,
+        b"true && ",
+        b"true) W true) }",
+        "read",
+    ),
     // names are asked before nodes
-    (b"guarantee { p x; ", 10000, b"true; ", b"p() }", "Arity(60017, 60018)"),
-    (b"guarantee { p x; ", 10000, b"true; ", b"p }", "Kind(60017, 60018)"),
+    (
+        b"guarantee { p x; ",
+        10000,
+        b"true; ",
+        b"p() }",
+        "Arity(60017, 60018)",
+    ),
+    (
+        b"guarantee { p x; ",
+        10000,
+        b"true; ",
+        b"p }",
+        "Kind(60017, 60018)",
+    ),
     (b"guarantee { p x; ", 10000, b"true; ", b"p x }", "Nodes"),
     // a hundred thousand formulas, operands, arguments and sections
     (b"guarantee {", 100000, b"true;", b"}", "Nodes"),
@@ -277,10 +448,56 @@ const LONG: &[(&[u8], u32, &[u8], &[u8], &str)] = &[
 ];
 
 /// The tokens of a text that ends too early after each of them.
-const BEGUN: &[&[u8]] = &[b"always", b" guarantee", b" {", b" [", b"y", b" <-", b" f", b" (", b"g", b" x", b")", b"]", b";", b" !", b"(", b"p", b"(", b")", b" &&", b" a", b")", b" ->", b" b", b" <->", b" X", b" true", b";", b" c", b" U", b" d", b" /* */ "];
+const BEGUN: &[&[u8]] = &[
+    b"always",
+    b" guarantee",
+    b" {",
+    b" [",
+    b"y",
+    b" <-",
+    b" f",
+    b" (",
+    b"g",
+    b" x",
+    b")",
+    b"]",
+    b";",
+    b" !",
+    b"(",
+    b"p",
+    b"(",
+    b")",
+    b" &&",
+    b" a",
+    b")",
+    b" ->",
+    b" b",
+    b" <->",
+    b" X",
+    b" true",
+    b";",
+    b" c",
+    b" U",
+    b" d",
+    b" /* */ ",
+];
 
 /// The reserved words.
-const RESERVED: &[&[u8]] = &[b"assume", b"guarantee", b"always", b"initially", b"true", b"false", b"X", b"F", b"G", b"U", b"W", b"R", b"A"];
+const RESERVED: &[&[u8]] = &[
+    b"assume",
+    b"guarantee",
+    b"always",
+    b"initially",
+    b"true",
+    b"false",
+    b"X",
+    b"F",
+    b"G",
+    b"U",
+    b"W",
+    b"R",
+    b"A",
+];
 
 fn reading(rt: &impl Abort, alloc: Global, text: &[u8]) -> Result<Spec, SpecError> {
     assert!(rt; text.len() < 3_000_000);
@@ -386,7 +603,10 @@ fn formulas_are_read_as_trees(rt: HostRuntime) -> Result<(), Fail> {
 #[test]
 fn names_are_numbered_by_first_appearance(rt: HostRuntime) -> Result<(), Fail> {
     for &(items, expected) in NAMES {
-        assert_eq!(rt; names(&rt, rt.alloc(), items)?.as_slice(), expected.as_bytes());
+        assert_eq!(rt;
+            names(&rt, rt.alloc(), items)?.as_slice(),
+            expected.as_bytes()
+        );
     }
     Ok(())
 }
@@ -412,7 +632,11 @@ fn a_reserved_word_is_no_name(rt: HostRuntime) -> Result<(), Fail> {
     let alloc = rt.alloc();
     for &word in RESERVED {
         for (before, after, expected) in [
-            (b"guarantee { [".as_slice(), b" <- x]; }".as_slice(), "Form(13)"),
+            (
+                b"guarantee { [".as_slice(),
+                b" <- x]; }".as_slice(),
+                "Form(13)",
+            ),
             (b"guarantee { [x <- ", b"]; }", "Form(18)"),
             (b"guarantee { p (", b"); }", "Form(15)"),
         ] {

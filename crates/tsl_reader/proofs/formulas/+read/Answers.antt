@@ -9,12 +9,12 @@ use Rattle.tsl_reader.proofs.formulas.+read.Goals as goal
 pub form_below-returns-in-len1-up-clause-ok : goal.form_below-returns-in-len1-up-clause-ok
 form_below-returns-in-len1-up-clause-ok t c =
     rw (form_after_first c.args.room c.in_ok-below.below c.args.form c.args.xs.now c.in_ok-below.ensures.ok c.in-len1-up.len_at_least)
-        c.form_with.ensures.ok
+    c.form_with.ensures.ok
 
 pub form_below-returns-in-len1-up-clause-fault : goal.form_below-returns-in-len1-up-clause-fault
 form_below-returns-in-len1-up-clause-fault t c =
     rw (form_after_first c.args.room c.in_ok-below.below c.args.form c.args.xs.now c.in_ok-below.ensures.ok c.in-len1-up.len_at_least)
-        c.form_with.ensures.fault
+    c.form_with.ensures.fault
 
 pub bracketed_formula-returns-in_err-rest-clause-fault : goal.bracketed_formula-returns-in_err-rest-clause-fault
 bracketed_formula-returns-in_err-rest-clause-fault t c =
@@ -29,16 +29,16 @@ pub conjuncts-returns-in_err-operand-clause-fault : goal.conjuncts-returns-in_er
 conjuncts-returns-in_err-operand-clause-fault t c =
     passed_on _ _ _ c.from_residual.ensures.1
     (member_found_fault formula_syntax (conjunct (lower c.args.room)) (conjuncts_shrink c.args.room)
-        (terminals_view c.loop-rest.left.terminals.now)
+    (terminals_view c.loop-rest.left.terminals.now)
     (map formula_syntax c.loop-rest.operands.items) _ _ _ c.loop-rest.invariant.rest_is
-        (c.in-Some.ensures.some (lower c.args.room)) c.in_err-operand.ensures.fault)
+    (c.in-Some.ensures.some (lower c.args.room)) c.in_err-operand.ensures.fault)
 
 pub conjuncts-loop-rest-preserved : goal.conjuncts-loop-rest-preserved
 conjuncts-loop-rest-preserved t c = record {
   rest_is =
       rw c.in_ok-push.ensures.items
       (members_more formula_syntax (conjunct (lower c.args.room)) (conjuncts_shrink c.args.room)
-          (terminals_view c.loop-rest.left.terminals.now)
+      (terminals_view c.loop-rest.left.terminals.now)
       (terminals_view c.in_ok-operand.rest.now) c.loop-rest.operands.items c.in_ok-operand.operand
       (c.in-Some.ensures.some (lower c.args.room) ∙ ap (λ answer. Some answer) c.in_ok-operand.ensures.ok))
       ∙ c.loop-rest.invariant.rest_is;
@@ -49,23 +49,23 @@ pub conjuncts-returns-clause-ok : goal.conjuncts-returns-clause-ok
 conjuncts-returns-clause-ok t c =
     sym c.loop-rest.invariant.rest_is
     ∙ members_end formula_syntax (conjunct (lower c.args.room)) (conjuncts_shrink c.args.room)
-        (terminals_view c.loop-rest.left.terminals.now)
+    (terminals_view c.loop-rest.left.terminals.now)
     (map formula_syntax c.loop-rest.operands.items) (c.in_default.ensures.none (lower c.args.room))
 
 pub disjuncts-returns-in_err-operand-clause-fault : goal.disjuncts-returns-in_err-operand-clause-fault
 disjuncts-returns-in_err-operand-clause-fault t c =
     passed_on _ _ _ c.from_residual.ensures.1
     (member_found_fault formula_syntax (disjunct (lower c.args.room)) (disjuncts_shrink c.args.room)
-        (terminals_view c.loop-rest.left.terminals.now)
+    (terminals_view c.loop-rest.left.terminals.now)
     (map formula_syntax c.loop-rest.operands.items) _ _ _ c.loop-rest.invariant.rest_is
-        (c.in-Some.ensures.some (lower c.args.room)) c.in_err-operand.ensures.fault)
+    (c.in-Some.ensures.some (lower c.args.room)) c.in_err-operand.ensures.fault)
 
 pub disjuncts-loop-rest-preserved : goal.disjuncts-loop-rest-preserved
 disjuncts-loop-rest-preserved t c = record {
   rest_is =
       rw c.in_ok-push.ensures.items
       (members_more formula_syntax (disjunct (lower c.args.room)) (disjuncts_shrink c.args.room)
-          (terminals_view c.loop-rest.left.terminals.now)
+      (terminals_view c.loop-rest.left.terminals.now)
       (terminals_view c.in_ok-operand.rest.now) c.loop-rest.operands.items c.in_ok-operand.operand
       (c.in-Some.ensures.some (lower c.args.room) ∙ ap (λ answer. Some answer) c.in_ok-operand.ensures.ok))
       ∙ c.loop-rest.invariant.rest_is;
@@ -76,5 +76,5 @@ pub disjuncts-returns-clause-ok : goal.disjuncts-returns-clause-ok
 disjuncts-returns-clause-ok t c =
     sym c.loop-rest.invariant.rest_is
     ∙ members_end formula_syntax (disjunct (lower c.args.room)) (disjuncts_shrink c.args.room)
-        (terminals_view c.loop-rest.left.terminals.now)
+    (terminals_view c.loop-rest.left.terminals.now)
     (map formula_syntax c.loop-rest.operands.items) (c.in_default.ensures.none (lower c.args.room))

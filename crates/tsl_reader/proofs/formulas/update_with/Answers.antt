@@ -11,14 +11,14 @@ pub returns-in_err-rest-in-Free-clause-fault : goal.returns-in_err-rest-in-Free-
 returns-in_err-rest-in-Free-clause-fault c =
     let xs = c.args.xs.now in
     let front : terminals_view xs ≡ free c.in-Free.name.now ∷ mark LeftArrow ∷ terminals_view (take (length xs - 2) (drop 2 xs)) =
-        grind (arith, common_steps) in
+    grind (arith, common_steps) in
     passed_on _ _ _ c.from_residual-in_err-rest-in-Free.ensures.1
     (rw front (unclosed_update
-        (lower c.args.room) c.in-Free.name.now _ _ _ _ c.in_ok-term-in-Free.ensures.ok c.in_err-rest-in-Free.ensures.fault))
+    (lower c.args.room) c.in-Free.name.now _ _ _ _ c.in_ok-term-in-Free.ensures.ok c.in_err-rest-in-Free.ensures.fault))
 
 pub returns-in_ok-rest-in-Free-clause-ok : goal.returns-in_ok-rest-in-Free-clause-ok
 returns-in_ok-rest-in-Free-clause-ok c =
     let xs = c.args.xs.now in
     let front : terminals_view xs ≡ free c.in-Free.name.now ∷ mark LeftArrow ∷ terminals_view (take (length xs - 2) (drop 2 xs)) =
-        grind (arith, common_steps) in
+    grind (arith, common_steps) in
     rw front (updated_read (lower c.args.room) c.in-Free.name.now _ _ _ _ c.in_ok-term-in-Free.ensures.ok c.in_ok-rest-in-Free.ensures.ok)

@@ -8,7 +8,7 @@ pub returns-in_err-formula-clause-fault : goal.returns-in_err-formula-clause-fau
 returns-in_err-formula-clause-fault c =
     passed_on _ _ _ c.from_residual.ensures.1
     (items_fault c.args.room (map formula_syntax c.loop-alloc.formulas.items) (terminals_view c.loop-alloc.left.terminals.now)
-        (terminals_view c.args.xs.now) _
+    (terminals_view c.args.xs.now) _
     (sym c.begins_item.ensures ∙ c.loop-alloc-test.true) c.in_err-formula.ensures.fault c.loop-alloc.invariant.rest_is)
 
 pub loop-alloc-preserved : goal.loop-alloc-preserved
@@ -32,5 +32,5 @@ returns-in-None-clause-ok c =
 pub returns-clause-ok : goal.returns-clause-ok
 returns-clause-ok c =
     items_end c.args.room (map formula_syntax c.loop-alloc.formulas.items) (terminals_view c.loop-alloc.left.terminals.now)
-        (terminals_view c.args.xs.now)
+    (terminals_view c.args.xs.now)
     (sym c.begins_item.ensures ∙ c.loop-alloc-test.false) c.loop-alloc.invariant.rest_is

@@ -15,14 +15,14 @@ first_uses-requires c =
     few_firsts c.args.text.now c.args.tokens.now (map section_syntax c.args.sections.now) (map name_use c.deref-2.result.now) c.requires.derived c.requires.text
     (ap (map name_use) c.deref-2.ensures.value
     ∙ written_are (map read_use c.deref.result.now) (map name_use c.in_ok-written.written.items) (map section_syntax c.args.sections.now) c.in_ok-written.ensures
-      (ap (map read_use) c.deref.ensures.value ∙ c.in_ok-uses.ensures))
+    (ap (map read_use) c.deref.ensures.value ∙ c.in_ok-uses.ensures))
 
 pub clash_token-requires-clause-spelled : goal.clash_token-requires-clause-spelled
 clash_token-requires-clause-spelled c =
     ap (map (λ n. n.text))
     (ap (map name_use) c.deref-3.ensures.value
     ∙ written_are (map read_use c.deref.result.now) (map name_use c.in_ok-written.written.items) (map section_syntax c.args.sections.now) c.in_ok-written.ensures
-      (ap (map read_use) c.deref.ensures.value ∙ c.in_ok-uses.ensures))
+    (ap (map read_use) c.deref.ensures.value ∙ c.in_ok-uses.ensures))
     ∙ texts_of_uses c.args.text.now c.args.tokens.now (map section_syntax c.args.sections.now) c.requires.derived
 
 pub clash_token-requires-2-clause-spelled : goal.clash_token-requires-2-clause-spelled
@@ -30,7 +30,7 @@ clash_token-requires-2-clause-spelled c =
     ap (map (λ n. n.text))
     (ap (map name_use) c.deref-4.ensures.value
     ∙ written_are (map read_use c.deref.result.now) (map name_use c.in_ok-written.written.items) (map section_syntax c.args.sections.now) c.in_ok-written.ensures
-      (ap (map read_use) c.deref.ensures.value ∙ c.in_ok-uses.ensures))
+    (ap (map read_use) c.deref.ensures.value ∙ c.in_ok-uses.ensures))
     ∙ texts_of_uses c.args.text.now c.args.tokens.now (map section_syntax c.args.sections.now) c.requires.derived
 
 pub returns-in-Some-clause-cause : goal.returns-in-Some-clause-cause
@@ -39,10 +39,10 @@ returns-in-Some-clause-cause c = record {
   sections = map section_syntax c.args.sections.now;
   derives = c.requires.derived;
   clash = clash_in alike_in_kind c.args.text.now c.args.tokens.now (map section_syntax c.args.sections.now) (map name_use c.deref-3.result.now) c.in-Some.token
-    (ap (map name_use) c.deref-3.ensures.value
-    ∙ written_are (map read_use c.deref.result.now) (map name_use c.in_ok-written.written.items) (map section_syntax c.args.sections.now) c.in_ok-written.ensures
+      (ap (map name_use) c.deref-3.ensures.value
+      ∙ written_are (map read_use c.deref.result.now) (map name_use c.in_ok-written.written.items) (map section_syntax c.args.sections.now) c.in_ok-written.ensures
       (ap (map read_use) c.deref.ensures.value ∙ c.in_ok-uses.ensures))
-    c.in-Some.ensures;
+      c.in-Some.ensures;
 }
 
 pub returns-in-Some-clash_token-clause-cause : goal.returns-in-Some-clash_token-clause-cause
@@ -51,15 +51,15 @@ returns-in-Some-clash_token-clause-cause c = record {
   sections = map section_syntax c.args.sections.now;
   derives = c.requires.derived;
   one_kind = subst (HasNoClash alike_in_kind)
-    (ap (map name_use) c.deref-3.ensures.value
-    ∙ written_are (map read_use c.deref.result.now) (map name_use c.in_ok-written.written.items) (map section_syntax c.args.sections.now) c.in_ok-written.ensures
+      (ap (map name_use) c.deref-3.ensures.value
+      ∙ written_are (map read_use c.deref.result.now) (map name_use c.in_ok-written.written.items) (map section_syntax c.args.sections.now) c.in_ok-written.ensures
       (ap (map read_use) c.deref.ensures.value ∙ c.in_ok-uses.ensures))
-    c.in_default.ensures;
+      c.in_default.ensures;
   clash = clash_in same_arity c.args.text.now c.args.tokens.now (map section_syntax c.args.sections.now) (map name_use c.deref-4.result.now) c.in-Some-clash_token.token
-    (ap (map name_use) c.deref-4.ensures.value
-    ∙ written_are (map read_use c.deref.result.now) (map name_use c.in_ok-written.written.items) (map section_syntax c.args.sections.now) c.in_ok-written.ensures
+      (ap (map name_use) c.deref-4.ensures.value
+      ∙ written_are (map read_use c.deref.result.now) (map name_use c.in_ok-written.written.items) (map section_syntax c.args.sections.now) c.in_ok-written.ensures
       (ap (map read_use) c.deref.ensures.value ∙ c.in_ok-uses.ensures))
-    c.in-Some-clash_token.ensures;
+      c.in-Some-clash_token.ensures;
 }
 
 pub first_uses-requires-2 : goal.first_uses-requires-2
@@ -72,7 +72,7 @@ returns-clause-one_kind c =
     subst (HasNoClash alike_in_kind)
     (ap (map name_use) c.deref-3.ensures.value
     ∙ written_are (map read_use c.deref.result.now) (map name_use c.in_ok-written.written.items) (map section_syntax c.args.sections.now) c.in_ok-written.ensures
-      (ap (map read_use) c.deref.ensures.value ∙ c.in_ok-uses.ensures))
+    (ap (map read_use) c.deref.ensures.value ∙ c.in_ok-uses.ensures))
     c.in_default.ensures
 
 pub returns-clause-one_arity : goal.returns-clause-one_arity
@@ -80,5 +80,5 @@ returns-clause-one_arity c =
     subst (HasNoClash same_arity)
     (ap (map name_use) c.deref-4.ensures.value
     ∙ written_are (map read_use c.deref.result.now) (map name_use c.in_ok-written.written.items) (map section_syntax c.args.sections.now) c.in_ok-written.ensures
-      (ap (map read_use) c.deref.ensures.value ∙ c.in_ok-uses.ensures))
+    (ap (map read_use) c.deref.ensures.value ∙ c.in_ok-uses.ensures))
     c.in_default-clash_token.ensures
