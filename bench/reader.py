@@ -1,26 +1,10 @@
 #!/usr/bin/env python3
 """Times `tsl synth` on texts that are hard to read, at doubling sizes."""
-import pathlib
-import subprocess
-import tempfile
+from measuring import PROGRAM, built, measured
 
-HERE = pathlib.Path(__file__).resolve().parent
-PROGRAM = HERE.parent / "crates" / "tsl" / "out" / "tsl"
 MOST = 1_048_576
 CLEAR = 0.0002  # seconds; a shorter time is lost in the noise of starting a process
 SIZES = [MOST >> halvings for halvings in range(5, -1, -1)]
-
-
-def measured(measure, text):
-    """The least seconds of as many runs as take half a second, the peak KiB, and the status."""
-    with tempfile.NamedTemporaryFile() as file:
-        file.write(text)
-        file.flush()
-        done = subprocess.run([measure, file.name, PROGRAM, "synth"], capture_output=True, text=True)
-    nanoseconds, peak, status = done.stdout.split() if done.returncode == 0 else (0, 0, "none")
-    if status not in ("0", "3", "4"):
-        raise SystemExit("a run failed")
-    return int(nanoseconds) / 1e9, int(peak), status
 
 
 def filled(before, member, after, size):
@@ -66,12 +50,8 @@ SHAPES = [
 
 
 def main():
-    if not PROGRAM.exists():
-        raise SystemExit("build the program first: ./tsl synth < examples/copy.tsl")
-    with tempfile.TemporaryDirectory() as folder:
-        measure = pathlib.Path(folder) / "measure"
-        subprocess.run(["cc", "-O2", "-o", measure, HERE / "measure.c"], check=True)
-        start, _, _ = measured(measure, b"always guarantee {}")
+    with built() as folder:
+        start, _, _ = measured(folder, b"always guarantee {}", [PROGRAM, "synth"])
         print(f"the start of a process: {start * 1000:.3f} ms, taken off below")
         worst = 0.0
         for title, shape in SHAPES:
@@ -80,7 +60,7 @@ def main():
             before = None
             for size in SIZES:
                 text = shape(size)
-                seconds, peak, status = measured(measure, text)
+                seconds, peak, status = measured(folder, text, [PROGRAM, "synth"], ("0", "3", "4"))
                 own = max(seconds - start, 1e-6)
                 growth = own / before if before and before > CLEAR else None
                 print(f"{len(text):9} {status:>6} {own:9.6f} {growth and f'{growth:.2f}' or '-':>7} {peak:9}")

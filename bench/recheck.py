@@ -2,25 +2,10 @@
 """Times `tsl recheck` on refutations of doubling sizes, beside a plain checker in C. The first argument is the largest
 size in MiB, 4 if there is none."""
 import itertools
-import pathlib
 import subprocess
 import sys
-import tempfile
 
-HERE = pathlib.Path(__file__).resolve().parent
-PROGRAM = HERE.parent / "crates" / "tsl" / "out" / "tsl"
-
-
-def measured(measure, text, command):
-    """The least seconds of the runs, and the peak KiB."""
-    with tempfile.NamedTemporaryFile() as file:
-        file.write(text)
-        file.flush()
-        done = subprocess.run([measure, file.name, *command], capture_output=True, text=True)
-    nanoseconds, peak, status = done.stdout.split() if done.returncode == 0 else (0, 0, "none")
-    if status != "0":
-        raise SystemExit("a run failed")
-    return int(nanoseconds) / 1e9, int(peak)
+from measuring import HERE, PROGRAM, built, measured
 
 
 def text_of(variables, clauses, steps):
@@ -96,14 +81,14 @@ def pigeons(holes):
     return text_of((holes + 1) * holes, clauses, steps)
 
 
-def table(measure, reference, title, family, sizes):
+def table(folder, reference, title, family, sizes):
     print(title)
     print(f"{'bytes':>10} {'seconds':>9} {'growth':>7} {'peak KiB':>9} {'a byte':>7} {'plain C':>9} {'ratio':>6}")
     before = None
     for size in sizes:
         text = family(size)
-        seconds, peak = measured(measure, text, [PROGRAM, "recheck"])
-        plain, _ = measured(measure, text, [reference])
+        seconds, peak, _ = measured(folder, text, [PROGRAM, "recheck"])
+        plain, _, _ = measured(folder, text, [reference])
         growth = f"{seconds / before:7.2f}" if before else "      -"
         each = peak * 1024 / len(text)
         print(f"{len(text):10} {seconds:9.4f} {growth} {peak:9} {each:7.1f} {plain:9.4f} {seconds / plain:6.2f}")
@@ -111,19 +96,16 @@ def table(measure, reference, title, family, sizes):
 
 
 def main():
-    if not PROGRAM.exists():
-        raise SystemExit("build the program first: ./tsl synth < examples/copy.tsl")
     largest = float(sys.argv[1]) if len(sys.argv) > 1 else 4
     sizes = [int(largest * 2**20 / 2**k) for k in reversed(range(6))]
-    with tempfile.TemporaryDirectory() as folder:
-        measure, reference = (pathlib.Path(folder) / name for name in ("measure", "reference"))
-        for program in (measure, reference):
-            subprocess.run(["cc", "-O2", "-o", program, HERE / f"{program.name}.c"], check=True)
-        table(measure, reference, "chains of units", chain, sizes)
-        table(measure, reference, "long clauses", long_clauses, sizes)
-        table(measure, reference, "clauses of three, two and one literals", pairs, sizes)
+    with built() as folder:
+        reference = folder / "reference"
+        subprocess.run(["cc", "-O2", "-o", reference, HERE / "reference.c"], check=True)
+        table(folder, reference, "chains of units", chain, sizes)
+        table(folder, reference, "long clauses", long_clauses, sizes)
+        table(folder, reference, "clauses of three, two and one literals", pairs, sizes)
         holes = [n for n in range(7, 16) if 2**n * n**3 / 2 <= largest * 2**20]
-        table(measure, reference, "pigeons, with a hole more each time", pigeons, holes)
+        table(folder, reference, "pigeons, with a hole more each time", pigeons, holes)
 
 
 main()

@@ -1,0 +1,31 @@
+"""How the benchmarks run the program on a text: the least time of some runs, the peak of memory, and the status."""
+import contextlib
+import pathlib
+import subprocess
+import tempfile
+
+HERE = pathlib.Path(__file__).resolve().parent
+PROGRAM = HERE.parent / "crates" / "tsl" / "out" / "tsl"
+
+
+@contextlib.contextmanager
+def built():
+    """A folder to build in, with `measure` built there. The program has to be there."""
+    if not PROGRAM.exists():
+        raise SystemExit("build the program first: ./tsl synth < examples/copy.tsl")
+    with tempfile.TemporaryDirectory() as name:
+        folder = pathlib.Path(name)
+        subprocess.run(["cc", "-O2", "-o", folder / "measure", HERE / "measure.c"], check=True)
+        yield folder
+
+
+def measured(folder, text, command, statuses=("0",)):
+    """The least seconds of as many runs as take half a second, the peak KiB, and the status, which is one of these."""
+    with tempfile.NamedTemporaryFile() as file:
+        file.write(text)
+        file.flush()
+        done = subprocess.run([folder / "measure", file.name, *command], capture_output=True, text=True)
+    nanoseconds, peak, status = done.stdout.split() if done.returncode == 0 else (0, 0, "none")
+    if status not in statuses:
+        raise SystemExit("a run failed")
+    return int(nanoseconds) / 1e9, int(peak), status
