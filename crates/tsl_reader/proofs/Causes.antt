@@ -1,9 +1,11 @@
 -- The faults of a text, by the tokens where they stand, and that each cause leaves no specification.
-use Rattle.std.proofs.Common.{◌≡◌, ℕ, zero, suc, ◌-◌, ◌<◌, ◌≤◌, List, [], ◌∷◌, ◌++◌, length, refl, ap, sym, ◌∙◌, subst, inl, inr, length-append, arith}
-use Rattle.std.proofs.lemmas.List.{map-append, append-nil}
+use Rattle.std.proofs.Common.{◌≡◌, ℕ, zero, suc, ◌-◌, ◌<◌, ◌≤◌, List, [], ◌∷◌, ◌++◌, length, take, drop, refl, ap, sym, ◌∙◌, subst, inl}
+use Rattle.std.proofs.Common.{inr, arith}
+use Rattle.std.proofs.lemmas.List.{map-append, append-nil, length-map, length-drop}
 use Rattle.std.proofs.lemmas.Option.{slice_get_past}
 use Rattle.std.specs.Prelude.{Some, None, Ok, Err, slice_get}
 use Rattle.sequence.proofs.Options.{one_value}
+use Rattle.sequence.proofs.Places.{split_at}
 use Rattle.tsl_text.specs.declared.Token.{Token}
 use Rattle.tsl_text.specs.declared.TextError.{TextError}
 use Rattle.tsl_text.specs.Division.{AreTokens, IsAnswer}
@@ -19,40 +21,19 @@ use Rattle.tsl_reader.specs.Grammar.{AreSections}
 use Rattle.token_readers.specs.Readers.{form, deep}
 use Rattle.tsl_reader.specs.Reading.{sections}
 use Rattle.tsl_reader.specs.Naming.{names_of, numbered_list, formulas_in}
-use Rattle.tsl_reader.specs.Spells.{deepest, most_nodes, terminal_at, terminals, Derives, IsDerived, Spells, HasWrongToken, HasFormFault, HasDeepFault, HasTooManyNodes}
+use Rattle.tsl_reader.specs.Spells.{deepest, most_nodes, terminal_at, terminals, Derives, IsDerived, Spells, HasWrongToken, HasFormFault}
+use Rattle.tsl_reader.specs.Spells.{HasDeepFault, HasTooManyNodes}
 use Rattle.tsl_reader.proofs.ExactSections.{one_tree}
-use Rattle.tsl_reader.proofs.Faults.{form_is_within, deep_is_within, form_stops_all, form_begins, deep_stops, deep_begins, deep_goes_on, no_text}
-
--- the tokens before one at a place, and those behind it
-pub record Split (tokens : List Token) (at : ℕ) (token : Token) : Type 0 where
-  pub before : List Token
-  pub after : List Token
-  pub split : tokens ≡ before ++ token ∷ after
-  pub place : length before ≡ at
-
-pub split_at : (tokens : List Token) (at : ℕ) (token : Token) → slice_get tokens at ≡ Some token → Split tokens at token
-split_at [] at token h = cc
-split_at (t ∷ tokens) zero token h =
-    let same : t ≡ token = cc in
-    record { before = []; after = tokens; split = ap (λ s. s ∷ tokens) same; place = refl }
-split_at (t ∷ tokens) (suc at) token h =
-    let s : Split tokens at token = split_at tokens at token h in
-    record { before = t ∷ s.before; after = s.after; split = ap (λ ts. t ∷ ts) s.split; place = ap suc s.place }
+use Rattle.tsl_reader.proofs.Faults.{form_is_within, deep_is_within, form_stops_all, form_begins, deep_stops, deep_begins, deep_goes_on}
+use Rattle.tsl_reader.proofs.Faults.{no_text}
 
 -- the terminals of tokens before and behind one
 terminals_split : (text : List ℕ) (before : List Token) (token : Token) (after : List Token) →
     terminals text (before ++ token ∷ after) ≡ terminals text before ++ terminal_at text token ∷ terminals text after
 terminals_split text before token after = map-append (terminal_at text) before (token ∷ after)
 
-length_terminals : (text : List ℕ) (tokens : List Token) → length (terminals text tokens) ≡ length tokens
-length_terminals text [] = refl
-length_terminals text (t ∷ tokens) = ap suc (length_terminals text tokens)
-
--- the place of a token with so many tokens from it on
-left_at : (tokens : List Token) (left : ℕ) (token : Token) → 0 < left → left ≤ length tokens → (s : Split tokens (length tokens - left) token) → left ≡ suc (length s.after)
-left_at tokens left token some few s =
-    let whole : length tokens ≡ length (s.before ++ token ∷ s.after) = ap length s.split in
-    omega (arith, whole, s.place, some, few, length-append s.before (token ∷ s.after))
+pub length_terminals : (text : List ℕ) (tokens : List Token) → length (terminals text tokens) ≡ length tokens
+length_terminals text tokens = length-map tokens (terminal_at text)
 
 -- a fault at a token
 record Stop (text : List ℕ) (tokens : List Token) (left : ℕ) (token : Token) : Type 0 where
@@ -62,18 +43,22 @@ record Stop (text : List ℕ) (tokens : List Token) (left : ℕ) (token : Token)
   pub terminals_are : terminals text tokens ≡ terminals text before ++ terminal_at text token ∷ terminals text after
   pub here : left ≡ suc (length (terminals text after))
 
-stop_at : (text : List ℕ) (tokens : List Token) (left : ℕ) (token : Token) → slice_get tokens (length tokens - left) ≡ Some token → 0 < left → left ≤ length tokens → Stop text tokens left token
+stop_at : (text : List ℕ) (tokens : List Token) (left : ℕ) (token : Token) → slice_get tokens (length tokens - left) ≡ Some token →
+    0 < left → left ≤ length tokens → Stop text tokens left token
 stop_at text tokens left token there some few =
-    let s : Split tokens (length tokens - left) token = split_at tokens (length tokens - left) token there in
+    let before = take (length tokens - left) tokens in
+    let after = drop (suc (length tokens - left)) tokens in
+    let split : tokens ≡ before ++ token ∷ after = split_at tokens (length tokens - left) token there in
     record {
-      before = s.before;
-      after = s.after;
-      split = s.split;
-      terminals_are = ap (terminals text) s.split ∙ terminals_split text s.before token s.after;
-      here = left_at tokens left token some few s ∙ ap suc (sym (length_terminals text s.after));
+      before = before;
+      after = after;
+      split = split;
+      terminals_are = ap (terminals text) split ∙ terminals_split text before token after;
+      here = omega (arith, some, few, length_terminals text after, length-drop (suc (length tokens - left)) tokens);
     }
 
-wrong_token : (text : List ℕ) (tokens : List Token) → AreTokens text tokens → (left : ℕ) → sections deepest (terminals text tokens) ≡ Err (form left) →
+wrong_token : (text : List ℕ) (tokens : List Token) → AreTokens text tokens → (left : ℕ) →
+    sections deepest (terminals text tokens) ≡ Err (form left) →
     (token : Token) → slice_get tokens (length tokens - left) ≡ Some token → 0 < left → HasWrongToken text token.start
 wrong_token text tokens are left h token there some =
     let few : left ≤ length tokens = omega (arith, form_is_within deepest (terminals text tokens) left h, length_terminals text tokens) in
@@ -84,13 +69,16 @@ wrong_token text tokens are left h token there some =
       after = s.after;
       tokens_are = subst (AreTokens text) s.split are;
       place = refl;
-      begins = form_begins deepest (terminals text tokens) left h (terminals text s.before) (terminal_at text token ∷ terminals text s.after) s.terminals_are s.here;
+      begins = form_begins deepest (terminals text tokens) left h (terminals text s.before)
+          (terminal_at text token ∷ terminals text s.after) s.terminals_are s.here;
       stops = λ room. rw (terminals_split text s.before token [])
-          (form_stops_all deepest (terminals text tokens) left h (terminals text s.before) (terminal_at text token) (terminals text s.after) s.terminals_are s.here room);
+          (form_stops_all deepest (terminals text tokens) left h (terminals text s.before) (terminal_at text token)
+          (terminals text s.after) s.terminals_are s.here room);
     }
 
 -- a form fault at a token
-pub form_at_token : (text : List ℕ) (tokens : List Token) → AreTokens text tokens → (left : ℕ) → sections deepest (terminals text tokens) ≡ Err (form left) →
+pub form_at_token : (text : List ℕ) (tokens : List Token) → AreTokens text tokens → (left : ℕ) →
+    sections deepest (terminals text tokens) ≡ Err (form left) →
     (token : Token) → slice_get tokens (length tokens - left) ≡ Some token → HasFormFault text token.start
 form_at_token text tokens are zero h token there = no_token (slice_get_past tokens (length tokens - 0) (omega arith)) where
   no_token : slice_get tokens (length tokens - 0) ≡ None → HasFormFault text token.start
@@ -98,19 +86,22 @@ form_at_token text tokens are zero h token there = no_token (slice_get_past toke
 form_at_token text tokens are (suc left) h token there = inl (wrong_token text tokens are (suc left) h token there (omega arith))
 
 -- a form fault at the end of the text
-pub form_at_end : (text : List ℕ) (tokens : List Token) → AreTokens text tokens → (left : ℕ) → sections deepest (terminals text tokens) ≡ Err (form left) → left ≡ 0 →
+pub form_at_end : (text : List ℕ) (tokens : List Token) → AreTokens text tokens → (left : ℕ) →
+    sections deepest (terminals text tokens) ≡ Err (form left) → left ≡ 0 →
     HasFormFault text (length text)
 form_at_end text tokens are left h none =
     inr (record {
       tokens = tokens;
       tokens_are = are;
       place = refl;
-      begins = form_begins deepest (terminals text tokens) left h (terminals text tokens) [] (sym (append-nil (terminals text tokens))) none;
+      begins = form_begins deepest (terminals text tokens) left h (terminals text tokens) []
+          (sym (append-nil (terminals text tokens))) none;
       no_text = λ room. no_text deepest (terminals text tokens) left h room;
     })
 
 -- a level too many, at a token
-pub deep_at_token : (text : List ℕ) (tokens : List Token) → AreTokens text tokens → (left : ℕ) → sections deepest (terminals text tokens) ≡ Err (deep left) →
+pub deep_at_token : (text : List ℕ) (tokens : List Token) → AreTokens text tokens → (left : ℕ) →
+    sections deepest (terminals text tokens) ≡ Err (deep left) →
     (token : Token) → slice_get tokens (length tokens - left) ≡ Some token → HasDeepFault text token.start
 deep_at_token text tokens are left h token there =
     let within = deep_is_within deepest (terminals text tokens) left h in
@@ -122,28 +113,20 @@ deep_at_token text tokens are left h token there =
       after = s.after;
       tokens_are = subst (AreTokens text) s.split are;
       place = refl;
-      begins = deep_begins deepest (terminals text tokens) left h (terminals text s.before) (terminal_at text token) (terminals text s.after) s.terminals_are s.here;
+      begins = deep_begins deepest (terminals text tokens) left h (terminals text s.before) (terminal_at text token)
+          (terminals text s.after) s.terminals_are s.here;
       stops = rw (terminals_split text s.before token [])
-          (deep_stops deepest (terminals text tokens) left h (terminals text s.before) (terminal_at text token) (terminals text s.after) s.terminals_are s.here);
+          (deep_stops deepest (terminals text tokens) left h (terminals text s.before) (terminal_at text token)
+          (terminals text s.after) s.terminals_are s.here);
       room = suc (suc deepest);
       goes_on = rw (terminals_split text s.before token [])
-          (deep_goes_on deepest (terminals text tokens) left h (terminals text s.before) (terminal_at text token) (terminals text s.after) s.terminals_are s.here);
+          (deep_goes_on deepest (terminals text tokens) left h (terminals text s.before) (terminal_at text token)
+          (terminals text s.after) s.terminals_are s.here);
     }
 
--- no token stands at the place of a form fault where none is left
-pub none_left : (text : List ℕ) (tokens : List Token) (left : ℕ) → sections deepest (terminals text tokens) ≡ Err (form left) → slice_get tokens (length tokens - left) ≡ None → left ≡ 0
-none_left text tokens zero h none = refl
-none_left text tokens (suc left) h none =
-    let few : suc left ≤ length tokens = omega (arith, form_is_within deepest (terminals text tokens) (suc left) h, length_terminals text tokens) in
-    absurd (some_within tokens (length tokens - suc left) (omega (arith, few)) none)
-  where
-    some_within : (ts : List Token) (at : ℕ) → at < length ts → slice_get ts at ≡ None → ⊥
-    some_within [] at less none = omega (arith, less)
-    some_within (t ∷ ts) zero less none = cc
-    some_within (t ∷ ts) (suc at) less none = some_within ts at (omega (arith, less)) none
-
 -- a level too many has a token
-pub deep_has_token : (text : List ℕ) (tokens : List Token) (left : ℕ) → sections deepest (terminals text tokens) ≡ Err (deep left) → (0 < left) × (left ≤ length tokens)
+pub deep_has_token : (text : List ℕ) (tokens : List Token) (left : ℕ) → sections deepest (terminals text tokens) ≡ Err (deep left) →
+    (0 < left) × (left ≤ length tokens)
 deep_has_token text tokens left h =
     let within = deep_is_within deepest (terminals text tokens) left h in
     (within.0, omega (arith, within.1, length_terminals text tokens))
@@ -181,10 +164,18 @@ pub one_derived : (text : List ℕ) (a b : SpecTree) → IsDerived text a → Is
 one_derived text a b x y =
     let sections : x.sections ≡ y.sections = one_derivation text x.tokens y.tokens x.sections y.sections x.derives y.derives in
     let names : a.names ≡ b.names = x.names ∙ ap names_of sections ∙ sym y.names in
-    let assume_first : a.assume_first ≡ b.assume_first = numbered_alike a.names b.names x.sections y.sections AssumeFirst a.assume_first b.assume_first names sections x.assume_first y.assume_first in
-    let assume_always : a.assume_always ≡ b.assume_always = numbered_alike a.names b.names x.sections y.sections AssumeAlways a.assume_always b.assume_always names sections x.assume_always y.assume_always in
-    let guarantee_first : a.guarantee_first ≡ b.guarantee_first = numbered_alike a.names b.names x.sections y.sections GuaranteeFirst a.guarantee_first b.guarantee_first names sections x.guarantee_first y.guarantee_first in
-    let guarantee_always : a.guarantee_always ≡ b.guarantee_always = numbered_alike a.names b.names x.sections y.sections GuaranteeAlways a.guarantee_always b.guarantee_always names sections x.guarantee_always y.guarantee_always in
+    let assume_first : a.assume_first ≡ b.assume_first =
+    numbered_alike a.names b.names x.sections y.sections AssumeFirst a.assume_first b.assume_first names sections x.assume_first
+    y.assume_first in
+    let assume_always : a.assume_always ≡ b.assume_always =
+    numbered_alike a.names b.names x.sections y.sections AssumeAlways a.assume_always b.assume_always names sections x.assume_always
+    y.assume_always in
+    let guarantee_first : a.guarantee_first ≡ b.guarantee_first =
+    numbered_alike a.names b.names x.sections y.sections GuaranteeFirst a.guarantee_first b.guarantee_first names sections
+    x.guarantee_first y.guarantee_first in
+    let guarantee_always : a.guarantee_always ≡ b.guarantee_always =
+    numbered_alike a.names b.names x.sections y.sections GuaranteeAlways a.guarantee_always b.guarantee_always names sections
+    x.guarantee_always y.guarantee_always in
     λ i. spec_from (names i) (assume_first i) (assume_always i) (guarantee_first i) (guarantee_always i)
 
 -- a text spells one specification

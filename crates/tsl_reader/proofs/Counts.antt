@@ -22,9 +22,11 @@ pub tokens_within : (text : List ℕ) (tokens : List Token) → AreTokens text t
 tokens_within text tokens are = omega (arith, ap length are.places, parts_within text 0 are.parts are.divides)
 
 -- there are not more uses in a text than bytes
-pub uses_within : (text : List ℕ) (tokens : List Token) (ss : List SectionSyntax) → Derives text tokens ss → length (all_uses ss) ≤ length text
+pub uses_within : (text : List ℕ) (tokens : List Token) (ss : List SectionSyntax) → Derives text tokens ss →
+    length (all_uses ss) ≤ length text
 uses_within text tokens ss d =
-    let same : length (map (λ n. n.text) (written_uses ss)) ≡ length (map (token_text text) (name_tokens text tokens)) = ap length (texts_of_uses text tokens ss d) in
+    let same : length (map (λ n. n.text) (written_uses ss)) ≡ length (map (token_text text) (name_tokens text tokens)) =
+    ap length (texts_of_uses text tokens ss d) in
     omega (
       arith,
       same,

@@ -28,7 +28,8 @@ pub record Known (names : List Name) (u : Name) : Type 0 where
   pub kind : same_kind entry.kind u.kind ≡ true
   pub arity : (entry.arity == u.arity) ≡ true
 
-known_of : (names : List Name) (u f : Name) → named names u.text ≡ Some f → f.text ≡ u.text → alike_in_kind f u ≡ true → same_arity f u ≡ true → Known names u
+known_of : (names : List Name) (u f : Name) → named names u.text ≡ Some f → f.text ≡ u.text → alike_in_kind f u ≡ true →
+    same_arity f u ≡ true → Known names u
 known_of names u f found text kind arity = by (number_of names u.text) refl found where
   by : (number : Option ℕ) → number_of names u.text ≡ number → option_and_then (slice_get names) number ≡ Some f → Known names u
   by None e g = cc
@@ -41,7 +42,8 @@ MayBeNamed n = (n ≡ question_use) ⊎ IsUsable n.text
 pub each_named : (us : List Use) → AllByRecursion (λ u. IsUsable u.name.text) us → AllByRecursion MayBeNamed (flat_map named_by us)
 each_named [] h = tt
 each_named (u ∷ us) h = (inr h.0, by u.is_tested (each_named us h.1)) where
-  by : (asks : Bool) → AllByRecursion MayBeNamed (flat_map named_by us) → AllByRecursion MayBeNamed (cond asks (question_use ∷ []) [] ++ flat_map named_by us)
+  by : (asks : Bool) → AllByRecursion MayBeNamed (flat_map named_by us) →
+      AllByRecursion MayBeNamed (cond asks (question_use ∷ []) [] ++ flat_map named_by us)
   by true k = (inl refl, k)
   by false k = k
 
@@ -58,7 +60,8 @@ usable_is_other text h = by (bytes_eq text question) refl where
   by false e = refl
 
 -- the first use of a name is like each use
-like_first : (alike : Name → Name → Bool) (us : List Name) → HasNoClash alike us → (at : ℕ) (u f : Name) → slice_get us at ≡ Some u → first_of us u.text ≡ Some f → alike f u ≡ true
+like_first : (alike : Name → Name → Bool) (us : List Name) → HasNoClash alike us → (at : ℕ) (u f : Name) → slice_get us at ≡ Some u →
+    first_of us u.text ≡ Some f → alike f u ≡ true
 like_first alike us none at u f there first = by (alike f u) refl where
   by : (is : Bool) → alike f u ≡ is → is ≡ true
   by true e = refl
@@ -71,11 +74,14 @@ module _ (ss : List SectionSyntax) (usable : AllByRecursion (λ u. IsUsable u.na
       let first = first_some (written_uses ss) at u there in
       let stands : FirstAt (written_uses ss) u.text first.0 = first_at (written_uses ss) u.text first.0 first.1 in
       known_of (names_of ss) u first.0
-      (named_first (flat_map named_by (all_uses ss)) u.text ∙ first_other (all_uses ss) u.text (usable_is_other u.text h) ∙ first.1) (sym stands.same)
-      (like_first alike_in_kind (written_uses ss) kinds at u first.0 there first.1) (like_first same_arity (written_uses ss) arities at u first.0 there first.1)
+      (named_first (flat_map named_by (all_uses ss)) u.text ∙ first_other (all_uses ss) u.text (usable_is_other u.text h)
+      ∙ first.1) (sym stands.same)
+      (like_first alike_in_kind (written_uses ss) kinds at u first.0 there first.1)
+      (like_first same_arity (written_uses ss) arities at u first.0 there first.1)
 
   -- where a signal is tested, the names know `?`
-  asked_at : (us : List Use) (at : ℕ) (u : Use) → slice_get us at ≡ Some u → IsTrue u.is_tested → (k : ℕ) × (slice_get (flat_map named_by us) k ≡ Some question_use)
+  asked_at : (us : List Use) (at : ℕ) (u : Use) → slice_get us at ≡ Some u → IsTrue u.is_tested →
+      (k : ℕ) × (slice_get (flat_map named_by us) k ≡ Some question_use)
   asked_at [] at u there asks = cc
   asked_at (v ∷ us) zero u there asks =
       let same : v ≡ u = cc in
@@ -90,7 +96,8 @@ module _ (ss : List SectionSyntax) (usable : AllByRecursion (λ u. IsUsable u.na
   known_question at u there asks =
       let stands_at = asked_at (all_uses ss) at u there asks in
       let first = first_some (flat_map named_by (all_uses ss)) stands_at.0 question_use stands_at.1 in
-      let stands : FirstAt (flat_map named_by (all_uses ss)) question first.0 = first_at (flat_map named_by (all_uses ss)) question first.0 first.1 in
+      let stands : FirstAt (flat_map named_by (all_uses ss)) question first.0 =
+      first_at (flat_map named_by (all_uses ss)) question first.0 first.1 in
       let same : first.0 ≡ question_use =
       ⊎_elim (λ (is : first.0 ≡ question_use). is) (λ fine. absurd (question_unusable first.0.text fine (sym stands.same)))
       (each_at MayBeNamed (flat_map named_by (all_uses ss)) stands.at first.0 (each_named (all_uses ss) usable) stands.there) in
@@ -104,14 +111,16 @@ pub record KnownUse (names : List Name) (u : Use) : Type 0 where
   pub asked : IsTrue u.is_tested → Known names question_use
 
 -- the names of a text that derives know each of its uses
-pub all_known : (text : List ℕ) (tokens : List Token) (ss : List SectionSyntax) → Derives text tokens ss → HasNoClash alike_in_kind (written_uses ss) →
+pub all_known : (text : List ℕ) (tokens : List Token) (ss : List SectionSyntax) → Derives text tokens ss →
+    HasNoClash alike_in_kind (written_uses ss) →
     HasNoClash same_arity (written_uses ss) → AllByRecursion (KnownUse (names_of ss)) (all_uses ss)
 all_known text tokens ss d kinds arities =
     let usable = usable_uses text tokens ss d in
     each_from_places (KnownUse (names_of ss)) (all_uses ss) (λ at u there.
     let fine : IsUsable u.name.text = each_at (λ v. IsUsable v.name.text) (all_uses ss) at u usable there in
     record {
-      name = known_name ss usable kinds arities at u.name (slice_get-map (λ v. v.name) (all_uses ss) at ∙ ap (option_map (λ v. v.name)) there) fine;
+      name = known_name ss usable kinds arities at u.name (slice_get-map (λ v. v.name) (all_uses ss) at
+          ∙ ap (option_map (λ v. v.name)) there) fine;
       usable = fine;
       asked = known_question ss usable kinds arities at u there;
     })

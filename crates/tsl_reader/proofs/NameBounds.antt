@@ -26,7 +26,8 @@ still_found (n ∷ names) added text = by (bytes_eq text n.text) (still_found na
   by false h = h
 
 -- a name that is added is found
-then_found : (names : List Name) (added : Name) (text : List ℕ) → bytes_eq text added.text ≡ true → one (first_of (names ++ added ∷ []) text) ≡ 1
+then_found : (names : List Name) (added : Name) (text : List ℕ) → bytes_eq text added.text ≡ true →
+    one (first_of (names ++ added ∷ []) text) ≡ 1
 then_found [] added text h = ap (λ is. one (cond is (Some added) None)) h
 then_found (n ∷ names) added text h = by (bytes_eq text n.text) (then_found names added text h) where
   by : (is : Bool) → one (first_of (names ++ added ∷ []) text) ≡ 1 → one (cond is (Some n) (first_of (names ++ added ∷ []) text)) ≡ 1
@@ -47,17 +48,26 @@ few_asked : (names : List Name) (most : ℕ) → Few names most → Few (with_us
 few_asked names most h = by (number_of names question) refl where
   by : (found : Option ℕ) → number_of names question ≡ found → Few (added_unless_found names question_use found) most
   by (Some n) e = h
-  by None e = omega (arith, h, ap one (not_found names question e), length-append names (question_use ∷ []), then_found names question_use question refl)
+  by None e = omega (
+    arith,
+    h,
+    ap one (not_found names question e),
+    length-append names (question_use ∷ []),
+    then_found names question_use question refl,
+  )
 
-few_names : (us : List Use) (names : List Name) (most : ℕ) → Few names most → length (with_uses names (flat_map named_by us)) ≤ suc (most + length us)
+few_names : (us : List Use) (names : List Name) (most : ℕ) → Few names most →
+    length (with_uses names (flat_map named_by us)) ≤ suc (most + length us)
 few_names [] names most h = omega (arith, h, one_at_most (first_of names question))
 few_names (u ∷ us) names most h =
-    by u.is_tested (few_names us (with_use (with_use names u.name) question_use) (suc most) (few_asked (with_use names u.name) (suc most) more)) (few_names us (with_use names u.name) (suc most) more)
+    by u.is_tested (few_names us (with_use (with_use names u.name) question_use) (suc most)
+    (few_asked (with_use names u.name) (suc most) more)) (few_names us (with_use names u.name) (suc most) more)
   where
     more : Few (with_use names u.name) (suc most)
     more = few_more names u.name most h
 
-    by : (asks : Bool) → length (with_uses (with_use (with_use names u.name) question_use) (flat_map named_by us)) ≤ suc (suc most + length us) →
+    by : (asks : Bool) → length (with_uses (with_use (with_use names u.name) question_use) (flat_map named_by us)) ≤ suc
+        (suc most + length us) →
         length (with_uses (with_use names u.name) (flat_map named_by us)) ≤ suc (suc most + length us) →
         length (with_uses (with_use names u.name) (cond asks (question_use ∷ []) [] ++ flat_map named_by us)) ≤ suc (most + suc (length us))
     by true asked plain = omega (arith, asked)

@@ -1,37 +1,47 @@
 -- Lists of terms and of formulas that get numbers member by member.
 use Rattle.std.proofs.Common.{◌≡◌, Bool, true, false, List, [], ◌∷◌, ◌++◌, map, refl, ap, sym, ◌∙◌}
-use Rattle.std.specs.Prelude.{ℕ, ◌+◌, ◌<◌, ◌≤◌, cond, length, get_or, drop, filter, flat_map, Option, Some, None, option_map, option_and_then, if◌then◌else◌}
+use Rattle.std.specs.Prelude.{ℕ, ◌+◌, ◌<◌, ◌≤◌, cond, length, get_or, drop, filter, flat_map, Option, Some, None, option_map}
+use Rattle.std.specs.Prelude.{option_and_then, if◌then◌else◌}
 use Rattle.std.proofs.Common.{append_assoc}
 use Rattle.std.proofs.lemmas.List.{append-nil, drop_more, drop_all}
 use Rattle.std.specs.Option.{is_some}
 use Rattle.tsl_terms.specs.declared.term.Term.{Term}
 use Rattle.tsl_terms.specs.declared.formula.Formula.{Formula}
-use Rattle.tsl_terms.specs.FormulaTree.{FormulaTree, FormulaTrees, no_formulas, more_formulas, formulas_in as members_in, formulas_of, formula_tree}
+use Rattle.tsl_terms.specs.FormulaTree.{FormulaTree, FormulaTrees, no_formulas, more_formulas, formulas_in as members_in, formulas_of}
+use Rattle.tsl_terms.specs.FormulaTree.{formula_tree}
 use Rattle.tsl_terms.proofs.TermLemmas.{with_front as terms_front, with_front_none as terms_front_none, with_front_push as terms_front_push}
-use Rattle.tsl_terms.proofs.FormulaLemmas.{with_front as formulas_front, with_front_none as formulas_front_none, with_front_push as formulas_front_push}
+use Rattle.tsl_terms.proofs.FormulaLemmas.{with_front as formulas_front, with_front_none as formulas_front_none}
+use Rattle.tsl_terms.proofs.FormulaLemmas.{with_front_push as formulas_front_push}
 use Rattle.tsl_reader.specs.declared.syntax.Part.{Part}
 use Rattle.tsl_reader.specs.declared.trees.ReadSection.{ReadSection}
 use Rattle.tsl_terms.specs.Name.{Name}
 use Rattle.tsl_terms.specs.TermTree.{TermTree, TermTrees, no_terms, more_terms, terms_of, term_tree}
-use Rattle.tsl_reader.specs.Syntax.{TermSyntax, TermsSyntax, more_terms as another_term, FormulaSyntax, FormulasSyntax, more_formulas as another_formula, SectionSyntax}
+use Rattle.tsl_reader.specs.Syntax.{TermSyntax, TermsSyntax, more_terms as another_term, FormulaSyntax, FormulasSyntax}
+use Rattle.tsl_reader.specs.Syntax.{more_formulas as another_formula, SectionSyntax}
 use Rattle.tsl_reader.specs.SyntaxView.{section_syntax}
 use Rattle.tsl_reader.specs.Numbering.{numbered_after, formulas_if}
-use Rattle.tsl_reader.specs.Naming.{numbered_term, numbered_terms, numbered, numbered_members, numbered_list, same_part, formulas_in}
+use Rattle.tsl_reader.specs.Naming.{numbered_term, numbered_terms, numbered_formula, numbered_members, numbered_list, same_part}
+use Rattle.tsl_reader.specs.Naming.{formulas_in}
 
 abbrev pub numbered_front : List TermTree → Option TermTrees → Option TermTrees
 numbered_front front rest = option_map (terms_front front) rest
 
 -- one term more
-pub numbered_more : (names : List Name) (front all : List Term) (t : Term) (syntax : TermSyntax) (rest : TermsSyntax) → all ≡ front ++ t ∷ [] →
+pub numbered_more : (names : List Name) (front all : List Term) (t : Term) (syntax : TermSyntax) (rest : TermsSyntax) →
+    all ≡ front ++ t ∷ [] →
     numbered_term names syntax ≡ Some (term_tree t) →
-    numbered_front (map term_tree all) (numbered_terms names rest) ≡ numbered_front (map term_tree front) (numbered_terms names (another_term syntax rest))
+    numbered_front (map term_tree all) (numbered_terms names rest)
+    ≡ numbered_front (map term_tree front) (numbered_terms names (another_term syntax rest))
 numbered_more names front all t syntax rest is h = rw (is, h) (by (numbered_terms names rest)) where
-  by : (found : Option TermTrees) → numbered_front (map term_tree (front ++ t ∷ [])) found ≡ numbered_front (map term_tree front) (option_map (more_terms (term_tree t)) found)
+  by : (found : Option TermTrees) →
+      numbered_front (map term_tree (front ++ t ∷ [])) found
+      ≡ numbered_front (map term_tree front) (option_map (more_terms (term_tree t)) found)
   by (Some ts) = ap Some (terms_front_push front t ts)
   by None = refl
 
 -- the terms are all
-pub numbered_all : (front : List TermTree) (all : Option TermTrees) (list : TermTrees) → numbered_front front (Some no_terms) ≡ all → list ≡ terms_of front → all ≡ Some list
+pub numbered_all : (front : List TermTree) (all : Option TermTrees) (list : TermTrees) → numbered_front front (Some no_terms) ≡ all →
+    list ≡ terms_of front → all ≡ Some list
 numbered_all front all list h is = sym h ∙ ap Some (terms_front_none front ∙ sym is)
 
 -- the same for formulas
@@ -39,15 +49,20 @@ numbered_all front all list h is = sym h ∙ ap Some (terms_front_none front ∙
 abbrev pub members_front : List FormulaTree → Option FormulaTrees → Option FormulaTrees
 members_front front rest = option_map (formulas_front front) rest
 
-pub members_more : (names : List Name) (front all : List Formula) (f : Formula) (syntax : FormulaSyntax) (rest : FormulasSyntax) → all ≡ front ++ f ∷ [] →
-    numbered names syntax ≡ Some (formula_tree f) →
-    members_front (map formula_tree all) (numbered_members names rest) ≡ members_front (map formula_tree front) (numbered_members names (another_formula syntax rest))
+pub members_more : (names : List Name) (front all : List Formula) (f : Formula) (syntax : FormulaSyntax) (rest : FormulasSyntax) →
+    all ≡ front ++ f ∷ [] →
+    numbered_formula names syntax ≡ Some (formula_tree f) →
+    members_front (map formula_tree all) (numbered_members names rest)
+    ≡ members_front (map formula_tree front) (numbered_members names (another_formula syntax rest))
 members_more names front all f syntax rest is h = rw (is, h) (by (numbered_members names rest)) where
-  by : (found : Option FormulaTrees) → members_front (map formula_tree (front ++ f ∷ [])) found ≡ members_front (map formula_tree front) (option_map (more_formulas (formula_tree f)) found)
+  by : (found : Option FormulaTrees) →
+      members_front (map formula_tree (front ++ f ∷ [])) found
+      ≡ members_front (map formula_tree front) (option_map (more_formulas (formula_tree f)) found)
   by (Some fs) = ap Some (formulas_front_push front f fs)
   by None = refl
 
-pub members_all : (front : List FormulaTree) (all : Option FormulaTrees) (list : FormulaTrees) → members_front front (Some no_formulas) ≡ all → list ≡ formulas_of front → all ≡ Some list
+pub members_all : (front : List FormulaTree) (all : Option FormulaTrees) (list : FormulaTrees) →
+    members_front front (Some no_formulas) ≡ all → list ≡ formulas_of front → all ≡ Some list
 members_all front all list h is = sym h ∙ ap Some (formulas_front_none front ∙ sym is)
 
 -- the formulas of sections that go to one list
@@ -59,8 +74,9 @@ numbered_append names [] gs = by (numbered_list names gs) where
   by None = refl
   by (Some trees) = refl
 numbered_append names (f ∷ fs) gs =
-    ap (λ found. option_and_then (λ tree. option_map (λ trees. tree ∷ trees) found) (numbered names f)) (numbered_append names fs gs)
-    ∙ by (numbered names f) (numbered_list names fs) (numbered_list names gs)
+    ap (λ found. option_and_then (λ tree. option_map (λ trees. tree ∷ trees) found) (numbered_formula names f))
+    (numbered_append names fs gs)
+    ∙ by (numbered_formula names f) (numbered_list names fs) (numbered_list names gs)
   where
     by : (first : Option FormulaTree) (left right : Option (List FormulaTree)) →
         option_and_then (λ tree. option_map (λ trees. tree ∷ trees) (option_and_then (λ trees. numbered_after trees right) left)) first
@@ -70,21 +86,25 @@ numbered_append names (f ∷ fs) gs =
     by (Some tree) (Some trees) None = refl
     by (Some tree) (Some trees) (Some more) = refl
 
-formulas_split : (part : Part) (s : SectionSyntax) (ss : List SectionSyntax) → formulas_in part (s ∷ ss) ≡ formulas_if part s ++ formulas_in part ss
+formulas_split : (part : Part) (s : SectionSyntax) (ss : List SectionSyntax) →
+    formulas_in part (s ∷ ss) ≡ formulas_if part s ++ formulas_in part ss
 formulas_split part s ss = by (same_part part s.part) where
-  by : (is : Bool) → flat_map (λ (r : SectionSyntax). r.formulas) (cond is (s ∷ filter (λ r. same_part part r.part) ss) (filter (λ r. same_part part r.part) ss))
+  by : (is : Bool) → flat_map (λ (r : SectionSyntax). r.formulas)
+      (cond is (s ∷ filter (λ r. same_part part r.part) ss) (filter (λ r. same_part part r.part) ss))
       ≡ (if is then s.formulas else []) ++ formulas_in part ss
   by true = refl
   by false = refl
 
 -- the formulas that are left, with a section in front
 next_section : (part : Part) (ss : List ReadSection) (i : ℕ) (d : ReadSection) → i < length ss →
-    formulas_in part (map section_syntax (drop i ss)) ≡ formulas_if part (section_syntax (get_or ss i d)) ++ formulas_in part (map section_syntax (drop (i + 1) ss))
+    formulas_in part (map section_syntax (drop i ss)) ≡ formulas_if part (section_syntax (get_or ss i d))
+    ++ formulas_in part (map section_syntax (drop (i + 1) ss))
 next_section part ss i d within =
     ap (λ rs. formulas_in part (map section_syntax rs)) (drop_more ss i d within)
     ∙ formulas_split part (section_syntax (get_or ss i d)) (map section_syntax (drop (i + 1) ss))
 
-after_first : (front : List FormulaTree) (left right : Option (List FormulaTree)) (all : List FormulaTree) → numbered_after front left ≡ Some all →
+after_first : (front : List FormulaTree) (left right : Option (List FormulaTree)) (all : List FormulaTree) →
+    numbered_after front left ≡ Some all →
     numbered_after all right ≡ numbered_after front (option_and_then (λ trees. numbered_after trees right) left)
 after_first front None right all h = cc
 after_first front (Some trees) None all h = refl
@@ -98,18 +118,21 @@ some_first front None right h = h
 some_first front (Some trees) right h = refl
 
 -- a section's formulas have their numbers
-pub section_some : (names : List Name) (part : Part) (ss : List ReadSection) (i : ℕ) (d : ReadSection) (front : List FormulaTree) (all : Option (List FormulaTree)) → i < length ss →
+pub section_some : (names : List Name) (part : Part) (ss : List ReadSection) (i : ℕ) (d : ReadSection) (front : List FormulaTree)
+    (all : Option (List FormulaTree)) → i < length ss →
     numbered_after front (numbered_list names (formulas_in part (map section_syntax (drop i ss)))) ≡ all → is_some all ≡ true →
     is_some (numbered_list names (formulas_if part (section_syntax (get_or ss i d)))) ≡ true
 section_some names part ss i d front all within h k =
     let first = formulas_if part (section_syntax (get_or ss i d)) in
     let rest = formulas_in part (map section_syntax (drop (i + 1) ss)) in
     some_first front (numbered_list names first) (numbered_list names rest)
-    (ap (λ found. is_some (numbered_after front found)) (sym (numbered_append names first rest) ∙ ap (numbered_list names) (sym (next_section part ss i d within)))
+    (ap (λ found. is_some (numbered_after front found)) (sym (numbered_append names first rest)
+    ∙ ap (numbered_list names) (sym (next_section part ss i d within)))
     ∙ ap is_some h ∙ k)
 
 -- one section more
-pub section_more : (names : List Name) (part : Part) (ss : List ReadSection) (i : ℕ) (d : ReadSection) (front more : List FormulaTree) (all : Option (List FormulaTree)) → i < length ss →
+pub section_more : (names : List Name) (part : Part) (ss : List ReadSection) (i : ℕ) (d : ReadSection) (front more : List FormulaTree)
+    (all : Option (List FormulaTree)) → i < length ss →
     numbered_after front (numbered_list names (formulas_if part (section_syntax (get_or ss i d)))) ≡ Some more →
     numbered_after front (numbered_list names (formulas_in part (map section_syntax (drop i ss)))) ≡ all →
     numbered_after more (numbered_list names (formulas_in part (map section_syntax (drop (i + 1) ss)))) ≡ all
@@ -125,8 +148,10 @@ members_in_of [] = refl
 members_in_of (f ∷ fs) = ap (λ gs. f ∷ gs) (members_in_of fs)
 
 -- the sections are all
-pub sections_all : (names : List Name) (part : Part) (ss : List ReadSection) (i : ℕ) (front : List FormulaTree) (all : Option (List FormulaTree)) (list : FormulaTrees) → length ss ≤ i →
-    numbered_after front (numbered_list names (formulas_in part (map section_syntax (drop i ss)))) ≡ all → list ≡ formulas_of front → all ≡ Some (members_in list)
+pub sections_all : (names : List Name) (part : Part) (ss : List ReadSection) (i : ℕ) (front : List FormulaTree)
+    (all : Option (List FormulaTree)) (list : FormulaTrees) → length ss ≤ i →
+    numbered_after front (numbered_list names (formulas_in part (map section_syntax (drop i ss)))) ≡ all → list ≡ formulas_of front →
+    all ≡ Some (members_in list)
 sections_all names part ss i front all list past h is =
     sym (ap (λ rs. numbered_after front (numbered_list names (formulas_in part (map section_syntax rs)))) (sym (drop_all i ss past)) ∙ h)
     ∙ ap Some (append-nil front ∙ sym (members_in_of front) ∙ ap members_in (sym is))

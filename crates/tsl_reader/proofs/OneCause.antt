@@ -1,5 +1,6 @@
 -- A text has at most one cause of refusal, and none where it spells a specification.
-use Rattle.std.proofs.Common.{◌≡◌, ℕ, zero, suc, ◌≤◌, Bool, List, [], ◌∷◌, ◌++◌, refl, ap, sym, ◌∙◌, subst, inl, inr, ⊎_elim, append_assoc, arith}
+use Rattle.std.proofs.Common.{◌≡◌, ℕ, zero, suc, ◌≤◌, Bool, List, [], ◌∷◌, ◌++◌, refl, ap, sym, ◌∙◌, subst, inl, inr, ⊎_elim}
+use Rattle.std.proofs.Common.{append_assoc, arith}
 use Rattle.std.proofs.lemmas.Bool.{cases_lt}
 use Rattle.std.proofs.lemmas.List.{map-append, append-nil}
 use Rattle.std.specs.Prelude.{Some, Err, slice_get}
@@ -15,7 +16,8 @@ use Rattle.tsl_reader.specs.declared.SpecError.TheVariants as error
 use Rattle.tsl_reader.specs.Syntax.{SectionSyntax}
 use Rattle.tsl_reader.specs.Grammar.{AreSections}
 use Rattle.tsl_reader.specs.Naming.{written_uses}
-use Rattle.tsl_reader.specs.Spells.{deepest, terminals, Derives, Spells, SomeTextBegins, NoTextBegins, HasWrongToken, HasFormFault, HasDeepFault, HasClashAt, HasCause, IsRefused, IsOfText}
+use Rattle.tsl_reader.specs.Spells.{deepest, terminals, Derives, Spells, SomeTextBegins, NoTextBegins, HasWrongToken}
+use Rattle.tsl_reader.specs.Spells.{HasFormFault, HasDeepFault, HasClashAt, HasCause, IsRefused, IsOfText}
 use Rattle.tsl_reader.proofs.Causes.{one_list, one_derivation, no_tokens, nodes_refuse}
 
 -- ---- the first token that no text goes on with
@@ -61,8 +63,10 @@ places (x ∷ b) t a (y ∷ c) u e h =
 
 one_stop : (text : List ℕ) (b c : List Token) (t u : Token) → Places b t c u → StopsAt text b t → StopsAt text c u → (b ≡ c) × (t ≡ u)
 one_stop text b c t u (together e h) x y = (e, h)
-one_stop text b c t u (sooner more e) x y = absurd (no_more text b t more x.stops (subst (λ ts. SomeTextBegins deepest (terminals text ts)) e y.begins))
-one_stop text b c t u (later more e) x y = absurd (no_more text c u more y.stops (subst (λ ts. SomeTextBegins deepest (terminals text ts)) e x.begins))
+one_stop text b c t u (sooner more e) x y =
+    absurd (no_more text b t more x.stops (subst (λ ts. SomeTextBegins deepest (terminals text ts)) e y.begins))
+one_stop text b c t u (later more e) x y =
+    absurd (no_more text c u more y.stops (subst (λ ts. SomeTextBegins deepest (terminals text ts)) e x.begins))
 
 -- tokens with which some text begins have none that stops it
 no_stop : (text : List ℕ) (tokens before : List Token) (token : Token) (after : List Token) → AreTokens text tokens →
@@ -81,8 +85,10 @@ one_wrong text x y h k =
 
 one_form : (text : List ℕ) (x y : ℕ) → HasFormFault text x → HasFormFault text y → x ≡ y
 one_form text x y (inl h) (inl k) = one_wrong text x y h k
-one_form text x y (inl h) (inr k) = absurd (no_stop text k.tokens h.before h.token h.after k.tokens_are h.tokens_are k.begins (h.stops deepest))
-one_form text x y (inr h) (inl k) = absurd (no_stop text h.tokens k.before k.token k.after h.tokens_are k.tokens_are h.begins (k.stops deepest))
+one_form text x y (inl h) (inr k) =
+    absurd (no_stop text k.tokens h.before h.token h.after k.tokens_are h.tokens_are k.begins (h.stops deepest))
+one_form text x y (inr h) (inl k) =
+    absurd (no_stop text h.tokens k.before k.token k.after h.tokens_are k.tokens_are h.begins (k.stops deepest))
 one_form text x y (inr h) (inr k) = h.place ∙ sym k.place
 
 one_deep : (text : List ℕ) (x y : ℕ) → HasDeepFault text x → HasDeepFault text y → x ≡ y
@@ -185,7 +191,8 @@ reached text error.Nodes of h =
 reached text error.NoMemory of h = absurd of
 
 -- sections that the tokens derive from begin some text with them
-derived_begins : (text : List ℕ) (tokens : List Token) (ss : List SectionSyntax) → Derives text tokens ss → SomeTextBegins deepest (terminals text tokens)
+derived_begins : (text : List ℕ) (tokens : List Token) (ss : List SectionSyntax) → Derives text tokens ss →
+    SomeTextBegins deepest (terminals text tokens)
 derived_begins text tokens ss d = ([], ss, rw append-nil d.derived)
 
 no_clash_in : (alike : Name → Name → Bool) (text : List ℕ) (ts us : List Token) (ss rs : List SectionSyntax) (s e : ℕ) →
@@ -199,7 +206,8 @@ stuck text (error.OpenComment at) of h k = no_tokens text (OpenComment at) h k.0
 stuck text (error.Form at) of (inl h) k =
     no_stop text k.0 h.before h.token h.after k.2.tokens_are h.tokens_are (derived_begins text k.0 k.1 k.2) (h.stops deepest)
 stuck text (error.Form at) of (inr h) k =
-    h.no_text deepest k.1 (subst (λ ts. AreSections deepest (terminals text ts) k.1) (one_list text k.0 h.tokens k.2.tokens_are h.tokens_are) k.2.derived)
+    h.no_text deepest k.1
+    (subst (λ ts. AreSections deepest (terminals text ts) k.1) (one_list text k.0 h.tokens k.2.tokens_are h.tokens_are) k.2.derived)
 stuck text (error.Deep at) of h k =
     no_stop text k.0 h.before h.token h.after k.2.tokens_are h.tokens_are (derived_begins text k.0 k.1 k.2) h.stops
 stuck text (error.Kind start end) of h k = no_clash_in alike_in_kind text h.tokens k.0 h.sections k.1 start end h.derives k.2 h.clash k.3

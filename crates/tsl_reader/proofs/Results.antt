@@ -18,19 +18,26 @@ use Rattle.tsl_reader.proofs.Fits.{ListGood, list_good}
 abbrev IsKnown : List Name → FormulaSyntax → Type 0
 IsKnown names f = IsShaped f × AllByRecursion (KnownUse names) (uses f)
 
-formulas_known : (names : List Name) (fs : List FormulaSyntax) → AllByRecursion IsShaped fs → AllByRecursion (KnownUse names) (flat_map uses fs) → AllByRecursion (IsKnown names) fs
+formulas_known : (names : List Name) (fs : List FormulaSyntax) → AllByRecursion IsShaped fs →
+    AllByRecursion (KnownUse names) (flat_map uses fs) → AllByRecursion (IsKnown names) fs
 formulas_known names [] h k = tt
-formulas_known names (f ∷ fs) h k =
-    ((h.0, each_left (KnownUse names) (uses f) (flat_map uses fs) k), formulas_known names fs h.1 (each_right (KnownUse names) (uses f) (flat_map uses fs) k))
+formulas_known names (f ∷ fs) h k = (
+  (h.0, each_left (KnownUse names) (uses f) (flat_map uses fs) k),
+  formulas_known names fs h.1 (each_right (KnownUse names) (uses f) (flat_map uses fs) k),
+)
 
-sections_known : (names : List Name) (ss : List SectionSyntax) → AllByRecursion (λ s. AllByRecursion IsShaped s.formulas) ss → AllByRecursion (KnownUse names) (all_uses ss) →
+sections_known : (names : List Name) (ss : List SectionSyntax) → AllByRecursion (λ s. AllByRecursion IsShaped s.formulas) ss →
+    AllByRecursion (KnownUse names) (all_uses ss) →
     AllByRecursion (λ s. AllByRecursion (IsKnown names) s.formulas) ss
 sections_known names [] h k = tt
-sections_known names (s ∷ ss) h k =
-    (formulas_known names s.formulas h.0 (each_left (KnownUse names) (section_uses s) (all_uses ss) k), sections_known names ss h.1 (each_right (KnownUse names) (section_uses s) (all_uses ss) k))
+sections_known names (s ∷ ss) h k = (
+  formulas_known names s.formulas h.0 (each_left (KnownUse names) (section_uses s) (all_uses ss) k),
+  sections_known names ss h.1 (each_right (KnownUse names) (section_uses s) (all_uses ss) k),
+)
 
 -- each of the four lists has its numbers, and fits the names
-pub list_of_part : (text : List ℕ) (tokens : List Token) (ss : List SectionSyntax) → Derives text tokens ss → HasNoClash alike_in_kind (written_uses ss) → HasNoClash same_arity (written_uses ss) →
+pub list_of_part : (text : List ℕ) (tokens : List Token) (ss : List SectionSyntax) → Derives text tokens ss →
+    HasNoClash alike_in_kind (written_uses ss) → HasNoClash same_arity (written_uses ss) →
     (part : Part) → ListGood (names_of ss) (formulas_in part ss)
 list_of_part text tokens ss d kinds arities part =
     let known = sections_known (names_of ss) ss (sections_shaped d.derived (omega arith)) (all_known text tokens ss d kinds arities) in

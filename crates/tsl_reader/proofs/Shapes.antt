@@ -2,8 +2,15 @@
 use Rattle.std.proofs.Common.{ℕ, suc, ◌+◌, ◌≤◌, List, [], ◌∷◌, arith}
 use Rattle.std.specs.Prelude.{max}
 use Rattle.std.specs.List.{AllByRecursion}
-use Rattle.tsl_reader.specs.Syntax.{Terminal, TermSyntax, alone, applied, TermsSyntax, no_terms, more_terms, terms_of, FormulaSyntax, truth, falsehood, bare, tested, updated, under, between, all, any, FormulasSyntax, no_formulas, more_formulas, all_of, any_of, formulas_of, SectionSyntax}
-use Rattle.tsl_reader.specs.Grammar.{IsTerm, signal, constant, application, brackets, AreArguments, one_argument, more_arguments, IsArgument, signal_argument, constant_argument, brackets_argument, IsFormula, temporal, chain as chained, IsIff, no_iff, iff, IsImp, no_imp, imp, IsOr, disjunction, AreDisjuncts, no_disjunct, more_disjuncts, IsAnd, conjunction, AreConjuncts, no_conjunct, more_conjuncts, IsPrefix, prefix, atom, IsAtom, true_atom, false_atom, brackets_atom, update, bare_name, no_argument, test, AreItems, nothing, last_item, item, IsSection, braces, AreSections, no_section, section}
+use Rattle.tsl_reader.specs.Syntax.{Terminal, TermSyntax, alone, applied, TermsSyntax, no_terms, more_terms, terms_of, FormulaSyntax, truth}
+use Rattle.tsl_reader.specs.Syntax.{falsehood, bare, tested, updated, under, between, all, any, FormulasSyntax, no_formulas, more_formulas}
+use Rattle.tsl_reader.specs.Syntax.{all_of, any_of, formulas_of, SectionSyntax}
+use Rattle.tsl_reader.specs.Grammar.{IsTerm, signal, constant, application, brackets, AreArguments, one_argument, more_arguments}
+use Rattle.tsl_reader.specs.Grammar.{IsArgument, signal_argument, constant_argument, brackets_argument, IsFormula, temporal}
+use Rattle.tsl_reader.specs.Grammar.{chain as chained, IsIff, no_iff, iff, IsImp, no_imp, imp, IsOr, disjunction, AreDisjuncts, no_disjunct}
+use Rattle.tsl_reader.specs.Grammar.{more_disjuncts, IsAnd, conjunction, AreConjuncts, no_conjunct, more_conjuncts, IsPrefix, prefix, atom}
+use Rattle.tsl_reader.specs.Grammar.{IsAtom, true_atom, false_atom, brackets_atom, update, bare_name, no_argument, test, AreItems, nothing}
+use Rattle.tsl_reader.specs.Grammar.{last_item, item, IsSection, braces, AreSections, no_section, section}
 use Rattle.tsl_reader.specs.Spells.{deepest}
 
 -- how deep the brackets nest where an argument with arguments stands in brackets
@@ -55,7 +62,8 @@ mutual
   term_depth (application f h) = arguments_depth h
   term_depth (brackets h) = omega (arith, term_depth h)
 
-  arguments_depth : {room : ℕ} {xs : List Terminal} {ts : List TermSyntax} → AreArguments room xs ts → depth_of_arguments (terms_of ts) ≤ room
+  arguments_depth : {room : ℕ} {xs : List Terminal} {ts : List TermSyntax} → AreArguments room xs ts →
+      depth_of_arguments (terms_of ts) ≤ room
   arguments_depth (one_argument h) = omega (arith, argument_depth h)
   arguments_depth (more_arguments h k) = omega (arith, argument_depth h, arguments_depth k)
 
@@ -88,14 +96,16 @@ mutual
   or_shaped : {room : ℕ} {xs : List Terminal} {f : FormulaSyntax} → IsOr room xs f → room ≤ deepest → IsShaped f
   or_shaped (disjunction {a = a} {fs = fs} h k) few = any_shaped a fs (and_shaped h few) (disjuncts_shaped k few)
 
-  disjuncts_shaped : {room : ℕ} {xs : List Terminal} {fs : List FormulaSyntax} → AreDisjuncts room xs fs → room ≤ deepest → AreShaped (formulas_of fs)
+  disjuncts_shaped : {room : ℕ} {xs : List Terminal} {fs : List FormulaSyntax} → AreDisjuncts room xs fs → room ≤ deepest →
+      AreShaped (formulas_of fs)
   disjuncts_shaped no_disjunct few = tt
   disjuncts_shaped (more_disjuncts h k) few = (and_shaped h few, disjuncts_shaped k few)
 
   and_shaped : {room : ℕ} {xs : List Terminal} {f : FormulaSyntax} → IsAnd room xs f → room ≤ deepest → IsShaped f
   and_shaped (conjunction {a = a} {fs = fs} h k) few = all_shaped a fs (prefix_shaped h few) (conjuncts_shaped k few)
 
-  conjuncts_shaped : {room : ℕ} {xs : List Terminal} {fs : List FormulaSyntax} → AreConjuncts room xs fs → room ≤ deepest → AreShaped (formulas_of fs)
+  conjuncts_shaped : {room : ℕ} {xs : List Terminal} {fs : List FormulaSyntax} → AreConjuncts room xs fs → room ≤ deepest →
+      AreShaped (formulas_of fs)
   conjuncts_shaped no_conjunct few = tt
   conjuncts_shaped (more_conjuncts h k) few = (prefix_shaped h few, conjuncts_shaped k few)
 
@@ -117,7 +127,8 @@ items_shaped nothing few = tt
 items_shaped (last_item h) few = (formula_shaped h few, tt)
 items_shaped (item h k) few = (formula_shaped h few, items_shaped k few)
 
-section_shaped : {room : ℕ} {xs : List Terminal} {s : SectionSyntax} → IsSection room xs s → room ≤ deepest → AllByRecursion IsShaped s.formulas
+section_shaped : {room : ℕ} {xs : List Terminal} {s : SectionSyntax} → IsSection room xs s → room ≤ deepest →
+    AllByRecursion IsShaped s.formulas
 section_shaped (braces h k) few = items_shaped k few
 
 -- the formulas of a text have this shape

@@ -29,7 +29,8 @@ added_fits names u None fit may =
     list_all-append name_fits names (u ∷ [])
     ∙ and_from (list_all name_fits names) (list_all name_fits (u ∷ [])) fit (and_from (name_fits u) true (name_is_fit u may) refl)
 
-names_fit : (us names : List Name) → IsTrue (list_all name_fits names) → AllByRecursion MayBeNamed us → IsTrue (list_all name_fits (with_uses names us))
+names_fit : (us names : List Name) → IsTrue (list_all name_fits names) → AllByRecursion MayBeNamed us →
+    IsTrue (list_all name_fits (with_uses names us))
 names_fit [] names fit may = fit
 names_fit (u ∷ us) names fit may = names_fit us (with_use names u) (added_fits names u (number_of names u.text) fit may.0) may.1
 
@@ -37,23 +38,29 @@ list_fits : (text : List ℕ) (spec : SpecTree) → (d : IsDerived text spec) �
     numbered_list spec.names (formulas_in part d.sections) ≡ Some fs → list_all (formula_fits spec.names) fs ≡ true
 list_fits text spec d part fs is =
     let good = list_of_part text d.tokens d.sections d.derives d.one_kind d.one_arity part in
-    let same : Some good.trees ≡ Some fs = sym good.numbered_are ∙ ap (λ names. numbered_list names (formulas_in part d.sections)) (sym d.names) ∙ is in
+    let same : Some good.trees ≡ Some fs = sym good.numbered_are
+    ∙ ap (λ names. numbered_list names (formulas_in part d.sections)) (sym d.names) ∙ is in
     let trees : good.trees ≡ fs = cc in
     ap (λ names. list_all (formula_fits names) fs) d.names ∙ ap (list_all (formula_fits (names_of d.sections))) (sym trees) ∙ good.fit
 
 pub derived_fits : (text : List ℕ) (spec : SpecTree) → IsDerived text spec → SpecFits spec
 derived_fits text spec d = record {
   distinct = rw d.names (first_uses_distinct (flat_map named_by (all_uses d.sections)));
-  names = rw d.names (names_fit (flat_map named_by (all_uses d.sections)) [] refl (each_named (all_uses d.sections) (usable_uses text d.tokens d.sections d.derives)));
+  names = rw d.names (names_fit (flat_map named_by (all_uses d.sections)) [] refl
+      (each_named (all_uses d.sections) (usable_uses text d.tokens d.sections d.derives)));
   formulas = four (formula_fits spec.names) spec.assume_first spec.assume_always spec.guarantee_first spec.guarantee_always
-      (list_fits text spec d AssumeFirst spec.assume_first d.assume_first) (list_fits text spec d AssumeAlways spec.assume_always d.assume_always)
-      (list_fits text spec d GuaranteeFirst spec.guarantee_first d.guarantee_first) (list_fits text spec d GuaranteeAlways spec.guarantee_always d.guarantee_always);
+      (list_fits text spec d AssumeFirst spec.assume_first d.assume_first)
+      (list_fits text spec d AssumeAlways spec.assume_always d.assume_always)
+      (list_fits text spec d GuaranteeFirst spec.guarantee_first d.guarantee_first)
+      (list_fits text spec d GuaranteeAlways spec.guarantee_always d.guarantee_always);
 }
   where
-    joined : (p : FormulaTree → Bool) (xs ys : List FormulaTree) → list_all p xs ≡ true → list_all p ys ≡ true → list_all p (xs ++ ys) ≡ true
+    joined : (p : FormulaTree → Bool) (xs ys : List FormulaTree) → list_all p xs ≡ true → list_all p ys ≡ true →
+        list_all p (xs ++ ys) ≡ true
     joined p xs ys h k = list_all-append p xs ys ∙ and_from (list_all p xs) (list_all p ys) h k
 
-    four : (p : FormulaTree → Bool) (a b c e : List FormulaTree) → list_all p a ≡ true → list_all p b ≡ true → list_all p c ≡ true → list_all p e ≡ true →
+    four : (p : FormulaTree → Bool) (a b c e : List FormulaTree) → list_all p a ≡ true → list_all p b ≡ true → list_all p c ≡ true →
+        list_all p e ≡ true →
         list_all p (a ++ b ++ c ++ e) ≡ true
     four p a b c e h i j k = joined p (a ++ b ++ c) e (joined p (a ++ b) c (joined p a b h i) j) k
 

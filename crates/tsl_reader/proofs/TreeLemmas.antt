@@ -2,7 +2,8 @@
 use Rattle.std.proofs.Common.{◌≡◌, List, [], ◌∷◌, ◌++◌, map, refl, ap}
 use Rattle.tsl_reader.specs.declared.trees.ReadTerm.{ReadTerm}
 use Rattle.tsl_reader.specs.declared.trees.ReadFormula.{ReadFormula}
-use Rattle.tsl_reader.specs.Syntax.{TermSyntax, TermsSyntax, no_terms, more_terms, terms_of, FormulaSyntax, FormulasSyntax, no_formulas, more_formulas, formulas_of}
+use Rattle.tsl_reader.specs.Syntax.{TermSyntax, TermsSyntax, no_terms, more_terms, terms_of, FormulaSyntax, FormulasSyntax, no_formulas}
+use Rattle.tsl_reader.specs.Syntax.{more_formulas, formulas_of}
 use Rattle.tsl_reader.specs.SyntaxView.{term_syntax, formula_syntax}
 
 -- these members, and then those of a list
@@ -28,6 +29,7 @@ formulas_none [] = refl
 formulas_none (f ∷ front) = ap (more_formulas f) (formulas_none front)
 
 pub formulas_push : (front : List ReadFormula) (f : ReadFormula) (fs : FormulasSyntax) →
-    formulas_front (map formula_syntax (front ++ f ∷ [])) fs ≡ formulas_front (map formula_syntax front) (more_formulas (formula_syntax f) fs)
+    formulas_front (map formula_syntax (front ++ f ∷ [])) fs
+    ≡ formulas_front (map formula_syntax front) (more_formulas (formula_syntax f) fs)
 formulas_push [] f fs = refl
 formulas_push (g ∷ front) f fs = ap (more_formulas (formula_syntax g)) (formulas_push front f fs)

@@ -25,19 +25,25 @@ IsUsable text = IsTrue (is_usable text)
 abbrev AreUsable : List Terminal → Type 0
 AreUsable xs = AllByRecursion IsUsable (free_texts xs)
 
-one_word : (is : Bool) (w : Word) (rest : Option Word) (others : Bool) → (rest ≡ None → others ≡ false) → (if is then Some w else rest) ≡ None → (is || others) ≡ false
+one_word : (is : Bool) (w : Word) (rest : Option Word) (others : Bool) → (rest ≡ None → others ≡ false) →
+    (if is then Some w else rest) ≡ None → (is || others) ≡ false
 one_word true w rest others further h = cc
 one_word false w rest others further h = further h
 
 -- what is no word is not reserved
 pub not_reserved : (text : List ℕ) → word_of text ≡ None → is_reserved text ≡ false
 not_reserved text h =
-    one_word (bytes_eq text (codes "assume")) Assume _ _ (one_word (bytes_eq text (codes "guarantee")) Guarantee _ _ (one_word (bytes_eq text (codes "always")) Always _ _
-    (one_word (bytes_eq text (codes "initially")) Initially _ _ (one_word (bytes_eq text (codes "true")) True _ _ (one_word (bytes_eq text (codes "false")) False _ _
-    (one_word (bytes_eq text (codes "X")) X _ _ (one_word (bytes_eq text (codes "F")) F _ _ (one_word (bytes_eq text (codes "G")) G _ _ (one_word (bytes_eq text (codes "U")) U _ _
-    (one_word (bytes_eq text (codes "W")) W _ _ (one_word (bytes_eq text (codes "R")) R _ _ (one_word (bytes_eq text (codes "A")) A None false (λ e. refl))))))))))))) h
+    one_word (bytes_eq text (codes "assume")) Assume _ _
+    (one_word (bytes_eq text (codes "guarantee")) Guarantee _ _ (one_word (bytes_eq text (codes "always")) Always _ _
+    (one_word (bytes_eq text (codes "initially")) Initially _ _
+    (one_word (bytes_eq text (codes "true")) True _ _ (one_word (bytes_eq text (codes "false")) False _ _
+    (one_word (bytes_eq text (codes "X")) X _ _
+    (one_word (bytes_eq text (codes "F")) F _ _ (one_word (bytes_eq text (codes "G")) G _ _ (one_word (bytes_eq text (codes "U")) U _ _
+    (one_word (bytes_eq text (codes "W")) W _ _
+    (one_word (bytes_eq text (codes "R")) R _ _ (one_word (bytes_eq text (codes "A")) A None false (λ e. refl))))))))))))) h
 
-usable_name : (text : List ℕ) → is_name_text text ≡ true → (found : Option Word) → word_of text ≡ found → AreUsable (free_unless text found ∷ [])
+usable_name : (text : List ℕ) → is_name_text text ≡ true → (found : Option Word) → word_of text ≡ found →
+    AreUsable (free_unless text found ∷ [])
 usable_name text h None e = (rw (h, not_reserved text e) refl, tt)
 usable_name text h (Some w) e = tt
 
@@ -52,7 +58,9 @@ in_front (mark m) xs h k = k
 
 usable_each : (text : List ℕ) (tokens : List Token) → AllByRecursion (IsTokenOf text) tokens → AreUsable (terminals text tokens)
 usable_each text [] h = tt
-usable_each text (t ∷ tokens) h = in_front (terminal_at text t) (terminals text tokens) (usable_token t.kind (token_text text t) h.0.spelled) (usable_each text tokens h.1)
+usable_each text (t ∷ tokens) h =
+    in_front (terminal_at text t) (terminals text tokens) (usable_token t.kind (token_text text t) h.0.spelled)
+    (usable_each text tokens h.1)
 
 -- the names of a text are usable
 usable_terminals : (text : List ℕ) (tokens : List Token) → AreTokens text tokens → AreUsable (terminals text tokens)
@@ -63,6 +71,7 @@ of_texts [] h = tt
 of_texts (u ∷ us) h = (h.0, of_texts us h.1)
 
 -- and so are those of its uses
-pub usable_uses : (text : List ℕ) (tokens : List Token) (ss : List SectionSyntax) → Derives text tokens ss → AllByRecursion (λ u. IsUsable u.name.text) (all_uses ss)
+pub usable_uses : (text : List ℕ) (tokens : List Token) (ss : List SectionSyntax) → Derives text tokens ss →
+    AllByRecursion (λ u. IsUsable u.name.text) (all_uses ss)
 usable_uses text tokens ss d =
     of_texts (all_uses ss) (subst (AllByRecursion IsUsable) (sym (sections_texts d.derived)) (usable_terminals text tokens d.tokens_are))

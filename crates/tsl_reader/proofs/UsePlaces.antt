@@ -43,7 +43,8 @@ pub texts_of_uses : (text : List ℕ) (tokens : List Token) (ss : List SectionSy
 texts_of_uses text tokens ss d = written_texts deepest (terminals text tokens) ss d.derived ∙ each_name text tokens
 
 -- a use of a list has its token in the list of theirs
-pub token_of_use : (us : List Name) (ts : List Token) (text : List ℕ) (at : ℕ) (u : Name) → map (λ n. n.text) us ≡ map (token_text text) ts → slice_get us at ≡ Some u →
+pub token_of_use : (us : List Name) (ts : List Token) (text : List ℕ) (at : ℕ) (u : Name) →
+    map (λ n. n.text) us ≡ map (token_text text) ts → slice_get us at ≡ Some u →
     (token : Token) × (slice_get ts at ≡ Some token) × (token_text text token ≡ u.text)
 token_of_use [] ts text at u same h = cc
 token_of_use (v ∷ us) [] text at u same h = cc

@@ -7,8 +7,15 @@ use Rattle.tsl_text.specs.declared.TokenKind.TheVariants.{OpenBrace, CloseBrace,
 use Rattle.tsl_terms.specs.declared.operator.UnaryOperator.{UnaryOperator}
 use Rattle.tsl_terms.specs.declared.operator.BinaryOperator.{BinaryOperator}
 use Rattle.tsl_reader.specs.declared.syntax.Part.{Part}
-use Rattle.tsl_reader.specs.Syntax.{Terminal, free, word, mark, TermSyntax, terms_of, FormulaSyntax, all_of, any_of, formulas_of, SectionSyntax}
-use Rattle.tsl_reader.specs.Grammar.{unary_of, temporal_of, IsTerm, signal, constant, application, brackets, AreArguments, one_argument, more_arguments, IsArgument, signal_argument, constant_argument, brackets_argument, IsFormula, temporal, chain as chained, IsIff, no_iff, iff, IsImp, no_imp, imp, IsOr, disjunction, AreDisjuncts, no_disjunct, more_disjuncts, IsAnd, conjunction, AreConjuncts, no_conjunct, more_conjuncts, IsPrefix, prefix, atom, IsAtom, true_atom, false_atom, brackets_atom, update, bare_name, no_argument, test, AreItems, nothing, last_item, item, IsHead, assume, guarantee, initially_assume, initially_guarantee, always_assume, always_guarantee, IsSection, braces, AreSections, no_section, section}
+use Rattle.tsl_reader.specs.Syntax.{Terminal, free, word, mark, TermSyntax, terms_of, FormulaSyntax, all_of, any_of, formulas_of}
+use Rattle.tsl_reader.specs.Syntax.{SectionSyntax}
+use Rattle.tsl_reader.specs.Grammar.{unary_of, temporal_of, IsTerm, signal, constant, application, brackets, AreArguments, one_argument}
+use Rattle.tsl_reader.specs.Grammar.{more_arguments, IsArgument, signal_argument, constant_argument, brackets_argument, IsFormula, temporal}
+use Rattle.tsl_reader.specs.Grammar.{chain as chained, IsIff, no_iff, iff, IsImp, no_imp, imp, IsOr, disjunction, AreDisjuncts, no_disjunct}
+use Rattle.tsl_reader.specs.Grammar.{more_disjuncts, IsAnd, conjunction, AreConjuncts, no_conjunct, more_conjuncts, IsPrefix, prefix, atom}
+use Rattle.tsl_reader.specs.Grammar.{IsAtom, true_atom, false_atom, brackets_atom, update, bare_name, no_argument, test, AreItems, nothing}
+use Rattle.tsl_reader.specs.Grammar.{last_item, item, IsHead, assume, guarantee, initially_assume, initially_guarantee, always_assume}
+use Rattle.tsl_reader.specs.Grammar.{always_guarantee, IsSection, braces, AreSections, no_section, section}
 use Rattle.tsl_reader.specs.Naming.{Use, term_uses, terms_uses, uses, members_uses, section_uses, all_uses, written_uses}
 
 -- the names among terminals, in order
@@ -27,7 +34,8 @@ free_texts_append (mark m ∷ xs) ys = free_texts_append xs ys
 abbrev pub text_of : Use → List ℕ
 text_of u = u.name.text
 
-joined : (us vs : List Use) (xs ys : List Terminal) → map text_of us ≡ free_texts xs → map text_of vs ≡ free_texts ys → map text_of (us ++ vs) ≡ free_texts (xs ++ ys)
+joined : (us vs : List Use) (xs ys : List Terminal) → map text_of us ≡ free_texts xs → map text_of vs ≡ free_texts ys →
+    map text_of (us ++ vs) ≡ free_texts (xs ++ ys)
 joined us vs xs ys h k =
     map-append text_of us vs ∙ ap (λ ts. ts ++ map text_of vs) h ∙ ap (λ ts. free_texts xs ++ ts) k ∙ sym (free_texts_append xs ys)
 
@@ -42,16 +50,19 @@ mutual
   term_texts (application f h) = ap (λ ts. f ∷ ts) (arguments_texts h)
   term_texts (brackets {xs = xs} h) = term_texts h ∙ sym (closed xs (mark CloseRound) refl)
 
-  arguments_texts : {room : ℕ} {xs : List Terminal} {ts : List TermSyntax} → AreArguments room xs ts → map text_of (terms_uses (terms_of ts)) ≡ free_texts xs
+  arguments_texts : {room : ℕ} {xs : List Terminal} {ts : List TermSyntax} → AreArguments room xs ts →
+      map text_of (terms_uses (terms_of ts)) ≡ free_texts xs
   arguments_texts (one_argument {t = t} h) = ap (map text_of) (append-nil (term_uses t)) ∙ argument_texts h
-  arguments_texts (more_arguments {xs = xs} {ys = ys} {t = t} {ts = ts} h k) = joined (term_uses t) (terms_uses (terms_of ts)) xs ys (argument_texts h) (arguments_texts k)
+  arguments_texts (more_arguments {xs = xs} {ys = ys} {t = t} {ts = ts} h k) =
+      joined (term_uses t) (terms_uses (terms_of ts)) xs ys (argument_texts h) (arguments_texts k)
 
   argument_texts : {room : ℕ} {xs : List Terminal} {t : TermSyntax} → IsArgument room xs t → map text_of (term_uses t) ≡ free_texts xs
   argument_texts (signal_argument x) = refl
   argument_texts (constant_argument c) = refl
   argument_texts (brackets_argument {xs = xs} h) = term_texts h ∙ sym (closed xs (mark CloseRound) refl)
 
-temporal_is_no_name : (x : Terminal) (op : BinaryOperator) (ys : List Terminal) → temporal_of x ≡ Some op → free_texts (x ∷ ys) ≡ free_texts ys
+temporal_is_no_name : (x : Terminal) (op : BinaryOperator) (ys : List Terminal) → temporal_of x ≡ Some op →
+    free_texts (x ∷ ys) ≡ free_texts ys
 temporal_is_no_name (free x) op ys h = cc
 temporal_is_no_name (word w) op ys h = refl
 temporal_is_no_name (mark m) op ys h = refl
@@ -88,17 +99,21 @@ mutual
   or_texts (disjunction {xs = xs} {ys = ys} {a = a} {fs = fs} h k) =
       ap (map text_of) (any_uses_are a fs) ∙ joined (uses a) (members_uses (formulas_of fs)) xs ys (and_texts h) (disjuncts_texts k)
 
-  disjuncts_texts : {room : ℕ} {xs : List Terminal} {fs : List FormulaSyntax} → AreDisjuncts room xs fs → map text_of (members_uses (formulas_of fs)) ≡ free_texts xs
+  disjuncts_texts : {room : ℕ} {xs : List Terminal} {fs : List FormulaSyntax} → AreDisjuncts room xs fs →
+      map text_of (members_uses (formulas_of fs)) ≡ free_texts xs
   disjuncts_texts no_disjunct = refl
-  disjuncts_texts (more_disjuncts {xs = xs} {ys = ys} {a = a} {fs = fs} h k) = joined (uses a) (members_uses (formulas_of fs)) xs ys (and_texts h) (disjuncts_texts k)
+  disjuncts_texts (more_disjuncts {xs = xs} {ys = ys} {a = a} {fs = fs} h k) =
+      joined (uses a) (members_uses (formulas_of fs)) xs ys (and_texts h) (disjuncts_texts k)
 
   and_texts : {room : ℕ} {xs : List Terminal} {f : FormulaSyntax} → IsAnd room xs f → map text_of (uses f) ≡ free_texts xs
   and_texts (conjunction {xs = xs} {ys = ys} {a = a} {fs = fs} h k) =
       ap (map text_of) (all_uses_are a fs) ∙ joined (uses a) (members_uses (formulas_of fs)) xs ys (prefix_texts h) (conjuncts_texts k)
 
-  conjuncts_texts : {room : ℕ} {xs : List Terminal} {fs : List FormulaSyntax} → AreConjuncts room xs fs → map text_of (members_uses (formulas_of fs)) ≡ free_texts xs
+  conjuncts_texts : {room : ℕ} {xs : List Terminal} {fs : List FormulaSyntax} → AreConjuncts room xs fs →
+      map text_of (members_uses (formulas_of fs)) ≡ free_texts xs
   conjuncts_texts no_conjunct = refl
-  conjuncts_texts (more_conjuncts {xs = xs} {ys = ys} {a = a} {fs = fs} h k) = joined (uses a) (members_uses (formulas_of fs)) xs ys (prefix_texts h) (conjuncts_texts k)
+  conjuncts_texts (more_conjuncts {xs = xs} {ys = ys} {a = a} {fs = fs} h k) =
+      joined (uses a) (members_uses (formulas_of fs)) xs ys (prefix_texts h) (conjuncts_texts k)
 
   prefix_texts : {room : ℕ} {xs : List Terminal} {f : FormulaSyntax} → IsPrefix room xs f → map text_of (uses f) ≡ free_texts xs
   prefix_texts (prefix {xs = xs} op x is h) = prefix_texts h ∙ (sym (unary_is_no_name x op xs is))
@@ -113,10 +128,12 @@ mutual
   atom_texts (no_argument p) = refl
   atom_texts (test p h) = (ap (λ ts. p ∷ ts) (arguments_texts h))
 
-items_texts : {room : ℕ} {xs : List Terminal} {fs : List FormulaSyntax} → AreItems room xs fs → map text_of (flat_map uses fs) ≡ free_texts xs
+items_texts : {room : ℕ} {xs : List Terminal} {fs : List FormulaSyntax} → AreItems room xs fs →
+    map text_of (flat_map uses fs) ≡ free_texts xs
 items_texts nothing = refl
 items_texts (last_item {xs = xs} {f = f} h) = ap (map text_of) (append-nil (uses f)) ∙ formula_texts h
-items_texts (item {xs = xs} {ys = ys} {f = f} {fs = fs} h k) = joined (uses f) (flat_map uses fs) xs (mark Semicolon ∷ ys) (formula_texts h) (items_texts k)
+items_texts (item {xs = xs} {ys = ys} {f = f} {fs = fs} h k) =
+    joined (uses f) (flat_map uses fs) xs (mark Semicolon ∷ ys) (formula_texts h) (items_texts k)
 
 head_has_no_name : {xs : List Terminal} {part : Part} → IsHead xs part → free_texts xs ≡ []
 head_has_no_name assume = refl
@@ -131,10 +148,13 @@ section_texts (braces {xs = xs} {ys = ys} h k) =
     items_texts k ∙ (sym (free_texts_append xs (mark OpenBrace ∷ (ys ++ mark CloseBrace ∷ []))
     ∙ ap (λ ts. ts ++ free_texts (ys ++ mark CloseBrace ∷ [])) (head_has_no_name h) ∙ closed ys (mark CloseBrace) refl))
 
-pub sections_texts : {room : ℕ} {xs : List Terminal} {ss : List SectionSyntax} → AreSections room xs ss → map text_of (all_uses ss) ≡ free_texts xs
+pub sections_texts : {room : ℕ} {xs : List Terminal} {ss : List SectionSyntax} → AreSections room xs ss →
+    map text_of (all_uses ss) ≡ free_texts xs
 sections_texts no_section = refl
-sections_texts (section {xs = xs} {ys = ys} {s = s} {ss = ss} h k) = joined (section_uses s) (all_uses ss) xs ys (section_texts h) (sections_texts k)
+sections_texts (section {xs = xs} {ys = ys} {s = s} {ss = ss} h k) =
+    joined (section_uses s) (all_uses ss) xs ys (section_texts h) (sections_texts k)
 
 -- the names of a text's terminals are those of its uses, in order
-pub written_texts : (room : ℕ) (xs : List Terminal) (ss : List SectionSyntax) → AreSections room xs ss → map (λ n. n.text) (written_uses ss) ≡ free_texts xs
+pub written_texts : (room : ℕ) (xs : List Terminal) (ss : List SectionSyntax) → AreSections room xs ss →
+    map (λ n. n.text) (written_uses ss) ≡ free_texts xs
 written_texts room xs ss h = map-map (λ n. n.text) (λ u. u.name) (all_uses ss) ∙ sections_texts h

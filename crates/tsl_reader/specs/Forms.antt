@@ -1,3 +1,4 @@
+-- Internal: only private functions of this crate use these words.
 -- The forms that begin with a prefix, and how each is read.
 use Rattle.std.specs.Prelude.{Option}
 use Rattle.tsl_reader.specs.declared.formulas.Form.{Form}

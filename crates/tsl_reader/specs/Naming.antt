@@ -1,16 +1,19 @@
 -- The names of a specification: their uses in the order of the text, their numbers by first appearance, and the
 -- formulas with numbers in the place of names.
-use Rattle.std.specs.Prelude.{ℕ, ◌+◌, Bool, true, false, List, [], ◌∷◌, ◌++◌, map, filter, flat_map, Option, Some, option_map, option_and_then, if◌then◌else◌}
+use Rattle.std.specs.Prelude.{ℕ, ◌+◌, Bool, true, false, List, [], ◌∷◌, ◌++◌, map, filter, flat_map, Option, Some, option_map}
+use Rattle.std.specs.Prelude.{option_and_then, if◌then◌else◌}
 use Rattle.tsl_terms.specs.declared.names.NameKind.{NameKind}
 use Rattle.tsl_terms.specs.declared.names.NameKind.TheVariants.{Signal, Function, Predicate}
 use Rattle.tsl_terms.specs.declared.operator.ManyOperator.TheVariants.{Conjunction, Disjunction}
 use Rattle.tsl_terms.specs.Name.{Name, number_of, question}
 use Rattle.tsl_terms.specs.Clashes.{first_uses}
 use Rattle.tsl_terms.specs.TermTree.{TermTree, signal, apply, TermTrees, no_terms as no_trees, more_terms as more_trees}
-use Rattle.tsl_terms.specs.FormulaTree.{test, update, FormulaTree, FormulaTrees, constant, atom, unary, binary, many, no_formulas as no_members, more_formulas as more_members}
+use Rattle.tsl_terms.specs.FormulaTree.{test, update, FormulaTree, FormulaTrees, constant, atom, unary, binary, many}
+use Rattle.tsl_terms.specs.FormulaTree.{no_formulas as no_members, more_formulas as more_members}
 use Rattle.tsl_reader.specs.declared.syntax.Part.{Part}
 use Rattle.tsl_reader.specs.declared.syntax.Part.TheVariants.{AssumeFirst, AssumeAlways, GuaranteeFirst, GuaranteeAlways}
-use Rattle.tsl_reader.specs.Syntax.{TermSyntax, alone, applied, TermsSyntax, no_terms, more_terms, FormulaSyntax, truth, falsehood, bare, tested, updated, under, between, all, any, FormulasSyntax, no_formulas, more_formulas, SectionSyntax}
+use Rattle.tsl_reader.specs.Syntax.{TermSyntax, alone, applied, TermsSyntax, no_terms, more_terms, FormulaSyntax, truth, falsehood, bare}
+use Rattle.tsl_reader.specs.Syntax.{tested, updated, under, between, all, any, FormulasSyntax, no_formulas, more_formulas, SectionSyntax}
 
 -- A use of a name: the name that it would be, and whether it stands alone in a formula, where the predicate `?` tests it.
 pub record Use : Type 0 where
@@ -23,16 +26,16 @@ use_as kind text arity = record { name = record { text = text; kind = kind; arit
 abbrev pub tested_signal : List ℕ → Use
 tested_signal text = record { name = record { text = text; kind = Signal; arity = 0 }; is_tested = true }
 
-abbrev pub count_of : TermsSyntax → ℕ
-count_of no_terms = 0
-count_of (more_terms t ts) = 1 + count_of ts
+abbrev pub count_of_arguments : TermsSyntax → ℕ
+count_of_arguments no_terms = 0
+count_of_arguments (more_terms t ts) = 1 + count_of_arguments ts
 
 -- the uses of names in a term, a formula, a section and a text, in the order of the text
 
 abbrev mutual
   pub term_uses : TermSyntax → List Use
   term_uses (alone x) = use_as Signal x 0 ∷ []
-  term_uses (applied f arguments) = use_as Function f (count_of arguments) ∷ terms_uses arguments
+  term_uses (applied f arguments) = use_as Function f (count_of_arguments arguments) ∷ terms_uses arguments
 
   pub terms_uses : TermsSyntax → List Use
   terms_uses no_terms = []
@@ -43,7 +46,7 @@ abbrev mutual
   uses truth = []
   uses falsehood = []
   uses (bare x) = tested_signal x ∷ []
-  uses (tested p arguments) = use_as Predicate p (count_of arguments) ∷ terms_uses arguments
+  uses (tested p arguments) = use_as Predicate p (count_of_arguments arguments) ∷ terms_uses arguments
   uses (updated x t) = use_as Signal x 0 ∷ term_uses t
   uses (under op a) = uses a
   uses (between op a b) = uses a ++ uses b
@@ -93,27 +96,30 @@ abbrev pub test_of : ℕ → TermTrees → FormulaTree
 test_of predicate arguments = atom (test (record { predicate = predicate; arguments = arguments }))
 
 abbrev mutual
-  pub numbered : List Name → FormulaSyntax → Option FormulaTree
-  numbered names truth = Some (constant true)
-  numbered names falsehood = Some (constant false)
-  numbered names (bare x) =
+  pub numbered_formula : List Name → FormulaSyntax → Option FormulaTree
+  numbered_formula names truth = Some (constant true)
+  numbered_formula names falsehood = Some (constant false)
+  numbered_formula names (bare x) =
       option_and_then (λ s. option_map (λ q. test_of q (more_trees (signal s) no_trees)) (number_of names question)) (number_of names x)
-  numbered names (tested p arguments) =
+  numbered_formula names (tested p arguments) =
       option_and_then (λ number. option_map (test_of number) (numbered_terms names arguments)) (number_of names p)
-  numbered names (updated x t) = option_and_then (λ s. option_map (λ tree. atom (update s tree)) (numbered_term names t)) (number_of names x)
-  numbered names (under op a) = option_map (unary op) (numbered names a)
-  numbered names (between op a b) = option_and_then (λ left. option_map (binary op left) (numbered names b)) (numbered names a)
-  numbered names (all fs) = option_map (many Conjunction) (numbered_members names fs)
-  numbered names (any fs) = option_map (many Disjunction) (numbered_members names fs)
+  numbered_formula names (updated x t) =
+      option_and_then (λ s. option_map (λ tree. atom (update s tree)) (numbered_term names t)) (number_of names x)
+  numbered_formula names (under op a) = option_map (unary op) (numbered_formula names a)
+  numbered_formula names (between op a b) =
+      option_and_then (λ left. option_map (binary op left) (numbered_formula names b)) (numbered_formula names a)
+  numbered_formula names (all fs) = option_map (many Conjunction) (numbered_members names fs)
+  numbered_formula names (any fs) = option_map (many Disjunction) (numbered_members names fs)
 
   pub numbered_members : List Name → FormulasSyntax → Option FormulaTrees
   numbered_members names no_formulas = Some no_members
   numbered_members names (more_formulas f fs) =
-      option_and_then (λ tree. option_map (more_members tree) (numbered_members names fs)) (numbered names f)
+      option_and_then (λ tree. option_map (more_members tree) (numbered_members names fs)) (numbered_formula names f)
 
 abbrev pub numbered_list : List Name → List FormulaSyntax → Option (List FormulaTree)
 numbered_list names [] = Some []
-numbered_list names (f ∷ fs) = option_and_then (λ tree. option_map (λ trees. tree ∷ trees) (numbered_list names fs)) (numbered names f)
+numbered_list names (f ∷ fs) =
+    option_and_then (λ tree. option_map (λ trees. tree ∷ trees) (numbered_list names fs)) (numbered_formula names f)
 
 abbrev pub same_part : Part → Part → Bool
 same_part AssumeFirst AssumeFirst = true

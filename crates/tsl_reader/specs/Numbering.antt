@@ -1,3 +1,4 @@
+-- Internal: only private functions of this crate use these words.
 -- Formulas with numbers, as they are gathered.
 use Rattle.std.specs.Prelude.{◌≡◌, List, [], ◌++◌, Option, Some, option_map, IsTrue, if◌then◌else◌}
 use Rattle.std.specs.List.{list_all}

@@ -115,7 +115,8 @@ abbrev pub name_tokens : List ℕ → List Token → List Token
 name_tokens text tokens = filter (λ t. is_free (terminal_at text t)) tokens
 
 -- The name that begins and ends at these offsets is the first one that is not used like at its first use.
-pub record HasClashAt (alike : Name → Name → Bool) (text : List ℕ) (tokens : List Token) (sections : List SectionSyntax) (start end : ℕ) : Type 0 where
+pub record HasClashAt (alike : Name → Name →
+    Bool) (text : List ℕ) (tokens : List Token) (sections : List SectionSyntax) (start end : ℕ) : Type 0 where
   pub at : ℕ
   pub clash : IsFirstClash alike (written_uses sections) at
   pub token : Token

@@ -1,3 +1,4 @@
+-- Internal: only private functions of this crate use these words.
 -- What the code reads, without where it lies in memory.
 use Rattle.std.specs.Prelude.{◌≡◌, ℕ, List, map, codes, Option, Some, None, option_map, Err, Vec, if◌then◌else◌}
 use Rattle.std.specs.Str.{bytes_eq}

@@ -1,3 +1,4 @@
+-- Internal: only private functions of this crate use these words.
 -- A use of a name, without where its bytes lie in memory.
 use Rattle.tsl_terms.specs.Clashes.{name_use}
 use Rattle.tsl_reader.specs.declared.uses.ReadUse.{ReadUse}

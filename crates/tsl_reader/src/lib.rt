@@ -4,7 +4,10 @@
 //!   (`specs/Spells.antt`), and then that one, and each refusal has its cause there.
 //! - The grammar (`specs/Grammar.antt`) is a relation by cases on whole lists of terminals
 //!   (`specs/Syntax.antt`), level by level: no order of attempts and no lookahead are in it.
-//! - The names (`specs/Naming.antt`) are a second pass over what was read.
+//! - The names (`specs/Naming.antt`) are a second pass over what was read: each use that stands in the
+//!   text, and the names by first appearance, where `?` comes directly after the signal that it tests.
+//! - Laws: a text spells at most one specification, which fits its names, or has at most one cause of
+//!   refusal; a text derives in one way; a fault of the form or of a level is the first.
 #![tactic(auto)]
 
 ghost use Rattle.std.specs.Prelude.{◌≡◌, ◌<◌, ◌-◌, ◌^◌, length, IfOk, IfErr};

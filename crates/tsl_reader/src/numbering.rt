@@ -5,7 +5,7 @@ ghost use Rattle.std.specs.Option.{is_some};
 ghost use Rattle.tsl_terms.specs.Name.{number_of, question};
 ghost use Rattle.tsl_terms.specs.TermTree.{term_tree, term_trees};
 ghost use Rattle.tsl_terms.specs.FormulaTree.{formula_tree, formula_trees, member_trees, unary, binary};
-ghost use Rattle.tsl_reader.specs.Naming.{numbered_term, numbered_terms, numbered, numbered_members, numbered_list, same_part, formulas_in};
+ghost use Rattle.tsl_reader.specs.Naming.{numbered_term, numbered_terms, numbered_formula, numbered_members, numbered_list, same_part, formulas_in};
 ghost use Rattle.tsl_reader.specs.Syntax.{bare};
 ghost use Rattle.tsl_reader.specs.Numbering.{numbered_after, formulas_if};
 ghost use Rattle.tsl_reader.specs.SyntaxView.{term_syntax, terms_syntax, formula_syntax, formulas_syntax, section_syntax};
@@ -64,7 +64,7 @@ fn numbered_terms(alloc: Global, names: &Names, terms: &ReadTerms) -> Result<Ter
 fn numbered_bare(alloc: Global, names: &Names, name: &[u8]) -> Result<Formula, NoMemory>
     requires signal { IsTrue (is_some (number_of names.now name.now)) }
     requires test { IsTrue (is_some (number_of names.now question)) }
-    ensures { IfOk result (λ tree. numbered names.now (bare name.now) ≡ Some (formula_tree tree)) }
+    ensures { IfOk result (λ tree. numbered_formula names.now (bare name.now) ≡ Some (formula_tree tree)) }
 {
     let signal = Box::new(alloc, Term::Signal(number_of(names, name)))?;
     Ok(Formula::Test(Probe {
@@ -109,10 +109,14 @@ fn between(
 
 /// A formula with numbers. An `Err` says that memory ran out.
 #[cycle(number_formulas)]
-fn numbered(alloc: Global, names: &Names, formula: &ReadFormula) -> Result<Formula, NoMemory>
-    requires { IsTrue (is_some (numbered names.now (formula_syntax formula.now))) }
+fn numbered_formula(
+    alloc: Global,
+    names: &Names,
+    formula: &ReadFormula,
+) -> Result<Formula, NoMemory>
+    requires { IsTrue (is_some (numbered_formula names.now (formula_syntax formula.now))) }
     ensures { IfOk result
-        (λ tree. numbered names.now (formula_syntax formula.now) ≡ Some (formula_tree tree)) }
+        (λ tree. numbered_formula names.now (formula_syntax formula.now) ≡ Some (formula_tree tree)) }
 {
     match formula {
         ReadFormula::True => Ok(Formula::True),
@@ -132,12 +136,12 @@ fn numbered(alloc: Global, names: &Names, formula: &ReadFormula) -> Result<Formu
             Ok(Formula::Update(signal, term))
         }
         ReadFormula::Under(op, part) => {
-            let part = numbered(alloc, names, part)?;
+            let part = numbered_formula(alloc, names, part)?;
             under(alloc, *op, part)
         }
         ReadFormula::Between(op, left, right) => {
-            let left = numbered(alloc, names, left)?;
-            let right = numbered(alloc, names, right)?;
+            let left = numbered_formula(alloc, names, left)?;
+            let right = numbered_formula(alloc, names, right)?;
             between(alloc, *op, left, right)
         }
         ReadFormula::All(members) => {
@@ -165,7 +169,7 @@ fn numbered_members(
     let mut trees = Vec::new(alloc);
     let mut rest = formulas;
     while let ReadFormulas::More(formula, next) = rest {
-        let tree = numbered(alloc, names, formula)?;
+        let tree = numbered_formula(alloc, names, formula)?;
         trees.push(tree)?;
         rest = next;
     }
@@ -185,7 +189,7 @@ fn add_formulas(
         ≡ Some (map formula_tree trees.new.items)) }
 {
     for formula in formulas {
-        let tree = numbered(alloc, names, formula)?;
+        let tree = numbered_formula(alloc, names, formula)?;
         trees.push(tree)?;
     }
     Ok(())

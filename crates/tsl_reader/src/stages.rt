@@ -51,7 +51,7 @@ fn tokens_of(alloc: Global, text: &[u8]) -> Result<Vec<Token>, SpecError>
 }
 
 /// Where the token begins behind which so many are left, with itself; at the end the text's length.
-fn place_of(text: &[u8], tokens: &[Token], left: usize) -> u32
+fn start_of(text: &[u8], tokens: &[Token], left: usize) -> u32
     requires text { length text.now < 2 ^ 32 - 1 }
     requires left { left ≤ length tokens.now }
     ensures { MatchOption (slice_get tokens.now (length tokens.now - left)) (result ≡ length text.now) (λ token. result ≡ token.start) }
@@ -77,8 +77,8 @@ fn sections_of<'a>(
     let terminals = terminals(alloc, text, tokens)?;
     match sections(alloc, DEEPEST, &terminals) {
         Ok((sections, _)) => Ok(sections),
-        Err(ReadFault::Form(left)) => Err(SpecError::Form(place_of(text, tokens, left))),
-        Err(ReadFault::Deep(left)) => Err(SpecError::Deep(place_of(text, tokens, left))),
+        Err(ReadFault::Form(left)) => Err(SpecError::Form(start_of(text, tokens, left))),
+        Err(ReadFault::Deep(left)) => Err(SpecError::Deep(start_of(text, tokens, left))),
         Err(ReadFault::NoMemory) => Err(SpecError::NoMemory),
     }
 }

@@ -1,7 +1,7 @@
 //! The uses of names, in the order of the text.
 
 ghost use Rattle.std.specs.Prelude.{◌≡◌, ◌<◌, ◌^◌, ◌++◌, length, map, IfOk, OnOk};
-ghost use Rattle.tsl_reader.specs.Naming.{count_of, use_as, tested_signal, term_uses, terms_uses, uses, members_uses, section_uses, all_uses};
+ghost use Rattle.tsl_reader.specs.Naming.{count_of_arguments, use_as, tested_signal, term_uses, terms_uses, uses, members_uses, section_uses, all_uses};
 ghost use Rattle.tsl_reader.specs.SyntaxView.{term_syntax, terms_syntax, formula_syntax, formulas_syntax, section_syntax};
 ghost use Rattle.tsl_reader.specs.UseView.{read_use};
 
@@ -44,9 +44,9 @@ fn tested_signal(text: &[u8]) -> ReadUse<'_>
 }
 
 /// How many terms a list has.
-fn count_of(terms: &ReadTerms) -> u32
-    requires { count_of (terms_syntax terms.now) < 2 ^ 32 }
-    ensures { result ≡ count_of (terms_syntax terms.now) }
+fn count_of_arguments(terms: &ReadTerms) -> u32
+    requires { count_of_arguments (terms_syntax terms.now) < 2 ^ 32 }
+    ensures { result ≡ count_of_arguments (terms_syntax terms.now) }
 {
     let mut count = 0;
     let mut rest = terms;
@@ -71,7 +71,7 @@ fn add_term<'a>(list: &mut Vec<ReadUse<'a>>, term: &ReadTerm<'a>) -> Result<(), 
             Ok(())
         }
         ReadTerm::Applied(name, arguments) => {
-            list.push(use_as(NameKind::Function, name, count_of(arguments)))?;
+            list.push(use_as(NameKind::Function, name, count_of_arguments(arguments)))?;
             add_terms(list, arguments)
         }
     }
@@ -107,7 +107,7 @@ fn add_formula<'a>(list: &mut Vec<ReadUse<'a>>, formula: &ReadFormula<'a>) -> Re
             Ok(())
         }
         ReadFormula::Tested(name, arguments) => {
-            list.push(use_as(NameKind::Predicate, name, count_of(arguments)))?;
+            list.push(use_as(NameKind::Predicate, name, count_of_arguments(arguments)))?;
             add_terms(list, arguments)
         }
         ReadFormula::Updated(name, term) => {

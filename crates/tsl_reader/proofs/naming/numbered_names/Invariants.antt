@@ -7,4 +7,5 @@ use Rattle.tsl_reader.proofs.naming.numbered_names.Given as goal
 
 -- the names so far, and then those of the uses that are left
 abbrev pub invariant-loop-usage : goal.invariant-loop-usage
-invariant-loop-usage l = map name_use l.list.items ++ flat_map named_by (map read_use (drop l.usage-index l.uses)) ≡ flat_map named_by (map read_use l.uses)
+invariant-loop-usage l =
+    map name_use l.list.items ++ flat_map named_by (map read_use (drop l.usage-index l.uses)) ≡ flat_map named_by (map read_use l.uses)

@@ -10,7 +10,8 @@ use Rattle.tsl_reader.proofs.numbering.+number_terms.Goals as goal
 pub numbered_terms-loop-rest-preserved : goal.numbered_terms-loop-rest-preserved
 numbered_terms-loop-rest-preserved t c = record {
   numbered =
-      numbered_more c.args.names.now c.loop-rest.trees.items _ c.in_ok-tree.tree (term_syntax c.deref.result.now) (terms_syntax c.deref-rest.result.now)
+      numbered_more c.args.names.now c.loop-rest.trees.items _ c.in_ok-tree.tree (term_syntax c.deref.result.now)
+      (terms_syntax c.deref-rest.result.now)
       c.in_ok-push.ensures.items c.in_ok-tree.ensures
       ∙ rw (c.deref.ensures, c.deref-rest.ensures) (rw c.in-More.is at c.loop-rest.invariant.numbered);
   size = search (rules, the_lemmas);
@@ -19,6 +20,7 @@ numbered_terms-loop-rest-preserved t c = record {
 pub numbered_terms-returns : goal.numbered_terms-returns
 numbered_terms-returns t c =
     IfOk-weaker c.from_vec.result _ _
-    (λ list is. numbered_all (map term_tree c.loop-rest.trees.items) (numbered_terms c.args.names.now (terms_syntax c.args.terms.now)) (term_trees list)
+    (λ list is. numbered_all (map term_tree c.loop-rest.trees.items) (numbered_terms c.args.names.now (terms_syntax c.args.terms.now))
+    (term_trees list)
     (rw c.in_default.is at c.loop-rest.invariant.numbered) is)
     c.from_vec.ensures

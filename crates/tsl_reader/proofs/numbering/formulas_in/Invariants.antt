@@ -8,5 +8,6 @@ use Rattle.tsl_reader.proofs.numbering.formulas_in.Given as goal
 -- the formulas so far, and then those of the sections that are left
 abbrev pub invariant-loop-section : goal.invariant-loop-section
 invariant-loop-section l =
-    numbered_after (map formula_tree l.trees.items) (numbered_list l.names (formulas_in l.part (map section_syntax (drop l.section-index l.sections))))
+    numbered_after (map formula_tree l.trees.items)
+    (numbered_list l.names (formulas_in l.part (map section_syntax (drop l.section-index l.sections))))
     ≡ numbered_list l.names (formulas_in l.part (map section_syntax l.sections))

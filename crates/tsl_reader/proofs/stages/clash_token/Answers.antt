@@ -5,5 +5,6 @@ use Rattle.tsl_reader.proofs.stages.clash_token.Goals as goal
 
 pub returns : goal.returns
 returns c =
-    clash_told (alike_in c.args.quality) c.args.text.now c.args.tokens.now (map name_use c.args.names.now) c.in_ok-place.place c.name_token.result
+    clash_told (alike_in c.args.quality) c.args.text.now c.args.tokens.now
+    (map name_use c.args.names.now) c.in_ok-place.place c.name_token.result
     c.requires.spelled c.in_ok-place.ensures c.name_token.ensures

@@ -6,8 +6,10 @@ use Rattle.tsl_reader.proofs.stages.name_token.Goals.{then-is_free+else-left-eq0
 pub loop-token-preserved : goal.loop-token-preserved
 loop-token-preserved c =
     elim c.if-is_free.branch [
-      | then-is_free+else-left-eq0 w ↦ name_passed c.args.text.now c.args.tokens.now c.loop-token.token-index c.loop-token.left c.if-is_free.left _ _ c.loop-token-test.true
+      | then-is_free+else-left-eq0 w ↦ name_passed c.args.text.now c.args.tokens.now c.loop-token.token-index c.loop-token.left
+          c.if-is_free.left _ _ c.loop-token-test.true
           (sym c.is_free.ensures ∙ w.if-is_free.true) w.if-left-eq0.false w.left-is c.loop-token.invariant
-      | else-is_free w ↦ name_skipped c.args.text.now c.args.tokens.now c.loop-token.token-index c.loop-token.left c.if-is_free.left _ _ c.loop-token-test.true
+      | else-is_free w ↦ name_skipped c.args.text.now c.args.tokens.now c.loop-token.token-index c.loop-token.left c.if-is_free.left _ _
+          c.loop-token-test.true
           (sym c.is_free.ensures ∙ w.if-is_free.false) w.left-is c.loop-token.invariant
     ]
