@@ -23,7 +23,7 @@ use Rattle.tsl_terms.specs.SpecTree.{SpecTree, conjunction_of, whole_formula}
 use Rattle.tsl_reader.specs.Syntax.{Terminal, free, mark, word_of, free_unless, terminal_of, alone, FormulaSyntax, updated, SectionSyntax}
 use Rattle.tsl_reader.specs.Grammar as grammar
 use Rattle.tsl_reader.specs.Grammar.{IsFormula, AreItems, IsSection, AreSections}
-use Rattle.tsl_reader.specs.Naming.{Use, use_as, uses, all_uses, written_uses, named_by, names_of, numbered, numbered_list}
+use Rattle.tsl_reader.specs.Naming.{Use, use_as, uses, all_uses, written_uses, named_by, names_of, numbered_formula, numbered_list}
 use Rattle.tsl_reader.specs.Spells.{Spells, terminal_at, terminals, deepest, most_nodes}
 use Rattle.tsl_tool.specs.Form.{Pair, update_lexemes, form_lexemes, sides, has_usable_names, signal_named, AreUpdates, IsForm}
 use Rattle.tsl_tool.specs.Form.{Spells as SpellsUpdates}
@@ -164,7 +164,7 @@ no_clash alike same us plain at clash =
 -- the formulas
 
 one_number : (names : List Name) (pair : Pair) (f : FormulaTree) (left right : ℕ) → number_of names pair.left ≡ Some left →
-    number_of names pair.right ≡ Some right → f ≡ atom (update left (signal right)) → numbered names (formula_of pair) ≡ Some f
+    number_of names pair.right ≡ Some right → f ≡ atom (update left (signal right)) → numbered_formula names (formula_of pair) ≡ Some f
 one_number names pair f left right l r is = rw (l, r, is) refl
 
 numbers_are : (names : List Name) (pairs : List Pair) (fs : List FormulaTree) → AreUpdates names pairs fs →
