@@ -48,8 +48,13 @@ module _ (f : LtlTree) (states : List StateTree) (edges : List EdgeTree) (automa
       let found = automaton.leads m.number m.state m.here in
       let good = some_good loop m.place read.0 m.state.set found.0 m.is_position read.1 (each_at (λ l. l < 2 ^ 64) (loop.stem ++ loop.cycle) m.place read.0 letters read.1) found.1 in
       let chosen = list_any_place (is_good loop m.place read.0) found.0 (sym good ∙ m.set_holds) in
-      record { letter = read.0; reads = read.1; choice = chosen.1; good = chosen.3;
-        leads = each_at (Leads (untils_of f) states edges m.number m.state) found.0 chosen.0 chosen.1 found.2 chosen.2 }
+      record {
+        letter = read.0;
+        reads = read.1;
+        choice = chosen.1;
+        good = chosen.3;
+        leads = each_at (Leads (untils_of f) states edges m.number m.state) found.0 chosen.0 chosen.1 found.2 chosen.2;
+      }
 
   parts_of : (m : Moment) (s : Step m) → (cube_matches s.choice.care s.choice.want s.letter ≡ true)
       × (list_all (λ g. holds loop g (after (shape_of loop) m.place)) s.choice.next_set ≡ true) × (list_all (is_waited_for loop m.place) s.choice.postponed ≡ true)
@@ -65,7 +70,8 @@ module _ (f : LtlTree) (states : List StateTree) (edges : List EdgeTree) (automa
     state = state_after (untils_of f) m.state (step m).choice;
     is_position = after_position (shape_of loop) m.place m.is_position;
     here = (step m).leads.there;
-    set_holds = (parts_of m (step m)).1 }
+    set_holds = (parts_of m (step m)).1;
+  }
 
   abbrev U : ℕ
   U = length (untils_of f)
@@ -81,7 +87,8 @@ module _ (f : LtlTree) (states : List StateTree) (edges : List EdgeTree) (automa
       state = start_state f;
       is_position = record { goes_on = goes_on; within = omega (arith, goes_on) };
       here = automaton.start;
-      set_holds = ap (λ b. b && true) at_start }
+      set_holds = ap (λ b. b && true) at_start;
+    }
 
     abbrev moment : ℕ → Moment
     moment zero = first
@@ -107,7 +114,7 @@ module _ (f : LtlTree) (states : List StateTree) (edges : List EdgeTree) (automa
     waited : (t u : ℕ) (g : LtlTree) → slice_get (untils_of f) u ≡ Some g → postponed t u ≡ true → is_waited_for loop (moment t).place g ≡ true
     waited t u g at h =
         let among : list_any (same_formula g) (chosen t).choice.postponed ≡ true =
-          ap (λ o. option_map_or (λ v. list_any (same_formula v) (chosen t).choice.postponed) o false) (sym at) ∙ h in
+        ap (λ o. option_map_or (λ v. list_any (same_formula v) (chosen t).choice.postponed) o false) (sym at) ∙ h in
         let found = list_any_place (same_formula g) (chosen t).choice.postponed among in
         let all = (parts_of (moment t) (chosen t)).2 in
         ap (is_waited_for loop (moment t).place) (same_is g found.1 found.3)

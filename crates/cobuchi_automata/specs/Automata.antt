@@ -59,8 +59,12 @@ state_after untils s c = record { set = c.next_set; counter = advanced (length u
 -- the edge of a choice of a state's set between two numbers: rejecting where the counter passes the last until
 abbrev pub edge_of : List LtlTree → ℕ → StateTree → ChoiceTree → ℕ → EdgeTree
 edge_of untils from s c to = record {
-  from = from; care = c.care; want = c.want; to = to;
-  rejecting = passes (length untils) (is_postponed untils c) s.counter }
+  from = from;
+  care = c.care;
+  want = c.want;
+  to = to;
+  rejecting = passes (length untils) (is_postponed untils c) s.counter;
+}
 
 -- states that choices lead to from the start
 pub data IsReached (f : LtlTree) : StateTree → Type 0 where

@@ -1,6 +1,6 @@
 -- The definitions on examples, accepted and refused.
-use Rattle.std.proofs.Common.{◌≡◌, ℕ, ◌^◌, ◌-◌, [], ◌∷◌, Some, None, ◌++◌, length, length-append, suc, zero, ap, refl, inl, inr, arith,
-    lit<}
+use Rattle.std.proofs.Common.{◌≡◌, ℕ, ◌^◌, ◌-◌, [], ◌∷◌, Some, None, ◌++◌, length, length-append, suc, zero, ap, refl, inl, inr, arith}
+use Rattle.std.proofs.Common.{lit<}
 use Rattle.tsl_io.specs.Told.{before, after, TakesPrefix, TakesFirst, AddsPrefix}
 use Rattle.tsl_io.specs.Faults.{next_count, Faulted}
 use Rattle.tsl_io.specs.Memory.{FailsNext, no_calls, with_success, with_fault}

@@ -1,6 +1,6 @@
 -- One take after another, and one write after another.
-use Rattle.std.proofs.Common.{◌≡◌, ℕ, ◌+◌, ◌-◌, List, ◌++◌, length, take, drop, Option, Some, None, refl, sym, ap, [], ◌∙◌, append_assoc,
-    append-nil, length-append, ◌≤◌, arith}
+use Rattle.std.proofs.Common.{◌≡◌, ℕ, ◌+◌, ◌-◌, List, ◌++◌, length, take, drop, Option, Some, None, refl, sym, ap, [], ◌∙◌, append_assoc}
+use Rattle.std.proofs.Common.{append-nil, length-append, ◌≤◌, arith}
 use Rattle.std.proofs.lemmas.List.{take_rest}
 use Rattle.std.proofs.Math.Seq.{take-add}
 use Rattle.tsl_io.specs.Told.{before, after, WhereTold, TakesPrefix}
