@@ -17,11 +17,11 @@ pub record Effect : Type 0 where
 abbrev pub effect : {D : Type 0} → (D → Option (List ℕ)) → (D → ℕ) → D → D → Effect
 effect tells counts old new = record { old = tells old; new = tells new; faults_old = counts old; faults_new = counts new }
 
--- a call failed
+-- the count of faults rose, or it stood at its last value and stays there
 abbrev pub HasFailed : Effect → Type 0
 HasFailed device = Faulted device.faults_old device.faults_new
 
--- no call failed
+-- the count of faults is as before
 abbrev pub NeverFailed : Effect → Type 0
 NeverFailed device = device.faults_new ≡ device.faults_old
 
@@ -30,12 +30,12 @@ pub record IsUntouched (device : Effect) : Type 0 where
   pub bytes : device.new ≡ device.old
   pub count : device.faults_new ≡ device.faults_old
 
--- the whole text was added, and no call failed
+-- the whole text was added, and the count of faults is as before
 pub record IsWhole (text : List ℕ) (sink : Effect) : Type 0 where
   pub added : sink.new ≡ after text sink.old
   pub count : NeverFailed sink
 
--- some first bytes of the text were added, and then a call failed
+-- some first bytes of the text were added, and a fault was counted
 pub record IsCutOff (text : List ℕ) (sink : Effect) : Type 0 where
   pub added : AddsPrefix text sink.old sink.new
   pub fault : HasFailed sink

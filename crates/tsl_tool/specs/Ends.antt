@@ -1,4 +1,4 @@
--- How a run ends: its status, what it read and what stands in the sinks.
+-- How a run ends: its status, whether the source failed, and what stands in the sinks.
 use Rattle.std.specs.Prelude.{◌≡◌, ℕ, List}
 use Rattle.tsl_tool.specs.declared.status.Status.{Status}
 use Rattle.tsl_tool.specs.declared.status.Status.TheVariants.{Done, No, Usage, Reading, Large, Spent, ReadFault, WriteFault, Memory}

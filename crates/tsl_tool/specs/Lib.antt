@@ -12,3 +12,4 @@ pub mod Refusals
 pub mod Replies
 pub mod Statuses
 pub mod Synth
+pub mod Limits

@@ -12,6 +12,7 @@ ghost use Rattle.tsl_tool.specs.Commands.{command_of};
 ghost use Rattle.tsl_tool.specs.Effects.{Effect};
 ghost use Rattle.tsl_tool.specs.Ends.{Ends};
 ghost use Rattle.tsl_tool.specs.Form.{Spells as SpellsUpdates};
+ghost use Rattle.tsl_tool.specs.Limits.{LimitsAreThese};
 ghost use Rattle.tsl_tool.specs.Outcome.{Outcome};
 ghost use Rattle.tsl_tool.specs.Promise.{Promise};
 ghost use Rattle.tsl_tool.specs.Recheck.{IsAccepted, IsRefused, parts_reply};
@@ -45,4 +46,9 @@ pub fn outcomes_keep_their_promise()
 pub fn verdicts_are_those_of_logs()
     ensures yes { (cnf log : List ℕ) → ((parts_reply (cnf_answer cnf) (log_answer log)).status ≡ Status.Done) ↔ IsAccepted cnf log }
     ensures no { (cnf log : List ℕ) → ((parts_reply (cnf_answer cnf) (log_answer log)).status ≡ Status.No) ↔ IsRefused cnf log }
+{}
+
+/// The limits of texts and of what they spell are these numbers.
+pub fn limits_are_these()
+    ensures { LimitsAreThese }
 {}

@@ -25,7 +25,7 @@
 //!    meets the specification's whole formula. For `recheck`, at `Done` no assignment meets all
 //!    clauses of the formula that the bytes spell.
 //!
-//! The clauses of `tsl` say: the status, what was read and what stands in the sinks are those of an
+//! The clauses of `tsl` say: the status and what stands in the sinks are those of an
 //! `Ends`; an answer keeps the `Promise` of its command; words that read nothing leave the source
 //! as it was; what was written was handed on. What follows from them is said by laws:
 //! `ends_have_causes` gives each status its cause and each counted fault its answer, and
@@ -33,7 +33,8 @@
 //! that a text spells at most one specification, `plain_updates_are_spelled` that a text of plain
 //! updates (`specs/Form.antt`), whose definition does not use the grammar, spells the same
 //! specification by the grammar, and `verdicts_are_those_of_logs` that `recheck` says yes exactly
-//! where the log is accepted and no exactly where it is refused.
+//! where the log is accepted and no exactly where it is refused. Definitions cite the limits of
+//! texts as the constants of the code; `limits_are_these` says which numbers they are.
 //!
 //! What is built: `recheck`, and `synth` or `synth --states 1`. `synth` reads every specification
 //! of the grammar, and each refusal has the line of its fault (`specs/Refusals.antt`); it writes a
@@ -53,8 +54,8 @@ mod top;
 mod words;
 
 pub use laws::{
-    ends_have_causes, one_specification, outcomes_keep_their_promise, plain_updates_are_spelled,
-    verdicts_are_those_of_logs,
+    ends_have_causes, limits_are_these, one_specification, outcomes_keep_their_promise,
+    plain_updates_are_spelled, verdicts_are_those_of_logs,
 };
 pub use status::Status;
 pub use top::tsl;

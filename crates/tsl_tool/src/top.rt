@@ -67,7 +67,7 @@ pub fn tsl<S: Source, O: Sink, E: Sink>(
     out: &mut O,
     err: &mut E,
 ) -> Status
-    // The status, what was read and what stands in the sinks are those of an outcome on the bytes of the source.
+    // The status and what stands in the sinks are those of an outcome on the bytes of the source.
     ensures answers { Ends (map string_bytes words.now)
         (effect S.left S.faults source.old source.new)
         (effect O.written O.faults out.old out.new)

@@ -1,0 +1,18 @@
+use Rattle.std.proofs.Common.{refl}
+use Rattle.tsl_tool.proofs.laws.limits_are_these.Goals as goal
+
+pub returns : goal.returns
+returns c = record {
+  specification_bytes = λ sizes. refl;
+  log_bytes = refl;
+  levels = refl;
+  formula_nodes = refl;
+  brackets = refl;
+  window_length = refl;
+  windows = refl;
+  program_nodes = refl;
+  program_states = refl;
+  digits = refl;
+  variables = refl;
+  clauses = refl;
+}
