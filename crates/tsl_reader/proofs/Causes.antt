@@ -20,8 +20,9 @@ use Rattle.tsl_reader.specs.Syntax.{SectionSyntax}
 use Rattle.tsl_reader.specs.Grammar.{AreSections}
 use Rattle.token_readers.specs.Readers.{form, deep}
 use Rattle.tsl_reader.specs.Reading.{sections}
-use Rattle.tsl_reader.specs.Naming.{names_of, numbered_list, formulas_in}
-use Rattle.tsl_reader.specs.Spells.{deepest, most_nodes, terminal_at, terminals, Derives, IsDerived, Spells, HasWrongToken, HasFormFault}
+use Rattle.tsl_reader.specs.Naming.{names_of, numbered_list, formulas_of_part}
+use Rattle.tsl_reader.specs.Spells.{deepest_level, most_formula_nodes, terminal_at, terminals, Derives, IsDerived, Spells, HasWrongToken}
+use Rattle.tsl_reader.specs.Spells.{HasFormFault}
 use Rattle.tsl_reader.specs.Spells.{HasDeepFault, HasTooManyNodes}
 use Rattle.tsl_reader.proofs.ExactSections.{one_tree}
 use Rattle.tsl_reader.proofs.Faults.{form_is_within, deep_is_within, form_stops_all, form_begins, deep_stops, deep_begins, deep_goes_on}
@@ -58,10 +59,14 @@ stop_at text tokens left token there some few =
     }
 
 wrong_token : (text : List ℕ) (tokens : List Token) → AreTokens text tokens → (left : ℕ) →
-    sections deepest (terminals text tokens) ≡ Err (form left) →
+    sections deepest_level (terminals text tokens) ≡ Err (form left) →
     (token : Token) → slice_get tokens (length tokens - left) ≡ Some token → 0 < left → HasWrongToken text token.start
 wrong_token text tokens are left h token there some =
-    let few : left ≤ length tokens = omega (arith, form_is_within deepest (terminals text tokens) left h, length_terminals text tokens) in
+    let few : left ≤ length tokens = omega (
+      arith,
+      form_is_within deepest_level (terminals text tokens) left h,
+      length_terminals text tokens,
+    ) in
     let s : Stop text tokens left token = stop_at text tokens left token there some few in
     record {
       before = s.before;
@@ -69,16 +74,16 @@ wrong_token text tokens are left h token there some =
       after = s.after;
       tokens_are = subst (AreTokens text) s.split are;
       place = refl;
-      begins = form_begins deepest (terminals text tokens) left h (terminals text s.before)
+      begins = form_begins deepest_level (terminals text tokens) left h (terminals text s.before)
           (terminal_at text token ∷ terminals text s.after) s.terminals_are s.here;
       stops = λ room. rw (terminals_split text s.before token [])
-          (form_stops_all deepest (terminals text tokens) left h (terminals text s.before) (terminal_at text token)
+          (form_stops_all deepest_level (terminals text tokens) left h (terminals text s.before) (terminal_at text token)
           (terminals text s.after) s.terminals_are s.here room);
     }
 
 -- a form fault at a token
 pub form_at_token : (text : List ℕ) (tokens : List Token) → AreTokens text tokens → (left : ℕ) →
-    sections deepest (terminals text tokens) ≡ Err (form left) →
+    sections deepest_level (terminals text tokens) ≡ Err (form left) →
     (token : Token) → slice_get tokens (length tokens - left) ≡ Some token → HasFormFault text token.start
 form_at_token text tokens are zero h token there = no_token (slice_get_past tokens (length tokens - 0) (omega arith)) where
   no_token : slice_get tokens (length tokens - 0) ≡ None → HasFormFault text token.start
@@ -87,24 +92,24 @@ form_at_token text tokens are (suc left) h token there = inl (wrong_token text t
 
 -- a form fault at the end of the text
 pub form_at_end : (text : List ℕ) (tokens : List Token) → AreTokens text tokens → (left : ℕ) →
-    sections deepest (terminals text tokens) ≡ Err (form left) → left ≡ 0 →
+    sections deepest_level (terminals text tokens) ≡ Err (form left) → left ≡ 0 →
     HasFormFault text (length text)
 form_at_end text tokens are left h none =
     inr (record {
       tokens = tokens;
       tokens_are = are;
       place = refl;
-      begins = form_begins deepest (terminals text tokens) left h (terminals text tokens) []
+      begins = form_begins deepest_level (terminals text tokens) left h (terminals text tokens) []
           (sym (append-nil (terminals text tokens))) none;
-      no_text = λ room. no_text deepest (terminals text tokens) left h room;
+      no_text = λ room. no_text deepest_level (terminals text tokens) left h room;
     })
 
 -- a level too many, at a token
 pub deep_at_token : (text : List ℕ) (tokens : List Token) → AreTokens text tokens → (left : ℕ) →
-    sections deepest (terminals text tokens) ≡ Err (deep left) →
+    sections deepest_level (terminals text tokens) ≡ Err (deep left) →
     (token : Token) → slice_get tokens (length tokens - left) ≡ Some token → HasDeepFault text token.start
 deep_at_token text tokens are left h token there =
-    let within = deep_is_within deepest (terminals text tokens) left h in
+    let within = deep_is_within deepest_level (terminals text tokens) left h in
     let few : left ≤ length tokens = omega (arith, within.1, length_terminals text tokens) in
     let s : Stop text tokens left token = stop_at text tokens left token there within.0 few in
     record {
@@ -113,22 +118,22 @@ deep_at_token text tokens are left h token there =
       after = s.after;
       tokens_are = subst (AreTokens text) s.split are;
       place = refl;
-      begins = deep_begins deepest (terminals text tokens) left h (terminals text s.before) (terminal_at text token)
+      begins = deep_begins deepest_level (terminals text tokens) left h (terminals text s.before) (terminal_at text token)
           (terminals text s.after) s.terminals_are s.here;
       stops = rw (terminals_split text s.before token [])
-          (deep_stops deepest (terminals text tokens) left h (terminals text s.before) (terminal_at text token)
+          (deep_stops deepest_level (terminals text tokens) left h (terminals text s.before) (terminal_at text token)
           (terminals text s.after) s.terminals_are s.here);
-      room = suc (suc deepest);
+      room = suc (suc deepest_level);
       goes_on = rw (terminals_split text s.before token [])
-          (deep_goes_on deepest (terminals text tokens) left h (terminals text s.before) (terminal_at text token)
+          (deep_goes_on deepest_level (terminals text tokens) left h (terminals text s.before) (terminal_at text token)
           (terminals text s.after) s.terminals_are s.here);
     }
 
 -- a level too many has a token
-pub deep_has_token : (text : List ℕ) (tokens : List Token) (left : ℕ) → sections deepest (terminals text tokens) ≡ Err (deep left) →
+pub deep_has_token : (text : List ℕ) (tokens : List Token) (left : ℕ) → sections deepest_level (terminals text tokens) ≡ Err (deep left) →
     (0 < left) × (left ≤ length tokens)
 deep_has_token text tokens left h =
-    let within = deep_is_within deepest (terminals text tokens) left h in
+    let within = deep_is_within deepest_level (terminals text tokens) left h in
     (within.0, omega (arith, within.1, length_terminals text tokens))
 
 -- a text has one list of tokens
@@ -146,18 +151,20 @@ no_tokens text fault h tokens are =
 pub one_derivation : (text : List ℕ) (a b : List Token) (ss rs : List SectionSyntax) → Derives text a ss → Derives text b rs → ss ≡ rs
 one_derivation text a b ss rs h k =
     let same : a ≡ b = one_list text a b h.tokens_are k.tokens_are in
-    one_tree deepest (terminals text b) ss rs (subst (λ tokens. AreSections deepest (terminals text tokens) ss) same h.derived) k.derived
+    one_tree deepest_level (terminals text b) ss rs (subst (λ tokens. AreSections deepest_level
+    (terminals text tokens) ss) same h.derived) k.derived
 
 -- the parts of a specification make it
 abbrev spec_from : List Name → List FormulaTree → List FormulaTree → List FormulaTree → List FormulaTree → SpecTree
 spec_from names a b c d = record { names = names; assume_first = a; assume_always = b; guarantee_first = c; guarantee_always = d }
 
 numbered_alike : (m n : List Name) (ss rs : List SectionSyntax) (part : Part) (x y : List FormulaTree) → m ≡ n → ss ≡ rs →
-    numbered_list m (formulas_in part ss) ≡ Some x → numbered_list n (formulas_in part rs) ≡ Some y → x ≡ y
+    numbered_list m (formulas_of_part part ss) ≡ Some x → numbered_list n (formulas_of_part part rs) ≡ Some y → x ≡ y
 numbered_alike m n ss rs part x y names sections h k =
-    let same : numbered_list n (formulas_in part rs) ≡ Some x =
-    sym (ap (λ names. numbered_list names (formulas_in part ss)) names ∙ ap (λ s. numbered_list n (formulas_in part s)) sections) ∙ h in
-    one_value (numbered_list n (formulas_in part rs)) x y same k
+    let same : numbered_list n (formulas_of_part part rs) ≡ Some x =
+    sym (ap (λ names. numbered_list names (formulas_of_part part ss)) names
+    ∙ ap (λ s. numbered_list n (formulas_of_part part s)) sections) ∙ h in
+    one_value (numbered_list n (formulas_of_part part rs)) x y same k
 
 -- a text derives from one specification
 pub one_derived : (text : List ℕ) (a b : SpecTree) → IsDerived text a → IsDerived text b → a ≡ b
@@ -185,5 +192,6 @@ one_spec text a b x y = one_derived text a b x.derived y.derived
 pub nodes_refuse : (text : List ℕ) → HasTooManyNodes text → (spec : SpecTree) → Spells text spec → ⊥
 nodes_refuse text h spec spelled =
     let same : spec ≡ h.spec = one_derived text spec h.spec spelled.derived h.derived in
-    let few : nodes (whole_formula h.spec) ≤ most_nodes = subst (λ s. nodes (whole_formula s) ≤ most_nodes) same spelled.few_nodes in
+    let few : nodes (whole_formula h.spec) ≤ most_formula_nodes = subst (λ s. nodes
+    (whole_formula s) ≤ most_formula_nodes) same spelled.few_nodes in
     omega (arith, few, h.many_nodes)

@@ -24,9 +24,16 @@ use Rattle.tsl_reader.specs.declared.syntax.Word.TheVariants.{True, False, U, W,
 use Rattle.tsl_terms.specs.declared.operator.UnaryOperator.{UnaryOperator}
 use Rattle.tsl_terms.specs.declared.operator.BinaryOperator.{BinaryOperator}
 use Rattle.tsl_terms.specs.declared.operator.BinaryOperator.TheVariants.{Implication, Equivalence}
-use Rattle.tsl_reader.specs.Syntax.{Terminal, free, word, mark, TermSyntax, alone, FormulaSyntax, truth, falsehood, bare, updated, under, between, all_of, any_of}
-use Rattle.tsl_reader.specs.Grammar.{unary_of, temporal_of, IsTerm, signal, IsFormula, temporal, chain as chained, IsIff, no_iff, iff, IsImp, no_imp, imp, IsOr, disjunction, AreDisjuncts, no_disjunct, more_disjuncts, IsAnd, conjunction, AreConjuncts, no_conjunct, more_conjuncts, IsPrefix, prefix, atom, IsAtom, true_atom, false_atom, brackets_atom, update, bare_name, no_argument, test}
-use Rattle.tsl_reader.specs.Reading.{is_close_round, is_close_square, Level, bracketed_formula, atom_named, term_with, update_with, atom_with, after_name, prefix_from, prefix_with, conjunct, and_after, and_with, disjunct, or_after_and, or_after, imp_after_or, imp_after, imp_with, iff_after_imp, iff_after, iff_with, formula_from, formula_after, formula_with, above, lower}
+use Rattle.tsl_reader.specs.Syntax.{Terminal, free, word, mark, TermSyntax, alone, FormulaSyntax, truth, falsehood, bare, updated, under}
+use Rattle.tsl_reader.specs.Syntax.{between, all_of, any_of}
+use Rattle.tsl_reader.specs.Grammar.{unary_of, temporal_of, IsTerm, signal, IsFormula, temporal, chain as chained, IsIff, no_iff, iff}
+use Rattle.tsl_reader.specs.Grammar.{IsImp, no_imp, imp, IsOr, disjunction, AreDisjuncts, no_disjunct, more_disjuncts, IsAnd, conjunction}
+use Rattle.tsl_reader.specs.Grammar.{AreConjuncts, no_conjunct, more_conjuncts, IsPrefix, prefix, atom, IsAtom, true_atom, false_atom}
+use Rattle.tsl_reader.specs.Grammar.{brackets_atom, update, bare_name, no_argument, test}
+use Rattle.tsl_reader.specs.Reading.{is_close_round, is_close_square, Level, bracketed_formula, atom_named, term_with, update_with}
+use Rattle.tsl_reader.specs.Reading.{atom_with, after_name, prefix_from, prefix_with, conjunct, and_after, and_with, disjunct, or_after_and}
+use Rattle.tsl_reader.specs.Reading.{or_after, imp_after_or, imp_after, imp_with, iff_after_imp, iff_after, iff_with, formula_from}
+use Rattle.tsl_reader.specs.Reading.{formula_after, formula_with, above, lower}
 use Rattle.tsl_reader.proofs.Lift.{lift_formula, lift_imp, lift_and, lift_prefix, lift_conjuncts, lift_disjuncts}
 use Rattle.tsl_reader.proofs.ExactTerms.{
   tie,
@@ -317,7 +324,8 @@ prefix_exact room low b =
             is_atom : (r : ℕ) (ys : List Terminal) (f : FormulaSyntax) → PrefixFrom (unary_of x) x r ys f → IsAtom r (x ∷ ys) f
             is_atom r ys f h = rw e at h
       by x (Some op) e =
-          turn_below {Holds = LevelExact} (under op) low (λ l. l.prefix) (λ k l h. h.prefix) b (as_from x (Some op) e) (λ y h. h) some_prefix
+          turn_below {Holds = LevelExact} (under op) low (λ l. l.prefix) (λ k l h. h.prefix) b (as_from x (Some op) e)
+          (λ y h. h) some_prefix
           (a_prefix (suc room))
           (λ r ys f h. rw e (f, h, refl)) (λ r ys f h. rw e at h)
 

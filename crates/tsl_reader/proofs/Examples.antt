@@ -1,7 +1,8 @@
 -- What the grammar reads, where it stops, and how names are numbered.
 use Rattle.std.proofs.Common.{◌≡◌, ℕ, List, [], ◌∷◌, ◌++◌, refl, map}
 use Rattle.std.specs.Prelude.{codes, position, Some, None, Ok, Err}
-use Rattle.tsl_text.specs.declared.TokenKind.TheVariants.{OpenBrace, CloseBrace, OpenRound, CloseRound, OpenSquare, CloseSquare, Semicolon, Not, And, Or, Arrow, BothArrow, LeftArrow}
+use Rattle.tsl_text.specs.declared.TokenKind.TheVariants.{OpenBrace, CloseBrace, OpenRound, CloseRound, OpenSquare, CloseSquare, Semicolon}
+use Rattle.tsl_text.specs.declared.TokenKind.TheVariants.{Not, And, Or, Arrow, BothArrow, LeftArrow}
 use Rattle.tsl_text.specs.Lexeme.{name}
 use Rattle.tsl_terms.specs.declared.names.NameKind.TheVariants.{Signal, Predicate}
 use Rattle.tsl_terms.specs.Name.{Name}
@@ -13,9 +14,13 @@ use Rattle.tsl_reader.specs.declared.syntax.Word.TheVariants.{Assume, Guarantee,
 use Rattle.tsl_terms.specs.declared.operator.UnaryOperator.TheVariants.{Negation, Next}
 use Rattle.tsl_terms.specs.declared.operator.BinaryOperator.TheVariants.{Implication, Equivalence}
 use Rattle.tsl_reader.specs.declared.syntax.Part.TheVariants.{AssumeAlways, GuaranteeFirst}
-use Rattle.tsl_reader.specs.Syntax.{Terminal, free, word, mark, terminal_of, alone, applied, no_terms, more_terms, FormulaSyntax, bare, tested, updated, under, between, all, any, no_formulas, more_formulas, SectionSyntax}
+use Rattle.tsl_reader.specs.Syntax.{Terminal, free, word, mark, terminal_of, alone, applied, no_terms, more_terms, FormulaSyntax, bare}
+use Rattle.tsl_reader.specs.Syntax.{tested, updated, under, between, all, any, no_formulas, more_formulas, SectionSyntax}
 use Rattle.token_readers.specs.Readers.{form, deep, Answer, closing, iterate_most, iterate}
-use Rattle.tsl_reader.specs.Reading.{opened, argument, after_name, term_with, update_with, atom_with, prefix_from, prefix_with, conjunct, and_after, and_with, disjunct, or_after_and, or_after, imp_after_or, imp_after, imp_with, iff_after_imp, iff_after, iff_with, formula_from, formula_after, formula_with, above, lower, item, formulas, section_made, items, side, section_at, section, sections}
+use Rattle.tsl_reader.specs.Reading.{opened, argument, after_name, term_with, update_with, atom_with, prefix_from, prefix_with, conjunct}
+use Rattle.tsl_reader.specs.Reading.{and_after, and_with, disjunct, or_after_and, or_after, imp_after_or, imp_after, imp_with}
+use Rattle.tsl_reader.specs.Reading.{iff_after_imp, iff_after, iff_with, formula_from, formula_after, formula_with, above, lower, item}
+use Rattle.tsl_reader.specs.Reading.{formulas, section_made, items, side, section_at, section, sections}
 use Rattle.tsl_reader.specs.Grammar.{AreSections, IsAtom, test, one_argument, constant_argument}
 use Rattle.tsl_reader.specs.Spells.{NoTextBegins}
 use Rattle.tsl_reader.proofs.ExactSections.{sections_derive}
@@ -27,7 +32,8 @@ use Rattle.tsl_reader.specs.Naming.{use_as, question_use, written_uses, names_of
 words_are_reserved : map terminal_of (name (codes "X") ∷ name (codes "A") ∷ name (codes "always") ∷ []) ≡ word X ∷ word A ∷ word Always ∷ []
 words_are_reserved = refl
 
-other_names_are_free : map terminal_of (name (codes "X1") ∷ name (codes "x") ∷ name (codes "Always") ∷ []) ≡ free (codes "X1") ∷ free (codes "x") ∷ free (codes "Always") ∷ []
+other_names_are_free : map terminal_of (name (codes "X1") ∷ name (codes "x") ∷ name (codes "Always") ∷ [])
+    ≡ free (codes "X1") ∷ free (codes "x") ∷ free (codes "Always") ∷ []
 other_names_are_free = refl
 
 -- ---- formulas
@@ -59,13 +65,15 @@ arrows_are_right = refl
 
 -- `a && b && c` is one conjunction, and one in brackets stays a node of its own
 brackets_keep_conjunctions : sections 1 (guaranteed (a ∷ mark And ∷ b ∷ mark And ∷ mark OpenRound ∷ a ∷ mark And ∷ c ∷ mark CloseRound ∷ [])) ≡
-    one_formula (all (more_formulas (bare (codes "a")) (more_formulas (bare (codes "b")) (more_formulas (all (more_formulas (bare (codes "a")) (more_formulas (bare (codes "c")) no_formulas))) no_formulas))))
+    one_formula (all (more_formulas (bare (codes "a")) (more_formulas (bare (codes "b")) (more_formulas (all (more_formulas (bare
+    (codes "a")) (more_formulas (bare (codes "c")) no_formulas))) no_formulas))))
 unfolding closing iterate_most iterate opened argument after_name term_with update_with atom_with prefix_from prefix_with conjunct and_after and_with disjunct or_after_and or_after imp_after_or imp_after imp_with iff_after_imp iff_after iff_with formula_from formula_after formula_with above lower item formulas items side section_at section sections
 brackets_keep_conjunctions = refl
 
 -- `a || b && c`
 and_binds_stronger : sections 0 (guaranteed (a ∷ mark Or ∷ b ∷ mark And ∷ c ∷ [])) ≡
-    one_formula (any (more_formulas (bare (codes "a")) (more_formulas (all (more_formulas (bare (codes "b")) (more_formulas (bare (codes "c")) no_formulas))) no_formulas)))
+    one_formula (any (more_formulas (bare (codes "a")) (more_formulas (all (more_formulas (bare (codes "b")) (more_formulas (bare
+    (codes "c")) no_formulas))) no_formulas)))
 unfolding closing iterate_most iterate opened argument after_name term_with update_with atom_with prefix_from prefix_with conjunct and_after and_with disjunct or_after_and or_after imp_after_or imp_after imp_with iff_after_imp iff_after iff_with formula_from formula_after formula_with above lower item formulas items side section_at section sections
 and_binds_stronger = refl
 
@@ -75,12 +83,14 @@ unfolding closing iterate_most iterate opened argument after_name term_with upda
 brackets_alone = refl
 
 -- `p (a)`
-bracketed_argument : sections 1 (guaranteed (p ∷ mark OpenRound ∷ a ∷ mark CloseRound ∷ [])) ≡ one_formula (tested (codes "p") (more_terms (alone (codes "a")) no_terms))
+bracketed_argument : sections 1 (guaranteed (p ∷ mark OpenRound ∷ a ∷ mark CloseRound ∷ []))
+    ≡ one_formula (tested (codes "p") (more_terms (alone (codes "a")) no_terms))
 unfolding closing iterate_most iterate opened argument after_name term_with update_with atom_with prefix_from prefix_with conjunct and_after and_with disjunct or_after_and or_after imp_after_or imp_after imp_with iff_after_imp iff_after iff_with formula_from formula_after formula_with above lower item formulas items side section_at section sections
 bracketed_argument = refl
 
 -- `p a ()`: the argument takes the brackets
-arguments_take_brackets : sections 0 (guaranteed (p ∷ a ∷ mark OpenRound ∷ mark CloseRound ∷ [])) ≡ one_formula (tested (codes "p") (more_terms (applied (codes "a") no_terms) no_terms))
+arguments_take_brackets : sections 0 (guaranteed (p ∷ a ∷ mark OpenRound ∷ mark CloseRound ∷ []))
+    ≡ one_formula (tested (codes "p") (more_terms (applied (codes "a") no_terms) no_terms))
 unfolding closing iterate_most iterate opened argument after_name term_with update_with atom_with prefix_from prefix_with conjunct and_after and_with disjunct or_after_and or_after imp_after_or imp_after imp_with iff_after_imp iff_after iff_with formula_from formula_after formula_with above lower item formulas items side section_at section sections
 arguments_take_brackets = refl
 
@@ -105,7 +115,8 @@ a_third_level_is_deep = refl
 
 -- behind arrows of two levels a `<->` of the outer chain is fine
 levels_of_chains_are_their_own : sections 2 (guaranteed (a ∷ mark Arrow ∷ b ∷ mark Arrow ∷ c ∷ mark BothArrow ∷ a ∷ [])) ≡
-    one_formula (between Equivalence (between Implication (bare (codes "a")) (between Implication (bare (codes "b")) (bare (codes "c")))) (bare (codes "a")))
+    one_formula (between Equivalence (between Implication (bare (codes "a")) (between Implication (bare (codes "b")) (bare (codes "c"))))
+    (bare (codes "a")))
 unfolding closing iterate_most iterate opened argument after_name term_with update_with atom_with prefix_from prefix_with conjunct and_after and_with disjunct or_after_and or_after imp_after_or imp_after imp_with iff_after_imp iff_after iff_with formula_from formula_after formula_with above lower item formulas items side section_at section sections
 levels_of_chains_are_their_own = refl
 
@@ -132,7 +143,8 @@ no_word_as_a_name = refl
 -- ---- sections
 
 -- the last semicolon may be missing
-last_semicolon : sections 0 (guaranteed (a ∷ mark Semicolon ∷ b ∷ [])) ≡ sections 0 (guaranteed (a ∷ mark Semicolon ∷ b ∷ mark Semicolon ∷ []))
+last_semicolon : sections 0 (guaranteed (a ∷ mark Semicolon ∷ b ∷ []))
+    ≡ sections 0 (guaranteed (a ∷ mark Semicolon ∷ b ∷ mark Semicolon ∷ []))
 unfolding closing iterate_most iterate opened argument after_name term_with update_with atom_with prefix_from prefix_with conjunct and_after and_with disjunct or_after_and or_after imp_after_or imp_after imp_with iff_after_imp iff_after iff_with formula_from formula_after formula_with above lower item formulas items side section_at section sections
 last_semicolon = refl
 
@@ -162,25 +174,29 @@ cut_off = refl
 
 -- `[y <- x]; p z; x;`
 abbrev three : List SectionSyntax
-three = section_made GuaranteeFirst (updated (codes "y") (alone (codes "x")) ∷ tested (codes "p") (more_terms (alone (codes "z")) no_terms) ∷ bare (codes "x") ∷ []) ∷ []
+three = section_made GuaranteeFirst (updated (codes "y") (alone (codes "x")) ∷ tested (codes "p") (more_terms (alone
+    (codes "z")) no_terms) ∷ bare (codes "x") ∷ []) ∷ []
 
 abbrev signal_named : List ℕ → Name
 signal_named text = (use_as Signal text 0).name
 
 -- `?` follows all names that stand before its first use
 question_behind_its_signal : names_of three ≡
-    signal_named (codes "y") ∷ signal_named (codes "x") ∷ record { text = codes "p"; kind = Predicate; arity = 1 } ∷ signal_named (codes "z") ∷ question_use ∷ []
+    signal_named (codes "y") ∷ signal_named (codes "x") ∷ record { text = codes "p"; kind = Predicate; arity = 1 } ∷ signal_named
+    (codes "z") ∷ question_use ∷ []
 question_behind_its_signal = refl
 
 only_names_of_the_text : map (λ n. n.text) (written_uses three) ≡ codes "y" ∷ codes "x" ∷ codes "p" ∷ codes "z" ∷ codes "x" ∷ []
 only_names_of_the_text = refl
 
-numbers_by_first_appearance : numbered_list (names_of three) (updated (codes "y") (alone (codes "x")) ∷ []) ≡ Some (atom (update 0 (signal 1)) ∷ [])
+numbers_by_first_appearance : numbered_list (names_of three) (updated (codes "y") (alone (codes "x")) ∷ [])
+    ≡ Some (atom (update 0 (signal 1)) ∷ [])
 numbers_by_first_appearance = refl
 
 -- `x; p x; p(); p;`
 abbrev clashing : List SectionSyntax
-clashing = section_made GuaranteeFirst (bare (codes "x") ∷ tested (codes "p") (more_terms (alone (codes "x")) no_terms) ∷ tested (codes "p") no_terms ∷ bare (codes "p") ∷ []) ∷ []
+clashing = section_made GuaranteeFirst (bare (codes "x") ∷ tested (codes "p") (more_terms (alone (codes "x")) no_terms) ∷ tested
+    (codes "p") no_terms ∷ bare (codes "p") ∷ []) ∷ []
 
 -- the last `p` is a signal
 kind_clash : position (differs_from alike_in_kind (first_uses (written_uses clashing))) (written_uses clashing) ≡ Some 4
@@ -201,13 +217,16 @@ an_atom = test (codes "p") (one_argument (constant_argument (codes "a")))
 
 -- `guarantee { a -> b -> c }` derives with two levels
 arrows_derive : AreSections 2 (guaranteed (a ∷ mark Arrow ∷ b ∷ mark Arrow ∷ c ∷ []))
-    (section_made GuaranteeFirst (between Implication (bare (codes "a")) (between Implication (bare (codes "b")) (bare (codes "c"))) ∷ []) ∷ [])
+    (section_made GuaranteeFirst (between Implication (bare (codes "a")) (between Implication (bare (codes "b")) (bare
+    (codes "c"))) ∷ []) ∷ [])
 arrows_derive = sections_derive 2 _ _ [] arrows_are_right
 
 -- and `guarantee { a U b U c }` with no number of levels, nor any text that begins with `guarantee { a U b U`
 no_chain_derives : (room : ℕ) → NoTextBegins room (word Guarantee ∷ mark OpenBrace ∷ a ∷ word U ∷ b ∷ word U ∷ [])
-no_chain_derives room = form_stops_all 5 _ 3 no_chain_of_until (word Guarantee ∷ mark OpenBrace ∷ a ∷ word U ∷ b ∷ []) (word U) (c ∷ mark CloseBrace ∷ []) refl refl room
+no_chain_derives room = form_stops_all 5 _ 3 no_chain_of_until (word Guarantee ∷ mark OpenBrace ∷ a ∷ word U ∷ b ∷ []) (word U)
+    (c ∷ mark CloseBrace ∷ []) refl refl room
 
 -- `guarantee { ! X a }` derives with no text of one level
 no_third_level_derives : NoTextBegins 1 (word Guarantee ∷ mark OpenBrace ∷ mark Not ∷ word X ∷ [])
-no_third_level_derives = deep_stops 1 _ 3 a_third_level_is_deep (word Guarantee ∷ mark OpenBrace ∷ mark Not ∷ []) (word X) (a ∷ mark CloseBrace ∷ []) refl refl
+no_third_level_derives = deep_stops 1 _ 3 a_third_level_is_deep (word Guarantee ∷ mark OpenBrace ∷ mark Not ∷ []) (word X)
+    (a ∷ mark CloseBrace ∷ []) refl refl

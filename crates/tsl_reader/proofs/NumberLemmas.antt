@@ -21,7 +21,7 @@ use Rattle.tsl_reader.specs.Syntax.{more_formulas as another_formula, SectionSyn
 use Rattle.tsl_reader.specs.SyntaxView.{section_syntax}
 use Rattle.tsl_reader.specs.Numbering.{numbered_after, formulas_if}
 use Rattle.tsl_reader.specs.Naming.{numbered_term, numbered_terms, numbered_formula, numbered_members, numbered_list, same_part}
-use Rattle.tsl_reader.specs.Naming.{formulas_in}
+use Rattle.tsl_reader.specs.Naming.{formulas_of_part}
 
 abbrev pub numbered_front : List TermTree → Option TermTrees → Option TermTrees
 numbered_front front rest = option_map (terms_front front) rest
@@ -87,20 +87,20 @@ numbered_append names (f ∷ fs) gs =
     by (Some tree) (Some trees) (Some more) = refl
 
 formulas_split : (part : Part) (s : SectionSyntax) (ss : List SectionSyntax) →
-    formulas_in part (s ∷ ss) ≡ formulas_if part s ++ formulas_in part ss
+    formulas_of_part part (s ∷ ss) ≡ formulas_if part s ++ formulas_of_part part ss
 formulas_split part s ss = by (same_part part s.part) where
   by : (is : Bool) → flat_map (λ (r : SectionSyntax). r.formulas)
       (cond is (s ∷ filter (λ r. same_part part r.part) ss) (filter (λ r. same_part part r.part) ss))
-      ≡ (if is then s.formulas else []) ++ formulas_in part ss
+      ≡ (if is then s.formulas else []) ++ formulas_of_part part ss
   by true = refl
   by false = refl
 
 -- the formulas that are left, with a section in front
 next_section : (part : Part) (ss : List ReadSection) (i : ℕ) (d : ReadSection) → i < length ss →
-    formulas_in part (map section_syntax (drop i ss)) ≡ formulas_if part (section_syntax (get_or ss i d))
-    ++ formulas_in part (map section_syntax (drop (i + 1) ss))
+    formulas_of_part part (map section_syntax (drop i ss)) ≡ formulas_if part (section_syntax (get_or ss i d))
+    ++ formulas_of_part part (map section_syntax (drop (i + 1) ss))
 next_section part ss i d within =
-    ap (λ rs. formulas_in part (map section_syntax rs)) (drop_more ss i d within)
+    ap (λ rs. formulas_of_part part (map section_syntax rs)) (drop_more ss i d within)
     ∙ formulas_split part (section_syntax (get_or ss i d)) (map section_syntax (drop (i + 1) ss))
 
 after_first : (front : List FormulaTree) (left right : Option (List FormulaTree)) (all : List FormulaTree) →
@@ -120,11 +120,11 @@ some_first front (Some trees) right h = refl
 -- a section's formulas have their numbers
 pub section_some : (names : List Name) (part : Part) (ss : List ReadSection) (i : ℕ) (d : ReadSection) (front : List FormulaTree)
     (all : Option (List FormulaTree)) → i < length ss →
-    numbered_after front (numbered_list names (formulas_in part (map section_syntax (drop i ss)))) ≡ all → is_some all ≡ true →
+    numbered_after front (numbered_list names (formulas_of_part part (map section_syntax (drop i ss)))) ≡ all → is_some all ≡ true →
     is_some (numbered_list names (formulas_if part (section_syntax (get_or ss i d)))) ≡ true
 section_some names part ss i d front all within h k =
     let first = formulas_if part (section_syntax (get_or ss i d)) in
-    let rest = formulas_in part (map section_syntax (drop (i + 1) ss)) in
+    let rest = formulas_of_part part (map section_syntax (drop (i + 1) ss)) in
     some_first front (numbered_list names first) (numbered_list names rest)
     (ap (λ found. is_some (numbered_after front found)) (sym (numbered_append names first rest)
     ∙ ap (numbered_list names) (sym (next_section part ss i d within)))
@@ -134,11 +134,11 @@ section_some names part ss i d front all within h k =
 pub section_more : (names : List Name) (part : Part) (ss : List ReadSection) (i : ℕ) (d : ReadSection) (front more : List FormulaTree)
     (all : Option (List FormulaTree)) → i < length ss →
     numbered_after front (numbered_list names (formulas_if part (section_syntax (get_or ss i d)))) ≡ Some more →
-    numbered_after front (numbered_list names (formulas_in part (map section_syntax (drop i ss)))) ≡ all →
-    numbered_after more (numbered_list names (formulas_in part (map section_syntax (drop (i + 1) ss)))) ≡ all
+    numbered_after front (numbered_list names (formulas_of_part part (map section_syntax (drop i ss)))) ≡ all →
+    numbered_after more (numbered_list names (formulas_of_part part (map section_syntax (drop (i + 1) ss)))) ≡ all
 section_more names part ss i d front more all within e h =
     let first = formulas_if part (section_syntax (get_or ss i d)) in
-    let rest = formulas_in part (map section_syntax (drop (i + 1) ss)) in
+    let rest = formulas_of_part part (map section_syntax (drop (i + 1) ss)) in
     after_first front (numbered_list names first) (numbered_list names rest) more e
     ∙ ap (numbered_after front) (sym (numbered_append names first rest) ∙ ap (numbered_list names) (sym (next_section part ss i d within)))
     ∙ h
@@ -150,8 +150,9 @@ members_in_of (f ∷ fs) = ap (λ gs. f ∷ gs) (members_in_of fs)
 -- the sections are all
 pub sections_all : (names : List Name) (part : Part) (ss : List ReadSection) (i : ℕ) (front : List FormulaTree)
     (all : Option (List FormulaTree)) (list : FormulaTrees) → length ss ≤ i →
-    numbered_after front (numbered_list names (formulas_in part (map section_syntax (drop i ss)))) ≡ all → list ≡ formulas_of front →
+    numbered_after front (numbered_list names (formulas_of_part part (map section_syntax (drop i ss)))) ≡ all → list ≡ formulas_of front →
     all ≡ Some (members_in list)
 sections_all names part ss i front all list past h is =
-    sym (ap (λ rs. numbered_after front (numbered_list names (formulas_in part (map section_syntax rs)))) (sym (drop_all i ss past)) ∙ h)
+    sym (ap (λ rs. numbered_after front (numbered_list names (formulas_of_part part (map section_syntax rs)))) (sym
+    (drop_all i ss past)) ∙ h)
     ∙ ap Some (append-nil front ∙ sym (members_in_of front) ∙ ap members_in (sym is))

@@ -16,25 +16,26 @@ use Rattle.tsl_reader.specs.declared.SpecError.TheVariants as error
 use Rattle.tsl_reader.specs.Syntax.{SectionSyntax}
 use Rattle.tsl_reader.specs.Grammar.{AreSections}
 use Rattle.tsl_reader.specs.Naming.{written_uses}
-use Rattle.tsl_reader.specs.Spells.{deepest, terminals, Derives, Spells, SomeTextBegins, NoTextBegins, HasWrongToken}
-use Rattle.tsl_reader.specs.Spells.{HasFormFault, HasDeepFault, HasClashAt, HasCause, IsRefused, IsOfText}
+use Rattle.tsl_reader.specs.Spells.{deepest_level, terminals, Derives, Spells, SomeTextBegins, NoTextBegins, HasWrongToken}
+use Rattle.tsl_reader.specs.Spells.{HasFormFault, HasDeepFault, HasClashAt, HasCause, SpellsNoSpec, IsOfText}
 use Rattle.tsl_reader.proofs.Causes.{one_list, one_derivation, no_tokens, nodes_refuse}
 
 -- ---- the first token that no text goes on with
 
 -- some text begins with the tokens before this one, and none with those up to and with it
 record StopsAt (text : List ℕ) (before : List Token) (token : Token) : Type 0 where
-  pub begins : SomeTextBegins deepest (terminals text before)
-  pub stops : NoTextBegins deepest (terminals text (before ++ token ∷ []))
+  pub begins : SomeTextBegins deepest_level (terminals text before)
+  pub stops : NoTextBegins deepest_level (terminals text (before ++ token ∷ []))
 
 -- no text that begins with the tokens up to and with one that stops it goes on
 no_more : (text : List ℕ) (before : List Token) (token : Token) (after : List Token) →
-    NoTextBegins deepest (terminals text (before ++ token ∷ [])) → SomeTextBegins deepest (terminals text (before ++ token ∷ after)) → ⊥
+    NoTextBegins deepest_level (terminals text (before ++ token ∷ [])) →
+    SomeTextBegins deepest_level (terminals text (before ++ token ∷ after)) → ⊥
 no_more text before token after stops begins =
     let front : terminals text (before ++ token ∷ after) ≡ terminals text (before ++ token ∷ []) ++ terminals text after =
     ap (terminals text) (sym (append_assoc before (token ∷ []) after)) ∙ map-append _ (before ++ token ∷ []) after in
     stops (terminals text after ++ begins.0) begins.1
-    (subst (λ xs. AreSections deepest xs begins.1)
+    (subst (λ xs. AreSections deepest_level xs begins.1)
     (ap (λ xs. xs ++ begins.0) front ∙ append_assoc (terminals text (before ++ token ∷ [])) (terminals text after) begins.0) begins.2)
 
 -- two splits of a list are the same, or one is within the front of the other
@@ -64,31 +65,31 @@ places (x ∷ b) t a (y ∷ c) u e h =
 one_stop : (text : List ℕ) (b c : List Token) (t u : Token) → Places b t c u → StopsAt text b t → StopsAt text c u → (b ≡ c) × (t ≡ u)
 one_stop text b c t u (together e h) x y = (e, h)
 one_stop text b c t u (sooner more e) x y =
-    absurd (no_more text b t more x.stops (subst (λ ts. SomeTextBegins deepest (terminals text ts)) e y.begins))
+    absurd (no_more text b t more x.stops (subst (λ ts. SomeTextBegins deepest_level (terminals text ts)) e y.begins))
 one_stop text b c t u (later more e) x y =
-    absurd (no_more text c u more y.stops (subst (λ ts. SomeTextBegins deepest (terminals text ts)) e x.begins))
+    absurd (no_more text c u more y.stops (subst (λ ts. SomeTextBegins deepest_level (terminals text ts)) e x.begins))
 
 -- tokens with which some text begins have none that stops it
 no_stop : (text : List ℕ) (tokens before : List Token) (token : Token) (after : List Token) → AreTokens text tokens →
-    AreTokens text (before ++ token ∷ after) → SomeTextBegins deepest (terminals text tokens) →
-    NoTextBegins deepest (terminals text (before ++ token ∷ [])) → ⊥
+    AreTokens text (before ++ token ∷ after) → SomeTextBegins deepest_level (terminals text tokens) →
+    NoTextBegins deepest_level (terminals text (before ++ token ∷ [])) → ⊥
 no_stop text tokens before token after are k begins stops =
     no_more text before token after stops
-    (subst (λ ts. SomeTextBegins deepest (terminals text ts)) (one_list text tokens (before ++ token ∷ after) are k) begins)
+    (subst (λ ts. SomeTextBegins deepest_level (terminals text ts)) (one_list text tokens (before ++ token ∷ after) are k) begins)
 
 one_wrong : (text : List ℕ) (x y : ℕ) → HasWrongToken text x → HasWrongToken text y → x ≡ y
 one_wrong text x y h k =
     let same = one_stop text h.before k.before h.token k.token
     (places h.before h.token h.after k.before k.token k.after (one_list text _ _ h.tokens_are k.tokens_are))
-    (record { begins = h.begins; stops = h.stops deepest }) (record { begins = k.begins; stops = k.stops deepest }) in
+    (record { begins = h.begins; stops = h.stops deepest_level }) (record { begins = k.begins; stops = k.stops deepest_level }) in
     h.place ∙ ap (λ (t : Token). t.start) same.1 ∙ sym k.place
 
 one_form : (text : List ℕ) (x y : ℕ) → HasFormFault text x → HasFormFault text y → x ≡ y
 one_form text x y (inl h) (inl k) = one_wrong text x y h k
 one_form text x y (inl h) (inr k) =
-    absurd (no_stop text k.tokens h.before h.token h.after k.tokens_are h.tokens_are k.begins (h.stops deepest))
+    absurd (no_stop text k.tokens h.before h.token h.after k.tokens_are h.tokens_are k.begins (h.stops deepest_level))
 one_form text x y (inr h) (inl k) =
-    absurd (no_stop text h.tokens k.before k.token k.after h.tokens_are k.tokens_are h.begins (k.stops deepest))
+    absurd (no_stop text h.tokens k.before k.token k.after h.tokens_are k.tokens_are h.begins (k.stops deepest_level))
 one_form text x y (inr h) (inr k) = h.place ∙ sym k.place
 
 one_deep : (text : List ℕ) (x y : ℕ) → HasDeepFault text x → HasDeepFault text y → x ≡ y
@@ -103,7 +104,7 @@ no_form_and_deep : (text : List ℕ) (x y : ℕ) → HasFormFault text x → Has
 no_form_and_deep text x y (inl h) k =
     let same = one_stop text h.before k.before h.token k.token
     (places h.before h.token h.after k.before k.token k.after (one_list text _ _ h.tokens_are k.tokens_are))
-    (record { begins = h.begins; stops = h.stops deepest }) (record { begins = k.begins; stops = k.stops }) in
+    (record { begins = h.begins; stops = h.stops deepest_level }) (record { begins = k.begins; stops = k.stops }) in
     h.stops k.room k.goes_on.0 k.goes_on.1
     (subst (λ ts. AreSections k.room (terminals text ts ++ k.goes_on.0) k.goes_on.1)
     (ap (λ b. b ++ k.token ∷ []) (sym same.0) ∙ ap (λ t. h.before ++ t ∷ []) (sym same.1)) k.goes_on.2)
@@ -192,7 +193,7 @@ reached text error.NoMemory of h = absurd of
 
 -- sections that the tokens derive from begin some text with them
 derived_begins : (text : List ℕ) (tokens : List Token) (ss : List SectionSyntax) → Derives text tokens ss →
-    SomeTextBegins deepest (terminals text tokens)
+    SomeTextBegins deepest_level (terminals text tokens)
 derived_begins text tokens ss d = ([], ss, rw append-nil d.derived)
 
 no_clash_in : (alike : Name → Name → Bool) (text : List ℕ) (ts us : List Token) (ss rs : List SectionSyntax) (s e : ℕ) →
@@ -204,10 +205,10 @@ stuck : (text : List ℕ) (e : SpecError) → IsOfText e → HasCause text e →
 stuck text (error.Byte at) of h k = no_tokens text (Byte at) h k.0 k.1
 stuck text (error.OpenComment at) of h k = no_tokens text (OpenComment at) h k.0 k.1
 stuck text (error.Form at) of (inl h) k =
-    no_stop text k.0 h.before h.token h.after k.2.tokens_are h.tokens_are (derived_begins text k.0 k.1 k.2) (h.stops deepest)
+    no_stop text k.0 h.before h.token h.after k.2.tokens_are h.tokens_are (derived_begins text k.0 k.1 k.2) (h.stops deepest_level)
 stuck text (error.Form at) of (inr h) k =
-    h.no_text deepest k.1
-    (subst (λ ts. AreSections deepest (terminals text ts) k.1) (one_list text k.0 h.tokens k.2.tokens_are h.tokens_are) k.2.derived)
+    h.no_text deepest_level k.1
+    (subst (λ ts. AreSections deepest_level (terminals text ts) k.1) (one_list text k.0 h.tokens k.2.tokens_are h.tokens_are) k.2.derived)
 stuck text (error.Deep at) of h k =
     no_stop text k.0 h.before h.token h.after k.2.tokens_are h.tokens_are (derived_begins text k.0 k.1 k.2) h.stops
 stuck text (error.Kind start end) of h k = no_clash_in alike_in_kind text h.tokens k.0 h.sections k.1 start end h.derives k.2 h.clash k.3
@@ -243,7 +244,7 @@ at_one_stage text error.NoMemory b e of h k = absurd of
 at_one_stage text a b e of h k = absurd (omega (arith, e))
 
 -- where a refusal has its cause, the text spells no specification
-pub cause_refuses : (text : List ℕ) (e : SpecError) → HasCause text e → IsRefused text e
+pub cause_refuses : (text : List ℕ) (e : SpecError) → HasCause text e → SpellsNoSpec text e
 cause_refuses text error.NoMemory h = tt
 cause_refuses text e h = λ spec spelled. stuck text e tt h (back (suc (stage e)) 5 text (omega arith) (spec, spelled))
 

@@ -6,12 +6,13 @@ use Rattle.std.proofs.lemmas.Result.{err_from_is_err_and}
 use Rattle.std.specs.Prelude.{◌≤◌, Bool, true, false, Option, Some, None, Result, Ok, Err, IfErr, if◌then◌else◌, take, drop}
 use Rattle.std.specs.Result.{IsErrAnd}
 use Rattle.tsl_text.specs.declared.TokenKind.TheVariants.{CloseRound, OpenBrace, LeftArrow}
-use Rattle.token_readers.specs.Readers.{form, deep, Answer, Reader, form_at, deep_at, closing, closed_by, and_then, map_read, below as below_level}
+use Rattle.token_readers.specs.Readers.{form, deep, Answer, Reader, form_at, deep_at, closing, closed_by, and_then, map_read}
+use Rattle.token_readers.specs.Readers.{below as below_level}
 use Rattle.tsl_reader.specs.declared.fault.ReadFault.{ReadFault}
 use Rattle.tsl_reader.specs.declared.fault.ReadFault.TheVariants.{Form, Deep, NoMemory}
 use Rattle.tsl_reader.specs.declared.terminals.Terminal.{Terminal as LentTerminal}
 use Rattle.tsl_reader.specs.Syntax.{Terminal, free, mark, TermSyntax, FormulaSyntax, updated}
-use Rattle.tsl_reader.specs.SyntaxView.{terminal_view, terminals_view, HasFault}
+use Rattle.tsl_reader.specs.SyntaxView.{terminal_view, terminals_view, HasSyntaxFault}
 use Rattle.tsl_reader.specs.declared.syntax.Part.{Part}
 use Rattle.tsl_reader.specs.declared.formulas.Form.{Form as GrammarForm}
 use Rattle.tsl_reader.specs.declared.formulas.Form.TheVariants.{Prefix, Implication, Equivalence, Formula}
@@ -84,14 +85,14 @@ close_end is [] h = refl
 close_end is (x ∷ xs) h = absurd (omega (arith, h))
 
 module _ {V W : Type 0} where
-  pub then_fault : (answer : Answer Terminal V) (next : V → Reader Terminal W) (fault : ReadFault) → HasFault answer fault →
-      HasFault (and_then answer next) fault
+  pub then_fault : (answer : Answer Terminal V) (next : V → Reader Terminal W) (fault : ReadFault) → HasSyntaxFault answer fault →
+      HasSyntaxFault (and_then answer next) fault
   then_fault answer next (Form left) h = rw h refl
   then_fault answer next (Deep left) h = rw h refl
   then_fault answer next NoMemory h = tt
 
-  pub map_fault : (make : V → W) (answer : Answer Terminal V) (fault : ReadFault) → HasFault answer fault →
-      HasFault (map_read make answer) fault
+  pub map_fault : (make : V → W) (answer : Answer Terminal V) (fault : ReadFault) → HasSyntaxFault answer fault →
+      HasSyntaxFault (map_read make answer) fault
   map_fault make answer (Form left) h = rw h refl
   map_fault make answer (Deep left) h = rw h refl
   map_fault make answer NoMemory h = tt
@@ -112,7 +113,7 @@ closing_value is v (x ∷ xs) rest h = by (is x) h where
   by false h = cc
 
 closing_fault : {V : Type 0} (is : Terminal → Bool) (v : V) (xs : List Terminal) (fault : ReadFault) →
-    HasFault (closing is (tt {0}) xs) fault → HasFault (closing is v xs) fault
+    HasSyntaxFault (closing is (tt {0}) xs) fault → HasSyntaxFault (closing is v xs) fault
 unfolding closing
 closing_fault is v [] (Form left) h = cc
 closing_fault is v [] (Deep left) h = cc
@@ -138,7 +139,7 @@ module _ {V : Type 0} where
   pub closed_fault : (is : Terminal →
       Bool) (reader : Reader Terminal V) (xs : List Terminal) (v : V) (rest : List Terminal) (fault : ReadFault) →
       reader xs ≡ Ok (v, rest) →
-      HasFault (closing is (tt {0}) rest) fault → HasFault (closed_by is reader xs) fault
+      HasSyntaxFault (closing is (tt {0}) rest) fault → HasSyntaxFault (closed_by is reader xs) fault
   closed_fault is reader xs v rest fault h k = rw h (closing_fault is v rest fault k)
 
   -- what is read of the level below, after the first terminal
@@ -150,11 +151,11 @@ module _ {V : Type 0} where
 -- after a name and an opening bracket, where there is no level below
 pub beyond_fault : (V : Type 0) (xs : List LentTerminal) (fault : ReadFault) →
     fault ≡ (if begins_term (terminals_view xs) then Deep (length xs) else Form (length xs)) →
-    HasFault {V = V} (beyond (terminals_view xs)) fault
+    HasSyntaxFault {V = V} (beyond (terminals_view xs)) fault
 beyond_fault V xs fault h = rw h (by_test V (begins_term (terminals_view xs)) (length-map xs terminal_view))
   where
     by_test : (V : Type 0) (b : Bool) → length (terminals_view xs) ≡ length xs →
-        HasFault {V = V} (if b then deep_at (terminals_view xs) else form_at (terminals_view xs))
+        HasSyntaxFault {V = V} (if b then deep_at (terminals_view xs) else form_at (terminals_view xs))
         (if b then Deep (length xs) else Form (length xs))
     by_test V true e = ap (λ n. Err (deep n)) e
     by_test V false e = ap (λ n. Err (form n)) e
@@ -171,7 +172,7 @@ opened_beyond xs h = refl
 
 pub not_opened : (room : ℕ) (xs : List LentTerminal) (fault : ReadFault) → lower room ≡ None → begins_close (terminals_view xs) ≡ false →
     fault ≡ (if begins_term (terminals_view xs) then Deep (length xs) else Form (length xs)) →
-    HasFault (opened (lower room) (terminals_view xs)) fault
+    HasSyntaxFault (opened (lower room) (terminals_view xs)) fault
 not_opened room xs fault none h e = rw (none, opened_beyond (terminals_view xs) h) (beyond_fault (Option TermSyntax) xs fault e)
 
 opened_is : (low : Option Level) (l : Level) (xs : List Terminal) → low ≡ Some l → begins_close xs ≡ false →
@@ -189,7 +190,7 @@ opened_read room below xs t rest e h k =
 
 pub opened_fault : (room below : ℕ) (xs : List Terminal) (fault : ReadFault) → lower room ≡ Some (above (lower below)) →
     begins_close xs ≡ false →
-    HasFault (bracketed_term (above (lower below)) xs) fault → HasFault (opened (lower room) xs) fault
+    HasSyntaxFault (bracketed_term (above (lower below)) xs) fault → HasSyntaxFault (opened (lower room) xs) fault
 opened_fault room below xs fault e h k =
     rw (opened_is (lower room) (above (lower below)) xs e h) (map_fault (λ t. Some t) (bracketed_term (above (lower below)) xs) fault k)
 
@@ -202,8 +203,8 @@ unfolding update_with
 updated_read l name xs t rest after h k = ap (map_read (updated name)) (closed_read is_close_square (term_with l) xs t rest after h k)
 
 pub unclosed_update : (l : Option Level) (name : List ℕ) (xs : List Terminal) (t : TermSyntax) (rest : List Terminal) (fault : ReadFault) →
-    term_with l xs ≡ Ok (t, rest) → HasFault (closing is_close_square (tt {0}) rest) fault →
-    HasFault (update_with l (free name ∷ mark LeftArrow ∷ xs)) fault
+    term_with l xs ≡ Ok (t, rest) → HasSyntaxFault (closing is_close_square (tt {0}) rest) fault →
+    HasSyntaxFault (update_with l (free name ∷ mark LeftArrow ∷ xs)) fault
 unfolding update_with
 unclosed_update l name xs t rest fault h k =
     map_fault (updated name) (closed_by is_close_square (term_with l) xs) fault
@@ -219,8 +220,8 @@ items_read room part xs fs rest after h k =
     ap (map_read (section_made part)) (closed_read is_close_brace (formulas room) xs fs rest after h k)
 
 pub items_unclosed : (room : ℕ) (part : Part) (xs : List Terminal) (fs : List FormulaSyntax) (rest : List Terminal) (fault : ReadFault) →
-    formulas room xs ≡ Ok (fs, rest) → HasFault (closing is_close_brace (tt {0}) rest) fault →
-    HasFault (items room part (mark OpenBrace ∷ xs)) fault
+    formulas room xs ≡ Ok (fs, rest) → HasSyntaxFault (closing is_close_brace (tt {0}) rest) fault →
+    HasSyntaxFault (items room part (mark OpenBrace ∷ xs)) fault
 unfolding items
 items_unclosed room part xs fs rest fault h k =
     map_fault (section_made part) (closed_by is_close_brace (formulas room) xs) fault
@@ -257,7 +258,7 @@ formula_in_brackets l xs f rest after h k = below_bracketed l xs
     ∙ closed_read is_close_round (below_level l (reader_of Formula)) xs f rest after h k
 
 pub formula_unclosed : (l : Option Level) (xs : List Terminal) (f : FormulaSyntax) (rest : List Terminal) (fault : ReadFault) →
-    below_level l (reader_of Formula) xs ≡ Ok (f, rest) → HasFault (closing is_close_round (tt {0}) rest) fault →
-    HasFault (below_level l bracketed_formula xs) fault
+    below_level l (reader_of Formula) xs ≡ Ok (f, rest) → HasSyntaxFault (closing is_close_round (tt {0}) rest) fault →
+    HasSyntaxFault (below_level l bracketed_formula xs) fault
 formula_unclosed l xs f rest fault h k =
     rw (below_bracketed l xs) (closed_fault is_close_round (below_level l (reader_of Formula)) xs f rest fault h k)

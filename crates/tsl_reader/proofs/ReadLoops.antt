@@ -10,22 +10,24 @@ use Rattle.token_readers.proofs.Lists.{stepping as list_stepping}
 use Rattle.tsl_reader.specs.declared.fault.ReadFault.{ReadFault}
 use Rattle.tsl_reader.specs.declared.fault.ReadFault.TheVariants.{Form, Deep, NoMemory}
 use Rattle.tsl_reader.specs.Syntax.{Terminal, mark, FormulaSyntax}
-use Rattle.tsl_reader.specs.SyntaxView.{formula_syntax, HasFault, HasFaultOfMember}
-use Rattle.tsl_reader.specs.Reading.{lower, Arguments, argument, fresh, goes_on, arguments_of, conjunct, disjunct, open_items, item_last, items_of, item, begins_item, formula_with, formulas}
+use Rattle.tsl_reader.specs.SyntaxView.{formula_syntax, HasSyntaxFault, HasFaultOfMember}
+use Rattle.tsl_reader.specs.Reading.{lower, Arguments, argument, fresh, goes_on, arguments_of, conjunct, disjunct, open_items, item_last}
+use Rattle.tsl_reader.specs.Reading.{items_of, item, begins_item, formula_with, formulas}
 use Rattle.tsl_reader.proofs.ReadLemmas.{map_fault}
 use Rattle.tsl_reader.proofs.ExactTerms.{stepping as argument_stepping, no_step as no_argument, some_step as some_argument, at_end}
 use Rattle.tsl_reader.proofs.ExactFormulas.{terms_below, below_exact, conjunct_member, disjunct_member}
 use Rattle.tsl_reader.proofs.ExactSections.{item_shrinks}
 
 module _ {S : Type 0} {step : S → List Terminal → Option (Answer Terminal S)} (shrinks : Shrinks step) where
-  step_fault : (s : S) (xs : List Terminal) (fault : ReadFault) → HasFaultOfMember (step s xs) fault → HasFault (iterate step s xs) fault
+  step_fault : (s : S) (xs : List Terminal) (fault : ReadFault) → HasFaultOfMember (step s xs) fault →
+      HasSyntaxFault (iterate step s xs) fault
   step_fault s xs (Form left) h = wrong_step shrinks s xs (form left) h
   step_fault s xs (Deep left) h = wrong_step shrinks s xs (deep left) h
   step_fault s xs NoMemory h = tt
 
 module _ {V : Type 0} where
   -- a member's fault
-  pub member_fault : (answer : Answer Terminal V) (fault : ReadFault) → HasFault answer fault → HasFaultOfMember (Some answer) fault
+  pub member_fault : (answer : Answer Terminal V) (fault : ReadFault) → HasSyntaxFault answer fault → HasFaultOfMember (Some answer) fault
   member_fault answer (Form left) h = ap Some h
   member_fault answer (Deep left) h = ap Some h
   member_fault answer NoMemory h = tt
@@ -51,13 +53,13 @@ module _ {U V : Type 0} (view : U → V) (member : List Terminal → Option (Ans
   -- a member has a fault
   pub members_fault : (xs : List Terminal) (vs : List V) (whole : Answer Terminal (List V)) (fault : ReadFault) →
       iterate (push member) vs xs ≡ whole →
-      HasFaultOfMember (member xs) fault → HasFault whole fault
+      HasFaultOfMember (member xs) fault → HasSyntaxFault whole fault
   members_fault xs vs whole fault h k = rw (← h) (step_fault shrinks vs xs fault (push_fault vs (member xs) fault k))
 
   -- the reader of a member has one
   pub member_found_fault : (xs : List Terminal) (vs : List V) (whole : Answer Terminal (List V)) (answer : Answer Terminal V)
       (fault : ReadFault) → iterate (push member) vs xs ≡ whole →
-      member xs ≡ Some answer → HasFault answer fault → HasFault whole fault
+      member xs ≡ Some answer → HasSyntaxFault answer fault → HasSyntaxFault whole fault
   member_found_fault xs vs whole answer fault h k e = members_fault xs vs whole fault h (rw k (member_fault answer fault e))
 
 pub conjuncts_shrink : (room : ℕ) → Shrinks (push (conjunct (lower room)))
@@ -91,14 +93,14 @@ arguments_end room s xs h = no_step (arguments_shrink room) s xs (no_argument_is
 
 found_fault : {V : Type 0} (found : Option (Answer Terminal V)) (xs : List Terminal) (fault : ReadFault) →
     found ≡ Some (found_or_wrong found xs) →
-    HasFault (found_or_wrong found xs) fault → HasFaultOfMember found fault
+    HasSyntaxFault (found_or_wrong found xs) fault → HasFaultOfMember found fault
 found_fault None xs fault e h = cc
 found_fault (Some answer) xs fault e h = member_fault answer fault h
 
 pub arguments_fault : (room : ℕ) (s : Arguments) (xs ys : List Terminal) (fault : ReadFault) → goes_on s xs ≡ true →
-    HasFault (found_or_wrong (argument (lower room) s xs) xs) fault →
+    HasSyntaxFault (found_or_wrong (argument (lower room) s xs) xs) fault →
     iterate (argument (lower room)) s xs ≡ iterate (argument (lower room)) fresh ys →
-    HasFault (map_read arguments_of (iterate (argument (lower room)) fresh ys)) fault
+    HasSyntaxFault (map_read arguments_of (iterate (argument (lower room)) fresh ys)) fault
 arguments_fault room s xs ys fault h k e =
     map_fault arguments_of (iterate (argument (lower room)) fresh ys) fault
     (rw (← e) (step_fault (arguments_shrink room) s xs fault
@@ -162,8 +164,8 @@ items_end room fs xs ys h e = ap (map_read items_of) (sym e ∙ no_step (item_sh
 
 -- a formula has a fault
 pub items_fault : (room : ℕ) (fs : List FormulaSyntax) (xs ys : List Terminal) (fault : ReadFault) → begins_item xs ≡ true →
-    HasFault (formula_with (lower room) xs) fault →
-    iterate (item room) (open_items fs) xs ≡ iterate (item room) (open_items []) ys → HasFault (formulas room ys) fault
+    HasSyntaxFault (formula_with (lower room) xs) fault →
+    iterate (item room) (open_items fs) xs ≡ iterate (item room) (open_items []) ys → HasSyntaxFault (formulas room ys) fault
 unfolding formulas
 items_fault room fs xs ys fault h k e =
     map_fault items_of (iterate (item room) (open_items []) ys) fault

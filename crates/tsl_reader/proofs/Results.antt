@@ -8,7 +8,7 @@ use Rattle.tsl_terms.specs.Name.{Name}
 use Rattle.tsl_terms.specs.Clashes.{alike_in_kind, same_arity, HasNoClash}
 use Rattle.tsl_reader.specs.declared.syntax.Part.{Part}
 use Rattle.tsl_reader.specs.Syntax.{FormulaSyntax, SectionSyntax}
-use Rattle.tsl_reader.specs.Naming.{uses, section_uses, all_uses, written_uses, names_of, same_part, formulas_in}
+use Rattle.tsl_reader.specs.Naming.{uses, section_uses, all_uses, written_uses, names_of, same_part, formulas_of_part}
 use Rattle.tsl_reader.specs.Spells.{Derives}
 use Rattle.tsl_reader.proofs.Shapes.{IsShaped, sections_shaped}
 use Rattle.tsl_reader.proofs.Known.{KnownUse, all_known}
@@ -38,9 +38,9 @@ sections_known names (s ∷ ss) h k = (
 -- each of the four lists has its numbers, and fits the names
 pub list_of_part : (text : List ℕ) (tokens : List Token) (ss : List SectionSyntax) → Derives text tokens ss →
     HasNoClash alike_in_kind (written_uses ss) → HasNoClash same_arity (written_uses ss) →
-    (part : Part) → ListGood (names_of ss) (formulas_in part ss)
+    (part : Part) → ListGood (names_of ss) (formulas_of_part part ss)
 list_of_part text tokens ss d kinds arities part =
     let known = sections_known (names_of ss) ss (sections_shaped d.derived (omega arith)) (all_known text tokens ss d kinds arities) in
-    list_good (names_of ss) (formulas_in part ss)
+    list_good (names_of ss) (formulas_of_part part ss)
     (each_flat_map (IsKnown (names_of ss)) (λ s. s.formulas) (filter (λ s. same_part part s.part) ss)
     (each_filtered (λ s. AllByRecursion (IsKnown (names_of ss)) s.formulas) (λ s. same_part part s.part) ss known))

@@ -2,16 +2,17 @@
 use Rattle.std.proofs.Common.{ℕ, suc, ◌+◌, ◌≤◌, List, [], ◌∷◌, arith}
 use Rattle.std.specs.Prelude.{max}
 use Rattle.std.specs.List.{AllByRecursion}
-use Rattle.tsl_reader.specs.Syntax.{Terminal, TermSyntax, alone, applied, TermsSyntax, no_terms, more_terms, terms_of, FormulaSyntax, truth}
+use Rattle.tsl_reader.specs.Syntax.{Terminal, TermSyntax, alone, applied, TermsSyntax, no_terms, more_terms, listed_terms, FormulaSyntax}
+use Rattle.tsl_reader.specs.Syntax.{truth}
 use Rattle.tsl_reader.specs.Syntax.{falsehood, bare, tested, updated, under, between, all, any, FormulasSyntax, no_formulas, more_formulas}
-use Rattle.tsl_reader.specs.Syntax.{all_of, any_of, formulas_of, SectionSyntax}
+use Rattle.tsl_reader.specs.Syntax.{all_of, any_of, listed_formulas, SectionSyntax}
 use Rattle.tsl_reader.specs.Grammar.{IsTerm, signal, constant, application, brackets, AreArguments, one_argument, more_arguments}
 use Rattle.tsl_reader.specs.Grammar.{IsArgument, signal_argument, constant_argument, brackets_argument, IsFormula, temporal}
 use Rattle.tsl_reader.specs.Grammar.{chain as chained, IsIff, no_iff, iff, IsImp, no_imp, imp, IsOr, disjunction, AreDisjuncts, no_disjunct}
 use Rattle.tsl_reader.specs.Grammar.{more_disjuncts, IsAnd, conjunction, AreConjuncts, no_conjunct, more_conjuncts, IsPrefix, prefix, atom}
 use Rattle.tsl_reader.specs.Grammar.{IsAtom, true_atom, false_atom, brackets_atom, update, bare_name, no_argument, test, AreItems, nothing}
 use Rattle.tsl_reader.specs.Grammar.{last_item, item, IsSection, braces, AreSections, no_section, section}
-use Rattle.tsl_reader.specs.Spells.{deepest}
+use Rattle.tsl_reader.specs.Spells.{deepest_level}
 
 -- how deep the brackets nest where an argument with arguments stands in brackets
 abbrev pub bracketed : TermSyntax → ℕ → ℕ
@@ -39,8 +40,8 @@ abbrev mutual
   IsShaped truth = Unit {0}
   IsShaped falsehood = Unit {0}
   IsShaped (bare x) = Unit {0}
-  IsShaped (tested p arguments) = depth_of_arguments arguments ≤ deepest
-  IsShaped (updated x t) = depth t ≤ deepest
+  IsShaped (tested p arguments) = depth_of_arguments arguments ≤ deepest_level
+  IsShaped (updated x t) = depth t ≤ deepest_level
   IsShaped (under op a) = IsShaped a
   IsShaped (between op a b) = IsShaped a × IsShaped b
   IsShaped (all fs) = HasTwo fs × AreShaped fs
@@ -63,7 +64,7 @@ mutual
   term_depth (brackets h) = omega (arith, term_depth h)
 
   arguments_depth : {room : ℕ} {xs : List Terminal} {ts : List TermSyntax} → AreArguments room xs ts →
-      depth_of_arguments (terms_of ts) ≤ room
+      depth_of_arguments (listed_terms ts) ≤ room
   arguments_depth (one_argument h) = omega (arith, argument_depth h)
   arguments_depth (more_arguments h k) = omega (arith, argument_depth h, arguments_depth k)
 
@@ -72,48 +73,48 @@ mutual
   argument_depth (constant_argument c) = omega arith
   argument_depth (brackets_argument {room = room} {t = t} h) = bracketed_within t (depth t) room (term_depth h)
 
-all_shaped : (a : FormulaSyntax) (fs : List FormulaSyntax) → IsShaped a → AreShaped (formulas_of fs) → IsShaped (all_of a fs)
+all_shaped : (a : FormulaSyntax) (fs : List FormulaSyntax) → IsShaped a → AreShaped (listed_formulas fs) → IsShaped (all_of a fs)
 all_shaped a [] h k = h
 all_shaped a (g ∷ gs) h k = (tt, (h, k))
 
-any_shaped : (a : FormulaSyntax) (fs : List FormulaSyntax) → IsShaped a → AreShaped (formulas_of fs) → IsShaped (any_of a fs)
+any_shaped : (a : FormulaSyntax) (fs : List FormulaSyntax) → IsShaped a → AreShaped (listed_formulas fs) → IsShaped (any_of a fs)
 any_shaped a [] h k = h
 any_shaped a (g ∷ gs) h k = (tt, (h, k))
 
 mutual
-  formula_shaped : {room : ℕ} {xs : List Terminal} {f : FormulaSyntax} → IsFormula room xs f → room ≤ deepest → IsShaped f
+  formula_shaped : {room : ℕ} {xs : List Terminal} {f : FormulaSyntax} → IsFormula room xs f → room ≤ deepest_level → IsShaped f
   formula_shaped (temporal op x is h k) few = (prefix_shaped h few, prefix_shaped k few)
   formula_shaped (chained h) few = iff_shaped h few
 
-  iff_shaped : {room : ℕ} {xs : List Terminal} {f : FormulaSyntax} → IsIff room xs f → room ≤ deepest → IsShaped f
+  iff_shaped : {room : ℕ} {xs : List Terminal} {f : FormulaSyntax} → IsIff room xs f → room ≤ deepest_level → IsShaped f
   iff_shaped (no_iff h) few = imp_shaped h few
   iff_shaped (iff h k) few = (imp_shaped h few, iff_shaped k (omega (arith, few)))
 
-  imp_shaped : {room : ℕ} {xs : List Terminal} {f : FormulaSyntax} → IsImp room xs f → room ≤ deepest → IsShaped f
+  imp_shaped : {room : ℕ} {xs : List Terminal} {f : FormulaSyntax} → IsImp room xs f → room ≤ deepest_level → IsShaped f
   imp_shaped (no_imp h) few = or_shaped h few
   imp_shaped (imp h k) few = (or_shaped h few, imp_shaped k (omega (arith, few)))
 
-  or_shaped : {room : ℕ} {xs : List Terminal} {f : FormulaSyntax} → IsOr room xs f → room ≤ deepest → IsShaped f
+  or_shaped : {room : ℕ} {xs : List Terminal} {f : FormulaSyntax} → IsOr room xs f → room ≤ deepest_level → IsShaped f
   or_shaped (disjunction {a = a} {fs = fs} h k) few = any_shaped a fs (and_shaped h few) (disjuncts_shaped k few)
 
-  disjuncts_shaped : {room : ℕ} {xs : List Terminal} {fs : List FormulaSyntax} → AreDisjuncts room xs fs → room ≤ deepest →
-      AreShaped (formulas_of fs)
+  disjuncts_shaped : {room : ℕ} {xs : List Terminal} {fs : List FormulaSyntax} → AreDisjuncts room xs fs → room ≤ deepest_level →
+      AreShaped (listed_formulas fs)
   disjuncts_shaped no_disjunct few = tt
   disjuncts_shaped (more_disjuncts h k) few = (and_shaped h few, disjuncts_shaped k few)
 
-  and_shaped : {room : ℕ} {xs : List Terminal} {f : FormulaSyntax} → IsAnd room xs f → room ≤ deepest → IsShaped f
+  and_shaped : {room : ℕ} {xs : List Terminal} {f : FormulaSyntax} → IsAnd room xs f → room ≤ deepest_level → IsShaped f
   and_shaped (conjunction {a = a} {fs = fs} h k) few = all_shaped a fs (prefix_shaped h few) (conjuncts_shaped k few)
 
-  conjuncts_shaped : {room : ℕ} {xs : List Terminal} {fs : List FormulaSyntax} → AreConjuncts room xs fs → room ≤ deepest →
-      AreShaped (formulas_of fs)
+  conjuncts_shaped : {room : ℕ} {xs : List Terminal} {fs : List FormulaSyntax} → AreConjuncts room xs fs → room ≤ deepest_level →
+      AreShaped (listed_formulas fs)
   conjuncts_shaped no_conjunct few = tt
   conjuncts_shaped (more_conjuncts h k) few = (prefix_shaped h few, conjuncts_shaped k few)
 
-  prefix_shaped : {room : ℕ} {xs : List Terminal} {f : FormulaSyntax} → IsPrefix room xs f → room ≤ deepest → IsShaped f
+  prefix_shaped : {room : ℕ} {xs : List Terminal} {f : FormulaSyntax} → IsPrefix room xs f → room ≤ deepest_level → IsShaped f
   prefix_shaped (prefix op x is h) few = prefix_shaped h (omega (arith, few))
   prefix_shaped (atom h) few = atom_shaped h few
 
-  atom_shaped : {room : ℕ} {xs : List Terminal} {f : FormulaSyntax} → IsAtom room xs f → room ≤ deepest → IsShaped f
+  atom_shaped : {room : ℕ} {xs : List Terminal} {f : FormulaSyntax} → IsAtom room xs f → room ≤ deepest_level → IsShaped f
   atom_shaped true_atom few = tt
   atom_shaped false_atom few = tt
   atom_shaped (brackets_atom h) few = formula_shaped h (omega (arith, few))
@@ -122,17 +123,18 @@ mutual
   atom_shaped (no_argument p) few = omega arith
   atom_shaped (test p h) few = omega (arith, arguments_depth h, few)
 
-items_shaped : {room : ℕ} {xs : List Terminal} {fs : List FormulaSyntax} → AreItems room xs fs → room ≤ deepest → AllByRecursion IsShaped fs
+items_shaped : {room : ℕ} {xs : List Terminal} {fs : List FormulaSyntax} → AreItems room xs fs → room ≤ deepest_level →
+    AllByRecursion IsShaped fs
 items_shaped nothing few = tt
 items_shaped (last_item h) few = (formula_shaped h few, tt)
 items_shaped (item h k) few = (formula_shaped h few, items_shaped k few)
 
-section_shaped : {room : ℕ} {xs : List Terminal} {s : SectionSyntax} → IsSection room xs s → room ≤ deepest →
+section_shaped : {room : ℕ} {xs : List Terminal} {s : SectionSyntax} → IsSection room xs s → room ≤ deepest_level →
     AllByRecursion IsShaped s.formulas
 section_shaped (braces h k) few = items_shaped k few
 
 -- the formulas of a text have this shape
-pub sections_shaped : {room : ℕ} {xs : List Terminal} {ss : List SectionSyntax} → AreSections room xs ss → room ≤ deepest →
+pub sections_shaped : {room : ℕ} {xs : List Terminal} {ss : List SectionSyntax} → AreSections room xs ss → room ≤ deepest_level →
     AllByRecursion (λ s. AllByRecursion IsShaped s.formulas) ss
 sections_shaped no_section few = tt
 sections_shaped (section h k) few = (section_shaped h few, sections_shaped k few)

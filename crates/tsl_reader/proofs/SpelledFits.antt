@@ -12,7 +12,7 @@ use Rattle.tsl_terms.specs.WellFormed.{formula_fits, name_fits, SpecFits}
 use Rattle.tsl_terms.proofs.FirstUses.{first_uses_distinct}
 use Rattle.tsl_reader.specs.declared.syntax.Part.{Part}
 use Rattle.tsl_reader.specs.declared.syntax.Part.TheVariants.{AssumeFirst, AssumeAlways, GuaranteeFirst, GuaranteeAlways}
-use Rattle.tsl_reader.specs.Naming.{all_uses, named_by, names_of, numbered_list, formulas_in}
+use Rattle.tsl_reader.specs.Naming.{all_uses, named_by, names_of, numbered_list, formulas_of_part}
 use Rattle.tsl_reader.specs.Spells.{IsDerived, Spells}
 use Rattle.tsl_reader.proofs.Usable.{usable_uses}
 use Rattle.tsl_reader.proofs.Known.{MayBeNamed, each_named}
@@ -35,11 +35,11 @@ names_fit [] names fit may = fit
 names_fit (u ∷ us) names fit may = names_fit us (with_use names u) (added_fits names u (number_of names u.text) fit may.0) may.1
 
 list_fits : (text : List ℕ) (spec : SpecTree) → (d : IsDerived text spec) → (part : Part) (fs : List FormulaTree) →
-    numbered_list spec.names (formulas_in part d.sections) ≡ Some fs → list_all (formula_fits spec.names) fs ≡ true
+    numbered_list spec.names (formulas_of_part part d.sections) ≡ Some fs → list_all (formula_fits spec.names) fs ≡ true
 list_fits text spec d part fs is =
     let good = list_of_part text d.tokens d.sections d.derives d.one_kind d.one_arity part in
     let same : Some good.trees ≡ Some fs = sym good.numbered_are
-    ∙ ap (λ names. numbered_list names (formulas_in part d.sections)) (sym d.names) ∙ is in
+    ∙ ap (λ names. numbered_list names (formulas_of_part part d.sections)) (sym d.names) ∙ is in
     let trees : good.trees ≡ fs = cc in
     ap (λ names. list_all (formula_fits names) fs) d.names ∙ ap (list_all (formula_fits (names_of d.sections))) (sym trees) ∙ good.fit
 

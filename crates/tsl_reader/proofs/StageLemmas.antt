@@ -21,10 +21,11 @@ use Rattle.tsl_reader.specs.declared.terminals.Terminal.{Terminal as LentTermina
 use Rattle.tsl_reader.specs.Syntax.{Terminal, FormulaSyntax, SectionSyntax}
 use Rattle.token_readers.specs.Readers.{form, deep}
 use Rattle.tsl_reader.specs.Reading.{sections}
-use Rattle.tsl_reader.specs.Naming.{Use, all_uses, written_uses, named_by, names_of, numbered_list, formulas_in}
+use Rattle.tsl_reader.specs.Naming.{Use, all_uses, written_uses, named_by, names_of, numbered_list, formulas_of_part}
 use Rattle.tsl_reader.specs.Numbering.{HasNumbers}
-use Rattle.tsl_reader.specs.Spells.{deepest, terminal_at, terminals, is_free, name_tokens, Derives, HasFormFault, HasDeepFault, HasClashAt}
-use Rattle.tsl_reader.specs.Spells.{IsDerived, Spells, HasTooManyNodes, most_nodes}
+use Rattle.tsl_reader.specs.Spells.{deepest_level, terminal_at, terminals, is_free, name_tokens, Derives, HasFormFault, HasDeepFault}
+use Rattle.tsl_reader.specs.Spells.{HasClashAt}
+use Rattle.tsl_reader.specs.Spells.{IsDerived, Spells, HasTooManyNodes, most_formula_nodes}
 use Rattle.tsl_reader.specs.SyntaxView.{terminals_view}
 use Rattle.tsl_reader.proofs.Faults.{form_is_within}
 use Rattle.tsl_reader.proofs.Causes.{length_terminals, form_at_token, form_at_end, deep_at_token, deep_has_token}
@@ -76,27 +77,27 @@ name_skipped text ts i left same d at within is e h =
 
 pub derives : (text : List ℕ) (tokens : List Token) (xs : List LentTerminal) (ss : List SectionSyntax) (rest : List Terminal) →
     AreTokens text tokens →
-    terminals_view xs ≡ terminals text tokens → sections deepest (terminals_view xs) ≡ Ok (ss, rest) → Derives text tokens ss
+    terminals_view xs ≡ terminals text tokens → sections deepest_level (terminals_view xs) ≡ Ok (ss, rest) → Derives text tokens ss
 derives text tokens xs ss rest are is h =
-    record { tokens_are = are; derived = sections_derive deepest (terminals text tokens) ss rest (rw is at h) }
+    record { tokens_are = are; derived = sections_derive deepest_level (terminals text tokens) ss rest (rw is at h) }
 
 -- faults, with as many tokens left as terminals
 
 pub form_left : (text : List ℕ) (tokens : List Token) (xs : List LentTerminal) (left : ℕ) → terminals_view xs ≡ terminals text tokens →
-    sections deepest (terminals_view xs) ≡ Err (form left) → left ≤ length tokens
+    sections deepest_level (terminals_view xs) ≡ Err (form left) → left ≤ length tokens
 form_left text tokens xs left is h =
-    omega (arith, form_is_within deepest (terminals text tokens) left (rw is at h), length_terminals text tokens)
+    omega (arith, form_is_within deepest_level (terminals text tokens) left (rw is at h), length_terminals text tokens)
 
 pub deep_left : (text : List ℕ) (tokens : List Token) (xs : List LentTerminal) (left : ℕ) → terminals_view xs ≡ terminals text tokens →
-    sections deepest (terminals_view xs) ≡ Err (deep left) → left ≤ length tokens
+    sections deepest_level (terminals_view xs) ≡ Err (deep left) → left ≤ length tokens
 deep_left text tokens xs left is h = (deep_has_token text tokens left (rw is at h)).1
 
 pub form_fault : (text : List ℕ) (tokens : List Token) (xs : List LentTerminal) (left at : ℕ) → AreTokens text tokens →
     terminals_view xs ≡ terminals text tokens →
-    sections deepest (terminals_view xs) ≡ Err (form left) →
+    sections deepest_level (terminals_view xs) ≡ Err (form left) →
     MatchOption (slice_get tokens (length tokens - left)) (at ≡ length text) (λ token. at ≡ token.start) → HasFormFault text at
 form_fault text tokens xs left at are is h place = by (slice_get tokens (length tokens - left)) refl place where
-  read : sections deepest (terminals text tokens) ≡ Err (form left)
+  read : sections deepest_level (terminals text tokens) ≡ Err (form left)
   read = rw is at h
 
   by : (found : Option Token) → slice_get tokens (length tokens - left) ≡ found →
@@ -106,10 +107,10 @@ form_fault text tokens xs left at are is h place = by (slice_get tokens (length 
 
 pub deep_fault : (text : List ℕ) (tokens : List Token) (xs : List LentTerminal) (left at : ℕ) → AreTokens text tokens →
     terminals_view xs ≡ terminals text tokens →
-    sections deepest (terminals_view xs) ≡ Err (deep left) →
+    sections deepest_level (terminals_view xs) ≡ Err (deep left) →
     MatchOption (slice_get tokens (length tokens - left)) (at ≡ length text) (λ token. at ≡ token.start) → HasDeepFault text at
 deep_fault text tokens xs left at are is h place = by (slice_get tokens (length tokens - left)) refl place where
-  read : sections deepest (terminals text tokens) ≡ Err (deep left)
+  read : sections deepest_level (terminals text tokens) ≡ Err (deep left)
   read = rw is at h
 
   within : length tokens - left < length tokens
@@ -180,7 +181,7 @@ list_fits names fs list h is =
 
 pub numbers_of : (text : List ℕ) (tokens : List Token) (ss rs : List SectionSyntax) (names : List Name) → Derives text tokens ss →
     HasNoClash alike_in_kind (written_uses ss) →
-    HasNoClash same_arity (written_uses ss) → names ≡ names_of ss → rs ≡ ss → (part : Part) → HasNumbers names (formulas_in part rs)
+    HasNoClash same_arity (written_uses ss) → names ≡ names_of ss → rs ≡ ss → (part : Part) → HasNumbers names (formulas_of_part part rs)
 numbers_of text tokens ss rs names d kinds arities named same part =
     let good = list_of_part text tokens ss d kinds arities part in
     rw (named, same) (record { trees = good.trees; numbered = good.numbered_are; fit = good.fit })
@@ -188,10 +189,10 @@ numbers_of text tokens ss rs names d kinds arities named same part =
 pub derives_spec : (text : List ℕ) (tokens : List Token) (ss : List SectionSyntax) (names : List Name) (spec : SpecTree) →
     Derives text tokens ss →
     HasNoClash alike_in_kind (written_uses ss) → HasNoClash same_arity (written_uses ss) → names ≡ names_of ss → spec.names ≡ names →
-    numbered_list names (formulas_in AssumeFirst ss) ≡ Some spec.assume_first →
-    numbered_list names (formulas_in AssumeAlways ss) ≡ Some spec.assume_always →
-    numbered_list names (formulas_in GuaranteeFirst ss) ≡ Some spec.guarantee_first →
-    numbered_list names (formulas_in GuaranteeAlways ss) ≡ Some spec.guarantee_always →
+    numbered_list names (formulas_of_part AssumeFirst ss) ≡ Some spec.assume_first →
+    numbered_list names (formulas_of_part AssumeAlways ss) ≡ Some spec.assume_always →
+    numbered_list names (formulas_of_part GuaranteeFirst ss) ≡ Some spec.guarantee_first →
+    numbered_list names (formulas_of_part GuaranteeAlways ss) ≡ Some spec.guarantee_always →
     IsDerived text spec
 derives_spec text tokens ss names spec d kinds arities named are a b c e = record {
   tokens = tokens;
@@ -209,11 +210,11 @@ derives_spec text tokens ss names spec d kinds arities named are a b c e = recor
 -- how many nodes the whole formula has
 
 pub few_nodes : (text : List ℕ) (spec : SpecTree) (few : Bool) → IsDerived text spec →
-    few ≡ nat_le (nodes (whole_formula spec)) most_nodes → few ≡ true → Spells text spec
+    few ≡ nat_le (nodes (whole_formula spec)) most_formula_nodes → few ≡ true → Spells text spec
 few_nodes text spec few derived test is =
-    record { derived = derived; few_nodes = leb-true (nodes (whole_formula spec)) most_nodes (sym test ∙ is) }
+    record { derived = derived; few_nodes = leb-true (nodes (whole_formula spec)) most_formula_nodes (sym test ∙ is) }
 
 pub many_nodes : (text : List ℕ) (spec : SpecTree) (few : Bool) → IsDerived text spec →
-    few ≡ nat_le (nodes (whole_formula spec)) most_nodes → few ≡ false → HasTooManyNodes text
+    few ≡ nat_le (nodes (whole_formula spec)) most_formula_nodes → few ≡ false → HasTooManyNodes text
 many_nodes text spec few derived test is =
-    record { spec = spec; derived = derived; many_nodes = leb-false (nodes (whole_formula spec)) most_nodes (sym test ∙ is) }
+    record { spec = spec; derived = derived; many_nodes = leb-false (nodes (whole_formula spec)) most_formula_nodes (sym test ∙ is) }

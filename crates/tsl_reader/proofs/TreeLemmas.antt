@@ -2,8 +2,8 @@
 use Rattle.std.proofs.Common.{◌≡◌, List, [], ◌∷◌, ◌++◌, map, refl, ap}
 use Rattle.tsl_reader.specs.declared.trees.ReadTerm.{ReadTerm}
 use Rattle.tsl_reader.specs.declared.trees.ReadFormula.{ReadFormula}
-use Rattle.tsl_reader.specs.Syntax.{TermSyntax, TermsSyntax, no_terms, more_terms, terms_of, FormulaSyntax, FormulasSyntax, no_formulas}
-use Rattle.tsl_reader.specs.Syntax.{more_formulas, formulas_of}
+use Rattle.tsl_reader.specs.Syntax.{TermSyntax, TermsSyntax, no_terms, more_terms, listed_terms, FormulaSyntax, FormulasSyntax, no_formulas}
+use Rattle.tsl_reader.specs.Syntax.{more_formulas, listed_formulas}
 use Rattle.tsl_reader.specs.SyntaxView.{term_syntax, formula_syntax}
 
 -- these members, and then those of a list
@@ -11,7 +11,7 @@ abbrev pub with_front : List TermSyntax → TermsSyntax → TermsSyntax
 with_front [] ts = ts
 with_front (t ∷ front) ts = more_terms t (with_front front ts)
 
-pub with_front_none : (front : List TermSyntax) → with_front front no_terms ≡ terms_of front
+pub with_front_none : (front : List TermSyntax) → with_front front no_terms ≡ listed_terms front
 with_front_none [] = refl
 with_front_none (t ∷ front) = ap (more_terms t) (with_front_none front)
 
@@ -24,7 +24,7 @@ abbrev pub formulas_front : List FormulaSyntax → FormulasSyntax → FormulasSy
 formulas_front [] fs = fs
 formulas_front (f ∷ front) fs = more_formulas f (formulas_front front fs)
 
-pub formulas_none : (front : List FormulaSyntax) → formulas_front front no_formulas ≡ formulas_of front
+pub formulas_none : (front : List FormulaSyntax) → formulas_front front no_formulas ≡ listed_formulas front
 formulas_none [] = refl
 formulas_none (f ∷ front) = ap (more_formulas f) (formulas_none front)
 

@@ -9,7 +9,7 @@ use Rattle.tsl_terms.specs.Name.{Name}
 use Rattle.tsl_reader.specs.declared.syntax.Word.{Word}
 use Rattle.tsl_reader.specs.Syntax.{Terminal, free, word, mark, word_of, free_unless, terminal_of, SectionSyntax}
 use Rattle.tsl_reader.specs.Naming.{written_uses}
-use Rattle.tsl_reader.specs.Spells.{deepest, terminal_at, terminals, Derives, is_free, name_tokens}
+use Rattle.tsl_reader.specs.Spells.{deepest_level, terminal_at, terminals, Derives, is_free, name_tokens}
 use Rattle.tsl_reader.proofs.UseTexts.{free_texts, written_texts}
 
 -- the terminal of a token is a name with the token's bytes, or no name
@@ -40,7 +40,7 @@ each_name text (t ∷ tokens) = one_token text t tokens (terminal_at text t) (is
 -- the bytes of the tokens that are names are those of the written uses, in order
 pub texts_of_uses : (text : List ℕ) (tokens : List Token) (ss : List SectionSyntax) → Derives text tokens ss →
     map (λ n. n.text) (written_uses ss) ≡ map (token_text text) (name_tokens text tokens)
-texts_of_uses text tokens ss d = written_texts deepest (terminals text tokens) ss d.derived ∙ each_name text tokens
+texts_of_uses text tokens ss d = written_texts deepest_level (terminals text tokens) ss d.derived ∙ each_name text tokens
 
 -- a use of a list has its token in the list of theirs
 pub token_of_use : (us : List Name) (ts : List Token) (text : List ℕ) (at : ℕ) (u : Name) →

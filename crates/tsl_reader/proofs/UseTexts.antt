@@ -7,7 +7,7 @@ use Rattle.tsl_text.specs.declared.TokenKind.TheVariants.{OpenBrace, CloseBrace,
 use Rattle.tsl_terms.specs.declared.operator.UnaryOperator.{UnaryOperator}
 use Rattle.tsl_terms.specs.declared.operator.BinaryOperator.{BinaryOperator}
 use Rattle.tsl_reader.specs.declared.syntax.Part.{Part}
-use Rattle.tsl_reader.specs.Syntax.{Terminal, free, word, mark, TermSyntax, terms_of, FormulaSyntax, all_of, any_of, formulas_of}
+use Rattle.tsl_reader.specs.Syntax.{Terminal, free, word, mark, TermSyntax, listed_terms, FormulaSyntax, all_of, any_of, listed_formulas}
 use Rattle.tsl_reader.specs.Syntax.{SectionSyntax}
 use Rattle.tsl_reader.specs.Grammar.{unary_of, temporal_of, IsTerm, signal, constant, application, brackets, AreArguments, one_argument}
 use Rattle.tsl_reader.specs.Grammar.{more_arguments, IsArgument, signal_argument, constant_argument, brackets_argument, IsFormula, temporal}
@@ -51,10 +51,10 @@ mutual
   term_texts (brackets {xs = xs} h) = term_texts h ∙ sym (closed xs (mark CloseRound) refl)
 
   arguments_texts : {room : ℕ} {xs : List Terminal} {ts : List TermSyntax} → AreArguments room xs ts →
-      map text_of (terms_uses (terms_of ts)) ≡ free_texts xs
+      map text_of (terms_uses (listed_terms ts)) ≡ free_texts xs
   arguments_texts (one_argument {t = t} h) = ap (map text_of) (append-nil (term_uses t)) ∙ argument_texts h
   arguments_texts (more_arguments {xs = xs} {ys = ys} {t = t} {ts = ts} h k) =
-      joined (term_uses t) (terms_uses (terms_of ts)) xs ys (argument_texts h) (arguments_texts k)
+      joined (term_uses t) (terms_uses (listed_terms ts)) xs ys (argument_texts h) (arguments_texts k)
 
   argument_texts : {room : ℕ} {xs : List Terminal} {t : TermSyntax} → IsArgument room xs t → map text_of (term_uses t) ≡ free_texts xs
   argument_texts (signal_argument x) = refl
@@ -73,11 +73,11 @@ unary_is_no_name (word w) op ys h = refl
 unary_is_no_name (mark m) op ys h = refl
 
 -- the uses of operands
-all_uses_are : (a : FormulaSyntax) (fs : List FormulaSyntax) → uses (all_of a fs) ≡ uses a ++ members_uses (formulas_of fs)
+all_uses_are : (a : FormulaSyntax) (fs : List FormulaSyntax) → uses (all_of a fs) ≡ uses a ++ members_uses (listed_formulas fs)
 all_uses_are a [] = sym (append-nil (uses a))
 all_uses_are a (g ∷ gs) = refl
 
-any_uses_are : (a : FormulaSyntax) (fs : List FormulaSyntax) → uses (any_of a fs) ≡ uses a ++ members_uses (formulas_of fs)
+any_uses_are : (a : FormulaSyntax) (fs : List FormulaSyntax) → uses (any_of a fs) ≡ uses a ++ members_uses (listed_formulas fs)
 any_uses_are a [] = sym (append-nil (uses a))
 any_uses_are a (g ∷ gs) = refl
 
@@ -97,23 +97,23 @@ mutual
 
   or_texts : {room : ℕ} {xs : List Terminal} {f : FormulaSyntax} → IsOr room xs f → map text_of (uses f) ≡ free_texts xs
   or_texts (disjunction {xs = xs} {ys = ys} {a = a} {fs = fs} h k) =
-      ap (map text_of) (any_uses_are a fs) ∙ joined (uses a) (members_uses (formulas_of fs)) xs ys (and_texts h) (disjuncts_texts k)
+      ap (map text_of) (any_uses_are a fs) ∙ joined (uses a) (members_uses (listed_formulas fs)) xs ys (and_texts h) (disjuncts_texts k)
 
   disjuncts_texts : {room : ℕ} {xs : List Terminal} {fs : List FormulaSyntax} → AreDisjuncts room xs fs →
-      map text_of (members_uses (formulas_of fs)) ≡ free_texts xs
+      map text_of (members_uses (listed_formulas fs)) ≡ free_texts xs
   disjuncts_texts no_disjunct = refl
   disjuncts_texts (more_disjuncts {xs = xs} {ys = ys} {a = a} {fs = fs} h k) =
-      joined (uses a) (members_uses (formulas_of fs)) xs ys (and_texts h) (disjuncts_texts k)
+      joined (uses a) (members_uses (listed_formulas fs)) xs ys (and_texts h) (disjuncts_texts k)
 
   and_texts : {room : ℕ} {xs : List Terminal} {f : FormulaSyntax} → IsAnd room xs f → map text_of (uses f) ≡ free_texts xs
   and_texts (conjunction {xs = xs} {ys = ys} {a = a} {fs = fs} h k) =
-      ap (map text_of) (all_uses_are a fs) ∙ joined (uses a) (members_uses (formulas_of fs)) xs ys (prefix_texts h) (conjuncts_texts k)
+      ap (map text_of) (all_uses_are a fs) ∙ joined (uses a) (members_uses (listed_formulas fs)) xs ys (prefix_texts h) (conjuncts_texts k)
 
   conjuncts_texts : {room : ℕ} {xs : List Terminal} {fs : List FormulaSyntax} → AreConjuncts room xs fs →
-      map text_of (members_uses (formulas_of fs)) ≡ free_texts xs
+      map text_of (members_uses (listed_formulas fs)) ≡ free_texts xs
   conjuncts_texts no_conjunct = refl
   conjuncts_texts (more_conjuncts {xs = xs} {ys = ys} {a = a} {fs = fs} h k) =
-      joined (uses a) (members_uses (formulas_of fs)) xs ys (prefix_texts h) (conjuncts_texts k)
+      joined (uses a) (members_uses (listed_formulas fs)) xs ys (prefix_texts h) (conjuncts_texts k)
 
   prefix_texts : {room : ℕ} {xs : List Terminal} {f : FormulaSyntax} → IsPrefix room xs f → map text_of (uses f) ≡ free_texts xs
   prefix_texts (prefix {xs = xs} op x is h) = prefix_texts h ∙ (sym (unary_is_no_name x op xs is))

@@ -34,7 +34,7 @@ use Rattle.tsl_reader.specs.Syntax.{
   alone,
   applied,
   no_terms,
-  terms_of,
+  listed_terms,
   FormulaSyntax,
   truth,
   falsehood,
@@ -73,7 +73,7 @@ mutual
     signal : {room : ℕ} (x : List ℕ) → IsTerm room (free x ∷ []) (alone x)
     constant : {room : ℕ} (c : List ℕ) → IsTerm room (free c ∷ mark OpenRound ∷ mark CloseRound ∷ []) (applied c no_terms)
     application : {room : ℕ} {xs : List Terminal} {t : TermSyntax} {ts : List TermSyntax} (f : List ℕ) →
-        AreArguments room xs (t ∷ ts) → IsTerm room (free f ∷ xs) (applied f (terms_of (t ∷ ts)))
+        AreArguments room xs (t ∷ ts) → IsTerm room (free f ∷ xs) (applied f (listed_terms (t ∷ ts)))
     brackets : {room : ℕ} {xs : List Terminal} {t : TermSyntax} →
         IsTerm room xs t → IsTerm (suc room) (in_brackets xs) t
 
@@ -151,7 +151,7 @@ mutual
     bare_name : {room : ℕ} (x : List ℕ) → IsAtom room (free x ∷ []) (bare x)
     no_argument : {room : ℕ} (p : List ℕ) → IsAtom room (free p ∷ mark OpenRound ∷ mark CloseRound ∷ []) (tested p no_terms)
     test : {room : ℕ} {xs : List Terminal} {t : TermSyntax} {ts : List TermSyntax} (p : List ℕ) →
-        AreArguments room xs (t ∷ ts) → IsAtom room (free p ∷ xs) (tested p (terms_of (t ∷ ts)))
+        AreArguments room xs (t ∷ ts) → IsAtom room (free p ∷ xs) (tested p (listed_terms (t ∷ ts)))
 
 -- items = nothing | formula(0) (";" formula(0))* [";"]
 pub data AreItems : ℕ → List Terminal → List FormulaSyntax → Type 0 where

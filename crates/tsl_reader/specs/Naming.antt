@@ -129,5 +129,5 @@ same_part GuaranteeAlways GuaranteeAlways = true
 same_part _ _ = false
 
 -- the formulas of the sections of one kind, in order
-abbrev pub formulas_in : Part → List SectionSyntax → List FormulaSyntax
-formulas_in part sections = flat_map (λ s. s.formulas) (filter (λ s. same_part part s.part) sections)
+abbrev pub formulas_of_part : Part → List SectionSyntax → List FormulaSyntax
+formulas_of_part part sections = flat_map (λ s. s.formulas) (filter (λ s. same_part part s.part) sections)

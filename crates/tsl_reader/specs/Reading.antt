@@ -33,7 +33,7 @@ use Rattle.tsl_reader.specs.Syntax.{
   alone,
   applied,
   no_terms,
-  terms_of,
+  listed_terms,
   FormulaSyntax,
   truth,
   falsehood,
@@ -164,11 +164,11 @@ after_name lower xs = map_read arguments_of (iterate (argument lower) fresh xs)
 
 abbrev pub term_named : List ℕ → Option (List TermSyntax) → TermSyntax
 term_named x None = alone x
-term_named f (Some ts) = applied f (terms_of ts)
+term_named f (Some ts) = applied f (listed_terms ts)
 
 abbrev pub atom_named : List ℕ → Option (List TermSyntax) → FormulaSyntax
 atom_named x None = bare x
-atom_named p (Some ts) = tested p (terms_of ts)
+atom_named p (Some ts) = tested p (listed_terms ts)
 
 unfoldable pub term_with : Option Level → Reader Terminal TermSyntax
 term_with lower (free f ∷ rest) = map_read (term_named f) (after_name lower rest)

@@ -14,15 +14,15 @@ use Rattle.tsl_reader.specs.declared.SpecError.TheVariants.{Byte, OpenComment, F
 use Rattle.tsl_reader.specs.declared.syntax.Part.TheVariants.{AssumeFirst, AssumeAlways, GuaranteeFirst, GuaranteeAlways}
 use Rattle.tsl_reader.specs.Syntax.{Terminal, free, word, mark, terminal_of, SectionSyntax}
 use Rattle.tsl_reader.specs.Grammar.{AreSections}
-use Rattle.tsl_reader.specs.Naming.{written_uses, names_of, numbered_list, formulas_in}
+use Rattle.tsl_reader.specs.Naming.{written_uses, names_of, numbered_list, formulas_of_part}
 
--- the deepest level
-abbrev pub deepest : ℕ
-deepest = DEEPEST
+-- the deepest_level level
+abbrev pub deepest_level : ℕ
+deepest_level = DEEPEST
 
 -- the most nodes of the whole formula
-abbrev pub most_nodes : ℕ
-most_nodes = MOST_NODES
+abbrev pub most_formula_nodes : ℕ
+most_formula_nodes = MOST_NODES
 
 abbrev pub terminal_at : List ℕ → Token → Terminal
 terminal_at text token = terminal_of (lexeme_of text token)
@@ -34,7 +34,7 @@ terminals text tokens = map (terminal_at text) tokens
 -- the text has these tokens, and they derive from these sections with levels up to 200
 pub record Derives (text : List ℕ) (tokens : List Token) (sections : List SectionSyntax) : Type 0 where
   pub tokens_are : AreTokens text tokens
-  pub derived : AreSections deepest (terminals text tokens) sections
+  pub derived : AreSections deepest_level (terminals text tokens) sections
 
 -- Everything but the limit on nodes: the specification has the derived formulas in order, with names numbered by
 -- first appearance, and no name is used in two kinds or with two numbers of arguments.
@@ -45,15 +45,15 @@ pub record IsDerived (text : List ℕ) (spec : SpecTree) : Type 0 where
   pub one_kind : HasNoClash alike_in_kind (written_uses sections)
   pub one_arity : HasNoClash same_arity (written_uses sections)
   pub names : spec.names ≡ names_of sections
-  pub assume_first : numbered_list spec.names (formulas_in AssumeFirst sections) ≡ Some spec.assume_first
-  pub assume_always : numbered_list spec.names (formulas_in AssumeAlways sections) ≡ Some spec.assume_always
-  pub guarantee_first : numbered_list spec.names (formulas_in GuaranteeFirst sections) ≡ Some spec.guarantee_first
-  pub guarantee_always : numbered_list spec.names (formulas_in GuaranteeAlways sections) ≡ Some spec.guarantee_always
+  pub assume_first : numbered_list spec.names (formulas_of_part AssumeFirst sections) ≡ Some spec.assume_first
+  pub assume_always : numbered_list spec.names (formulas_of_part AssumeAlways sections) ≡ Some spec.assume_always
+  pub guarantee_first : numbered_list spec.names (formulas_of_part GuaranteeFirst sections) ≡ Some spec.guarantee_first
+  pub guarantee_always : numbered_list spec.names (formulas_of_part GuaranteeAlways sections) ≡ Some spec.guarantee_always
 
 -- the text spells the specification
 pub record Spells (text : List ℕ) (spec : SpecTree) : Type 0 where
   pub derived : IsDerived text spec
-  pub few_nodes : nodes (whole_formula spec) ≤ most_nodes
+  pub few_nodes : nodes (whole_formula spec) ≤ most_formula_nodes
 
 -- some text of the grammar with this room begins with these terminals
 abbrev pub SomeTextBegins : ℕ → List Terminal → Type 0
@@ -75,7 +75,7 @@ pub record HasWrongToken (text : List ℕ) (at : ℕ) : Type 0 where
   pub after : List Token
   pub tokens_are : AreTokens text (before ++ token ∷ after)
   pub place : at ≡ token.start
-  pub begins : SomeTextBegins deepest (terminals text before)
+  pub begins : SomeTextBegins deepest_level (terminals text before)
   pub stops : (room : ℕ) → NoTextBegins room (terminals text (before ++ token ∷ []))
 
 -- The text ends at this offset. Some text with levels up to 200 begins with its tokens, and they are none with any number of
@@ -84,7 +84,7 @@ pub record EndsTooEarly (text : List ℕ) (at : ℕ) : Type 0 where
   pub tokens : List Token
   pub tokens_are : AreTokens text tokens
   pub place : at ≡ length text
-  pub begins : SomeTextBegins deepest (terminals text tokens)
+  pub begins : SomeTextBegins deepest_level (terminals text tokens)
   pub no_text : (room : ℕ) → IsNoText room (terminals text tokens)
 
 -- the first token, or the end, at which the text stops to be one of the grammar without a bound on levels
@@ -99,8 +99,8 @@ pub record HasDeepFault (text : List ℕ) (at : ℕ) : Type 0 where
   pub after : List Token
   pub tokens_are : AreTokens text (before ++ token ∷ after)
   pub place : at ≡ token.start
-  pub begins : SomeTextBegins deepest (terminals text before)
-  pub stops : NoTextBegins deepest (terminals text (before ++ token ∷ []))
+  pub begins : SomeTextBegins deepest_level (terminals text before)
+  pub stops : NoTextBegins deepest_level (terminals text (before ++ token ∷ []))
   pub room : ℕ
   pub goes_on : SomeTextBegins room (terminals text (before ++ token ∷ []))
 
@@ -143,7 +143,7 @@ pub record HasArityFault (text : List ℕ) (start end : ℕ) : Type 0 where
 pub record HasTooManyNodes (text : List ℕ) : Type 0 where
   pub spec : SpecTree
   pub derived : IsDerived text spec
-  pub many_nodes : most_nodes < nodes (whole_formula spec)
+  pub many_nodes : most_formula_nodes < nodes (whole_formula spec)
 
 -- what each refusal says of the text
 abbrev pub HasCause : List ℕ → SpecError → Type 0
@@ -162,6 +162,6 @@ IsOfText NoMemory = ⊥
 IsOfText _ = Unit {0}
 
 -- where the refusal is no want of memory, the text spells no specification
-abbrev pub IsRefused : List ℕ → SpecError → Type 0
-IsRefused text NoMemory = Unit {0}
-IsRefused text _ = (spec : SpecTree) → Spells text spec → ⊥
+abbrev pub SpellsNoSpec : List ℕ → SpecError → Type 0
+SpellsNoSpec text NoMemory = Unit {0}
+SpellsNoSpec text _ = (spec : SpecTree) → Spells text spec → ⊥

@@ -76,23 +76,23 @@ mutual
     more_formulas : FormulaSyntax → FormulasSyntax → FormulasSyntax
 
 -- the list of these members
-abbrev pub terms_of : List TermSyntax → TermsSyntax
-terms_of [] = no_terms
-terms_of (t ∷ ts) = more_terms t (terms_of ts)
+abbrev pub listed_terms : List TermSyntax → TermsSyntax
+listed_terms [] = no_terms
+listed_terms (t ∷ ts) = more_terms t (listed_terms ts)
 
-abbrev pub formulas_of : List FormulaSyntax → FormulasSyntax
-formulas_of [] = no_formulas
-formulas_of (f ∷ fs) = more_formulas f (formulas_of fs)
+abbrev pub listed_formulas : List FormulaSyntax → FormulasSyntax
+listed_formulas [] = no_formulas
+listed_formulas (f ∷ fs) = more_formulas f (listed_formulas fs)
 
 -- the operands of `&&` as one formula: one operand stands for itself
 abbrev pub all_of : FormulaSyntax → List FormulaSyntax → FormulaSyntax
 all_of f [] = f
-all_of f (g ∷ gs) = all (more_formulas f (formulas_of (g ∷ gs)))
+all_of f (g ∷ gs) = all (more_formulas f (listed_formulas (g ∷ gs)))
 
 -- the operands of `||` as one formula
 abbrev pub any_of : FormulaSyntax → List FormulaSyntax → FormulaSyntax
 any_of f [] = f
-any_of f (g ∷ gs) = any (more_formulas f (formulas_of (g ∷ gs)))
+any_of f (g ∷ gs) = any (more_formulas f (listed_formulas (g ∷ gs)))
 
 -- a section: to which list of formulas its formulas go
 pub record SectionSyntax : Type 0 where

@@ -18,7 +18,9 @@ use Rattle.tsl_reader.specs.declared.trees.ReadFormula.TheVariants.{True, False,
 use Rattle.tsl_reader.specs.declared.trees.ReadFormulas.{ReadFormulas}
 use Rattle.tsl_reader.specs.declared.trees.ReadFormulas.TheVariants.{Empty, More'}
 use Rattle.tsl_reader.specs.declared.trees.ReadSection.{ReadSection}
-use Rattle.tsl_reader.specs.Syntax.{Terminal, free, word, mark, TermSyntax, alone, applied, TermsSyntax, no_terms, more_terms, FormulaSyntax, truth, falsehood, bare, tested, updated, under, between, all, any, FormulasSyntax, no_formulas, more_formulas, SectionSyntax}
+use Rattle.tsl_reader.specs.Syntax.{Terminal, free, word, mark, TermSyntax, alone, applied, TermsSyntax, no_terms, more_terms}
+use Rattle.tsl_reader.specs.Syntax.{FormulaSyntax, truth, falsehood, bare, tested, updated, under, between, all, any, FormulasSyntax}
+use Rattle.tsl_reader.specs.Syntax.{no_formulas, more_formulas, SectionSyntax}
 use Rattle.token_readers.specs.Readers.{Answer, form, deep}
 use Rattle.tsl_reader.specs.declared.terms.Arguments.{Arguments as LentArguments}
 use Rattle.tsl_reader.specs.declared.terms.Arguments.TheVariants.{Fresh, Empty as NoArguments, NameLast, TermLast}
@@ -61,10 +63,10 @@ abbrev pub section_syntax : ReadSection → SectionSyntax
 section_syntax s = record { part = s.part; formulas = map formula_syntax s.formulas.items }
 
 -- the fault is the answer's, unless memory ran out
-abbrev pub HasFault : {V : Type 0} → Answer Terminal V → ReadFault → Type 0
-HasFault answer (Form left) = answer ≡ Err (form left)
-HasFault answer (Deep left) = answer ≡ Err (deep left)
-HasFault answer NoMemory = Unit {0}
+abbrev pub HasSyntaxFault : {V : Type 0} → Answer Terminal V → ReadFault → Type 0
+HasSyntaxFault answer (Form left) = answer ≡ Err (form left)
+HasSyntaxFault answer (Deep left) = answer ≡ Err (deep left)
+HasSyntaxFault answer NoMemory = Unit {0}
 
 -- the arguments of a name so far
 abbrev pub arguments_view : LentArguments → Arguments

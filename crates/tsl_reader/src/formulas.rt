@@ -4,8 +4,10 @@ ghost use Rattle.std.specs.Prelude.{◌≡◌, ◌<◌, ◌≤◌, length, map, 
 ghost use Rattle.tsl_reader.specs.Syntax.{FormulaSyntax, between, all_of, any_of};
 ghost use Rattle.tsl_reader.specs.Forms.{reader_of, form_with};
 ghost use Rattle.token_readers.specs.Readers.{below, members};
-ghost use Rattle.tsl_reader.specs.Reading.{Level, lower, bracketed_formula, atom_named, update_with, atom_with, unary_in, prefix_with, conjunct, and_after, and_with, disjunct, or_after_and, or_after, imp_after_or, imp_after, iff_after_imp, iff_after, temporal_in, formula_after};
-ghost use Rattle.tsl_reader.specs.SyntaxView.{terminals_view, arguments_syntax, formula_syntax, HasFault};
+ghost use Rattle.tsl_reader.specs.Reading.{Level, lower, bracketed_formula, atom_named, update_with, atom_with, unary_in, prefix_with};
+ghost use Rattle.tsl_reader.specs.Reading.{conjunct, and_after, and_with, disjunct, or_after_and, or_after, imp_after_or, imp_after};
+ghost use Rattle.tsl_reader.specs.Reading.{iff_after_imp, iff_after, temporal_in, formula_after};
+ghost use Rattle.tsl_reader.specs.SyntaxView.{terminals_view, arguments_syntax, formula_syntax, HasSyntaxFault};
 
 use crate::fault::ReadFault;
 use crate::syntax::{Closer, Word};
@@ -151,7 +153,7 @@ fn update_with<'a, 'b>(
 ) -> Answer<'a, 'b, ReadFormula<'a>>
     ensures ok { IfOk result (λ read. update_with (lower room) (terminals_view xs.now)
         ≡ Ok (formula_syntax read.0, terminals_view read.1.now)) }
-    ensures fault { IfErr result (HasFault (update_with (lower room) (terminals_view xs.now))) }
+    ensures fault { IfErr result (HasSyntaxFault (update_with (lower room) (terminals_view xs.now))) }
     ensures shorter { IfOk result (λ read. length read.1.now ≤ length xs.now) }
 {
     match xs {
@@ -180,7 +182,7 @@ fn form_below<'a, 'b>(
 ) -> Answer<'a, 'b, ReadFormula<'a>>
     ensures ok { IfOk result (λ read. below (lower room) (reader_of form) (terminals_view xs.now)
         ≡ Ok (formula_syntax read.0, terminals_view read.1.now)) }
-    ensures fault { IfErr result (HasFault (below (lower room) (reader_of form) (terminals_view xs.now))) }
+    ensures fault { IfErr result (HasSyntaxFault (below (lower room) (reader_of form) (terminals_view xs.now))) }
     ensures shorter { IfOk result (λ read. length read.1.now < length xs.now) }
 {
     let below = level_below(room, xs)?;
@@ -201,7 +203,7 @@ pub(crate) fn form_with<'a, 'b>(
 ) -> Answer<'a, 'b, ReadFormula<'a>>
     ensures ok { IfOk result (λ read. form_with form (lower room) (terminals_view xs.now)
         ≡ Ok (formula_syntax read.0, terminals_view read.1.now)) }
-    ensures fault { IfErr result (HasFault (form_with form (lower room) (terminals_view xs.now))) }
+    ensures fault { IfErr result (HasSyntaxFault (form_with form (lower room) (terminals_view xs.now))) }
     ensures shorter { IfOk result (λ read. length read.1.now < length xs.now) }
 {
     let (first, rest) = prefix_with(alloc, room, xs)?;
@@ -222,7 +224,7 @@ fn bracketed_formula<'a, 'b>(
 ) -> Answer<'a, 'b, ReadFormula<'a>>
     ensures ok { IfOk result (λ read. below (lower room) bracketed_formula (terminals_view xs.now)
         ≡ Ok (formula_syntax read.0, terminals_view read.1.now)) }
-    ensures fault { IfErr result (HasFault (below (lower room) bracketed_formula (terminals_view xs.now))) }
+    ensures fault { IfErr result (HasSyntaxFault (below (lower room) bracketed_formula (terminals_view xs.now))) }
     ensures shorter { IfOk result (λ read. length read.1.now < length xs.now) }
 {
     let (formula, rest) = form_below(alloc, room, Form::Formula, xs)?;
@@ -240,7 +242,7 @@ fn atom_with<'a, 'b>(
 ) -> Answer<'a, 'b, ReadFormula<'a>>
     ensures ok { IfOk result (λ read. atom_with (lower room) (terminals_view xs.now)
         ≡ Ok (formula_syntax read.0, terminals_view read.1.now)) }
-    ensures fault { IfErr result (HasFault (atom_with (lower room) (terminals_view xs.now))) }
+    ensures fault { IfErr result (HasSyntaxFault (atom_with (lower room) (terminals_view xs.now))) }
     ensures shorter { IfOk result (λ read. length read.1.now < length xs.now) }
 {
     match xs {
@@ -267,7 +269,7 @@ fn prefix_with<'a, 'b>(
 ) -> Answer<'a, 'b, ReadFormula<'a>>
     ensures ok { IfOk result (λ read. prefix_with (lower room) (terminals_view xs.now)
         ≡ Ok (formula_syntax read.0, terminals_view read.1.now)) }
-    ensures fault { IfErr result (HasFault (prefix_with (lower room) (terminals_view xs.now))) }
+    ensures fault { IfErr result (HasSyntaxFault (prefix_with (lower room) (terminals_view xs.now))) }
     ensures shorter { IfOk result (λ read. length read.1.now < length xs.now) }
 {
     match unary_in(xs) {
@@ -288,7 +290,7 @@ fn conjuncts<'a, 'b>(
 ) -> Answer<'a, 'b, Vec<ReadFormula<'a>>>
     ensures ok { IfOk result (λ read. members (conjunct (lower room)) (terminals_view xs.now)
         ≡ Ok (map formula_syntax read.0.items, terminals_view read.1.now)) }
-    ensures fault { IfErr result (HasFault (members (conjunct (lower room)) (terminals_view xs.now))) }
+    ensures fault { IfErr result (HasSyntaxFault (members (conjunct (lower room)) (terminals_view xs.now))) }
     ensures shorter { IfOk result (λ read. length read.1.now ≤ length xs.now) }
 {
     let mut operands = Vec::new(alloc);
@@ -312,7 +314,7 @@ fn and_after<'a, 'b>(
 ) -> Answer<'a, 'b, ReadFormula<'a>>
     ensures ok { IfOk result (λ read. and_after (lower room) (formula_syntax first.entry) (terminals_view xs.now)
         ≡ Ok (formula_syntax read.0, terminals_view read.1.now)) }
-    ensures fault { IfErr result (HasFault (and_after (lower room) (formula_syntax first.entry) (terminals_view xs.now))) }
+    ensures fault { IfErr result (HasSyntaxFault (and_after (lower room) (formula_syntax first.entry) (terminals_view xs.now))) }
     ensures shorter { IfOk result (λ read. length read.1.now ≤ length xs.now) }
 {
     let (operands, rest) = conjuncts(alloc, room, xs)?;
@@ -330,7 +332,7 @@ fn and_with<'a, 'b>(
 ) -> Answer<'a, 'b, ReadFormula<'a>>
     ensures ok { IfOk result (λ read. and_with (lower room) (terminals_view xs.now)
         ≡ Ok (formula_syntax read.0, terminals_view read.1.now)) }
-    ensures fault { IfErr result (HasFault (and_with (lower room) (terminals_view xs.now))) }
+    ensures fault { IfErr result (HasSyntaxFault (and_with (lower room) (terminals_view xs.now))) }
     ensures shorter { IfOk result (λ read. length read.1.now < length xs.now) }
 {
     let (first, rest) = prefix_with(alloc, room, xs)?;
@@ -346,7 +348,7 @@ fn disjuncts<'a, 'b>(
 ) -> Answer<'a, 'b, Vec<ReadFormula<'a>>>
     ensures ok { IfOk result (λ read. members (disjunct (lower room)) (terminals_view xs.now)
         ≡ Ok (map formula_syntax read.0.items, terminals_view read.1.now)) }
-    ensures fault { IfErr result (HasFault (members (disjunct (lower room)) (terminals_view xs.now))) }
+    ensures fault { IfErr result (HasSyntaxFault (members (disjunct (lower room)) (terminals_view xs.now))) }
     ensures shorter { IfOk result (λ read. length read.1.now ≤ length xs.now) }
 {
     let mut operands = Vec::new(alloc);
@@ -370,7 +372,7 @@ fn or_after<'a, 'b>(
 ) -> Answer<'a, 'b, ReadFormula<'a>>
     ensures ok { IfOk result (λ read. or_after (lower room) (formula_syntax first.entry) (terminals_view xs.now)
         ≡ Ok (formula_syntax read.0, terminals_view read.1.now)) }
-    ensures fault { IfErr result (HasFault (or_after (lower room) (formula_syntax first.entry) (terminals_view xs.now))) }
+    ensures fault { IfErr result (HasSyntaxFault (or_after (lower room) (formula_syntax first.entry) (terminals_view xs.now))) }
     ensures shorter { IfOk result (λ read. length read.1.now ≤ length xs.now) }
 {
     let (operand, rest) = and_after(alloc, room, first, xs)?;
@@ -390,7 +392,7 @@ fn imp_after_or<'a, 'b>(
 ) -> Answer<'a, 'b, ReadFormula<'a>>
     ensures ok { IfOk result (λ read. imp_after_or (lower room) (formula_syntax left.entry) (terminals_view xs.now)
         ≡ Ok (formula_syntax read.0, terminals_view read.1.now)) }
-    ensures fault { IfErr result (HasFault (imp_after_or (lower room) (formula_syntax left.entry) (terminals_view xs.now))) }
+    ensures fault { IfErr result (HasSyntaxFault (imp_after_or (lower room) (formula_syntax left.entry) (terminals_view xs.now))) }
     ensures shorter { IfOk result (λ read. length read.1.now ≤ length xs.now) }
 {
     match xs {
@@ -414,7 +416,7 @@ fn imp_after<'a, 'b>(
 ) -> Answer<'a, 'b, ReadFormula<'a>>
     ensures ok { IfOk result (λ read. imp_after (lower room) (formula_syntax first.entry) (terminals_view xs.now)
         ≡ Ok (formula_syntax read.0, terminals_view read.1.now)) }
-    ensures fault { IfErr result (HasFault (imp_after (lower room) (formula_syntax first.entry) (terminals_view xs.now))) }
+    ensures fault { IfErr result (HasSyntaxFault (imp_after (lower room) (formula_syntax first.entry) (terminals_view xs.now))) }
     ensures shorter { IfOk result (λ read. length read.1.now ≤ length xs.now) }
 {
     let (left, rest) = or_after(alloc, room, first, xs)?;
@@ -432,7 +434,7 @@ fn iff_after_imp<'a, 'b>(
 ) -> Answer<'a, 'b, ReadFormula<'a>>
     ensures ok { IfOk result (λ read. iff_after_imp (lower room) (formula_syntax left.entry) (terminals_view xs.now)
         ≡ Ok (formula_syntax read.0, terminals_view read.1.now)) }
-    ensures fault { IfErr result (HasFault (iff_after_imp (lower room) (formula_syntax left.entry) (terminals_view xs.now))) }
+    ensures fault { IfErr result (HasSyntaxFault (iff_after_imp (lower room) (formula_syntax left.entry) (terminals_view xs.now))) }
     ensures shorter { IfOk result (λ read. length read.1.now ≤ length xs.now) }
 {
     match xs {
@@ -456,7 +458,7 @@ fn iff_after<'a, 'b>(
 ) -> Answer<'a, 'b, ReadFormula<'a>>
     ensures ok { IfOk result (λ read. iff_after (lower room) (formula_syntax first.entry) (terminals_view xs.now)
         ≡ Ok (formula_syntax read.0, terminals_view read.1.now)) }
-    ensures fault { IfErr result (HasFault (iff_after (lower room) (formula_syntax first.entry) (terminals_view xs.now))) }
+    ensures fault { IfErr result (HasSyntaxFault (iff_after (lower room) (formula_syntax first.entry) (terminals_view xs.now))) }
     ensures shorter { IfOk result (λ read. length read.1.now ≤ length xs.now) }
 {
     let (left, rest) = imp_after(alloc, room, first, xs)?;
@@ -474,7 +476,7 @@ fn formula_after<'a, 'b>(
 ) -> Answer<'a, 'b, ReadFormula<'a>>
     ensures ok { IfOk result (λ read. formula_after (lower room) (formula_syntax first.entry) (terminals_view xs.now)
         ≡ Ok (formula_syntax read.0, terminals_view read.1.now)) }
-    ensures fault { IfErr result (HasFault (formula_after (lower room) (formula_syntax first.entry) (terminals_view xs.now))) }
+    ensures fault { IfErr result (HasSyntaxFault (formula_after (lower room) (formula_syntax first.entry) (terminals_view xs.now))) }
     ensures shorter { IfOk result (λ read. length read.1.now ≤ length xs.now) }
 {
     let Some(op) = temporal_in(xs) else {

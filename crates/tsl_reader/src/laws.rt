@@ -11,7 +11,8 @@ ghost use Rattle.tsl_reader.specs.Grammar.{AreSections};
 ghost use Rattle.token_readers.specs.Readers.{form, deep};
 ghost use Rattle.tsl_reader.specs.Reading.{sections};
 ghost use Rattle.tsl_reader.specs.Naming.{written_uses};
-ghost use Rattle.tsl_reader.specs.Spells.{Spells, Derives, SomeTextBegins, NoTextBegins, IsNoText, name_tokens, HasCause, IsOfText, IsRefused};
+ghost use Rattle.tsl_reader.specs.Spells.{Spells, Derives, SomeTextBegins, NoTextBegins, IsNoText, name_tokens, HasCause, IsOfText};
+ghost use Rattle.tsl_reader.specs.Spells.{SpellsNoSpec};
 
 /// A text spells at most one specification.
 pub fn one_specification()
@@ -21,7 +22,7 @@ pub fn one_specification()
 /// A text has at most one cause of refusal, and none where it spells a specification.
 pub fn one_cause()
     ensures one { (text : List ℕ) (a b : SpecError) → IsOfText a → IsOfText b → HasCause text a → HasCause text b → a ≡ b }
-    ensures none { (text : List ℕ) (error : SpecError) → HasCause text error → IsRefused text error }
+    ensures none { (text : List ℕ) (error : SpecError) → HasCause text error → SpellsNoSpec text error }
 {}
 
 /// A specification that a text spells has distinct names that may be written, and its formulas fit them.

@@ -13,7 +13,7 @@
 ghost use Rattle.std.specs.Prelude.{◌≡◌, ◌<◌, ◌-◌, ◌^◌, length, IfOk, IfErr};
 ghost use Rattle.tsl_terms.specs.SpecView.{spec_tree};
 ghost use Rattle.tsl_terms.specs.WellFormed.{SpecFits};
-ghost use Rattle.tsl_reader.specs.Spells.{Spells, HasCause, IsRefused};
+ghost use Rattle.tsl_reader.specs.Spells.{Spells, HasCause, SpellsNoSpec};
 
 use sequence::NoMemory;
 use stages::{derived_spec, has_few_nodes};
@@ -106,7 +106,7 @@ pub fn read_spec(alloc: Global, text: &[u8]) -> Result<Spec, SpecError>
     ensures ok { IfOk result (λ spec. Spells text.now (spec_tree spec)) }
     ensures fits { IfOk result (λ spec. SpecFits (spec_tree spec)) }
     ensures cause { IfErr result (HasCause text.now) }
-    ensures refused { IfErr result (IsRefused text.now) }
+    ensures refused { IfErr result (SpellsNoSpec text.now) }
 {
     let spec = derived_spec(alloc, text)?;
     if !has_few_nodes(&spec) {

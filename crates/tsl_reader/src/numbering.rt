@@ -5,7 +5,8 @@ ghost use Rattle.std.specs.Option.{is_some};
 ghost use Rattle.tsl_terms.specs.Name.{number_of, question};
 ghost use Rattle.tsl_terms.specs.TermTree.{term_tree, term_trees};
 ghost use Rattle.tsl_terms.specs.FormulaTree.{formula_tree, formula_trees, member_trees, unary, binary};
-ghost use Rattle.tsl_reader.specs.Naming.{numbered_term, numbered_terms, numbered_formula, numbered_members, numbered_list, same_part, formulas_in};
+ghost use Rattle.tsl_reader.specs.Naming.{numbered_term, numbered_terms, numbered_formula, numbered_members, numbered_list, same_part};
+ghost use Rattle.tsl_reader.specs.Naming.{formulas_of_part};
 ghost use Rattle.tsl_reader.specs.Syntax.{bare};
 ghost use Rattle.tsl_reader.specs.Numbering.{numbered_after, formulas_if};
 ghost use Rattle.tsl_reader.specs.SyntaxView.{term_syntax, terms_syntax, formula_syntax, formulas_syntax, section_syntax};
@@ -229,14 +230,14 @@ fn add_section(
 }
 
 /// The formulas of the sections that go to one list, with numbers. An `Err` says that memory ran out.
-pub(crate) fn formulas_in(
+pub(crate) fn formulas_of_part(
     alloc: Global,
     names: &Names,
     part: Part,
     sections: &[ReadSection],
 ) -> Result<FormulaList, NoMemory>
-    requires { IsTrue (is_some (numbered_list names.now (formulas_in part (map section_syntax sections.now)))) }
-    ensures { IfOk result (λ trees. numbered_list names.now (formulas_in part (map section_syntax sections.now))
+    requires { IsTrue (is_some (numbered_list names.now (formulas_of_part part (map section_syntax sections.now)))) }
+    ensures { IfOk result (λ trees. numbered_list names.now (formulas_of_part part (map section_syntax sections.now))
         ≡ Some (member_trees trees)) }
 {
     let mut trees = Vec::new(alloc);

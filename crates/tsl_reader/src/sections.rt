@@ -4,7 +4,7 @@ ghost use Rattle.std.specs.Prelude.{◌≡◌, ◌<◌, ◌≤◌, ℕ, List, �
 ghost use Rattle.tsl_text.specs.declared.TokenKind.TheVariants.{Semicolon};
 ghost use Rattle.tsl_reader.specs.Syntax.{mark, FormulaSyntax};
 ghost use Rattle.tsl_reader.specs.Reading.{item, item_last, begins_item, formulas, items, side, section_at, section, sections};
-ghost use Rattle.tsl_reader.specs.SyntaxView.{terminals_view, formula_syntax, section_syntax, HasFault, HasFaultOfMember};
+ghost use Rattle.tsl_reader.specs.SyntaxView.{terminals_view, formula_syntax, section_syntax, HasSyntaxFault, HasFaultOfMember};
 
 use crate::fault::ReadFault;
 use crate::formulas::{Form, form_with};
@@ -43,7 +43,7 @@ fn formulas<'a, 'b>(
 ) -> Answer<'a, 'b, Vec<ReadFormula<'a>>>
     ensures ok { IfOk result (λ read. formulas room (terminals_view xs.now)
         ≡ Ok (map formula_syntax read.0.items, terminals_view read.1.now)) }
-    ensures fault { IfErr result (HasFault (formulas room (terminals_view xs.now))) }
+    ensures fault { IfErr result (HasSyntaxFault (formulas room (terminals_view xs.now))) }
     ensures shorter { IfOk result (λ read. length read.1.now ≤ length xs.now) }
 {
     let mut formulas = Vec::new(alloc);
@@ -69,7 +69,7 @@ fn items<'a, 'b>(
 ) -> Answer<'a, 'b, ReadSection<'a>>
     ensures ok { IfOk result (λ read. items room part (terminals_view xs.now)
         ≡ Ok (section_syntax read.0, terminals_view read.1.now)) }
-    ensures fault { IfErr result (HasFault (items room part (terminals_view xs.now))) }
+    ensures fault { IfErr result (HasSyntaxFault (items room part (terminals_view xs.now))) }
     ensures shorter { IfOk result (λ read. length read.1.now < length xs.now) }
 {
     match xs {
@@ -93,7 +93,7 @@ fn side<'a, 'b>(
 ) -> Answer<'a, 'b, ReadSection<'a>>
     ensures ok { IfOk result (λ read. side room assumed guaranteed (terminals_view xs.now)
         ≡ Ok (section_syntax read.0, terminals_view read.1.now)) }
-    ensures fault { IfErr result (HasFault (side room assumed guaranteed (terminals_view xs.now))) }
+    ensures fault { IfErr result (HasSyntaxFault (side room assumed guaranteed (terminals_view xs.now))) }
     ensures shorter { IfOk result (λ read. length read.1.now < length xs.now) }
 {
     match xs {
@@ -112,7 +112,7 @@ fn section_at<'a, 'b>(
 ) -> Answer<'a, 'b, ReadSection<'a>>
     ensures ok { IfOk result (λ read. section_at room (terminals_view xs.now)
         ≡ Ok (section_syntax read.0, terminals_view read.1.now)) }
-    ensures fault { IfErr result (HasFault (section_at room (terminals_view xs.now))) }
+    ensures fault { IfErr result (HasSyntaxFault (section_at room (terminals_view xs.now))) }
     ensures shorter { IfOk result (λ read. length read.1.now < length xs.now) }
 {
     match xs {
@@ -155,7 +155,7 @@ pub(crate) fn sections<'a, 'b>(
 ) -> Answer<'a, 'b, Vec<ReadSection<'a>>>
     ensures ok { IfOk result (λ read. sections room (terminals_view xs.now)
         ≡ Ok (map section_syntax read.0.items, terminals_view read.1.now)) }
-    ensures fault { IfErr result (HasFault (sections room (terminals_view xs.now))) }
+    ensures fault { IfErr result (HasSyntaxFault (sections room (terminals_view xs.now))) }
 {
     let mut sections = Vec::new(alloc);
     let mut left = Left { terminals: xs };

@@ -1,6 +1,7 @@
 //! The stages of reading a specification.
 
-ghost use Rattle.std.specs.Prelude.{◌≡◌, ℕ, ◌-◌, ◌≤◌, ◌<◌, ◌^◌, length, map, slice_get, nat_le, Some, All, IsTrue, IfOk, IfErr, OnOk, MatchOption};
+ghost use Rattle.std.specs.Prelude.{◌≡◌, ℕ, ◌-◌, ◌≤◌, ◌<◌, ◌^◌, length, map, slice_get, nat_le, Some, All, IsTrue, IfOk, IfErr, OnOk};
+ghost use Rattle.std.specs.Prelude.{MatchOption};
 ghost use Rattle.tsl_reader.specs.declared.syntax.Part.{Part};
 ghost use Rattle.tsl_reader.specs.declared.syntax.Part.TheVariants.{AssumeFirst, AssumeAlways, GuaranteeFirst, GuaranteeAlways};
 ghost use Rattle.tsl_text.specs.Division.{AreTokens, IsTokenOf};
@@ -11,14 +12,14 @@ ghost use Rattle.tsl_terms.specs.Nodes.{nodes};
 ghost use Rattle.tsl_terms.specs.WellFormed.{formulas_fit};
 ghost use Rattle.tsl_terms.specs.SpecTree.{whole_formula};
 ghost use Rattle.tsl_terms.specs.SpecView.{spec_tree};
-ghost use Rattle.tsl_reader.specs.Naming.{written_uses, names_of, numbered_list, formulas_in};
+ghost use Rattle.tsl_reader.specs.Naming.{written_uses, names_of, numbered_list, formulas_of_part};
 ghost use Rattle.tsl_reader.specs.Numbering.{HasNumbers};
-ghost use Rattle.tsl_reader.specs.Spells.{most_nodes, terminal_at, is_free, name_tokens, Derives, IsDerived, HasCause};
+ghost use Rattle.tsl_reader.specs.Spells.{most_formula_nodes, terminal_at, is_free, name_tokens, Derives, IsDerived, HasCause};
 ghost use Rattle.tsl_reader.specs.SyntaxView.{section_syntax};
 
 use crate::fault::ReadFault;
 use crate::naming::{numbered_names, written_names};
-use crate::numbering::formulas_in;
+use crate::numbering::formulas_of_part;
 use crate::sections::sections;
 use crate::syntax::Part;
 use crate::terminals::{Terminal, terminal_at, terminals};
@@ -32,7 +33,7 @@ use tsl_terms::{
 };
 use tsl_text::{TextError, Token, tokens};
 
-/// The deepest level.
+/// The deepest_level level.
 const DEEPEST: u32 = 200;
 
 /// The tokens of a text.
@@ -123,7 +124,7 @@ pub(crate) fn derived_spec(alloc: Global, text: &[u8]) -> Result<Spec, SpecError
 
 /// Whether the whole formula has few enough nodes.
 pub(crate) fn has_few_nodes(spec: &Spec) -> bool
-    ensures { result ≡ nat_le (nodes (whole_formula (spec_tree spec.now))) most_nodes }
+    ensures { result ≡ nat_le (nodes (whole_formula (spec_tree spec.now))) most_formula_nodes }
 {
     whole_node_count(spec) <= MOST_NODES as u64
 }
@@ -182,26 +183,26 @@ fn list_of(
     part: Part,
     sections: &[ReadSection],
 ) -> Result<FormulaList, NoMemory>
-    requires { HasNumbers names.now (formulas_in part (map section_syntax sections.now)) }
-    ensures numbered { IfOk result (λ list. numbered_list names.now (formulas_in part (map section_syntax sections.now))
+    requires { HasNumbers names.now (formulas_of_part part (map section_syntax sections.now)) }
+    ensures numbered { IfOk result (λ list. numbered_list names.now (formulas_of_part part (map section_syntax sections.now))
         ≡ Some (member_trees list)) }
     ensures fit { IfOk result (λ list. IsTrue (formulas_fit names.now (formula_trees list))) }
 {
-    formulas_in(alloc, names, part, sections)
+    formulas_of_part(alloc, names, part, sections)
 }
 
 /// The specification of sections with these names.
 fn spec_of(alloc: Global, names: Names, sections: &[ReadSection]) -> Result<Spec, NoMemory>
-    requires { (part : Part) → HasNumbers names (formulas_in part (map section_syntax sections.now)) }
+    requires { (part : Part) → HasNumbers names (formulas_of_part part (map section_syntax sections.now)) }
     ensures names { IfOk result (λ spec. spec.names ≡ names) }
     ensures assume_first { IfOk result (λ spec.
-        numbered_list names (formulas_in AssumeFirst (map section_syntax sections.now)) ≡ Some (member_trees spec.assume_first)) }
+        numbered_list names (formulas_of_part AssumeFirst (map section_syntax sections.now)) ≡ Some (member_trees spec.assume_first)) }
     ensures assume_always { IfOk result (λ spec.
-        numbered_list names (formulas_in AssumeAlways (map section_syntax sections.now)) ≡ Some (member_trees spec.assume_always)) }
+        numbered_list names (formulas_of_part AssumeAlways (map section_syntax sections.now)) ≡ Some (member_trees spec.assume_always)) }
     ensures guarantee_first { IfOk result (λ spec.
-        numbered_list names (formulas_in GuaranteeFirst (map section_syntax sections.now)) ≡ Some (member_trees spec.guarantee_first)) }
+        numbered_list names (formulas_of_part GuaranteeFirst (map section_syntax sections.now)) ≡ Some (member_trees spec.guarantee_first)) }
     ensures guarantee_always { IfOk result (λ spec.
-        numbered_list names (formulas_in GuaranteeAlways (map section_syntax sections.now)) ≡ Some (member_trees spec.guarantee_always)) }
+        numbered_list names (formulas_of_part GuaranteeAlways (map section_syntax sections.now)) ≡ Some (member_trees spec.guarantee_always)) }
 {
     let assume_first = list_of(alloc, &names, Part::AssumeFirst, sections)?;
     let assume_always = list_of(alloc, &names, Part::AssumeAlways, sections)?;

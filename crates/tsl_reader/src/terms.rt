@@ -1,10 +1,13 @@
 //! Reading terms.
 
-ghost use Rattle.std.specs.Prelude.{◌≡◌, ◌<◌, ◌≤◌, length, map, option_map, Bool, true, false, Option, None, Some, Ok, IfOk, IfErr, IfSome, IfNone, if◌then◌else◌};
+ghost use Rattle.std.specs.Prelude.{◌≡◌, ◌<◌, ◌≤◌, length, map, option_map, Bool, true, false, Option, None, Some, Ok, IfOk, IfErr, IfSome};
+ghost use Rattle.std.specs.Prelude.{IfNone, if◌then◌else◌};
 ghost use Rattle.token_readers.specs.Readers.{closing, below, map_read, found_or_wrong};
 ghost use Rattle.tsl_reader.specs.declared.fault.ReadFault.TheVariants.{Form, Deep};
-ghost use Rattle.tsl_reader.specs.Reading.{lower, above, closes, bracketed_term, begins_term, opened, complete, with_name, with_term, with_brackets, argument, goes_on, arguments_of, after_name, name_last, term_last, fresh, term_named, term_with};
-ghost use Rattle.tsl_reader.specs.SyntaxView.{terminal_view, terminals_view, term_syntax, arguments_view, arguments_syntax, HasFault};
+ghost use Rattle.tsl_reader.specs.Reading.{lower, above, closes, bracketed_term, begins_term, opened, complete, with_name, with_term};
+ghost use Rattle.tsl_reader.specs.Reading.{with_brackets, argument, goes_on, arguments_of, after_name, name_last, term_last, fresh};
+ghost use Rattle.tsl_reader.specs.Reading.{term_named, term_with};
+ghost use Rattle.tsl_reader.specs.SyntaxView.{terminal_view, terminals_view, term_syntax, arguments_view, arguments_syntax, HasSyntaxFault};
 
 use crate::fault::ReadFault;
 use crate::syntax::Closer;
@@ -74,7 +77,7 @@ pub(crate) fn close<'a, 'b>(
 ) -> Result<&'b [Terminal<'a>], ReadFault>
     ensures ok { IfOk result (λ rest.
         closing (closes closer) (tt {0}) (terminals_view xs.now) ≡ Ok (tt {0}, terminals_view rest.now)) }
-    ensures fault { IfErr result (HasFault (closing (closes closer) (tt {0}) (terminals_view xs.now))) }
+    ensures fault { IfErr result (HasSyntaxFault (closing (closes closer) (tt {0}) (terminals_view xs.now))) }
     ensures shorter { IfOk result (λ rest. length rest.now < length xs.now) }
 {
     match xs {
@@ -120,7 +123,7 @@ fn term_then_bracket<'a, 'b>(
 ) -> Answer<'a, 'b, ReadTerm<'a>>
     ensures ok { IfOk result (λ read. bracketed_term (above (lower room)) (terminals_view xs.now)
         ≡ Ok (term_syntax read.0, terminals_view read.1.now)) }
-    ensures fault { IfErr result (HasFault (bracketed_term (above (lower room)) (terminals_view xs.now))) }
+    ensures fault { IfErr result (HasSyntaxFault (bracketed_term (above (lower room)) (terminals_view xs.now))) }
     ensures shorter { IfOk result (λ read. length read.1.now < length xs.now) }
 {
     let (term, rest) = term_with(alloc, room, xs)?;
@@ -137,7 +140,7 @@ pub(crate) fn bracketed_term<'a, 'b>(
 ) -> Answer<'a, 'b, ReadTerm<'a>>
     ensures ok { IfOk result (λ read. below (lower room) bracketed_term (terminals_view xs.now)
         ≡ Ok (term_syntax read.0, terminals_view read.1.now)) }
-    ensures fault { IfErr result (HasFault (below (lower room) bracketed_term (terminals_view xs.now))) }
+    ensures fault { IfErr result (HasSyntaxFault (below (lower room) bracketed_term (terminals_view xs.now))) }
     ensures shorter { IfOk result (λ read. length read.1.now < length xs.now) }
 {
     let below = level_below(room, xs)?;
@@ -157,7 +160,7 @@ fn opened<'a, 'b>(
 ) -> Answer<'a, 'b, Option<ReadTerm<'a>>>
     ensures ok { IfOk result (λ read. opened (lower room) (terminals_view xs.now)
         ≡ Ok (option_map term_syntax read.0, terminals_view read.1.now)) }
-    ensures fault { IfErr result (HasFault (opened (lower room) (terminals_view xs.now))) }
+    ensures fault { IfErr result (HasSyntaxFault (opened (lower room) (terminals_view xs.now))) }
     ensures shorter { IfOk result (λ read. length read.1.now < length xs.now) }
 {
     match xs {
@@ -267,7 +270,7 @@ fn first_argument<'a, 'b>(
 ) -> Answer<'a, 'b, Arguments<'a>>
     ensures ok { IfOk result (λ read. found_or_wrong (argument (lower room) fresh (terminals_view xs.now)) (terminals_view xs.now)
         ≡ Ok (arguments_view read.0, terminals_view read.1.now)) }
-    ensures fault { IfErr result (HasFault (found_or_wrong (argument (lower room) fresh (terminals_view xs.now)) (terminals_view xs.now))) }
+    ensures fault { IfErr result (HasSyntaxFault (found_or_wrong (argument (lower room) fresh (terminals_view xs.now)) (terminals_view xs.now))) }
     ensures shorter { IfOk result (λ read. length read.1.now < length xs.now) }
 {
     match xs {
@@ -297,7 +300,7 @@ fn argument_after_name<'a, 'b>(
     ensures ok { IfOk result (λ read. found_or_wrong
         (argument (lower room) (name_last (map term_syntax terms.entry.items) last.now) (terminals_view xs.now)) (terminals_view xs.now)
         ≡ Ok (arguments_view read.0, terminals_view read.1.now)) }
-    ensures fault { IfErr result (HasFault (found_or_wrong
+    ensures fault { IfErr result (HasSyntaxFault (found_or_wrong
         (argument (lower room) (name_last (map term_syntax terms.entry.items) last.now) (terminals_view xs.now)) (terminals_view xs.now))) }
     ensures shorter { IfOk result (λ read. length read.1.now < length xs.now) }
 {
@@ -327,7 +330,7 @@ fn argument_after_term<'a, 'b>(
     ensures ok { IfOk result (λ read. found_or_wrong
         (argument (lower room) (term_last (map term_syntax terms.entry.items)) (terminals_view xs.now)) (terminals_view xs.now)
         ≡ Ok (arguments_view read.0, terminals_view read.1.now)) }
-    ensures fault { IfErr result (HasFault (found_or_wrong
+    ensures fault { IfErr result (HasSyntaxFault (found_or_wrong
         (argument (lower room) (term_last (map term_syntax terms.entry.items)) (terminals_view xs.now)) (terminals_view xs.now))) }
     ensures shorter { IfOk result (λ read. length read.1.now < length xs.now) }
 {
@@ -357,7 +360,7 @@ fn argument<'a, 'b>(
     ensures ok { IfOk result (λ read. found_or_wrong
         (argument (lower room) (arguments_view arguments.entry) (terminals_view xs.now)) (terminals_view xs.now)
         ≡ Ok (arguments_view read.0, terminals_view read.1.now)) }
-    ensures fault { IfErr result (HasFault (found_or_wrong
+    ensures fault { IfErr result (HasSyntaxFault (found_or_wrong
         (argument (lower room) (arguments_view arguments.entry) (terminals_view xs.now)) (terminals_view xs.now))) }
     ensures shorter { IfOk result (λ read. length read.1.now < length xs.now) }
 {
@@ -379,7 +382,7 @@ pub(crate) fn after_name<'a, 'b>(
 ) -> Answer<'a, 'b, Option<Vec<ReadTerm<'a>>>>
     ensures ok { IfOk result (λ read. after_name (lower room) (terminals_view xs.now)
         ≡ Ok (arguments_syntax read.0, terminals_view read.1.now)) }
-    ensures fault { IfErr result (HasFault (after_name (lower room) (terminals_view xs.now))) }
+    ensures fault { IfErr result (HasSyntaxFault (after_name (lower room) (terminals_view xs.now))) }
     ensures shorter { IfOk result (λ read. length read.1.now ≤ length xs.now) }
 {
     let mut arguments = Arguments::Fresh;
@@ -436,7 +439,7 @@ pub(crate) fn term_with<'a, 'b>(
 ) -> Answer<'a, 'b, ReadTerm<'a>>
     ensures ok { IfOk result (λ read. term_with (lower room) (terminals_view xs.now)
         ≡ Ok (term_syntax read.0, terminals_view read.1.now)) }
-    ensures fault { IfErr result (HasFault (term_with (lower room) (terminals_view xs.now))) }
+    ensures fault { IfErr result (HasSyntaxFault (term_with (lower room) (terminals_view xs.now))) }
     ensures shorter { IfOk result (λ read. length read.1.now ≤ length xs.now) }
 {
     match xs {

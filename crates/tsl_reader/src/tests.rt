@@ -324,7 +324,7 @@ const NESTED: &[(&[u8], &[u8], &[u8], u32, &str)] = &[
     (b"true -> ", b"true", b"", 201, "Deep(1617)"),
     (b"true <-> ", b"true", b"", 201, "Deep(1817)"),
     (b"(true && ", b"true", b")", 201, "Deep(1812)"),
-    // at the deepest level a bracket after a name may still be closed
+    // at the deepest_level level a bracket after a name may still be closed
     (b"!", b"p ()", b"", 200, "read"),
     (b"!", b"p x ()", b"", 200, "read"),
     (b"!", b"p (x", b"", 200, "Deep(215)"),

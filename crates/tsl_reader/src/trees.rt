@@ -1,7 +1,7 @@
 //! What is read, with names as they stand in the text.
 
 ghost use Rattle.std.specs.Prelude.{◌≡◌, map, IfOk};
-ghost use Rattle.tsl_reader.specs.Syntax.{terms_of, formulas_of};
+ghost use Rattle.tsl_reader.specs.Syntax.{listed_terms, listed_formulas};
 ghost use Rattle.tsl_reader.specs.SyntaxView.{term_syntax, terms_syntax, formula_syntax, formulas_syntax};
 
 use crate::syntax::Part;
@@ -48,7 +48,7 @@ impl<'a> ReadTerms<'a> {
         alloc: Global,
         mut terms: Vec<ReadTerm<'a>>,
     ) -> Result<ReadTerms<'a>, NoMemory>
-        ensures { IfOk result (λ list. terms_syntax list ≡ terms_of (map term_syntax terms.entry.items)) }
+        ensures { IfOk result (λ list. terms_syntax list ≡ listed_terms (map term_syntax terms.entry.items)) }
     {
         let mut list = ReadTerms::Empty;
         while let Some(term) = terms.pop() {
@@ -112,7 +112,7 @@ impl<'a> ReadFormulas<'a> {
         mut formulas: Vec<ReadFormula<'a>>,
     ) -> Result<ReadFormulas<'a>, NoMemory>
         ensures { IfOk result
-            (λ list. formulas_syntax list ≡ formulas_of (map formula_syntax formulas.entry.items)) }
+            (λ list. formulas_syntax list ≡ listed_formulas (map formula_syntax formulas.entry.items)) }
     {
         let mut list = ReadFormulas::Empty;
         while let Some(formula) = formulas.pop() {

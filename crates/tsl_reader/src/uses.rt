@@ -1,7 +1,8 @@
 //! The uses of names, in the order of the text.
 
 ghost use Rattle.std.specs.Prelude.{◌≡◌, ◌<◌, ◌^◌, ◌++◌, length, map, IfOk, OnOk};
-ghost use Rattle.tsl_reader.specs.Naming.{count_of_arguments, use_as, tested_signal, term_uses, terms_uses, uses, members_uses, section_uses, all_uses};
+ghost use Rattle.tsl_reader.specs.Naming.{count_of_arguments, use_as, tested_signal, term_uses, terms_uses, uses, members_uses};
+ghost use Rattle.tsl_reader.specs.Naming.{section_uses, all_uses};
 ghost use Rattle.tsl_reader.specs.SyntaxView.{term_syntax, terms_syntax, formula_syntax, formulas_syntax, section_syntax};
 ghost use Rattle.tsl_reader.specs.UseView.{read_use};
 

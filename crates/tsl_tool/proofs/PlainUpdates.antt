@@ -24,9 +24,9 @@ use Rattle.tsl_reader.specs.Syntax.{Terminal, free, mark, word_of, free_unless, 
 use Rattle.tsl_reader.specs.Grammar as grammar
 use Rattle.tsl_reader.specs.Grammar.{IsFormula, AreItems, IsSection, AreSections}
 use Rattle.tsl_reader.specs.Naming.{Use, use_as, uses, all_uses, written_uses, named_by, names_of, numbered_formula, numbered_list}
-use Rattle.tsl_reader.specs.Spells.{Spells, terminal_at, terminals, deepest, most_nodes}
+use Rattle.tsl_reader.specs.Spells.{Spells, terminal_at, terminals, deepest_level, most_formula_nodes}
 use Rattle.tsl_tool.specs.Form.{Pair, update_lexemes, form_lexemes, sides, has_usable_names, signal_named, AreUpdates, IsForm}
-use Rattle.tsl_tool.specs.Form.{Spells as SpellsUpdates}
+use Rattle.tsl_tool.specs.Form.{SpellsUpdates}
 use Rattle.tsl_tool.specs.Form as form
 use Rattle.sequence.proofs.Each.{each_at}
 
@@ -98,25 +98,25 @@ abbrev formula_of : Pair → FormulaSyntax
 formula_of pair = updated pair.left (alone pair.right)
 
 is_formula : (pair : Pair) →
-    IsFormula deepest (mark OpenSquare ∷ free pair.left ∷ mark LeftArrow ∷ free pair.right ∷ mark CloseSquare ∷ []) (formula_of pair)
+    IsFormula deepest_level (mark OpenSquare ∷ free pair.left ∷ mark LeftArrow ∷ free pair.right ∷ mark CloseSquare ∷ []) (formula_of pair)
 is_formula pair =
     grammar.chain (grammar.no_iff (grammar.no_imp (grammar.disjunction
     (grammar.conjunction (grammar.atom (grammar.update pair.left (grammar.signal pair.right))) grammar.no_conjunct) grammar.no_disjunct)))
 
-are_items : (pairs : List Pair) → AreItems deepest (flat_map update_terminals pairs) (map formula_of pairs)
+are_items : (pairs : List Pair) → AreItems deepest_level (flat_map update_terminals pairs) (map formula_of pairs)
 are_items [] = grammar.nothing
 are_items (pair ∷ pairs) = grammar.item (is_formula pair) (are_items pairs)
 
 -- the one section, whose formulas are always guaranteed
-abbrev is_section : (pairs : List Pair) → (s : SectionSyntax) × IsSection deepest (form_terminals pairs) s
+abbrev is_section : (pairs : List Pair) → (s : SectionSyntax) × IsSection deepest_level (form_terminals pairs) s
 is_section pairs = (_, grammar.braces grammar.always_guarantee (are_items pairs))
 
 abbrev section_of : List Pair → SectionSyntax
 section_of pairs = (is_section pairs).0
 
-are_sections : (pairs : List Pair) → AreSections deepest (form_terminals pairs) (section_of pairs ∷ [])
+are_sections : (pairs : List Pair) → AreSections deepest_level (form_terminals pairs) (section_of pairs ∷ [])
 are_sections pairs =
-    subst (λ xs. AreSections deepest xs (section_of pairs ∷ [])) (append-nil (form_terminals pairs))
+    subst (λ xs. AreSections deepest_level xs (section_of pairs ∷ [])) (append-nil (form_terminals pairs))
     (grammar.section (is_section pairs).1 grammar.no_section)
 
 -- the names
@@ -136,7 +136,7 @@ named : (texts : List (List ℕ)) → flat_map named_by (map plain_use texts) �
 named [] = refl
 named (text ∷ texts) = ap (λ ns. signal_named text ∷ ns) (named texts)
 
-names_are : (pairs : List Pair) → form.names_of pairs ≡ names_of (section_of pairs ∷ [])
+names_are : (pairs : List Pair) → form.names_of_pairs pairs ≡ names_of (section_of pairs ∷ [])
 names_are pairs = ap first_uses (sym (named (flat_map sides pairs)) ∙ ap (flat_map named_by) (sym (all_uses_of pairs)))
 
 -- no name is used in two ways
@@ -195,7 +195,7 @@ nodes_of_conjunction (f ∷ []) = omega arith
 nodes_of_conjunction (f ∷ g ∷ fs) = omega arith
 
 few_nodes : (spec : SpecTree) (pairs : List Pair) → spec.assume_first ≡ [] → spec.assume_always ≡ [] → spec.guarantee_first ≡ [] →
-    AreUpdates spec.names pairs spec.guarantee_always → length pairs ≤ form.most_updates → nodes (whole_formula spec) ≤ most_nodes
+    AreUpdates spec.names pairs spec.guarantee_always → length pairs ≤ form.most_updates → nodes (whole_formula spec) ≤ most_formula_nodes
 few_nodes spec pairs first always guaranteed updates few =
     let whole : whole_formula spec ≡ conjunction_of (map (unary Globally) spec.guarantee_always) = rw (first, always, guaranteed) refl in
     omega (
@@ -215,7 +215,7 @@ plain_is_spelled bytes spec x = record {
     sections = section_of x.pairs ∷ [];
     derives = record {
       tokens_are = record { parts = x.form.parts; divides = x.form.divides; places = refl };
-      derived = subst (λ xs. AreSections deepest xs (section_of x.pairs ∷ [])) (sym (terminals_are bytes x.pairs x.form))
+      derived = subst (λ xs. AreSections deepest_level xs (section_of x.pairs ∷ [])) (sym (terminals_are bytes x.pairs x.form))
           (are_sections x.pairs);
     };
     one_kind = no_clash alike_in_kind (λ a b. refl) (written_uses (section_of x.pairs ∷ [])) (written_plain x.pairs);

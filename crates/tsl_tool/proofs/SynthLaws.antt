@@ -4,7 +4,7 @@ use Rattle.std.specs.Prelude.{Result, Ok, Err, IfOk}
 use Rattle.tsl_terms.specs.SpecTree.{SpecTree}
 use Rattle.tsl_terms.specs.WellFormed.{SpecFits}
 use Rattle.tsl_reader.specs.declared.SpecError.{SpecError}
-use Rattle.tsl_reader.specs.Spells.{Spells, HasCause, IsRefused}
+use Rattle.tsl_reader.specs.Spells.{Spells, HasCause, SpellsNoSpec}
 use Rattle.tsl_report.specs.declared.fault.Fault.{Fault}
 use Rattle.flow_program.specs.ProgramTree.{ProgramTree}
 use Rattle.flow_program.specs.ProgramText.{ProgramText, IsWritable}
@@ -38,7 +38,7 @@ is_written sizes bytes text spec program a_state spells fits fixed is spelled = 
 
 -- the line of the fault of a refusal is an outcome
 pub refusal_outcome : {E : Type 0} (sizes : Sizes) (bytes : List ℕ) (error : SpecError) (fault : Fault) (r : Result Reply E) →
-    HasCause bytes error → IsRefused bytes error → IsFaultOf bytes error fault → IfOk r (λ reply. reply ≡ fault_reply fault) →
+    HasCause bytes error → SpellsNoSpec bytes error → IsFaultOf bytes error fault → IfOk r (λ reply. reply ≡ fault_reply fault) →
     IfOk r (SynthOutcome sizes bytes)
 refusal_outcome sizes bytes error fault (Ok reply) cause none is_fault is =
     refused fault (record { error = error; cause = cause; spells_none = none; is_fault = is_fault }) is

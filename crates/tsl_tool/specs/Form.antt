@@ -38,8 +38,8 @@ abbrev pub signal_named : List ℕ → Name
 signal_named text = record { text = text; kind = Signal; arity = 0 }
 
 -- the names of the updates, by first appearance
-abbrev pub names_of : List Pair → List Name
-names_of pairs = first_uses (map signal_named (flat_map sides pairs))
+abbrev pub names_of_pairs : List Pair → List Name
+names_of_pairs pairs = first_uses (map signal_named (flat_map sides pairs))
 
 -- each formula is the update of its pair
 abbrev pub AreUpdates : List Name → List Pair → List FormulaTree → Type 0
@@ -70,10 +70,10 @@ pub record IsForm (bytes : List ℕ) (pairs : List Pair) : Type 0 where
   pub few : length pairs ≤ most_updates
 
 -- the text is of the form, and the specification always guarantees its updates and nothing else
-pub record Spells (bytes : List ℕ) (spec : SpecTree) : Type 0 where
+pub record SpellsUpdates (bytes : List ℕ) (spec : SpecTree) : Type 0 where
   pub pairs : List Pair
   pub form : IsForm bytes pairs
-  pub names : spec.names ≡ names_of pairs
+  pub names : spec.names ≡ names_of_pairs pairs
   pub guarantees : AreUpdates spec.names pairs spec.guarantee_always
   pub nothing_assumed_first : spec.assume_first ≡ []
   pub nothing_assumed_always : spec.assume_always ≡ []

@@ -2,7 +2,7 @@
 use Rattle.std.specs.Prelude.{◌≡◌}
 use Rattle.tsl_text.specs.declared.numbers.TheConstants.{MOST_DIGITS}
 use Rattle.tsl_terms.specs.WellFormed.{deepest as deepest_brackets}
-use Rattle.tsl_reader.specs.Spells.{deepest as deepest_level, most_nodes as most_formula_nodes}
+use Rattle.tsl_reader.specs.Spells.{deepest_level, most_formula_nodes}
 use Rattle.flow_program.specs.Fits.{longest as longest_window}
 use Rattle.flow_program.specs.ProgramText.{most_windows, most_nodes as most_program_nodes, most_states as most_program_states}
 use Rattle.tsl_tool.specs.declared.recheck.TheConstants.{MOST_VARIABLES, MOST_CLAUSES}

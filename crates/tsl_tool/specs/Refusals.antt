@@ -4,7 +4,7 @@ use Rattle.tsl_text.specs.declared.places.Place.{Place}
 use Rattle.tsl_text.specs.Places.{IsColumn}
 use Rattle.tsl_reader.specs.declared.SpecError.{SpecError}
 use Rattle.tsl_reader.specs.declared.SpecError.TheVariants.{Byte, OpenComment, Form, Deep, Kind, Arity, Nodes, NoMemory}
-use Rattle.tsl_reader.specs.Spells.{most_nodes}
+use Rattle.tsl_reader.specs.Spells.{most_formula_nodes}
 use Rattle.tsl_report.specs.declared.fault.TokenPart.TheVariants.{Spec}
 use Rattle.tsl_report.specs.declared.fault.LimitName.TheVariants.{Nodes as NodesLimit}
 use Rattle.tsl_report.specs.declared.fault.Fault.{Fault}
@@ -30,5 +30,5 @@ IsFaultOf text (Kind start end) fault =
     (place : Place) × IsPlaceOf text start place × (fault ≡ KindFault place (name_between text start end))
 IsFaultOf text (Arity start end) fault =
     (place : Place) × IsPlaceOf text start place × (fault ≡ ArityFault place (name_between text start end))
-IsFaultOf text Nodes fault = fault ≡ Large NodesLimit most_nodes
+IsFaultOf text Nodes fault = fault ≡ Large NodesLimit most_formula_nodes
 IsFaultOf text NoMemory fault = ⊥

@@ -2,7 +2,7 @@
 use Rattle.std.specs.Prelude.{◌≡◌, ℕ, ◌≤◌, List, length}
 use Rattle.tsl_terms.specs.SpecTree.{SpecTree}
 use Rattle.tsl_reader.specs.declared.SpecError.{SpecError}
-use Rattle.tsl_reader.specs.Spells.{Spells, HasCause, IsRefused}
+use Rattle.tsl_reader.specs.Spells.{Spells, HasCause, SpellsNoSpec}
 use Rattle.flow_program.specs.ProgramTree.{ProgramTree}
 use Rattle.flow_program.specs.ProgramText.{ProgramText}
 use Rattle.tsl_meaning.specs.Promise.{Realizes}
@@ -34,10 +34,10 @@ abbrev pub IsUnbuilt : List ℕ → Type 0
 IsUnbuilt bytes = (spec : SpecTree) × Spells bytes spec × (IsFixed spec → ⊥)
 
 -- the bytes spell no specification for a cause, and this is its fault
-pub record HasFault (bytes : List ℕ) (fault : Fault) : Type 0 where
+pub record HasSpecFault (bytes : List ℕ) (fault : Fault) : Type 0 where
   pub error : SpecError
   pub cause : HasCause bytes error
-  pub spells_none : IsRefused bytes error
+  pub spells_none : SpellsNoSpec bytes error
   pub is_fault : IsFaultOf bytes error fault
 
 pub data SynthOutcome (sizes : Sizes) (bytes : List ℕ) (reply : Reply) : Type 0 where
@@ -46,4 +46,4 @@ pub data SynthOutcome (sizes : Sizes) (bytes : List ℕ) (reply : Reply) : Type 
   -- no program is built yet for the specification
   unbuilt : IsUnbuilt bytes → reply ≡ fault_reply Unbuilt → SynthOutcome sizes bytes reply
   -- the bytes are refused at a fault
-  refused : (fault : Fault) → HasFault bytes fault → reply ≡ fault_reply fault → SynthOutcome sizes bytes reply
+  refused : (fault : Fault) → HasSpecFault bytes fault → reply ≡ fault_reply fault → SynthOutcome sizes bytes reply

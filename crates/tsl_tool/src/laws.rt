@@ -11,7 +11,7 @@ ghost use Rattle.tsl_tool.specs.Causes.{Causes};
 ghost use Rattle.tsl_tool.specs.Commands.{command_of};
 ghost use Rattle.tsl_tool.specs.Effects.{Effect};
 ghost use Rattle.tsl_tool.specs.Ends.{Ends};
-ghost use Rattle.tsl_tool.specs.Form.{Spells as SpellsUpdates};
+ghost use Rattle.tsl_tool.specs.Form.{SpellsUpdates};
 ghost use Rattle.tsl_tool.specs.Limits.{LimitsAreThese};
 ghost use Rattle.tsl_tool.specs.Outcome.{Outcome};
 ghost use Rattle.tsl_tool.specs.Promise.{Promise};

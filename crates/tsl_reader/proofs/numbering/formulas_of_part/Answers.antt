@@ -2,7 +2,7 @@ use Rattle.std.proofs.Common.{map}
 use Rattle.std.proofs.lemmas.Result.{IfOk-weaker}
 use Rattle.tsl_terms.specs.FormulaTree.{formula_tree, formula_trees}
 use Rattle.tsl_reader.proofs.NumberLemmas.{section_some, section_more, sections_all}
-use Rattle.tsl_reader.proofs.numbering.formulas_in.Goals as goal
+use Rattle.tsl_reader.proofs.numbering.formulas_of_part.Goals as goal
 
 pub add_section-requires : goal.add_section-requires
 add_section-requires c =
