@@ -1,6 +1,10 @@
 pub mod Fits
+pub mod Listing
 pub mod NodeTree
 pub mod ProgramText
 pub mod ProgramTree
 pub mod ProgramView
+pub mod Reading
+pub mod Rules
+pub mod Uses
 pub mod Walk

@@ -12,14 +12,18 @@
 
 mod laws;
 mod limits;
+mod listing;
 mod node;
 mod program;
+mod reading;
 mod writing;
 
 pub use laws::one_program;
 pub use limits::{LONGEST_WINDOW, MOST_NODES, MOST_STATES, MOST_WINDOWS};
+pub use listing::Name;
 pub use node::Node;
 pub use program::Program;
+pub use reading::{ProgramError, read_program};
 pub use writing::write_program;
 
 #[cfg(test)]

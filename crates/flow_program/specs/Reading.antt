@@ -1,0 +1,30 @@
+-- What reading a program text gives.
+use Rattle.std.specs.Prelude.{◌≡◌, ℕ, List, Some, None}
+use Rattle.tsl_terms.specs.Name.{Name}
+use Rattle.flow_program.specs.declared.reading.ProgramError.{ProgramError}
+use Rattle.flow_program.specs.declared.reading.ProgramError.TheVariants.{Form, NoMemory}
+use Rattle.flow_program.specs.ProgramTree.{ProgramTree}
+use Rattle.flow_program.specs.ProgramText.{ProgramText}
+use Rattle.flow_program.specs.Listing.{ListingTree, IsListing, FormFault}
+use Rattle.flow_program.specs.Uses.{uses_of, names_of}
+use Rattle.flow_program.specs.Rules.{fault_of}
+
+-- The text spells the program over these names, which are the given ones and then those of the text by first appearance.
+pub record IsReading (text : List ℕ) (given : List Name) (p : ProgramTree) (names : List Name) : Type 0 where
+  pub listing : ListingTree
+  pub is_listing : IsListing text listing
+  pub no_fault : fault_of text given listing ≡ None
+  pub names_are : names ≡ names_of given (uses_of text listing)
+  pub spelled : ProgramText text names p
+
+-- the lines of the text have this fault
+pub record HasRuleFault (text : List ℕ) (given : List Name) (fault : ProgramError) : Type 0 where
+  pub listing : ListingTree
+  pub is_listing : IsListing text listing
+  pub fault_is : fault_of text given listing ≡ Some fault
+
+-- what each refusal says of the text
+abbrev pub HasProgramCause : List ℕ → List Name → ProgramError → Type 0
+HasProgramCause text given (Form line) = FormFault text line
+HasProgramCause text given NoMemory = Unit {0}
+HasProgramCause text given fault = HasRuleFault text given fault

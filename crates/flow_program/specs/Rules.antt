@@ -1,0 +1,130 @@
+-- The rules of program texts, and the first that a text breaks.
+use Rattle.std.specs.Prelude.{ℕ, suc, ◌+◌, Bool, true, false, not, cond, ◌&&◌, ◌||◌, ◌==◌, nat_le, nat_lt, List, [], ◌∷◌, ◌++◌, length, map, find}
+use Rattle.std.specs.Prelude.{Option, Some, None, option_map, position, bytes_eq}
+use Rattle.std.specs.List.{list_all}
+use Rattle.std.specs.Option.{option_or, option_map_or, is_some}
+use Rattle.tsl_terms.specs.Name.{number_of, Name as NameEntry}
+use Rattle.tsl_terms.specs.Clashes.{alike_in_kind, same_arity}
+use Rattle.flow_program.specs.declared.listing.Name.{Name}
+use Rattle.flow_program.specs.declared.reading.ProgramError.{ProgramError}
+use Rattle.flow_program.specs.declared.reading.ProgramError.TheVariants.{Order, Target, Updates, Window, Unknown, Kind, Arity, Windows, Nodes, States}
+use Rattle.flow_program.specs.Fits.{longest}
+use Rattle.flow_program.specs.ProgramText.{most_windows, most_nodes, most_states}
+use Rattle.flow_program.specs.Listing.{ListedLine, WindowLine, NodeLine, branch_line, assignment_line, ListingTree, bytes_of}
+use Rattle.flow_program.specs.Uses.{Use, first_window, first_node, first_state, uses_of, names_of}
+
+-- the first place, counted from this one, at which a test of the place and the member holds
+abbrev pub first_place : {X : Type 0} → (ℕ → X → Bool) → ℕ → List X → Option ℕ
+first_place test place [] = None
+first_place test place (x ∷ xs) = cond (test place x) (Some place) (first_place test (suc place) xs)
+
+-- the number of the first line that breaks a rule, where the first line has this number
+abbrev pub first_line : {X : Type 0} → (ℕ → X → Bool) → ℕ → List X → Option ℕ
+first_line breaks line xs = option_map (λ place. line + place) (first_place breaks 0 xs)
+
+-- a test leads to smaller nodes
+abbrev pub breaks_order : ℕ → NodeLine → Bool
+breaks_order number (branch_line test then_node else_node) = not (nat_lt then_node number && nat_lt else_node number)
+breaks_order number (assignment_line updates go) = false
+
+-- an assignment goes to one of so many states
+abbrev pub goes_nowhere : ℕ → ℕ → NodeLine → Bool
+goes_nowhere states number (branch_line test then_node else_node) = false
+goes_nowhere states number (assignment_line updates go) = not (nat_lt go states)
+
+-- a state begins at one of so many nodes
+abbrev pub is_nowhere : ℕ → ℕ → ℕ → Bool
+is_nowhere nodes number node = not (nat_lt node nodes)
+
+-- an assignment updates these names in their order
+abbrev pub are_texts : List (List ℕ) → List (List ℕ) → Bool
+are_texts [] [] = true
+are_texts (x ∷ xs) (y ∷ ys) = bytes_eq x y && are_texts xs ys
+are_texts [] (y ∷ ys) = false
+are_texts (x ∷ xs) [] = false
+
+abbrev pub breaks_updates : List ℕ → List (List ℕ) → ℕ → NodeLine → Bool
+breaks_updates text controlled number (branch_line test then_node else_node) = false
+breaks_updates text controlled number (assignment_line updates go) =
+    not (are_texts (map (λ u. bytes_of text u.signal) updates) controlled)
+
+-- the place of a text among others
+abbrev pub place_in : List (List ℕ) → List ℕ → Option ℕ
+place_in texts bytes = position (bytes_eq bytes) texts
+
+-- a listed update comes before another: its offset is smaller, or the offsets are one and its cell stands before the other's
+abbrev pub places_rise : Option ℕ → Option ℕ → Bool
+places_rise (Some i) (Some j) = nat_lt i j
+places_rise _ _ = false
+
+module _ (text : List ℕ) (cells : List (List ℕ)) where
+  abbrev pub place_of_cell : ListedLine → Option ℕ
+  place_of_cell u = place_in cells (bytes_of text u.signal)
+
+  abbrev pub stands_before : ListedLine → ListedLine → Bool
+  stands_before u v =
+      nat_lt u.offset v.offset || ((u.offset == v.offset) && places_rise (place_of_cell u) (place_of_cell v))
+
+  abbrev pub listed_rise : List ListedLine → Bool
+  listed_rise [] = true
+  listed_rise (u ∷ []) = true
+  listed_rise (u ∷ v ∷ us) = stands_before u v && listed_rise (v ∷ us)
+
+  -- the updates are of cells, at offsets below the length
+  abbrev pub is_cell_within : ℕ → ListedLine → Bool
+  is_cell_within length u = nat_lt u.offset length && is_some (place_of_cell u)
+
+  abbrev pub breaks_window : ℕ → WindowLine → Bool
+  breaks_window number w =
+      not ((nat_le w.length longest && nat_le w.left_at w.length)
+      && (list_all (is_cell_within w.length) w.updates && listed_rise w.updates))
+
+-- the texts of names that are declared
+abbrev pub cells_of : List ℕ → ListingTree → List (List ℕ)
+cells_of text l = map (bytes_of text) l.cells
+
+abbrev pub readable_of : List ℕ → ListingTree → List (List ℕ)
+readable_of text l = map (bytes_of text) (l.inputs ++ l.cells)
+
+abbrev pub controlled_of : List ℕ → ListingTree → List (List ℕ)
+controlled_of text l = map (bytes_of text) (l.cells ++ l.outputs)
+
+-- a signal of a term or a test is none of these
+abbrev pub is_unknown : List (List ℕ) → Use → Bool
+is_unknown readable u = u.is_read && not (is_some (place_in readable u.name.text))
+
+-- the name of the same text, which is as it was used first, is not like this use
+abbrev pub is_unlike : (NameEntry → NameEntry → Bool) → List NameEntry → Use → Bool
+is_unlike alike names u = option_map_or (λ n. not (alike n u.name)) (find (λ n. bytes_eq u.name.text n.text) names) false
+
+abbrev pub at_line : (ℕ → ProgramError) → Option ℕ → Option ProgramError
+at_line fault line = option_map fault line
+
+abbrev pub at_use : (ℕ → Name → ProgramError) → Option Use → Option ProgramError
+at_use fault usage = option_map (λ u. fault u.line u.place) usage
+
+abbrev pub over : ProgramError → ℕ → ℕ → Option ProgramError
+over fault most count = cond (nat_lt most count) (Some fault) None
+
+-- the first of faults that is there
+abbrev pub first_there : List (Option ProgramError) → Option ProgramError
+first_there [] = None
+first_there (f ∷ fs) = option_or f (first_there fs)
+
+-- The fault of a text with these lines, after these names, if any. Each rule goes over the whole text before the next.
+abbrev pub fault_of : List ℕ → List NameEntry → ListingTree → Option ProgramError
+fault_of text given l =
+    let names = names_of given (uses_of text l) in
+    first_there (
+    at_line Order (first_line breaks_order (first_node l) l.nodes)
+    ∷ at_line Target (first_line (goes_nowhere (length l.states)) (first_node l) l.nodes)
+    ∷ at_line Target (first_line (is_nowhere (length l.nodes)) (first_state l) l.states)
+    ∷ at_line Updates (first_line (breaks_updates text (controlled_of text l)) (first_node l) l.nodes)
+    ∷ at_line Window (first_line (breaks_window text (cells_of text l)) (first_window l) l.windows)
+    ∷ at_use Unknown (find (is_unknown (readable_of text l)) (uses_of text l))
+    ∷ at_use Kind (find (is_unlike alike_in_kind names) (uses_of text l))
+    ∷ at_use Arity (find (is_unlike same_arity names) (uses_of text l))
+    ∷ over Windows most_windows (length l.windows)
+    ∷ over Nodes most_nodes (length l.nodes)
+    ∷ over States most_states (length l.states)
+    ∷ [])

@@ -1,0 +1,117 @@
+//! A program text as it is spelled: names are places in the text, and nothing but the form is asked.
+
+use std::alloc::Global;
+
+/// Where a name stands in a text.
+#[derive(Clone, Copy, Debug, PartialEq, Eq)]
+pub struct Name {
+    /// The offset of its first byte.
+    pub start: u32,
+    /// The offset after its last byte.
+    pub end: u32,
+}
+
+/// A term or a test: a name alone, or a name with its arguments, which may be none.
+#[cycle(phrases)]
+#[derive(Debug, Drop)]
+pub(crate) enum Phrase {
+    /// A name alone.
+    Bare(Name),
+    /// A name and its arguments.
+    Applied(Name, PhraseList),
+}
+
+/// A list of phrases, in order.
+#[cycle(phrases)]
+#[derive(Debug)]
+pub(crate) enum PhraseList {
+    /// No phrase.
+    Empty,
+    /// A first phrase and those after it.
+    More(Box<Phrase>, Box<PhraseList>),
+}
+
+impl Drop for PhraseList {
+    #[cycle(phrases)]
+    fn drop(mut self) {
+        loop {
+            match self {
+                PhraseList::Empty => return,
+                PhraseList::More(_, rest) => self = Box::into_inner(rest),
+            }
+        }
+    }
+}
+
+/// An update of an assignment.
+#[derive(Debug, Drop)]
+pub(crate) struct SpelledUpdate {
+    /// What is updated.
+    pub(crate) signal: Name,
+    /// The term that it takes.
+    pub(crate) term: Phrase,
+}
+
+/// An update that a window lists.
+#[derive(Debug, Drop)]
+pub(crate) struct SpelledListed {
+    /// What is updated.
+    pub(crate) signal: Name,
+    /// The term that it takes.
+    pub(crate) term: Phrase,
+    /// At which step.
+    pub(crate) offset: u64,
+}
+
+/// The line of a window.
+#[derive(Debug, Drop)]
+pub(crate) struct SpelledWindow {
+    /// The left test.
+    pub(crate) left: Phrase,
+    /// The left test's step.
+    pub(crate) left_at: u64,
+    /// The right test.
+    pub(crate) right: Phrase,
+    /// The right test's step.
+    pub(crate) length: u64,
+    /// The listed updates.
+    pub(crate) updates: Vec<SpelledListed>,
+}
+
+/// The line of a node, without its number.
+#[derive(Debug, Drop)]
+pub(crate) enum SpelledNode {
+    /// `if TEST then A else B`
+    Branch {
+        /// The test.
+        test: Phrase,
+        /// A.
+        then_node: u64,
+        /// B.
+        else_node: u64,
+    },
+    /// `set`, updates, and `go S`
+    Assignment {
+        /// The updates.
+        updates: Vec<SpelledUpdate>,
+        /// S.
+        go: u64,
+    },
+}
+
+/// The lines of a program text, each kind in its order.
+#[derive(Debug, Drop)]
+pub(crate) struct Listing {
+    /// The names of the inputs.
+    pub(crate) inputs: Vec<Name>,
+    /// The names of the cells.
+    pub(crate) cells: Vec<Name>,
+    /// The names of the outputs.
+    pub(crate) outputs: Vec<Name>,
+    /// The lines of windows.
+    pub(crate) windows: Vec<SpelledWindow>,
+    /// The lines of nodes.
+    pub(crate) nodes: Vec<SpelledNode>,
+    /// The node of each state.
+    pub(crate) states: Vec<u64>,
+}

