@@ -1,0 +1,46 @@
+-- What a text derives by a grammar of tokens, and where it stops to be one of the grammar.
+use Rattle.std.specs.Prelude.{◌≡◌, ℕ, List, [], ◌∷◌, ◌++◌, length, ◌⊎◌}
+use Rattle.tsl_text.specs.declared.Token.{Token}
+use Rattle.tsl_text.specs.Division.{AreTokens}
+use Rattle.table_interp.specs.Syntax.{Terminal, terminals}
+
+module _ {V : Type 0} (Is : List Terminal → V → Type 0) where
+  -- the text has tokens that derive this
+  pub record IsRead (text : List ℕ) (given : V) : Type 0 where
+    pub tokens : List Token
+    pub tokens_are : AreTokens text tokens
+    pub derived : Is (terminals text tokens) given
+
+  -- some text of the grammar begins with these terminals
+  abbrev pub SomeTextBegins : List Terminal → Type 0
+  SomeTextBegins front = (rest : List Terminal) × (given : V) × Is (front ++ rest) given
+
+  -- no text of the grammar begins with these terminals
+  abbrev pub NoTextBegins : List Terminal → Type 0
+  NoTextBegins front = (rest : List Terminal) (given : V) → Is (front ++ rest) given → ⊥
+
+  -- the terminals are no text of the grammar
+  abbrev pub IsNoText : List Terminal → Type 0
+  IsNoText xs = (given : V) → Is xs given → ⊥
+
+  -- A token begins at this offset. Some text begins with the tokens before it, and none with those up to and with it.
+  pub record HasWrongToken (text : List ℕ) (at : ℕ) : Type 0 where
+    pub before : List Token
+    pub token : Token
+    pub after : List Token
+    pub tokens_are : AreTokens text (before ++ token ∷ after)
+    pub place : at ≡ token.start
+    pub begins : SomeTextBegins (terminals text before)
+    pub stops : NoTextBegins (terminals text (before ++ token ∷ []))
+
+  -- The text ends at this offset. Some text begins with its tokens, and they are none.
+  pub record EndsTooEarly (text : List ℕ) (at : ℕ) : Type 0 where
+    pub tokens : List Token
+    pub tokens_are : AreTokens text tokens
+    pub place : at ≡ length text
+    pub begins : SomeTextBegins (terminals text tokens)
+    pub no_text : IsNoText (terminals text tokens)
+
+  -- the first token, or the end, at which the text stops to be one of the grammar
+  abbrev pub HasFormFault : List ℕ → ℕ → Type 0
+  HasFormFault text at = HasWrongToken text at ⊎ EndsTooEarly text at

@@ -1,0 +1,170 @@
+-- Which rows of inputs a text spells, and the cause of each refusal. A refusal has the first of these causes that the
+-- text has: each speaks of texts that have none of those before it.
+use Rattle.std.specs.Prelude.{◌≡◌, ℕ, ◌==◌, ◌<◌, ◌≤◌, Bool, not, List, ◌++◌, length, map, nat_lt}
+use Rattle.std.specs.Prelude.{Option, Some, None, slice_get, position}
+use Rattle.std.specs.List.{find, list_any}
+use Rattle.sequence.specs.Numbers.{is_among}
+use Rattle.sequence.specs.Options.{all_there, passes}
+use Rattle.tsl_text.specs.Division.{HasBadByte, HasOpenComment}
+use Rattle.tsl_terms.specs.Name.{Name}
+use Rattle.tsl_terms.specs.Value.{beside}
+use Rattle.tsl_meaning.specs.Interpretation.{InputRows}
+use Rattle.table_interp.specs.declared.TheConstants.{MOST_ROWS}
+use Rattle.table_interp.specs.declared.InputError.{InputError}
+use Rattle.table_interp.specs.declared.InputError.TheVariants.{
+  Byte,
+  OpenComment,
+  Form,
+  Unknown,
+  Twice,
+  Missing,
+  Rows,
+  Count,
+  Range,
+  NoMemory,
+}
+use Rattle.table_interp.specs.Syntax.{Terminal, InputsSyntax}
+use Rattle.table_interp.specs.Grammar.{IsInputs}
+use Rattle.table_interp.specs.Forms.{IsRead, HasFormFault}
+use Rattle.table_interp.specs.Needed.{number_for, is_for, IsFirstRepeat, HasNoRepeat}
+
+-- ---- what columns and rows give
+
+-- whether a column is for an input
+abbrev pub is_input_name : List Name → List ℕ → Terminal → Bool
+is_input_name names inputs x = passes (is_among inputs) (number_for names x)
+
+abbrev pub has_no_column : List Name → InputsSyntax → ℕ → Bool
+has_no_column names given id = not (list_any (is_for names id) given.names)
+
+-- the rows of the stem, and then those of the cycle
+abbrev pub all_rows : InputsSyntax → List (List ℕ)
+all_rows given = given.stem ++ given.cycle
+
+-- whether a row has not one number for each input
+abbrev pub has_other_width : List ℕ → List ℕ → Bool
+has_other_width inputs row = not (length row == length inputs)
+
+-- whether a number is no value
+abbrev pub is_no_value : ℕ → ℕ → Bool
+is_no_value domain n = not (nat_lt n domain)
+
+-- ---- how far a text is one of inputs
+
+module _ (text : List ℕ) (names : List Name) (inputs : List ℕ) (given : InputsSyntax) where
+  -- the text is of the form of inputs, and each column is for an input
+  pub record AreKnown : Type 0 where
+    pub read : IsRead IsInputs text given
+    pub known : find (λ x. not (is_input_name names inputs x)) given.names ≡ None
+
+  -- and no two for the same one
+  pub record AreOnce : Type 0 where
+    pub so_far : AreKnown
+    pub once : HasNoRepeat (map (number_for names) given.names)
+
+  -- and each input has a column
+  pub record AreWhole : Type 0 where
+    pub so_far : AreOnce
+    pub whole : find (has_no_column names given) inputs ≡ None
+
+  -- and there are not too many rows
+  pub record HasFewRows : Type 0 where
+    pub so_far : AreWhole
+    pub few_rows : length (all_rows given) ≤ MOST_ROWS
+
+  -- and each has a number for each input
+  pub record AreCounted : Type 0 where
+    pub so_far : HasFewRows
+    pub counted : find (has_other_width inputs) (all_rows given) ≡ None
+
+  -- and each number is a value
+  pub record AreInRange (domain : ℕ) : Type 0 where
+    pub so_far : AreCounted
+    pub in_range : find (list_any (is_no_value domain)) (all_rows given) ≡ None
+
+-- ---- the rows
+
+-- a row in the order of the inputs, where the columns are for the signals with these numbers
+abbrev pub in_order : List ℕ → List ℕ → List ℕ → Option (List ℕ)
+in_order columns inputs row = all_there (map (λ s. beside s columns row) inputs)
+
+-- the text spells the rows: those of its stem and of its cycle, each in the order of the inputs
+pub record SpellsInputs (text : List ℕ) (names : List Name) (inputs : List ℕ) (domain : ℕ) (rows : InputRows ℕ) : Type 0 where
+  pub given : InputsSyntax
+  pub in_range : AreInRange text names inputs given domain
+  pub columns : List ℕ
+  pub columns_are : map (number_for names) given.names ≡ map (λ s. Some s) columns
+  pub stem : all_there (map (in_order columns inputs) given.stem) ≡ Some rows.stem
+  pub cycle : all_there (map (in_order columns inputs) given.cycle) ≡ Some rows.cycle
+
+-- the text spells no rows
+abbrev pub SpellsNoInputs : List ℕ → List Name → List ℕ → ℕ → Type 0
+SpellsNoInputs text names inputs domain = (rows : InputRows ℕ) → SpellsInputs text names inputs domain rows → ⊥
+
+-- ---- the causes of refusals
+
+module _ (text : List ℕ) (names : List Name) (inputs : List ℕ) where
+  -- the first column that is not for an input has its name between these offsets
+  pub record HasUnknownColumn (start end : ℕ) : Type 0 where
+    pub given : InputsSyntax
+    pub read : IsRead IsInputs text given
+    pub column : Terminal
+    pub first : find (λ x. not (is_input_name names inputs x)) given.names ≡ Some column
+    pub starts : start ≡ column.token.start
+    pub ends : end ≡ column.token.end
+
+  -- the first column for an input that has an earlier one has its name between these offsets
+  pub record HasSecondColumn (start end : ℕ) : Type 0 where
+    pub given : InputsSyntax
+    pub so_far : AreKnown text names inputs given
+    pub at : ℕ
+    pub first : IsFirstRepeat (map (number_for names) given.names) at
+    pub column : Terminal
+    pub there : slice_get given.names at ≡ Some column
+    pub starts : start ≡ column.token.start
+    pub ends : end ≡ column.token.end
+
+  -- the first input without a column
+  pub record HasMissingColumn (id : ℕ) : Type 0 where
+    pub given : InputsSyntax
+    pub so_far : AreOnce text names inputs given
+    pub first : find (has_no_column names given) inputs ≡ Some id
+
+  -- there are too many rows
+  pub record HasManyRows : Type 0 where
+    pub given : InputsSyntax
+    pub so_far : AreWhole text names inputs given
+    pub many_rows : MOST_ROWS < length (all_rows given)
+
+  -- the first row that has not one number for each input
+  pub record HasOtherWidth (row : ℕ) : Type 0 where
+    pub given : InputsSyntax
+    pub so_far : HasFewRows text names inputs given
+    pub first : position (has_other_width inputs) (all_rows given) ≡ Some row
+
+  -- the first row with a number that is no value, and the first such number of it
+  pub record HasNoValue (domain row value : ℕ) : Type 0 where
+    pub given : InputsSyntax
+    pub so_far : AreCounted text names inputs given
+    pub first : position (list_any (is_no_value domain)) (all_rows given) ≡ Some row
+    pub numbers : List ℕ
+    pub there : slice_get (all_rows given) row ≡ Some numbers
+    pub number : find (is_no_value domain) numbers ≡ Some value
+
+-- what each refusal says of the text
+abbrev pub HasInputCause : List ℕ → List Name → List ℕ → ℕ → InputError → Type 0
+HasInputCause text names inputs domain (Byte at) = HasBadByte text at
+HasInputCause text names inputs domain (OpenComment at) = HasOpenComment text at
+HasInputCause text names inputs domain (Form at) = HasFormFault IsInputs text at
+HasInputCause text names inputs domain (Unknown start end) = HasUnknownColumn text names inputs start end
+HasInputCause text names inputs domain (Twice start end) = HasSecondColumn text names inputs start end
+HasInputCause text names inputs domain (Missing id) = HasMissingColumn text names inputs id
+HasInputCause text names inputs domain Rows = HasManyRows text names inputs
+HasInputCause text names inputs domain (Count row) = HasOtherWidth text names inputs row
+HasInputCause text names inputs domain (Range row value) = HasNoValue text names inputs domain row value
+HasInputCause text names inputs domain NoMemory = Unit {0}
+
+-- where the refusal does not say that memory ran out, the text spells no rows
+abbrev pub IsRefusedAsInputs : List ℕ → List Name → List ℕ → ℕ → InputError → Type 0
+IsRefusedAsInputs text names inputs domain NoMemory = Unit {0}
+IsRefusedAsInputs text names inputs domain _ = SpellsNoInputs text names inputs domain

@@ -1,0 +1,70 @@
+-- What texts of tables and of inputs are made of.
+use Rattle.std.specs.Prelude.{ℕ, Bool, true, false, ◌&&◌, ◌||◌, List, map, codes, Option, None, if◌then◌else◌}
+use Rattle.std.specs.Str.{bytes_eq}
+use Rattle.tsl_text.specs.declared.Token.{Token}
+use Rattle.tsl_text.specs.declared.TokenKind.{TokenKind}
+use Rattle.tsl_text.specs.declared.TokenKind.TheVariants.{Name, Number, Question}
+use Rattle.tsl_text.specs.Lexeme.{token_text}
+use Rattle.tsl_text.specs.Numbers.{number_in}
+use Rattle.tsl_terms.specs.declared.names.NameKind.{NameKind}
+
+-- A terminal of the grammars: a token with its bytes.
+pub record Terminal : Type 0 where
+  pub token : Token
+  pub text : List ℕ
+
+abbrev pub terminal_at : List ℕ → Token → Terminal
+terminal_at text token = record { token = token; text = token_text text token }
+
+-- the terminals of a text with these tokens
+abbrev pub terminals : List ℕ → List Token → List Terminal
+terminals text tokens = map (terminal_at text) tokens
+
+abbrev pub is_name_kind : TokenKind → Bool
+is_name_kind Name = true
+is_name_kind _ = false
+
+abbrev pub is_number_kind : TokenKind → Bool
+is_number_kind Number = true
+is_number_kind _ = false
+
+abbrev pub is_question_kind : TokenKind → Bool
+is_question_kind Question = true
+is_question_kind _ = false
+
+-- a name; every word may be one
+abbrev pub is_name : Terminal → Bool
+is_name x = is_name_kind x.token.kind
+
+-- what the entry of a function or a predicate may be for: a name, or `?`
+abbrev pub is_symbol : Terminal → Bool
+is_symbol x = is_name_kind x.token.kind || is_question_kind x.token.kind
+
+-- the name with these bytes
+abbrev pub is_word : List ℕ → Terminal → Bool
+is_word word x = is_name x && bytes_eq x.text word
+
+-- the number with these digits
+abbrev pub is_literal : List ℕ → Terminal → Bool
+is_literal digits x = is_number_kind x.token.kind && bytes_eq x.text digits
+
+-- what a number means: at most 18 digits, with leading zeros or without
+abbrev pub number_at : Terminal → Option ℕ
+number_at x = if is_number_kind x.token.kind then number_in x.text else None
+
+-- An entry: for a function, a predicate or, as a signal, a cell; the name; and the numbers after it.
+pub record Entry : Type 0 where
+  pub kind : NameKind
+  pub name : Terminal
+  pub numbers : List ℕ
+
+-- a text of tables
+pub record TablesSyntax : Type 0 where
+  pub domain : ℕ
+  pub entries : List Entry
+
+-- a text of inputs: the names of the columns, and the rows of the stem and of the cycle
+pub record InputsSyntax : Type 0 where
+  pub names : List Terminal
+  pub stem : List (List ℕ)
+  pub cycle : List (List ℕ)

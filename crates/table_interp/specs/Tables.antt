@@ -1,0 +1,195 @@
+-- Which interpretation a text of tables spells, and the cause of each refusal. A refusal has the first of these causes
+-- that the text has: each speaks of texts that have none of those before it.
+use Rattle.std.specs.Prelude.{◌≡◌, ℕ, ◌==◌, ◌<◌, ◌≤◌, ◌^◌, Bool, true, false, not, List, [], ◌∷◌, length, map, is_some, nat_lt}
+use Rattle.std.specs.Prelude.{Option, Some, None, option_map, option_and_then, slice_get, if◌then◌else◌}
+use Rattle.std.specs.List.{find}
+use Rattle.sequence.specs.Numbers.{numbers_from}
+use Rattle.sequence.specs.Options.{all_there, passes}
+use Rattle.tsl_text.specs.Division.{HasBadByte, HasOpenComment}
+use Rattle.tsl_terms.specs.declared.names.NameKind.{NameKind}
+use Rattle.tsl_terms.specs.declared.names.NameKind.TheVariants.{Predicate}
+use Rattle.tsl_terms.specs.Name.{Name}
+use Rattle.tsl_meaning.specs.Interpretation.{Interpretation}
+use Rattle.table_interp.specs.declared.TheConstants.{MOST_VALUES, MOST_ENTRIES}
+use Rattle.table_interp.specs.declared.TableError.{TableError}
+use Rattle.table_interp.specs.declared.TableError.TheVariants.{
+  Byte,
+  OpenComment,
+  Form,
+  Domain,
+  Unknown,
+  Twice,
+  Missing,
+  Entries,
+  Count,
+  Range,
+  NoMemory,
+}
+use Rattle.table_interp.specs.Syntax.{Entry, TablesSyntax}
+use Rattle.table_interp.specs.Grammar.{IsTables}
+use Rattle.table_interp.specs.Forms.{IsRead, HasFormFault}
+use Rattle.table_interp.specs.Needed.{is_symbol_number, needed, is_needed_as, number_for, is_for, IsFirstRepeat, HasNoRepeat}
+
+-- ---- what entries give
+
+-- whether tables need the name of an entry in its kind
+abbrev pub is_known : List Name → List ℕ → Entry → Bool
+is_known names cells e = passes (is_needed_as names cells e.kind) (number_for names e.name)
+
+-- the numbers that are given for a name
+abbrev pub numbers_for : List Name → List Entry → ℕ → Option (List ℕ)
+numbers_for names entries id = option_map (λ e. e.numbers) (find (λ e. is_for names id e.name) entries)
+
+abbrev pub has_no_entry : List Name → TablesSyntax → ℕ → Bool
+has_no_entry names given id = not (is_some (numbers_for names given.entries id))
+
+-- how many numbers a name needs: one for each list of arguments, and so one for a cell
+abbrev pub size_of : List Name → ℕ → ℕ → Option ℕ
+size_of names domain id = option_map (λ n. domain ^ n.arity) (slice_get names id)
+
+abbrev pub has_many_entries : List Name → TablesSyntax → ℕ → Bool
+has_many_entries names given id = passes (λ size. nat_lt MOST_ENTRIES size) (size_of names given.domain id)
+
+abbrev pub has_other_length : List Name → TablesSyntax → ℕ → Bool
+has_other_length names given id =
+    passes (λ ns. passes (λ size. not (length ns == size)) (size_of names given.domain id)) (numbers_for names given.entries id)
+
+-- the numbers that may be given for a name lie below this: truths are 0 and 1, and values lie below the domain
+abbrev pub limit_of : ℕ → NameKind → ℕ
+limit_of domain Predicate = 2
+limit_of domain _ = domain
+
+-- the first number of a name that is too large
+abbrev pub too_large : List Name → TablesSyntax → ℕ → Option ℕ
+too_large names given id =
+    option_and_then (λ n. option_and_then (find (λ v. not (nat_lt v (limit_of given.domain n.kind)))) (numbers_for names given.entries id))
+    (slice_get names id)
+
+-- ---- how far a text is one of tables
+
+-- the text is of the form of tables, and does not have too many values
+pub record HasFewValues (text : List ℕ) (given : TablesSyntax) : Type 0 where
+  pub read : IsRead IsTables text given
+  pub few_values : given.domain ≤ MOST_VALUES
+
+module _ (text : List ℕ) (names : List Name) (cells : List ℕ) (given : TablesSyntax) where
+  -- and each entry is for a needed name, in its kind
+  pub record IsKnown : Type 0 where
+    pub so_far : HasFewValues text given
+    pub known : find (λ e. not (is_known names cells e)) given.entries ≡ None
+
+  -- and no two for the same one
+  pub record IsOnce : Type 0 where
+    pub so_far : IsKnown
+    pub once : HasNoRepeat (map (λ e. number_for names e.name) given.entries)
+
+  -- and each needed name has an entry
+  pub record IsWhole : Type 0 where
+    pub so_far : IsOnce
+    pub whole : find (has_no_entry names given) (needed names cells) ≡ None
+
+  -- and none needs too many numbers
+  pub record HasFewEntries : Type 0 where
+    pub so_far : IsWhole
+    pub few_entries : find (has_many_entries names given) (needed names cells) ≡ None
+
+  -- and each has as many as it needs
+  pub record IsCounted : Type 0 where
+    pub so_far : HasFewEntries
+    pub counted : find (has_other_length names given) (needed names cells) ≡ None
+
+  -- and none is too large
+  pub record IsInRange : Type 0 where
+    pub so_far : IsCounted
+    pub in_range : find (λ id. is_some (too_large names given id)) (needed names cells) ≡ None
+
+-- ---- the interpretation
+
+-- the table of a function or a predicate; a signal has an empty one
+abbrev pub table_of : List Name → List Entry → ℕ → Option (List ℕ)
+table_of names entries id = if is_symbol_number names id then numbers_for names entries id else Some []
+
+-- The text spells the interpretation: it has the text's domain, the numbers given for each function and predicate as
+-- its table, and the number given for each cell as its value at first.
+pub record SpellsTables (text : List ℕ) (names : List Name) (cells : List ℕ) (interpretation : Interpretation) : Type 0 where
+  pub entries : List Entry
+  pub given : IsInRange text names cells (record { domain = interpretation.domain; entries = entries })
+  pub tables : all_there (map (table_of names entries) (numbers_from 0 (length names))) ≡ Some interpretation.tables
+  pub initial : all_there (map (numbers_for names entries) cells) ≡ Some (map (λ v. v ∷ []) interpretation.initial)
+
+-- the text spells no interpretation
+abbrev pub SpellsNoTables : List ℕ → List Name → List ℕ → Type 0
+SpellsNoTables text names cells = (interpretation : Interpretation) → SpellsTables text names cells interpretation → ⊥
+
+-- ---- the causes of refusals
+
+-- the domain has too many values
+pub record HasManyValues (text : List ℕ) : Type 0 where
+  pub given : TablesSyntax
+  pub read : IsRead IsTables text given
+  pub many_values : MOST_VALUES < given.domain
+
+module _ (text : List ℕ) (names : List Name) (cells : List ℕ) where
+  -- the first entry that is not for a needed name in its kind has its name between these offsets
+  pub record HasUnknownEntry (start end : ℕ) : Type 0 where
+    pub given : TablesSyntax
+    pub so_far : HasFewValues text given
+    pub entry : Entry
+    pub first : find (λ e. not (is_known names cells e)) given.entries ≡ Some entry
+    pub starts : start ≡ entry.name.token.start
+    pub ends : end ≡ entry.name.token.end
+
+  -- the first entry for a name that has an earlier one has its name between these offsets
+  pub record HasSecondEntry (start end : ℕ) : Type 0 where
+    pub given : TablesSyntax
+    pub so_far : IsKnown text names cells given
+    pub at : ℕ
+    pub first : IsFirstRepeat (map (λ e. number_for names e.name) given.entries) at
+    pub entry : Entry
+    pub there : slice_get given.entries at ≡ Some entry
+    pub starts : start ≡ entry.name.token.start
+    pub ends : end ≡ entry.name.token.end
+
+  -- the first needed name without an entry
+  pub record HasMissingEntry (id : ℕ) : Type 0 where
+    pub given : TablesSyntax
+    pub so_far : IsOnce text names cells given
+    pub first : find (has_no_entry names given) (needed names cells) ≡ Some id
+
+  -- the first needed name that needs too many numbers
+  pub record HasManyEntries (id : ℕ) : Type 0 where
+    pub given : TablesSyntax
+    pub so_far : IsWhole text names cells given
+    pub first : find (has_many_entries names given) (needed names cells) ≡ Some id
+
+  -- the first needed name that has not as many numbers as it needs
+  pub record HasOtherLength (id : ℕ) : Type 0 where
+    pub given : TablesSyntax
+    pub so_far : HasFewEntries text names cells given
+    pub first : find (has_other_length names given) (needed names cells) ≡ Some id
+
+  -- the first needed name with a number that is too large, and the first such number
+  pub record HasLargeNumber (id value : ℕ) : Type 0 where
+    pub given : TablesSyntax
+    pub so_far : IsCounted text names cells given
+    pub first : find (λ i. is_some (too_large names given i)) (needed names cells) ≡ Some id
+    pub number : too_large names given id ≡ Some value
+
+-- what each refusal says of the text
+abbrev pub HasTableCause : List ℕ → List Name → List ℕ → TableError → Type 0
+HasTableCause text names cells (Byte at) = HasBadByte text at
+HasTableCause text names cells (OpenComment at) = HasOpenComment text at
+HasTableCause text names cells (Form at) = HasFormFault IsTables text at
+HasTableCause text names cells Domain = HasManyValues text
+HasTableCause text names cells (Unknown start end) = HasUnknownEntry text names cells start end
+HasTableCause text names cells (Twice start end) = HasSecondEntry text names cells start end
+HasTableCause text names cells (Missing id) = HasMissingEntry text names cells id
+HasTableCause text names cells (Entries id) = HasManyEntries text names cells id
+HasTableCause text names cells (Count id) = HasOtherLength text names cells id
+HasTableCause text names cells (Range id value) = HasLargeNumber text names cells id value
+HasTableCause text names cells NoMemory = Unit {0}
+
+-- where the refusal does not say that memory ran out, the text spells no interpretation
+abbrev pub IsRefusedAsTables : List ℕ → List Name → List ℕ → TableError → Type 0
+IsRefusedAsTables text names cells NoMemory = Unit {0}
+IsRefusedAsTables text names cells _ = SpellsNoTables text names cells

@@ -1,0 +1,1 @@
+-- Internal: only private functions of this crate use these words.
