@@ -1,12 +1,14 @@
-//! Copies of terms, probes and formulas.
+//! Copies of terms, probes, formulas and windows.
 
 ghost use Rattle.std.specs.Prelude.{◌≡◌, map, IfOk};
 ghost use Rattle.tsl_terms.specs.TermTree.{term_tree, term_trees, probe_tree};
 ghost use Rattle.tsl_terms.specs.FormulaTree.{formula_tree, member_trees};
+ghost use Rattle.tsl_terms.specs.WindowTree.{listed_tree, window_tree};
 
 use crate::formula::{Formula, FormulaList};
 use crate::term::{Probe, Term, TermList};
-use sequence::NoMemory;
+use crate::window::{Listed, Window};
+use sequence::{NoMemory, Sequence};
 use std::alloc::Global;
 
 /// An equal term. An `Err` says that memory ran out.
@@ -113,6 +115,35 @@ pub(crate) fn copy_members(alloc: Global, formulas: &FormulaList) -> Result<Vec<
     while let FormulaList::More(formula, next) = rest {
         copies.push(copy_formula(alloc, formula)?)?;
         rest = next;
+    }
+    Ok(copies)
+}
+
+/// An equal window. An `Err` says that memory ran out.
+pub fn copy_window(alloc: Global, window: &Window) -> Result<Window, NoMemory>
+    ensures { IfOk result (λ copy. window_tree copy ≡ window_tree window.now) }
+{
+    let updates = copy_updates(alloc, window.updates.as_slice())?;
+    Ok(Window {
+        left: copy_probe(alloc, &window.left)?,
+        left_at: window.left_at,
+        right: copy_probe(alloc, &window.right)?,
+        length: window.length,
+        updates: Sequence::from_vec(updates),
+    })
+}
+
+/// Copies of the updates that a window lists, in order.
+fn copy_updates(alloc: Global, updates: &[Listed]) -> Result<Vec<Listed>, NoMemory>
+    ensures { IfOk result (λ copies. map listed_tree copies.items ≡ map listed_tree updates.now) }
+{
+    let mut copies = Vec::new(alloc);
+    for update in updates {
+        copies.push(Listed {
+            signal: update.signal,
+            term: copy_term(alloc, &update.term)?,
+            offset: update.offset,
+        })?;
     }
     Ok(copies)
 }

@@ -41,7 +41,7 @@ fn under_assumptions(
 }
 
 /// The conjunction of formulas.
-fn conjunction(alloc: Global, mut formulas: Vec<Formula>) -> Result<Formula, NoMemory>
+pub(crate) fn conjunction(alloc: Global, mut formulas: Vec<Formula>) -> Result<Formula, NoMemory>
     ensures { IfOk result
         (λ formula. formula_tree formula ≡ conjunction_of (map formula_tree formulas.items)) }
 {

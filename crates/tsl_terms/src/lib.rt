@@ -9,14 +9,16 @@
 //! - `Names` keeps names by first appearance: each call gives its part of the list of names.
 //! - `first_uses` gives the names of a list of uses, each as it is used first, and `first_clash` the first
 //!   use that is not like the first use of its name.
-//! - `copy_term`, `copy_probe` and `copy_formula` give a value of the same tree, and `same_term` and
-//!   `same_probe` say whether two trees are equal; that the test of trees is equality is a law.
+//! - `copy_term`, `copy_probe`, `copy_formula` and `copy_window` give a value of the same tree, and
+//!   `same_term` and `same_probe` say whether two trees are equal; that the test of trees is equality is
+//!   a law.
 //! - `first_uses` gives the names of uses in their order, and `first_clash` the first use that is not like
 //!   the first use of its name.
 //! - `atoms` gives what a formula tests and updates, from the left, and `atoms_of_spec` that of a whole
 //!   formula. What a formula reads, updates and is made of are folds of this list.
 //! - `whole` gives the formula that a specification stands for, `signals` its inputs, cells and outputs,
 //!   `choices` the terms that a signal may take, and `predicates` the probes, each exactly as defined.
+//! - `window_formula` gives the formula that holds in a run exactly where a window does.
 //! - `node_count` counts nodes, and stops at the largest number; `whole_node_count` counts those of the
 //!   whole formula and makes no formula.
 //!
@@ -46,11 +48,12 @@ mod signal_lists;
 mod spec;
 mod term;
 mod window;
+mod window_formulas;
 
 pub use atom::{AtomRef, atoms, atoms_of_spec};
 pub use choosing::choices;
 pub use clash::{NameUse, Quality, first_clash, first_uses};
-pub use copy::{copy_formula, copy_probe, copy_term};
+pub use copy::{copy_formula, copy_probe, copy_term, copy_window};
 pub use counting::{node_count, whole_node_count};
 pub use formula::{Formula, FormulaList};
 pub use gathering::predicates;
@@ -63,6 +66,7 @@ pub use signal_lists::{SignalLists, signals};
 pub use spec::Spec;
 pub use term::{DEEPEST_BRACKETS, Probe, Term, TermList};
 pub use window::{Listed, Window};
+pub use window_formulas::window_formula;
 
 #[cfg(test)]
 mod tests;

@@ -4,9 +4,11 @@ ghost use Rattle.tsl_terms.specs.FormulaTree.{atom, update, no_formulas, more_fo
 ghost use Rattle.tsl_terms.specs.WellFormed.{formulas_fit};
 
 use crate::{
-    Formula, FormulaList, NameKind, Names, Probe, Spec, Term, TermList, choices, copy_formula,
-    copy_term, node_count, predicates, same_term, signals, whole,
+    Formula, FormulaList, Listed, NameKind, Names, Probe, Spec, Term, TermList, Window, choices,
+    copy_formula, copy_term, copy_window, node_count, predicates, same_term, signals, whole,
+    window_formula,
 };
+use sequence::Sequence;
 use std::alloc::{AllocError, Global};
 use std::test::Fail;
 
@@ -195,5 +197,55 @@ fn a_cell_that_no_update_gives_itself_is_its_own_last_choice(rt: HostRuntime) ->
 fn the_whole_formula_is_made(rt: HostRuntime) -> Result<(), Fail> {
     let spec = example(rt.alloc())?;
     assert_eq!(rt; node_count(&whole(rt.alloc(), &spec)?), 10);
+    Ok(())
+}
+
+/// `p 1` at step 1 and `p 0` at step 2, where `[0 <- 3]` holds at step 0 and `[1 <- 4]` at step 1.
+fn example_window(alloc: Global) -> Result<Window, AllocError> {
+    let updates = vec![in alloc;
+        Listed {
+            signal: 0,
+            term: Term::Signal(3),
+            offset: 0
+        },
+        Listed {
+            signal: 1,
+            term: Term::Signal(4),
+            offset: 1
+        },
+    ]?;
+    Ok(Window {
+        left: probe_of(alloc, 1)?,
+        left_at: 1,
+        right: probe_of(alloc, 0)?,
+        length: 2,
+        updates: Sequence::from_vec(updates),
+    })
+}
+
+#[test]
+fn a_window_stands_for_its_formula(rt: HostRuntime) -> Result<(), Fail> {
+    let alloc = rt.alloc();
+    let formula = window_formula(alloc, &example_window(alloc)?)?;
+    assert_eq!(rt;
+        format!(in alloc; "{formula:?}")?.as_str(),
+        "Globally(Implies(\
+        All(More(Update(0, Signal(3)), More(Next(Update(1, Signal(4))), Empty))), Iff(\
+        Next(Test(Probe { predicate: 2, arguments: More(Signal(1), Empty) })), \
+        Next(Next(Test(Probe { predicate: 2, arguments: More(Signal(0), Empty) }))))))"
+    );
+    Ok(())
+}
+
+#[test]
+fn a_window_is_copied(rt: HostRuntime) -> Result<(), Fail> {
+    let alloc = rt.alloc();
+    let window = example_window(alloc)?;
+    let copy = copy_window(alloc, &window)?;
+    let texts = (
+        format!(in alloc; "{window:?}")?,
+        format!(in alloc; "{copy:?}")?,
+    );
+    assert_eq!(rt; texts.0.as_str(), texts.1.as_str());
     Ok(())
 }
