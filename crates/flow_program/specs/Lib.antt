@@ -1,5 +1,8 @@
 pub mod Fits
+pub mod LineText
 pub mod Listing
+pub mod ListingFault
+pub mod ListingTree
 pub mod NodeTree
 pub mod ProgramText
 pub mod ProgramTree

@@ -1,107 +1,37 @@
--- A program text as it is spelled, without where its parts lie in memory: names are places in the text.
-use Rattle.std.specs.Prelude.{◌≡◌, ℕ, suc, ◌+◌, ◌-◌, ◌<◌, Bool, true, ◌&&◌, nat_le, max, List, [], ◌∷◌, ◌++◌, length, map, take, drop, flat_map, codes, decimal, IsTrue}
+-- What the listing of a program text is, and which line of a text is the first at fault.
+use Rattle.std.specs.Prelude.{◌≡◌, ℕ, suc, ◌-◌, ◌<◌, Bool, true, ◌&&◌, nat_le, List, [], ◌∷◌, ◌++◌, length, map, take, drop, flat_map, codes, decimal, IsTrue}
 use Rattle.std.specs.List.{list_all}
 use Rattle.tsl_text.specs.Names.{is_usable}
+use Rattle.tsl_text.specs.Written.{is_line, text_of_lines}
 use Rattle.tsl_terms.specs.declared.names.NameKind.TheVariants.{Signal}
 use Rattle.tsl_terms.specs.Name.{AreDistinct, Name as NameEntry}
 use Rattle.tsl_terms.specs.WellFormed.{deepest}
 use Rattle.flow_program.specs.declared.listing.Name.{Name}
-use Rattle.flow_program.specs.declared.listing.Phrase.{Phrase}
-use Rattle.flow_program.specs.declared.listing.Phrase.TheVariants.{Bare, Applied}
-use Rattle.flow_program.specs.declared.listing.PhraseList.{PhraseList}
-use Rattle.flow_program.specs.declared.listing.PhraseList.TheVariants.{Empty, More'}
-use Rattle.flow_program.specs.declared.listing.SpelledUpdate.{SpelledUpdate}
-use Rattle.flow_program.specs.declared.listing.SpelledListed.{SpelledListed}
-use Rattle.flow_program.specs.declared.listing.SpelledWindow.{SpelledWindow}
-use Rattle.flow_program.specs.declared.listing.SpelledNode.{SpelledNode}
-use Rattle.flow_program.specs.declared.listing.SpelledNode.TheVariants.{Branch, Assignment}
-use Rattle.flow_program.specs.declared.listing.Listing.{Listing}
-
--- a term or a test: a name alone, or a name with its arguments
-mutual
-  pub data PhraseTree : Type 0 where
-    bare : Name → PhraseTree
-    applied : Name → PhraseTrees → PhraseTree
-
-  pub data PhraseTrees : Type 0 where
-    no_phrases : PhraseTrees
-    more_phrases : PhraseTree → PhraseTrees → PhraseTrees
-
--- how many phrases a list has
-abbrev pub count_of_phrases : PhraseTrees → ℕ
-count_of_phrases no_phrases = 0
-count_of_phrases (more_phrases p ps) = 1 + count_of_phrases ps
-
--- an update of an assignment
-pub record UpdateLine : Type 0 where
-  pub signal : Name
-  pub term : PhraseTree
-
--- an update that a window lists
-pub record ListedLine : Type 0 where
-  pub signal : Name
-  pub term : PhraseTree
-  pub offset : ℕ
-
--- the line of a window
-pub record WindowLine : Type 0 where
-  pub left : PhraseTree
-  pub left_at : ℕ
-  pub right : PhraseTree
-  pub length : ℕ
-  pub updates : List ListedLine
-
--- the line of a node, without its number
-pub data NodeLine : Type 0 where
-  branch_line : PhraseTree → ℕ → ℕ → NodeLine
-  assignment_line : List UpdateLine → ℕ → NodeLine
-
--- the lines of a program text, each kind in its order
-pub record ListingTree : Type 0 where
-  pub inputs : List Name
-  pub cells : List Name
-  pub outputs : List Name
-  pub windows : List WindowLine
-  pub nodes : List NodeLine
-  pub states : List ℕ
-
-abbrev mutual
-  pub phrase_tree : Phrase → PhraseTree
-  phrase_tree (Bare name) = bare name
-  phrase_tree (Applied name arguments) = applied name (phrase_trees arguments)
-
-  pub phrase_trees : PhraseList → PhraseTrees
-  phrase_trees Empty = no_phrases
-  phrase_trees (More' p head q rest) = more_phrases (phrase_tree head) (phrase_trees rest)
-
-abbrev pub update_line : SpelledUpdate → UpdateLine
-update_line u = record { signal = u.signal; term = phrase_tree u.term }
-
-abbrev pub listed_line : SpelledListed → ListedLine
-listed_line u = record { signal = u.signal; term = phrase_tree u.term; offset = u.offset }
-
-abbrev pub window_line : SpelledWindow → WindowLine
-window_line w = record {
-  left = phrase_tree w.left;
-  left_at = w.left_at;
-  right = phrase_tree w.right;
-  length = w.length;
-  updates = map listed_line w.updates.items;
+pub use Rattle.flow_program.specs.ListingTree.{
+  PhraseTree,
+  bare,
+  applied,
+  PhraseTrees,
+  no_phrases,
+  more_phrases,
+  count_of_phrases,
+  UpdateLine,
+  ListedLine,
+  WindowLine,
+  NodeLine,
+  branch_line,
+  assignment_line,
+  ListingTree,
+  phrase_tree,
+  phrase_trees,
+  update_line,
+  listed_line,
+  window_line,
+  node_line,
+  listing_tree,
 }
-
-abbrev pub node_line : SpelledNode → NodeLine
-node_line (Branch test then_node else_node) = branch_line (phrase_tree test) then_node else_node
-node_line (Assignment updates go) = assignment_line (map update_line updates.items) go
-
-abbrev pub listing_tree : Listing → ListingTree
-listing_tree l = record {
-  inputs = l.inputs.items;
-  cells = l.cells.items;
-  outputs = l.outputs.items;
-  windows = map window_line l.windows.items;
-  nodes = map node_line l.nodes.items;
-  states = l.states.items;
-}
+pub use Rattle.flow_program.specs.LineText.{bracketed_phrase, phrase_brackets, phrases_brackets}
+use Rattle.flow_program.specs.LineText.{Stand, listing_lines, ended_pieces, line_is_within}
 
 -- the bytes of a name
 abbrev pub bytes_of : List ℕ → Name → List ℕ
@@ -185,20 +115,6 @@ abbrev mutual
   phrases_stand text no_phrases = true
   phrases_stand text (more_phrases p ps) = phrase_stands text p && phrases_stand text ps
 
--- how deep the brackets of a phrase nest
-abbrev pub bracketed_phrase : PhraseTree → ℕ → ℕ
-bracketed_phrase (applied f (more_phrases p ps)) depth = 1 + depth
-bracketed_phrase _ depth = depth
-
-abbrev mutual
-  pub phrase_brackets : PhraseTree → ℕ
-  phrase_brackets (bare name) = 0
-  phrase_brackets (applied name arguments) = phrases_brackets arguments
-
-  pub phrases_brackets : PhraseTrees → ℕ
-  phrases_brackets no_phrases = 0
-  phrases_brackets (more_phrases p ps) = max (bracketed_phrase p (phrase_brackets p)) (phrases_brackets ps)
-
 -- the names of a phrase stand in the text, and its brackets nest at most 200 deep
 abbrev pub is_phrase : List ℕ → PhraseTree → Bool
 is_phrase text p = phrase_stands text p && nat_le (phrase_brackets p) deepest
@@ -223,8 +139,8 @@ signal_named text name = record { text = bytes_of text name; kind = Signal; arit
 abbrev pub declared : ListingTree → List Name
 declared l = (l.inputs ++ l.cells) ++ l.outputs
 
--- The text is that of these lines: a name that is declared is a name and declared once, terms nest at most 200 deep, and there
--- is a node and a state.
+-- The text is that of these lines: a name that is declared is a name and declared once, terms nest at most 200 deep, numbers
+-- have at most 18 digits, and there is a node and a state. The names stand where they say, one after another.
 pub record IsListing (text : List ℕ) (l : ListingTree) : Type 0 where
   pub spelled : text ≡ listing_text text l
   pub declared_stand : IsTrue (list_all (name_stands text) (declared l))
@@ -233,7 +149,28 @@ pub record IsListing (text : List ℕ) (l : ListingTree) : Type 0 where
   pub nodes_stand : IsTrue (list_all (node_line_stands text) l.nodes)
   pub has_node : 0 < length l.nodes
   pub has_state : 0 < length l.states
+  pub within : IsTrue (list_all line_is_within (listing_lines l))
+  pub end : ℕ
+  pub in_place : Stand (flat_map ended_pieces (listing_lines l)) (record { at = 0; bytes = text }) (record { at = end; bytes = [] })
 
--- to be told here by the reader of lines: the first line at fault
-abbrev pub FormFault : List ℕ → ℕ → Type 0
-FormFault text line = (l : ListingTree) → IsListing text l → ⊥
+-- two texts begin with the same lines, so many, each with its line feed
+pub record BeginAlike (count : ℕ) (text other : List ℕ) : Type 0 where
+  pub lines : List (List ℕ)
+  pub are_lines : IsTrue (list_all is_line lines)
+  pub number : length lines ≡ count
+  pub after_text : List ℕ
+  pub text_is : text ≡ text_of_lines lines ++ after_text
+  pub after_other : List ℕ
+  pub other_is : other ≡ text_of_lines lines ++ after_other
+
+-- The line with this number, from 1, is the first at fault: some text that has a listing begins with the lines before it, but
+-- none begins with these lines and it, and the text itself has no listing.
+pub record FormFault (text : List ℕ) (line : ℕ) : Type 0 where
+  pub count : ℕ
+  pub next : line ≡ suc count
+  pub other : List ℕ
+  pub listing : ListingTree
+  pub is_listing : IsListing other listing
+  pub before : BeginAlike count text other
+  pub here : (another : List ℕ) (l : ListingTree) → IsListing another l → BeginAlike line text another → ⊥
+  pub none : (l : ListingTree) → IsListing text l → ⊥

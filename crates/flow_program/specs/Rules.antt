@@ -3,7 +3,7 @@ use Rattle.std.specs.Prelude.{ℕ, suc, ◌+◌, Bool, true, false, not, cond, �
 use Rattle.std.specs.Prelude.{Option, Some, None, option_map, position, bytes_eq}
 use Rattle.std.specs.List.{list_all}
 use Rattle.std.specs.Option.{option_or, option_map_or, is_some}
-use Rattle.tsl_terms.specs.Name.{number_of, Name as NameEntry}
+use Rattle.tsl_terms.specs.Name.{Name as NameEntry}
 use Rattle.tsl_terms.specs.Clashes.{alike_in_kind, same_arity}
 use Rattle.flow_program.specs.declared.listing.Name.{Name}
 use Rattle.flow_program.specs.declared.reading.ProgramError.{ProgramError}

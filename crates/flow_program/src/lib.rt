@@ -13,6 +13,7 @@
 mod laws;
 mod limits;
 mod listing;
+mod listing_reader;
 mod node;
 mod program;
 mod reading;

@@ -1,6 +1,7 @@
 //! A program text as it is spelled: names are places in the text, and nothing but the form is asked.
 
-use std::alloc::Global;
+use sequence::NoMemory;
+use std::alloc::{AllocFailed, Global};
 
 /// Where a name stands in a text.
 #[derive(Clone, Copy, Debug, PartialEq, Eq)]
@@ -114,4 +115,35 @@ pub(crate) struct Listing {
     pub(crate) nodes: Vec<SpelledNode>,
     /// The node of each state.
     pub(crate) states: Vec<u64>,
+}
+
+/// Why a text has no listing.
+#[derive(Debug, Drop)]
+pub(crate) enum ListingError {
+    /// This line, counted from 1, is the first at fault.
+    Form(u32),
+    /// Memory ran out.
+    NoMemory,
+}
+
+impl From<NoMemory> for ListingError {
+    ghost use Rattle.std.specs.Prelude.{◌≡◌};
+    ghost use Rattle.flow_program.specs.declared.listing.ListingError.TheVariants.{NoMemory as Exhausted};
+
+    ghost from_gives = { λ _ e. e ≡ Exhausted };
+
+    fn from(_error: NoMemory) -> ListingError {
+        ListingError::NoMemory
+    }
+}
+
+impl<T: Drop> From<AllocFailed<T>> for ListingError {
+    ghost use Rattle.std.specs.Prelude.{◌≡◌};
+    ghost use Rattle.flow_program.specs.declared.listing.ListingError.TheVariants.{NoMemory as Exhausted};
+
+    ghost from_gives = { λ _ e. e ≡ Exhausted };
+
+    fn from(_error: AllocFailed<T>) -> ListingError {
+        ListingError::NoMemory
+    }
 }
