@@ -4,3 +4,6 @@ pub mod LoopFits
 pub mod OverNames
 pub mod Promise
 pub mod Run
+pub mod RunLasso
+pub mod RunOf
+pub mod RunTree

@@ -1,9 +1,11 @@
 //! What specifications and programs mean.
 #![tactic(auto)]
 
+mod judging;
 mod laws;
 mod run;
 
+pub use judging::judge;
 pub use laws::{
     atoms_are_decided, programs_close, programs_go_on, promised_formulas_speak_of_the_program,
     writable_programs_are_over_names,
