@@ -1,10 +1,13 @@
 //! Interpretations by tables.
 
-ghost use Rattle.std.specs.Prelude.{◌≡◌, ◌≤◌};
+ghost use Rattle.std.specs.Prelude.{◌≡◌, ◌^◌, ◌<◌, ◌≤◌, Some, IsSome, IsOk, IfOk, length, map, if◌then◌else◌};
+ghost use Rattle.tsl_meaning.specs.Interpretation.{are_values, place_of_arguments, entry_at};
 
 use crate::MOST_VALUES;
 use indexmap::IndexMap;
-use sequence::Sequence;
+use interp_core::{Algebra, Judge};
+use sequence::{NoMemory, Sequence};
+use std::alloc::Global;
 use std::marker::Model;
 
 /// A finite interpretation: a domain, a table for each function and predicate at the place of its number,
@@ -41,5 +44,79 @@ impl Tables {
         ensures few { result ≤ MOST_VALUES }
     {
         self.domain
+    }
+
+    /// The entry of a symbol at its arguments.
+    fn entry(&self, symbol: u32, arguments: &[u32]) -> u32
+        requires { IsSome (entry_at self.now.interpretation symbol arguments.now) }
+        ensures { entry_at self.now.interpretation symbol arguments.now ≡ Some result }
+    {
+        let table = self.tables.as_slice()[symbol as usize].as_slice();
+        match place_of(self.domain, arguments) {
+            Some(place) => table[place],
+            None => 0,
+        }
+    }
+}
+
+/// The place of arguments in a table: the number that they write in the base of the domain, the first one
+/// being its most significant digit. `None` where one of them is no value.
+fn place_of(domain: u32, arguments: &[u32]) -> Option<usize>
+    requires { domain ^ length arguments.now < 2 ^ 64 }
+    ensures { result ≡ (if are_values domain arguments.now then Some (place_of_arguments domain arguments.now) else None) }
+{
+    let mut place = 0;
+    for argument in arguments {
+        if *argument >= domain {
+            return None;
+        }
+        place = place * domain as usize + *argument as usize;
+    }
+    Some(place)
+}
+
+impl Algebra for Tables {
+    ghost use Rattle.std.specs.Prelude.{ℕ};
+    ghost use Rattle.table_interp.specs.Meaning.{meanings_of};
+
+    type Value = u32;
+
+    ghost Seen = { ℕ };
+
+    ghost seen = { λ v. v };
+
+    ghost meanings = { meanings_of };
+
+    fn apply(&self, _alloc: Global, function: u32, arguments: &[u32]) -> Result<u32, NoMemory>
+        requires had { IsSome ((meanings_of self.now).function function (map (λ (v : ℕ). v) arguments.now)) }
+        ensures value { IfOk result (λ v. (meanings_of self.now).function function (map (λ (v : ℕ). v) arguments.now) ≡ Some v) }
+        ensures ok { IsOk result }
+    {
+        Ok(self.entry(function, arguments))
+    }
+
+    fn initial(&self, _alloc: Global, cell: u32) -> Result<u32, NoMemory>
+        requires had { IsSome ((meanings_of self.now).initial cell) }
+        ensures value { IfOk result (λ v. (meanings_of self.now).initial cell ≡ Some v) }
+        ensures ok { IsOk result }
+    {
+        Ok(*self.initial.get(&cell).unwrap())
+    }
+
+    fn copy(&self, _alloc: Global, value: &u32) -> Result<u32, NoMemory>
+        ensures value { IfOk result (λ v. v ≡ value.now) }
+        ensures ok { IsOk result }
+    {
+        Ok(*value)
+    }
+
+    fn same(&self, a: &u32, b: &u32) -> bool {
+        a == b
+    }
+}
+
+impl Judge for Tables {
+    fn test(&self, predicate: u32, arguments: &[u32]) -> bool {
+        self.entry(predicate, arguments) == 1
     }
 }
