@@ -1,5 +1,8 @@
 pub mod Examples
 mod WholeExample
+pub mod Agree
+pub mod RunsOf
+pub mod FirstRepetition
 pub mod OneAction
 pub mod Values
 pub mod Walks

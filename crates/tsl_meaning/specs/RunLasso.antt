@@ -1,5 +1,5 @@
 -- What holds at the positions of a run that is written down.
-use Rattle.std.specs.Prelude.{◌≡◌, ℕ, Bool, false, ◌++◌, List, Option, IsSome, slice_get}
+use Rattle.std.specs.Prelude.{ℕ, Bool, false, ◌++◌, Option, IsSome, slice_get}
 use Rattle.std.specs.Option.{option_or, option_map_or}
 use Rattle.std.specs.List.{AllByRecursion}
 use Rattle.loop_shape.specs.LoopShape.{LoopShape}

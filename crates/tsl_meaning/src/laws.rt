@@ -1,6 +1,6 @@
 //! Laws of the meaning.
 
-ghost use Rattle.std.specs.Prelude.{◌≡◌, ℕ, ◌+◌, ◌≤◌, List};
+ghost use Rattle.std.specs.Prelude.{◌≡◌, ℕ, ◌+◌, ◌<◌, ◌≤◌, List};
 ghost use Rattle.std.specs.List.{AllByRecursion};
 ghost use Rattle.loop_shape.specs.LoopShape.{LoopShape};
 ghost use Rattle.tsl_terms.specs.Name.{Name};
@@ -14,8 +14,14 @@ ghost use Rattle.flow_program.specs.ProgramText.{IsProgram, IsWritable};
 ghost use Rattle.tsl_meaning.specs.OverNames.{IsProgramOver, IsFormulaOver};
 ghost use Rattle.tsl_meaning.specs.Interpretation.{Interpretation, InputRows, IsInterpretation, IsInputLoop, meanings_in};
 ghost use Rattle.tsl_meaning.specs.Run.{HasStep, Closed};
-ghost use Rattle.tsl_meaning.specs.Lasso.{IsDecided};
+ghost use Rattle.tsl_meaning.specs.Lasso.{IsDecided, meets, closed_run};
 ghost use Rattle.tsl_meaning.specs.Promise.{Realizes, configurations};
+ghost use Rattle.tsl_meaning.specs.RunTree.{RunTree};
+ghost use Rattle.tsl_meaning.specs.RunLasso.{shape_of, run_lasso, IsJudged};
+ghost use Rattle.tsl_meaning.specs.RunOf.{AreDifferent, IsFirstRepetition, IsRunOf};
+ghost use Rattle.tsl_terms.specs.Value.{Meanings};
+
+use interp_core::Judge;
 
 /// A program that can be written over names is a program over them.
 pub fn writable_programs_are_over_names()
@@ -59,4 +65,41 @@ pub fn promised_formulas_speak_of_the_program()
         AllByRecursion (λ w. IsFormulaOver names program (window_formula_of w)) program.windows }
     ensures whole { (spec : SpecTree) (program : ProgramTree) → SpecFits spec → Realizes spec program →
         IsFormulaOver spec.names program (whole_formula spec) }
+{}
+
+/// A run of a program that is written down means what the program's closed run means: the same
+/// formulas hold at the same positions.
+pub fn runs_mean_what_programs_do<J: Judge>()
+    ensures { (meanings : Meanings J.Seen) (program : ProgramTree) (rows : InputRows J.Seen) (run : RunTree J.Seen) →
+        IsRunOf meanings program rows run → (formula : FormulaTree) (i : ℕ) → i < run.start + run.length →
+        meets (run_lasso meanings run) formula i ≡ meets (closed_run meanings program rows (shape_of run)) formula i }
+{}
+
+/// The first repetition is the least pair that a run closes with, and there is one at most.
+pub fn first_repetitions_are_least<J: Judge>()
+    ensures least { (meanings : Meanings J.Seen) (program : ProgramTree) (rows : InputRows J.Seen) (first shape : LoopShape) →
+        IsFirstRepetition meanings program rows first → Closed meanings program rows shape →
+        first.start + first.length ≤ shape.start + shape.length }
+    ensures one { (meanings : Meanings J.Seen) (program : ProgramTree) (rows : InputRows J.Seen) (first second : LoopShape) →
+        IsFirstRepetition meanings program rows first → IsFirstRepetition meanings program rows second → first ≡ second }
+{}
+
+/// Among more configurations than a program over names has, two are equal: a limit that is at least
+/// as large lets each run close.
+pub fn large_limits_are_enough()
+    ensures { (names : List Name) (program : ProgramTree) (interpretation : Interpretation) (rows : InputRows ℕ) (limit : ℕ) →
+        IsProgramOver names program → IsInterpretation names program.cells interpretation →
+        IsInputLoop interpretation.domain program.inputs rows →
+        configurations program interpretation rows ≤ limit →
+        AreDifferent (meanings_in names program interpretation) program rows (limit + 1) → ⊥ }
+{}
+
+/// A formula that speaks of the program is judged in each of its runs.
+pub fn formulas_are_judged()
+    ensures { (names : List Name) (program : ProgramTree) (interpretation : Interpretation) (rows : InputRows ℕ)
+        (formula : FormulaTree) (run : RunTree ℕ) →
+        IsProgramOver names program → IsInterpretation names program.cells interpretation →
+        IsInputLoop interpretation.domain program.inputs rows → IsFormulaOver names program formula →
+        IsRunOf (meanings_in names program interpretation) program rows run →
+        IsJudged (meanings_in names program interpretation) run formula }
 {}
