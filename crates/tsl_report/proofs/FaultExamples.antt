@@ -1,10 +1,12 @@
 -- The lines of some faults, which compute.
 use Rattle.std.specs.Prelude.{◌≡◌, codes, refl}
 use Rattle.std.specs.Fmt.{digits}
-use Rattle.tsl_report.specs.declared.fault.Head.TheVariants.{Lrat}
+use Rattle.tsl_report.specs.declared.fault.Head.TheVariants.{Tables as TablesHead, Lrat}
 use Rattle.tsl_report.specs.declared.fault.TokenPart.TheVariants.{Spec}
-use Rattle.tsl_report.specs.declared.fault.LimitName.TheVariants.{Text}
-use Rattle.tsl_report.specs.declared.fault.Fault.TheVariants.{Parts, Byte, Deep, Arity, CnfForm, Large}
+use Rattle.tsl_report.specs.declared.fault.DataPart.TheVariants.{Inputs}
+use Rattle.tsl_report.specs.declared.fault.ProgramRule.TheVariants.{Order}
+use Rattle.tsl_report.specs.declared.fault.LimitName.TheVariants.{Text, Run}
+use Rattle.tsl_report.specs.declared.fault.Fault.TheVariants.{Parts, Byte, Deep, Arity, Twice, TableRange, Program, CnfForm, Large}
 use Rattle.tsl_report.specs.FaultText.{fault_text}
 
 missing_line : fault_text (Parts Lrat) ≡ codes "fault parts lrat\n"
@@ -29,3 +31,22 @@ missing_clause = refl
 long_text : fault_text (Large Text 268435456) ≡ codes "large text 268435456\n"
 unfolding digits
 long_text = refl
+
+missing_head : fault_text (Parts TablesHead) ≡ codes "fault parts tables\n"
+missing_head = refl
+
+second_input : fault_text (Twice Inputs (record { line = 2; column = 9 }) (codes "x")) ≡ codes "fault inputs 2:9 twice x\n"
+unfolding digits
+second_input = refl
+
+large_entry : fault_text (TableRange (codes "p") 2) ≡ codes "fault tables range p 2\n"
+unfolding digits
+large_entry = refl
+
+wrong_order : fault_text (Program 5 Order) ≡ codes "fault program 5 order\n"
+unfolding digits
+wrong_order = refl
+
+long_run : fault_text (Large Run 65536) ≡ codes "large run 65536\n"
+unfolding digits
+long_run = refl

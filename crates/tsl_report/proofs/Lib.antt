@@ -1,2 +1,3 @@
 pub mod FaultExamples
+pub mod TraceExamples
 pub mod Written

@@ -1,2 +1,3 @@
 pub mod FaultText
 pub mod FormulaText
+pub mod TraceText

@@ -1,7 +1,7 @@
 //! The line that says why a text or the words were refused.
 
 ghost use Rattle.std.specs.Prelude.{◌≡◌, ◌++◌, OnOk, IfOk, codes, decimal};
-ghost use Rattle.tsl_report.specs.FaultText.{fault_text, fault_line, place_text, token_fault, part_text, head_text, limit_text};
+ghost use Rattle.tsl_report.specs.FaultText.{fault_text, fault_line, place_text, token_fault, name_fault, part_text, data_text, head_text, rule_text, limit_text};
 
 use sequence::{NoMemory, Sequence};
 use std::alloc::Global;
@@ -10,6 +10,12 @@ use tsl_text::{Place, put_bytes, put_number};
 /// A line that parts an input.
 #[derive(Clone, Copy, Debug, PartialEq, Eq)]
 pub enum Head {
+    /// The first line of a program.
+    Program,
+    /// The first line of tables.
+    Tables,
+    /// The first line of inputs.
+    Inputs,
     /// The line before a log of clauses.
     Lrat,
 }
@@ -19,6 +25,40 @@ pub enum Head {
 pub enum TokenPart {
     /// A specification.
     Spec,
+    /// The tables of functions and predicates, and what cells hold at first.
+    Tables,
+    /// The rows of inputs.
+    Inputs,
+}
+
+/// A part of an input that gives values to names.
+#[derive(Clone, Copy, Debug, PartialEq, Eq)]
+pub enum DataPart {
+    /// The tables of functions and predicates, and what cells hold at first.
+    Tables,
+    /// The rows of inputs.
+    Inputs,
+}
+
+/// A rule of program texts that a line breaks.
+#[derive(Debug, Drop)]
+pub enum ProgramRule {
+    /// The line has no form that is allowed at its place.
+    Form,
+    /// A node goes on to one that is not before it.
+    Order,
+    /// A node names no state, or a state names no node.
+    Target,
+    /// A node does not update each cell and then each output.
+    Updates,
+    /// A window is too long, or its updates are not in order.
+    Window,
+    /// This signal is neither an input nor a cell.
+    Unknown(Sequence<u8>),
+    /// This name was used in another kind before.
+    Kind(Sequence<u8>),
+    /// This name was used with another number of arguments before.
+    Arity(Sequence<u8>),
 }
 
 /// What a limit counts.
@@ -30,6 +70,20 @@ pub enum LimitName {
     Nodes,
     /// The clauses of a formula in conjunctive normal form.
     Clauses,
+    /// The configurations of a run.
+    Run,
+    /// The values of tables.
+    Domain,
+    /// The entries of one table.
+    Entries,
+    /// The rows of inputs.
+    Rows,
+    /// The windows of a program.
+    Windows,
+    /// The nodes of a program.
+    ProgramNodes,
+    /// The states of a program.
+    ProgramStates,
     /// The variables of a formula in conjunctive normal form.
     Variables,
 }
@@ -55,6 +109,22 @@ pub enum Fault {
     Kind(Place, Sequence<u8>),
     /// At this place a specification uses this name with another number of arguments than before.
     Arity(Place, Sequence<u8>),
+    /// At this place this name gets values that it does not need.
+    Unknown(DataPart, Place, Sequence<u8>),
+    /// At this place this name stands a second time.
+    Twice(DataPart, Place, Sequence<u8>),
+    /// This name is missing.
+    Missing(DataPart, Sequence<u8>),
+    /// The table of this name has not as many entries as its arguments have values.
+    TableCount(Sequence<u8>),
+    /// The table of this name has this entry, which is too large.
+    TableRange(Sequence<u8>, u64),
+    /// The row of this number, from 0, has not one value for each input.
+    RowCount(u32),
+    /// The row of this number, from 0, has this value, which is too large.
+    RowRange(u32, u64),
+    /// At this line a program breaks this rule.
+    Program(u32, ProgramRule),
     /// At this line a formula in conjunctive normal form has not its form.
     CnfForm(u32),
     /// At this line a log of clauses has not its form.
@@ -93,14 +163,21 @@ fn put_fault(out: &mut Vec<u8>, fault: &Fault) -> Result<(), NoMemory>
         Fault::Arity(place, name) => {
             put_token_fault(out, TokenPart::Spec, *place, b"arity ", name.as_slice())
         }
+        Fault::Unknown(part, place, name) => {
+            put_name_fault(out, *part, *place, b"unknown ", name.as_slice())
+        }
+        Fault::Twice(part, place, name) => {
+            put_name_fault(out, *part, *place, b"twice ", name.as_slice())
+        }
+        Fault::Missing(part, name) => put_missing_name(out, *part, name.as_slice()),
+        Fault::TableCount(name) => put_table_count(out, name.as_slice()),
+        Fault::TableRange(name, value) => put_table_range(out, name.as_slice(), *value),
+        Fault::RowCount(row) => put_row_count(out, *row),
+        Fault::RowRange(row, value) => put_row_range(out, *row, *value),
+        Fault::Program(line, rule) => put_program_fault(out, *line, rule),
         Fault::CnfForm(line) => put_line_fault(out, b"fault cnf ", *line),
         Fault::LogForm(line) => put_line_fault(out, b"fault log ", *line),
-        Fault::Large(name, limit) => {
-            put_bytes(out, b"large ")?;
-            put_bytes(out, limit_text(*name))?;
-            put_bytes(out, b" ")?;
-            put_number(out, *limit as u64)
-        }
+        Fault::Large(name, limit) => put_large(out, *name, *limit),
         Fault::Unbuilt => put_bytes(out, b"fault unbuilt"),
     }
 }
@@ -132,6 +209,115 @@ fn put_token_fault(
     put_bytes(out, name)
 }
 
+/// Appends a fault of a part that gives values to names: a place, a word, and the name.
+fn put_name_fault(
+    out: &mut Vec<u8>,
+    part: DataPart,
+    place: Place,
+    word: &[u8],
+    name: &[u8],
+) -> Result<(), NoMemory>
+    ensures { OnOk result (out.new.items ≡ out.old.items ++ name_fault part place (word.now ++ name.now)) }
+{
+    put_bytes(out, b"fault ")?;
+    put_bytes(out, data_text(part))?;
+    put_bytes(out, b" ")?;
+    put_place(out, place)?;
+    put_bytes(out, b" ")?;
+    put_bytes(out, word)?;
+    put_bytes(out, name)
+}
+
+/// Appends that a name is missing in a part that gives values to names.
+fn put_missing_name(out: &mut Vec<u8>, part: DataPart, name: &[u8]) -> Result<(), NoMemory>
+    ensures { OnOk result (out.new.items ≡ out.old.items ++ codes "fault " ++ data_text part ++ codes " missing " ++ name.now) }
+{
+    put_bytes(out, b"fault ")?;
+    put_bytes(out, data_text(part))?;
+    put_bytes(out, b" missing ")?;
+    put_bytes(out, name)
+}
+
+/// Appends that a table has not as many entries as its arguments have values.
+fn put_table_count(out: &mut Vec<u8>, name: &[u8]) -> Result<(), NoMemory>
+    ensures { OnOk result (out.new.items ≡ out.old.items ++ codes "fault tables count " ++ name.now) }
+{
+    put_bytes(out, b"fault tables count ")?;
+    put_bytes(out, name)
+}
+
+/// Appends that an entry of a table is too large.
+fn put_table_range(out: &mut Vec<u8>, name: &[u8], value: u64) -> Result<(), NoMemory>
+    ensures { OnOk result (out.new.items ≡ out.old.items ++ codes "fault tables range " ++ name.now ++ codes " " ++ decimal value) }
+{
+    put_bytes(out, b"fault tables range ")?;
+    put_bytes(out, name)?;
+    put_bytes(out, b" ")?;
+    put_number(out, value)
+}
+
+/// Appends that a row has not one value for each input.
+fn put_row_count(out: &mut Vec<u8>, row: u32) -> Result<(), NoMemory>
+    ensures { OnOk result (out.new.items ≡ out.old.items ++ codes "fault inputs count " ++ decimal row) }
+{
+    put_bytes(out, b"fault inputs count ")?;
+    put_number(out, row as u64)
+}
+
+/// Appends that a value of a row is too large.
+fn put_row_range(out: &mut Vec<u8>, row: u32, value: u64) -> Result<(), NoMemory>
+    ensures { OnOk result (out.new.items ≡ out.old.items ++ codes "fault inputs range " ++ decimal row ++ codes " " ++ decimal value) }
+{
+    put_bytes(out, b"fault inputs range ")?;
+    put_number(out, row as u64)?;
+    put_bytes(out, b" ")?;
+    put_number(out, value)
+}
+
+/// Appends that a line of a program breaks a rule.
+fn put_program_fault(out: &mut Vec<u8>, line: u32, rule: &ProgramRule) -> Result<(), NoMemory>
+    ensures { OnOk result (out.new.items ≡ out.old.items ++ codes "fault program " ++ decimal line ++ codes " " ++ rule_text rule.now) }
+{
+    put_bytes(out, b"fault program ")?;
+    put_number(out, line as u64)?;
+    put_bytes(out, b" ")?;
+    put_rule(out, rule)
+}
+
+/// Appends the word for a rule of programs, and the name that it speaks of.
+fn put_rule(out: &mut Vec<u8>, rule: &ProgramRule) -> Result<(), NoMemory>
+    ensures { OnOk result (out.new.items ≡ out.old.items ++ rule_text rule.now) }
+{
+    match rule {
+        ProgramRule::Form => put_bytes(out, b"form"),
+        ProgramRule::Order => put_bytes(out, b"order"),
+        ProgramRule::Target => put_bytes(out, b"target"),
+        ProgramRule::Updates => put_bytes(out, b"updates"),
+        ProgramRule::Window => put_bytes(out, b"window"),
+        ProgramRule::Unknown(name) => put_named(out, b"unknown ", name.as_slice()),
+        ProgramRule::Kind(name) => put_named(out, b"kind ", name.as_slice()),
+        ProgramRule::Arity(name) => put_named(out, b"arity ", name.as_slice()),
+    }
+}
+
+/// Appends words and a name.
+fn put_named(out: &mut Vec<u8>, words: &[u8], name: &[u8]) -> Result<(), NoMemory>
+    ensures { OnOk result (out.new.items ≡ out.old.items ++ words.now ++ name.now) }
+{
+    put_bytes(out, words)?;
+    put_bytes(out, name)
+}
+
+/// Appends that more is counted than a limit.
+fn put_large(out: &mut Vec<u8>, name: LimitName, limit: u32) -> Result<(), NoMemory>
+    ensures { OnOk result (out.new.items ≡ out.old.items ++ codes "large " ++ limit_text name ++ codes " " ++ decimal limit) }
+{
+    put_bytes(out, b"large ")?;
+    put_bytes(out, limit_text(name))?;
+    put_bytes(out, b" ")?;
+    put_number(out, limit as u64)
+}
+
 /// Appends line and column, as `3:7`.
 fn put_place(out: &mut Vec<u8>, place: Place) -> Result<(), NoMemory>
     ensures { OnOk result (out.new.items ≡ out.old.items ++ place_text place) }
@@ -155,6 +341,9 @@ fn head_text(head: Head) -> &'static [u8]
     ensures { result.now ≡ head_text head }
 {
     match head {
+        Head::Program => b"program",
+        Head::Tables => b"tables",
+        Head::Inputs => b"inputs",
         Head::Lrat => b"lrat",
     }
 }
@@ -165,6 +354,18 @@ fn part_text(part: TokenPart) -> &'static [u8]
 {
     match part {
         TokenPart::Spec => b"spec",
+        TokenPart::Tables => b"tables",
+        TokenPart::Inputs => b"inputs",
+    }
+}
+
+/// The name of a part that gives values to names.
+fn data_text(part: DataPart) -> &'static [u8]
+    ensures { result.now ≡ data_text part }
+{
+    match part {
+        DataPart::Tables => b"tables",
+        DataPart::Inputs => b"inputs",
     }
 }
 
@@ -176,6 +377,13 @@ fn limit_text(name: LimitName) -> &'static [u8]
         LimitName::Text => b"text",
         LimitName::Nodes => b"nodes",
         LimitName::Clauses => b"clauses",
+        LimitName::Run => b"run",
+        LimitName::Domain => b"domain",
+        LimitName::Entries => b"entries",
+        LimitName::Rows => b"rows",
+        LimitName::Windows => b"windows",
+        LimitName::ProgramNodes => b"program-nodes",
+        LimitName::ProgramStates => b"program-states",
         LimitName::Variables => b"variables",
     }
 }

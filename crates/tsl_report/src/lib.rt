@@ -3,6 +3,9 @@
 //! `fault_text` gives the line that says why a text or the words were refused: at Ok exactly the bytes
 //! that the definition of the same name gives for the fault, which is a table of its cases.
 //!
+//! `trace_text` gives the text of a run that closes and of the verdicts on it: at Ok exactly the bytes
+//! that the definition of the same name gives. The one condition is that the names hold each number.
+//!
 //! `formula_text` gives the text of a formula: at Ok exactly the bytes that the definition of the same
 //! name gives. The one condition is that the names hold each number and that each conjunction and
 //! disjunction has two members at least, which holds of the whole formula of every specification that is
@@ -17,12 +20,14 @@ ghost use Rattle.tsl_report.specs.FormulaText.{formula_text, members_text, other
 
 mod fault;
 mod laws;
+mod trace;
 
-pub use fault::{Fault, Head, LimitName, TokenPart, fault_text};
+pub use fault::{DataPart, Fault, Head, LimitName, ProgramRule, TokenPart, fault_text};
 pub use laws::whole_formulas_can_be_written;
 use sequence::NoMemory;
 use std::alloc::Global;
 use term_text::{put_probe, put_update};
+pub use trace::trace_text;
 use tsl_terms::{Formula, FormulaList, Names};
 
 /// The text of a formula.
