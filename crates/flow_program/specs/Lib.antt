@@ -11,3 +11,4 @@ pub mod Reading
 pub mod Rules
 pub mod Uses
 pub mod Walk
+pub mod internal

@@ -126,11 +126,14 @@ set_pieces u = word (codes " ") ∷ update_pieces u.signal u.term
 abbrev pub listed_pieces : ListedLine → List Piece
 listed_pieces u = word (codes " when ") ∷ (update_pieces u.signal u.term ++ word (codes " at ") ∷ word (decimal u.offset) ∷ [])
 
+-- a test and its step
+abbrev pub placed_pieces : PhraseTree → ℕ → List Piece
+placed_pieces test step = phrase_pieces test ++ word (codes " at ") ∷ word (decimal step) ∷ []
+
+-- a window's line after its first word
 abbrev pub window_pieces : WindowLine → List Piece
 window_pieces w =
-    word (codes "window ") ∷ (phrase_pieces w.left
-    ++ word (codes " at ") ∷ word (decimal w.left_at) ∷ word (codes " is ") ∷ (phrase_pieces w.right
-    ++ word (codes " at ") ∷ word (decimal w.length) ∷ flat_map listed_pieces w.updates))
+    placed_pieces w.left w.left_at ++ word (codes " is ") ∷ (placed_pieces w.right w.length ++ flat_map listed_pieces w.updates)
 
 -- a node's line after its number
 abbrev pub node_pieces : NodeLine → List Piece
@@ -146,7 +149,7 @@ line_pieces head_line = word (codes "tslprogram 1") ∷ []
 line_pieces (input n) = word (codes "input ") ∷ named n ∷ []
 line_pieces (cell n) = word (codes "cell ") ∷ named n ∷ []
 line_pieces (output n) = word (codes "output ") ∷ named n ∷ []
-line_pieces (window w) = window_pieces w
+line_pieces (window w) = word (codes "window ") ∷ window_pieces w
 line_pieces (node number n) = word (codes "node ") ∷ word (decimal number) ∷ node_pieces n
 line_pieces (state number n) = word (codes "state ") ∷ word (decimal number) ∷ word (codes " at ") ∷ word (decimal n) ∷ []
 line_pieces end_line = word (codes "end") ∷ []
@@ -166,9 +169,12 @@ is_shallow p = nat_le (phrase_brackets p) deepest
 abbrev pub listed_is_within : ListedLine → Bool
 listed_is_within u = is_shallow u.term && is_short u.offset
 
+abbrev pub placed_is_within : PhraseTree → ℕ → Bool
+placed_is_within test step = is_shallow test && is_short step
+
 abbrev pub window_is_within : WindowLine → Bool
 window_is_within w =
-    is_shallow w.left && (is_short w.left_at && (is_shallow w.right && (is_short w.length && list_all listed_is_within w.updates)))
+    placed_is_within w.left w.left_at && (placed_is_within w.right w.length && list_all listed_is_within w.updates)
 
 abbrev pub node_is_within : NodeLine → Bool
 node_is_within (branch_line test then_node else_node) = is_shallow test && (is_short then_node && is_short else_node)

@@ -11,12 +11,16 @@
 #![tactic(auto)]
 
 mod laws;
+mod left;
 mod limits;
+mod line;
 mod listing;
 mod listing_reader;
 mod node;
+mod phrases;
 mod program;
 mod reading;
+mod words;
 mod writing;
 
 pub use laws::one_program;

@@ -1,5 +1,9 @@
 //! A program text as it is spelled: names are places in the text, and nothing but the form is asked.
 
+ghost use Rattle.std.specs.Prelude.{◌≡◌, map, IfOk};
+ghost use Rattle.flow_program.specs.ListingTree.{phrase_tree, phrase_trees};
+ghost use Rattle.flow_program.specs.internal.LineReading.{phrases_of};
+
 use sequence::NoMemory;
 use std::alloc::{AllocFailed, Global};
 
@@ -41,6 +45,20 @@ impl Drop for PhraseList {
                 PhraseList::More(_, rest) => self = Box::into_inner(rest),
             }
         }
+    }
+}
+
+impl PhraseList {
+    /// The list of these phrases, in their order. An `Err` says that memory ran out.
+    #[tactic(auto, using(crate::proofs::PhraseLists::with_front_none, crate::proofs::PhraseLists::with_front_push))]
+    pub(crate) fn from_vec(alloc: Global, mut phrases: Vec<Phrase>) -> Result<PhraseList, NoMemory>
+        ensures { IfOk result (λ list. phrase_trees list ≡ phrases_of (map phrase_tree phrases.items)) }
+    {
+        let mut list = PhraseList::Empty;
+        while let Some(phrase) = phrases.pop() {
+            list = PhraseList::More(Box::new(alloc, phrase)?, Box::new(alloc, list)?);
+        }
+        Ok(list)
     }
 }
 
