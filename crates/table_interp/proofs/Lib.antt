@@ -1,1 +1,3 @@
 mod Lookups
+mod Exactness
+mod ReadLoops

@@ -26,7 +26,10 @@ use thiserror::Error;
 use tsl_meaning::InputLoop;
 use tsl_terms::Names;
 
+mod reading;
+mod resolving;
 mod tables;
+mod terminals;
 
 pub use tables::Tables;
 

@@ -1,0 +1,525 @@
+-- The reading functions read exactly the grammars.
+use Rattle.std.proofs.Common.{◌≡◌, ℕ, zero, suc, ◌≤◌, Bool, true, false, List, [], ◌∷◌, ◌++◌, refl, ap, sym, ◌∙◌, append_assoc, arith}
+use Rattle.std.proofs.lemmas.List.{append-nil}
+use Rattle.std.specs.Prelude.{Option, Some, None, option_map, option_and_then, is_some, codes, Ok, if◌then◌else◌}
+use Rattle.tsl_terms.specs.declared.names.NameKind.{NameKind}
+use Rattle.tsl_terms.specs.declared.names.NameKind.TheVariants.{Signal, Function, Predicate}
+use Rattle.tsl_text.specs.declared.TokenKind.{TokenKind}
+use Rattle.tsl_text.specs.declared.TokenKind.TheVariants as kinds
+use Rattle.tsl_text.specs.Numbers.{number_in}
+use Rattle.std.specs.Str.{bytes_eq}
+use Rattle.std.proofs.lemmas.Bool.{and_parts}
+use Rattle.sequence.proofs.Bytes.{same_bytes}
+use Rattle.token_readers.specs.Readers.{Answer, Reader, form_at, and_then, map_read, push, members}
+use Rattle.token_readers.specs.Exact.{Grammar, Before, Begins, Exact}
+use Rattle.token_readers.proofs.Runs.{exact_map, exact_as}
+use Rattle.token_readers.proofs.Then.{Any, IsThen, exact_then}
+use Rattle.token_readers.proofs.Terminals.{Turn, by_first, end_wrong, end_gives, turn_of, turn_wrong, turn_alone, turn_takes}
+use Rattle.token_readers.proofs.Iterates.{Shrinks, step_shrinks}
+use Rattle.token_readers.proofs.Lists.{AreAll, none, some, Member, stepping, members_exact}
+use Rattle.table_interp.specs.Syntax.{is_name_kind, is_number_kind}
+use Rattle.table_interp.specs.Syntax.{Terminal, is_name, is_symbol, is_word, is_literal, number_at, Entry, TablesSyntax, InputsSyntax}
+use Rattle.table_interp.specs.Grammar.{
+  AreNumbers,
+  no_number,
+  more_numbers,
+  IsEntry,
+  function,
+  predicate,
+  cell,
+  AreEntries,
+  no_entry,
+  more_entries,
+  IsTables,
+  tables,
+  AreColumns,
+  no_column,
+  more_columns,
+  AreRows,
+  no_row,
+  more_rows,
+  IsInputs,
+  inputs,
+}
+use Rattle.table_interp.specs.internal.Reading.{
+  value_or_wrong,
+  taking,
+  at_end,
+  word_at,
+  literal_at,
+  name_at,
+  symbol_at,
+  from_one,
+  positive_at,
+  kind_at,
+  number_or_none,
+  number_member,
+  numbers,
+  entry_made,
+  entry_of,
+  entry_when,
+  entry_member,
+  entries,
+  tables_made,
+  tables_text,
+  after_word,
+  column_member,
+  columns,
+  row_member,
+  rows,
+  row,
+  some_rows,
+  inputs_made,
+  inputs_text,
+}
+
+-- ---- one terminal
+
+module _ {T V : Type 0} where
+  -- one terminal that has this value
+  abbrev pub IsTaken : (T → Option V) → Grammar T V
+  IsTaken value r xs v = (x : T) × (xs ≡ x ∷ []) × (value x ≡ Some v)
+
+  -- some terminal has a value
+  pub record HasExample (value : T → Option V) : Type 0 where
+    pub example : T
+    pub result : V
+    pub is : value example ≡ Some result
+
+  taken_begins : (value : T → Option V) → HasExample value → (r : ℕ) → Begins (IsTaken value r) []
+  taken_begins value e r = record { ending = e.example ∷ []; value = e.result; derives = (e.example, refl, e.is) }
+
+  pub taken_exact : (value : T → Option V) → HasExample value → (room : ℕ) → Exact (IsTaken value) Any room (taking value)
+  unfolding taking
+  taken_exact value e room = by_first (end_wrong refl (taken_begins value e room) (λ r v h. nothing r v h)) (λ x. by x (value x) refl) where
+    nothing : (r : ℕ) (v : V) → IsTaken value r [] v → ⊥
+    nothing r v h = let same = h.1 in cc
+
+    only : (x : T) (v : V) → value x ≡ Some v → (r : ℕ) (ys : List T) (w : V) → IsTaken value r (x ∷ ys) w → (ys ≡ []) × (w ≡ v)
+    only x v is r ys w h =
+        let first : x ≡ h.0 = cc in
+        let found : Some v ≡ Some w = sym is ∙ ap value first ∙ h.2 in
+        (cc, cc)
+
+    none_is : (x : T) → value x ≡ None → (r : ℕ) (ys : List T) (w : V) → IsTaken value r (x ∷ ys) w → ⊥
+    none_is x is r ys w h =
+        let first : x ≡ h.0 = cc in
+        let found : None ≡ Some w = sym is ∙ ap value first ∙ h.2 in
+        cc
+
+    by : (x : T) (o : Option V) → value x ≡ o → Turn (IsTaken value) Any room (taking value) x
+    by x (Some v) is = turn_alone v (λ rest. ap (λ o. value_or_wrong o x rest) is) (λ r. (x, refl, is)) (only x v is)
+    by x None is = turn_wrong (λ rest. ap (λ o. value_or_wrong o x rest) is) (taken_begins value e room) (none_is x is)
+
+-- nothing more
+abbrev pub IsEnd : {T : Type 0} → Grammar T (Unit {0})
+IsEnd r xs v = xs ≡ []
+
+abbrev pub Never : {T : Type 0} → T → Type 0
+Never x = ⊥
+
+end_exact : {T : Type 0} (room : ℕ) → Exact (IsEnd {T = T}) Never room at_end
+unfolding at_end
+end_exact room = by_first (end_gives tt refl refl (λ r w h. refl) (λ x rest h. absurd h))
+    (λ x. turn_wrong (λ rest. refl) (record { ending = []; value = tt; derives = refl }) (λ r ys v h. cc))
+
+-- ---- one form after another
+
+before_any : {T : Type 0} (xs : List T) → Before Any xs
+before_any [] = tt
+before_any (x ∷ xs) = tt
+
+module _ {T V W : Type 0} where
+  -- another value of a form
+  abbrev pub IsMapped : (V → W) → Grammar T V → Grammar T W
+  IsMapped make Is r xs w = (v : V) × Is r xs v × (w ≡ make v)
+
+  pub mapped_exact : (make : V → W) {Is : Grammar T V} {ends : T → Type 0} {room : ℕ} {reader : Reader T V} → Exact Is ends room reader →
+      Exact (IsMapped make Is) ends room (λ xs. map_read make (reader xs))
+  mapped_exact make k = exact_map make (λ r xs v h. (v, h, refl)) (λ r xs w h. h) k
+
+  mapped_begins : (make : V → W) (Is : Grammar T V) (r : ℕ) → Begins (Is r) [] → Begins (IsMapped make Is r) []
+  mapped_begins make Is r b = record { ending = b.ending; value = make b.value; derives = (b.value, b.derives, refl) }
+
+  -- a form whose terminals do not depend on levels, and then another
+  abbrev pub Then : (List T → V → Type 0) → (V → Grammar T W) → Grammar T W
+  Then Is Next = IsThen (λ r. Is) Next
+
+  then_begins : (Is : List T → V → Type 0) (Next : V → Grammar T W) (r : ℕ) → Begins Is [] → ((v : V) → Begins (Next v r) []) →
+      Begins (Then Is Next r) []
+  then_begins Is Next r b next = record {
+    ending = b.ending ++ (next b.value).ending;
+    value = (next b.value).value;
+    derives = record {
+      value = b.value;
+      front = b.ending;
+      tail = (next b.value).ending;
+      split = refl;
+      first = b.derives;
+      second = (next b.value).derives;
+    };
+  }
+
+  -- what is before anything
+  then_exact : {Is : List T → V → Type 0} {Next : V → Grammar T W} {ends : T → Type 0} {room : ℕ} {reader : Reader T V}
+      {next : V → Reader T W} → ((r : ℕ) (v : V) → Begins (Next v r) []) → Exact (λ r. Is) Any room reader →
+      ((v : V) → Exact (Next v) ends room (next v)) → Exact (Then Is Next) ends room (λ xs. and_then (reader xs) next)
+  then_exact begins k second =
+      exact_then (record { lift = λ r xs v h. h; default = begins }) (λ r v xs w h rest b. before_any (xs ++ rest)) k second
+
+  -- what is before some terminals, with which each further form begins
+  then_before : {Is : List T → V → Type 0} {Next : V → Grammar T W} {firsts ends : T → Type 0} {room : ℕ} {reader : Reader T V}
+      {next : V → Reader T W} → ((r : ℕ) (v : V) → Begins (Next v r) []) →
+      ((r : ℕ) (v : V) (xs : List T) (w : W) → Next v r xs w → (rest : List T) → Before ends rest → Before firsts (xs ++ rest)) →
+      Exact (λ r. Is) firsts room reader → ((v : V) → Exact (Next v) ends room (next v)) →
+      Exact (Then Is Next) ends room (λ xs. and_then (reader xs) next)
+  then_before begins follow k second = exact_then (record { lift = λ r xs v h. h; default = begins }) follow k second
+
+-- ---- single terminals
+
+word_if : (b : Bool) → (if b then Some (tt {0}) else None) ≡ Some (tt {0}) → b ≡ true
+word_if true e = refl
+word_if false e = cc
+
+word_is : (w : List ℕ) (x : Terminal) → word_at w x ≡ Some (tt {0}) → is_word w x ≡ true
+word_is w x e = word_if (is_word w x) e
+
+word_taken : (w : List ℕ) (x : Terminal) → is_word w x ≡ true → word_at w x ≡ Some (tt {0})
+word_taken w x e = ap (λ b. if b then Some (tt {0}) else None) e
+
+literal_is : (w : List ℕ) (x : Terminal) → literal_at w x ≡ Some (tt {0}) → is_literal w x ≡ true
+literal_is w x e = word_if (is_literal w x) e
+
+literal_taken : (w : List ℕ) (x : Terminal) → is_literal w x ≡ true → literal_at w x ≡ Some (tt {0})
+literal_taken w x e = ap (λ b. if b then Some (tt {0}) else None) e
+
+itself_if : (b : Bool) (x y : Terminal) → (if b then Some x else None) ≡ Some y → (b ≡ true) × (y ≡ x)
+itself_if true x y e = (refl, cc)
+itself_if false x y e = cc
+
+name_is : (x y : Terminal) → name_at x ≡ Some y → (is_name x ≡ true) × (y ≡ x)
+name_is x y e = itself_if (is_name x) x y e
+
+name_taken : (x : Terminal) → is_name x ≡ true → name_at x ≡ Some x
+name_taken x e = ap (λ b. if b then Some x else None) e
+
+symbol_is : (x y : Terminal) → symbol_at x ≡ Some y → (is_symbol x ≡ true) × (y ≡ x)
+symbol_is x y e = itself_if (is_symbol x) x y e
+
+symbol_taken : (x : Terminal) → is_symbol x ≡ true → symbol_at x ≡ Some x
+symbol_taken x e = ap (λ b. if b then Some x else None) e
+
+from_one_is : (o : Option ℕ) (n : ℕ) → option_and_then from_one o ≡ Some n → (o ≡ Some n) × (1 ≤ n)
+from_one_is None n e = cc
+from_one_is (Some zero) n e = cc
+from_one_is (Some (suc m)) n e =
+    let same : suc m ≡ n = cc in
+    (ap (λ k. Some k) same, omega (arith, same))
+
+from_one_taken : (n : ℕ) → 1 ≤ n → from_one n ≡ Some n
+from_one_taken zero few = absurd (omega (arith, few))
+from_one_taken (suc n) few = refl
+
+-- two words are never one
+words_differ : (v w : List ℕ) → bytes_eq v w ≡ false → (x : Terminal) → is_word v x ≡ true → is_word w x ≡ false
+words_differ v w differ x e =
+    let parts = and_parts (is_name x) (bytes_eq x.text v) e in
+    let text : x.text ≡ v = same_bytes x.text v parts.1 in
+    rw (parts.0, text) differ
+
+word_is_name : (w : List ℕ) (x : Terminal) → is_word w x ≡ true → is_name x ≡ true
+word_is_name w x e = (and_parts (is_name x) (bytes_eq x.text w) e).0
+
+-- a name is no number
+name_no_number : (x : Terminal) → is_name x ≡ true → number_at x ≡ None
+name_no_number x e = by x.token.kind e where
+  by : (kind : TokenKind) → is_name_kind kind ≡ true → (if is_number_kind kind then number_in x.text else None) ≡ None
+  by kinds.Name e = refl
+  by kinds.Number e = cc
+  by kinds.OpenBrace e = cc
+  by kinds.CloseBrace e = cc
+  by kinds.OpenRound e = cc
+  by kinds.CloseRound e = cc
+  by kinds.OpenSquare e = cc
+  by kinds.CloseSquare e = cc
+  by kinds.Semicolon e = cc
+  by kinds.Not e = cc
+  by kinds.And e = cc
+  by kinds.Or e = cc
+  by kinds.Arrow e = cc
+  by kinds.BothArrow e = cc
+  by kinds.LeftArrow e = cc
+  by kinds.Question e = cc
+
+-- what an entry is for, by its word
+abbrev word_of_kind : NameKind → List ℕ
+word_of_kind Function = codes "func"
+word_of_kind Predicate = codes "pred"
+word_of_kind Signal = codes "cell"
+
+kind_is : (x : Terminal) (kind : NameKind) → kind_at x ≡ Some kind → is_word (word_of_kind kind) x ≡ true
+kind_is x kind e = by (is_word (codes "func") x) refl (is_word (codes "pred") x) refl (is_word (codes "cell") x) refl e where
+  by : (f : Bool) → is_word (codes "func") x ≡ f → (p : Bool) → is_word (codes "pred") x ≡ p → (c : Bool) → is_word (codes "cell") x ≡ c →
+      (if f then Some Function else (if p then Some Predicate else (if c then Some Signal else None))) ≡ Some kind →
+      is_word (word_of_kind kind) x ≡ true
+  by true f p g c h e = let same : Function ≡ kind = cc in rw (← same) f
+  by false f true g c h e = let same : Predicate ≡ kind = cc in rw (← same) g
+  by false f false g true h e = let same : Signal ≡ kind = cc in rw (← same) h
+  by false f false g false h e = cc
+
+kind_taken : (x : Terminal) (kind : NameKind) → is_word (word_of_kind kind) x ≡ true → kind_at x ≡ Some kind
+kind_taken x Function e = rw e refl
+kind_taken x Predicate e = rw (words_differ (codes "pred") (codes "func") refl x e, e) refl
+kind_taken x Signal e =
+    rw (words_differ (codes "cell") (codes "func") refl x e, words_differ (codes "cell") (codes "pred") refl x e, e) refl
+
+-- ---- numbers
+
+abbrev pub IsNumber : List Terminal → ℕ → Type 0
+IsNumber xs n = (x : Terminal) × (xs ≡ x ∷ []) × (number_at x ≡ Some n)
+
+-- a terminal that is no number
+abbrev pub NoNumber : Terminal → Type 0
+NoNumber x = number_at x ≡ None
+
+-- terminals for examples
+abbrev name_example : List ℕ → Terminal
+name_example text = record { token = record { kind = kinds.Name; start = 0; end = 0 }; text = text }
+
+abbrev number_example : Terminal
+number_example = record { token = record { kind = kinds.Number; start = 0; end = 0 }; text = codes "1" }
+
+has_number : HasExample number_at
+has_number = record { example = number_example; result = 1; is = refl }
+
+number_exact : (room : ℕ) → Exact (λ r. IsNumber) Any room (taking number_at)
+number_exact room = taken_exact number_at has_number room
+
+number_members : (room : ℕ) → Member (λ r. IsNumber) Any NoNumber room number_member (λ x. is_some (number_at x)) (taking number_at)
+unfolding taking
+number_members room = record {
+  at_end = refl;
+  none = λ x rest e. none_here (number_at x) rest e;
+  some = λ x rest e. some_here (number_at x) x rest e;
+  begins = begins;
+  lift = λ r xs n h. h;
+  follows = λ x e. tt;
+  stops = λ x e. ap is_some e;
+  weaker = λ x e. tt;
+  turn = λ x e. turn_of (number_exact room) x;
+} where
+  none_here : (o : Option ℕ) (rest : List Terminal) → is_some o ≡ false → number_or_none o rest ≡ None
+  none_here None rest e = refl
+  none_here (Some n) rest e = cc
+
+  some_here : (o : Option ℕ) (x : Terminal) (rest : List Terminal) → is_some o ≡ true →
+      number_or_none o rest ≡ Some (value_or_wrong o x rest)
+  some_here None x rest e = cc
+  some_here (Some n) x rest e = refl
+
+  begins : (r : ℕ) (xs : List Terminal) (n : ℕ) → IsNumber xs n →
+      (x : Terminal) × (ys : List Terminal) × (xs ≡ x ∷ ys) × (is_some (number_at x) ≡ true)
+  begins r xs n h = (h.0, [], h.1, ap is_some h.2)
+
+are_numbers : (r : ℕ) (xs : List Terminal) (ns : List ℕ) → AreAll (λ r. IsNumber) r xs ns → AreNumbers xs ns
+are_numbers r xs ns none = no_number
+are_numbers r xs ns (some {g = g} {v = n} {vs = ms} h rest) = rw h.1 (more_numbers h.0 n h.2 (are_numbers r g ms rest))
+
+all_numbers : (r : ℕ) (xs : List Terminal) (ns : List ℕ) → AreNumbers xs ns → AreAll (λ r. IsNumber) r xs ns
+all_numbers r xs ns no_number = none
+all_numbers r xs ns (more_numbers {xs = ys} {ns = ms} x n e h) = some {f = x ∷ []} (x, refl, e) (all_numbers r ys ms h)
+
+pub numbers_exact : (room : ℕ) → Exact (λ r. AreNumbers) NoNumber room numbers
+unfolding numbers
+numbers_exact room = exact_as are_numbers all_numbers (λ x e. e) (members_exact (number_members room))
+
+pub numbers_shrink : Shrinks (push number_member)
+numbers_shrink = step_shrinks (stepping (number_members 0))
+
+-- ---- entries
+
+has_name : HasExample name_at
+has_name = record { example = name_example []; result = name_example []; is = refl }
+
+has_symbol : HasExample symbol_at
+has_symbol = record { example = name_example []; result = name_example []; is = refl }
+
+has_kind : HasExample kind_at
+has_kind = record { example = name_example (codes "func"); result = Function; is = refl }
+
+abbrev IsOne : {V : Type 0} → (Terminal → Option V) → List Terminal → V → Type 0
+IsOne value xs v = IsTaken value 0 xs v
+
+-- an entry after its first word
+abbrev IsForm : NameKind → Grammar Terminal Entry
+IsForm Signal = Then (IsOne name_at) (λ name. IsMapped (λ n. entry_made Signal name (n ∷ [])) (λ r. IsNumber))
+IsForm Function = Then (IsOne symbol_at) (λ name. IsMapped (entry_made Function name) (λ r. AreNumbers))
+IsForm Predicate = Then (IsOne symbol_at) (λ name. IsMapped (entry_made Predicate name) (λ r. AreNumbers))
+
+numbers_begin : Begins AreNumbers []
+numbers_begin = record { ending = []; value = []; derives = no_number }
+
+number_begins : Begins IsNumber []
+number_begins = record { ending = number_example ∷ []; value = 1; derives = (number_example, refl, refl) }
+
+form_exact : (kind : NameKind) (room : ℕ) → Exact (IsForm kind) NoNumber room (entry_of kind)
+unfolding entry_of
+form_exact Signal room =
+    then_exact (λ r name. mapped_begins (λ n. entry_made Signal name (n ∷ [])) (λ r. IsNumber) r number_begins)
+    (taken_exact name_at has_name room)
+    (λ name. exact_as (λ r xs v h. h) (λ r xs v h. h) (λ x e. tt) (mapped_exact (λ n. entry_made Signal name (n ∷ [])) (number_exact room)))
+form_exact Function room =
+    then_exact (λ r name. mapped_begins (entry_made Function name) (λ r. AreNumbers) r numbers_begin) (taken_exact symbol_at has_symbol room)
+    (λ name. mapped_exact (entry_made Function name) (numbers_exact room))
+form_exact Predicate room =
+    then_exact (λ r name. mapped_begins (entry_made Predicate name) (λ r. AreNumbers) r numbers_begin)
+    (taken_exact symbol_at has_symbol room)
+    (λ name. mapped_exact (entry_made Predicate name) (numbers_exact room))
+
+form_begins : (kind : NameKind) (r : ℕ) → Begins (IsForm kind r) []
+form_begins Signal r =
+    then_begins (IsOne name_at) (λ name. IsMapped (λ n. entry_made Signal name (n ∷ [])) (λ r. IsNumber)) r (taken_begins name_at has_name 0)
+    (λ name. mapped_begins (λ n. entry_made Signal name (n ∷ [])) (λ r. IsNumber) r number_begins)
+form_begins Function r =
+    then_begins (IsOne symbol_at) (λ name. IsMapped (entry_made Function name) (λ r. AreNumbers)) r (taken_begins symbol_at has_symbol 0)
+    (λ name. mapped_begins (entry_made Function name) (λ r. AreNumbers) r numbers_begin)
+form_begins Predicate r =
+    then_begins (IsOne symbol_at) (λ name. IsMapped (entry_made Predicate name) (λ r. AreNumbers)) r (taken_begins symbol_at has_symbol 0)
+    (λ name. mapped_begins (entry_made Predicate name) (λ r. AreNumbers) r numbers_begin)
+
+lift_form : (kind : NameKind) (r : ℕ) (xs : List Terminal) (e : Entry) → IsForm kind r xs e → IsForm kind (suc (suc r)) xs e
+lift_form Signal r xs e h = record { value = h.value; front = h.front; tail = h.tail; split = h.split; first = h.first; second = h.second }
+lift_form Function r xs e h = record { value = h.value; front = h.front; tail = h.tail; split = h.split; first = h.first; second = h.second }
+lift_form Predicate r xs e h = record { value = h.value; front = h.front; tail = h.tail; split = h.split; first = h.first; second = h.second }
+
+abbrev IsWhole : Grammar Terminal Entry
+IsWhole = Then (IsOne kind_at) IsForm
+
+abbrev whole_entry : Reader Terminal Entry
+whole_entry xs = and_then (taking kind_at xs) entry_of
+
+whole_exact : (room : ℕ) → Exact IsWhole NoNumber room whole_entry
+whole_exact room = then_exact (λ r kind. form_begins kind r) (taken_exact kind_at has_kind room) (λ kind. form_exact kind room)
+
+entry_members : (room : ℕ) → Member IsWhole NoNumber Never room entry_member (λ x. is_some (kind_at x)) whole_entry
+unfolding taking
+entry_members room = record {
+  at_end = refl;
+  none = λ x rest e. none_here (kind_at x) rest e;
+  some = λ x rest e. some_here (kind_at x) x rest e;
+  begins = begins;
+  lift = λ r xs e h. record {
+    value = h.value;
+    front = h.front;
+    tail = h.tail;
+    split = h.split;
+    first = h.first;
+    second = lift_form h.value r h.tail e h.second;
+  };
+  follows = λ x e. follows x (kind_at x) refl e;
+  stops = λ x e. absurd e;
+  weaker = λ x e. absurd e;
+  turn = λ x e. turn_of (whole_exact room) x;
+} where
+  none_here : (o : Option NameKind) (rest : List Terminal) → is_some o ≡ false → entry_when o rest ≡ None
+  none_here None rest e = refl
+  none_here (Some kind) rest e = cc
+
+  some_here : (o : Option NameKind) (x : Terminal) (rest : List Terminal) → is_some o ≡ true →
+      entry_when o rest ≡ Some (and_then (value_or_wrong o x rest) entry_of)
+  some_here None x rest e = cc
+  some_here (Some kind) x rest e = refl
+
+  begins : (r : ℕ) (xs : List Terminal) (e : Entry) → IsWhole r xs e →
+      (x : Terminal) × (ys : List Terminal) × (xs ≡ x ∷ ys) × (is_some (kind_at x) ≡ true)
+  begins r xs e h =
+      (h.first.0, h.tail, h.split ∙ ap (λ front. front ++ h.tail) h.first.1, ap is_some h.first.2)
+
+  follows : (x : Terminal) (o : Option NameKind) → kind_at x ≡ o → is_some o ≡ true → NoNumber x
+  follows x None is e = cc
+  follows x (Some kind) is e = name_no_number x (word_is_name (word_of_kind kind) x (kind_is x kind is))
+
+-- what an entry is, by its parts
+
+entry_is : (r : ℕ) (xs : List Terminal) (e : Entry) → IsWhole r xs e → IsEntry xs e
+entry_is r xs e h = by h.value (kind_is h.first.0 h.value h.first.2) h.second where
+  split : xs ≡ h.first.0 ∷ h.tail
+  split = h.split ∙ ap (λ front. front ++ h.tail) h.first.1
+
+  by : (kind : NameKind) → is_word (word_of_kind kind) h.first.0 ≡ true → IsForm kind r h.tail e → IsEntry xs e
+  by Signal word k =
+      let name = name_is k.first.0 k.value k.first.2 in
+      let value = k.second.1 in
+      let tail : h.tail ≡ k.first.0 ∷ value.0 ∷ [] = k.split ∙ ap (λ front. front ++ k.tail) k.first.1
+      ∙ ap (λ zs. k.first.0 ∷ zs) value.1 in
+      rw (split, tail, k.second.2, name.1) (cell h.first.0 k.first.0 value.0 k.second.0 word name.0 value.2)
+  by Function word k =
+      let name = symbol_is k.first.0 k.value k.first.2 in
+      let tail : h.tail ≡ k.first.0 ∷ k.tail = k.split ∙ ap (λ front. front ++ k.tail) k.first.1 in
+      rw (split, tail, k.second.2, name.1) (function h.first.0 k.first.0 word name.0 k.second.1)
+  by Predicate word k =
+      let name = symbol_is k.first.0 k.value k.first.2 in
+      let tail : h.tail ≡ k.first.0 ∷ k.tail = k.split ∙ ap (λ front. front ++ k.tail) k.first.1 in
+      rw (split, tail, k.second.2, name.1) (predicate h.first.0 k.first.0 word name.0 k.second.1)
+
+is_entry : (r : ℕ) (xs : List Terminal) (e : Entry) → IsEntry xs e → IsWhole r xs e
+is_entry r xs e (function {xs = ys} {ns = ns} x y word name h) = record {
+  value = Function;
+  front = x ∷ [];
+  tail = y ∷ ys;
+  split = refl;
+  first = (x, refl, kind_taken x Function word);
+  second = record {
+    value = y;
+    front = y ∷ [];
+    tail = ys;
+    split = refl;
+    first = (y, refl, symbol_taken y name);
+    second = (ns, h, refl);
+  };
+}
+is_entry r xs e (predicate {xs = ys} {ns = ns} x y word name h) = record {
+  value = Predicate;
+  front = x ∷ [];
+  tail = y ∷ ys;
+  split = refl;
+  first = (x, refl, kind_taken x Predicate word);
+  second = record {
+    value = y;
+    front = y ∷ [];
+    tail = ys;
+    split = refl;
+    first = (y, refl, symbol_taken y name);
+    second = (ns, h, refl);
+  };
+}
+is_entry r xs e (cell x y z n word name number) = record {
+  value = Signal;
+  front = x ∷ [];
+  tail = y ∷ z ∷ [];
+  split = refl;
+  first = (x, refl, kind_taken x Signal word);
+  second = record {
+    value = y;
+    front = y ∷ [];
+    tail = z ∷ [];
+    split = refl;
+    first = (y, refl, name_taken y name);
+    second = (n, (z, refl, number), refl);
+  };
+}
+
+are_entries : (r : ℕ) (xs : List Terminal) (es : List Entry) → AreAll IsWhole r xs es → AreEntries xs es
+are_entries r xs es none = no_entry
+are_entries r xs es (some {f = f} {g = g} {v = e} {vs = ds} h rest) = more_entries (entry_is r f e h) (are_entries r g ds rest)
+
+all_entries : (r : ℕ) (xs : List Terminal) (es : List Entry) → AreEntries xs es → AreAll IsWhole r xs es
+all_entries r xs es no_entry = none
+all_entries r xs es (more_entries {xs = ys} {ys = zs} {e = e} {es = ds} h rest) = some (is_entry r ys e h) (all_entries r zs ds rest)
+
+pub entries_exact : (room : ℕ) → Exact (λ r. AreEntries) Never room entries
+unfolding entries
+entries_exact room = exact_as are_entries all_entries (λ x e. e) (members_exact (entry_members room))
+
+pub entries_shrink : Shrinks (push entry_member)
+entries_shrink = step_shrinks (stepping (entry_members 0))

@@ -1,0 +1,453 @@
+//! Reading terminals by the grammars.
+
+ghost use Rattle.std.specs.Prelude.{◌≡◌, ◌≤◌, ◌<◌, length, map, Some, Ok, IsTrue, IfOk, IfErr, IfSome, IfNone};
+ghost use Rattle.table_interp.specs.internal.Reading.{
+    taking, word_at, literal_at, name_at, symbol_at, positive_at, kind_at, number_member, numbers, entry_of, entry_member, entries,
+    at_end, tables_text, after_word, columns, rows, row, some_rows, inputs_text
+};
+ghost use Rattle.tsl_terms.specs.declared.names.NameKind.TheVariants.{Signal};
+ghost use Rattle.table_interp.specs.Syntax.{number_at};
+ghost use Rattle.table_interp.specs.Needed.{has_table};
+ghost use Rattle.table_interp.specs.internal.View.{
+    terminal_view, terminals_view, entry_view, entries_view, numbers_view, tables_view, inputs_view, HasFault
+};
+
+use crate::terminals::{Left, Terminal, is_literal, is_name, is_symbol, is_word, number_at};
+use sequence::NoMemory;
+use std::alloc::{AllocFailed, Global};
+use tsl_terms::NameKind;
+
+/// The first fault, by how many terminals are left from the faulty one on, or out of memory.
+#[derive(Debug, Drop)]
+pub(crate) enum ReadFault {
+    /// The grammar has no text that goes on with that terminal.
+    Form(usize),
+    /// Memory ran out.
+    NoMemory,
+}
+
+impl From<NoMemory> for ReadFault {
+    ghost use Rattle.table_interp.specs.declared.reading.ReadFault.TheVariants.{NoMemory};
+
+    ghost from_gives = { λ _ e. e ≡ NoMemory };
+
+    fn from(_error: NoMemory) -> ReadFault {
+        ReadFault::NoMemory
+    }
+}
+
+impl<T: Drop> From<AllocFailed<T>> for ReadFault {
+    ghost use Rattle.table_interp.specs.declared.reading.ReadFault.TheVariants.{NoMemory};
+
+    ghost from_gives = { λ _ e. e ≡ NoMemory };
+
+    fn from(_error: AllocFailed<T>) -> ReadFault {
+        ReadFault::NoMemory
+    }
+}
+
+/// What was read and the terminals after it, or the first fault.
+pub(crate) type Answer<'a, 'b, V> = Result<(V, &'b [Terminal<'a>]), ReadFault>;
+
+/// An entry: what it is for (a signal is a cell), the name, and the numbers after it.
+#[derive(Debug, Drop)]
+pub(crate) struct Entry<'a> {
+    pub(crate) kind: NameKind,
+    pub(crate) name: Terminal<'a>,
+    pub(crate) numbers: Vec<u64>,
+}
+
+/// A text of tables.
+#[derive(Debug, Drop)]
+pub(crate) struct TablesText<'a> {
+    pub(crate) domain: u64,
+    pub(crate) entries: Vec<Entry<'a>>,
+}
+
+/// A text of inputs: the names of the columns, and the rows of the stem and of the cycle.
+#[derive(Debug, Drop)]
+pub(crate) struct InputsText<'a> {
+    pub(crate) names: Vec<Terminal<'a>>,
+    pub(crate) stem: Vec<Vec<u64>>,
+    pub(crate) cycle: Vec<Vec<u64>>,
+}
+
+/// The terminals after a name with these bytes.
+#[tactic(auto, unfolding(crate::specs::internal::Reading::taking))]
+fn word<'a, 'b>(word: &[u8], xs: &'b [Terminal<'a>]) -> Answer<'a, 'b, ()>
+    ensures ok { IfOk result (λ read. taking (word_at word.now) (terminals_view xs.now) ≡ Ok (tt, terminals_view read.1.now)) }
+    ensures fault { IfErr result (HasFault (taking (word_at word.now) (terminals_view xs.now))) }
+    ensures shorter { IfOk result (λ read. length read.1.now < length xs.now) }
+{
+    match xs {
+        [x, rest @ ..] => {
+            if is_word(word, *x) {
+                Ok(((), rest))
+            } else {
+                Err(ReadFault::Form(xs.len()))
+            }
+        }
+        [] => Err(ReadFault::Form(0)),
+    }
+}
+
+/// The terminals after a number with these digits.
+#[tactic(auto, unfolding(crate::specs::internal::Reading::taking))]
+fn literal<'a, 'b>(digits: &[u8], xs: &'b [Terminal<'a>]) -> Answer<'a, 'b, ()>
+    ensures ok { IfOk result (λ read. taking (literal_at digits.now) (terminals_view xs.now) ≡ Ok (tt, terminals_view read.1.now)) }
+    ensures fault { IfErr result (HasFault (taking (literal_at digits.now) (terminals_view xs.now))) }
+{
+    match xs {
+        [x, rest @ ..] => {
+            if is_literal(digits, *x) {
+                Ok(((), rest))
+            } else {
+                Err(ReadFault::Form(xs.len()))
+            }
+        }
+        [] => Err(ReadFault::Form(0)),
+    }
+}
+
+/// A name.
+#[tactic(auto, unfolding(crate::specs::internal::Reading::taking))]
+fn name<'a, 'b>(xs: &'b [Terminal<'a>]) -> Answer<'a, 'b, Terminal<'a>>
+    ensures ok { IfOk result (λ read. taking name_at (terminals_view xs.now) ≡ Ok (terminal_view read.0, terminals_view read.1.now)) }
+    ensures fault { IfErr result (HasFault (taking name_at (terminals_view xs.now))) }
+    ensures shorter { IfOk result (λ read. length read.1.now < length xs.now) }
+{
+    match xs {
+        [x, rest @ ..] => {
+            if is_name(*x) {
+                Ok((*x, rest))
+            } else {
+                Err(ReadFault::Form(xs.len()))
+            }
+        }
+        [] => Err(ReadFault::Form(0)),
+    }
+}
+
+/// A name or `?`.
+#[tactic(auto, unfolding(crate::specs::internal::Reading::taking))]
+fn symbol<'a, 'b>(xs: &'b [Terminal<'a>]) -> Answer<'a, 'b, Terminal<'a>>
+    ensures ok { IfOk result (λ read. taking symbol_at (terminals_view xs.now) ≡ Ok (terminal_view read.0, terminals_view read.1.now)) }
+    ensures fault { IfErr result (HasFault (taking symbol_at (terminals_view xs.now))) }
+    ensures shorter { IfOk result (λ read. length read.1.now < length xs.now) }
+{
+    match xs {
+        [x, rest @ ..] => {
+            if is_symbol(*x) {
+                Ok((*x, rest))
+            } else {
+                Err(ReadFault::Form(xs.len()))
+            }
+        }
+        [] => Err(ReadFault::Form(0)),
+    }
+}
+
+/// A number of at most 18 digits.
+#[tactic(auto, unfolding(crate::specs::internal::Reading::taking))]
+fn number<'a, 'b>(xs: &'b [Terminal<'a>]) -> Answer<'a, 'b, u64>
+    ensures ok { IfOk result (λ read. taking number_at (terminals_view xs.now) ≡ Ok (read.0, terminals_view read.1.now)) }
+    ensures fault { IfErr result (HasFault (taking number_at (terminals_view xs.now))) }
+    ensures shorter { IfOk result (λ read. length read.1.now < length xs.now) }
+{
+    match xs {
+        [x, rest @ ..] => match number_at(*x) {
+            Some(value) => Ok((value, rest)),
+            None => Err(ReadFault::Form(xs.len())),
+        },
+        [] => Err(ReadFault::Form(0)),
+    }
+}
+
+/// What a number means, where it is not 0.
+fn positive_at(x: Terminal) -> Option<u64>
+    ensures { result ≡ positive_at (terminal_view x.entry) }
+{
+    match number_at(x) {
+        Some(0) => None,
+        value => value,
+    }
+}
+
+/// A number of at most 18 digits from 1 on.
+#[tactic(auto, unfolding(crate::specs::internal::Reading::taking))]
+fn positive<'a, 'b>(xs: &'b [Terminal<'a>]) -> Answer<'a, 'b, u64>
+    ensures ok { IfOk result (λ read. taking positive_at (terminals_view xs.now) ≡ Ok (read.0, terminals_view read.1.now)) }
+    ensures fault { IfErr result (HasFault (taking positive_at (terminals_view xs.now))) }
+{
+    match xs {
+        [x, rest @ ..] => match positive_at(*x) {
+            Some(value) => Ok((value, rest)),
+            None => Err(ReadFault::Form(xs.len())),
+        },
+        [] => Err(ReadFault::Form(0)),
+    }
+}
+
+/// What an entry with this first word is for.
+fn kind_at(x: Terminal) -> Option<NameKind>
+    ensures { result ≡ kind_at (terminal_view x.entry) }
+{
+    if is_word(b"func", x) {
+        Some(NameKind::Function)
+    } else if is_word(b"pred", x) {
+        Some(NameKind::Predicate)
+    } else if is_word(b"cell", x) {
+        Some(NameKind::Signal)
+    } else {
+        None
+    }
+}
+
+/// What the entry at the front is for and the terminals after its first word, where one begins.
+fn first_kind<'a, 'b>(xs: &'b [Terminal<'a>]) -> Option<(NameKind, &'b [Terminal<'a>])>
+    ensures some { IfSome result (λ read. entry_member (terminals_view xs.now) ≡ Some (entry_of read.0 (terminals_view read.1.now))) }
+    ensures none { IfNone result (entry_member (terminals_view xs.now) ≡ None) }
+    ensures shorter { IfSome result (λ read. length read.1.now < length xs.now) }
+{
+    match xs {
+        [x, rest @ ..] => match kind_at(*x) {
+            Some(kind) => Some((kind, rest)),
+            None => None,
+        },
+        [] => None,
+    }
+}
+
+/// The number at the front, where one is.
+fn first_number<'a, 'b>(xs: &'b [Terminal<'a>]) -> Option<(u64, &'b [Terminal<'a>])>
+    ensures some { IfSome result (λ read. number_member (terminals_view xs.now) ≡ Some (Ok (read.0, terminals_view read.1.now))) }
+    ensures none { IfNone result (number_member (terminals_view xs.now) ≡ None) }
+    ensures shorter { IfSome result (λ read. length read.1.now < length xs.now) }
+{
+    match xs {
+        [x, rest @ ..] => match number_at(*x) {
+            Some(value) => Some((value, rest)),
+            None => None,
+        },
+        [] => None,
+    }
+}
+
+/// The numbers at the front. An `Err` says that memory ran out.
+#[tactic(auto, unfolding(crate::specs::internal::Reading::numbers))]
+fn numbers<'a, 'b>(
+    alloc: Global,
+    xs: &'b [Terminal<'a>],
+) -> Result<(Vec<u64>, &'b [Terminal<'a>]), NoMemory>
+    ensures ok { IfOk result (λ read. numbers (terminals_view xs.now) ≡ Ok (read.0.items, terminals_view read.1.now)) }
+    ensures shorter { IfOk result (λ read. length read.1.now ≤ length xs.now) }
+{
+    let mut numbers = Vec::new(alloc);
+    let mut left = Left { terminals: xs };
+    while let Some((number, rest)) = first_number(left.terminals) {
+        numbers.push(number)?;
+        left = Left { terminals: rest };
+    }
+    Ok((numbers, left.terminals))
+}
+
+/// The entry of a cell after its first word.
+#[tactic(auto, unfolding(crate::specs::internal::Reading::entry_of))]
+fn cell<'a, 'b>(alloc: Global, xs: &'b [Terminal<'a>]) -> Answer<'a, 'b, Entry<'a>>
+    ensures ok { IfOk result (λ read. entry_of Signal (terminals_view xs.now)
+        ≡ Ok (entry_view read.0, terminals_view read.1.now)) }
+    ensures fault { IfErr result (HasFault (entry_of Signal (terminals_view xs.now))) }
+    ensures shorter { IfOk result (λ read. length read.1.now < length xs.now) }
+{
+    let (name, xs) = name(xs)?;
+    let (value, xs) = number(xs)?;
+    let entry = Entry {
+        kind: NameKind::Signal,
+        name,
+        numbers: vec![in alloc; value]?,
+    };
+    Ok((entry, xs))
+}
+
+/// The entry of a function or a predicate after its first word.
+#[tactic(auto, unfolding(crate::specs::internal::Reading::entry_of))]
+fn table<'a, 'b>(
+    alloc: Global,
+    kind: NameKind,
+    xs: &'b [Terminal<'a>],
+) -> Answer<'a, 'b, Entry<'a>>
+    requires { IsTrue (has_table kind) }
+    ensures ok { IfOk result (λ read. entry_of kind (terminals_view xs.now)
+        ≡ Ok (entry_view read.0, terminals_view read.1.now)) }
+    ensures fault { IfErr result (HasFault (entry_of kind (terminals_view xs.now))) }
+    ensures shorter { IfOk result (λ read. length read.1.now < length xs.now) }
+{
+    let (name, xs) = symbol(xs)?;
+    let (numbers, xs) = numbers(alloc, xs)?;
+    let entry = Entry {
+        kind,
+        name,
+        numbers,
+    };
+    Ok((entry, xs))
+}
+
+/// An entry after its first word.
+fn entry_of<'a, 'b>(
+    alloc: Global,
+    kind: NameKind,
+    xs: &'b [Terminal<'a>],
+) -> Answer<'a, 'b, Entry<'a>>
+    ensures ok { IfOk result (λ read. entry_of kind (terminals_view xs.now)
+        ≡ Ok (entry_view read.0, terminals_view read.1.now)) }
+    ensures fault { IfErr result (HasFault (entry_of kind (terminals_view xs.now))) }
+    ensures shorter { IfOk result (λ read. length read.1.now < length xs.now) }
+{
+    match kind {
+        NameKind::Signal => cell(alloc, xs),
+        NameKind::Function | NameKind::Predicate => table(alloc, kind, xs),
+    }
+}
+
+/// The entries at the front.
+#[tactic(auto, unfolding(crate::specs::internal::Reading::entries))]
+fn entries<'a, 'b>(alloc: Global, xs: &'b [Terminal<'a>]) -> Answer<'a, 'b, Vec<Entry<'a>>>
+    ensures ok { IfOk result (λ read. entries (terminals_view xs.now) ≡ Ok (entries_view read.0.items, terminals_view read.1.now)) }
+    ensures fault { IfErr result (HasFault (entries (terminals_view xs.now))) }
+{
+    let mut entries = Vec::new(alloc);
+    let mut left = Left { terminals: xs };
+    while let Some((kind, rest)) = first_kind(left.terminals) {
+        let (entry, rest) = entry_of(alloc, kind, rest)?;
+        entries.push(entry)?;
+        left = Left { terminals: rest };
+    }
+    Ok((entries, left.terminals))
+}
+
+/// Nothing more.
+#[tactic(auto, unfolding(crate::specs::internal::Reading::at_end))]
+fn at_end<'a, 'b>(xs: &'b [Terminal<'a>]) -> Answer<'a, 'b, ()>
+    ensures ok { IfOk result (λ read. at_end (terminals_view xs.now) ≡ Ok (tt, terminals_view read.1.now)) }
+    ensures fault { IfErr result (HasFault (at_end (terminals_view xs.now))) }
+{
+    match xs {
+        [] => Ok(((), xs)),
+        [_, ..] => Err(ReadFault::Form(xs.len())),
+    }
+}
+
+/// A text of tables. It answers an `Ok` only where nothing else is left.
+#[tactic(auto, unfolding(crate::specs::internal::Reading::tables_text))]
+pub(crate) fn tables_text<'a, 'b>(
+    alloc: Global,
+    xs: &'b [Terminal<'a>],
+) -> Answer<'a, 'b, TablesText<'a>>
+    ensures ok { IfOk result (λ read. tables_text (terminals_view xs.now) ≡ Ok (tables_view read.0, terminals_view read.1.now)) }
+    ensures fault { IfErr result (HasFault (tables_text (terminals_view xs.now))) }
+{
+    let (_, xs) = word(b"tsltables", xs)?;
+    let (_, xs) = literal(b"1", xs)?;
+    let (_, xs) = word(b"domain", xs)?;
+    let (domain, xs) = positive(xs)?;
+    let (entries, xs) = entries(alloc, xs)?;
+    let (_, xs) = at_end(xs)?;
+    Ok((TablesText { domain, entries }, xs))
+}
+
+/// The terminals after a name with these bytes at the front, where it is there.
+fn after_word<'a, 'b>(word: &[u8], xs: &'b [Terminal<'a>]) -> Option<&'b [Terminal<'a>]>
+    ensures some { IfSome result (λ rest. after_word word.now (terminals_view xs.now) ≡ Some (terminals_view rest.now)) }
+    ensures none { IfNone result (after_word word.now (terminals_view xs.now) ≡ None) }
+    ensures shorter { IfSome result (λ rest. length rest.now < length xs.now) }
+{
+    match xs {
+        [x, rest @ ..] => {
+            if is_word(word, *x) {
+                Some(rest)
+            } else {
+                None
+            }
+        }
+        [] => None,
+    }
+}
+
+/// The columns at the front.
+#[tactic(auto, unfolding(crate::specs::internal::Reading::columns))]
+fn columns<'a, 'b>(alloc: Global, xs: &'b [Terminal<'a>]) -> Answer<'a, 'b, Vec<Terminal<'a>>>
+    ensures ok { IfOk result (λ read. columns (terminals_view xs.now) ≡ Ok (terminals_view read.0.items, terminals_view read.1.now)) }
+    ensures fault { IfErr result (HasFault (columns (terminals_view xs.now))) }
+{
+    let mut columns = Vec::new(alloc);
+    let mut left = Left { terminals: xs };
+    while let Some(rest) = after_word(b"input", left.terminals) {
+        let (column, rest) = name(rest)?;
+        columns.push(column)?;
+        left = Left { terminals: rest };
+    }
+    Ok((columns, left.terminals))
+}
+
+/// The rows at the front. An `Err` says that memory ran out.
+#[tactic(auto, unfolding(crate::specs::internal::Reading::rows))]
+fn rows<'a, 'b>(
+    alloc: Global,
+    xs: &'b [Terminal<'a>],
+) -> Result<(Vec<Vec<u64>>, &'b [Terminal<'a>]), NoMemory>
+    ensures ok { IfOk result (λ read. rows (terminals_view xs.now) ≡ Ok (numbers_view read.0.items, terminals_view read.1.now)) }
+{
+    let mut rows = Vec::new(alloc);
+    let mut left = Left { terminals: xs };
+    while let Some(rest) = after_word(b"row", left.terminals) {
+        let (row, rest) = numbers(alloc, rest)?;
+        rows.push(row)?;
+        left = Left { terminals: rest };
+    }
+    Ok((rows, left.terminals))
+}
+
+/// A row.
+#[tactic(auto, unfolding(crate::specs::internal::Reading::row))]
+fn row<'a, 'b>(alloc: Global, xs: &'b [Terminal<'a>]) -> Answer<'a, 'b, Vec<u64>>
+    ensures ok { IfOk result (λ read. row (terminals_view xs.now) ≡ Ok (read.0.items, terminals_view read.1.now)) }
+    ensures fault { IfErr result (HasFault (row (terminals_view xs.now))) }
+    ensures shorter { IfOk result (λ read. length read.1.now < length xs.now) }
+{
+    let (_, xs) = word(b"row", xs)?;
+    let (row, xs) = numbers(alloc, xs)?;
+    Ok((row, xs))
+}
+
+/// A row and further rows.
+#[tactic(auto, unfolding(crate::specs::internal::Reading::some_rows))]
+fn some_rows<'a, 'b>(alloc: Global, xs: &'b [Terminal<'a>]) -> Answer<'a, 'b, Vec<Vec<u64>>>
+    ensures ok { IfOk result (λ read. some_rows (terminals_view xs.now)
+        ≡ Ok (numbers_view read.0.items, terminals_view read.1.now)) }
+    ensures fault { IfErr result (HasFault (some_rows (terminals_view xs.now))) }
+{
+    let (first, xs) = row(alloc, xs)?;
+    let (mut rows, xs) = rows(alloc, xs)?;
+    rows.insert(0, first)?;
+    Ok((rows, xs))
+}
+
+/// A text of inputs. It answers an `Ok` only where nothing else is left.
+#[tactic(auto, unfolding(crate::specs::internal::Reading::inputs_text))]
+pub(crate) fn inputs_text<'a, 'b>(
+    alloc: Global,
+    xs: &'b [Terminal<'a>],
+) -> Answer<'a, 'b, InputsText<'a>>
+    ensures ok { IfOk result (λ read. inputs_text (terminals_view xs.now) ≡ Ok (inputs_view read.0, terminals_view read.1.now)) }
+    ensures fault { IfErr result (HasFault (inputs_text (terminals_view xs.now))) }
+{
+    let (_, xs) = word(b"tslinputs", xs)?;
+    let (_, xs) = literal(b"1", xs)?;
+    let (names, xs) = columns(alloc, xs)?;
+    let (_, xs) = word(b"stem", xs)?;
+    let (stem, xs) = rows(alloc, xs)?;
+    let (_, xs) = word(b"cycle", xs)?;
+    let (cycle, xs) = some_rows(alloc, xs)?;
+    let (_, xs) = at_end(xs)?;
+    Ok((InputsText { names, stem, cycle }, xs))
+}

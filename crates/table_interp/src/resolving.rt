@@ -1,0 +1,106 @@
+//! Names by their numbers, and where each is given.
+
+ghost use Rattle.std.specs.Prelude.{◌≡◌, ◌<◌, ◌&&◌, length, All, IfOk, IfErr};
+ghost use Rattle.tsl_terms.specs.Name.{same_kind};
+ghost use Rattle.table_interp.specs.Needed.{has_table, needed, is_needed_as, HasNoRepeat};
+ghost use Rattle.table_interp.specs.internal.Resolving.{AreMarks, ArePlaces, IsRepeatFault};
+
+use sequence::NoMemory;
+use std::alloc::Global;
+use tsl_terms::{NameKind, Names};
+
+/// Whether two kinds are the same one.
+fn same_kind(left: NameKind, right: NameKind) -> bool
+    ensures { result ≡ same_kind left right }
+{
+    match (left, right) {
+        (NameKind::Signal, NameKind::Signal)
+        | (NameKind::Function, NameKind::Function)
+        | (NameKind::Predicate, NameKind::Predicate) => true,
+        _ => false,
+    }
+}
+
+/// Whether names of this kind have tables: functions and predicates.
+fn has_table(kind: NameKind) -> bool
+    ensures { result ≡ has_table kind }
+{
+    match kind {
+        NameKind::Signal => false,
+        NameKind::Function | NameKind::Predicate => true,
+    }
+}
+
+/// For each of so many numbers whether it is among these. An `Err` says that memory ran out.
+pub(crate) fn marks(alloc: Global, count: u32, numbers: &[u32]) -> Result<Vec<bool>, NoMemory>
+    requires { All (λ n. n < count) numbers.now }
+    ensures { IfOk result (λ marks. AreMarks count numbers.now marks.items) }
+{
+    let mut marks = vec![in alloc; false; count as usize]?;
+    for number in numbers {
+        marks[*number as usize] = true;
+    }
+    Ok(marks)
+}
+
+/// Whether tables need the name with this number in this kind.
+pub(crate) fn is_needed_as(names: &Names, cells: &[u32], marks: &[bool], kind: NameKind, id: u32) -> bool
+    requires within { id < length names.now }
+    requires marks { AreMarks (length names.now) cells.now marks.now }
+    ensures { result ≡ is_needed_as names.now cells.now kind id }
+{
+    same_kind(names.kind(id), kind) && (has_table(kind) || marks[id as usize])
+}
+
+/// The names that tables need, in order. An `Err` says that memory ran out.
+pub(crate) fn needed(alloc: Global, names: &Names, cells: &[u32]) -> Result<Vec<u32>, NoMemory>
+    ensures { IfOk result (λ all. all.items ≡ needed names.now cells.now) }
+{
+    let mut all = Vec::new(alloc);
+    for id in 0..names.count() {
+        if has_table(names.kind(id)) {
+            all.push(id)?;
+        }
+    }
+    all.extend_from_slice(cells)?;
+    Ok(all)
+}
+
+/// The place of the first number that stands at an earlier place too, or out of memory.
+#[derive(Debug, Drop)]
+pub(crate) enum RepeatFault {
+    Repeat(usize),
+    NoMemory,
+}
+
+impl From<NoMemory> for RepeatFault {
+    ghost use Rattle.table_interp.specs.declared.resolving.RepeatFault.TheVariants.{NoMemory};
+
+    ghost from_gives = { λ _ e. e ≡ NoMemory };
+
+    fn from(_error: NoMemory) -> RepeatFault {
+        RepeatFault::NoMemory
+    }
+}
+
+/// For each of so many numbers the place where it stands. An `Err` tells the first place with a number that
+/// stands at an earlier one too, or that memory ran out.
+pub(crate) fn places(
+    alloc: Global,
+    count: u32,
+    numbers: &[u32],
+) -> Result<Vec<Option<usize>>, RepeatFault>
+    requires { All (λ n. n < count) numbers.now }
+    ensures ok { IfOk result (λ places. ArePlaces count numbers.now places.items) }
+    ensures once { IfOk result (λ places. HasNoRepeat numbers.now) }
+    ensures fault { IfErr result (IsRepeatFault numbers.now) }
+{
+    let mut places = vec![in alloc; None; count as usize]?;
+    for (place, number) in numbers.iter().enumerate() {
+        if places[*number as usize].is_some() {
+            return Err(RepeatFault::Repeat(place));
+        }
+        places[*number as usize] = Some(place);
+    }
+    Ok(places)
+}
