@@ -10,13 +10,13 @@ use Rattle.tsl_text.specs.Numbers.{number_in}
 use Rattle.std.specs.Str.{bytes_eq}
 use Rattle.std.proofs.lemmas.Bool.{and_parts}
 use Rattle.sequence.proofs.Bytes.{same_bytes}
-use Rattle.token_readers.specs.Readers.{Answer, Reader, form_at, and_then, map_read, push, members}
+use Rattle.token_readers.specs.Readers.{Answer, Reader, form_at, and_then, map_read, after, push, members}
 use Rattle.token_readers.specs.Exact.{Grammar, Before, Begins, Exact}
 use Rattle.token_readers.proofs.Runs.{exact_map, exact_as}
 use Rattle.token_readers.proofs.Then.{Any, IsThen, exact_then}
-use Rattle.token_readers.proofs.Terminals.{Turn, by_first, end_wrong, end_gives, turn_of, turn_wrong, turn_alone, turn_takes}
+use Rattle.token_readers.proofs.Terminals.{Turn, by_first, end_wrong, end_gives, turn_of, turn_wrong, turn_alone, IsAfter}
 use Rattle.token_readers.proofs.Iterates.{Shrinks, step_shrinks}
-use Rattle.token_readers.proofs.Lists.{AreAll, none, some, Member, stepping, members_exact}
+use Rattle.token_readers.proofs.Lists.{AreAll, none, some, Member, stepping, members_exact, marked_member}
 use Rattle.table_interp.specs.Syntax.{is_name_kind, is_number_kind}
 use Rattle.table_interp.specs.Syntax.{Terminal, is_name, is_symbol, is_word, is_literal, number_at, Entry, TablesSyntax, InputsSyntax}
 use Rattle.table_interp.specs.Grammar.{
@@ -523,3 +523,437 @@ entries_exact room = exact_as are_entries all_entries (λ x e. e) (members_exact
 
 pub entries_shrink : Shrinks (push entry_member)
 entries_shrink = step_shrinks (stepping (entry_members 0))
+
+-- ---- columns and rows
+
+has_word : (w : List ℕ) → bytes_eq w w ≡ true → HasExample (word_at w)
+has_word w e = record { example = name_example w; result = tt; is = word_taken w (name_example w) e }
+
+has_one : HasExample (literal_at (codes "1"))
+has_one = record { example = number_example; result = tt; is = refl }
+
+-- a terminal that is not this name
+abbrev pub NoWord : List ℕ → Terminal → Type 0
+NoWord w x = is_word w x ≡ false
+
+after_none : (w : List ℕ) (x : Terminal) (rest : List Terminal) → is_word w x ≡ false → after_word w (x ∷ rest) ≡ None
+after_none w x rest e = ap (λ b. if b then Some rest else None) e
+
+after_some : (w : List ℕ) (x : Terminal) (rest : List Terminal) → is_word w x ≡ true → after_word w (x ∷ rest) ≡ Some rest
+after_some w x rest e = ap (λ b. if b then Some rest else None) e
+
+column_members : (room : ℕ) → Member (IsAfter (is_word (codes "input")) (λ r. IsOne name_at)) Any (NoWord (codes "input")) room column_member
+    (is_word (codes "input")) (after (is_word (codes "input")) (taking name_at))
+column_members room =
+    marked_member (is_word (codes "input")) (name_example (codes "input")) refl (taken_begins name_at has_name 0) (λ r xs v h. h) refl
+    (λ x rest e. ap (option_map (taking name_at)) (after_none (codes "input") x rest e))
+    (λ x rest e. ap (option_map (taking name_at)) (after_some (codes "input") x rest e)) (λ x e. tt) (λ x e. e) (λ x e. tt)
+    (taken_exact name_at has_name room)
+
+are_columns : (r : ℕ) (xs ns : List Terminal) → AreAll (IsAfter (is_word (codes "input")) (λ r. IsOne name_at)) r xs ns → AreColumns xs ns
+are_columns r xs ns none = no_column
+are_columns r xs ns (some {f = []} {g = g} {v = n} {vs = ms} h rest) = absurd h
+are_columns r xs ns (some {f = x ∷ ys} {g = g} {v = n} {vs = ms} h rest) =
+    let name = name_is h.1.0 n h.1.2 in
+    let split : ys ≡ n ∷ [] = h.1.1 ∙ ap (λ y. y ∷ []) (sym name.1) in
+    rw split (more_columns x n h.0 (rw name.1 name.0) (are_columns r g ms rest))
+
+all_columns : (r : ℕ) (xs ns : List Terminal) → AreColumns xs ns → AreAll (IsAfter (is_word (codes "input")) (λ r. IsOne name_at)) r xs ns
+all_columns r xs ns no_column = none
+all_columns r xs ns (more_columns {xs = ys} {ns = ms} x y word name h) =
+    some {f = x ∷ y ∷ []} (word, (y, refl, name_taken y name)) (all_columns r ys ms h)
+
+pub columns_exact : (room : ℕ) → Exact (λ r. AreColumns) (NoWord (codes "input")) room columns
+unfolding columns
+columns_exact room = exact_as are_columns all_columns (λ x e. e) (members_exact (column_members room))
+
+pub columns_shrink : Shrinks (push column_member)
+columns_shrink = step_shrinks (stepping (column_members 0))
+
+-- what follows rows: neither a row nor a number
+abbrev pub NoRow : Terminal → Type 0
+NoRow x = NoWord (codes "row") x × NoNumber x
+
+row_members : (room : ℕ) → Member (IsAfter (is_word (codes "row")) (λ r. AreNumbers)) NoNumber NoRow room row_member
+    (is_word (codes "row")) (after (is_word (codes "row")) numbers)
+row_members room =
+    marked_member (is_word (codes "row")) (name_example (codes "row")) refl numbers_begin (λ r xs v h. h) refl
+    (λ x rest e. ap (option_map numbers) (after_none (codes "row") x rest e))
+    (λ x rest e. ap (option_map numbers) (after_some (codes "row") x rest e)) (λ x e. name_no_number x (word_is_name (codes "row") x e))
+    (λ x e. e.0) (λ x e. e.1) (numbers_exact room)
+
+are_rows : (r : ℕ) (xs : List Terminal) (ns : List (List ℕ)) → AreAll (IsAfter (is_word (codes "row")) (λ r. AreNumbers)) r xs ns →
+    AreRows xs ns
+are_rows r xs ns none = no_row
+are_rows r xs ns (some {f = []} {g = g} {v = n} {vs = ms} h rest) = absurd h
+are_rows r xs ns (some {f = x ∷ ys} {g = g} {v = n} {vs = ms} h rest) = more_rows x h.0 h.1 (are_rows r g ms rest)
+
+all_rows : (r : ℕ) (xs : List Terminal) (ns : List (List ℕ)) → AreRows xs ns →
+    AreAll (IsAfter (is_word (codes "row")) (λ r. AreNumbers)) r xs ns
+all_rows r xs ns no_row = none
+all_rows r xs ns (more_rows {xs = ys} {ys = zs} {ns = n} {rows = ms} x word h rest) = some {f = x ∷ ys} (word, h) (all_rows r zs ms rest)
+
+pub rows_exact : (room : ℕ) → Exact (λ r. AreRows) NoRow room rows
+unfolding rows
+rows_exact room = exact_as are_rows all_rows (λ x e. e) (members_exact (row_members room))
+
+pub rows_shrink : Shrinks (push row_member)
+rows_shrink = step_shrinks (stepping (row_members 0))
+
+abbrev IsRow : Grammar Terminal (List ℕ)
+IsRow = Then (IsOne (word_at (codes "row"))) (λ _ r. AreNumbers)
+
+row_exact : (room : ℕ) → Exact IsRow NoNumber room row
+unfolding row
+row_exact room =
+    then_exact (λ r v. numbers_begin) (taken_exact (word_at (codes "row")) (has_word (codes "row") refl) room) (λ v. numbers_exact room)
+
+row_begins : Begins (IsRow 0) []
+row_begins =
+    then_begins (IsOne (word_at (codes "row"))) (λ _ r. AreNumbers) 0 (taken_begins (word_at (codes "row")) (has_word (codes "row") refl) 0)
+    (λ v. numbers_begin)
+
+rows_begin : Begins AreRows []
+rows_begin = record { ending = []; value = []; derives = no_row }
+
+-- a row and further rows
+abbrev AreSome : Grammar Terminal (List (List ℕ))
+AreSome = Then (IsRow 0) (λ first. IsMapped (λ rest. first ∷ rest) (λ r. AreRows))
+
+some_begin : Begins (AreSome 0) []
+some_begin =
+    then_begins (IsRow 0) (λ first. IsMapped (λ rest. first ∷ rest) (λ r. AreRows)) 0 row_begins
+    (λ first. mapped_begins (λ rest. first ∷ rest) (λ r. AreRows) 0 rows_begin)
+
+row_anywhere : (r s : ℕ) (xs : List Terminal) (ns : List ℕ) → IsRow r xs ns → IsRow s xs ns
+row_anywhere r s xs ns h =
+    record { value = h.value; front = h.front; tail = h.tail; split = h.split; first = h.first; second = h.second }
+
+some_exact : (room : ℕ) → Exact AreSome NoRow room some_rows
+unfolding some_rows
+some_exact room =
+    then_before (λ r first. mapped_begins (λ rest. first ∷ rest) (λ r. AreRows) r rows_begin) follow
+    (exact_as (λ r xs ns h. row_anywhere r 0 xs ns h) (λ r xs ns h. row_anywhere 0 r xs ns h) (λ x e. e) (row_exact room))
+    (λ first. mapped_exact (λ rest. first ∷ rest) (rows_exact room))
+  where
+    before : (xs rest : List Terminal) (ns : List (List ℕ)) → AreRows xs ns → Before NoRow rest → Before NoNumber (xs ++ rest)
+    before xs [] ns no_row b = tt
+    before xs (x ∷ rest) ns no_row b = b.1
+    before xs rest ns (more_rows x word h more) b = name_no_number x (word_is_name (codes "row") x word)
+
+    follow : (r : ℕ) (first : List ℕ) (xs : List Terminal) (ns : List (List ℕ)) →
+        IsMapped (λ rest. first ∷ rest) (λ r. AreRows) r xs ns → (rest : List Terminal) → Before NoRow rest →
+        Before NoNumber (xs ++ rest)
+    follow r first xs ns h rest b = before xs rest h.0 h.1 b
+
+row_rows : (xs : List Terminal) (first : List ℕ) (rest : List (List ℕ)) → AreRows xs (first ∷ rest) → AreSome 0 xs (first ∷ rest)
+row_rows xs first rest (more_rows {xs = ys} {ys = zs} x word h more) = record {
+  value = first;
+  front = x ∷ ys;
+  tail = zs;
+  split = refl;
+  first = record {
+    value = tt;
+    front = x ∷ [];
+    tail = ys;
+    split = refl;
+    first = (x, refl, word_taken (codes "row") x word);
+    second = h;
+  };
+  second = (rest, more, refl);
+}
+
+rows_row : (xs : List Terminal) (ns : List (List ℕ)) → AreSome 0 xs ns →
+    (first : List ℕ) × (rest : List (List ℕ)) × (ns ≡ first ∷ rest) × AreRows xs (first ∷ rest)
+rows_row xs ns h =
+    let front : h.front ≡ h.first.first.0 ∷ h.first.tail = h.first.split ∙ ap (λ f. f ++ h.first.tail) h.first.first.1 in (
+      h.value,
+      h.second.0,
+      h.second.2,
+      rw (h.split, front) (more_rows h.first.first.0 (word_is (codes "row") h.first.first.0 h.first.first.2) h.first.second h.second.1),
+    )
+
+-- ---- whole texts
+
+end_begins : Begins (IsEnd {T = Terminal} 0) []
+end_begins = record { ending = []; value = tt; derives = refl }
+
+has_positive : HasExample positive_at
+has_positive = record { example = number_example; result = 1; is = refl }
+
+module _ where
+  -- a text of tables, from its end
+  abbrev TablesEnd : ℕ → List Entry → Grammar Terminal TablesSyntax
+  TablesEnd n es = IsMapped (λ _. tables_made n es) IsEnd
+
+  abbrev TablesEntries : ℕ → Grammar Terminal TablesSyntax
+  TablesEntries n = Then AreEntries (TablesEnd n)
+
+  abbrev TablesDomain : Grammar Terminal TablesSyntax
+  TablesDomain = Then (IsOne positive_at) TablesEntries
+
+  abbrev TablesWord : Grammar Terminal TablesSyntax
+  TablesWord = Then (IsOne (word_at (codes "domain"))) (λ _. TablesDomain)
+
+  abbrev TablesOne : Grammar Terminal TablesSyntax
+  TablesOne = Then (IsOne (literal_at (codes "1"))) (λ _. TablesWord)
+
+  abbrev TablesHead : Grammar Terminal TablesSyntax
+  TablesHead = Then (IsOne (word_at (codes "tsltables"))) (λ _. TablesOne)
+
+  entries_begin : Begins AreEntries []
+  entries_begin = record { ending = []; value = []; derives = no_entry }
+
+  end_tables : (r n : ℕ) (es : List Entry) → Begins (TablesEnd n es r) []
+  end_tables r n es = mapped_begins (λ _. tables_made n es) IsEnd r end_begins
+
+  entries_tables : (r n : ℕ) → Begins (TablesEntries n r) []
+  entries_tables r n = then_begins AreEntries (TablesEnd n) r entries_begin (λ es. end_tables r n es)
+
+  domain_tables : (r : ℕ) → Begins (TablesDomain r) []
+  domain_tables r = then_begins (IsOne positive_at) TablesEntries r (taken_begins positive_at has_positive 0) (λ n. entries_tables r n)
+
+  word_tables : (r : ℕ) → Begins (TablesWord r) []
+  word_tables r =
+      then_begins (IsOne (word_at (codes "domain"))) (λ _. TablesDomain) r
+      (taken_begins (word_at (codes "domain")) (has_word (codes "domain") refl) 0) (λ v. domain_tables r)
+
+  one_tables : (r : ℕ) → Begins (TablesOne r) []
+  one_tables r =
+      then_begins (IsOne (literal_at (codes "1"))) (λ _. TablesWord) r (taken_begins (literal_at (codes "1")) has_one 0) (λ v. word_tables r)
+
+  nothing_follows : {T V : Type 0} (firsts : T → Type 0) (make : Unit {0} → V) (r : ℕ) (xs : List T) (v : V) →
+      IsMapped make IsEnd r xs v → (rest : List T) → Before Never rest → Before firsts (xs ++ rest)
+  nothing_follows firsts make r xs v h [] b = rw h.1 tt
+  nothing_follows firsts make r xs v h (x ∷ rest) b = absurd b
+
+  head_exact : (room : ℕ) → Exact TablesHead Never room tables_text
+  unfolding tables_text
+  head_exact room =
+      then_exact (λ r v. one_tables r) (taken_exact (word_at (codes "tsltables")) (has_word (codes "tsltables") refl) room) (λ _.
+      then_exact (λ r v. word_tables r) (taken_exact (literal_at (codes "1")) has_one room) (λ _.
+      then_exact (λ r v. domain_tables r) (taken_exact (word_at (codes "domain")) (has_word (codes "domain") refl) room) (λ _.
+      then_exact (λ r n. entries_tables r n) (taken_exact positive_at has_positive room) (λ n.
+      then_before (λ r es. end_tables r n es) (λ r es xs v h rest b. nothing_follows Never (λ _. tables_made n es) r xs v h rest b)
+      (entries_exact room) (λ es. mapped_exact (λ _. tables_made n es) (end_exact room))))))
+
+  after_one : {V W : Type 0} {value : Terminal → Option V} {Next : V → Grammar Terminal W} {r : ℕ} {xs : List Terminal} {w : W}
+      (h : Then (IsOne value) Next r xs w) → xs ≡ h.first.0 ∷ h.tail
+  after_one h = h.split ∙ ap (λ front. front ++ h.tail) h.first.1
+
+  is_tables : (r : ℕ) (xs : List Terminal) (t : TablesSyntax) → TablesHead r xs t → IsTables xs t
+  is_tables r xs t a =
+      let b = a.second in
+      let c = b.second in
+      let d = c.second in
+      let e = d.second in
+      let positive = from_one_is (number_at d.first.0) d.value d.first.2 in
+      let tail : d.tail ≡ e.front = e.split ∙ ap (λ ys. e.front ++ ys) e.second.1 ∙ append-nil e.front in
+      rw (after_one a, after_one b, after_one c, after_one d, tail, e.second.2)
+      (tables a.first.0 b.first.0 c.first.0 d.first.0 d.value (word_is (codes "tsltables") a.first.0 a.first.2)
+      (literal_is (codes "1") b.first.0 b.first.2) (word_is (codes "domain") c.first.0 c.first.2) positive.0 positive.1 e.first)
+
+  tables_are : (r : ℕ) (xs : List Terminal) (t : TablesSyntax) → IsTables xs t → TablesHead r xs t
+  tables_are r xs t (tables {xs = ys} {es = es} a b c d n head one word number few entries) = record {
+    value = tt;
+    front = a ∷ [];
+    tail = b ∷ c ∷ d ∷ ys;
+    split = refl;
+    first = (a, refl, word_taken (codes "tsltables") a head);
+    second = record {
+      value = tt;
+      front = b ∷ [];
+      tail = c ∷ d ∷ ys;
+      split = refl;
+      first = (b, refl, literal_taken (codes "1") b one);
+      second = record {
+        value = tt;
+        front = c ∷ [];
+        tail = d ∷ ys;
+        split = refl;
+        first = (c, refl, word_taken (codes "domain") c word);
+        second = record {
+          value = n;
+          front = d ∷ [];
+          tail = ys;
+          split = refl;
+          first = (d, refl, ap (option_and_then from_one) number ∙ from_one_taken n few);
+          second = record { value = es; front = ys; tail = []; split = sym (append-nil ys); first = entries; second = (tt, refl, refl) };
+        };
+      };
+    };
+  }
+
+  pub tables_exact : (room : ℕ) → Exact (λ r. IsTables) Never room tables_text
+  tables_exact room = exact_as is_tables tables_are (λ x e. e) (head_exact room)
+
+module _ where
+  -- a text of inputs, from its end
+  abbrev InputsEnd : List Terminal → List (List ℕ) → List (List ℕ) → Grammar Terminal InputsSyntax
+  InputsEnd ns stem cycle = IsMapped (λ _. inputs_made ns stem cycle) IsEnd
+
+  abbrev InputsCycle : List Terminal → List (List ℕ) → Grammar Terminal InputsSyntax
+  InputsCycle ns stem = Then (AreSome 0) (InputsEnd ns stem)
+
+  abbrev InputsCycleWord : List Terminal → List (List ℕ) → Grammar Terminal InputsSyntax
+  InputsCycleWord ns stem = Then (IsOne (word_at (codes "cycle"))) (λ _. InputsCycle ns stem)
+
+  abbrev InputsStem : List Terminal → Grammar Terminal InputsSyntax
+  InputsStem ns = Then AreRows (InputsCycleWord ns)
+
+  abbrev InputsStemWord : List Terminal → Grammar Terminal InputsSyntax
+  InputsStemWord ns = Then (IsOne (word_at (codes "stem"))) (λ _. InputsStem ns)
+
+  abbrev InputsColumns : Grammar Terminal InputsSyntax
+  InputsColumns = Then AreColumns InputsStemWord
+
+  abbrev InputsOne : Grammar Terminal InputsSyntax
+  InputsOne = Then (IsOne (literal_at (codes "1"))) (λ _. InputsColumns)
+
+  abbrev InputsHead : Grammar Terminal InputsSyntax
+  InputsHead = Then (IsOne (word_at (codes "tslinputs"))) (λ _. InputsOne)
+
+  columns_begin : Begins AreColumns []
+  columns_begin = record { ending = []; value = []; derives = no_column }
+
+  end_inputs : (r : ℕ) (ns : List Terminal) (stem cycle : List (List ℕ)) → Begins (InputsEnd ns stem cycle r) []
+  end_inputs r ns stem cycle = mapped_begins (λ _. inputs_made ns stem cycle) IsEnd r end_begins
+
+  cycle_inputs : (r : ℕ) (ns : List Terminal) (stem : List (List ℕ)) → Begins (InputsCycle ns stem r) []
+  cycle_inputs r ns stem = then_begins (AreSome 0) (InputsEnd ns stem) r some_begin (λ cycle. end_inputs r ns stem cycle)
+
+  cycle_word_inputs : (r : ℕ) (ns : List Terminal) (stem : List (List ℕ)) → Begins (InputsCycleWord ns stem r) []
+  cycle_word_inputs r ns stem =
+      then_begins (IsOne (word_at (codes "cycle"))) (λ _. InputsCycle ns stem) r
+      (taken_begins (word_at (codes "cycle")) (has_word (codes "cycle") refl) 0) (λ v. cycle_inputs r ns stem)
+
+  stem_inputs : (r : ℕ) (ns : List Terminal) → Begins (InputsStem ns r) []
+  stem_inputs r ns = then_begins AreRows (InputsCycleWord ns) r rows_begin (λ stem. cycle_word_inputs r ns stem)
+
+  stem_word_inputs : (r : ℕ) (ns : List Terminal) → Begins (InputsStemWord ns r) []
+  stem_word_inputs r ns =
+      then_begins (IsOne (word_at (codes "stem"))) (λ _. InputsStem ns) r
+      (taken_begins (word_at (codes "stem")) (has_word (codes "stem") refl) 0) (λ v. stem_inputs r ns)
+
+  columns_inputs : (r : ℕ) → Begins (InputsColumns r) []
+  columns_inputs r = then_begins AreColumns InputsStemWord r columns_begin (λ ns. stem_word_inputs r ns)
+
+  one_inputs : (r : ℕ) → Begins (InputsOne r) []
+  one_inputs r =
+      then_begins (IsOne (literal_at (codes "1"))) (λ _. InputsColumns) r (taken_begins (literal_at (codes "1")) has_one 0)
+      (λ v. columns_inputs r)
+
+  stem_follows : (ns : List Terminal) (r : ℕ) (xs : List Terminal) (t : InputsSyntax) → InputsStemWord ns r xs t → (rest : List Terminal) →
+      Before Never rest → Before (NoWord (codes "input")) (xs ++ rest)
+  stem_follows ns r xs t h rest b =
+      rw (after_one h) (words_differ (codes "stem") (codes "input") refl h.first.0 (word_is (codes "stem") h.first.0 h.first.2))
+
+  cycle_follows : (ns : List Terminal) (stem : List (List ℕ)) (r : ℕ) (xs : List Terminal) (t : InputsSyntax) →
+      InputsCycleWord ns stem r xs t → (rest : List Terminal) → Before Never rest → Before NoRow (xs ++ rest)
+  cycle_follows ns stem r xs t h rest b =
+      let word = word_is (codes "cycle") h.first.0 h.first.2 in
+      rw (after_one h)
+      (words_differ (codes "cycle") (codes "row") refl h.first.0 word, name_no_number h.first.0 (word_is_name (codes "cycle") h.first.0 word))
+
+  some_rows_exact : (room : ℕ) → Exact (λ r. AreSome 0) Never room some_rows
+  some_rows_exact room =
+      exact_as (λ r xs ns h. record {
+        value = h.value;
+        front = h.front;
+        tail = h.tail;
+        split = h.split;
+        first = h.first;
+        second = h.second;
+      }) (λ r xs ns h. record {
+        value = h.value;
+        front = h.front;
+        tail = h.tail;
+        split = h.split;
+        first = h.first;
+        second = h.second;
+      }) (λ x e. absurd e) (some_exact room)
+
+  input_head_exact : (room : ℕ) → Exact InputsHead Never room inputs_text
+  unfolding inputs_text
+  input_head_exact room =
+      then_exact (λ r v. one_inputs r) (taken_exact (word_at (codes "tslinputs")) (has_word (codes "tslinputs") refl) room) (λ _.
+      then_exact (λ r v. columns_inputs r) (taken_exact (literal_at (codes "1")) has_one room) (λ _.
+      then_before (λ r ns. stem_word_inputs r ns) (λ r ns xs t h rest b. stem_follows ns r xs t h rest b) (columns_exact room) (λ ns.
+      then_exact (λ r v. stem_inputs r ns) (taken_exact (word_at (codes "stem")) (has_word (codes "stem") refl) room) (λ _.
+      then_before (λ r stem. cycle_word_inputs r ns stem) (λ r stem xs t h rest b. cycle_follows ns stem r xs t h rest b) (rows_exact room)
+      (λ stem.
+      then_exact (λ r v. cycle_inputs r ns stem) (taken_exact (word_at (codes "cycle")) (has_word (codes "cycle") refl) room) (λ _.
+      then_before (λ r cycle. end_inputs r ns stem cycle)
+      (λ r cycle xs v h rest b. nothing_follows Never (λ _. inputs_made ns stem cycle) r xs v h rest b) (some_rows_exact room)
+      (λ cycle. mapped_exact (λ _. inputs_made ns stem cycle) (end_exact room))))))))
+
+  is_inputs : (r : ℕ) (xs : List Terminal) (t : InputsSyntax) → InputsHead r xs t → IsInputs xs t
+  is_inputs r xs t a =
+      let b = a.second in
+      let c = b.second in
+      let s = c.second in
+      let d = s.second in
+      let e = d.second in
+      let f = e.second in
+      let cycle = rows_row f.front f.value f.first in
+      let tail : e.tail ≡ f.front = f.split ∙ ap (λ ys. f.front ++ ys) f.second.1 ∙ append-nil f.front in
+      rw (after_one a, after_one b, c.split, after_one s, d.split, after_one e, tail, f.second.2, cycle.2)
+      (inputs a.first.0 b.first.0 s.first.0 e.first.0 (word_is (codes "tslinputs") a.first.0 a.first.2)
+      (literal_is (codes "1") b.first.0 b.first.2) c.first (word_is (codes "stem") s.first.0 s.first.2) d.first
+      (word_is (codes "cycle") e.first.0 e.first.2) cycle.3)
+
+  inputs_are : (r : ℕ) (xs : List Terminal) (t : InputsSyntax) → IsInputs xs t → InputsHead r xs t
+  inputs_are r xs t (inputs {xs = us} {ys = vs} {zs = ws} {ns = ns} {stem = stem} {rows = rs} {row = first} a b s c head one columns stem_word
+      stem_rows cycle_word cycle_rows) = record {
+        value = tt;
+        front = a ∷ [];
+        tail = b ∷ (us ++ s ∷ (vs ++ c ∷ ws));
+        split = refl;
+        first = (a, refl, word_taken (codes "tslinputs") a head);
+        second = record {
+          value = tt;
+          front = b ∷ [];
+          tail = us ++ s ∷ (vs ++ c ∷ ws);
+          split = refl;
+          first = (b, refl, literal_taken (codes "1") b one);
+          second = record {
+            value = ns;
+            front = us;
+            tail = s ∷ (vs ++ c ∷ ws);
+            split = refl;
+            first = columns;
+            second = record {
+              value = tt;
+              front = s ∷ [];
+              tail = vs ++ c ∷ ws;
+              split = refl;
+              first = (s, refl, word_taken (codes "stem") s stem_word);
+              second = record {
+                value = stem;
+                front = vs;
+                tail = c ∷ ws;
+                split = refl;
+                first = stem_rows;
+                second = record {
+                  value = tt;
+                  front = c ∷ [];
+                  tail = ws;
+                  split = refl;
+                  first = (c, refl, word_taken (codes "cycle") c cycle_word);
+                  second = record {
+                    value = first ∷ rs;
+                    front = ws;
+                    tail = [];
+                    split = sym (append-nil ws);
+                    first = row_rows ws first rs cycle_rows;
+                    second = (tt, refl, refl);
+                  };
+                };
+              };
+            };
+          };
+        };
+      }
+
+  pub inputs_exact : (room : ℕ) → Exact (λ r. IsInputs) Never room inputs_text
+  inputs_exact room = exact_as is_inputs inputs_are (λ x e. e) (input_head_exact room)

@@ -1,3 +1,4 @@
 mod Lookups
 mod Exactness
 mod ReadLoops
+mod Slots

@@ -2,14 +2,39 @@
 
 ghost use Rattle.std.specs.Prelude.{◌≡◌, ◌≤◌, ◌<◌, length, map, Some, Ok, IsTrue, IfOk, IfErr, IfSome, IfNone};
 ghost use Rattle.table_interp.specs.internal.Reading.{
-    taking, word_at, literal_at, name_at, symbol_at, positive_at, kind_at, number_member, numbers, entry_of, entry_member, entries,
-    at_end, tables_text, after_word, columns, rows, row, some_rows, inputs_text
+  taking,
+  word_at,
+  literal_at,
+  name_at,
+  symbol_at,
+  positive_at,
+  kind_at,
+  number_member,
+  numbers,
+  entry_of,
+  entry_member,
+  entries,
+  at_end,
+  tables_text,
+  after_word,
+  columns,
+  rows,
+  row,
+  some_rows,
+  inputs_text,
 };
 ghost use Rattle.tsl_terms.specs.declared.names.NameKind.TheVariants.{Signal};
 ghost use Rattle.table_interp.specs.Syntax.{number_at};
 ghost use Rattle.table_interp.specs.Needed.{has_table};
 ghost use Rattle.table_interp.specs.internal.View.{
-    terminal_view, terminals_view, entry_view, entries_view, numbers_view, tables_view, inputs_view, HasFault
+  terminal_view,
+  terminals_view,
+  entry_view,
+  entries_view,
+  numbers_view,
+  tables_view,
+  inputs_view,
+  HasFault,
 };
 
 use crate::terminals::{Left, Terminal, is_literal, is_name, is_symbol, is_word, number_at};
@@ -271,11 +296,7 @@ fn cell<'a, 'b>(alloc: Global, xs: &'b [Terminal<'a>]) -> Answer<'a, 'b, Entry<'
 
 /// The entry of a function or a predicate after its first word.
 #[tactic(auto, unfolding(crate::specs::internal::Reading::entry_of))]
-fn table<'a, 'b>(
-    alloc: Global,
-    kind: NameKind,
-    xs: &'b [Terminal<'a>],
-) -> Answer<'a, 'b, Entry<'a>>
+fn table<'a, 'b>(alloc: Global, kind: NameKind, xs: &'b [Terminal<'a>]) -> Answer<'a, 'b, Entry<'a>>
     requires { IsTrue (has_table kind) }
     ensures ok { IfOk result (λ read. entry_of kind (terminals_view xs.now)
         ≡ Ok (entry_view read.0, terminals_view read.1.now)) }
@@ -362,13 +383,7 @@ fn after_word<'a, 'b>(word: &[u8], xs: &'b [Terminal<'a>]) -> Option<&'b [Termin
     ensures shorter { IfSome result (λ rest. length rest.now < length xs.now) }
 {
     match xs {
-        [x, rest @ ..] => {
-            if is_word(word, *x) {
-                Some(rest)
-            } else {
-                None
-            }
-        }
+        [x, rest @ ..] => { if is_word(word, *x) { Some(rest) } else { None } }
         [] => None,
     }
 }
@@ -395,7 +410,7 @@ fn rows<'a, 'b>(
     alloc: Global,
     xs: &'b [Terminal<'a>],
 ) -> Result<(Vec<Vec<u64>>, &'b [Terminal<'a>]), NoMemory>
-    ensures ok { IfOk result (λ read. rows (terminals_view xs.now) ≡ Ok (numbers_view read.0.items, terminals_view read.1.now)) }
+    ensures { IfOk result (λ read. rows (terminals_view xs.now) ≡ Ok (numbers_view read.0.items, terminals_view read.1.now)) }
 {
     let mut rows = Vec::new(alloc);
     let mut left = Left { terminals: xs };

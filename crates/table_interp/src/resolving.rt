@@ -1,6 +1,6 @@
 //! Names by their numbers, and where each is given.
 
-ghost use Rattle.std.specs.Prelude.{◌≡◌, ◌<◌, ◌&&◌, length, All, IfOk, IfErr};
+ghost use Rattle.std.specs.Prelude.{◌≡◌, ◌<◌, ◌&&◌, ◌∷◌, ◌++◌, [], cond, length, slice_get, All, OnOk, IfOk, IfErr};
 ghost use Rattle.tsl_terms.specs.Name.{same_kind};
 ghost use Rattle.table_interp.specs.Needed.{has_table, needed, is_needed_as, HasNoRepeat};
 ghost use Rattle.table_interp.specs.internal.Resolving.{AreMarks, ArePlaces, IsRepeatFault};
@@ -44,12 +44,28 @@ pub(crate) fn marks(alloc: Global, count: u32, numbers: &[u32]) -> Result<Vec<bo
 }
 
 /// Whether tables need the name with this number in this kind.
-pub(crate) fn is_needed_as(names: &Names, cells: &[u32], marks: &[bool], kind: NameKind, id: u32) -> bool
+pub(crate) fn is_needed_as(
+    names: &Names,
+    cells: &[u32],
+    marks: &[bool],
+    kind: NameKind,
+    id: u32,
+) -> bool
     requires within { id < length names.now }
     requires marks { AreMarks (length names.now) cells.now marks.now }
     ensures { result ≡ is_needed_as names.now cells.now kind id }
 {
     same_kind(names.kind(id), kind) && (has_table(kind) || marks[id as usize])
+}
+
+/// Adds a number at the end where it is wanted.
+fn push_if(all: &mut Vec<u32>, number: u32, wanted: bool) -> Result<(), NoMemory>
+    ensures { OnOk result (all.new.items ≡ all.old.items ++ cond wanted (number ∷ []) []) }
+{
+    if wanted {
+        all.push(number)?;
+    }
+    Ok(())
 }
 
 /// The names that tables need, in order. An `Err` says that memory ran out.
@@ -58,9 +74,7 @@ pub(crate) fn needed(alloc: Global, names: &Names, cells: &[u32]) -> Result<Vec<
 {
     let mut all = Vec::new(alloc);
     for id in 0..names.count() {
-        if has_table(names.kind(id)) {
-            all.push(id)?;
-        }
+        push_if(&mut all, id, has_table(names.kind(id)))?;
     }
     all.extend_from_slice(cells)?;
     Ok(all)
@@ -83,6 +97,14 @@ impl From<NoMemory> for RepeatFault {
     }
 }
 
+/// The place of a number, where it stands somewhere.
+pub(crate) fn place_of(places: &[Option<usize>], number: u32) -> Option<usize>
+    requires { number < length places.now }
+    ensures { slice_get places.now number ≡ Some result }
+{
+    places[number as usize]
+}
+
 /// For each of so many numbers the place where it stands. An `Err` tells the first place with a number that
 /// stands at an earlier one too, or that memory ran out.
 pub(crate) fn places(
@@ -97,10 +119,10 @@ pub(crate) fn places(
 {
     let mut places = vec![in alloc; None; count as usize]?;
     for (place, number) in numbers.iter().enumerate() {
-        if places[*number as usize].is_some() {
-            return Err(RepeatFault::Repeat(place));
+        match place_of(&places, *number) {
+            Some(_) => return Err(RepeatFault::Repeat(place)),
+            None => places[*number as usize] = Some(place),
         }
-        places[*number as usize] = Some(place);
     }
     Ok(places)
 }

@@ -1,6 +1,6 @@
 -- Internal: only private functions of this crate use these words.
 -- Tables with a slot for each number.
-use Rattle.std.specs.Prelude.{◌≡◌, ℕ, ◌<◌, ◌==◌, Bool, List, length, Option, Some, slice_get, position}
+use Rattle.std.specs.Prelude.{◌≡◌, ℕ, ◌<◌, Bool, false, List, length, Option, Some, None, slice_get}
 use Rattle.sequence.specs.Numbers.{is_among}
 use Rattle.table_interp.specs.declared.resolving.RepeatFault.{RepeatFault}
 use Rattle.table_interp.specs.declared.resolving.RepeatFault.TheVariants.{Repeat, NoMemory}
@@ -11,10 +11,15 @@ pub record AreMarks (count : ℕ) (numbers : List ℕ) (marks : List Bool) : Typ
   pub many : length marks ≡ count
   pub each : (n : ℕ) → n < count → slice_get marks n ≡ Some (is_among numbers n)
 
--- for each of so many numbers the first place where it stands
+-- a place where a number stands, or none where it stands nowhere
+abbrev pub IsPlace : List ℕ → ℕ → Option ℕ → Type 0
+IsPlace numbers n (Some place) = slice_get numbers place ≡ Some n
+IsPlace numbers n None = is_among numbers n ≡ false
+
+-- for each of so many numbers a place where it stands
 pub record ArePlaces (count : ℕ) (numbers : List ℕ) (places : List (Option ℕ)) : Type 0 where
   pub many : length places ≡ count
-  pub each : (n : ℕ) → n < count → slice_get places n ≡ Some (position (λ m. m == n) numbers)
+  pub each : (n : ℕ) → n < count → (slot : Option ℕ) × (slice_get places n ≡ Some slot) × IsPlace numbers n slot
 
 abbrev pub IsRepeatFault : List ℕ → RepeatFault → Type 0
 IsRepeatFault numbers (Repeat at) = IsFirstRepeat numbers at
