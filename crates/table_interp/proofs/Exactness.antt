@@ -18,7 +18,7 @@ use Rattle.token_readers.proofs.Terminals.{Turn, by_first, end_wrong, end_gives,
 use Rattle.token_readers.proofs.Iterates.{Shrinks, step_shrinks}
 use Rattle.token_readers.proofs.Lists.{AreAll, none, some, Member, stepping, members_exact, marked_member}
 use Rattle.table_interp.specs.Syntax.{is_name_kind, is_number_kind}
-use Rattle.table_interp.specs.Syntax.{Terminal, is_name, is_symbol, is_word, is_literal, number_at, Entry, TablesSyntax, InputsSyntax}
+use Rattle.table_interp.specs.Syntax.{Terminal, is_name, is_symbol, is_word, is_numeral, number_at, Entry, TablesSyntax, InputsSyntax}
 use Rattle.table_interp.specs.Grammar.{
   AreNumbers,
   no_number,
@@ -46,7 +46,7 @@ use Rattle.table_interp.specs.internal.Reading.{
   taking,
   at_end,
   word_at,
-  literal_at,
+  numeral_at,
   name_at,
   symbol_at,
   from_one,
@@ -187,11 +187,11 @@ word_is w x e = word_if (is_word w x) e
 word_taken : (w : List ℕ) (x : Terminal) → is_word w x ≡ true → word_at w x ≡ Some (tt {0})
 word_taken w x e = ap (λ b. if b then Some (tt {0}) else None) e
 
-literal_is : (w : List ℕ) (x : Terminal) → literal_at w x ≡ Some (tt {0}) → is_literal w x ≡ true
-literal_is w x e = word_if (is_literal w x) e
+numeral_is : (w : List ℕ) (x : Terminal) → numeral_at w x ≡ Some (tt {0}) → is_numeral w x ≡ true
+numeral_is w x e = word_if (is_numeral w x) e
 
-literal_taken : (w : List ℕ) (x : Terminal) → is_literal w x ≡ true → literal_at w x ≡ Some (tt {0})
-literal_taken w x e = ap (λ b. if b then Some (tt {0}) else None) e
+numeral_taken : (w : List ℕ) (x : Terminal) → is_numeral w x ≡ true → numeral_at w x ≡ Some (tt {0})
+numeral_taken w x e = ap (λ b. if b then Some (tt {0}) else None) e
 
 itself_if : (b : Bool) (x y : Terminal) → (if b then Some x else None) ≡ Some y → (b ≡ true) × (y ≡ x)
 itself_if true x y e = (refl, cc)
@@ -529,7 +529,7 @@ entries_shrink = step_shrinks (stepping (entry_members 0))
 has_word : (w : List ℕ) → bytes_eq w w ≡ true → HasExample (word_at w)
 has_word w e = record { example = name_example w; result = tt; is = word_taken w (name_example w) e }
 
-has_one : HasExample (literal_at (codes "1"))
+has_one : HasExample (numeral_at (codes "1"))
 has_one = record { example = number_example; result = tt; is = refl }
 
 -- a terminal that is not this name
@@ -696,7 +696,7 @@ module _ where
   TablesWord = Then (IsOne (word_at (codes "domain"))) (λ _. TablesDomain)
 
   abbrev TablesOne : Grammar Terminal TablesSyntax
-  TablesOne = Then (IsOne (literal_at (codes "1"))) (λ _. TablesWord)
+  TablesOne = Then (IsOne (numeral_at (codes "1"))) (λ _. TablesWord)
 
   abbrev TablesHead : Grammar Terminal TablesSyntax
   TablesHead = Then (IsOne (word_at (codes "tsltables"))) (λ _. TablesOne)
@@ -720,7 +720,7 @@ module _ where
 
   one_tables : (r : ℕ) → Begins (TablesOne r) []
   one_tables r =
-      then_begins (IsOne (literal_at (codes "1"))) (λ _. TablesWord) r (taken_begins (literal_at (codes "1")) has_one 0) (λ v. word_tables r)
+      then_begins (IsOne (numeral_at (codes "1"))) (λ _. TablesWord) r (taken_begins (numeral_at (codes "1")) has_one 0) (λ v. word_tables r)
 
   nothing_follows : {T V : Type 0} (firsts : T → Type 0) (make : Unit {0} → V) (r : ℕ) (xs : List T) (v : V) →
       IsMapped make IsEnd r xs v → (rest : List T) → Before Never rest → Before firsts (xs ++ rest)
@@ -731,7 +731,7 @@ module _ where
   unfolding tables_text
   head_exact room =
       then_exact (λ r v. one_tables r) (taken_exact (word_at (codes "tsltables")) (has_word (codes "tsltables") refl) room) (λ _.
-      then_exact (λ r v. word_tables r) (taken_exact (literal_at (codes "1")) has_one room) (λ _.
+      then_exact (λ r v. word_tables r) (taken_exact (numeral_at (codes "1")) has_one room) (λ _.
       then_exact (λ r v. domain_tables r) (taken_exact (word_at (codes "domain")) (has_word (codes "domain") refl) room) (λ _.
       then_exact (λ r n. entries_tables r n) (taken_exact positive_at has_positive room) (λ n.
       then_before (λ r es. end_tables r n es) (λ r es xs v h rest b. nothing_follows Never (λ _. tables_made n es) r xs v h rest b)
@@ -751,7 +751,7 @@ module _ where
       let tail : d.tail ≡ e.front = e.split ∙ ap (λ ys. e.front ++ ys) e.second.1 ∙ append-nil e.front in
       rw (after_one a, after_one b, after_one c, after_one d, tail, e.second.2)
       (tables a.first.0 b.first.0 c.first.0 d.first.0 d.value (word_is (codes "tsltables") a.first.0 a.first.2)
-      (literal_is (codes "1") b.first.0 b.first.2) (word_is (codes "domain") c.first.0 c.first.2) positive.0 positive.1 e.first)
+      (numeral_is (codes "1") b.first.0 b.first.2) (word_is (codes "domain") c.first.0 c.first.2) positive.0 positive.1 e.first)
 
   tables_are : (r : ℕ) (xs : List Terminal) (t : TablesSyntax) → IsTables xs t → TablesHead r xs t
   tables_are r xs t (tables {xs = ys} {es = es} a b c d n head one word number few entries) = record {
@@ -765,7 +765,7 @@ module _ where
       front = b ∷ [];
       tail = c ∷ d ∷ ys;
       split = refl;
-      first = (b, refl, literal_taken (codes "1") b one);
+      first = (b, refl, numeral_taken (codes "1") b one);
       second = record {
         value = tt;
         front = c ∷ [];
@@ -808,7 +808,7 @@ module _ where
   InputsColumns = Then AreColumns InputsStemWord
 
   abbrev InputsOne : Grammar Terminal InputsSyntax
-  InputsOne = Then (IsOne (literal_at (codes "1"))) (λ _. InputsColumns)
+  InputsOne = Then (IsOne (numeral_at (codes "1"))) (λ _. InputsColumns)
 
   abbrev InputsHead : Grammar Terminal InputsSyntax
   InputsHead = Then (IsOne (word_at (codes "tslinputs"))) (λ _. InputsOne)
@@ -840,7 +840,7 @@ module _ where
 
   one_inputs : (r : ℕ) → Begins (InputsOne r) []
   one_inputs r =
-      then_begins (IsOne (literal_at (codes "1"))) (λ _. InputsColumns) r (taken_begins (literal_at (codes "1")) has_one 0)
+      then_begins (IsOne (numeral_at (codes "1"))) (λ _. InputsColumns) r (taken_begins (numeral_at (codes "1")) has_one 0)
       (λ v. columns_inputs r)
 
   stem_follows : (ns : List Terminal) (r : ℕ) (xs : List Terminal) (t : InputsSyntax) → InputsStemWord ns r xs t → (rest : List Terminal) →
@@ -877,7 +877,7 @@ module _ where
   unfolding inputs_text
   input_head_exact room =
       then_exact (λ r v. one_inputs r) (taken_exact (word_at (codes "tslinputs")) (has_word (codes "tslinputs") refl) room) (λ _.
-      then_exact (λ r v. columns_inputs r) (taken_exact (literal_at (codes "1")) has_one room) (λ _.
+      then_exact (λ r v. columns_inputs r) (taken_exact (numeral_at (codes "1")) has_one room) (λ _.
       then_before (λ r ns. stem_word_inputs r ns) (λ r ns xs t h rest b. stem_follows ns r xs t h rest b) (columns_exact room) (λ ns.
       then_exact (λ r v. stem_inputs r ns) (taken_exact (word_at (codes "stem")) (has_word (codes "stem") refl) room) (λ _.
       then_before (λ r stem. cycle_word_inputs r ns stem) (λ r stem xs t h rest b. cycle_follows ns stem r xs t h rest b) (rows_exact room)
@@ -899,7 +899,7 @@ module _ where
       let tail : e.tail ≡ f.front = f.split ∙ ap (λ ys. f.front ++ ys) f.second.1 ∙ append-nil f.front in
       rw (after_one a, after_one b, c.split, after_one s, d.split, after_one e, tail, f.second.2, cycle.2)
       (inputs a.first.0 b.first.0 s.first.0 e.first.0 (word_is (codes "tslinputs") a.first.0 a.first.2)
-      (literal_is (codes "1") b.first.0 b.first.2) c.first (word_is (codes "stem") s.first.0 s.first.2) d.first
+      (numeral_is (codes "1") b.first.0 b.first.2) c.first (word_is (codes "stem") s.first.0 s.first.2) d.first
       (word_is (codes "cycle") e.first.0 e.first.2) cycle.3)
 
   inputs_are : (r : ℕ) (xs : List Terminal) (t : InputsSyntax) → IsInputs xs t → InputsHead r xs t
@@ -915,7 +915,7 @@ module _ where
           front = b ∷ [];
           tail = us ++ s ∷ (vs ++ c ∷ ws);
           split = refl;
-          first = (b, refl, literal_taken (codes "1") b one);
+          first = (b, refl, numeral_taken (codes "1") b one);
           second = record {
             value = ns;
             front = us;

@@ -1,7 +1,7 @@
 -- The grammars of tables and of inputs, as relations on whole lists of terminals.
 use Rattle.std.specs.Prelude.{◌≡◌, ℕ, ◌≤◌, true, List, [], ◌∷◌, ◌++◌, codes, Some}
 use Rattle.tsl_terms.specs.declared.names.NameKind.TheVariants.{Signal, Function, Predicate}
-use Rattle.table_interp.specs.Syntax.{Terminal, is_name, is_symbol, is_word, is_literal, number_at, Entry, TablesSyntax, InputsSyntax}
+use Rattle.table_interp.specs.Syntax.{Terminal, is_name, is_symbol, is_word, is_numeral, number_at, Entry, TablesSyntax, InputsSyntax}
 
 -- NUMBER*
 pub data AreNumbers : List Terminal → List ℕ → Type 0 where
@@ -29,7 +29,7 @@ pub data AreEntries : List Terminal → List Entry → Type 0 where
 pub data IsTables : List Terminal → TablesSyntax → Type 0 where
   -- tables = "tsltables" "1" "domain" NUMBER entry*
   tables : {xs : List Terminal} {es : List Entry} (a b c d : Terminal) (n : ℕ) → is_word (codes "tsltables") a ≡ true →
-      is_literal (codes "1") b ≡ true → is_word (codes "domain") c ≡ true → number_at d ≡ Some n → 1 ≤ n → AreEntries xs es →
+      is_numeral (codes "1") b ≡ true → is_word (codes "domain") c ≡ true → number_at d ≡ Some n → 1 ≤ n → AreEntries xs es →
       IsTables (a ∷ b ∷ c ∷ d ∷ xs) (record { domain = n; entries = es })
 
 -- ("input" name)*
@@ -48,6 +48,6 @@ pub data AreRows : List Terminal → List (List ℕ) → Type 0 where
 pub data IsInputs : List Terminal → InputsSyntax → Type 0 where
   -- inputs = "tslinputs" "1" ("input" name)* "stem" row* "cycle" row row*
   inputs : {xs ys zs ns : List Terminal} {stem rows : List (List ℕ)} {row : List ℕ} (a b s c : Terminal) →
-      is_word (codes "tslinputs") a ≡ true → is_literal (codes "1") b ≡ true → AreColumns xs ns → is_word (codes "stem") s ≡ true →
+      is_word (codes "tslinputs") a ≡ true → is_numeral (codes "1") b ≡ true → AreColumns xs ns → is_word (codes "stem") s ≡ true →
       AreRows ys stem → is_word (codes "cycle") c ≡ true → AreRows zs (row ∷ rows) →
       IsInputs (a ∷ b ∷ (xs ++ s ∷ (ys ++ c ∷ zs))) (record { names = ns; stem = stem; cycle = row ∷ rows })

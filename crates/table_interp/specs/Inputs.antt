@@ -85,8 +85,8 @@ module _ (text : List ℕ) (names : List Name) (inputs : List ℕ) (given : Inpu
 -- ---- the rows
 
 -- a row in the order of the inputs, where the columns are for the signals with these numbers
-abbrev pub in_order : List ℕ → List ℕ → List ℕ → Option (List ℕ)
-in_order columns inputs row = all_there (map (λ s. beside s columns row) inputs)
+abbrev pub by_inputs : List ℕ → List ℕ → List ℕ → Option (List ℕ)
+by_inputs columns inputs row = all_there (map (λ s. beside s columns row) inputs)
 
 -- the text spells the rows: those of its stem and of its cycle, each in the order of the inputs
 pub record SpellsInputs (text : List ℕ) (names : List Name) (inputs : List ℕ) (domain : ℕ) (rows : InputRows ℕ) : Type 0 where
@@ -94,8 +94,8 @@ pub record SpellsInputs (text : List ℕ) (names : List Name) (inputs : List ℕ
   pub in_range : AreInRange text names inputs given domain
   pub columns : List ℕ
   pub columns_are : map (number_for names) given.names ≡ map (λ s. Some s) columns
-  pub stem : all_there (map (in_order columns inputs) given.stem) ≡ Some rows.stem
-  pub cycle : all_there (map (in_order columns inputs) given.cycle) ≡ Some rows.cycle
+  pub stem : all_there (map (by_inputs columns inputs) given.stem) ≡ Some rows.stem
+  pub cycle : all_there (map (by_inputs columns inputs) given.cycle) ≡ Some rows.cycle
 
 -- the text spells no rows
 abbrev pub SpellsNoInputs : List ℕ → List Name → List ℕ → ℕ → Type 0

@@ -45,8 +45,8 @@ abbrev pub is_word : List ℕ → Terminal → Bool
 is_word word x = is_name x && bytes_eq x.text word
 
 -- the number with these digits
-abbrev pub is_literal : List ℕ → Terminal → Bool
-is_literal digits x = is_number_kind x.token.kind && bytes_eq x.text digits
+abbrev pub is_numeral : List ℕ → Terminal → Bool
+is_numeral digits x = is_number_kind x.token.kind && bytes_eq x.text digits
 
 -- what a number means: at most 18 digits, with leading zeros or without
 abbrev pub number_at : Terminal → Option ℕ

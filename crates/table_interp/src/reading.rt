@@ -4,7 +4,7 @@ ghost use Rattle.std.specs.Prelude.{◌≡◌, ◌≤◌, ◌<◌, length, map, 
 ghost use Rattle.table_interp.specs.internal.Reading.{
   taking,
   word_at,
-  literal_at,
+  numeral_at,
   name_at,
   symbol_at,
   positive_at,
@@ -37,7 +37,7 @@ ghost use Rattle.table_interp.specs.internal.View.{
   HasFault,
 };
 
-use crate::terminals::{Left, Terminal, is_literal, is_name, is_symbol, is_word, number_at};
+use crate::terminals::{Left, Terminal, is_numeral, is_name, is_symbol, is_word, number_at};
 use sequence::NoMemory;
 use std::alloc::{AllocFailed, Global};
 use tsl_terms::NameKind;
@@ -118,13 +118,13 @@ fn word<'a, 'b>(word: &[u8], xs: &'b [Terminal<'a>]) -> Answer<'a, 'b, ()>
 
 /// The terminals after a number with these digits.
 #[tactic(auto, unfolding(crate::specs::internal::Reading::taking))]
-fn literal<'a, 'b>(digits: &[u8], xs: &'b [Terminal<'a>]) -> Answer<'a, 'b, ()>
-    ensures ok { IfOk result (λ read. taking (literal_at digits.now) (terminals_view xs.now) ≡ Ok (tt, terminals_view read.1.now)) }
-    ensures fault { IfErr result (HasFault (taking (literal_at digits.now) (terminals_view xs.now))) }
+fn numeral<'a, 'b>(digits: &[u8], xs: &'b [Terminal<'a>]) -> Answer<'a, 'b, ()>
+    ensures ok { IfOk result (λ read. taking (numeral_at digits.now) (terminals_view xs.now) ≡ Ok (tt, terminals_view read.1.now)) }
+    ensures fault { IfErr result (HasFault (taking (numeral_at digits.now) (terminals_view xs.now))) }
 {
     match xs {
         [x, rest @ ..] => {
-            if is_literal(digits, *x) {
+            if is_numeral(digits, *x) {
                 Ok(((), rest))
             } else {
                 Err(ReadFault::Form(xs.len()))
@@ -368,7 +368,7 @@ pub(crate) fn tables_text<'a, 'b>(
     ensures fault { IfErr result (HasFault (tables_text (terminals_view xs.now))) }
 {
     let (_, xs) = word(b"tsltables", xs)?;
-    let (_, xs) = literal(b"1", xs)?;
+    let (_, xs) = numeral(b"1", xs)?;
     let (_, xs) = word(b"domain", xs)?;
     let (domain, xs) = positive(xs)?;
     let (entries, xs) = entries(alloc, xs)?;
@@ -457,7 +457,7 @@ pub(crate) fn inputs_text<'a, 'b>(
     ensures fault { IfErr result (HasFault (inputs_text (terminals_view xs.now))) }
 {
     let (_, xs) = word(b"tslinputs", xs)?;
-    let (_, xs) = literal(b"1", xs)?;
+    let (_, xs) = numeral(b"1", xs)?;
     let (names, xs) = columns(alloc, xs)?;
     let (_, xs) = word(b"stem", xs)?;
     let (stem, xs) = rows(alloc, xs)?;

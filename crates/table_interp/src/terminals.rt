@@ -2,7 +2,7 @@
 
 ghost use Rattle.std.specs.Prelude.{◌≡◌, ◌≤◌, ◌<◌, ◌^◌, length, IfOk, IfSome, All};
 ghost use Rattle.tsl_text.specs.Division.{IsTokenOf};
-ghost use Rattle.table_interp.specs.Syntax.{terminal_at, terminals, is_name, is_symbol, is_word, is_literal, number_at};
+ghost use Rattle.table_interp.specs.Syntax.{terminal_at, terminals, is_name, is_symbol, is_word, is_numeral, number_at};
 ghost use Rattle.table_interp.specs.internal.View.{terminal_view, terminals_view};
 
 use sequence::NoMemory;
@@ -44,8 +44,8 @@ pub(crate) fn is_word(word: &[u8], x: Terminal) -> bool
 }
 
 /// Whether it is the number with these digits.
-pub(crate) fn is_literal(digits: &[u8], x: Terminal) -> bool
-    ensures { result ≡ is_literal digits.now (terminal_view x.entry) }
+pub(crate) fn is_numeral(digits: &[u8], x: Terminal) -> bool
+    ensures { result ≡ is_numeral digits.now (terminal_view x.entry) }
 {
     matches!(x.token.kind, TokenKind::Number) && x.text == digits
 }

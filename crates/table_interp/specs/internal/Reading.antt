@@ -5,7 +5,7 @@ use Rattle.std.specs.Prelude.{ℕ, zero, suc, List, [], ◌∷◌, codes, Option
 use Rattle.tsl_terms.specs.declared.names.NameKind.{NameKind}
 use Rattle.tsl_terms.specs.declared.names.NameKind.TheVariants.{Signal, Function, Predicate}
 use Rattle.token_readers.specs.Readers.{Answer, Reader, form_at, and_then, map_read, members}
-use Rattle.table_interp.specs.Syntax.{Terminal, is_name, is_symbol, is_word, is_literal, number_at, Entry, TablesSyntax, InputsSyntax}
+use Rattle.table_interp.specs.Syntax.{Terminal, is_name, is_symbol, is_word, is_numeral, number_at, Entry, TablesSyntax, InputsSyntax}
 
 module _ {T V : Type 0} where
   -- the value of the first terminal, where it has one
@@ -27,8 +27,8 @@ at_end (x ∷ rest) = form_at (x ∷ rest)
 abbrev pub word_at : List ℕ → Terminal → Option (Unit {0})
 word_at word x = if is_word word x then Some (tt {0}) else None
 
-abbrev pub literal_at : List ℕ → Terminal → Option (Unit {0})
-literal_at digits x = if is_literal digits x then Some (tt {0}) else None
+abbrev pub numeral_at : List ℕ → Terminal → Option (Unit {0})
+numeral_at digits x = if is_numeral digits x then Some (tt {0}) else None
 
 abbrev pub name_at : Terminal → Option Terminal
 name_at x = if is_name x then Some x else None
@@ -94,7 +94,7 @@ tables_made domain entries = record { domain = domain; entries = entries }
 unfoldable pub tables_text : Reader Terminal TablesSyntax
 tables_text xs =
     and_then (taking (word_at (codes "tsltables")) xs) (λ _ ys.
-    and_then (taking (literal_at (codes "1")) ys) (λ _ zs.
+    and_then (taking (numeral_at (codes "1")) ys) (λ _ zs.
     and_then (taking (word_at (codes "domain")) zs) (λ _ us.
     and_then (taking positive_at us) (λ domain vs.
     and_then (entries vs) (λ es ws.
@@ -133,7 +133,7 @@ inputs_made names stem cycle = record { names = names; stem = stem; cycle = cycl
 unfoldable pub inputs_text : Reader Terminal InputsSyntax
 inputs_text xs =
     and_then (taking (word_at (codes "tslinputs")) xs) (λ _ ys.
-    and_then (taking (literal_at (codes "1")) ys) (λ _ zs.
+    and_then (taking (numeral_at (codes "1")) ys) (λ _ zs.
     and_then (columns zs) (λ names us.
     and_then (taking (word_at (codes "stem")) us) (λ _ vs.
     and_then (rows vs) (λ stem ws.
