@@ -1,8 +1,22 @@
 mod Examples
 pub mod Strips
 pub mod Held
-pub mod Lines
+pub mod General
+pub mod NumberLemmas
 pub mod Numbers
+pub mod UseLemmas
+pub mod WithUses
+pub mod KnownUses
+pub mod GoodTerms
+pub mod GoodLines
+pub mod GoodNodes
+pub mod UsableUses
+pub mod GoodProgram
+pub mod RuleLemmas
+pub mod Lengths
+pub mod Composed
+pub mod KeptProgram
+pub mod Lines
 pub mod OneLine
 pub mod OneProgram
 pub mod PhraseLists

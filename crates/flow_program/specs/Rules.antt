@@ -1,9 +1,9 @@
 -- The rules of program texts, and the first that a text breaks.
 use Rattle.std.specs.Prelude.{ℕ, suc, ◌+◌, Bool, true, false, not, cond, ◌&&◌, ◌||◌, ◌==◌, nat_le, nat_lt, List, [], ◌∷◌, ◌++◌, length, map, find}
-use Rattle.std.specs.Prelude.{Option, Some, None, option_map, position, bytes_eq}
+use Rattle.std.specs.Prelude.{Option, Some, None, option_map, option_and_then, slice_get, position, bytes_eq}
 use Rattle.std.specs.List.{list_all}
-use Rattle.std.specs.Option.{option_or, option_map_or, is_some}
-use Rattle.tsl_terms.specs.Name.{Name as NameEntry}
+use Rattle.std.specs.Option.{option_map_or, is_some}
+use Rattle.tsl_terms.specs.Name.{number_of, Name as NameEntry}
 use Rattle.tsl_terms.specs.Clashes.{alike_in_kind, same_arity}
 use Rattle.flow_program.specs.declared.listing.Name.{Name}
 use Rattle.flow_program.specs.declared.reading.ProgramError.{ProgramError}
@@ -93,9 +93,10 @@ controlled_of text l = map (bytes_of text) (l.cells ++ l.outputs)
 abbrev pub is_unknown : List (List ℕ) → Use → Bool
 is_unknown readable u = u.is_read && not (is_some (place_in readable u.name.text))
 
--- the name of the same text, which is as it was used first, is not like this use
+-- The names have this text, and as they have it, it is not like this use. The names of a text have each name as it is used first.
 abbrev pub is_unlike : (NameEntry → NameEntry → Bool) → List NameEntry → Use → Bool
-is_unlike alike names u = option_map_or (λ n. not (alike n u.name)) (find (λ n. bytes_eq u.name.text n.text) names) false
+is_unlike alike names u =
+    option_map_or (λ n. not (alike n u.name)) (option_and_then (slice_get names) (number_of names u.name.text)) false
 
 abbrev pub at_line : (ℕ → ProgramError) → Option ℕ → Option ProgramError
 at_line fault line = option_map fault line
@@ -109,22 +110,37 @@ over fault most count = cond (nat_lt most count) (Some fault) None
 -- the first of faults that is there
 abbrev pub first_there : List (Option ProgramError) → Option ProgramError
 first_there [] = None
-first_there (f ∷ fs) = option_or f (first_there fs)
+first_there (None ∷ fs) = first_there fs
+first_there (Some f ∷ fs) = Some f
 
--- The fault of a text with these lines, after these names, if any. Each rule goes over the whole text before the next.
-abbrev pub fault_of : List ℕ → List NameEntry → ListingTree → Option ProgramError
-fault_of text given l =
-    let names = names_of given (uses_of text l) in
-    first_there (
+-- the fault of a line, where each rule goes over all lines before the next
+abbrev pub line_fault : List ℕ → ListingTree → Option ProgramError
+line_fault text l = first_there (
     at_line Order (first_line breaks_order (first_node l) l.nodes)
     ∷ at_line Target (first_line (goes_nowhere (length l.states)) (first_node l) l.nodes)
     ∷ at_line Target (first_line (is_nowhere (length l.nodes)) (first_state l) l.states)
     ∷ at_line Updates (first_line (breaks_updates text (controlled_of text l)) (first_node l) l.nodes)
     ∷ at_line Window (first_line (breaks_window text (cells_of text l)) (first_window l) l.windows)
-    ∷ at_use Unknown (find (is_unknown (readable_of text l)) (uses_of text l))
-    ∷ at_use Kind (find (is_unlike alike_in_kind names) (uses_of text l))
-    ∷ at_use Arity (find (is_unlike same_arity names) (uses_of text l))
-    ∷ over Windows most_windows (length l.windows)
-    ∷ over Nodes most_nodes (length l.nodes)
-    ∷ over States most_states (length l.states)
+    ∷ [])
+
+-- the fault of a use of a name, where the text uses names of these
+abbrev pub use_fault : List (List ℕ) → List NameEntry → List Use → Option ProgramError
+use_fault readable names uses = first_there (
+    at_use Unknown (find (is_unknown readable) uses)
+    ∷ at_use Kind (find (is_unlike alike_in_kind names) uses)
+    ∷ at_use Arity (find (is_unlike same_arity names) uses)
+    ∷ [])
+
+-- the limit that the text passes
+abbrev pub limit_fault : ListingTree → Option ProgramError
+limit_fault l = first_there (
+    over Windows most_windows (length l.windows) ∷ over Nodes most_nodes (length l.nodes) ∷ over States most_states (length l.states)
+    ∷ [])
+
+-- the fault of a text with these lines after these names, if any
+abbrev pub fault_of : List ℕ → List NameEntry → ListingTree → Option ProgramError
+fault_of text given l = first_there (
+    line_fault text l
+    ∷ use_fault (readable_of text l) (names_of given (uses_of text l)) (uses_of text l)
+    ∷ limit_fault l
     ∷ [])

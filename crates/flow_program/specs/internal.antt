@@ -1,2 +1,4 @@
 pub mod LineOrder
 pub mod LineReading
+pub mod Numbering
+pub mod UseView

@@ -16,10 +16,14 @@ mod limits;
 mod line;
 mod listing;
 mod listing_reader;
+mod naming;
 mod node;
+mod numbering;
 mod phrases;
 mod program;
 mod reading;
+mod rules;
+mod uses;
 mod words;
 mod writing;
 

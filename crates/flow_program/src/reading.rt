@@ -1,13 +1,22 @@
 //! Program texts are read.
 
-ghost use Rattle.std.specs.Prelude.{◌≡◌, ◌+◌, ◌<◌, ◌^◌, length, IfOk, IfErr, IsTrue};
+ghost use Rattle.std.specs.Prelude.{◌≡◌, ◌+◌, ◌<◌, ◌^◌, ◌++◌, length, IfOk, IfErr, IsTrue};
 ghost use Rattle.std.specs.List.{list_all};
+ghost use Rattle.tsl_terms.specs.Name.{texts, AreDistinct};
 ghost use Rattle.tsl_terms.specs.WellFormed.{name_fits};
 ghost use Rattle.flow_program.specs.ProgramView.{program_tree};
+ghost use Rattle.flow_program.specs.Listing.{listing_tree, IsListing};
+ghost use Rattle.flow_program.specs.Uses.{first_state};
+ghost use Rattle.flow_program.specs.Rules.{cells_of, readable_of};
 ghost use Rattle.flow_program.specs.Reading.{IsReading, HasProgramCause};
 
-use crate::listing::Name;
+use crate::listing::{Listing, ListingError, Name};
+use crate::listing_reader::read_listing;
+use crate::naming::names_of;
+use crate::numbering::numbered_program;
 use crate::program::Program;
+use crate::rules::{declared_names, limit_fault, line_fault, use_fault};
+use crate::uses::all_uses;
 use sequence::NoMemory;
 use std::alloc::{AllocFailed, Global};
 use thiserror::Error;
@@ -80,6 +89,84 @@ impl<T: Drop> From<AllocFailed<T>> for ProgramError {
     }
 }
 
+/// The names of the signals that lines declare, to be found by their bytes.
+#[derive(Debug, Drop)]
+struct Signals {
+    /// The cells.
+    cells: Names,
+    /// The inputs and the cells.
+    readable: Names,
+    /// The cells and the outputs.
+    controlled: Vec<Name>,
+}
+
+/// Two lists as one. An `Err` says that memory ran out.
+fn joined(alloc: Global, left: &[Name], right: &[Name]) -> Result<Vec<Name>, NoMemory>
+    ensures { IfOk result (λ both. both.items ≡ left.now ++ right.now) }
+{
+    let mut both = Vec::from_slice(alloc, left)?;
+    both.extend_from_slice(right)?;
+    Ok(both)
+}
+
+/// The names of the signals that lines declare. An `Err` says that memory ran out.
+fn declared_signals(alloc: Global, text: &[u8], listing: &Listing) -> Result<Signals, NoMemory>
+    requires listing { IsListing text.now (listing_tree listing.now) }
+    requires lines { first_state (listing_tree listing.now) + length listing.now.states.items < 2 ^ 32 }
+    ensures cells { IfOk result (λ declared. texts declared.cells ≡ cells_of text.now (listing_tree listing.now)) }
+    ensures readable { IfOk result (λ declared. texts declared.readable ≡ readable_of text.now (listing_tree listing.now)) }
+    ensures controlled { IfOk result
+        (λ declared. declared.controlled.items ≡ listing.now.cells.items ++ listing.now.outputs.items) }
+{
+    let inputs_and_cells = joined(alloc, &listing.inputs, &listing.cells)?;
+    let controlled = joined(alloc, &listing.cells, &listing.outputs)?;
+    let cells = declared_names(alloc, text, &listing.cells)?;
+    let readable = declared_names(alloc, text, &inputs_and_cells)?;
+    Ok(Signals {
+        cells,
+        readable,
+        controlled,
+    })
+}
+
+/// No text stands twice among names: their count says so.
+fn are_distinct(names: &Names)
+    ensures { AreDistinct names.now }
+{
+    let _count = names.count();
+}
+
+/// The program of lines over the given names.
+fn program_of(
+    alloc: Global,
+    text: &[u8],
+    names: Names,
+    listing: &Listing,
+) -> Result<(Program, Names), ProgramError>
+    requires room { length text.now + length names < 2 ^ 32 }
+    requires names { IsTrue (list_all name_fits names) }
+    requires listing { IsListing text.now (listing_tree listing.now) }
+    ensures ok { IfOk result (λ read. IsReading text.now names (program_tree read.0) read.1) }
+    ensures names_fit { IfOk result (λ read. IsTrue (list_all name_fits read.1)) }
+    ensures cause { IfErr result (HasProgramCause text.now names) }
+{
+    are_distinct(&names);
+    let declared = declared_signals(alloc, text, listing)?;
+    if let Some(fault) = line_fault(text, listing, &declared.cells, &declared.controlled) {
+        return Err(fault);
+    }
+    let uses = all_uses(alloc, text, listing)?;
+    let names = names_of(names, &uses)?;
+    if let Some(fault) = use_fault(&declared.readable, &names, &uses) {
+        return Err(fault);
+    }
+    if let Some(fault) = limit_fault(listing) {
+        return Err(fault);
+    }
+    let program = numbered_program(alloc, &names, text, listing)?;
+    Ok((program, names))
+}
+
 /// The program that a text spells, and its names: the given ones, and then those of the text in the
 /// order of their first uses, where `?` comes directly after the first signal that is a test alone.
 ///
@@ -96,6 +183,9 @@ pub fn read_program(
     ensures names_fit { IfOk result (λ read. IsTrue (list_all name_fits read.1)) }
     ensures cause { IfErr result (HasProgramCause text.now names) }
 {
-    let _ = (alloc, text, names);
-    Err(ProgramError::NoMemory)
+    match read_listing(alloc, text) {
+        Ok(listing) => program_of(alloc, text, names, &listing),
+        Err(ListingError::Form(line)) => Err(ProgramError::Form(line)),
+        Err(ListingError::NoMemory) => Err(ProgramError::NoMemory),
+    }
 }

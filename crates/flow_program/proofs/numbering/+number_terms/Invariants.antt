@@ -1,0 +1,17 @@
+-- The terms so far, and then those that are left.
+use Rattle.std.proofs.Common.{◌≡◌, ◌≤◌, map}
+use Rattle.std.specs.Prelude.{IsTrue}
+use Rattle.tsl_terms.specs.TermTree.{term_tree}
+use Rattle.flow_program.specs.declared.listing.PhraseList.{size-PhraseList}
+use Rattle.flow_program.specs.Listing.{phrase_trees, phrases_stand}
+use Rattle.flow_program.specs.internal.Numbering.{numbered_terms}
+use Rattle.flow_program.proofs.NumberLemmas.{numbered_front}
+use Rattle.flow_program.proofs.numbering.+number_terms.Given as goal
+
+abbrev pub invariant-numbered_terms-loop-rest : goal.invariant-numbered_terms-loop-rest
+invariant-numbered_terms-loop-rest l = record {
+  numbered : numbered_front (map term_tree l.trees.items) (numbered_terms l.names l.text (phrase_trees l.rest))
+      ≡ numbered_terms l.names l.text (phrase_trees l.fn.terms);
+  stand : IsTrue (phrases_stand l.text (phrase_trees l.rest));
+  size : size-PhraseList l.rest ≤ size-PhraseList l.initial.rest;
+}

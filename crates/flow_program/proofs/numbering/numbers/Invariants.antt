@@ -1,0 +1,9 @@
+-- The numbers so far, and then those of the names that are left.
+use Rattle.std.proofs.Common.{◌≡◌, map, drop}
+use Rattle.sequence.specs.Options.{all_there}
+use Rattle.flow_program.specs.internal.Numbering.{after, numbered}
+use Rattle.flow_program.proofs.numbering.numbers.Given as goal
+
+abbrev pub invariant-loop-place : goal.invariant-loop-place
+invariant-loop-place l =
+    after l.ids (all_there (map (numbered l.names l.text) (drop l.place-index l.places))) ≡ all_there (map (numbered l.names l.text) l.places)

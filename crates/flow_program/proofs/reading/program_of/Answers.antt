@@ -1,0 +1,81 @@
+use Rattle.std.proofs.Common.{◌≡◌, length, map, ap, sym, ◌∙◌, arith}
+use Rattle.sequence.proofs.Results.{handed_on}
+use Rattle.tsl_terms.specs.Name.{texts}
+use Rattle.flow_program.specs.declared.reading.ProgramError.TheVariants.{NoMemory}
+use Rattle.flow_program.specs.Listing.{listing_tree}
+use Rattle.flow_program.specs.Uses.{uses_of, names_of}
+use Rattle.flow_program.specs.Reading.{HasProgramCause}
+use Rattle.flow_program.specs.internal.UseView.{use_view}
+use Rattle.flow_program.proofs.Lengths.{uses_and_lines, names_within}
+use Rattle.flow_program.proofs.Composed.{at_a_line, at_a_use, at_a_limit, spells, is_reading, names_may_be_written}
+use Rattle.flow_program.proofs.reading.program_of.Goals as goal
+
+pub declared_signals-requires-clause-lines : goal.declared_signals-requires-clause-lines
+declared_signals-requires-clause-lines c =
+    omega (arith, uses_and_lines c.args.text.now (listing_tree c.args.listing.now) c.requires.listing, c.requires.room)
+
+pub line_fault-requires-clause-lines : goal.line_fault-requires-clause-lines
+line_fault-requires-clause-lines c =
+    omega (arith, uses_and_lines c.args.text.now (listing_tree c.args.listing.now) c.requires.listing, c.requires.room)
+
+pub returns-in-Some-clause-cause : goal.returns-in-Some-clause-cause
+returns-in-Some-clause-cause c =
+    at_a_line c.args.text.now c.args.names (listing_tree c.args.listing.now) c.requires.listing c.in-Some.fault (sym c.in-Some.ensures)
+
+pub all_uses-requires-clause-lines : goal.all_uses-requires-clause-lines
+all_uses-requires-clause-lines c =
+    omega (arith, uses_and_lines c.args.text.now (listing_tree c.args.listing.now) c.requires.listing, c.requires.room)
+
+pub all_uses-requires-clause-few : goal.all_uses-requires-clause-few
+all_uses-requires-clause-few c =
+    omega (arith, uses_and_lines c.args.text.now (listing_tree c.args.listing.now) c.requires.listing, c.requires.room)
+
+pub names_of-requires : goal.names_of-requires
+names_of-requires c =
+    let uses_are : map use_view c.deref-2.result.now ≡ uses_of c.args.text.now (listing_tree c.args.listing.now) =
+    ap (map use_view) c.deref-2.ensures.value ∙ c.in_ok-uses.ensures in
+    omega (
+      arith,
+      names_within c.args.names (map use_view c.deref-2.result.now),
+      ap length uses_are,
+      uses_and_lines c.args.text.now (listing_tree c.args.listing.now) c.requires.listing,
+      c.requires.room,
+    )
+
+pub returns-in-Some-use_fault-clause-cause : goal.returns-in-Some-use_fault-clause-cause
+returns-in-Some-use_fault-clause-cause c =
+    at_a_use c.args.text.now c.args.names (listing_tree c.args.listing.now) (texts c.in_ok-declared.declared.readable)
+    c.in_ok-declared.ensures.readable (map use_view c.deref-3.result.now) (ap (map use_view) c.deref-3.ensures.value ∙ c.in_ok-uses.ensures)
+    c.in_ok-names.names
+    (c.in_ok-names.ensures ∙ ap (λ us. names_of c.args.names (map use_view us)) (c.deref-2.ensures.value ∙ sym c.deref-3.ensures.value))
+    c.requires.listing c.in-Some-use_fault.fault (sym c.in_default.ensures) (sym c.in-Some-use_fault.ensures)
+
+pub returns-in-Some-limit_fault-clause-cause : goal.returns-in-Some-limit_fault-clause-cause
+returns-in-Some-limit_fault-clause-cause c =
+    at_a_limit c.args.text.now c.args.names (listing_tree c.args.listing.now) (texts c.in_ok-declared.declared.readable)
+    c.in_ok-declared.ensures.readable (map use_view c.deref-3.result.now) (ap (map use_view) c.deref-3.ensures.value ∙ c.in_ok-uses.ensures)
+    c.in_ok-names.names
+    (c.in_ok-names.ensures ∙ ap (λ us. names_of c.args.names (map use_view us)) (c.deref-2.ensures.value ∙ sym c.deref-3.ensures.value))
+    c.requires.listing c.in-Some-limit_fault.fault (sym c.in_default.ensures) (sym c.in_default-use_fault.ensures)
+    (sym c.in-Some-limit_fault.ensures)
+
+pub numbered_program-requires-clause-program : goal.numbered_program-requires-clause-program
+numbered_program-requires-clause-program c =
+    spells c.args.text.now c.args.names (listing_tree c.args.listing.now) (texts c.in_ok-declared.declared.readable)
+    c.in_ok-declared.ensures.readable (map use_view c.deref-3.result.now) (ap (map use_view) c.deref-3.ensures.value ∙ c.in_ok-uses.ensures)
+    c.in_ok-names.names
+    (c.in_ok-names.ensures ∙ ap (λ us. names_of c.args.names (map use_view us)) (c.deref-2.ensures.value ∙ sym c.deref-3.ensures.value))
+    c.are_distinct.ensures c.requires.names c.requires.listing (sym c.in_default.ensures) (sym c.in_default-use_fault.ensures)
+    (sym c.in_default-limit_fault.ensures)
+
+pub returns-in_err-program-clause-cause : goal.returns-in_err-program-clause-cause
+returns-in_err-program-clause-cause c =
+    handed_on _ NoMemory (HasProgramCause c.args.text.now c.args.names) c.from_residual-in_err-program.ensures.1 tt
+
+pub returns-clause-names_fit : goal.returns-clause-names_fit
+returns-clause-names_fit c =
+    names_may_be_written c.args.text.now c.args.names (listing_tree c.args.listing.now) (texts c.in_ok-declared.declared.readable)
+    c.in_ok-declared.ensures.readable (map use_view c.deref-3.result.now) (ap (map use_view) c.deref-3.ensures.value ∙ c.in_ok-uses.ensures)
+    c.in_ok-names.names
+    (c.in_ok-names.ensures ∙ ap (λ us. names_of c.args.names (map use_view us)) (c.deref-2.ensures.value ∙ sym c.deref-3.ensures.value))
+    c.requires.names c.requires.listing

@@ -1,0 +1,13 @@
+use Rattle.sequence.proofs.Passes.{passes_within}
+use Rattle.flow_program.specs.Listing.{name_stands}
+use Rattle.flow_program.proofs.RuleLemmas.{declared_absent}
+use Rattle.flow_program.proofs.rules.declared_names.Goals as goal
+
+pub bytes_of-requires : goal.bytes_of-requires
+bytes_of-requires c =
+    passes_within (name_stands c.args.text.now) c.args.declared.now c.loop-name.name-index _ c.requires.stand c.loop-name-test.true
+
+pub add-requires-clause-absent : goal.add-requires-clause-absent
+add-requires-clause-absent c =
+    declared_absent c.args.text.now c.args.declared.now c.loop-name.name-index _ c.bytes_of.result.now c.loop-name.names c.requires.once
+    c.loop-name-test.true c.bytes_of.ensures c.loop-name.invariant

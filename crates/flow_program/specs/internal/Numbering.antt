@@ -1,0 +1,75 @@
+-- Internal: only private functions of this crate use these words.
+-- Lines with numbers in the place of names.
+use Rattle.std.specs.Prelude.{◌≡◌, ℕ, ◌^◌, nat_lt, cond, List, [], ◌++◌, map, Option, Some, None, option_map, option_and_then}
+use Rattle.sequence.specs.Options.{all_there}
+use Rattle.tsl_terms.specs.Name.{number_of, question, Name as NameEntry}
+use Rattle.tsl_terms.specs.TermTree.{TermTree, signal, apply, TermTrees, no_terms, more_terms, ProbeTree}
+use Rattle.tsl_terms.specs.WindowTree.{WindowTree, ListedTree}
+use Rattle.flow_program.specs.declared.listing.Name.{Name}
+use Rattle.flow_program.specs.NodeTree.{NodeTree, branch, assign}
+use Rattle.flow_program.specs.ProgramTree.{ProgramTree}
+use Rattle.flow_program.specs.Listing.{PhraseTree, bare, applied, PhraseTrees, no_phrases, more_phrases, bytes_of}
+use Rattle.flow_program.specs.Listing.{UpdateLine, ListedLine, WindowLine, NodeLine, branch_line, assignment_line, ListingTree}
+
+abbrev pub probe_of : ℕ → TermTrees → ProbeTree
+probe_of predicate arguments = record { predicate = predicate; arguments = arguments }
+
+abbrev pub listed_of : ℕ → TermTree → ℕ → ListedTree
+listed_of s t offset = record { signal = s; term = t; offset = offset }
+
+abbrev pub window_of : ProbeTree → ProbeTree → ℕ → ℕ → List ListedTree → WindowTree
+window_of left right left_at length updates = record { left = left; left_at = left_at; right = right; length = length; updates = updates }
+
+-- a number of 32 bits
+abbrev pub small : ℕ → Option ℕ
+small n = cond (nat_lt n (2 ^ 32)) (Some n) None
+
+-- a front, and then members where they are there
+abbrev pub after : {Y : Type 0} → List Y → Option (List Y) → Option (List Y)
+after front rest = option_map (λ ys. front ++ ys) rest
+
+module _ (names : List NameEntry) (text : List ℕ) where
+  abbrev pub numbered : Name → Option ℕ
+  numbered at = number_of names (bytes_of text at)
+
+  abbrev mutual
+    pub numbered_term : PhraseTree → Option TermTree
+    numbered_term (bare at) = option_map signal (numbered at)
+    numbered_term (applied at arguments) =
+        option_and_then (λ number. option_map (apply number) (numbered_terms arguments)) (numbered at)
+
+    pub numbered_terms : PhraseTrees → Option TermTrees
+    numbered_terms no_phrases = Some no_terms
+    numbered_terms (more_phrases p ps) =
+        option_and_then (λ tree. option_map (more_terms tree) (numbered_terms ps)) (numbered_term p)
+
+  abbrev pub numbered_test : PhraseTree → Option ProbeTree
+  numbered_test (bare at) =
+      option_and_then (λ s. option_map (λ q. probe_of q (more_terms (signal s) no_terms)) (number_of names question)) (numbered at)
+  numbered_test (applied at arguments) =
+      option_and_then (λ number. option_map (probe_of number) (numbered_terms arguments)) (numbered at)
+
+  abbrev pub numbered_listed : ListedLine → Option ListedTree
+  numbered_listed u =
+      option_and_then (λ s. option_and_then (λ t. option_map (listed_of s t) (small u.offset)) (numbered_term u.term)) (numbered u.signal)
+
+  abbrev pub numbered_window : WindowLine → Option WindowTree
+  numbered_window w =
+      option_and_then (λ left. option_and_then (λ right. option_and_then (λ left_at. option_and_then (λ length.
+      option_map (window_of left right left_at length) (all_there (map numbered_listed w.updates)))
+      (small w.length)) (small w.left_at)) (numbered_test w.right)) (numbered_test w.left)
+
+  abbrev pub numbered_node : NodeLine → Option NodeTree
+  numbered_node (branch_line test then_node else_node) =
+      option_and_then (λ t. option_and_then (λ a. option_map (branch t a) (small else_node)) (small then_node)) (numbered_test test)
+  numbered_node (assignment_line updates go) =
+      option_and_then (λ ts. option_map (assign ts) (small go)) (all_there (map (λ u. numbered_term u.term) updates))
+
+  -- the program of these lines, with numbers
+  pub record Numbered (l : ListingTree) (p : ProgramTree) : Type 0 where
+    pub inputs : all_there (map numbered l.inputs) ≡ Some p.inputs
+    pub cells : all_there (map numbered l.cells) ≡ Some p.cells
+    pub outputs : all_there (map numbered l.outputs) ≡ Some p.outputs
+    pub windows : all_there (map numbered_window l.windows) ≡ Some p.windows
+    pub nodes : all_there (map numbered_node l.nodes) ≡ Some p.nodes
+    pub states : all_there (map small l.states) ≡ Some p.states
