@@ -1,6 +1,11 @@
 pub mod Examples
 mod WholeExample
+pub mod General
+pub mod LeafValues
 pub mod Agree
+pub mod TruthLists
+pub mod AlongLists
+pub mod RunTruths
 pub mod RunsOf
 pub mod FirstRepetition
 pub mod OneAction

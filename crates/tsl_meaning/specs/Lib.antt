@@ -7,3 +7,4 @@ pub mod Run
 pub mod RunLasso
 pub mod RunOf
 pub mod RunTree
+pub mod internal

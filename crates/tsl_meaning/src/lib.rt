@@ -1,9 +1,12 @@
 //! What specifications and programs mean.
 #![tactic(auto)]
 
+mod atom_truths;
 mod judging;
 mod laws;
+mod leaves;
 mod run;
+mod truth_lists;
 
 pub use judging::judge;
 pub use laws::{
