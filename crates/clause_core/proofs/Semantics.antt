@@ -2,6 +2,7 @@
 use Rattle.std.proofs.Common.{◌≡◌, ℕ, zero, suc, Bool, true, false, not, cond, List, [], ◌∷◌, ◌++◌, map, sym, ap, ◌∙◌, subst, refl, arith, inl, inr, Contains}
 use Rattle.std.specs.List.{list_all}
 use Rattle.std.proofs.lemmas.Bool.{true≢false, false≢true, or_cases, or_parts, or_left, or_right, cases_Bool, and_parts, and_from}
+use Rattle.sequence.proofs.Passes.{passes_contained}
 use Rattle.clause_core.specs.Literals.{Lit, negation, same, has}
 use Rattle.clause_core.specs.Clauses.{is_true, meets, meets_all, Follows}
 use Rattle.clause_core.specs.Propagation.{not_false, IsFalse, Reaches, SomeFalse, IsQuiet, HasReversePropagation, IsTrace, makes_true}
@@ -26,11 +27,6 @@ all_has p (x ∷ xs) l a h =
       | inl e ↦ subst (λ (z : Lit). p z ≡ true) (same_is x l e) parts.0
       | inr t ↦ all_has p xs l parts.1 t
     ]
-
-pub all_contained : {X : Type 0} (p : X → Bool) (xs : List X) (x : X) → list_all p xs ≡ true → Contains xs x → p x ≡ true
-all_contained p [] x a c = absurd (omega (arith, c.1))
-all_contained p (y ∷ xs) x a (zero, below, is) = subst (λ z. p z ≡ true) is (and_parts (p y) (list_all p xs) a).0
-all_contained p (y ∷ xs) x a (suc k, below, is) = all_contained p xs x (and_parts (p y) (list_all p xs) a).1 (k, omega arith, is)
 
 -- a clause that is met has a true literal among those that are not false
 pub meets-not_false : (v : ℕ → Bool) (trues clause : List Lit) → makes_true v trues ≡ true → meets v clause ≡ true → meets v (not_false trues clause) ≡ true
@@ -60,7 +56,7 @@ unit_true v trues clause l t u m =
 pub reached_true : (v : ℕ → Bool) (clauses : List (List Lit)) (start trues : List Lit) → meets_all v clauses ≡ true → Reaches clauses start trues → makes_true v start ≡ true → makes_true v trues ≡ true
 reached_true v clauses start trues m done t = t
 reached_true v clauses start trues m (turn {clause = clause} {l = l} in' unit later) t =
-    reached_true v clauses (l ∷ start) trues m later (and_from (is_true v l) (makes_true v start) (unit_true v start clause l t unit.others_false (all_contained (meets v) clauses clause m in')) t)
+    reached_true v clauses (l ∷ start) trues m later (and_from (is_true v l) (makes_true v start) (unit_true v start clause l t unit.others_false (passes_contained (meets v) clauses clause m in')) t)
 
 pub makes_true-negations : (v : ℕ → Bool) (clause : List Lit) → meets v clause ≡ false → makes_true v (map negation clause) ≡ true
 makes_true-negations v [] m = refl
@@ -73,7 +69,7 @@ reverse_follows clauses clause r v m =
     elim (cases_Bool (meets v clause)) [
       | inl e ↦ e
       | inr f ↦ (let t = reached_true v clauses (map negation clause) r.0 m r.1 (makes_true-negations v clause f) in
-          absurd (false_unmet v r.0 r.2.0 t r.2.2 (all_contained (meets v) clauses r.2.0 m r.2.1)))
+          absurd (false_unmet v r.0 r.2.0 t r.2.2 (passes_contained (meets v) clauses r.2.0 m r.2.1)))
     ]
 
 -- ---- the least set
@@ -118,7 +114,7 @@ none_false_within clauses small large more quiet (clause, in', f) =
 
 -- ---- traces
 
-meets_all-append : (v : ℕ → Bool) (xs : List (List Lit)) (y : List Lit) → meets_all v xs ≡ true → meets v y ≡ true → meets_all v (xs ++ y ∷ []) ≡ true
+pub meets_all-append : (v : ℕ → Bool) (xs : List (List Lit)) (y : List Lit) → meets_all v xs ≡ true → meets v y ≡ true → meets_all v (xs ++ y ∷ []) ≡ true
 meets_all-append v [] y a m = and_from (meets v y) true m refl
 meets_all-append v (x ∷ xs) y a m =
     let parts = and_parts (meets v x) (meets_all v xs) a in

@@ -9,19 +9,16 @@ use Rattle.std.specs.List.{dedup}
 use Rattle.std.specs.List.Sorted.{IsStrictlySortedBy}
 use Rattle.std.specs.Cmp.{IsTotalOrder, IsEquivalence, on_total, on_equiv, int_cmp_total, int_eq_equiv, int_ranked, int_ranks}
 use Rattle.std.proofs.lemmas.List.Sorted.{Contains-permutation, IsPermutation-sym}
+use Rattle.std.proofs.lemmas.List.Folds.{list_any-append}
 use Rattle.std.proofs.lemmas.List.Kept.{Contains-dedup, Contains-from_dedup, IsStrictlySortedBy-dedup}
-use Rattle.std.proofs.lemmas.Bool.{true≢false, false≢true, or_cases, or_left, or_right, cases_Bool}
+use Rattle.std.proofs.lemmas.Bool.{true≢false, false≢true, or_cases, or_left, or_right, cases_Bool, false_from_ne_true}
 use Rattle.std.proofs.lemmas.Bool.Decides.{Decides-int_eq}
 use Rattle.std.proofs.lemmas.Int.{ints}
+use Rattle.sequence.proofs.Booleans.{same_tests, not_not}
+use Rattle.sequence.proofs.Each.{each_weaker, each_left, each_between}
+use Rattle.std.proofs.Math.Bool.{or_assoc, or_comm, or_self_left}
 use Rattle.clause_core.specs.Literals.{Lit, number_of, literal_of, negation, same, has, code_of}
 use Rattle.clause_core.specs.Clauses.{IsIncreasing, with_literal, in_order, is_contained, has_pair}
-
--- two tests that imply each other are equal
-pub same_tests : (a b : Bool) → (a ≡ true → b ≡ true) → (b ≡ true → a ≡ true) → a ≡ b
-same_tests true true f g = refl
-same_tests true false f g = sym (f refl)
-same_tests false true f g = g refl
-same_tests false false f g = refl
 
 literal_of-number_of : (i : ℕ) (p : Bool) → literal_of (cond p (pos (suc i)) (negsuc i)) ≡ (record { index = i; positive = p })
 literal_of-number_of i true = refl
@@ -39,9 +36,7 @@ pub same_from : (a b : Lit) → a ≡ b → same a b ≡ true
 same_from a b e = (Decides-int_eq (number_of a) (number_of b)).1 (ap number_of e)
 
 pub negation-negation : (l : Lit) → negation (negation l) ≡ l
-negation-negation l =
-    let twice : (p : Bool) → not (not p) ≡ p = λ p. elim p as (λ b. not (not b) ≡ b) [ true ↦ refl | false ↦ refl ] in
-    ap (λ (p : Bool). record { index = l.index; positive = p }) (twice l.positive)
+negation-negation l = ap (λ (p : Bool). record { index = l.index; positive = p }) (not_not l.positive)
 
 pub negation_differs : (l : Lit) → negation l ≡ l → ⊥
 negation_differs l e =
@@ -51,12 +46,7 @@ negation_differs l e =
 -- ---- what a list has
 
 pub has-append : (xs ys : List Lit) (l : Lit) → has (xs ++ ys) l ≡ (has xs l || has ys l)
-has-append [] ys l = refl
-has-append (x ∷ xs) ys l = ap (λ (b : Bool). same x l || b) (has-append xs ys l) ∙ or_assoc (same x l) (has xs l) (has ys l)
-  where
-    or_assoc : (a b c : Bool) → (a || (b || c)) ≡ ((a || b) || c)
-    or_assoc true b c = refl
-    or_assoc false b c = refl
+has-append xs ys l = list_any-append (λ m. same m l) xs ys
 
 pub Contains_from_has : (xs : List Lit) (l : Lit) → has xs l ≡ true → Contains xs l
 Contains_from_has [] l h = absurd (false≢true h)
@@ -73,9 +63,14 @@ has_from_Contains (x ∷ xs) l (suc k, below, is) = or_right (same x l) (has xs 
 
 -- ---- order
 
-pub AllByRecursion-weaker : {X : Type 0} (P Q : X → Type 0) → ((x : X) → P x → Q x) → (xs : List X) → AllByRecursion P xs → AllByRecursion Q xs
-AllByRecursion-weaker P Q f [] a = tt
-AllByRecursion-weaker P Q f (x ∷ xs) a = (f x a.0, AllByRecursion-weaker P Q f xs a.1)
+below_chain : (a b c : ℤ) → a <ℤ b → b <ℤ c → a <ℤ c
+below_chain a b c h k = omega (arith, ints)
+
+not_below : (a b : ℤ) → a <ℤ b → b <ℤ a → ⊥
+not_below a b h k = omega (arith, ints)
+
+not_equal : (a b : ℤ) → a <ℤ b → a ≡ b → ⊥
+not_equal a b h e = omega (arith, ints)
 
 pub AllByRecursion-has : (P : Lit → Type 0) (xs : List Lit) (l : Lit) → AllByRecursion P xs → has xs l ≡ true → P l
 AllByRecursion-has P [] l a h = absurd (false≢true h)
@@ -110,12 +105,9 @@ one_increasing (x ∷ xs) (y ∷ ys) ux uy h =
           | inl e ↦ sym (same_is y x e)
           | inr t ↦ elim (or_cases (same x y) (has xs y) q) [
             | inl e ↦ same_is x y e
-            | inr u ↦ absurd (both (number_of x) (number_of y) (AllByRecursion-has (λ m. number_of x <ℤ number_of m) xs y ux.0 u) (AllByRecursion-has (λ m. number_of y <ℤ number_of m) ys x uy.0 t))
+            | inr u ↦ absurd (not_below (number_of x) (number_of y) (AllByRecursion-has (λ m. number_of x <ℤ number_of m) xs y ux.0 u) (AllByRecursion-has (λ m. number_of y <ℤ number_of m) ys x uy.0 t))
           ]
         ]
-      where
-        both : (a b : ℤ) → a <ℤ b → b <ℤ a → ⊥
-        both a b h k = omega (arith, ints)
 
     rest_is : (x l : Lit) (xs ys : List Lit) → IsIncreasing (x ∷ xs) → IsIncreasing (x ∷ ys) → (same x l || has xs l) ≡ (same x l || has ys l) → has xs l ≡ has ys l
     rest_is x l xs ys ux uy e =
@@ -133,21 +125,15 @@ has-with_literal : (l m : Lit) (ms : List Lit) → has (with_literal l ms) m ≡
 has-with_literal l m [] = refl
 has-with_literal l m (x ∷ xs) = at_same (has-with_literal l m xs) (same l x) refl
   where
-    again : (a b : Bool) → (a || b) ≡ (a || (a || b))
-    again true b = refl
-    again false b = refl
-
     turned : (a b c : Bool) → (b || (a || c)) ≡ (a || (b || c))
-    turned true true c = refl
-    turned true false c = refl
-    turned false b c = refl
+    turned a b c = sym (or_assoc b a c) ∙ (ap (λ d. d || c) (or_comm b a) ∙ or_assoc a b c)
 
     at_less : has (with_literal l xs) m ≡ (same l m || has xs m) → (t : Bool) → has (cond t (l ∷ x ∷ xs) (x ∷ with_literal l xs)) m ≡ (same l m || (same x m || has xs m))
     at_less ih true = refl
     at_less ih false = ap (λ (b : Bool). same x m || b) ih ∙ turned (same l m) (same x m) (has xs m)
 
     at_same : has (with_literal l xs) m ≡ (same l m || has xs m) → (t : Bool) → same l x ≡ t → has (cond t (x ∷ xs) (cond (int_lt (number_of l) (number_of x)) (l ∷ x ∷ xs) (x ∷ with_literal l xs))) m ≡ (same l m || (same x m || has xs m))
-    at_same ih true e = again (same x m) (has xs m) ∙ ap (λ (z : Lit). same z m || (same x m || has xs m)) (sym (same_is l x e))
+    at_same ih true e = sym (or_self_left (same x m) (has xs m)) ∙ ap (λ (z : Lit). same z m || (same x m || has xs m)) (sym (same_is l x e))
     at_same ih false e = at_less ih (int_lt (number_of l) (number_of x))
 
 pub has-in_order : (ls : List Lit) (m : Lit) → has (in_order ls) m ≡ has ls m
@@ -170,9 +156,6 @@ IsIncreasing-with_literal : (l : Lit) (ms : List Lit) → IsIncreasing ms → Is
 IsIncreasing-with_literal l [] up = (tt, tt)
 IsIncreasing-with_literal l (x ∷ xs) up = at_same (IsIncreasing-with_literal l xs up.1) (same l x) refl
   where
-    chain : (a b c : ℤ) → a <ℤ b → b <ℤ c → a <ℤ c
-    chain a b c h k = omega (arith, ints)
-
     apart : (a b : ℤ) → (a ≡ b → ⊥) → int_lt a b ≡ false → b <ℤ a
     apart a b n f = grind (arith, ints)
 
@@ -182,7 +165,7 @@ IsIncreasing-with_literal l (x ∷ xs) up = at_same (IsIncreasing-with_literal l
     at_less : IsIncreasing (with_literal l xs) → (t : Bool) → int_lt (number_of l) (number_of x) ≡ t → same l x ≡ false → IsIncreasing (cond t (l ∷ x ∷ xs) (x ∷ with_literal l xs))
     at_less ih true e n =
         let below : number_of l <ℤ number_of x = tested (number_of l) (number_of x) e in
-        ((below, AllByRecursion-weaker (λ m. number_of x <ℤ number_of m) (λ m. number_of l <ℤ number_of m) (λ m h. chain (number_of l) (number_of x) (number_of m) below h) xs up.0), up)
+        ((below, each_weaker (λ m. number_of x <ℤ number_of m) (λ m. number_of l <ℤ number_of m) (λ m h. below_chain (number_of l) (number_of x) (number_of m) below h) xs up.0), up)
     at_less ih false e n =
         let above : number_of x <ℤ number_of l = apart (number_of l) (number_of x) (λ k. false≢true (sym n ∙ same_from l x (number_of-injective l x k))) e in
         (All-with_literal (λ m. number_of x <ℤ number_of m) l xs above up.0, ih)
@@ -211,7 +194,7 @@ by_number_total = on_total number_of int_cmp_total
 rises : (ls : List Lit) → IsStrictlySortedBy by_number ls → IsIncreasing ls
 unfolding IsStrictlySortedBy
 rises [] s = tt
-rises (l ∷ ls) s = (AllByRecursion-weaker (λ m. by_number l m ≡ Less) (λ m. number_of l <ℤ number_of m) (λ m h. less (number_of l) (number_of m) h) ls s.0, rises ls s.1)
+rises (l ∷ ls) s = (each_weaker (λ m. by_number l m ≡ Less) (λ m. number_of l <ℤ number_of m) (λ m h. less (number_of l) (number_of m) h) ls s.0, rises ls s.1)
   where
     less : (a b : ℤ) → int_cmp a b ≡ Less → a <ℤ b
     less a b h = int_ranked a b Less (sym h)
@@ -245,10 +228,7 @@ contained_without y (x ∷ small) large a =
 
 -- the larger list's first literal is below the smaller one's
 pub contained_later : (x : Lit) (small : List Lit) (y : Lit) (large : List Lit) → IsIncreasing (x ∷ small) → number_of y <ℤ number_of x → is_contained (x ∷ small) (y ∷ large) ≡ is_contained (x ∷ small) large
-contained_later x small y large up below = contained_without y (x ∷ small) large (below, AllByRecursion-weaker (λ m. number_of x <ℤ number_of m) (λ m. number_of y <ℤ number_of m) (λ m h. chain (number_of y) (number_of x) (number_of m) below h) small up.0)
-  where
-    chain : (a b c : ℤ) → a <ℤ b → b <ℤ c → a <ℤ c
-    chain a b c h k = omega (arith, ints)
+contained_later x small y large up below = contained_without y (x ∷ small) large (below, each_weaker (λ m. number_of x <ℤ number_of m) (λ m. number_of y <ℤ number_of m) (λ m h. below_chain (number_of y) (number_of x) (number_of m) below h) small up.0)
 
 -- both lists' first literals are one
 pub contained_both : (x : Lit) (small large : List Lit) → IsIncreasing (x ∷ small) → is_contained (x ∷ small) (x ∷ large) ≡ is_contained small large
@@ -259,21 +239,11 @@ contained_both x small large up =
 pub contained_never : (x : Lit) (small : List Lit) (y : Lit) (large : List Lit) → IsIncreasing (y ∷ large) → number_of x <ℤ number_of y → is_contained (x ∷ small) (y ∷ large) ≡ false
 contained_never x small y large up below = ap (λ (b : Bool). b && is_contained small (y ∷ large)) absent
   where
-    chain : (a b c : ℤ) → a <ℤ b → b <ℤ c → a ≡ c → ⊥
-    chain a b c h k e = omega (arith, ints)
-
-    apart : (a b : ℤ) → a <ℤ b → a ≡ b → ⊥
-    apart a b h e = omega (arith, ints)
-
-    is_false : (b : Bool) → (b ≡ true → ⊥) → b ≡ false
-    is_false true n = absurd (n refl)
-    is_false false n = refl
-
     absent : has (y ∷ large) x ≡ false
-    absent = is_false (has (y ∷ large) x) (λ h.
+    absent = false_from_ne_true (has (y ∷ large) x) (λ h.
         elim (or_cases (same y x) (has large x) h) [
-          | inl e ↦ apart (number_of x) (number_of y) below (sym (ap number_of (same_is y x e)))
-          | inr t ↦ chain (number_of x) (number_of y) (number_of x) below (AllByRecursion-has (λ m. number_of y <ℤ number_of m) large x up.0 t) refl
+          | inl e ↦ not_equal (number_of x) (number_of y) below (sym (ap number_of (same_is y x e)))
+          | inr t ↦ not_below (number_of x) (number_of y) below (AllByRecursion-has (λ m. number_of y <ℤ number_of m) large x up.0 t)
         ])
 
 -- ---- pairs
@@ -283,7 +253,7 @@ pub record HasPair (clause : List Lit) : Type 0 where
   pub one : has clause literal ≡ true
   pub other : has clause (negation literal) ≡ true
 
-any_has : (p : Lit → Bool) (xs : List Lit) → list_any p xs ≡ true → (l : Lit) × (has xs l ≡ true) × (p l ≡ true)
+pub any_has : (p : Lit → Bool) (xs : List Lit) → list_any p xs ≡ true → (l : Lit) × (has xs l ≡ true) × (p l ≡ true)
 any_has p [] h = absurd (false≢true h)
 any_has p (x ∷ xs) h =
     elim (or_cases (p x) (list_any p xs) h) [
@@ -327,15 +297,8 @@ pub IsIncreasing-front : (xs : List Lit) (y : Lit) → IsIncreasing (xs ++ y ∷
 IsIncreasing-front [] y up = (tt, tt)
 IsIncreasing-front (x ∷ xs) y up =
     let r = IsIncreasing-front xs y up.1 in
-    ((front_of (λ m. number_of x <ℤ number_of m) xs y up.0, r.0), (last_of (λ m. number_of x <ℤ number_of m) xs y up.0, r.1))
-  where
-    front_of : (P : Lit → Type 0) (xs : List Lit) (y : Lit) → AllByRecursion P (xs ++ y ∷ []) → AllByRecursion P xs
-    front_of P [] y a = tt
-    front_of P (x ∷ xs) y a = (a.0, front_of P xs y a.1)
-
-    last_of : (P : Lit → Type 0) (xs : List Lit) (y : Lit) → AllByRecursion P (xs ++ y ∷ []) → P y
-    last_of P [] y a = a.0
-    last_of P (x ∷ xs) y a = last_of P xs y a.1
+    let above : Lit → Type 0 = λ m. number_of x <ℤ number_of m in
+    ((each_left above xs (y ∷ []) up.0, r.0), (each_between above xs y [] up.0, r.1))
 
 number_of-negation : (l : Lit) → number_of (negation l) ≡ neg_ℤ (number_of l)
 number_of-negation l = by_sign l.index l.positive
@@ -344,15 +307,11 @@ number_of-negation l = by_sign l.index l.positive
     by_sign i true = refl
     by_sign i false = refl
 
-is_false_from : (b : Bool) → (b ≡ true → ⊥) → b ≡ false
-is_false_from true n = absurd (n refl)
-is_false_from false n = refl
-
 -- the last literal is above the first one's negation: the last takes no part in a pair
 pub pair_before : (clause : List Lit) (first : Lit) (after before : List Lit) (last : Lit) → clause ≡ first ∷ after → clause ≡ before ++ last ∷ [] → IsIncreasing clause → number_of (negation first) <ℤ number_of last → has_pair clause ≡ has_pair before
 pair_before clause first after before last begins ends up below =
     pair_without last clause before (λ l. ap (λ (xs : List Lit). has xs l) ends ∙ (has-append before (last ∷ []) l ∙ or_turned (has before l) (same last l)))
-    (is_false_from (has clause (negation last)) (λ h. at_least (subst (λ (xs : List Lit). has xs (negation last) ≡ true) begins h) (subst IsIncreasing begins up)))
+    (false_from_ne_true (has clause (negation last)) (λ h. at_least (subst (λ (xs : List Lit). has xs (negation last) ≡ true) begins h) (subst IsIncreasing begins up)))
   where
     far : (f l m : ℤ) → neg_ℤ f <ℤ l → m ≡ neg_ℤ l → f <ℤ m → ⊥
     far f l m h e k = omega (arith, ints)
@@ -373,19 +332,13 @@ pair_before clause first after before last begins ends up below =
 pub pair_after : (clause : List Lit) (first : Lit) (after before : List Lit) (last : Lit) → clause ≡ first ∷ after → clause ≡ before ++ last ∷ [] → IsIncreasing clause → number_of last <ℤ number_of (negation first) → has_pair clause ≡ has_pair after
 pair_after clause first after before last begins ends up above =
     pair_without first clause after (λ l. ap (λ (xs : List Lit). has xs l) begins)
-    (is_false_from (has clause (negation first)) (λ h. at_most (or_cases (has before (negation first)) (has (last ∷ []) (negation first)) (sym (has-append before (last ∷ []) (negation first)) ∙ subst (λ (xs : List Lit). has xs (negation first) ≡ true) ends h)) (IsIncreasing-front before last (subst IsIncreasing ends up)).1))
+    (false_from_ne_true (has clause (negation first)) (λ h. at_most (or_cases (has before (negation first)) (has (last ∷ []) (negation first)) (sym (has-append before (last ∷ []) (negation first)) ∙ subst (λ (xs : List Lit). has xs (negation first) ≡ true) ends h)) (IsIncreasing-front before last (subst IsIncreasing ends up)).1))
   where
-    far : (l m : ℤ) → l <ℤ m → m <ℤ l → ⊥
-    far l m h k = omega (arith, ints)
-
-    near : (l m : ℤ) → l <ℤ m → l ≡ m → ⊥
-    near l m h k = omega (arith, ints)
-
     at_most : ((has before (negation first) ≡ true) ⊎ (has (last ∷ []) (negation first) ≡ true)) → AllByRecursion (λ m. number_of m <ℤ number_of last) before → ⊥
     at_most s u = elim s [
-      | inl t ↦ far (number_of last) (number_of (negation first)) above (AllByRecursion-has (λ m. number_of m <ℤ number_of last) before (negation first) u t)
+      | inl t ↦ not_below (number_of last) (number_of (negation first)) above (AllByRecursion-has (λ m. number_of m <ℤ number_of last) before (negation first) u t)
       | inr h ↦ elim (or_cases (same last (negation first)) false h) [
-        | inl e ↦ near (number_of last) (number_of (negation first)) above (ap number_of (same_is last (negation first) e))
+        | inl e ↦ not_equal (number_of last) (number_of (negation first)) above (ap number_of (same_is last (negation first) e))
         | inr f ↦ absurd (false≢true f)
       ]
     ]

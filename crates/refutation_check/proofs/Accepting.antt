@@ -3,7 +3,7 @@ use Rattle.std.proofs.Common.{◌≡◌, ℕ, ◌+◌, ◌<◌, ◌≤◌, Bool,
 use Rattle.std.proofs.Common.{drop, Some, None, All, AllPairs, sym, ap, ◌∙◌, subst, refl, arith, inl, inr}
 use Rattle.std.specs.Prelude.{option_map}
 use Rattle.std.specs.List.{list_any}
-use Rattle.std.proofs.lemmas.Bool.{true≢false, or_parts, cases_lt, le-leb, cond-true}
+use Rattle.std.proofs.lemmas.Bool.{or_parts, cases_lt, cond-true, leb-false}
 use Rattle.std.proofs.lemmas.List.{take_more, drop_more, drop_all, map_push, append_assoc, length_push, get_or_push, get_or_append_left}
 use Rattle.std.proofs.lemmas.List.Elements.{All-push, All-cons, All-nil}
 use Rattle.clause_core.specs.Literals.{Lit, negation}
@@ -36,10 +36,7 @@ none_large : (variables : ℕ) (clause : List Lit) → list_any (λ l. leb varia
 none_large variables [] h = All-nil (λ (l : Lit). l.index < variables)
 none_large variables (l ∷ ls) h =
     let parts = or_parts (leb variables l.index) (list_any (λ m. leb variables m.index) ls) h in
-    All-cons (λ (m : Lit). m.index < variables) l ls (above_from variables l.index parts.0) (none_large variables ls parts.1)
-  where
-    above_from : (a b : ℕ) → leb a b ≡ false → b < a
-    above_from a b e = elim (cases_lt b a) [ inl less ↦ less | inr more ↦ absurd (true≢false (sym (le-leb a b more) ∙ e)) ]
+    All-cons (λ (m : Lit). m.index < variables) l ls (leb-false variables l.index parts.0) (none_large variables ls parts.1)
 
 rises_more : (steps : List Step) (s : Step) (largest : ℕ) → AllPairs (λ a b. a.number < b.number) steps →
     All (λ t. t.number ≤ largest) steps → largest < s.number → AllPairs (λ a b. a.number < b.number) (steps ++ s ∷ [])
@@ -70,7 +67,7 @@ checked_more variables clauses steps place largest s within is so_far fine =
     let parts = or_parts (leb s.number largest) (list_any (λ l. leb variables l.index) s.clause || has_pair s.clause)
     (may_stand variables largest (known_after clauses (take place steps)) s fine) in
     let over = none_large variables s.clause (or_parts (list_any (λ l. leb variables l.index) s.clause) (has_pair s.clause) parts.1).0 in
-    let above : largest < s.number = larger s.number largest parts.0 in
+    let above : largest < s.number = leb-false s.number largest parts.0 in
     let front : take (place + 1) steps ≡ take place steps ++ s ∷ [] = take_more steps place s within
     ∙ ap (λ (t : Step). take place steps ++ t ∷ []) (sym is) in
     let back : drop place steps ≡ s ∷ drop (place + 1) steps = drop_more steps place s within
@@ -97,9 +94,6 @@ checked_more variables clauses steps place largest s within is so_far fine =
       same = ap (λ ns. steps_refusal variables s.number ns (drop (place + 1) steps)) known
           ∙ (sym step ∙ (sym (ap (steps_refusal variables largest (known_after clauses (take place steps))) back) ∙ so_far.same));
     }
-  where
-    larger : (a b : ℕ) → leb a b ≡ false → b < a
-    larger a b e = elim (cases_lt b a) [ inl less ↦ less | inr more ↦ absurd (true≢false (sym (le-leb a b more) ∙ e)) ]
 
 -- where each step is accepted and one has the empty clause, the log is
 pub all_accepted : (variables : ℕ) (clauses : List (List Lit)) (steps : List Step) (place largest : ℕ) → length steps ≤ place →

@@ -9,7 +9,7 @@ use Rattle.clause_core.specs.Literals.{Lit, negation, has}
 use Rattle.clause_core.specs.Clauses.{meets, meets_all, AreUnsatisfiable, Follows}
 use Rattle.clause_core.specs.Propagation.{not_false, ReachesFalse}
 use Rattle.clause_core.specs.Propagation.Reaches.{done, turn}
-use Rattle.clause_core.proofs.Semantics.{reverse_follows}
+use Rattle.clause_core.proofs.Semantics.{reverse_follows, meets_all-append}
 use Rattle.refutation_check.specs.declared.steps.Step.{Step}
 use Rattle.refutation_check.specs.Checking.{Numbered, numbered_from, clause_named, Effect, ends, makes, shows_nothing, Refusal, at_line}
 use Rattle.refutation_check.specs.Checking.{at_hint, effect_of_open, effect_of_named, led_to, refused_hint, is_no_step, step_refusal}
@@ -94,13 +94,6 @@ pub first_none : (a b : Option Refusal) → first_of a b ≡ None → (a ≡ Non
 first_none None b h = (refl, h)
 first_none (Some r) b h = absurd cc
 
-meets_more : (v : ℕ → Bool) (cs : List (List Lit)) (c : List Lit) → meets_all v cs ≡ true → meets v c ≡ true →
-    meets_all v (cs ++ c ∷ []) ≡ true
-meets_more v [] c a m = and_from (meets v c) true m refl
-meets_more v (x ∷ xs) c a m =
-    let parts = and_parts (meets v x) (meets_all v xs) a in
-    and_from (meets v x) (meets_all v (xs ++ c ∷ [])) parts.0 (meets_more v xs c parts.1 m)
-
 -- an assignment that meets the known clauses meets those of the steps
 steps_met : (v : ℕ → Bool) (variables : ℕ) (steps : List Step) (largest : ℕ) (known : List Numbered) →
     steps_refusal variables largest known steps ≡ None → meets_all v (clauses_in known) ≡ true →
@@ -112,7 +105,7 @@ steps_met v variables (step ∷ steps) largest known h m =
     (steps_refusal variables step.number (known ++ named ∷ []) steps) h in
     let met = step_follows variables largest known step parts.0 v m in
     let all : meets_all v (clauses_in (known ++ named ∷ [])) ≡ true =
-    ap (meets_all v) (map-append (λ (k : Numbered). k.clause) known (named ∷ [])) ∙ meets_more v (clauses_in known) step.clause m met in
+    ap (meets_all v) (map-append (λ (k : Numbered). k.clause) known (named ∷ [])) ∙ meets_all-append v (clauses_in known) step.clause m met in
     and_from (meets v step.clause) (list_all (λ s. meets v s.clause) steps) met
     (steps_met v variables steps step.number (known ++ named ∷ []) parts.1 all)
 

@@ -2,11 +2,11 @@
 use Rattle.std.proofs.Common.{◌≡◌, ℕ, zero, suc, ◌+◌, ◌<◌, ◌≤◌, Bool, true, false, not, cond, ◌&&◌, List, [], ◌∷◌, map, filter, sym, ap, ◌∙◌, subst, refl, arith, inl, inr, Contains}
 use Rattle.std.specs.Prelude.{◌↔◌, IsTrue}
 use Rattle.std.specs.List.{list_any}
-use Rattle.std.proofs.lemmas.Bool.{true≢false, false≢true, or_cases, or_left, or_right, or_parts, cases_Bool, false_from_ne_true, and_parts, and_from, not-true, not_from_false}
+use Rattle.std.proofs.lemmas.Bool.{true≢false, false≢true, or_left, or_right, or_parts, cases_Bool, false_from_ne_true, and_parts, and_from, not-true, not_from_false}
 use Rattle.clause_core.specs.Literals.{Lit, negation, same, has}
 use Rattle.clause_core.specs.Propagation.{IsUnit, Reaches, SomeFalse, IsQuiet, ReachesFalse, IsNotFound}
 use Rattle.clause_core.specs.Propagation.Reaches.{done, turn}
-use Rattle.clause_core.proofs.Sets.{same_from, any_from_has}
+use Rattle.clause_core.proofs.Sets.{same_from, any_from_has, any_has}
 use Rattle.clause_core.proofs.Semantics.{reached_within, none_false_within}
 use Rattle.sat_trail.proofs.Steps.{not_false_has, has_not_false, has_one}
 
@@ -68,13 +68,6 @@ is_open trues clause = list_any (is_unassigned trues) clause
 abbrev pub count_open : List (List Lit) → List Lit → ℕ
 count_open [] trues = 0
 count_open (c ∷ cs) trues = cond (is_open trues c) 1 0 + count_open cs trues
-
-any_has : (p : Lit → Bool) (xs : List Lit) → list_any p xs ≡ true → (l : Lit) × (has xs l ≡ true) × (p l ≡ true)
-any_has p [] h = absurd (false≢true h)
-any_has p (x ∷ xs) h = elim (or_cases (p x) (list_any p xs) h) [
-  | inl y ↦ (x, or_left (same x x) (has xs x) (same_from x x refl), y)
-  | inr t ↦ (let r = any_has p xs t in (r.0, or_right (same x r.0) (has xs r.0) r.1, r.2))
-]
 
 unassigned_before : (trues : List Lit) (l m : Lit) → is_unassigned (l ∷ trues) m ≡ true → is_unassigned trues m ≡ true
 unassigned_before trues l m h =

@@ -6,11 +6,12 @@ use Rattle.std.proofs.lemmas.Bool.{true≢false, false≢true, or_cases, or_left
 use Rattle.std.proofs.lemmas.List.{length-map}
 use Rattle.std.proofs.lemmas.List.Elements.{Contains-append_left, Contains-append_right, All-contains}
 use Rattle.std.proofs.lemmas.Map.Steps.{length-le_from_distinct_below}
+use Rattle.sat_trail.proofs.Steps.{one_not_false, none_not_false}
 use Rattle.clause_core.specs.Literals.{Lit, negation, same, has}
 use Rattle.clause_core.specs.Clauses.{IsIncreasing, IsOver, has_pair}
 use Rattle.clause_core.specs.Propagation.{not_false, IsLearnt, IsTrace}
 use Rattle.clause_core.specs.Propagation.Reaches.{done, turn}
-use Rattle.clause_core.proofs.Sets.{same_is, same_from, negation-negation, IsIncreasing-apart, Contains_from_has, has_from_Contains, has_pair_from}
+use Rattle.clause_core.proofs.Sets.{same_is, same_from, negation-negation, Contains_from_has, has_from_Contains, has_pair_from}
 use Rattle.sat_core.proofs.Hints.{has-map-negation}
 
 abbrev lit : ℕ → Bool → Lit
@@ -101,27 +102,12 @@ filter-has p (x ∷ xs) l h = by_test (p x) refl (filter-has p xs l) h
     ]
     by_test false t later h = let r = later h in (or_right (same x l) (has xs l) r.0, r.1)
 
-none_left : (trues clause : List Lit) → ((m : Lit) → has clause m ≡ true → has trues (negation m) ≡ true) → not_false trues clause ≡ []
-none_left trues [] h = refl
-none_left trues (x ∷ xs) h =
-    cond-false (not (has trues (negation x))) (x ∷ not_false trues xs) (not_false trues xs) (ap not (h x (or_left (same x x) (has xs x) (same_from x x refl)))) ∙ none_left trues xs (λ m k. h m (or_right (same x m) (has xs m) k))
-
-one_left : (trues clause : List Lit) (l : Lit) → IsIncreasing clause → has clause l ≡ true → has trues (negation l) ≡ false → ((m : Lit) → has clause m ≡ true → (m ≡ l → ⊥) → has trues (negation m) ≡ true) → not_false trues clause ≡ l ∷ []
-one_left trues [] l up h n others = absurd (false≢true h)
-one_left trues (x ∷ xs) l up h n others =
-    elim (or_cases (same x l) (has xs l) h) [
-      | inl s ↦ (let is : x ≡ l = same_is x l s in
-          cond-true (not (has trues (negation x))) (x ∷ not_false trues xs) (not_false trues xs) (ap (λ (z : Lit). not (has trues (negation z))) is ∙ ap not n) ∙ (ap (λ (ls : List Lit). x ∷ ls) (none_left trues xs (λ m k. others m (or_right (same x m) (has xs m) k) (λ e. IsIncreasing-apart x xs up (ap (has xs) (is ∙ sym e) ∙ k)))) ∙ ap (λ (z : Lit). z ∷ []) is))
-      | inr s ↦ (let apart : x ≡ l → ⊥ = λ e. IsIncreasing-apart x xs up (ap (has xs) e ∙ s) in
-          cond-false (not (has trues (negation x))) (x ∷ not_false trues xs) (not_false trues xs) (ap not (others x (or_left (same x x) (has xs x) (same_from x x refl)) apart)) ∙ one_left trues xs l up.1 s n (λ m k. others m (or_right (same x m) (has xs m) k)))
-    ]
-
 pub not_within : (v : ℕ) (known : List (List Lit)) (c d : List Lit) → Contains known c → IsIncreasing c → ((m : Lit) → has c m ≡ true → has d m ≡ true) → IsLearnt v known d → ⊥
 not_within v known c d there up within learnt = elim (cases_Bool (has c l)) [
-  | inl y ↦ (let unit : not_false start c ≡ l ∷ [] = one_left start c l up y open' (λ m h n. negated m (within m h) n) in
+  | inl y ↦ (let unit : not_false start c ≡ l ∷ [] = one_not_false start c l up y open' (λ m h n. negated m (within m h) n) in
       let unassigned : has start l ≡ false = false_from_ne_true (has start l) (λ h. true≢false (sym (has_pair_from d l (has_from_Contains d l learnt.adds.1) (filter-has (λ m. not (same m l)) d (negation l) (sym (has-map-negation rest l) ∙ h)).0) ∙ learnt.no_pair)) in
       true≢false (sym (or_left (same l l) (has start l) (same_from l l refl)) ∙ (learnt.adds.2 (l ∷ start) (turn {clause = c} {l = l} there (record { others_false = unit; unassigned = unassigned }) done)).1))
-  | inr n ↦ (learnt.adds.2 start done).0 (c, there, none_left start c (λ m h. negated m (within m h) (λ e. true≢false (sym h ∙ (ap (has c) e ∙ n)))))
+  | inr n ↦ (learnt.adds.2 start done).0 (c, there, none_not_false start c (λ m h. negated m (within m h) (λ e. true≢false (sym h ∙ (ap (has c) e ∙ n)))))
 ]
   where
     l : Lit

@@ -1,14 +1,16 @@
 -- Hints lead to a false clause from the literals that a walk has found.
 use Rattle.std.proofs.Common.{◌≡◌, ℕ, zero, suc, ◌+◌, Bool, true, false, not, cond, ◌||◌, List, [], ◌∷◌, ◌++◌, map, take, Option, Some, slice_get, sym, ap, ◌∙◌, refl, arith, eqb, inl, inr}
-use Rattle.std.proofs.lemmas.Bool.{false≢true, or_cases, or_left, or_right, cases_Bool, cases_eq, eq-eqb, ne_eqb, cond-true, cond-false, false_from_ne_true}
+use Rattle.std.proofs.lemmas.Bool.{or_cases, or_left, or_right, cases_Bool, cases_eq, eq-eqb, ne_eqb, cond-true, cond-false, false_from_ne_true}
+use Rattle.sequence.proofs.Booleans.{same_tests}
+use Rattle.sequence.proofs.Places.{slice_get-take, slice_get_one}
 use Rattle.clause_core.specs.Literals.{Lit, negation, same, has}
 use Rattle.clause_core.specs.Propagation.{not_false}
-use Rattle.clause_core.proofs.Sets.{same_tests, same_is, same_from, negation-negation, negation_differs, has-append}
+use Rattle.clause_core.proofs.Sets.{same_is, same_from, negation-negation, negation_differs, has-append}
 use Rattle.sat_trail.specs.declared.entries.Entry.{Entry}
 use Rattle.sat_trail.specs.Entries.{literals_of, place_of}
 use Rattle.sat_trail.specs.States.{TrailState}
 use Rattle.sat_trail.proofs.Steps.{has_not_false, has_one}
-use Rattle.sat_trail.proofs.Places.{AreApart, slice_get_one, slice_get-take, place_of_entry, has_entry, entry_has, one_entry}
+use Rattle.sat_trail.proofs.Places.{AreApart, place_of_entry, has_entry, entry_has, one_entry}
 use Rattle.refutation_check.specs.Checking.{numbered_from, clause_named, effect_of_open, effect_of_named, led_to, refused_hint}
 use Rattle.refutation_check.specs.Checking.Effect.{makes, shows_nothing}
 use Rattle.sat_core.specs.Walks.{is_of_clause, Carries, Shows}

@@ -1,12 +1,12 @@
 -- Marks of entries, and the count of the marked ones of one level.
-use Rattle.std.proofs.Common.{◌≡◌, ℕ, zero, suc, ◌+◌, ◌-◌, ◌<◌, ◌≤◌, ◌^◌, Bool, true, false, not, cond, ◌&&◌, List, [], ◌∷◌, length, Option, Some, None, slice_get, sym, ap, ◌∙◌, refl, arith, eqb, ltb, inl, inr, ◌⊎◌}
+use Rattle.std.proofs.Common.{◌≡◌, ℕ, zero, suc, ◌+◌, ◌-◌, ◌<◌, ◌≤◌, ◌^◌, Bool, true, false, not, cond, ◌&&◌, List, [], ◌∷◌, length, Option, Some, None, slice_get, sym, ap, ◌∙◌, refl, arith, eqb, inl, inr, ◌⊎◌}
 use mir.Val.{bool_byte}
-use Rattle.std.specs.BTreeMap.{is_at}
 use Rattle.std.specs.BTreeSet.{BTreeSet, contains, Updates}
-use Rattle.std.specs.Ordering.{nat_cmp, is_eq}
-use Rattle.std.specs.declared.cmp.Ordering.TheVariants.{Less, Equal, Greater}
-use Rattle.std.proofs.lemmas.Bool.{false≢true, or_cases, or_left, or_right, and_parts, cases_eq, eqb-true, eq-eqb, ne_eqb, ltb-true}
+use Rattle.std.specs.Ordering.{nat_cmp}
+use Rattle.std.proofs.lemmas.Bool.{false≢true, or_cases, or_left, or_right, and_parts, cases_eq, eqb-true, eq-eqb, ne_eqb}
 use Rattle.std.proofs.lemmas.Option.{none-some, same_Some, slice_get_within}
+use Rattle.std.proofs.Math.Bool.{and-true, and-false}
+use Rattle.sequence.proofs.Orders.{apart_at}
 use Rattle.clause_core.specs.Literals.{Lit, same, has}
 use Rattle.clause_core.proofs.Sets.{same_is, same_from}
 use Rattle.sat_trail.specs.declared.entries.Entry.{Entry}
@@ -126,18 +126,10 @@ abbrev pub without : (ℕ → Bool) → ℕ → ℕ → Bool
 without ms q k = ms k && not (eqb k q)
 
 pub without_here : (ms : ℕ → Bool) (q : ℕ) → without ms q q ≡ false
-without_here ms q = ap (λ b. ms q && not b) (eq-eqb q q refl) ∙ and_false (ms q)
-  where
-    and_false : (b : Bool) → (b && false) ≡ false
-    and_false true = refl
-    and_false false = refl
+without_here ms q = ap (λ b. ms q && not b) (eq-eqb q q refl) ∙ and-false (ms q)
 
 pub without_other : (ms : ℕ → Bool) (q k : ℕ) → (k ≡ q → ⊥) → without ms q k ≡ ms k
-without_other ms q k n = ap (λ b. ms k && not b) (ne_eqb k q n) ∙ and_true (ms k)
-  where
-    and_true : (b : Bool) → (b && true) ≡ b
-    and_true true = refl
-    and_true false = refl
+without_other ms q k n = ap (λ b. ms k && not b) (ne_eqb k q n) ∙ and-true (ms k)
 
 -- a mark that is left is another one
 pub without_from : (ms : ℕ → Bool) (q k : ℕ) → without ms q k ≡ true → (k ≡ q → ⊥) × (ms k ≡ true)
@@ -149,27 +141,6 @@ count_without level ms ns es q e at marked is =
   where
     summed : (n a x m b : ℕ) → n + a ≡ m + b → a ≡ x → b ≡ 0 → n + x ≡ m
     summed n a x m b s p q = omega arith
-
--- ---- places in a set
-
--- another place is not the one that is looked for
-pub apart_at : (p k : ℕ) → (k ≡ p → ⊥) → is_at (nat_cmp p) k ≡ false
-apart_at p k n = by_test (ltb p k)
-  where
-    by_test : (b : Bool) → is_eq (cond b Less (cond (eqb p k) Equal Greater)) ≡ false
-    by_test true = refl
-    by_test false = ap (λ b. is_eq (cond b Equal Greater)) (ne_eqb p k (λ e. n (sym e)))
-
--- the one that is looked for is found
-pub same_at : (k : ℕ) → is_at (nat_cmp k) k ≡ true
-same_at k = by_test (ltb k k) refl
-  where
-    by_test : (b : Bool) → ltb k k ≡ b → is_eq (cond b Less (cond (eqb k k) Equal Greater)) ≡ true
-    by_test true h = absurd (omega (arith, ltb-true k k h))
-    by_test false h = ap (λ b. is_eq (cond b Equal Greater)) (eq-eqb k k refl)
-
-pub at_is : (p k : ℕ) → is_at (nat_cmp p) k ≡ true → k ≡ p
-at_is p k h = elim (cases_eq k p) [ inl e ↦ e | inr n ↦ absurd (false≢true (sym (apart_at p k n) ∙ h)) ]
 
 -- ---- the entries of a clause
 

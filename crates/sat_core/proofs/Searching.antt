@@ -2,20 +2,21 @@
 use Rattle.std.proofs.Common.{◌≡◌, ℕ, zero, suc, ◌+◌, ◌-◌, ◌*◌, ◌<◌, ◌≤◌, ◌^◌, Bool, true, false, not, cond, ◌||◌, List, [], ◌∷◌, ◌++◌, length, map, filter, take, min, Option, Some, None, slice_get, sym, ap, ◌∙◌, subst, refl, arith, eqb, leb, inl, inr, Contains, All}
 use Rattle.std.specs.Prelude.{option_map, IsSome, slice_index_or}
 use Rattle.std.specs.List.{AllByRecursion, list_any}
-use Rattle.std.proofs.lemmas.Bool.{true≢false, false≢true, or_cases, or_left, or_right, cases_Bool, cases_eq, cases_lt, cond-true, cond-false, false_from_ne_true, lt-leb, leb-false, and_from}
+use Rattle.std.proofs.lemmas.Bool.{true≢false, false≢true, or_left, or_right, cases_Bool, cases_eq, cases_lt, cond-true, cond-false, false_from_ne_true, lt-leb, leb-false, and_from}
 use Rattle.std.proofs.lemmas.Option.{none-some, same_Some, slice_get_within}
 use Rattle.std.proofs.lemmas.List.{append_assoc, append-nil, map-append, length-append, length_push, length-map, length-take-le}
 use Rattle.std.proofs.lemmas.List.Elements.{All-push, All-nil, All-from_recursion, recursion_from_All, Contains-append_cases, Contains-append_left}
+use Rattle.sequence.proofs.Places.{slice_get_push, slice_get-take}
 use Rattle.clause_core.specs.Literals.{Lit, negation, same, has}
 use Rattle.clause_core.specs.Clauses.{IsIncreasing, in_order, IsOver, has_pair, is_true, meets, meets_all, assignment_of}
 use Rattle.clause_core.specs.Propagation.{not_false, IsFalse, IsQuiet, ReachesFalse, IsLearnt, IsNotFound, IsTrace}
 use Rattle.clause_core.specs.Propagation.Reaches.{done, turn}
-use Rattle.clause_core.proofs.Sets.{one_increasing, IsIncreasing-in_order, has-in_order, same_from, negation-negation, negation_differs, Contains_from_has}
+use Rattle.clause_core.proofs.Sets.{one_increasing, IsIncreasing-in_order, has-in_order, same_from, negation-negation, negation_differs, Contains_from_has, any_has}
 use Rattle.clause_core.proofs.Semantics.{reached_within, none_false_within}
 use Rattle.sat_trail.specs.declared.entries.Entry.{Entry}
 use Rattle.sat_trail.specs.Entries.{literals_of, place_of, entry_of}
 use Rattle.sat_trail.specs.States.{TrailState, IsSound, started, decided, with_clause, undone, up_to, Propagates}
-use Rattle.sat_trail.proofs.Places.{AreApart, slice_get_push, slice_get-take, place_from-front, place_from-after, place_here, has_entry, one_entry}
+use Rattle.sat_trail.proofs.Places.{AreApart, place_from-front, place_from-after, place_here, has_entry, one_entry}
 use Rattle.sat_trail.proofs.Soundness.{apart_from, level_within}
 use Rattle.sat_trail.proofs.Steps.{up_to_all, up_to-push, unset_from, has_not_false, has_one}
 use Rattle.refutation_check.specs.declared.steps.Step.{Step}
@@ -172,13 +173,6 @@ unset_below : (t : TrailState) → IsSound t → (l : Lit) (level n : ℕ) → I
 unset_below t sound l level n set_at = false_from_ne_true (has (literals_of (up_to level t.entries)) l) (λ h. (let r = up_to_from level t.entries l h in
     let one = one_level t.entries (apart_from t.variables t.clauses t.entries sound.stand) l (negation l) r.0 n refl r.2 set_at in
     negation_differs l (sym one.0)))
-
-any_has : (p : Lit → Bool) (xs : List Lit) → list_any p xs ≡ true → (l : Lit) × (has xs l ≡ true) × (p l ≡ true)
-any_has p [] h = absurd (false≢true h)
-any_has p (x ∷ xs) h = elim (or_cases (p x) (list_any p xs) h) [
-  | inl t ↦ (x, or_left (same x x) (has xs x) (same_from x x refl), t)
-  | inr t ↦ (let r = any_has p xs t in (r.0, or_right (same x r.0) (has xs r.0) r.1, r.2))
-]
 
 all_from_has : (P : Lit → Type 0) (xs : List Lit) → ((l : Lit) → has xs l ≡ true → P l) → AllByRecursion P xs
 all_from_has P [] h = tt

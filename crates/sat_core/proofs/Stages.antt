@@ -3,13 +3,14 @@ use Rattle.std.proofs.Common.{◌≡◌, ℕ, suc, ◌+◌, ◌<◌, ◌≤◌, 
 use Rattle.std.proofs.lemmas.Bool.{false≢true, or_cases, or_left, or_right, cases_Bool, cases_lt, eqb-true, eqb-false, ltb-true, ltb-false, le-ltb, lt-ltb, cond-true, cond-false}
 use Rattle.std.proofs.lemmas.Option.{none-some, same_Some}
 use Rattle.std.specs.Prelude.{nat_lt}
+use Rattle.sequence.proofs.Places.{slice_get-take}
 use Rattle.clause_core.specs.Literals.{Lit, negation, same, has}
 use Rattle.clause_core.proofs.Sets.{same_from, negation-negation, has-append}
 use Rattle.sat_trail.specs.declared.entries.Entry.{Entry}
 use Rattle.sat_trail.specs.Entries.{literals_of, level_of, place_of, IsForced}
 use Rattle.sat_trail.specs.States.{TrailState, IsSound}
 use Rattle.sat_trail.proofs.Steps.{has_one, has_not_false}
-use Rattle.sat_trail.proofs.Places.{AreApart, slice_get-take, place_of_entry, has_entry}
+use Rattle.sat_trail.proofs.Places.{AreApart, place_of_entry, has_entry}
 use Rattle.sat_trail.proofs.Soundness.{apart_from, level_at_next, levels_rise, level_within}
 use Rattle.sat_core.specs.declared.walks.Walk.{Walk}
 use Rattle.sat_core.specs.Levels.{IsSetAt}

@@ -3,11 +3,13 @@ use Rattle.std.proofs.Common.{◌≡◌, ℕ, zero, suc, ◌+◌, ◌<◌, ◌�
 use Rattle.std.specs.BTreeMap.{is_at}
 use Rattle.std.specs.List.{list_any}
 use Rattle.std.specs.Ordering.{nat_cmp}
-use Rattle.std.specs.Prelude.{nat_lt, reverse, Result, Ok, Err, OnOk}
+use Rattle.std.specs.Prelude.{nat_lt, reverse}
 use Rattle.std.proofs.lemmas.Bool.{true≢false, false≢true, or_cases, or_left, or_right, cases_lt, le-leb, leb-true}
 use Rattle.std.proofs.lemmas.Option.{none-some, same_Some, slice_get_within}
 use Rattle.std.proofs.lemmas.List.{reverse-append, length-reverse, length_push}
 use Rattle.std.proofs.lemmas.List.Elements.{All-nil}
+use Rattle.sequence.proofs.Places.{contains_at}
+use Rattle.sequence.proofs.Orders.{same_at, at_is}
 use Rattle.clause_core.specs.Literals.{Lit, negation, same, has}
 use Rattle.clause_core.specs.Clauses.{in_order}
 use Rattle.clause_core.specs.Propagation.{not_false}
@@ -17,13 +19,12 @@ use Rattle.sat_trail.specs.Entries.{literals_of}
 use Rattle.sat_trail.specs.States.{TrailState, IsSound, IsFalseAt, up_to}
 use Rattle.sat_trail.proofs.Places.{AreApart, has_entry, entry_has}
 use Rattle.sat_trail.proofs.Soundness.{apart_from, length_entries}
-use Rattle.sat_trail.proofs.Steps.{contains_at}
 use Rattle.sat_core.specs.declared.walks.Walk.{Walk}
 use Rattle.sat_core.specs.Levels.{IsSetAt, AreQuietBelow}
 use Rattle.sat_core.specs.Numbering.{AreHints}
 use Rattle.sat_core.specs.Lessons.{IsLesson, IsAsserting}
 use Rattle.sat_core.specs.Walks.{is_marked, is_of_clause, AreMarks, replacement_of, Shows, IsLate, IsWalk}
-use Rattle.sat_core.proofs.Marking.{count_has, count_some, same_at, at_is, without, without_other}
+use Rattle.sat_core.proofs.Marking.{count_has, count_some, without, without_other}
 use Rattle.sat_core.proofs.Hints.{false_by, opposites_differ, has-map-negation, shows_start, shows_kept, shows_replaced, has_without}
 use Rattle.sat_core.proofs.Numbering.{hints_push, hints_reversed}
 use Rattle.sat_core.proofs.Stages.{forced_by, entry_low, replaced_is, stage_kept, stage_replaced, ahead_cleared, ahead_replaced}
@@ -79,12 +80,6 @@ at_present t sound clause positive is_false before = go clause is_false before
             let low = entry_low t sound r.0 r.1 r.2 in
             let high : r.1.level ≤ t.level - 1 → ⊥ = λ h. true≢false (sym (up_to_has (t.level - 1) t.entries r.0 r.1 r.2 h) ∙ (ap (has (literals_of (up_to (t.level - 1) t.entries))) r.3 ∙ q)) in
             (x, or_left (same x x) (has xs x) (same_from x x refl), record { place = r.0; entry = r.1; there = r.2; same_literal = r.3; same_level = omega arith })
-
--- ---- clauses on an answer
-
-pub on_ok_three : {T E P Q R S : Type 0} (r : Result T E) → (P → Q → R → S) → OnOk r P → OnOk r Q → OnOk r R → OnOk r S
-on_ok_three (Ok x) h p q r = h p q r
-on_ok_three (Err e) h p q r = tt
 
 -- ---- the beginning
 

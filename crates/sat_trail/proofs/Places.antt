@@ -1,69 +1,16 @@
 -- Entries by their places and by their variables.
-use Rattle.std.proofs.Common.{◌≡◌, ℕ, zero, suc, ◌+◌, ◌*◌, ◌<◌, ◌≤◌, Bool, true, false, not, cond, ◌||◌, List, [], ◌∷◌, ◌++◌, length, set, map, take, drop, get_or, Option, Some, None, slice_get, sym, ap, ◌∙◌, subst, refl, arith, eqb, inl, inr, ◌⊎◌}
+use Rattle.std.proofs.Common.{◌≡◌, ℕ, zero, suc, ◌+◌, ◌*◌, ◌<◌, ◌≤◌, Bool, true, false, not, cond, ◌||◌, List, [], ◌∷◌, ◌++◌, length, set, map, take, drop, get_or, Option, Some, None, slice_get, sym, ap, ◌∙◌, refl, arith, eqb, inl, inr, ◌⊎◌}
 use Rattle.std.specs.List.{IsDistinct, AllByRecursion, list_any}
-use Rattle.std.proofs.lemmas.Bool.{true≢false, false≢true, or_cases, or_left, or_right, or_from, cases_Bool, cases_eq, cases_lt, eqb-true, eqb-false, eq-eqb, ne_eqb, false_from_ne_true, cond-true, cond-false}
-use Rattle.std.proofs.lemmas.Option.{none-some, same_Some, slice_get_within, slice_get-get_or, get_or_from_slice_get}
-use Rattle.std.proofs.lemmas.List.{length-take-le, get_or-set_same, get_or-set_other, length-set, take_at}
+use Rattle.std.proofs.lemmas.Bool.{true≢false, false≢true, or_cases, or_left, or_right, or_from, cases_Bool, cases_eq, eqb-true, eqb-false, eq-eqb, ne_eqb, false_from_ne_true, cond-true, cond-false}
+use Rattle.std.proofs.lemmas.Option.{none-some, same_Some, slice_get_within, get_or_from_slice_get}
+use Rattle.std.proofs.lemmas.List.{length-take-le, length-set, length-map}
 use Rattle.std.proofs.lemmas.Map.Steps.{length-le_from_distinct_below}
+use Rattle.sequence.proofs.Places.{split_at, slice_get-behind, slice_get_one, slice_get_set, slice_get_set_same}
 use Rattle.clause_core.specs.Literals.{Lit, negation, same, has, code_of}
 use Rattle.clause_core.proofs.Sets.{same_is, same_from, code_one, code_within}
 use Rattle.sat_trail.specs.declared.entries.Entry.{Entry}
 use Rattle.sat_trail.specs.Entries.{literals_of, place_from, place_of, value_of}
 use Rattle.sat_trail.specs.States.{IsTable, AreTruths}
-
--- ---- lists by places
-
-pub split_at : {X : Type 0} (xs : List X) (k : ℕ) (x : X) → slice_get xs k ≡ Some x → xs ≡ take k xs ++ x ∷ drop (suc k) xs
-split_at [] k x h = absurd (none-some x h)
-split_at (y ∷ ys) zero x h = ap (λ z. z ∷ ys) (same_Some y x h)
-split_at (y ∷ ys) (suc k) x h = ap (λ zs. y ∷ zs) (split_at ys k x h)
-
-pub take_next : {X : Type 0} (xs : List X) (k : ℕ) (x : X) → slice_get xs k ≡ Some x → take (suc k) xs ≡ take k xs ++ x ∷ []
-take_next [] k x h = absurd (none-some x h)
-take_next (y ∷ ys) zero x h = ap (λ z. z ∷ []) (same_Some y x h)
-take_next (y ∷ ys) (suc k) x h = ap (λ zs. y ∷ zs) (take_next ys k x h)
-
-pub slice_get-front : {X : Type 0} (xs ys : List X) (k : ℕ) → k < length xs → slice_get (xs ++ ys) k ≡ slice_get xs k
-slice_get-front [] ys k h = absurd (omega arith)
-slice_get-front (x ∷ xs) ys zero h = refl
-slice_get-front (x ∷ xs) ys (suc k) h = slice_get-front xs ys k (omega arith)
-
-pub slice_get-behind : {X : Type 0} (xs : List X) (y : X) (ys : List X) → slice_get (xs ++ y ∷ ys) (length xs) ≡ Some y
-slice_get-behind [] y ys = refl
-slice_get-behind (x ∷ xs) y ys = slice_get-behind xs y ys
-
-pub slice_get_grown : {X : Type 0} (xs ys : List X) (k : ℕ) (x : X) → slice_get xs k ≡ Some x → slice_get (xs ++ ys) k ≡ Some x
-slice_get_grown xs ys k x h = slice_get-front xs ys k (slice_get_within xs k x h) ∙ h
-
-pub slice_get_push : {X : Type 0} (xs : List X) (y : X) (k : ℕ) (x : X) → slice_get (xs ++ y ∷ []) k ≡ Some x → ((k < length xs) × (slice_get xs k ≡ Some x)) ⊎ ((k ≡ length xs) × (y ≡ x))
-slice_get_push [] y zero x h = inr (refl, same_Some y x h)
-slice_get_push [] y (suc k) x h = absurd (none-some x h)
-slice_get_push (z ∷ xs) y zero x h = inl (omega arith, h)
-slice_get_push (z ∷ xs) y (suc k) x h =
-    elim (slice_get_push xs y k x h) [
-      | inl p ↦ inl (omega (arith, p.0), p.1)
-      | inr p ↦ inr (ap suc p.0, p.1)
-    ]
-
-pub slice_get-take : {X : Type 0} (n : ℕ) (xs : List X) (k : ℕ) (x : X) → slice_get (take n xs) k ≡ Some x → (k < n) × (slice_get xs k ≡ Some x)
-slice_get-take zero xs k x h = absurd (none-some x h)
-slice_get-take (suc n) [] k x h = absurd (none-some x h)
-slice_get-take (suc n) (y ∷ ys) zero x h = (omega arith, h)
-slice_get-take (suc n) (y ∷ ys) (suc k) x h = let r = slice_get-take n ys k x h in (omega (arith, r.0), r.1)
-
-pub slice_get_taken : {X : Type 0} (n : ℕ) (xs : List X) (k : ℕ) (x : X) → k < n → slice_get xs k ≡ Some x → slice_get (take n xs) k ≡ Some x
-slice_get_taken zero xs k x l h = absurd (omega arith)
-slice_get_taken (suc n) [] k x l h = h
-slice_get_taken (suc n) (y ∷ ys) zero x l h = h
-slice_get_taken (suc n) (y ∷ ys) (suc k) x l h = slice_get_taken n ys k x (omega arith) h
-
-pub slice_get_some : {X : Type 0} (xs : List X) (k : ℕ) → k < length xs → (x : X) × (slice_get xs k ≡ Some x)
-slice_get_some [] k h = absurd (omega arith)
-slice_get_some (x ∷ xs) zero h = (x, refl)
-slice_get_some (x ∷ xs) (suc k) h = slice_get_some xs k (omega arith)
-
-pub slice_get_one : {X : Type 0} (xs : List X) (k : ℕ) (x y : X) → slice_get xs k ≡ Some x → slice_get xs k ≡ Some y → x ≡ y
-slice_get_one xs k x y h i = same_Some x y (sym h ∙ i)
 
 -- ---- the place of a variable
 
@@ -198,30 +145,14 @@ indices_below (e ∷ es) n h q t =
       | inr s ↦ indices_below es n (λ k d at. h (suc k) d at) q s
     ]
 
-length_map : (es : List Entry) → length (map (λ (e : Entry). e.literal.index) es) ≡ length es
-length_map [] = refl
-length_map (e ∷ es) = ap suc (length_map es)
-
 pub few_entries : (es : List Entry) (n : ℕ) → AreApart es → ((k : ℕ) (e : Entry) → slice_get es k ≡ Some e → e.literal.index < n) → length es ≤ n
 few_entries es n apart below =
-    omega (arith, length_map es, length-le_from_distinct_below (map (λ e. e.literal.index) es) n (distinct_from 0 es (λ k e at. place_of_entry es k e (apart k e at) at ∙ ap Some (omega arith))) (indices_below es n below))
+    omega (arith, length-map es (λ (e : Entry). e.literal.index), length-le_from_distinct_below (map (λ e. e.literal.index) es) n (distinct_from 0 es (λ k e at. place_of_entry es k e (apart k e at) at ∙ ap Some (omega arith))) (indices_below es n below))
 
 -- ---- the table
 
 pub table_at : (variables : ℕ) (places : List (Option ℕ)) (es : List Entry) (i : ℕ) (o : Option ℕ) → IsTable variables places es → i < variables → o ≡ get_or places i o → place_of es i ≡ o
 table_at variables places es i o table below is = sym (is ∙ get_or_from_slice_get places i (place_of es i) o (table.each i below))
-
-pub slice_get_set : {X : Type 0} (xs : List X) (i j : ℕ) (y : X) → (j ≡ i → ⊥) → slice_get (set xs i y) j ≡ slice_get xs j
-slice_get_set [] i j y h = refl
-slice_get_set (x ∷ xs) zero zero y h = absurd (h refl)
-slice_get_set (x ∷ xs) zero (suc j) y h = refl
-slice_get_set (x ∷ xs) (suc i) zero y h = refl
-slice_get_set (x ∷ xs) (suc i) (suc j) y h = slice_get_set xs i j y (λ e. h (ap suc e))
-
-pub slice_get_set_same : {X : Type 0} (xs : List X) (i : ℕ) (y : X) → i < length xs → slice_get (set xs i y) i ≡ Some y
-slice_get_set_same [] i y h = absurd (omega arith)
-slice_get_set_same (x ∷ xs) zero y h = refl
-slice_get_set_same (x ∷ xs) (suc i) y h = slice_get_set_same xs i y (omega arith)
 
 pub table_push : (variables : ℕ) (places : List (Option ℕ)) (es : List Entry) (e : Entry) → IsTable variables places es → e.literal.index < variables → place_of es e.literal.index ≡ None → IsTable variables (set places e.literal.index (Some (length es))) (es ++ e ∷ [])
 table_push variables places es e table below unset = record {

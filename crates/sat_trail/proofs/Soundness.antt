@@ -1,15 +1,16 @@
 -- What holds of every trail stays when it changes.
-use Rattle.std.proofs.Common.{◌≡◌, ℕ, zero, suc, ◌+◌, ◌<◌, ◌≤◌, ◌^◌, min, Bool, true, false, List, [], ◌∷◌, ◌++◌, length, take, filter, Option, Some, None, slice_get, sym, ap, ◌∙◌, subst, refl, arith, inl, inr, ◌⊎◌, MatchOption, All}
-use Rattle.std.proofs.lemmas.Option.{slice_get_within, same_Some, none-some}
-use Rattle.std.proofs.lemmas.List.{take-append-le, take_all, take_at, take-take, length-take-le, length_push}
+use Rattle.std.proofs.Common.{◌≡◌, ℕ, zero, suc, ◌+◌, ◌<◌, ◌≤◌, ◌^◌, Bool, false, List, [], ◌∷◌, ◌++◌, length, take, Option, Some, None, slice_get, sym, ap, ◌∙◌, subst, refl, arith, inl, inr, ◌⊎◌, MatchOption}
+use Rattle.std.proofs.lemmas.Option.{slice_get_within}
+use Rattle.std.proofs.lemmas.List.{take-append-le, take_all, take_at, take-take, length_push}
 use Rattle.std.proofs.lemmas.List.Elements.{All-push}
-use Rattle.std.proofs.lemmas.Bool.{cases_lt, le-leb}
+use Rattle.std.proofs.lemmas.Bool.{cases_lt}
+use Rattle.sequence.proofs.Places.{take_next, slice_get_grown, slice_get_push, slice_get-take, slice_get_some}
 use Rattle.clause_core.specs.Literals.{Lit}
 use Rattle.clause_core.specs.Clauses.{IsOver, has_pair}
 use Rattle.sat_trail.specs.declared.entries.Entry.{Entry}
-use Rattle.sat_trail.specs.Entries.{literals_of, last_level, level_of, place_of, IsForced, MayStand}
-use Rattle.sat_trail.specs.States.{TrailState, IsSound, extended, with_clause, up_to}
-use Rattle.sat_trail.proofs.Places.{AreApart, slice_get_push, slice_get-front, slice_get_grown, slice_get-take, slice_get_taken, slice_get_some, slice_get_one, slice_get-behind, take_next, few_entries}
+use Rattle.sat_trail.specs.Entries.{last_level, level_of, IsForced, MayStand}
+use Rattle.sat_trail.specs.States.{TrailState, IsSound, extended, with_clause}
+use Rattle.sat_trail.proofs.Places.{AreApart, few_entries}
 
 -- each entry may stand behind those at smaller places
 abbrev pub AllStand : ℕ → List (List Lit) → List Entry → Type 0

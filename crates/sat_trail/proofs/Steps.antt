@@ -1,21 +1,22 @@
 -- What a call looks at, and what it does with that.
-use Rattle.std.proofs.Common.{replicate, set, leb, ◌≡◌, ℕ, zero, suc, ◌+◌, ◌-◌, ◌*◌, ◌<◌, ◌≤◌, ◌^◌, min, Bool, true, false, not, cond, List, [], ◌∷◌, ◌++◌, length, take, filter, map, Option, Some, None, slice_get, get_or, sym, ap, ◌∙◌, subst, refl, arith, inl, inr, ◌⊎◌, MatchOption, All, Contains}
+use Rattle.std.proofs.Common.{replicate, set, leb, ◌≡◌, ℕ, suc, ◌+◌, ◌-◌, ◌*◌, ◌<◌, ◌≤◌, ◌^◌, min, Bool, true, false, not, cond, List, [], ◌∷◌, ◌++◌, length, take, Option, Some, None, slice_get, get_or, sym, ap, ◌∙◌, subst, refl, arith, inl, inr, ◌⊎◌, All, Contains}
 use Rattle.std.specs.Prelude.{IsSome, position}
 use Rattle.std.specs.List.{AllByRecursion, position_from}
 use Rattle.std.proofs.lemmas.Iterator.Adapters.{position_from-zero}
-use Rattle.std.proofs.lemmas.Option.{slice_get_within, same_Some, none-some, slice_get-get_or, get_or_from_slice_get}
-use Rattle.std.proofs.lemmas.List.{length-replicate, get_or-replicate, take_more, take_at, append_assoc, append-nil, length_push, length-append, take-append-le, take_all, length-take-le, take-take}
+use Rattle.std.proofs.lemmas.Option.{same_Some, none-some, slice_get-get_or}
+use Rattle.std.proofs.lemmas.List.{length-replicate, get_or-replicate, take_more, take_at, append_assoc, append-nil, length_push, length-append, take_all, take-take}
 use Rattle.std.proofs.lemmas.List.Elements.{All-push, All-nil, All-append, All-contains, All-from_recursion}
 use Rattle.std.proofs.lemmas.Bool.{or_cases, or_left, or_right, true≢false, false≢true, cases_lt, cases_Bool, le-leb, lt-leb, cond-true, cond-false}
+use Rattle.sequence.proofs.Places.{slice_get-behind, slice_get_some, contains_at, last_split}
 use Rattle.clause_core.specs.Literals.{Lit, negation, same, has, code_of}
 use Rattle.clause_core.specs.Clauses.{IsIncreasing, in_order, IsOver, has_pair}
-use Rattle.clause_core.specs.Propagation.{not_false, IsFalse, IsUnit, IsQuiet, SomeFalse}
+use Rattle.clause_core.specs.Propagation.{not_false, IsFalse, IsUnit, IsQuiet}
 use Rattle.clause_core.proofs.Sets.{IsIncreasing-apart, same_from, one_increasing, IsIncreasing-in_order, has-in_order, has_from_Contains, Contains_from_has, same_is, code_within}
 use Rattle.sat_trail.specs.declared.entries.Entry.{Entry}
-use Rattle.sat_trail.specs.Entries.{literals_of, level_of, place_of, value_of, IsForced, MayStand}
-use Rattle.sat_trail.specs.States.{started, IsTable, TrailState, IsSound, extended, with_clause, up_to, Propagates, IsFalseAt, EndsWith, AreTruths}
-use Rattle.sat_trail.proofs.Places.{AreApart, place_found, unset_has, value_set, entry_has, one_variable, split_at, take_next, table_pop, slice_get-behind, slice_get_some}
-use Rattle.sat_trail.proofs.Soundness.{apart_from, stand_take, level_step, level_within, level_at_next, levels_rise, level_of-push, AllStand}
+use Rattle.sat_trail.specs.Entries.{literals_of, level_of, place_of, value_of, MayStand}
+use Rattle.sat_trail.specs.States.{started, IsTable, TrailState, IsSound, extended, up_to, Propagates, AreTruths}
+use Rattle.sat_trail.proofs.Places.{AreApart, place_found, value_set, entry_has, one_variable, table_pop}
+use Rattle.sat_trail.proofs.Soundness.{apart_from, stand_take, level_step, level_within, levels_rise, level_of-push, AllStand}
 
 -- ---- entries that may stand
 
@@ -45,9 +46,6 @@ unset_from es l f g = by_place (place_of es l.index) refl
           | inl e ↦ true≢false (sym (entry_has es r.0 r.2.entry l r.2.there e) ∙ f)
           | inr e ↦ true≢false (sym (entry_has es r.0 r.2.entry (negation l) r.2.there e) ∙ g)
         ])
-
-pub contains_at : {X : Type 0} (xs : List X) (k : ℕ) (x : X) → slice_get xs k ≡ Some x → Contains xs x
-contains_at xs k x at = (k, slice_get_within xs k x at, get_or_from_slice_get xs k x x at)
 
 pub has_one : (x l : Lit) → has (x ∷ []) l ≡ true → x ≡ l
 has_one x l h = elim (or_cases (same x l) false h) [ inl t ↦ same_is x l t | inr f ↦ absurd (false≢true f) ]
@@ -187,12 +185,6 @@ value_not_true es l o is n = by_tests (has (literals_of es) l) (has (literals_of
     by_tests false b h = refl
 
 -- ---- taking back one entry after another
-
-pub last_split : {X : Type 0} (xs : List X) (x : X) → slice_get xs (length xs - 1) ≡ Some x → xs ≡ take (length xs - 1) xs ++ x ∷ []
-last_split xs x at =
-    let within = slice_get_within xs (length xs - 1) x at in
-    let n : suc (length xs - 1) ≡ length xs = omega arith in
-    sym (take_all (length xs) xs (omega arith)) ∙ (ap (λ k. take k xs) (sym n) ∙ take_next xs (length xs - 1) x at)
 
 -- the entries that are left when the last of them was taken back
 pub record TakesBack (variables level : ℕ) (places : List (Option ℕ)) (start es ys : List Entry) (e : Entry) : Type 0 where

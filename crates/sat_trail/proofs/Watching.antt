@@ -1,24 +1,25 @@
 -- How watches stay what they are while literals are set and taken back.
-use Rattle.std.proofs.Common.{◌≡◌, ℕ, zero, suc, ◌+◌, ◌-◌, ◌*◌, ◌<◌, ◌≤◌, ◌^◌, min, Bool, true, false, not, cond, ◌&&◌, List, [], ◌∷◌, ◌++◌, length, set, take, map, Option, Some, None, slice_get, get_or, leb, sym, ap, ◌∙◌, subst, refl, arith, inl, inr, ◌⊎◌, MatchOption, All, Contains}
+use Rattle.std.proofs.Common.{◌≡◌, ℕ, zero, suc, ◌+◌, ◌-◌, ◌*◌, ◌<◌, ◌≤◌, ◌^◌, min, Bool, true, false, not, cond, ◌&&◌, List, [], ◌∷◌, ◌++◌, length, set, take, Option, Some, None, slice_get, get_or, leb, sym, ap, ◌∙◌, subst, refl, arith, inl, inr, ◌⊎◌, MatchOption, All, Contains}
 use Rattle.std.specs.Prelude.{nat_lt, option_map, is_some, Result, Ok, Err, OnOk, OnErr, IfOk}
 use Rattle.std.proofs.lemmas.Option.{slice_get_within, same_Some, none-some, slice_get-get_or, get_or_from_slice_get}
-use Rattle.std.proofs.lemmas.List.{length_push, length-append, length-set, take_all}
+use Rattle.std.proofs.lemmas.List.{length_push, length-append, length-set}
 use Rattle.std.proofs.lemmas.List.Elements.{All-contains}
-use Rattle.std.proofs.lemmas.Bool.{true≢false, false≢true, or_cases, or_left, or_right, cases_lt, cases_eq, cases_Bool, cond-true, cond-false, false_from_ne_true, ltb-true, ltb-false, lt-ltb, le-ltb, le-leb, leb-true}
+use Rattle.std.proofs.lemmas.Bool.{true≢false, false≢true, or_cases, or_left, or_right, cases_lt, cases_eq, cases_Bool, false_from_ne_true, ltb-true, ltb-false, lt-ltb, le-leb, leb-true}
+use Rattle.sequence.proofs.Places.{slice_get-front, slice_get-behind, slice_get_grown, slice_get_push, slice_get-take, slice_get_some, slice_get_one, slice_get_set, slice_get_set_same, contains_at}
 use Rattle.clause_core.specs.Literals.{Lit, negation, same, has, code_of}
-use Rattle.clause_core.specs.Clauses.{IsIncreasing, IsOver}
-use Rattle.clause_core.specs.Propagation.{not_false, IsFalse, IsUnit, IsQuiet}
+use Rattle.clause_core.specs.Clauses.{IsOver}
+use Rattle.clause_core.specs.Propagation.{not_false, IsQuiet}
 use Rattle.clause_core.proofs.Sets.{same_is, same_from, has-append, code_one, code_within, Contains_from_has, has_from_Contains, negation_differs, negation-negation}
 use Rattle.sat_trail.specs.declared.entries.Entry.{Entry}
 use Rattle.sat_trail.specs.declared.watches.Watch.{Watch}
 use Rattle.sat_trail.specs.declared.watches.Pair.{Pair}
 use Rattle.sat_trail.specs.declared.watches.Watches.{Watches}
-use Rattle.sat_trail.specs.Entries.{literals_of, level_of, place_of, entry_of, MayStand}
-use Rattle.sat_trail.specs.States.{TrailState, IsSound, extended, decided, with_clause, undone, up_to, Propagates, IsFalseAt}
-use Rattle.sat_trail.specs.Watching.{HasWatch, HasList, TakesOut, AddsWatch, DropsWatch, IsOf, IsPairOf, is_paired, IsPair, IsShort, IsExcused, AreWatched, IsVisit, AreDue, AreOthersFalse, CanForce, CanWatch, IsFalseBy, IsLater, IsBest, IsBestOf, IsFree, AreFalseBetween}
-use Rattle.sat_trail.proofs.Places.{AreApart, slice_get-front, slice_get_grown, slice_get_push, slice_get-behind, slice_get_some, slice_get_one, slice_get-take, slice_get_taken, slice_get_set, slice_get_set_same, has_entry, entry_has, one_entry, place_of_entry}
+use Rattle.sat_trail.specs.Entries.{literals_of, place_of, entry_of, MayStand}
+use Rattle.sat_trail.specs.States.{TrailState, IsSound, decided, with_clause, undone, up_to, Propagates, IsFalseAt}
+use Rattle.sat_trail.specs.Watching.{HasWatch, HasList, TakesOut, AddsWatch, DropsWatch, IsOf, IsPairOf, is_paired, IsPair, IsShort, IsExcused, AreWatched, IsVisit, AreDue, AreOthersFalse, CanForce, IsFalseBy, IsLater, IsBestOf, IsFree, AreFalseBetween}
+use Rattle.sat_trail.proofs.Places.{AreApart, has_entry, entry_has, one_entry, place_of_entry}
 use Rattle.sat_trail.proofs.Soundness.{apart_from, level_within, length_entries}
-use Rattle.sat_trail.proofs.Steps.{IsOpen, open_two, open_true, quiet_from, has_not_false, has_one, contains_at, none_not_false, one_not_false, forced_may_stand}
+use Rattle.sat_trail.proofs.Steps.{IsOpen, open_two, open_true, quiet_from, has_not_false, has_one, none_not_false, one_not_false, forced_may_stand}
 
 -- ---- what is true stays true
 
@@ -879,10 +880,6 @@ free_found trues literals except start None high low = λ m h n. at (Contains_fr
         ]
 
 -- ---- the second literal is false
-
-pub on_ok_two : {T E P Q R : Type 0} (r : Result T E) → (P → Q → R) → OnOk r P → OnOk r Q → OnOk r R
-on_ok_two (Ok x) h p q = h p q
-on_ok_two (Err e) h p q = tt
 
 pub lowered_le : (b : Bool) (low place limit : ℕ) → limit ≡ cond b (min low place) low → limit ≤ low
 lowered_le true low place limit h = omega arith

@@ -1,5 +1,6 @@
-use Rattle.std.proofs.Common.{◌≡◌, ◌++◌, Bool, true, false, not, refl, All, ◌≤◌, length, sym, ap, ◌∙◌, subst, arith}
+use Rattle.std.proofs.Common.{◌≡◌, ◌++◌, false, All, ◌≤◌, length, sym, ap, ◌∙◌, subst, arith}
 use Rattle.std.specs.Prelude.{option_to_list}
+use Rattle.std.proofs.lemmas.Bool.{not-true}
 use Rattle.tsl_text.specs.Cursor.{line_view, lines_left}
 use Rattle.refutation_check.specs.LogText.{line_answer, is_wrong, step_in}
 use Rattle.refutation_check.specs.internal.Reading.{log_among}
@@ -16,7 +17,7 @@ loop-line-preserved c =
     let kept = c.loop-line.invariant in
     let is : answer ≡ line_answer line.bytes.now = c.in_ok-read_line.ensures.value in
     let right : is_wrong (line_answer line.bytes.now) ≡ false = ap is_wrong (sym is)
-    ∙ not_wrong (is_wrong answer) (sym c.in_ok-add_line.ensures.right ∙ c.if-not-branch.false) in
+    ∙ not-true (is_wrong answer) (sym c.in_ok-add_line.ensures.right ∙ c.if-not-branch.false) in
     let added : c.add_line.new.steps.items ≡ steps ++ option_to_list (step_in answer) = c.in_ok-add_line.ensures.steps in
     record {
       same = ap (λ ss. log_among ss (lines_left after)) (added ∙ ap (λ a. steps ++ option_to_list (step_in a)) is)
@@ -27,7 +28,3 @@ loop-line-preserved c =
       countable = c.in-Some.ensures.countable;
       within = omega (arith, kept.within, c.in-Some.ensures.shorter);
     }
-  where
-    not_wrong : (b : Bool) → not b ≡ true → b ≡ false
-    not_wrong true h = absurd cc
-    not_wrong false h = refl

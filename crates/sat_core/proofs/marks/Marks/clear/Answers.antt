@@ -1,4 +1,4 @@
-use Rattle.sat_trail.proofs.Places.{slice_get_some}
+use Rattle.sequence.proofs.Places.{slice_get_some}
 use Rattle.sat_core.proofs.Marking.{clears}
 use Rattle.sat_core.proofs.marks.Marks.clear.Goals as goal
 

@@ -2,7 +2,7 @@ use Rattle.std.proofs.Common.{arith, sym, ◌∙◌}
 use Rattle.std.specs.BTreeSet.{contains}
 use Rattle.std.specs.Ordering.{nat_cmp}
 use Rattle.std.proofs.lemmas.Bool.{not-true}
-use Rattle.sat_trail.proofs.Places.{slice_get_some}
+use Rattle.sequence.proofs.Places.{slice_get_some}
 use Rattle.sat_core.proofs.Marking.{adds, count_fits, place_within}
 use Rattle.sat_core.proofs.marks.Marks.mark.Goals as goal
 

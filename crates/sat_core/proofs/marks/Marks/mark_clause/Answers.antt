@@ -1,8 +1,8 @@
 use Rattle.std.proofs.Common.{◌<◌, length, ap, sym, ◌∙◌, arith, List, get_or}
 use Rattle.std.proofs.lemmas.List.Elements.{All-contains}
+use Rattle.sequence.proofs.Places.{contains_at}
 use Rattle.clause_core.specs.Literals.{Lit}
 use Rattle.clause_core.specs.Clauses.{IsOver}
-use Rattle.sat_trail.proofs.Steps.{contains_at}
 use Rattle.sat_core.proofs.marks.Marks.mark_clause.Goals as goal
 
 pub mark-requires-clause-over : goal.mark-requires-clause-over

@@ -1,9 +1,10 @@
 use Rattle.std.proofs.Common.{sym, ◌∙◌}
 use Rattle.std.proofs.lemmas.Result.{on_ok_weaker}
 use Rattle.std.proofs.lemmas.Option.{slice_get_within}
-use Rattle.sat_trail.proofs.Places.{slice_get_some}
+use Rattle.sequence.proofs.Places.{slice_get_some}
+use Rattle.sequence.proofs.Results.{on_ok_three}
 use Rattle.sat_core.proofs.Stages.{replaced_is, forced_by}
-use Rattle.sat_core.proofs.Walking.{on_ok_three, walk_kept, walk_replaced}
+use Rattle.sat_core.proofs.Walking.{walk_kept, walk_replaced}
 use Rattle.sat_core.proofs.walks.Walk.pass.Goals as goal
 
 pub replace-requires-clause-given : goal.replace-requires-clause-given

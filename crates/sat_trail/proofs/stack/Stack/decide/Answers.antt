@@ -1,4 +1,4 @@
-use Rattle.std.proofs.Common.{◌≡◌, ℕ, ◌+◌, None, length, sym, subst, ap, ◌∙◌, arith}
+use Rattle.std.proofs.Common.{◌≡◌, ℕ, ◌+◌, None, sym, subst, ◌∙◌, arith}
 use Rattle.sat_trail.specs.Entries.{entry_of, MayStand}
 use Rattle.sat_trail.proofs.Soundness.{length_entries}
 use Rattle.sat_trail.proofs.Steps.{decided_may_stand}

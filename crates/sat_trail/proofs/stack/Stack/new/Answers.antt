@@ -1,8 +1,7 @@
-use Rattle.std.proofs.Common.{◌≡◌, ◌<◌, ◌^◌, ◌*◌, ◌∙◌, false, ℕ, [], None, Option, List, All, length, replicate, sym, subst, ap, arith, rules}
+use Rattle.std.proofs.Common.{◌≡◌, ◌<◌, ◌^◌, ◌*◌, ◌∙◌, false, [], None, List, replicate, sym, subst, ap, rules}
 use Rattle.std.specs.Prelude.{position}
-use Rattle.std.proofs.lemmas.Grind.{common_steps}
 use Rattle.clause_core.specs.Literals.{Lit}
-use Rattle.clause_core.specs.Clauses.{IsOver, has_pair}
+use Rattle.clause_core.specs.Clauses.{has_pair}
 use Rattle.sat_trail.specs.declared.entries.Entry.{Entry}
 use Rattle.sat_trail.specs.States.{IsSound, IsTable, AreTruths, started}
 use Rattle.sat_trail.proofs.Steps.{sound_started, table_started, truths_started}

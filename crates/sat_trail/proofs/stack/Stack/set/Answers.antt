@@ -1,10 +1,9 @@
-use Rattle.std.proofs.Common.{◌≡◌, ℕ, ◌++◌, ◌∷◌, [], ◌+◌, ◌<◌, ◌^◌, true, false, Option, Some, None, List, length, set, sym, subst, ap, ◌∙◌, arith}
+use Rattle.std.proofs.Common.{◌≡◌, ℕ, ◌++◌, ◌∷◌, [], ◌+◌, ◌<◌, ◌^◌, true, Option, Some, List, length, set, sym, subst, ap, ◌∙◌, arith}
 use Rattle.std.specs.Prelude.{is_ok}
 use Rattle.std.proofs.lemmas.Bool.{cond-true, cond-false}
-use Rattle.clause_core.specs.Literals.{Lit}
 use Rattle.sat_trail.specs.declared.entries.Entry.{Entry}
-use Rattle.sat_trail.specs.Entries.{entry_of, place_of, MayStand}
-use Rattle.sat_trail.specs.States.{TrailState, IsSound, IsTable, AreTruths, extended}
+use Rattle.sat_trail.specs.Entries.{entry_of, MayStand}
+use Rattle.sat_trail.specs.States.{TrailState, IsSound, IsTable, AreTruths}
 use Rattle.sat_trail.proofs.Places.{table_push, truths_push}
 use Rattle.sat_trail.proofs.Soundness.{sound_broken, sound_extended, length_entries}
 use Rattle.sat_trail.proofs.stack.Stack.set.Goals as goal

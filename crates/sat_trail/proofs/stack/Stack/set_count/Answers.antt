@@ -1,4 +1,4 @@
-use Rattle.std.proofs.Common.{◌≤◌, length, subst, arith}
+use Rattle.std.proofs.Common.{◌≤◌, subst, arith}
 use Rattle.sat_trail.specs.States.{TrailState}
 use Rattle.sat_trail.proofs.Soundness.{length_entries}
 use Rattle.sat_trail.proofs.stack.Stack.set_count.Goals as goal

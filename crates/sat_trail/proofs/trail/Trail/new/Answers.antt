@@ -1,6 +1,4 @@
-use Rattle.std.proofs.Common.{◌≡◌, ℕ, Some}
-use Rattle.std.specs.Prelude.{position}
-use Rattle.clause_core.specs.Clauses.{has_pair}
+use Rattle.std.proofs.Common.{◌≡◌}
 use Rattle.sat_trail.proofs.trail.Trail.new.Goals as goal
 
 -- a trail whose watches want memory is of a formula without tautologies

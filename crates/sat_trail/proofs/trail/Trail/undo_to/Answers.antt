@@ -1,6 +1,5 @@
 use Rattle.std.proofs.Common.{◌≡◌, false, min, ℕ, sym, subst, ap, ◌∙◌}
 use Rattle.sat_trail.specs.States.{TrailState}
-use Rattle.sat_trail.specs.declared.watches.Watches.{Watches}
 use Rattle.sat_trail.proofs.Watching.{watched_undone}
 use Rattle.sat_trail.proofs.trail.Trail.undo_to.Goals as goal
 

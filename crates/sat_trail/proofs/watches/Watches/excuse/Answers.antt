@@ -1,12 +1,12 @@
-use Rattle.std.proofs.Common.{◌≡◌, ℕ, ◌+◌, ◌<◌, ◌≤◌, ◌^◌, min, cond, true, false, not, Bool, List, [], ◌∷◌, ◌++◌, length, Option, Some, None, slice_get, take, sym, ap, subst, refl, arith, ◌∙◌, MatchOption}
+use Rattle.std.proofs.Common.{◌≡◌, ◌+◌, ◌<◌, ◌≤◌, ◌^◌, false, List, [], ◌∷◌, ◌++◌, Option, Some, sym, subst, ◌∙◌}
 use Rattle.std.proofs.lemmas.Option.{slice_get_within, same_Some}
 use Rattle.std.proofs.lemmas.Result.{on_ok_weaker}
 use Rattle.std.proofs.lemmas.Bool.{false≢true}
 use Rattle.std.specs.Prelude.{nat_lt}
-use Rattle.clause_core.specs.Literals.{Lit, has, negation}
+use Rattle.sequence.proofs.Results.{on_ok_two}
+use Rattle.clause_core.specs.Literals.{Lit, negation}
 use Rattle.sat_trail.proofs.Places.{entry_has}
-use Rattle.sat_trail.proofs.Watching.{over_literal, true_not_false, on_ok_two, excused_by_first, lowered_le}
-use Rattle.sat_trail.specs.declared.entries.Entry.{Entry}
+use Rattle.sat_trail.proofs.Watching.{over_literal, true_not_false, excused_by_first, lowered_le}
 use Rattle.sat_trail.specs.Watching.{IsExcused}
 use Rattle.sat_trail.proofs.watches.Watches.excuse.Goals as goal
 

@@ -1,6 +1,6 @@
-use Rattle.std.proofs.Common.{◌≡◌, ℕ, ◌+◌, ◌-◌, ◌<◌, ◌≤◌, ◌^◌, min, cond, true, false, not, Bool, List, [], ◌∷◌, ◌++◌, length, set, Option, Some, None, slice_get, get_or, take, sym, ap, subst, refl, arith, ◌∙◌, MatchOption}
+use Rattle.std.proofs.Common.{◌≡◌, ◌+◌, ◌-◌, ◌<◌, ◌≤◌, ◌^◌, true, List, [], ◌∷◌, ◌++◌, sym, ap, subst, ◌∙◌}
 use Rattle.std.proofs.lemmas.Option.{none-some}
-use Rattle.clause_core.specs.Literals.{Lit, has, negation}
+use Rattle.clause_core.specs.Literals.{Lit, has}
 use Rattle.clause_core.specs.Clauses.{IsOver}
 use Rattle.sat_trail.specs.Entries.{literals_of}
 use Rattle.sat_trail.proofs.Watching.{over_named, over_literal, false_all}

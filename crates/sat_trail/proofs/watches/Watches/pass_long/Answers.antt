@@ -1,8 +1,7 @@
-use Rattle.std.proofs.Common.{◌≡◌, ℕ, ◌+◌, ◌<◌, ◌≤◌, ◌^◌, min, cond, true, false, not, Bool, List, [], ◌∷◌, ◌++◌, length, Option, Some, None, slice_get, take, sym, ap, subst, refl, arith, ◌∙◌, MatchOption}
+use Rattle.std.proofs.Common.{◌≡◌, ℕ, ◌+◌, ◌<◌, ◌≤◌, ◌^◌, false, [], ◌∷◌, ◌++◌, length, Some, slice_get, sym, ap, subst, arith, ◌∙◌}
 use Rattle.std.proofs.lemmas.Option.{slice_get_within}
-use Rattle.clause_core.specs.Literals.{Lit, has, negation, code_of}
-use Rattle.sat_trail.specs.States.{TrailState, IsSound}
-use Rattle.sat_trail.specs.declared.watches.Watch.{Watch}
+use Rattle.clause_core.specs.Literals.{code_of}
+use Rattle.sat_trail.specs.States.{TrailState}
 use Rattle.sat_trail.specs.declared.watches.Watches.{Watches}
 use Rattle.sat_trail.specs.Watching.{AreWatched, AddsWatch, is_paired}
 use Rattle.sat_trail.proofs.Watching.{over_named, lists_have, watched_low, watched_propagated, watched_long}

@@ -1,10 +1,9 @@
-use Rattle.std.proofs.Common.{◌≡◌, ℕ, ◌+◌, ◌<◌, ◌≤◌, ◌^◌, min, cond, true, false, not, Bool, List, [], ◌∷◌, ◌++◌, length, Option, Some, None, slice_get, take, sym, ap, subst, refl, arith, ◌∙◌, MatchOption}
+use Rattle.std.proofs.Common.{◌≡◌, ℕ, ◌+◌, ◌<◌, ◌≤◌, ◌^◌, min, cond, List, [], ◌∷◌, ◌++◌, length, Some, slice_get, sym, ap, arith, ◌∙◌}
 use Rattle.std.proofs.lemmas.Option.{slice_get_within, same_Some}
 use Rattle.std.specs.Prelude.{nat_lt}
 use Rattle.clause_core.specs.Literals.{Lit, has}
 use Rattle.sat_trail.specs.States.{TrailState}
 use Rattle.sat_trail.specs.declared.watches.Watches.{Watches}
-use Rattle.sat_trail.specs.Watching.{AreWatched, IsShort}
 use Rattle.sat_trail.proofs.Watching.{watched_propagated, watched_short}
 use Rattle.sat_trail.proofs.watches.Watches.pass_short.Goals as goal
 
