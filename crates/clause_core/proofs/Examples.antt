@@ -1,7 +1,7 @@
 -- Small cases of the definitions, accepted and refused.
 use Rattle.std.proofs.Common.{◌≡◌, ℕ, zero, suc, Bool, true, false, List, [], ◌∷◌, length, pos, negsuc, refl, ap, ◌∙◌, arith, lit<, Contains}
 use Rattle.std.proofs.lemmas.Bool.{true≢false, false≢true}
-use Rattle.clause_core.specs.Literals.{Lit, number_of, literal_of, negation, has}
+use Rattle.clause_core.specs.Literals.{Lit, signed_number_of, literal_of, negation, has}
 use Rattle.clause_core.specs.Clauses.{in_order, is_contained, has_pair, meets, meets_all}
 use Rattle.clause_core.specs.Propagation.{not_false, IsFalse, IsUnit, is_satisfied, Reaches, HasReversePropagation, IsQuiet}
 use Rattle.clause_core.specs.Propagation.Reaches.{done, turn}
@@ -14,7 +14,7 @@ abbrev b : Lit
 b = literal_of (pos 2)
 
 -- variable 2, wanted false
-number : number_of (record { index = 1; positive = false }) ≡ negsuc 1
+number : signed_number_of (record { index = 1; positive = false }) ≡ negsuc 1
 number = refl
 
 opposite : negation (literal_of (negsuc 1)) ≡ b

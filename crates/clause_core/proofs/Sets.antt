@@ -17,23 +17,23 @@ use Rattle.std.proofs.lemmas.Int.{ints}
 use Rattle.sequence.proofs.Booleans.{same_tests, not_not}
 use Rattle.sequence.proofs.Each.{each_weaker, each_left, each_between}
 use Rattle.std.proofs.Math.Bool.{or_assoc, or_comm, or_self_left}
-use Rattle.clause_core.specs.Literals.{Lit, number_of, literal_of, negation, same, has, code_of}
+use Rattle.clause_core.specs.Literals.{Lit, signed_number_of, literal_of, negation, same, has, code_of}
 use Rattle.clause_core.specs.Clauses.{IsIncreasing, with_literal, in_order, is_contained, has_pair}
 
-literal_of-number_of : (i : ℕ) (p : Bool) → literal_of (cond p (pos (suc i)) (negsuc i)) ≡ (record { index = i; positive = p })
-literal_of-number_of i true = refl
-literal_of-number_of i false = refl
+literal_of-signed_number_of : (i : ℕ) (p : Bool) → literal_of (cond p (pos (suc i)) (negsuc i)) ≡ (record { index = i; positive = p })
+literal_of-signed_number_of i true = refl
+literal_of-signed_number_of i false = refl
 
 -- equal literals by their numbers
-pub number_of-injective : (a b : Lit) → number_of a ≡ number_of b → a ≡ b
-number_of-injective a b e =
-    sym (literal_of-number_of a.index a.positive) ∙ (ap literal_of e ∙ literal_of-number_of b.index b.positive)
+pub signed_number_of-injective : (a b : Lit) → signed_number_of a ≡ signed_number_of b → a ≡ b
+signed_number_of-injective a b e =
+    sym (literal_of-signed_number_of a.index a.positive) ∙ (ap literal_of e ∙ literal_of-signed_number_of b.index b.positive)
 
 pub same_is : (a b : Lit) → same a b ≡ true → a ≡ b
-same_is a b h = number_of-injective a b ((Decides-int_eq (number_of a) (number_of b)).0 h)
+same_is a b h = signed_number_of-injective a b ((Decides-int_eq (signed_number_of a) (signed_number_of b)).0 h)
 
 pub same_from : (a b : Lit) → a ≡ b → same a b ≡ true
-same_from a b e = (Decides-int_eq (number_of a) (number_of b)).1 (ap number_of e)
+same_from a b e = (Decides-int_eq (signed_number_of a) (signed_number_of b)).1 (ap signed_number_of e)
 
 pub negation-negation : (l : Lit) → negation (negation l) ≡ l
 negation-negation l = ap (λ (p : Bool). record { index = l.index; positive = p }) (not_not l.positive)
@@ -82,7 +82,7 @@ AllByRecursion-has P (x ∷ xs) l a h =
 
 -- an increasing list has no literal twice
 pub IsIncreasing-apart : (l : Lit) (ls : List Lit) → IsIncreasing (l ∷ ls) → has ls l ≡ true → ⊥
-IsIncreasing-apart l ls up h = below_itself (number_of l) (AllByRecursion-has (λ m. number_of l <ℤ number_of m) ls l up.0 h)
+IsIncreasing-apart l ls up h = below_itself (signed_number_of l) (AllByRecursion-has (λ m. signed_number_of l <ℤ signed_number_of m) ls l up.0 h)
   where
     below_itself : (z : ℤ) → z <ℤ z → ⊥
     below_itself z h = omega (arith, ints)
@@ -105,7 +105,7 @@ one_increasing (x ∷ xs) (y ∷ ys) ux uy h =
           | inl e ↦ sym (same_is y x e)
           | inr t ↦ elim (or_cases (same x y) (has xs y) q) [
             | inl e ↦ same_is x y e
-            | inr u ↦ absurd (not_below (number_of x) (number_of y) (AllByRecursion-has (λ m. number_of x <ℤ number_of m) xs y ux.0 u) (AllByRecursion-has (λ m. number_of y <ℤ number_of m) ys x uy.0 t))
+            | inr u ↦ absurd (not_below (signed_number_of x) (signed_number_of y) (AllByRecursion-has (λ m. signed_number_of x <ℤ signed_number_of m) xs y ux.0 u) (AllByRecursion-has (λ m. signed_number_of y <ℤ signed_number_of m) ys x uy.0 t))
           ]
         ]
 
@@ -132,9 +132,9 @@ has-with_literal l m (x ∷ xs) = at_same (has-with_literal l m xs) (same l x) r
     at_less ih true = refl
     at_less ih false = ap (λ (b : Bool). same x m || b) ih ∙ turned (same l m) (same x m) (has xs m)
 
-    at_same : has (with_literal l xs) m ≡ (same l m || has xs m) → (t : Bool) → same l x ≡ t → has (cond t (x ∷ xs) (cond (int_lt (number_of l) (number_of x)) (l ∷ x ∷ xs) (x ∷ with_literal l xs))) m ≡ (same l m || (same x m || has xs m))
+    at_same : has (with_literal l xs) m ≡ (same l m || has xs m) → (t : Bool) → same l x ≡ t → has (cond t (x ∷ xs) (cond (int_lt (signed_number_of l) (signed_number_of x)) (l ∷ x ∷ xs) (x ∷ with_literal l xs))) m ≡ (same l m || (same x m || has xs m))
     at_same ih true e = sym (or_self_left (same x m) (has xs m)) ∙ ap (λ (z : Lit). same z m || (same x m || has xs m)) (sym (same_is l x e))
-    at_same ih false e = at_less ih (int_lt (number_of l) (number_of x))
+    at_same ih false e = at_less ih (int_lt (signed_number_of l) (signed_number_of x))
 
 pub has-in_order : (ls : List Lit) (m : Lit) → has (in_order ls) m ≡ has ls m
 has-in_order [] m = refl
@@ -148,9 +148,9 @@ All-with_literal P l (x ∷ xs) h a = at_same (All-with_literal P l xs h a.1) (s
     at_less ih true = (h, (a.0, a.1))
     at_less ih false = (a.0, ih)
 
-    at_same : AllByRecursion P (with_literal l xs) → (t : Bool) → AllByRecursion P (cond t (x ∷ xs) (cond (int_lt (number_of l) (number_of x)) (l ∷ x ∷ xs) (x ∷ with_literal l xs)))
+    at_same : AllByRecursion P (with_literal l xs) → (t : Bool) → AllByRecursion P (cond t (x ∷ xs) (cond (int_lt (signed_number_of l) (signed_number_of x)) (l ∷ x ∷ xs) (x ∷ with_literal l xs)))
     at_same ih true = a
-    at_same ih false = at_less ih (int_lt (number_of l) (number_of x))
+    at_same ih false = at_less ih (int_lt (signed_number_of l) (signed_number_of x))
 
 IsIncreasing-with_literal : (l : Lit) (ms : List Lit) → IsIncreasing ms → IsIncreasing (with_literal l ms)
 IsIncreasing-with_literal l [] up = (tt, tt)
@@ -162,17 +162,17 @@ IsIncreasing-with_literal l (x ∷ xs) up = at_same (IsIncreasing-with_literal l
     tested : (a b : ℤ) → int_lt a b ≡ true → a <ℤ b
     tested a b t = grind (arith, ints)
 
-    at_less : IsIncreasing (with_literal l xs) → (t : Bool) → int_lt (number_of l) (number_of x) ≡ t → same l x ≡ false → IsIncreasing (cond t (l ∷ x ∷ xs) (x ∷ with_literal l xs))
+    at_less : IsIncreasing (with_literal l xs) → (t : Bool) → int_lt (signed_number_of l) (signed_number_of x) ≡ t → same l x ≡ false → IsIncreasing (cond t (l ∷ x ∷ xs) (x ∷ with_literal l xs))
     at_less ih true e n =
-        let below : number_of l <ℤ number_of x = tested (number_of l) (number_of x) e in
-        ((below, each_weaker (λ m. number_of x <ℤ number_of m) (λ m. number_of l <ℤ number_of m) (λ m h. below_chain (number_of l) (number_of x) (number_of m) below h) xs up.0), up)
+        let below : signed_number_of l <ℤ signed_number_of x = tested (signed_number_of l) (signed_number_of x) e in
+        ((below, each_weaker (λ m. signed_number_of x <ℤ signed_number_of m) (λ m. signed_number_of l <ℤ signed_number_of m) (λ m h. below_chain (signed_number_of l) (signed_number_of x) (signed_number_of m) below h) xs up.0), up)
     at_less ih false e n =
-        let above : number_of x <ℤ number_of l = apart (number_of l) (number_of x) (λ k. false≢true (sym n ∙ same_from l x (number_of-injective l x k))) e in
-        (All-with_literal (λ m. number_of x <ℤ number_of m) l xs above up.0, ih)
+        let above : signed_number_of x <ℤ signed_number_of l = apart (signed_number_of l) (signed_number_of x) (λ k. false≢true (sym n ∙ same_from l x (signed_number_of-injective l x k))) e in
+        (All-with_literal (λ m. signed_number_of x <ℤ signed_number_of m) l xs above up.0, ih)
 
-    at_same : IsIncreasing (with_literal l xs) → (t : Bool) → same l x ≡ t → IsIncreasing (cond t (x ∷ xs) (cond (int_lt (number_of l) (number_of x)) (l ∷ x ∷ xs) (x ∷ with_literal l xs)))
+    at_same : IsIncreasing (with_literal l xs) → (t : Bool) → same l x ≡ t → IsIncreasing (cond t (x ∷ xs) (cond (int_lt (signed_number_of l) (signed_number_of x)) (l ∷ x ∷ xs) (x ∷ with_literal l xs)))
     at_same ih true e = up
-    at_same ih false e = at_less ih (int_lt (number_of l) (number_of x)) refl e
+    at_same ih false e = at_less ih (int_lt (signed_number_of l) (signed_number_of x)) refl e
 
 -- what holds of each literal of a list holds of each of the list in order
 pub All-in_order : (P : Lit → Type 0) (ls : List Lit) → AllByRecursion P ls → AllByRecursion P (in_order ls)
@@ -186,15 +186,15 @@ IsIncreasing-in_order (l ∷ ls) = IsIncreasing-with_literal l (in_order ls) (Is
 -- ---- sorted, and without repeats
 
 abbrev pub by_number : Lit → Lit → Ordering
-by_number a b = int_cmp (number_of a) (number_of b)
+by_number a b = int_cmp (signed_number_of a) (signed_number_of b)
 
 pub by_number_total : IsTotalOrder by_number
-by_number_total = on_total number_of int_cmp_total
+by_number_total = on_total signed_number_of int_cmp_total
 
 rises : (ls : List Lit) → IsStrictlySortedBy by_number ls → IsIncreasing ls
 unfolding IsStrictlySortedBy
 rises [] s = tt
-rises (l ∷ ls) s = (each_weaker (λ m. by_number l m ≡ Less) (λ m. number_of l <ℤ number_of m) (λ m h. less (number_of l) (number_of m) h) ls s.0, rises ls s.1)
+rises (l ∷ ls) s = (each_weaker (λ m. by_number l m ≡ Less) (λ m. signed_number_of l <ℤ signed_number_of m) (λ m h. less (signed_number_of l) (signed_number_of m) h) ls s.0, rises ls s.1)
   where
     less : (a b : ℤ) → int_cmp a b ≡ Less → a <ℤ b
     less a b h = int_ranked a b Less (sym h)
@@ -209,7 +209,7 @@ sorted_once ls sorted kept moved up is =
     one_increasing kept (in_order ls) (subst IsIncreasing (sym is) (rises (dedup same sorted) (IsStrictlySortedBy-dedup by_number_total (λ x y. refl) sorted up))) (IsIncreasing-in_order ls) (λ l. same_tests (has kept l) (has (in_order ls) l) (there l) (back l))
   where
     equivalence : IsEquivalence same
-    equivalence = on_equiv number_of int_eq_equiv
+    equivalence = on_equiv signed_number_of int_eq_equiv
 
 -- ---- one clause within another
 
@@ -217,18 +217,18 @@ contained-cons : (x : Lit) (small large : List Lit) → is_contained (x ∷ smal
 contained-cons x small large = refl
 
 -- what no literal of the small list is may be left out of the large one
-contained_without : (y : Lit) (small large : List Lit) → AllByRecursion (λ m. number_of y <ℤ number_of m) small → is_contained small (y ∷ large) ≡ is_contained small large
+contained_without : (y : Lit) (small large : List Lit) → AllByRecursion (λ m. signed_number_of y <ℤ signed_number_of m) small → is_contained small (y ∷ large) ≡ is_contained small large
 contained_without y [] large a = refl
 contained_without y (x ∷ small) large a =
     let other : same y x ≡ false = differs y x a.0 in
     ap (λ (b : Bool). (b || has large x) && is_contained small (y ∷ large)) other ∙ ap (λ (b : Bool). has large x && b) (contained_without y small large a.1)
   where
-    differs : (a b : Lit) → number_of a <ℤ number_of b → same a b ≡ false
+    differs : (a b : Lit) → signed_number_of a <ℤ signed_number_of b → same a b ≡ false
     differs a b h = grind (arith, ints, same_is a b)
 
 -- the larger list's first literal is below the smaller one's
-pub contained_later : (x : Lit) (small : List Lit) (y : Lit) (large : List Lit) → IsIncreasing (x ∷ small) → number_of y <ℤ number_of x → is_contained (x ∷ small) (y ∷ large) ≡ is_contained (x ∷ small) large
-contained_later x small y large up below = contained_without y (x ∷ small) large (below, each_weaker (λ m. number_of x <ℤ number_of m) (λ m. number_of y <ℤ number_of m) (λ m h. below_chain (number_of y) (number_of x) (number_of m) below h) small up.0)
+pub contained_later : (x : Lit) (small : List Lit) (y : Lit) (large : List Lit) → IsIncreasing (x ∷ small) → signed_number_of y <ℤ signed_number_of x → is_contained (x ∷ small) (y ∷ large) ≡ is_contained (x ∷ small) large
+contained_later x small y large up below = contained_without y (x ∷ small) large (below, each_weaker (λ m. signed_number_of x <ℤ signed_number_of m) (λ m. signed_number_of y <ℤ signed_number_of m) (λ m h. below_chain (signed_number_of y) (signed_number_of x) (signed_number_of m) below h) small up.0)
 
 -- both lists' first literals are one
 pub contained_both : (x : Lit) (small large : List Lit) → IsIncreasing (x ∷ small) → is_contained (x ∷ small) (x ∷ large) ≡ is_contained small large
@@ -236,14 +236,14 @@ contained_both x small large up =
     ap (λ (b : Bool). (b || has large x) && is_contained small (x ∷ large)) (same_from x x refl) ∙ contained_without x small large up.0
 
 -- the smaller list's first literal is below the larger one's
-pub contained_never : (x : Lit) (small : List Lit) (y : Lit) (large : List Lit) → IsIncreasing (y ∷ large) → number_of x <ℤ number_of y → is_contained (x ∷ small) (y ∷ large) ≡ false
+pub contained_never : (x : Lit) (small : List Lit) (y : Lit) (large : List Lit) → IsIncreasing (y ∷ large) → signed_number_of x <ℤ signed_number_of y → is_contained (x ∷ small) (y ∷ large) ≡ false
 contained_never x small y large up below = ap (λ (b : Bool). b && is_contained small (y ∷ large)) absent
   where
     absent : has (y ∷ large) x ≡ false
     absent = false_from_ne_true (has (y ∷ large) x) (λ h.
         elim (or_cases (same y x) (has large x) h) [
-          | inl e ↦ not_equal (number_of x) (number_of y) below (sym (ap number_of (same_is y x e)))
-          | inr t ↦ not_below (number_of x) (number_of y) below (AllByRecursion-has (λ m. number_of y <ℤ number_of m) large x up.0 t)
+          | inl e ↦ not_equal (signed_number_of x) (signed_number_of y) below (sym (ap signed_number_of (same_is y x e)))
+          | inr t ↦ not_below (signed_number_of x) (signed_number_of y) below (AllByRecursion-has (λ m. signed_number_of y <ℤ signed_number_of m) large x up.0 t)
         ])
 
 -- ---- pairs
@@ -293,22 +293,22 @@ or_turned true false = refl
 or_turned false true = refl
 or_turned false false = refl
 
-pub IsIncreasing-front : (xs : List Lit) (y : Lit) → IsIncreasing (xs ++ y ∷ []) → IsIncreasing xs × AllByRecursion (λ m. number_of m <ℤ number_of y) xs
+pub IsIncreasing-front : (xs : List Lit) (y : Lit) → IsIncreasing (xs ++ y ∷ []) → IsIncreasing xs × AllByRecursion (λ m. signed_number_of m <ℤ signed_number_of y) xs
 IsIncreasing-front [] y up = (tt, tt)
 IsIncreasing-front (x ∷ xs) y up =
     let r = IsIncreasing-front xs y up.1 in
-    let above : Lit → Type 0 = λ m. number_of x <ℤ number_of m in
+    let above : Lit → Type 0 = λ m. signed_number_of x <ℤ signed_number_of m in
     ((each_left above xs (y ∷ []) up.0, r.0), (each_between above xs y [] up.0, r.1))
 
-number_of-negation : (l : Lit) → number_of (negation l) ≡ neg_ℤ (number_of l)
-number_of-negation l = by_sign l.index l.positive
+signed_number_of-negation : (l : Lit) → signed_number_of (negation l) ≡ neg_ℤ (signed_number_of l)
+signed_number_of-negation l = by_sign l.index l.positive
   where
     by_sign : (i : ℕ) (p : Bool) → cond (not p) (pos (suc i)) (negsuc i) ≡ neg_ℤ (cond p (pos (suc i)) (negsuc i))
     by_sign i true = refl
     by_sign i false = refl
 
 -- the last literal is above the first one's negation: the last takes no part in a pair
-pub pair_before : (clause : List Lit) (first : Lit) (after before : List Lit) (last : Lit) → clause ≡ first ∷ after → clause ≡ before ++ last ∷ [] → IsIncreasing clause → number_of (negation first) <ℤ number_of last → has_pair clause ≡ has_pair before
+pub pair_before : (clause : List Lit) (first : Lit) (after before : List Lit) (last : Lit) → clause ≡ first ∷ after → clause ≡ before ++ last ∷ [] → IsIncreasing clause → signed_number_of (negation first) <ℤ signed_number_of last → has_pair clause ≡ has_pair before
 pair_before clause first after before last begins ends up below =
     pair_without last clause before (λ l. ap (λ (xs : List Lit). has xs l) ends ∙ (has-append before (last ∷ []) l ∙ or_turned (has before l) (same last l)))
     (false_from_ne_true (has clause (negation last)) (λ h. at_least (subst (λ (xs : List Lit). has xs (negation last) ≡ true) begins h) (subst IsIncreasing begins up)))
@@ -319,26 +319,26 @@ pair_before clause first after before last begins ends up below =
     near : (f l m : ℤ) → neg_ℤ f <ℤ l → m ≡ neg_ℤ l → f ≡ m → ⊥
     near f l m h e k = omega (arith, ints)
 
-    below' : neg_ℤ (number_of first) <ℤ number_of last
-    below' = subst (λ z. z <ℤ number_of last) (number_of-negation first) below
+    below' : neg_ℤ (signed_number_of first) <ℤ signed_number_of last
+    below' = subst (λ z. z <ℤ signed_number_of last) (signed_number_of-negation first) below
 
     at_least : has (first ∷ after) (negation last) ≡ true → IsIncreasing (first ∷ after) → ⊥
     at_least h u = elim (or_cases (same first (negation last)) (has after (negation last)) h) [
-      | inl e ↦ near (number_of first) (number_of last) (number_of (negation last)) below' (number_of-negation last) (ap number_of (same_is first (negation last) e))
-      | inr t ↦ far (number_of first) (number_of last) (number_of (negation last)) below' (number_of-negation last) (AllByRecursion-has (λ m. number_of first <ℤ number_of m) after (negation last) u.0 t)
+      | inl e ↦ near (signed_number_of first) (signed_number_of last) (signed_number_of (negation last)) below' (signed_number_of-negation last) (ap signed_number_of (same_is first (negation last) e))
+      | inr t ↦ far (signed_number_of first) (signed_number_of last) (signed_number_of (negation last)) below' (signed_number_of-negation last) (AllByRecursion-has (λ m. signed_number_of first <ℤ signed_number_of m) after (negation last) u.0 t)
     ]
 
 -- the last literal is below the first one's negation: the first takes no part in a pair
-pub pair_after : (clause : List Lit) (first : Lit) (after before : List Lit) (last : Lit) → clause ≡ first ∷ after → clause ≡ before ++ last ∷ [] → IsIncreasing clause → number_of last <ℤ number_of (negation first) → has_pair clause ≡ has_pair after
+pub pair_after : (clause : List Lit) (first : Lit) (after before : List Lit) (last : Lit) → clause ≡ first ∷ after → clause ≡ before ++ last ∷ [] → IsIncreasing clause → signed_number_of last <ℤ signed_number_of (negation first) → has_pair clause ≡ has_pair after
 pair_after clause first after before last begins ends up above =
     pair_without first clause after (λ l. ap (λ (xs : List Lit). has xs l) begins)
     (false_from_ne_true (has clause (negation first)) (λ h. at_most (or_cases (has before (negation first)) (has (last ∷ []) (negation first)) (sym (has-append before (last ∷ []) (negation first)) ∙ subst (λ (xs : List Lit). has xs (negation first) ≡ true) ends h)) (IsIncreasing-front before last (subst IsIncreasing ends up)).1))
   where
-    at_most : ((has before (negation first) ≡ true) ⊎ (has (last ∷ []) (negation first) ≡ true)) → AllByRecursion (λ m. number_of m <ℤ number_of last) before → ⊥
+    at_most : ((has before (negation first) ≡ true) ⊎ (has (last ∷ []) (negation first) ≡ true)) → AllByRecursion (λ m. signed_number_of m <ℤ signed_number_of last) before → ⊥
     at_most s u = elim s [
-      | inl t ↦ not_below (number_of last) (number_of (negation first)) above (AllByRecursion-has (λ m. number_of m <ℤ number_of last) before (negation first) u t)
+      | inl t ↦ not_below (signed_number_of last) (signed_number_of (negation first)) above (AllByRecursion-has (λ m. signed_number_of m <ℤ signed_number_of last) before (negation first) u t)
       | inr h ↦ elim (or_cases (same last (negation first)) false h) [
-        | inl e ↦ not_equal (number_of last) (number_of (negation first)) above (ap number_of (same_is last (negation first) e))
+        | inl e ↦ not_equal (signed_number_of last) (signed_number_of (negation first)) above (ap signed_number_of (same_is last (negation first) e))
         | inr f ↦ absurd (false≢true f)
       ]
     ]
@@ -355,16 +355,16 @@ pair_in_none (x ∷ xs) h = absurd (omega arith)
 
 -- ---- what comparisons of literals tell
 
-pub below_tested : (a b : Lit) → is_lt (by_number a b) ≡ true → number_of a <ℤ number_of b
-below_tested a b h = tells (number_of a) (number_of b) (int_cmp (number_of a) (number_of b)) (int_ranks (number_of a) (number_of b)) h
+pub below_tested : (a b : Lit) → is_lt (by_number a b) ≡ true → signed_number_of a <ℤ signed_number_of b
+below_tested a b h = tells (signed_number_of a) (signed_number_of b) (int_cmp (signed_number_of a) (signed_number_of b)) (int_ranks (signed_number_of a) (signed_number_of b)) h
   where
     tells : (x y : ℤ) (r : Ordering) → MatchOrdering r (x <ℤ y) (x ≡ y) (y <ℤ x) → is_lt r ≡ true → x <ℤ y
     tells x y Less m h = m
     tells x y Equal m h = absurd (false≢true h)
     tells x y Greater m h = absurd (false≢true h)
 
-pub above_tested : (a b : Lit) → is_lt (by_number a b) ≡ false → same a b ≡ false → number_of b <ℤ number_of a
-above_tested a b h n = tells (number_of a) (number_of b) (int_cmp (number_of a) (number_of b)) (int_ranks (number_of a) (number_of b)) h (λ e. false≢true (sym n ∙ same_from a b (number_of-injective a b e)))
+pub above_tested : (a b : Lit) → is_lt (by_number a b) ≡ false → same a b ≡ false → signed_number_of b <ℤ signed_number_of a
+above_tested a b h n = tells (signed_number_of a) (signed_number_of b) (int_cmp (signed_number_of a) (signed_number_of b)) (int_ranks (signed_number_of a) (signed_number_of b)) h (λ e. false≢true (sym n ∙ same_from a b (signed_number_of-injective a b e)))
   where
     tells : (x y : ℤ) (r : Ordering) → MatchOrdering r (x <ℤ y) (x ≡ y) (y <ℤ x) → is_lt r ≡ false → (x ≡ y → ⊥) → y <ℤ x
     tells x y Less m h k = absurd (false≢true (sym h))

@@ -1,17 +1,17 @@
 -- Clauses as lists of literals, and assignments as functions from the variables' indices to truths.
 use Rattle.std.specs.Prelude.{◌≡◌, ◌<◌, ℕ, Bool, true, false, not, cond, ◌<ℤ◌, int_lt, List, [], ◌∷◌, ⊤, All, slice_index_or}
 use Rattle.std.specs.List.{list_any, list_all, AllByRecursion}
-use Rattle.clause_core.specs.Literals.{Lit, number_of, negation, same, has}
+use Rattle.clause_core.specs.Literals.{Lit, signed_number_of, negation, same, has}
 
 -- each literal's number is below the numbers of those after it
 abbrev pub IsIncreasing : List Lit → Type 0
 IsIncreasing [] = ⊤
-IsIncreasing (l ∷ ls) = AllByRecursion (λ m. number_of l <ℤ number_of m) ls × IsIncreasing ls
+IsIncreasing (l ∷ ls) = AllByRecursion (λ m. signed_number_of l <ℤ signed_number_of m) ls × IsIncreasing ls
 
 -- an increasing list with one more literal, at its place; the same list if the literal is in it
 abbrev pub with_literal : Lit → List Lit → List Lit
 with_literal l [] = l ∷ []
-with_literal l (m ∷ ms) = cond (same l m) (m ∷ ms) (cond (int_lt (number_of l) (number_of m)) (l ∷ m ∷ ms) (m ∷ with_literal l ms))
+with_literal l (m ∷ ms) = cond (same l m) (m ∷ ms) (cond (int_lt (signed_number_of l) (signed_number_of m)) (l ∷ m ∷ ms) (m ∷ with_literal l ms))
 
 -- the literals of a list by rising numbers, each once
 abbrev pub in_order : List Lit → List Lit

@@ -10,8 +10,8 @@ pub record Lit : Type 0 where
   pub positive : Bool
 
 -- the number that stands for a literal: v for the variable v, and -v for its negation
-abbrev pub number_of : Lit → ℤ
-number_of l = cond l.positive (pos (suc l.index)) (negsuc l.index)
+abbrev pub signed_number_of : Lit → ℤ
+signed_number_of l = cond l.positive (pos (suc l.index)) (negsuc l.index)
 
 -- the literal that a number other than 0 stands for
 abbrev pub literal_of : ℤ → Lit
@@ -28,14 +28,14 @@ code_of l = 2 * l.index + cond l.positive 1 0
 
 -- whether two literals are one
 abbrev pub same : Lit → Lit → Bool
-same a b = int_eq (number_of a) (number_of b)
+same a b = int_eq (signed_number_of a) (signed_number_of b)
 
 -- whether a list has a literal
 abbrev pub has : List Lit → Lit → Bool
 has literals l = list_any (λ m. same m l) literals
 
 -- a number other than 0 is the number of its literal
-pub number_of-literal_of : (n : ℤ) → n ≢ pos 0 → number_of (literal_of n) ≡ n
-number_of-literal_of (pos zero) h = absurd (h refl)
-number_of-literal_of (pos (suc n)) h = refl
-number_of-literal_of (negsuc n) h = refl
+pub signed_number_of-literal_of : (n : ℤ) → n ≢ pos 0 → signed_number_of (literal_of n) ≡ n
+signed_number_of-literal_of (pos zero) h = absurd (h refl)
+signed_number_of-literal_of (pos (suc n)) h = refl
+signed_number_of-literal_of (negsuc n) h = refl

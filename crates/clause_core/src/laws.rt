@@ -1,13 +1,13 @@
 //! Laws of the definitions: each function does nothing, and its contract is the law.
 
 ghost use Rattle.std.specs.Prelude.{◌≡◌, ℕ, Bool, true, List, Contains};
-ghost use Rattle.clause_core.specs.Literals.{Lit, number_of, negation, has};
+ghost use Rattle.clause_core.specs.Literals.{Lit, signed_number_of, negation, has};
 ghost use Rattle.clause_core.specs.Clauses.{IsIncreasing, in_order, Follows, meets_all};
 ghost use Rattle.clause_core.specs.Propagation.{Reaches, SomeFalse, IsQuiet, HasReversePropagation, IsTrace, makes_true};
 
 /// A literal is known by its number, and is the negation of its negation.
 pub fn literals_are_their_numbers()
-    ensures number { (a b : Lit) → number_of a ≡ number_of b → a ≡ b }
+    ensures number { (a b : Lit) → signed_number_of a ≡ signed_number_of b → a ≡ b }
     ensures negation { (l : Lit) → negation (negation l) ≡ l }
 {}
 

@@ -1,7 +1,7 @@
 //! Literals: a variable, or its negation.
 
 ghost use Rattle.std.specs.Prelude.{◌≡◌, ◌≢◌, ◌⊎◌, ◌↔◌, ◌+◌, ◌^◌, ◌<◌, pos, negsuc, IsTrue, IsNone, IfSome};
-ghost use Rattle.clause_core.specs.Literals.{number_of, code_of, negation};
+ghost use Rattle.clause_core.specs.Literals.{signed_number_of, code_of, negation};
 
 use std::marker::Model;
 
@@ -15,7 +15,7 @@ pub struct Literal {
 impl Model for Literal {
     ghost use Rattle.std.specs.Prelude.{◌≢◌, ℤ, pos, negsuc};
     ghost use Rattle.std.proofs.Common.{ap};
-    ghost use Rattle.clause_core.specs.Literals.{Lit, literal_of, number_of, number_of-literal_of};
+    ghost use Rattle.clause_core.specs.Literals.{Lit, literal_of, signed_number_of, signed_number_of-literal_of};
 
     ghost Value = { Lit };
 
@@ -23,9 +23,9 @@ impl Model for Literal {
 
     ghost invariant = { λ l. (l.number ≢ pos 0) × (l.number ≢ negsuc 2147483647) };
 
-    ghost inverse = { λ l. record { number = number_of l } };
+    ghost inverse = { λ l. record { number = signed_number_of l } };
 
-    ghost inverse_ok = { λ a h. ap (λ (n : ℤ). record { number = n }) (number_of-literal_of a.number h.0) };
+    ghost inverse_ok = { λ a h. ap (λ (n : ℤ). record { number = n }) (signed_number_of-literal_of a.number h.0) };
 }
 
 impl Literal {
@@ -33,7 +33,7 @@ impl Literal {
     /// at 0 and at the least `i32`, which has no opposite.
     pub fn new(number: i32) -> Option<Literal>
         ensures none { IsNone result ↔ ((number ≡ pos 0) ⊎ (number ≡ negsuc 2147483647)) }
-        ensures some { IfSome result (λ literal. number_of literal ≡ number) }
+        ensures some { IfSome result (λ literal. signed_number_of literal ≡ number) }
     {
         if number == 0 || number == i32::MIN {
             None
@@ -57,7 +57,7 @@ impl Literal {
 
     /// The literal's number.
     pub fn number(self) -> i32
-        ensures { result ≡ number_of self }
+        ensures { result ≡ signed_number_of self }
     {
         self.number
     }

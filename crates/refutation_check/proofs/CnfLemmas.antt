@@ -16,7 +16,7 @@ use Rattle.tsl_text.specs.Numbers.{signed_number_in}
 use Rattle.refutation_check.specs.Numbers.{is_zero}
 use Rattle.sequence.specs.Options.{passes}
 use Rattle.refutation_check.specs.CnfText.{is_cnf, form_at, too_many_variables, too_many_clauses, header, means, with_zeros, is_right}
-use Rattle.refutation_check.specs.CnfText.{first_wrong, numbers_of, clauses_of, answer_of_words, answer_of_header, answer_of_lines}
+use Rattle.refutation_check.specs.CnfText.{first_wrong, numbers_of, clauses_of_numbers, answer_of_words, answer_of_header, cnf_answer_of_lines}
 use Rattle.refutation_check.specs.CnfText.{cnf_answer}
 use Rattle.refutation_check.specs.internal.Reading.{are_within, ended_clauses}
 use Rattle.refutation_check.specs.LogText.{is_literal}
@@ -175,7 +175,7 @@ ended_are (n ∷ ns) now =
     ended_step n ns now (ended_are ns []
     ∙ ap (λ parts. clauses_in (take (count_by is_zero ns) parts)) (onto_front-nil ns)) (ended_are ns (now ++ n ∷ []))
 
-pub clauses_are : (count : ℕ) (ns : List ℤ) → count ≡ count_by is_zero ns → clauses_of count ns ≡ ended_clauses [] ns
+pub clauses_are : (count : ℕ) (ns : List ℤ) → count ≡ count_by is_zero ns → clauses_of_numbers count ns ≡ ended_clauses [] ns
 clauses_are count ns e =
     ap (λ m. clauses_in (take m (slice_split is_zero ns))) e
     ∙ sym (ended_are ns [] ∙ ap (λ parts. clauses_in (take (count_by is_zero ns) parts)) (onto_front-nil ns))
@@ -188,18 +188,18 @@ pub cnf_is : (text : List ℕ) (line : NumberedLine) (behind : List NumberedLine
     counts.clauses ≤ ended → counts.variables ≤ 1048576 → counts.clauses ≤ 2000000 → clauses ≡ ended_clauses [] (numbers_of words') →
     cnf_answer text ≡ is_cnf counts.variables clauses
 cnf_is text line behind counts ended words' clauses first head same right passed all variables few is =
-    ap (answer_of_lines after) first
+    ap (cnf_answer_of_lines after) first
     ∙ (ap (answer_of_header after line.number (flat_map words_beside behind)) (sym head)
     ∙ (ap (λ ws. answer_of_words after counts ws (first_wrong counts ws)) (sym same)
     ∙ (ap (answer_of_words after counts words') right
     ∙ (cond-false (ltb (count_by is_zero ns) counts.clauses) (form_at after)
     (cond (ltb 1048576 counts.variables) too_many_variables
-    (cond (ltb 2000000 counts.clauses) too_many_clauses (is_cnf counts.variables (clauses_of counts.clauses ns))))
+    (cond (ltb 2000000 counts.clauses) too_many_clauses (is_cnf counts.variables (clauses_of_numbers counts.clauses ns))))
     (not_below (count_by is_zero ns) counts.clauses (omega (arith, all, passed)))
     ∙ (cond-false (ltb 1048576 counts.variables) too_many_variables
-    (cond (ltb 2000000 counts.clauses) too_many_clauses (is_cnf counts.variables (clauses_of counts.clauses ns)))
+    (cond (ltb 2000000 counts.clauses) too_many_clauses (is_cnf counts.variables (clauses_of_numbers counts.clauses ns)))
     (not_below 1048576 counts.variables variables)
-    ∙ (cond-false (ltb 2000000 counts.clauses) too_many_clauses (is_cnf counts.variables (clauses_of counts.clauses ns))
+    ∙ (cond-false (ltb 2000000 counts.clauses) too_many_clauses (is_cnf counts.variables (clauses_of_numbers counts.clauses ns))
     (not_below 2000000 counts.clauses few)
     ∙ ap (is_cnf counts.variables) (clauses_are counts.clauses ns exact ∙ sym is)))))))
   where

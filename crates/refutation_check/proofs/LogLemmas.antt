@@ -6,7 +6,7 @@ use Rattle.std.specs.List.{slice_split, onto_first, list_all, cons_option}
 use Rattle.std.proofs.lemmas.Bool.{and_from, true≢false, false≢true}
 use Rattle.std.proofs.lemmas.List.{append-nil, append_assoc}
 use Rattle.std.proofs.lemmas.List.Elements.{All-append, All-cons, All-nil, All-head, All-tail}
-use Rattle.clause_core.specs.Literals.{Lit, number_of, literal_of}
+use Rattle.clause_core.specs.Literals.{Lit, signed_number_of, literal_of}
 use Rattle.clause_core.specs.Clauses.{in_order}
 use Rattle.refutation_check.specs.declared.steps.Step.{Step}
 use Rattle.refutation_check.specs.declared.lrat.Line.{Line}
@@ -21,10 +21,10 @@ use Rattle.refutation_check.specs.LogText.{step_in}
 use Rattle.refutation_check.specs.internal.Reading.{with_literals, with_hints, with_both, log_among, log_after, HasHintsWithin}
 use Rattle.refutation_check.proofs.NumberLemmas.{onto_front, onto_front-nil, has_no_zero, split_front, split_at_zero, split_behind}
 
-literals_no_zero : (literals : List Lit) → has_no_zero (map number_of literals) ≡ true
+literals_no_zero : (literals : List Lit) → has_no_zero (map signed_number_of literals) ≡ true
 literals_no_zero [] = refl
 literals_no_zero (l ∷ ls) =
-    and_from (not (is_zero (number_of l))) (has_no_zero (map number_of ls)) (by_sign l.index l.positive) (literals_no_zero ls)
+    and_from (not (is_zero (signed_number_of l))) (has_no_zero (map signed_number_of ls)) (by_sign l.index l.positive) (literals_no_zero ls)
   where
     by_sign : (i : ℕ) (p : Bool) → not (is_zero (cond p (pos (suc i)) (negsuc i))) ≡ true
     by_sign i true = refl
@@ -85,48 +85,48 @@ more_behind name first second n ns = by_test (is_zero n) (slice_split is_zero ns
 -- ---- literals
 
 no_literal_number : (name : ℕ) (literals : List Lit) (n : ℤ) (rest : Option (List ℤ)) → is_zero n ≡ false → is_literal n ≡ false →
-    step_of_numbers name (option_map (λ ns. map number_of literals ++ ns) (option_map (λ ns. n ∷ ns) rest)) ≡ Wrong
+    step_of_numbers name (option_map (λ ns. map signed_number_of literals ++ ns) (option_map (λ ns. n ∷ ns) rest)) ≡ Wrong
 no_literal_number name literals n None other none = refl
 no_literal_number name literals n (Some ns) other none =
-    ap (step_of_parts name) (split_behind (map number_of literals) n ns (literals_no_zero literals) other)
+    ap (step_of_parts name) (split_behind (map signed_number_of literals) n ns (literals_no_zero literals) other)
     ∙ by_parts (slice_split is_zero ns)
   where
-    by_parts : (parts : List (List ℤ)) → step_of_parts name (onto_front (map number_of literals ++ n ∷ []) parts) ≡ Wrong
-    by_parts [] = bad_first name (map number_of literals ++ n ∷ []) []
-        (ap (list_all is_literal) (sym (append-nil (map number_of literals ++ n ∷ [])))
-        ∙ not_all is_literal (map number_of literals) n [] none)
+    by_parts : (parts : List (List ℤ)) → step_of_parts name (onto_front (map signed_number_of literals ++ n ∷ []) parts) ≡ Wrong
+    by_parts [] = bad_first name (map signed_number_of literals ++ n ∷ []) []
+        (ap (list_all is_literal) (sym (append-nil (map signed_number_of literals ++ n ∷ [])))
+        ∙ not_all is_literal (map signed_number_of literals) n [] none)
     by_parts (part ∷ parts) =
-        bad_first name ((map number_of literals ++ n ∷ []) ++ part) parts (not_all is_literal (map number_of literals) n part none)
+        bad_first name ((map signed_number_of literals ++ n ∷ []) ++ part) parts (not_all is_literal (map signed_number_of literals) n part none)
 
 pub no_literal : (name : ℕ) (literals : List Lit) (word : List ℕ) (words : List (List ℕ)) → passes is_zero (signed_number_in word) ≡ false →
     passes is_literal (signed_number_in word) ≡ false → with_literals name literals (word ∷ words) ≡ Wrong
 no_literal name literals word words = by_number (signed_number_in word)
   where
     by_number : (o : Option ℤ) → passes is_zero o ≡ false → passes is_literal o ≡ false →
-        step_of_numbers name (option_map (λ ns. map number_of literals ++ ns) (all_there (o ∷ map signed_number_in words))) ≡ Wrong
+        step_of_numbers name (option_map (λ ns. map signed_number_of literals ++ ns) (all_there (o ∷ map signed_number_in words))) ≡ Wrong
     by_number None other none = refl
     by_number (Some n) other none = no_literal_number name literals n (all_there (map signed_number_in words)) other none
 
 pub literals_end : (name : ℕ) (literals : List Lit) → with_literals name literals [] ≡ Wrong
-literals_end name literals = ap (step_of_parts name) (split_front (map number_of literals) [] (literals_no_zero literals))
+literals_end name literals = ap (step_of_parts name) (split_front (map signed_number_of literals) [] (literals_no_zero literals))
 
 -- ---- hints
 
 no_hint_number : (name : ℕ) (literals : List Lit) (hints : List ℕ) (n : ℤ) (rest : Option (List ℤ)) → All (λ hint. 0 < hint) hints →
     is_zero n ≡ false → is_hint n ≡ false →
-    step_of_numbers name (option_map (λ ns. map number_of literals ++ pos 0 ∷ (map pos hints ++ ns)) (option_map (λ ns. n ∷ ns) rest))
+    step_of_numbers name (option_map (λ ns. map signed_number_of literals ++ pos 0 ∷ (map pos hints ++ ns)) (option_map (λ ns. n ∷ ns) rest))
     ≡ Wrong
 no_hint_number name literals hints n None some other none = refl
 no_hint_number name literals hints n (Some ns) some other none =
-    ap (step_of_parts name) (split_at_zero (map number_of literals) (map pos hints ++ n ∷ ns) (literals_no_zero literals)
-    ∙ ap (λ parts. map number_of literals ∷ parts) (split_behind (map pos hints) n ns (hints_no_zero hints some) other))
+    ap (step_of_parts name) (split_at_zero (map signed_number_of literals) (map pos hints ++ n ∷ ns) (literals_no_zero literals)
+    ∙ ap (λ parts. map signed_number_of literals ∷ parts) (split_behind (map pos hints) n ns (hints_no_zero hints some) other))
     ∙ by_parts (slice_split is_zero ns)
   where
-    by_parts : (parts : List (List ℤ)) → step_of_parts name (map number_of literals ∷ onto_front (map pos hints ++ n ∷ []) parts) ≡ Wrong
-    by_parts [] = bad_second name (map number_of literals) (map pos hints ++ n ∷ []) []
+    by_parts : (parts : List (List ℤ)) → step_of_parts name (map signed_number_of literals ∷ onto_front (map pos hints ++ n ∷ []) parts) ≡ Wrong
+    by_parts [] = bad_second name (map signed_number_of literals) (map pos hints ++ n ∷ []) []
         (ap (list_all is_hint) (sym (append-nil (map pos hints ++ n ∷ []))) ∙ not_all is_hint (map pos hints) n [] none)
     by_parts (part ∷ parts) =
-        bad_second name (map number_of literals) ((map pos hints ++ n ∷ []) ++ part) parts (not_all is_hint (map pos hints) n part none)
+        bad_second name (map signed_number_of literals) ((map pos hints ++ n ∷ []) ++ part) parts (not_all is_hint (map pos hints) n part none)
 
 pub no_hint : (name : ℕ) (literals : List Lit) (hints : List ℕ) (word : List ℕ) (words : List (List ℕ)) → All (λ hint. 0 < hint) hints →
     passes is_zero (signed_number_in word) ≡ false → passes is_hint (signed_number_in word) ≡ false →
@@ -134,42 +134,42 @@ pub no_hint : (name : ℕ) (literals : List Lit) (hints : List ℕ) (word : List
 no_hint name literals hints word words some = by_number (signed_number_in word)
   where
     by_number : (o : Option ℤ) → passes is_zero o ≡ false → passes is_hint o ≡ false →
-        step_of_numbers name (option_map (λ ns. map number_of literals ++ pos 0 ∷ (map pos hints ++ ns))
+        step_of_numbers name (option_map (λ ns. map signed_number_of literals ++ pos 0 ∷ (map pos hints ++ ns))
         (all_there (o ∷ map signed_number_in words))) ≡ Wrong
     by_number None other none = refl
     by_number (Some n) other none = no_hint_number name literals hints n (all_there (map signed_number_in words)) some other none
 
 pub hints_end : (name : ℕ) (literals : List Lit) (hints : List ℕ) → All (λ hint. 0 < hint) hints → with_hints name literals hints [] ≡ Wrong
 hints_end name literals hints some =
-    ap (step_of_parts name) (split_at_zero (map number_of literals) (map pos hints ++ []) (literals_no_zero literals)
-    ∙ ap (λ parts. map number_of literals ∷ parts) (split_front (map pos hints) [] (hints_no_zero hints some)))
+    ap (step_of_parts name) (split_at_zero (map signed_number_of literals) (map pos hints ++ []) (literals_no_zero literals)
+    ∙ ap (λ parts. map signed_number_of literals ∷ parts) (split_front (map pos hints) [] (hints_no_zero hints some)))
 
 -- ---- behind the hints
 
 both_split : (name : ℕ) (literals : List Lit) (hints : List ℕ) (ns : List ℤ) → All (λ hint. 0 < hint) hints →
-    step_of_parts name (slice_split is_zero (map number_of literals ++ pos 0 ∷ (map pos hints ++ pos 0 ∷ ns)))
-    ≡ step_of_parts name (map number_of literals ∷ map pos hints ∷ slice_split is_zero ns)
+    step_of_parts name (slice_split is_zero (map signed_number_of literals ++ pos 0 ∷ (map pos hints ++ pos 0 ∷ ns)))
+    ≡ step_of_parts name (map signed_number_of literals ∷ map pos hints ∷ slice_split is_zero ns)
 both_split name literals hints ns some =
-    ap (step_of_parts name) (split_at_zero (map number_of literals) (map pos hints ++ pos 0 ∷ ns) (literals_no_zero literals)
-    ∙ ap (λ parts. map number_of literals ∷ parts) (split_at_zero (map pos hints) ns (hints_no_zero hints some)))
+    ap (step_of_parts name) (split_at_zero (map signed_number_of literals) (map pos hints ++ pos 0 ∷ ns) (literals_no_zero literals)
+    ∙ ap (λ parts. map signed_number_of literals ∷ parts) (split_at_zero (map pos hints) ns (hints_no_zero hints some)))
 
 pub both_more : (name : ℕ) (literals : List Lit) (hints : List ℕ) (word : List ℕ) (words : List (List ℕ)) → All (λ hint. 0 < hint) hints →
     with_both name literals hints (word ∷ words) ≡ Wrong
 both_more name literals hints word words some = by_first (signed_number_in word)
   where
     by_rest : (n : ℤ) (o : Option (List ℤ)) →
-        step_of_numbers name (option_map (λ ns. map number_of literals ++ pos 0 ∷ (map pos hints ++ pos 0 ∷ ns))
+        step_of_numbers name (option_map (λ ns. map signed_number_of literals ++ pos 0 ∷ (map pos hints ++ pos 0 ∷ ns))
         (option_map (λ ns. n ∷ ns) o)) ≡ Wrong
     by_rest n None = refl
-    by_rest n (Some ns) = both_split name literals hints (n ∷ ns) some ∙ more_behind name (map number_of literals) (map pos hints) n ns
+    by_rest n (Some ns) = both_split name literals hints (n ∷ ns) some ∙ more_behind name (map signed_number_of literals) (map pos hints) n ns
 
     by_first : (o : Option ℤ) →
-        step_of_numbers name (option_map (λ ns. map number_of literals ++ pos 0 ∷ (map pos hints ++ pos 0 ∷ ns))
+        step_of_numbers name (option_map (λ ns. map signed_number_of literals ++ pos 0 ∷ (map pos hints ++ pos 0 ∷ ns))
         (all_there (o ∷ map signed_number_in words))) ≡ Wrong
     by_first None = refl
     by_first (Some n) = by_rest n (all_there (map signed_number_in words))
 
-literals_again : (literals : List Lit) → map literal_of (map number_of literals) ≡ literals
+literals_again : (literals : List Lit) → map literal_of (map signed_number_of literals) ≡ literals
 literals_again [] = refl
 literals_again (l ∷ ls) = λ i. one l.index l.positive i ∷ literals_again ls i
   where
@@ -181,14 +181,14 @@ hints_again : (hints : List ℕ) → map nat_abs (map pos hints) ≡ hints
 hints_again [] = refl
 hints_again (h ∷ hs) = ap (λ ns. h ∷ ns) (hints_again hs)
 
-pub both_end : (name : ℕ) (literals : List Lit) (hints : List ℕ) → list_all is_literal (map number_of literals) ≡ true →
+pub both_end : (name : ℕ) (literals : List Lit) (hints : List ℕ) → list_all is_literal (map signed_number_of literals) ≡ true →
     All (λ hint. 0 < hint) hints →
     with_both name literals hints [] ≡ Says (record { number = name; clause = in_order literals; hints = hints })
 both_end name literals hints all some =
     both_split name literals hints [] some
     ∙ (ap (λ b. cond b (Says
-    (record { number = name; clause = in_order (map literal_of (map number_of literals)); hints = map nat_abs (map pos hints) })) Wrong)
-    (and_from (list_all is_literal (map number_of literals)) (list_all is_hint (map pos hints)) all
+    (record { number = name; clause = in_order (map literal_of (map signed_number_of literals)); hints = map nat_abs (map pos hints) })) Wrong)
+    (and_from (list_all is_literal (map signed_number_of literals)) (list_all is_hint (map pos hints)) all
     (hints_pass is_hint (λ n. refl) hints some))
     ∙ (λ i. Says (record { number = name; clause = in_order (literals_again literals i); hints = hints_again hints i })))
 
@@ -202,7 +202,7 @@ both_wrong (Some x) first later name literals hints words some begins there =
 
 -- and where none was
 pub both_right : {X : Type 0} (found : Option X) (name : ℕ) (literals : List Lit) (hints : List ℕ) (words : List (List ℕ)) →
-    list_all is_literal (map number_of literals) ≡ true → All (λ hint. 0 < hint) hints → IfNone found (words ≡ []) → false ≡ is_some found →
+    list_all is_literal (map signed_number_of literals) ≡ true → All (λ hint. 0 < hint) hints → IfNone found (words ≡ []) → false ≡ is_some found →
     with_both name literals hints words ≡ Says (record { number = name; clause = in_order literals; hints = hints })
 both_right (Some x) name literals hints words all some ends there = absurd (false≢true there)
 both_right None name literals hints words all some ends there =

@@ -1,57 +1,50 @@
 -- The table of what is true, and what is taken back.
-use Rattle.std.proofs.Common.{◌≡◌, ℕ, ◌+◌, ◌*◌, ◌<◌, Bool, true, false, cond, List, [], ◌∷◌, ◌++◌, map, length, get_or, set, reverse, sym}
+use Rattle.std.proofs.Common.{◌≡◌, ℕ, ◌+◌, ◌*◌, ◌<◌, Bool, true, false, List, [], ◌∷◌, ◌++◌, map, length, get_or, set, reverse, sym}
 use Rattle.std.proofs.Common.{ap, ◌∙◌, arith, inl, inr}
 use Rattle.std.proofs.lemmas.Bool.{true≢false, false≢true, or_cases, cases_Bool, cases_eq}
 use Rattle.std.proofs.lemmas.List.{length-set, get_or-set_same, get_or-set_other, map-append, append_assoc, reverse-append}
 use Rattle.std.proofs.lemmas.List.Elements.{All-tail}
-use Rattle.clause_core.specs.Literals.{Lit, negation, same, has}
+use Rattle.clause_core.specs.Literals.{Lit, negation, same, has, code_of}
 use Rattle.clause_core.specs.Clauses.{IsOver}
-use Rattle.clause_core.proofs.Sets.{same_is}
-use Rattle.refutation_check.specs.internal.Marks.{place_of, IsTable}
+use Rattle.clause_core.proofs.Sets.{same_is, code_within}
+use Rattle.refutation_check.specs.internal.Marks.{IsTruthTable}
 
 -- the table says of no other literal that it is true
 pub record IsAtMost (variables : ℕ) (truths : List Bool) (literals : List Lit) : Type 0 where
   pub all : length truths ≡ 2 * variables
   pub over : IsOver variables literals
-  pub each : (l : Lit) → l.index < variables → get_or truths (place_of l) false ≡ true → has literals l ≡ true
+  pub each : (l : Lit) → l.index < variables → get_or truths (code_of l) false ≡ true → has literals l ≡ true
 
-pub at_most : (variables : ℕ) (truths : List Bool) (literals : List Lit) → IsTable variables truths literals →
+pub at_most : (variables : ℕ) (truths : List Bool) (literals : List Lit) → IsTruthTable variables truths literals →
     IsAtMost variables truths literals
 at_most variables truths literals t = record { all = t.all; over = t.over; each = λ l below h. sym (t.each l below) ∙ h }
 
-pub place_within : (variables : ℕ) (l : Lit) → l.index < variables → place_of l < 2 * variables
-place_within variables l below = by_sign l.index l.positive below
-  where
-    by_sign : (i : ℕ) (p : Bool) → i < variables → 2 * i + cond p 1 0 < 2 * variables
-    by_sign i true below = omega arith
-    by_sign i false below = omega arith
-
 -- the first literal is taken back
 pub taken_back : (variables : ℕ) (truths : List Bool) (l : Lit) (ls : List Lit) → IsAtMost variables truths (l ∷ ls) →
-    IsAtMost variables (set truths (place_of l) false) ls
+    IsAtMost variables (set truths (code_of l) false) ls
 taken_back variables truths l ls t = record {
-  all = length-set truths (place_of l) false ∙ t.all;
+  all = length-set truths (code_of l) false ∙ t.all;
   over = All-tail (λ m. m.index < variables) l ls t.over;
-  each = λ m below h. elim (cases_eq (place_of m) (place_of l)) [
+  each = λ m below h. elim (cases_eq (code_of m) (code_of l)) [
     | inl e ↦ absurd (true≢false (sym h
-        ∙ (ap (λ k. get_or (set truths (place_of l) false) k false) e
-        ∙ get_or-set_same truths (place_of l) false false (let w : place_of l < length truths =
-        omega (arith, t.all, place_within variables l (t.over 0 l (omega arith))) in w))))
-    | inr n ↦ (let kept : get_or truths (place_of m) false ≡ true = sym (get_or-set_other truths (place_of l) (place_of m) false false n)
+        ∙ (ap (λ k. get_or (set truths (code_of l) false) k false) e
+        ∙ get_or-set_same truths (code_of l) false false (let w : code_of l < length truths =
+        omega (arith, t.all, code_within variables l (t.over 0 l (omega arith))) in w))))
+    | inr n ↦ (let kept : get_or truths (code_of m) false ≡ true = sym (get_or-set_other truths (code_of l) (code_of m) false false n)
         ∙ h in
         elim (or_cases (same l m) (has ls m) (t.each m below kept)) [
-          | inl e ↦ absurd (n (sym (ap place_of (same_is l m e))))
+          | inl e ↦ absurd (n (sym (ap code_of (same_is l m e))))
           | inr h ↦ h
         ])
   ];
 }
 
 -- nothing is true
-pub all_taken_back : (variables : ℕ) (truths : List Bool) → IsAtMost variables truths [] → IsTable variables truths []
+pub all_taken_back : (variables : ℕ) (truths : List Bool) → IsAtMost variables truths [] → IsTruthTable variables truths []
 all_taken_back variables truths t = record {
   all = t.all;
   over = t.over;
-  each = λ l below. elim (cases_Bool (get_or truths (place_of l) false)) [
+  each = λ l below. elim (cases_Bool (get_or truths (code_of l) false)) [
     | inl e ↦ absurd (false≢true (t.each l below e))
     | inr e ↦ e
   ];

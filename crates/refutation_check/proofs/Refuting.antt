@@ -11,9 +11,9 @@ use Rattle.clause_core.specs.Propagation.{not_false, ReachesFalse}
 use Rattle.clause_core.specs.Propagation.Reaches.{done, turn}
 use Rattle.clause_core.proofs.Semantics.{reverse_follows, meets_all-append}
 use Rattle.refutation_check.specs.declared.steps.Step.{Step}
-use Rattle.refutation_check.specs.Checking.{Numbered, numbered_from, clause_named, Effect, ends, makes, shows_nothing, Refusal, at_line}
+use Rattle.refutation_check.specs.Checking.{Numbered, numbered_from, clause_named, HintEffect, ends, makes, shows_nothing, Refusal, at_line}
 use Rattle.refutation_check.specs.Checking.{at_hint, effect_of_open, effect_of_named, led_to, refused_hint, is_no_step, step_refusal}
-use Rattle.refutation_check.specs.Checking.{first_of, steps_refusal, is_empty, end_refusal, log_refusal, unfinished}
+use Rattle.refutation_check.specs.Checking.{first_of, steps_refusal, is_empty_clause, end_refusal, log_refusal, unfinished}
 
 abbrev clauses_in : List Numbered → List (List Lit)
 clauses_in known = map (λ k. k.clause) known
@@ -29,7 +29,7 @@ named_known (k ∷ known) n clause h = by_test (eqb k.number n) h (named_known k
     by_test false h rest = let r = rest h in (suc r.0, omega (arith, r.1), r.2)
 
 -- what the clauses do that hints name
-data Finds (clauses : List (List Lit)) (trues : List Lit) : Effect → Type 0 where
+data Finds (clauses : List (List Lit)) (trues : List Lit) : HintEffect → Type 0 where
   finds_false : (clause : List Lit) → Contains clauses clause → not_false trues clause ≡ [] → Finds clauses trues ends
   finds_unit : (clause : List Lit) (l : Lit) → Contains clauses clause → not_false trues clause ≡ l ∷ [] → has trues l ≡ false →
       Finds clauses trues (makes l)
@@ -64,7 +64,7 @@ hints_reach known (hint ∷ hints) trues position h =
     by_effect (effect_of_named trues (clause_named known hint)) (finds_named known trues hint) h
     (λ l. hints_reach known hints (l ∷ trues) (suc position))
   where
-    by_effect : (e : Effect) → Finds (clauses_in known) trues e →
+    by_effect : (e : HintEffect) → Finds (clauses_in known) trues e →
         led_to position (λ l. refused_hint known (l ∷ trues) (suc position) hints) e ≡ None →
         ((l : Lit) → refused_hint known (l ∷ trues) (suc position) hints ≡ None → ReachesFalse (clauses_in known) (l ∷ trues)) →
         ReachesFalse (clauses_in known) trues
@@ -110,17 +110,17 @@ steps_met v variables (step ∷ steps) largest known h m =
     (steps_met v variables steps step.number (known ++ named ∷ []) parts.1 all)
 
 -- no assignment meets the empty clause
-none_empty : (v : ℕ → Bool) (steps : List Step) → list_any (λ step. is_empty step.clause) steps ≡ true →
+none_empty : (v : ℕ → Bool) (steps : List Step) → list_any (λ step. is_empty_clause step.clause) steps ≡ true →
     list_all (λ step. meets v step.clause) steps ≡ true → ⊥
 none_empty v [] some all = false≢true some
 none_empty v (step ∷ steps) some all =
     let parts = and_parts (meets v step.clause) (list_all (λ s. meets v s.clause) steps) all in
-    elim (or_cases (is_empty step.clause) (list_any (λ s. is_empty s.clause) steps) some) [
+    elim (or_cases (is_empty_clause step.clause) (list_any (λ s. is_empty_clause s.clause) steps) some) [
       | inl e ↦ unmet step.clause e parts.0
       | inr h ↦ none_empty v steps h parts.1
     ]
   where
-    unmet : (clause : List Lit) → is_empty clause ≡ true → meets v clause ≡ true → ⊥
+    unmet : (clause : List Lit) → is_empty_clause clause ≡ true → meets v clause ≡ true → ⊥
     unmet [] e m = false≢true m
     unmet (l ∷ ls) e m = false≢true e
 
@@ -133,7 +133,7 @@ pub accepted_refutes : (variables : ℕ) (clauses : List (List Lit)) (steps : Li
 accepted_refutes variables clauses steps h v =
     let parts = first_none (steps_refusal variables (length clauses) (numbered_from 1 clauses) steps) (end_refusal steps) h in
     elim (cases_Bool (meets_all v clauses)) [
-      | inl m ↦ absurd (none_empty v steps (by_end (list_any (λ step. is_empty step.clause) steps) parts.1)
+      | inl m ↦ absurd (none_empty v steps (by_end (list_any (λ step. is_empty_clause step.clause) steps) parts.1)
           (steps_met v variables steps (length clauses) (numbered_from 1 clauses) parts.0 (ap (meets_all v) (named_clauses 1 clauses) ∙ m)))
       | inr f ↦ f
     ]

@@ -30,24 +30,24 @@ pub data Refusal : Type 0 where
   unfinished : Refusal
 
 -- what a hint does: its clause is false, which ends the hints, or it makes a literal true, or neither of these
-pub data Effect : Type 0 where
-  ends : Effect
-  makes : Lit → Effect
-  shows_nothing : Effect
+pub data HintEffect : Type 0 where
+  ends : HintEffect
+  makes : Lit → HintEffect
+  shows_nothing : HintEffect
 
 -- what a clause does whose literals that are not false are these
-abbrev pub effect_of_open : List Lit → List Lit → Effect
+abbrev pub effect_of_open : List Lit → List Lit → HintEffect
 effect_of_open trues [] = ends
 effect_of_open trues (l ∷ []) = cond (has trues l) shows_nothing (makes l)
 effect_of_open trues (l ∷ m ∷ ms) = shows_nothing
 
 -- what the clause does that a hint names
-abbrev pub effect_of_named : List Lit → Option (List Lit) → Effect
+abbrev pub effect_of_named : List Lit → Option (List Lit) → HintEffect
 effect_of_named trues None = shows_nothing
 effect_of_named trues (Some clause) = effect_of_open trues (not_false trues clause)
 
 -- what a hint at a position leads to, and those after it where it makes a literal true
-abbrev pub led_to : ℕ → (Lit → Option ℕ) → Effect → Option ℕ
+abbrev pub led_to : ℕ → (Lit → Option ℕ) → HintEffect → Option ℕ
 led_to position later ends = None
 led_to position later (makes l) = later l
 led_to position later shows_nothing = Some position
@@ -85,13 +85,13 @@ steps_refusal variables largest known (step ∷ steps) =
     (steps_refusal variables step.number (known ++ record { number = step.number; clause = step.clause } ∷ []) steps)
 
 -- whether a clause has no literal
-abbrev pub is_empty : List Lit → Bool
-is_empty [] = true
-is_empty (l ∷ ls) = false
+abbrev pub is_empty_clause : List Lit → Bool
+is_empty_clause [] = true
+is_empty_clause (l ∷ ls) = false
 
 -- what is missing where no step has the empty clause
 abbrev pub end_refusal : List Step → Option Refusal
-end_refusal steps = cond (list_any (λ step. is_empty step.clause) steps) None (Some unfinished)
+end_refusal steps = cond (list_any (λ step. is_empty_clause step.clause) steps) None (Some unfinished)
 
 -- Why the log of a formula is refused, if it is. The formula's clauses have the numbers from 1 on.
 abbrev pub log_refusal : ℕ → List (List Lit) → List Step → Option Refusal

@@ -49,8 +49,8 @@ abbrev pub numbers_of : List (ℕ × List ℕ) → List ℤ
 numbers_of words = filter_map (λ word. signed_number_in word.1) words
 
 -- the clauses that numbers tell: a zero ends each
-abbrev pub clauses_of : ℕ → List ℤ → List (List Lit)
-clauses_of count numbers = map (λ part. in_order (map literal_of part)) (take count (slice_split is_zero numbers))
+abbrev pub clauses_of_numbers : ℕ → List ℤ → List (List Lit)
+clauses_of_numbers count numbers = map (λ part. in_order (map literal_of part)) (take count (slice_split is_zero numbers))
 
 -- what a text is whose words are right
 abbrev pub answer_of_numbers : ℕ → Counts → List ℤ → CnfAnswer
@@ -58,7 +58,7 @@ answer_of_numbers after counts numbers =
     cond (nat_lt (count_by is_zero numbers) counts.clauses) (form_at after)
     (cond (nat_lt 1048576 counts.variables) too_many_variables
     (cond (nat_lt 2000000 counts.clauses) too_many_clauses
-    (is_cnf counts.variables (clauses_of counts.clauses numbers))))
+    (is_cnf counts.variables (clauses_of_numbers counts.clauses numbers))))
 
 abbrev pub answer_of_words : ℕ → Counts → List (ℕ × List ℕ) → Option (ℕ × (ℕ × List ℕ)) → CnfAnswer
 answer_of_words after counts words (Some wrong) = form_at wrong.1.0
@@ -68,11 +68,11 @@ abbrev pub answer_of_header : ℕ → ℕ → List (ℕ × List ℕ) → Option 
 answer_of_header after line words None = form_at line
 answer_of_header after line words (Some counts) = answer_of_words after counts words (first_wrong counts words)
 
-abbrev pub answer_of_lines : ℕ → List NumberedLine → CnfAnswer
-answer_of_lines after [] = form_at after
-answer_of_lines after (line ∷ lines) = answer_of_header after line.number (flat_map words_beside lines) (header (words line.bytes))
+abbrev pub cnf_answer_of_lines : ℕ → List NumberedLine → CnfAnswer
+cnf_answer_of_lines after [] = form_at after
+cnf_answer_of_lines after (line ∷ lines) = answer_of_header after line.number (flat_map words_beside lines) (header (words line.bytes))
 
 -- What a text is. Its lines that are no comments begin with the header's; the words of the others are the clauses. Where
 -- there is no header, or a clause is missing, the line after the last is at fault.
 abbrev pub cnf_answer : List ℕ → CnfAnswer
-cnf_answer text = answer_of_lines (suc (length (lines text))) (data_lines text)
+cnf_answer text = cnf_answer_of_lines (suc (length (lines text))) (data_lines text)

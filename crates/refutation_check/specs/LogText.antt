@@ -75,10 +75,10 @@ step_in (Says s) = Some s
 step_in NoEffect = None
 step_in Wrong = None
 
-abbrev pub answer_of_lines : List NumberedLine → Option NumberedLine → LogAnswer
-answer_of_lines lines (Some first) = form_at first.number
-answer_of_lines lines None = is_log (filter_map (λ line. step_in (line_answer line.bytes)) lines)
+abbrev pub log_answer_of_lines : List NumberedLine → Option NumberedLine → LogAnswer
+log_answer_of_lines lines (Some first) = form_at first.number
+log_answer_of_lines lines None = is_log (filter_map (λ line. step_in (line_answer line.bytes)) lines)
 
 -- what a text is: malformed at its first wrong line, and otherwise the log of its steps
 abbrev pub log_answer : List ℕ → LogAnswer
-log_answer text = answer_of_lines (numbered_lines text) (find (λ line. is_wrong (line_answer line.bytes)) (numbered_lines text))
+log_answer text = log_answer_of_lines (numbered_lines text) (find (λ line. is_wrong (line_answer line.bytes)) (numbered_lines text))

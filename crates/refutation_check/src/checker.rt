@@ -4,7 +4,7 @@ ghost use Rattle.std.specs.Prelude.{◌≡◌, ℕ, ◌+◌, ◌<◌, ◌≤◌,
 ghost use Rattle.std.specs.List.{list_any, AllWithin};
 ghost use Rattle.clause_core.specs.Literals.{Lit};
 ghost use Rattle.clause_core.specs.Clauses.{IsOver, AreUnsatisfiable};
-ghost use Rattle.refutation_check.specs.Checking.{log_refusal, step_refusal, is_no_step, refused_hint, clause_named, numbered_from, effect_of_named, is_empty, at_line, at_hint, unfinished, HaveFewHints};
+ghost use Rattle.refutation_check.specs.Checking.{log_refusal, step_refusal, is_no_step, refused_hint, clause_named, numbered_from, effect_of_named, is_empty_clause, at_line, at_hint, unfinished, HaveFewHints};
 ghost use Rattle.refutation_check.specs.internal.Marks.{effect_of};
 ghost use Rattle.refutation_check.specs.internal.Accepted.{numbered, known_after, AreAccepted};
 
@@ -135,14 +135,14 @@ fn is_large(variables: u32, literal: Literal) -> bool
 
 /// Whether a step has the empty clause.
 fn has_empty_clause(steps: &[Step]) -> bool
-    ensures { result ≡ list_any (λ step. is_empty step.clause) steps.now }
+    ensures { result ≡ list_any (λ step. is_empty_clause step.clause) steps.now }
 {
     steps.iter().any(|step| is_empty(&step.clause))
 }
 
 /// Whether the clause has no literal.
 fn is_empty(clause: &Clause) -> bool
-    ensures { result ≡ is_empty clause.now }
+    ensures { result ≡ is_empty_clause clause.now }
 {
     clause.literals().is_empty()
 }

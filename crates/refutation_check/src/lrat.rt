@@ -2,7 +2,7 @@
 
 ghost use Rattle.std.specs.Prelude.{◌≡◌, ◌+◌, ◌^◌, ◌<◌, ◌≤◌, ℕ, true, not, List, [], ◌++◌, Err, Some, IfOk, OnOk, IfSome, IfNone, length, map, option_to_list, All};
 ghost use Rattle.std.specs.List.{list_all};
-ghost use Rattle.clause_core.specs.Literals.{Lit, number_of};
+ghost use Rattle.clause_core.specs.Literals.{Lit, signed_number_of};
 ghost use Rattle.tsl_text.specs.Lines.{words};
 ghost use Rattle.refutation_check.specs.Checking.{HaveFewHints};
 ghost use Rattle.refutation_check.specs.LogText.{line_answer, line_of_number, are_deleted, is_wrong, step_in, is_literal, log_answer, is_log, form_at};
@@ -187,7 +187,7 @@ fn read_literals<'a>(
     line: &'a [u8],
 ) -> Result<Option<&'a [u8]>, NoMemory>
     ensures some { IfOk result (λ found. IfSome found (λ rest. (name : ℕ) → with_literals name [] (words line.now) ≡ with_hints name literals.new.items [] (words rest.now))) }
-    ensures literals { IfOk result (λ found. IfSome found (λ rest. list_all is_literal (map number_of literals.new.items) ≡ true)) }
+    ensures literals { IfOk result (λ found. IfSome found (λ rest. list_all is_literal (map signed_number_of literals.new.items) ≡ true)) }
     ensures none { IfOk result (λ found. IfNone found ((name : ℕ) → with_literals name [] (words line.now) ≡ Line.Wrong)) }
     ensures within { IfOk result (λ found. IfSome found (λ rest. length rest.now ≤ length line.now)) }
 {

@@ -1,11 +1,11 @@
 //! The literals that a step's hints made true.
 
 ghost use Rattle.std.specs.Prelude.{◌≡◌, ◌<◌, ◌+◌, [], ◌++◌, map, IfOk, OnOk, OnErr};
-ghost use Rattle.clause_core.specs.Literals.{Lit, has, negation};
+ghost use Rattle.clause_core.specs.Literals.{Lit, has, negation, code_of};
 ghost use Rattle.clause_core.specs.Clauses.{IsOver};
 ghost use Rattle.clause_core.specs.Propagation.{not_false};
 ghost use Rattle.refutation_check.specs.Checking.{effect_of_open};
-ghost use Rattle.refutation_check.specs.internal.Marks.{with_true, place_of, effect_of};
+ghost use Rattle.refutation_check.specs.internal.Marks.{with_true, effect_of};
 
 use clause_core::{Clause, Literal};
 use sequence::NoMemory;
@@ -33,13 +33,13 @@ pub struct Marks {
 
 impl Model for Marks {
     ghost use Rattle.std.specs.Prelude.{reverse};
-    ghost use Rattle.refutation_check.specs.internal.Marks.{Trues, IsTable};
+    ghost use Rattle.refutation_check.specs.internal.Marks.{Trues, IsTruthTable};
 
     ghost Value = { Trues };
 
     ghost view = { λ m. record { variables = m.variables; literals = reverse m.literals.items } };
 
-    ghost invariant = { λ m. IsTable m.variables m.truths.items (reverse m.literals.items) };
+    ghost invariant = { λ m. IsTruthTable m.variables m.truths.items (reverse m.literals.items) };
 }
 
 impl Marks {
@@ -126,7 +126,7 @@ impl Marks {
 
 /// The place of a literal in the table.
 fn place(literal: Literal) -> usize
-    ensures { result ≡ place_of literal }
+    ensures { result ≡ code_of literal }
 {
     let negative = 2 * literal.index();
     if literal.is_positive() {

@@ -2,7 +2,7 @@
 
 ghost use Rattle.std.specs.Prelude.{◌≡◌, ◌<◌, ◌≤◌, true, Some, pos, nat_le, nat_abs, is_some, IfSome};
 ghost use Rattle.sequence.specs.Options.{passes};
-ghost use Rattle.clause_core.specs.Literals.{number_of};
+ghost use Rattle.clause_core.specs.Literals.{signed_number_of};
 ghost use Rattle.tsl_text.specs.Numbers.{signed_number_in};
 ghost use Rattle.refutation_check.specs.Numbers.{is_zero};
 ghost use Rattle.refutation_check.specs.internal.Reading.{begins_with_zero};
@@ -42,7 +42,7 @@ pub fn is_within(most: u64, word: &[u8]) -> bool
 
 /// The literal whose number the word means. `None` where it means none, or no literal has its number.
 pub fn literal_in(word: &[u8]) -> Option<Literal>
-    ensures value { IfSome result (λ literal. signed_number_in word.now ≡ Some (number_of literal)) }
+    ensures value { IfSome result (λ literal. signed_number_in word.now ≡ Some (signed_number_of literal)) }
     ensures some { is_some result ≡ passes is_literal (signed_number_in word.now) }
 {
     match signed_number_in(word) {

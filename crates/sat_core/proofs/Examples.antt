@@ -10,11 +10,11 @@ use Rattle.clause_core.specs.Propagation.Reaches.{done, turn}
 use Rattle.clause_core.proofs.Sets.{IsIncreasing-in_order}
 use Rattle.clause_core.proofs.Semantics.{reached_within, none_false_within}
 use Rattle.sat_trail.specs.declared.entries.Entry.{Entry}
-use Rattle.sat_trail.specs.Entries.{entry_of}
+use Rattle.sat_trail.specs.Entries.{entry_with}
 use Rattle.sat_trail.proofs.Steps.{IsOpen, open_two, open_true, quiet_from}
 use Rattle.refutation_check.specs.declared.steps.Step.{Step}
 use Rattle.sat_core.proofs.Numbering.{is_numbered}
-use Rattle.sat_core.specs.Lessons.{step_of}
+use Rattle.sat_core.specs.Lessons.{learnt_step}
 use Rattle.sat_core.specs.declared.marks.Marks.{Marks}
 use Rattle.sat_core.specs.Walks.{is_marked, count_at, is_of_clause, AreMarks, replacement_of}
 use Rattle.sat_core.specs.Answers.{AreSatisfying, AreRefuting, IsWholeTrace}
@@ -51,31 +51,31 @@ one_truth_missing h = let e = h.one_each in omega arith
 
 -- 1 by the clauses 1 and 2, then the empty clause by 5, 3 and 4
 abbrev log : List Step
-log = step_of 5 (a ∷ []) (1 ∷ 2 ∷ []) ∷ step_of 6 [] (5 ∷ 3 ∷ 4 ∷ []) ∷ []
+log = learnt_step 5 (a ∷ []) (1 ∷ 2 ∷ []) ∷ learnt_step 6 [] (5 ∷ 3 ∷ 4 ∷ []) ∷ []
 
 refuting : AreRefuting 2 square log
 refuting = record {
   accepted = refl;
   few_hints = All-from_recursion (λ (s : Step). length s.hints + 1 < 2 ^ 32) log (lit< tt, (lit< tt, tt));
   numbered = (
-    is_numbered (step_of 5 (a ∷ []) (1 ∷ 2 ∷ [])) 4 refl (All-from_recursion (λ hint. (1 ≤ hint) × (hint ≤ 4)) (1 ∷ 2 ∷ []) ((omega arith, omega arith), ((omega arith, omega arith), tt))),
-    (is_numbered (step_of 6 [] (5 ∷ 3 ∷ 4 ∷ [])) 5 refl (All-from_recursion (λ hint. (1 ≤ hint) × (hint ≤ 5)) (5 ∷ 3 ∷ 4 ∷ []) ((omega arith, omega arith), ((omega arith, omega arith), ((omega arith, omega arith), tt)))), tt),
+    is_numbered (learnt_step 5 (a ∷ []) (1 ∷ 2 ∷ [])) 4 refl (All-from_recursion (λ hint. (1 ≤ hint) × (hint ≤ 4)) (1 ∷ 2 ∷ []) ((omega arith, omega arith), ((omega arith, omega arith), tt))),
+    (is_numbered (learnt_step 6 [] (5 ∷ 3 ∷ 4 ∷ [])) 5 refl (All-from_recursion (λ hint. (1 ≤ hint) × (hint ≤ 5)) (5 ∷ 3 ∷ 4 ∷ []) ((omega arith, omega arith), ((omega arith, omega arith), ((omega arith, omega arith), tt)))), tt),
   );
 }
 
 -- a hint after the one that ends them names a clause too
-hint_zero : AreRefuting 2 square (step_of 5 (a ∷ []) (1 ∷ 2 ∷ 0 ∷ []) ∷ step_of 6 [] (5 ∷ 3 ∷ 4 ∷ []) ∷ []) → ⊥
+hint_zero : AreRefuting 2 square (learnt_step 5 (a ∷ []) (1 ∷ 2 ∷ 0 ∷ []) ∷ learnt_step 6 [] (5 ∷ 3 ∷ 4 ∷ []) ∷ []) → ⊥
 hint_zero h = let n = (recursion_from_All (λ hint. (1 ≤ hint) × (hint < 5)) (1 ∷ 2 ∷ 0 ∷ []) h.numbered.0.hints_earlier).1.1.0.0 in omega arith
 
 -- the numbers of steps follow one another
-number_left_out : AreRefuting 2 square (step_of 5 (a ∷ []) (1 ∷ 2 ∷ []) ∷ step_of 7 [] (5 ∷ 3 ∷ 4 ∷ []) ∷ []) → ⊥
+number_left_out : AreRefuting 2 square (learnt_step 5 (a ∷ []) (1 ∷ 2 ∷ []) ∷ learnt_step 7 [] (5 ∷ 3 ∷ 4 ∷ []) ∷ []) → ⊥
 number_left_out h = let n = h.numbered.1.0.number_is in omega arith
 
 -- the last step without the clause in conflict
-no_conflict : AreRefuting 2 square (step_of 5 (a ∷ []) (1 ∷ 2 ∷ []) ∷ step_of 6 [] (5 ∷ 3 ∷ []) ∷ []) → ⊥
+no_conflict : AreRefuting 2 square (learnt_step 5 (a ∷ []) (1 ∷ 2 ∷ []) ∷ learnt_step 6 [] (5 ∷ 3 ∷ []) ∷ []) → ⊥
 no_conflict h = none-some _ (sym h.accepted)
 
-no_empty_clause : AreRefuting 2 square (step_of 5 (a ∷ []) (1 ∷ 2 ∷ []) ∷ []) → ⊥
+no_empty_clause : AreRefuting 2 square (learnt_step 5 (a ∷ []) (1 ∷ 2 ∷ []) ∷ []) → ⊥
 no_empty_clause h = none-some _ (sym h.accepted)
 
 -- ---- traces
@@ -160,7 +160,7 @@ no_signs = refl
 
 -- 1 at level 0 by the clause 0, 2 decided, -3 by the clause 1
 abbrev entries : List Entry
-entries = entry_of a 0 (Some 0) ∷ entry_of b 1 None ∷ entry_of (literal_of (negsuc 2)) 1 (Some 1) ∷ []
+entries = entry_with a 0 (Some 0) ∷ entry_with b 1 None ∷ entry_with (literal_of (negsuc 2)) 1 (Some 1) ∷ []
 
 -- the entries at the first two places are marked
 abbrev first_two : ℕ → Bool
@@ -188,14 +188,14 @@ are_marks = record { within = among; counted = refl }
     among place h = omega (arith, reach_has (0 ∷ 2 ∷ []) place h)
 
 -- an entry at level 0 gives way to its reason, one at the present level where another is marked
-at_start : replacement_of 1 1 (entry_of a 0 (Some 0)) ≡ Some 0
+at_start : replacement_of 1 1 (entry_with a 0 (Some 0)) ≡ Some 0
 at_start = refl
 
-crowded : replacement_of 1 2 (entry_of (literal_of (negsuc 2)) 1 (Some 1)) ≡ Some 1
+crowded : replacement_of 1 2 (entry_with (literal_of (negsuc 2)) 1 (Some 1)) ≡ Some 1
 crowded = refl
 
-alone : replacement_of 1 1 (entry_of (literal_of (negsuc 2)) 1 (Some 1)) ≡ None
+alone : replacement_of 1 1 (entry_with (literal_of (negsuc 2)) 1 (Some 1)) ≡ None
 alone = refl
 
-lower : replacement_of 2 2 (entry_of b 1 None) ≡ None
+lower : replacement_of 2 2 (entry_with b 1 None) ≡ None
 lower = refl

@@ -14,24 +14,24 @@ use Rattle.clause_core.specs.Propagation.Reaches.{done, turn}
 use Rattle.clause_core.proofs.Sets.{one_increasing, IsIncreasing-in_order, has-in_order, same_from, negation-negation, negation_differs, Contains_from_has, any_has}
 use Rattle.clause_core.proofs.Semantics.{reached_within, none_false_within}
 use Rattle.sat_trail.specs.declared.entries.Entry.{Entry}
-use Rattle.sat_trail.specs.Entries.{literals_of, place_of, entry_of}
+use Rattle.sat_trail.specs.Entries.{literals_of, place_of, entry_with}
 use Rattle.sat_trail.specs.States.{TrailState, IsSound, started, decided, with_clause, undone, up_to, Propagates}
 use Rattle.sat_trail.proofs.Places.{AreApart, place_from-front, place_from-after, place_here, has_entry, one_entry}
 use Rattle.sat_trail.proofs.Soundness.{apart_from, level_within}
 use Rattle.sat_trail.proofs.Steps.{up_to_all, up_to-push, unset_from, has_not_false, has_one}
 use Rattle.refutation_check.specs.declared.steps.Step.{Step}
 use Rattle.refutation_check.specs.declared.steps.Log.{Log}
-use Rattle.refutation_check.specs.Checking.{Numbered, numbered_from, clause_named, effect_of_open, effect_of_named, led_to, refused_hint, Refusal, step_refusal, first_of, steps_refusal, is_empty, end_refusal, HaveFewHints}
+use Rattle.refutation_check.specs.Checking.{Numbered, numbered_from, clause_named, effect_of_open, effect_of_named, led_to, refused_hint, Refusal, step_refusal, first_of, steps_refusal, is_empty_clause, end_refusal, HaveFewHints}
 use Rattle.refutation_check.specs.Checking.Effect.{makes, shows_nothing}
 use Rattle.refutation_check.specs.Checking.Refusal.{at_line, at_hint, unfinished}
 use Rattle.sat_core.specs.Levels.{IsSetAt, AreQuietBelow}
 use Rattle.sat_core.specs.Numbering.{AreHints, AreNumbered}
-use Rattle.sat_core.specs.Lessons.{IsAsserting, IsLesson, step_of, clauses_of, HasLearnt, IsRefuted}
+use Rattle.sat_core.specs.Lessons.{IsAsserting, IsLesson, learnt_step, clauses_of, HasLearnt, IsRefuted}
 use Rattle.sat_core.specs.declared.choices.Decisions.{Decisions}
-use Rattle.sat_core.specs.Choices.{AreSet, AreDecisions, AreTruths}
+use Rattle.sat_core.specs.Choices.{AreSet, AreDecisions, AreVariableTruths}
 use Rattle.sat_core.specs.declared.answers.Answer.{Answer}
 use Rattle.sat_core.specs.declared.answers.Answer.TheVariants.{Sat, Unsat, Spent}
-use Rattle.sat_core.specs.Answers.{AreSatisfying, AreRefuting, IsWholeTrace, IsAnswer, IsEnd}
+use Rattle.sat_core.specs.Answers.{AreSatisfying, AreRefuting, IsWholeTrace, IsRightAnswer, IsEnd}
 use Rattle.sat_core.proofs.Hints.{has-map-negation}
 use Rattle.sat_core.proofs.Numbering.{is_numbered, numbered_more}
 use Rattle.sat_core.proofs.Walking.{up_to_has, up_to_from}
@@ -100,7 +100,7 @@ search_decided variables clauses t u steps l search quiet is sound = subst (λ (
   numbered = search.numbered;
   traced = search.traced;
   increasing = search.increasing;
-  quiet = λ level below. subst (λ (es : List Entry). IsQuiet t.clauses (literals_of es)) (sym (up_to-push level t.entries (entry_of l (t.level + 1) None) below)) (at_level level below);
+  quiet = λ level below. subst (λ (es : List Entry). IsQuiet t.clauses (literals_of es)) (sym (up_to-push level t.entries (entry_with l (t.level + 1) None) below)) (at_level level below);
 })
   where
     whole : up_to t.level t.entries ≡ t.entries
@@ -183,7 +183,7 @@ none_out variables [] all = refl
 none_out variables (x ∷ xs) all = ap (λ b. b || list_any (λ l. leb variables l.index) xs) (lt-leb variables x.index all.0) ∙ none_out variables xs all.1
 
 -- a step of the next number whose hints show it is accepted
-pub step_accepted : (variables : ℕ) (clauses : List (List Lit)) (clause : List Lit) (hints : List ℕ) → IsOver variables clause → has_pair clause ≡ false → refused_hint (numbered_from 1 clauses) (map negation clause) 1 hints ≡ None → step_refusal variables (length clauses) (numbered_from 1 clauses) (step_of (length clauses + 1) clause hints) ≡ None
+pub step_accepted : (variables : ℕ) (clauses : List (List Lit)) (clause : List Lit) (hints : List ℕ) → IsOver variables clause → has_pair clause ≡ false → refused_hint (numbered_from 1 clauses) (map negation clause) 1 hints ≡ None → step_refusal variables (length clauses) (numbered_from 1 clauses) (learnt_step (length clauses + 1) clause hints) ≡ None
 step_accepted variables clauses clause hints over no_pair shown =
     let a : leb (length clauses + 1) (length clauses) ≡ false = lt-leb (length clauses + 1) (length clauses) (omega arith) in
     let b : list_any (λ l. leb variables l.index) clause ≡ false = none_out variables clause (recursion_from_All (λ (l : Lit). l.index < variables) clause over) in
@@ -269,7 +269,7 @@ module _ (t : TrailState) (sound : IsSound t) (clause : List Lit) (hints : List 
           let one = one_level t.entries (apart_from t.variables t.clauses t.entries sound.stand) (negation second.0) (negation asserting.asserted) back t.level (ap (λ (l : Lit). l.index) e) second.2 asserting.last in
           omega (arith, one.1, asserting.below)
 
-  lesson_step : step_refusal t.variables (length t.clauses) (numbered_from 1 t.clauses) (step_of (length t.clauses + 1) clause hints) ≡ None
+  lesson_step : step_refusal t.variables (length t.clauses) (numbered_from 1 t.clauses) (learnt_step (length t.clauses + 1) clause hints) ≡ None
   lesson_step = step_accepted t.variables t.clauses clause hints lesson_over lesson_no_pair lesson.shown
 
 up_to-up_to : (low high : ℕ) (es : List Entry) → low ≤ high → up_to low (up_to high es) ≡ up_to low es
@@ -312,7 +312,7 @@ search_learnt variables clauses t u steps more search learnt sound above = subst
     back = learnt.back
 
     step : Step
-    step = step_of (length t.clauses + 1) clause hints
+    step = learnt_step (length t.clauses + 1) clause hints
 
     all_push : (cs : List (List Lit)) → AllByRecursion IsIncreasing cs → AllByRecursion IsIncreasing (cs ++ clause ∷ [])
     all_push [] all = (learnt.lesson.increasing, tt)
@@ -334,7 +334,7 @@ search_refuted variables clauses t steps log search refuted = subst (AreRefuting
 })
   where
     last : Step
-    last = step_of (length t.clauses + 1) [] refuted.hints
+    last = learnt_step (length t.clauses + 1) [] refuted.hints
 
     accepted : steps_refusal variables (length t.clauses) (numbered_from 1 t.clauses) (last ∷ []) ≡ None
     accepted = ap (λ (o : Option Refusal). first_of o None) (step_accepted variables t.clauses [] refuted.hints (All-nil (λ (l : Lit). l.index < variables)) refl refuted.shown)
@@ -342,9 +342,9 @@ search_refuted variables clauses t steps log search refuted = subst (AreRefuting
     ended : (ss : List Step) → end_refusal (ss ++ last ∷ []) ≡ None
     ended ss = ap (λ (b : Bool). cond b None (Some unfinished)) (found ss)
       where
-        found : (xs : List Step) → list_any (λ (s : Step). is_empty s.clause) (xs ++ last ∷ []) ≡ true
+        found : (xs : List Step) → list_any (λ (s : Step). is_empty_clause s.clause) (xs ++ last ∷ []) ≡ true
         found [] = refl
-        found (x ∷ xs) = or_right (is_empty x.clause) (list_any (λ (s : Step). is_empty s.clause) (xs ++ last ∷ [])) (found xs)
+        found (x ∷ xs) = or_right (is_empty_clause x.clause) (list_any (λ (s : Step). is_empty_clause s.clause) (xs ++ last ∷ [])) (found xs)
 
 pub search_spent : (variables : ℕ) (clauses : List (List Lit)) (t : TrailState) (steps : List Step) (budget : ℕ) (trace : List (List Lit)) → IsSearch variables clauses t steps → length steps ≡ budget → trace ≡ clauses_of steps → (ReachesFalse t.clauses [] → ⊥) → IsWholeTrace variables clauses budget trace
 search_spent variables clauses t steps budget trace search spent is none =
@@ -363,7 +363,7 @@ quiet_reaches clauses trues quiet (reached, reaches, some) =
     none_false_within clauses reached trues (reached_within clauses [] reached trues reaches (λ l h. absurd (false≢true h)) quiet) quiet some
 
 -- a literal is true under the assignment that was read off if it is set
-truths_true : (es : List Entry) (variables : ℕ) (truths : List Bool) → AreApart es → AreSet es variables → AreTruths es variables truths → (l : Lit) → l.index < variables → has (literals_of es) (negation l) ≡ false → is_true (assignment_of truths) l ≡ true
+truths_true : (es : List Entry) (variables : ℕ) (truths : List Bool) → AreApart es → AreSet es variables → AreVariableTruths es variables truths → (l : Lit) → l.index < variables → has (literals_of es) (negation l) ≡ false → is_true (assignment_of truths) l ≡ true
 truths_true es variables truths apart all read l below open' =
     let there : assignment_of truths l.index ≡ has (literals_of es) (record { index = l.index; positive = true }) = read_at truths l.index (has (literals_of es) (record { index = l.index; positive = true })) (read.each l.index below) in
     by_sign l.positive refl there
@@ -383,7 +383,7 @@ truths_true es variables truths apart all read l below open' =
     by_sign true s there = cond-true l.positive (assignment_of truths l.index) (not (assignment_of truths l.index)) s ∙ (there ∙ (ap (λ (b : Bool). has (literals_of es) (record { index = l.index; positive = b })) (sym s) ∙ set_true))
     by_sign false s there = cond-false l.positive (assignment_of truths l.index) (not (assignment_of truths l.index)) s ∙ ap not (there ∙ (ap (λ (b : Bool). has (literals_of es) (record { index = l.index; positive = not b })) (sym s) ∙ open'))
 
-pub quiet_met : (clauses : List (List Lit)) (es : List Entry) (variables : ℕ) (truths : List Bool) → AreApart es → AreSet es variables → AreTruths es variables truths → AllByRecursion (IsOver variables) clauses → ((clause : List Lit) → Contains clauses clause → IsFalse (literals_of es) clause → ⊥) → meets_all (assignment_of truths) clauses ≡ true
+pub quiet_met : (clauses : List (List Lit)) (es : List Entry) (variables : ℕ) (truths : List Bool) → AreApart es → AreSet es variables → AreVariableTruths es variables truths → AllByRecursion (IsOver variables) clauses → ((clause : List Lit) → Contains clauses clause → IsFalse (literals_of es) clause → ⊥) → meets_all (assignment_of truths) clauses ≡ true
 quiet_met [] es variables truths apart all read over none = refl
 quiet_met (c ∷ cs) es variables truths apart all read over none =
     and_from (meets (assignment_of truths) c) (meets_all (assignment_of truths) cs) (met c (recursion_from_All (λ (l : Lit). l.index < variables) c over.0) (none c (0, omega arith, refl))) (quiet_met cs es variables truths apart all read over.1 (λ d in' f. none d (suc in'.0, (let b = in'.1 in omega arith), in'.2) f))
@@ -396,13 +396,13 @@ quiet_met (c ∷ cs) es variables truths apart all read over none =
         by_test false f later n = or_left (is_true (assignment_of truths) x) (meets (assignment_of truths) xs) (truths_true es variables truths apart all read x over.0 f)
         by_test true f later n = or_right (is_true (assignment_of truths) x) (meets (assignment_of truths) xs) (later n)
 
-pub search_satisfied : (variables : ℕ) (clauses : List (List Lit)) (t : TrailState) (steps : List Step) (truths : List Bool) → IsSearch variables clauses t steps → All (IsOver variables) clauses → IsQuiet t.clauses (literals_of t.entries) → AreSet t.entries variables → AreTruths t.entries variables truths → AreSatisfying variables clauses truths
+pub search_satisfied : (variables : ℕ) (clauses : List (List Lit)) (t : TrailState) (steps : List Step) (truths : List Bool) → IsSearch variables clauses t steps → All (IsOver variables) clauses → IsQuiet t.clauses (literals_of t.entries) → AreSet t.entries variables → AreVariableTruths t.entries variables truths → AreSatisfying variables clauses truths
 search_satisfied variables clauses t steps truths search over quiet all read = record {
   one_each = read.all;
   all_met = quiet_met clauses t.entries variables truths (apart_from t.variables t.clauses t.entries search.sound.stand) all read (recursion_from_All (IsOver variables) clauses over) (λ c in' f. quiet.none_false (c, subst (λ (cs : List (List Lit)). Contains cs c) (sym search.stands) (Contains-append_left clauses (clauses_of steps) c in'), f));
 }
 
-pub search_ended : (variables : ℕ) (clauses : List (List Lit)) (t : TrailState) (steps : List Step) (budget : ℕ) → IsSearch variables clauses t steps → length steps ≡ budget → (answer : Answer) → IsEnd t.clauses steps answer → IsAnswer variables clauses budget answer
+pub search_ended : (variables : ℕ) (clauses : List (List Lit)) (t : TrailState) (steps : List Step) (budget : ℕ) → IsSearch variables clauses t steps → length steps ≡ budget → (answer : Answer) → IsEnd t.clauses steps answer → IsRightAnswer variables clauses budget answer
 search_ended variables clauses t steps budget search spent (Sat assignment) end' = absurd end'
 search_ended variables clauses t steps budget search spent (Unsat log) end' = search_refuted variables clauses t steps log search end'
 search_ended variables clauses t steps budget search spent (Spent trace) end' = search_spent variables clauses t steps budget trace search spent end'.0 end'.1
@@ -411,7 +411,7 @@ search_ended variables clauses t steps budget search spent (Spent trace) end' = 
 
 pub decided_longer : (t u w : TrailState) (l : Lit) → Propagates t u → w ≡ decided u l → length t.entries < length w.entries
 decided_longer t u w l grows is =
-    omega (arith, ap (λ (s : TrailState). length s.entries) is, length_push u.entries (entry_of l (u.level + 1) None), ap (λ (s : TrailState). length s.entries) grows.rest_stays, length-append t.entries grows.added)
+    omega (arith, ap (λ (s : TrailState). length s.entries) is, length_push u.entries (entry_with l (u.level + 1) None), ap (λ (s : TrailState). length s.entries) grows.rest_stays, length-append t.entries grows.added)
 
 pub less_unset : (a v len more : ℕ) → len < more → more ≤ v → a + (v - more) < a + (v - len)
 less_unset a v len more h k = omega arith
@@ -440,7 +440,7 @@ set_decided u w l n is all unset next index below = subst (λ (s : TrailState). 
 ])
   where
     e : Entry
-    e = entry_of l (u.level + 1) None
+    e = entry_with l (u.level + 1) None
 
 -- ---- the decisions
 
@@ -462,7 +462,7 @@ decisions_decided t u d n l sound are is all unset first more = record {
 }
   where
     below : (level f : ℕ) → level ≤ t.level → AreSet (up_to level t.entries) f → AreSet (up_to level u.entries) f
-    below level f low set = subst (λ (s : TrailState). AreSet (up_to level s.entries) f) (sym is) (subst (λ (es : List Entry). AreSet es f) (sym (up_to-push level t.entries (entry_of l (t.level + 1) None) (omega arith))) set)
+    below level f low set = subst (λ (s : TrailState). AreSet (up_to level s.entries) f) (sym is) (subst (λ (es : List Entry). AreSet es f) (sym (up_to-push level t.entries (entry_with l (t.level + 1) None) (omega arith))) set)
 
 pub decisions_learnt : (t u : TrailState) (d n : Decisions) (back : ℕ) (clause : List Lit) → AreDecisions t d → u ≡ with_clause (undone t back) clause → back < t.level → slice_get d.by_level.items u.level ≡ Some n.first → n.by_level.items ≡ take u.level d.by_level.items → AreDecisions u n
 decisions_learnt t u d n back clause are is below first fewer = record {

@@ -30,10 +30,10 @@ pub record IsWholeTrace (variables : ℕ) (clauses : List (List Lit)) (budget : 
   pub few : budget < 3 ^ variables
 
 -- the answer is right for the clauses over the variables, where so many clauses may be learnt
-abbrev pub IsAnswer : ℕ → List (List Lit) → ℕ → Answer → Type 0
-IsAnswer variables clauses budget (Sat assignment) = AreSatisfying variables clauses assignment.truths
-IsAnswer variables clauses budget (Unsat log) = AreRefuting variables clauses log.steps
-IsAnswer variables clauses budget (Spent trace) = IsWholeTrace variables clauses budget trace
+abbrev pub IsRightAnswer : ℕ → List (List Lit) → ℕ → Answer → Type 0
+IsRightAnswer variables clauses budget (Sat assignment) = AreSatisfying variables clauses assignment.truths
+IsRightAnswer variables clauses budget (Unsat log) = AreRefuting variables clauses log.steps
+IsRightAnswer variables clauses budget (Spent trace) = IsWholeTrace variables clauses budget trace
 
 -- how the search ends where no more may be learnt, behind the clauses of a trail
 abbrev pub IsEnd : List (List Lit) → List Step → Answer → Type 0

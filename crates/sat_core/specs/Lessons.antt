@@ -32,8 +32,8 @@ pub record IsLesson (t : TrailState) (clause : List Lit) (hints : List ℕ) (bac
   pub asserting : 0 < t.level → IsAsserting t clause back
 
 -- a step of a log
-abbrev pub step_of : ℕ → List Lit → List ℕ → Step
-step_of number clause hints = record { number = number; clause = clause; hints = hints }
+abbrev pub learnt_step : ℕ → List Lit → List ℕ → Step
+learnt_step number clause hints = record { number = number; clause = clause; hints = hints }
 
 -- the clauses of steps
 abbrev pub clauses_of : List Step → List (List Lit)
@@ -46,7 +46,7 @@ pub record HasLearnt (old : TrailState) (steps : List Step) (new : TrailState) (
   pub back : ℕ
   pub lesson : IsLesson old clause hints back
   pub trail_is : new ≡ with_clause (undone old back) clause
-  pub steps_are : more ≡ steps ++ step_of (length old.clauses + 1) clause hints ∷ []
+  pub steps_are : more ≡ steps ++ learnt_step (length old.clauses + 1) clause hints ∷ []
 
 -- a log of these steps and of one more with the empty clause, which hints show behind these clauses
 pub record IsRefuted (clauses : List (List Lit)) (steps : List Step) (log : Log) : Type 0 where
@@ -54,4 +54,4 @@ pub record IsRefuted (clauses : List (List Lit)) (steps : List Step) (log : Log)
   pub shown : refused_hint (numbered_from 1 clauses) [] 1 hints ≡ None
   pub few_hints : length hints + 1 < 2 ^ 32
   pub named : AreHints (length clauses) hints
-  pub steps_are : log.steps ≡ steps ++ step_of (length clauses + 1) [] hints ∷ []
+  pub steps_are : log.steps ≡ steps ++ learnt_step (length clauses + 1) [] hints ∷ []

@@ -2,7 +2,7 @@
 
 ghost use Rattle.std.specs.Prelude.{◌≡◌, ◌^◌, ◌<◌, false, length, take, slice_get, Some, MatchOption, IfOk};
 ghost use Rattle.sat_trail.specs.States.{TrailState, IsSound};
-ghost use Rattle.sat_core.specs.Choices.{AreSet, IsNext, AreDecisions, Decides, AreTruths};
+ghost use Rattle.sat_core.specs.Choices.{AreSet, IsNext, AreDecisions, Decides, AreVariableTruths};
 
 use clause_core::{Assignment, Literal};
 use sat_trail::Trail;
@@ -79,7 +79,7 @@ pub fn assignment_of(alloc: Global, trail: &Trail, variables: u32) -> Result<Ass
     requires usable { trail.now.broken ≡ false }
     requires variables { variables ≡ trail.now.variables }
     requires few { variables < 2 ^ 31 }
-    ensures { IfOk result (λ assignment. AreTruths trail.now.entries variables assignment.truths) }
+    ensures { IfOk result (λ assignment. AreVariableTruths trail.now.entries variables assignment.truths) }
 {
     let mut truths = Vec::new(alloc);
     for index in 0..variables {

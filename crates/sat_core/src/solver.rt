@@ -2,7 +2,7 @@
 
 ghost use Rattle.std.specs.Prelude.{◌≡◌, ◌+◌, ◌-◌, ◌^◌, ◌<◌, false, length, All, IfOk};
 ghost use Rattle.clause_core.specs.Clauses.{has_pair};
-ghost use Rattle.sat_core.specs.Answers.{IsAnswer, IsEnd};
+ghost use Rattle.sat_core.specs.Answers.{IsRightAnswer, IsEnd};
 ghost use Rattle.sat_core.specs.Lessons.{clauses_of};
 
 use crate::answers::Answer;
@@ -22,7 +22,7 @@ pub fn solve(alloc: Global, cnf: &Cnf, budget: u64) -> Result<Answer, NoMemory>
     requires no_tautology { All (λ clause. has_pair clause ≡ false) cnf.now.clauses }
     requires positive { 0 < budget }
     requires few { length cnf.now.clauses + budget < 2 ^ 32 - 1 }
-    ensures { IfOk result (IsAnswer cnf.now.variables cnf.now.clauses budget) }
+    ensures { IfOk result (IsRightAnswer cnf.now.variables cnf.now.clauses budget) }
 {
     let Ok(mut trail) = Trail::new(alloc, cnf) else {
         return Err(NoMemory);

@@ -1,5 +1,5 @@
 ghost use Rattle.std.specs.Prelude.{IfOk};
-ghost use Rattle.sat_core.specs.Answers.{IsAnswer};
+ghost use Rattle.sat_core.specs.Answers.{IsRightAnswer};
 
 use crate::traces::is_trace;
 use crate::{Answer, solve};
@@ -40,7 +40,7 @@ fn formula(variables: u32, clauses: Vec<Clause>) -> Result<Cnf, Fail> {
 
 /// The solver's answer, where the formula and the budget are small and no clause is a tautology.
 fn answer(alloc: Global, cnf: &Cnf, budget: u64) -> Result<Answer, Fail>
-    ensures { IfOk result (IsAnswer cnf.now.variables cnf.now.clauses budget) }
+    ensures { IfOk result (IsRightAnswer cnf.now.variables cnf.now.clauses budget) }
 {
     let clauses = cnf.clauses.as_slice();
     if clauses.len() > 1000 || budget == 0 || budget > 1000 {

@@ -9,8 +9,8 @@ use Rattle.sequence.proofs.Places.{split_at, slice_get-behind, slice_get_one, sl
 use Rattle.clause_core.specs.Literals.{Lit, negation, same, has, code_of}
 use Rattle.clause_core.proofs.Sets.{same_is, same_from, code_one, code_within}
 use Rattle.sat_trail.specs.declared.entries.Entry.{Entry}
-use Rattle.sat_trail.specs.Entries.{literals_of, place_from, place_of, value_of}
-use Rattle.sat_trail.specs.States.{IsTable, AreTruths}
+use Rattle.sat_trail.specs.Entries.{literals_of, place_from, place_of, truth_of}
+use Rattle.sat_trail.specs.States.{IsPlaceTable, AreTruths}
 
 -- ---- the place of a variable
 
@@ -97,11 +97,11 @@ one_entry es apart j k d e at_j at_k i =
     let j_is : j ≡ k = same_Some j k (sym (place_of_entry es j d (apart j d at_j) at_j) ∙ (ap (place_of es) i ∙ place_of_entry es k e (apart k e at_k) at_k)) in
     (j_is, slice_get_one es j d e at_j (ap (slice_get es) j_is ∙ at_k))
 
-pub value_unset : (es : List Entry) (l : Lit) → place_of es l.index ≡ None → value_of es l ≡ None
+pub value_unset : (es : List Entry) (l : Lit) → place_of es l.index ≡ None → truth_of es l ≡ None
 value_unset es l h =
     cond-false (has (literals_of es) l) (Some true) (cond (has (literals_of es) (negation l)) (Some false) None) (unset_has 0 es l h) ∙ cond-false (has (literals_of es) (negation l)) (Some false) None (unset_has 0 es (negation l) h)
 
-pub value_set : (es : List Entry) → AreApart es → (k : ℕ) (e : Entry) (l : Lit) → slice_get es k ≡ Some e → e.literal.index ≡ l.index → value_of es l ≡ Some (same e.literal l)
+pub value_set : (es : List Entry) → AreApart es → (k : ℕ) (e : Entry) (l : Lit) → slice_get es k ≡ Some e → e.literal.index ≡ l.index → truth_of es l ≡ Some (same e.literal l)
 value_set es apart k e l at is =
     elim (cases_Bool (same e.literal l)) [
       | inl t ↦ cond-true (has (literals_of es) l) (Some true) (cond (has (literals_of es) (negation l)) (Some false) None) (entry_has es k e l at (same_is e.literal l t)) ∙ ap Some (sym t)
@@ -151,10 +151,10 @@ few_entries es n apart below =
 
 -- ---- the table
 
-pub table_at : (variables : ℕ) (places : List (Option ℕ)) (es : List Entry) (i : ℕ) (o : Option ℕ) → IsTable variables places es → i < variables → o ≡ get_or places i o → place_of es i ≡ o
+pub table_at : (variables : ℕ) (places : List (Option ℕ)) (es : List Entry) (i : ℕ) (o : Option ℕ) → IsPlaceTable variables places es → i < variables → o ≡ get_or places i o → place_of es i ≡ o
 table_at variables places es i o table below is = sym (is ∙ get_or_from_slice_get places i (place_of es i) o (table.each i below))
 
-pub table_push : (variables : ℕ) (places : List (Option ℕ)) (es : List Entry) (e : Entry) → IsTable variables places es → e.literal.index < variables → place_of es e.literal.index ≡ None → IsTable variables (set places e.literal.index (Some (length es))) (es ++ e ∷ [])
+pub table_push : (variables : ℕ) (places : List (Option ℕ)) (es : List Entry) (e : Entry) → IsPlaceTable variables places es → e.literal.index < variables → place_of es e.literal.index ≡ None → IsPlaceTable variables (set places e.literal.index (Some (length es))) (es ++ e ∷ [])
 table_push variables places es e table below unset = record {
   all = length-set places e.literal.index (Some (length es)) ∙ table.all;
   each = λ i in'. elim (cases_eq i e.literal.index) [
@@ -170,7 +170,7 @@ table_push variables places es e table below unset = record {
         by_place None is = place_from-after 0 es (e ∷ []) i is ∙ place_elsewhere (0 + length es) e [] i (λ h. apart (sym h))
         by_place (Some p) is = place_from-front 0 es (e ∷ []) i p is
 
-pub table_pop : (variables : ℕ) (places : List (Option ℕ)) (es : List Entry) (e : Entry) → IsTable variables places (es ++ e ∷ []) → e.literal.index < variables → place_of es e.literal.index ≡ None → IsTable variables (set places e.literal.index None) es
+pub table_pop : (variables : ℕ) (places : List (Option ℕ)) (es : List Entry) (e : Entry) → IsPlaceTable variables places (es ++ e ∷ []) → e.literal.index < variables → place_of es e.literal.index ≡ None → IsPlaceTable variables (set places e.literal.index None) es
 table_pop variables places es e table below unset = record {
   all = length-set places e.literal.index None ∙ table.all;
   each = λ i in'. elim (cases_eq i e.literal.index) [

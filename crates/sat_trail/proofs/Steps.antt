@@ -13,8 +13,8 @@ use Rattle.clause_core.specs.Clauses.{IsIncreasing, in_order, IsOver, has_pair}
 use Rattle.clause_core.specs.Propagation.{not_false, IsFalse, IsUnit, IsQuiet}
 use Rattle.clause_core.proofs.Sets.{IsIncreasing-apart, same_from, one_increasing, IsIncreasing-in_order, has-in_order, has_from_Contains, Contains_from_has, same_is, code_within}
 use Rattle.sat_trail.specs.declared.entries.Entry.{Entry}
-use Rattle.sat_trail.specs.Entries.{literals_of, level_of, place_of, value_of, MayStand}
-use Rattle.sat_trail.specs.States.{started, IsTable, TrailState, IsSound, extended, up_to, Propagates, AreTruths}
+use Rattle.sat_trail.specs.Entries.{literals_of, level_of, place_of, truth_of, MayStand}
+use Rattle.sat_trail.specs.States.{started, IsPlaceTable, TrailState, IsSound, extended, up_to, Propagates, AreTruths}
 use Rattle.sat_trail.proofs.Places.{AreApart, place_found, value_set, entry_has, one_variable, table_pop}
 use Rattle.sat_trail.proofs.Soundness.{apart_from, stand_take, level_step, level_within, levels_rise, level_of-push, AllStand}
 
@@ -91,7 +91,7 @@ forced_may_stand t sound number clause l named unit =
       cause = (sound.level_reached, record { clause = clause; named = named; others_false = unit.others_false });
     }
 
-pub unassigned_unset : (es : List Entry) → AreApart es → (l : Lit) → value_of es l ≡ None → place_of es l.index ≡ None
+pub unassigned_unset : (es : List Entry) → AreApart es → (l : Lit) → truth_of es l ≡ None → place_of es l.index ≡ None
 unassigned_unset es apart l h = by_place (place_of es l.index) refl
   where
     by_place : (o : Option ℕ) → place_of es l.index ≡ o → o ≡ None
@@ -100,7 +100,7 @@ unassigned_unset es apart l h = by_place (place_of es l.index) refl
         let r = place_found 0 es l.index p e in
         absurd (none-some (same r.2.entry.literal l) (sym h ∙ value_set es apart r.0 r.2.entry l r.2.there r.2.is))
 
-pub decided_may_stand : (t : TrailState) → IsSound t → (l : Lit) → l.index < t.variables → value_of t.entries l ≡ None → MayStand t.variables t.clauses t.entries (record { literal = l; level = t.level + 1; reason = None })
+pub decided_may_stand : (t : TrailState) → IsSound t → (l : Lit) → l.index < t.variables → truth_of t.entries l ≡ None → MayStand t.variables t.clauses t.entries (record { literal = l; level = t.level + 1; reason = None })
 decided_may_stand t sound l below unassigned = record {
   over = below;
   unset = unassigned_unset t.entries (apart_from t.variables t.clauses t.entries sound.stand) l unassigned;
@@ -169,7 +169,7 @@ up_to-push level [] e h = cond-false (leb e.level level) (e ∷ []) [] (lt-leb e
 up_to-push level (x ∷ es) e h = ap (λ (xs : List Entry). cond (leb x.level level) (x ∷ xs) xs) (up_to-push level es e h)
 
 -- what a call that says whether a literal is true knows of it
-pub value_true : (es : List Entry) (l : Lit) → value_of es l ≡ Some true → has (literals_of es) l ≡ true
+pub value_true : (es : List Entry) (l : Lit) → truth_of es l ≡ Some true → has (literals_of es) l ≡ true
 value_true es l h = by_tests (has (literals_of es) l) (has (literals_of es) (negation l)) h
   where
     by_tests : (a b : Bool) → cond a (Some true) (cond b (Some false) None) ≡ Some true → a ≡ true
@@ -177,7 +177,7 @@ value_true es l h = by_tests (has (literals_of es) l) (has (literals_of es) (neg
     by_tests false true h = same_Some false true h
     by_tests false false h = absurd (none-some true h)
 
-pub value_not_true : (es : List Entry) (l : Lit) (o : Option Bool) → o ≡ value_of es l → (o ≡ Some true → ⊥) → has (literals_of es) l ≡ false
+pub value_not_true : (es : List Entry) (l : Lit) (o : Option Bool) → o ≡ truth_of es l → (o ≡ Some true → ⊥) → has (literals_of es) l ≡ false
 value_not_true es l o is n = by_tests (has (literals_of es) l) (has (literals_of es) (negation l)) (is)
   where
     by_tests : (a b : Bool) → o ≡ cond a (Some true) (cond b (Some false) None) → a ≡ false
@@ -192,11 +192,11 @@ pub record TakesBack (variables level : ℕ) (places : List (Option ℕ)) (start
   pub front : ys ≡ take (length ys) start
   pub shorter : length ys + 1 ≡ length es
   pub left : up_to level ys ≡ up_to level es
-  pub table : IsTable variables (set places e.literal.index None) ys
+  pub table : IsPlaceTable variables (set places e.literal.index None) ys
   pub unset : place_of ys e.literal.index ≡ None
   pub top : level ≤ level_of ys
 
-pub takes_back : (variables : ℕ) (clauses : List (List Lit)) (level : ℕ) (places : List (Option ℕ)) (start es ys : List Entry) (e : Entry) → AllStand variables clauses start → es ≡ take (length es) start → IsTable variables places es → es ≡ ys ++ e ∷ [] → level < e.level → TakesBack variables level places start es ys e
+pub takes_back : (variables : ℕ) (clauses : List (List Lit)) (level : ℕ) (places : List (Option ℕ)) (start es ys : List Entry) (e : Entry) → AllStand variables clauses start → es ≡ take (length es) start → IsPlaceTable variables places es → es ≡ ys ++ e ∷ [] → level < e.level → TakesBack variables level places start es ys e
 takes_back variables clauses level places start es ys e stand front table is above =
     let here : AllStand variables clauses es = subst (AllStand variables clauses) (sym front) (stand_take variables clauses start (length es) stand) in
     let at : slice_get es (length ys) ≡ Some e = ap (λ (xs : List Entry). slice_get xs (length ys)) is ∙ slice_get-behind ys e [] in
@@ -208,7 +208,7 @@ takes_back variables clauses level places start es ys e stand front table is abo
       front = sym before ∙ (ap (take (length ys)) front ∙ take-take (length ys) (length es) start (omega arith));
       shorter = n;
       left = sym (ap (up_to level) is ∙ up_to-push level ys e above);
-      table = table_pop variables places ys e (subst (IsTable variables places) is table) may.over may.unset;
+      table = table_pop variables places ys e (subst (IsPlaceTable variables places) is table) may.over may.unset;
       unset = may.unset;
       top = omega (arith, (level_step variables clauses ys e may).1);
     }
@@ -255,7 +255,7 @@ sound_started variables clauses few_variables few_clauses over none = record {
   level_reached = refl;
 }
 
-pub table_started : (variables : ℕ) (places : List (Option ℕ)) → places ≡ replicate variables None → IsTable variables places []
+pub table_started : (variables : ℕ) (places : List (Option ℕ)) → places ≡ replicate variables None → IsPlaceTable variables places []
 table_started variables places is = record {
   all = ap length is ∙ length-replicate variables None;
   each = λ i below. ap (λ (xs : List (Option ℕ)). slice_get xs i) is ∙ (slice_get-get_or (replicate variables None) i None (omega (arith, length-replicate {A = Option ℕ} variables None)) ∙ ap Some (get_or-replicate variables i None None below));

@@ -14,7 +14,7 @@ use Rattle.sat_trail.specs.declared.entries.Entry.{Entry}
 use Rattle.sat_trail.specs.declared.watches.Watch.{Watch}
 use Rattle.sat_trail.specs.declared.watches.Pair.{Pair}
 use Rattle.sat_trail.specs.declared.watches.Watches.{Watches}
-use Rattle.sat_trail.specs.Entries.{literals_of, place_of, entry_of, MayStand}
+use Rattle.sat_trail.specs.Entries.{literals_of, place_of, entry_with, MayStand}
 use Rattle.sat_trail.specs.States.{TrailState, IsSound, decided, with_clause, undone, up_to, Propagates, IsFalseAt}
 use Rattle.sat_trail.specs.Watching.{HasWatch, HasList, TakesOut, AddsWatch, DropsWatch, IsOf, IsPairOf, is_paired, IsPair, IsShort, IsExcused, AreWatched, IsVisit, AreDue, AreOthersFalse, CanForce, IsFalseBy, IsLater, IsBestOf, IsFree, AreFalseBetween}
 use Rattle.sat_trail.proofs.Places.{AreApart, has_entry, entry_has, one_entry, place_of_entry}
@@ -722,8 +722,8 @@ over_literal t sound number clause l named member = All-contains (λ m. m.index 
 pub force_over : (t : TrailState) → IsSound t → (number : ℕ) (l : Lit) → CanForce t number l → l.index < t.variables
 force_over t sound number l forced = over_literal t sound number forced.clause l forced.named forced.member
 
-pub force_stands : (t : TrailState) → IsSound t → (number : ℕ) (l : Lit) (level : ℕ) → CanForce t number l → has (literals_of t.entries) (negation l) ≡ false → has (literals_of t.entries) l ≡ false → level ≡ t.level → MayStand t.variables t.clauses t.entries (entry_of l level (Some number))
-force_stands t sound number l level forced free unset is = subst (λ n. MayStand t.variables t.clauses t.entries (entry_of l n (Some number))) (sym is) (forced_may_stand t sound number forced.clause l forced.named (record {
+pub force_stands : (t : TrailState) → IsSound t → (number : ℕ) (l : Lit) (level : ℕ) → CanForce t number l → has (literals_of t.entries) (negation l) ≡ false → has (literals_of t.entries) l ≡ false → level ≡ t.level → MayStand t.variables t.clauses t.entries (entry_with l level (Some number))
+force_stands t sound number l level forced free unset is = subst (λ n. MayStand t.variables t.clauses t.entries (entry_with l n (Some number))) (sym is) (forced_may_stand t sound number forced.clause l forced.named (record {
   others_false = one_not_false (literals_of t.entries) forced.clause l forced.increasing forced.member free forced.others;
   unassigned = unset;
 }))

@@ -6,8 +6,8 @@ use Rattle.clause_core.specs.Propagation.{not_false}
 use Rattle.sat_trail.specs.declared.entries.Entry.{Entry}
 
 -- a literal, the level at which it is set, and the number of its reason
-abbrev pub entry_of : Lit → ℕ → Option ℕ → Entry
-entry_of l level reason = record { literal = l; level = level; reason = reason }
+abbrev pub entry_with : Lit → ℕ → Option ℕ → Entry
+entry_with l level reason = record { literal = l; level = level; reason = reason }
 
 -- the literals that are set
 abbrev pub literals_of : List Entry → List Lit
@@ -32,8 +32,8 @@ abbrev pub place_of : List Entry → ℕ → Option ℕ
 place_of entries index = place_from 0 entries index
 
 -- the truth of a literal; none where its variable is unassigned
-abbrev pub value_of : List Entry → Lit → Option Bool
-value_of entries l =
+abbrev pub truth_of : List Entry → Lit → Option Bool
+truth_of entries l =
     cond (has (literals_of entries) l) (Some true) (cond (has (literals_of entries) (negation l)) (Some false) None)
 
 -- the clause of this number has the literal, and the entries make its other literals false

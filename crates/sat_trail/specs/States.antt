@@ -4,7 +4,7 @@ use Rattle.clause_core.specs.Literals.{Lit, has, code_of}
 use Rattle.clause_core.specs.Clauses.{IsOver, has_pair}
 use Rattle.clause_core.specs.Propagation.{IsFalse, IsQuiet}
 use Rattle.sat_trail.specs.declared.entries.Entry.{Entry}
-use Rattle.sat_trail.specs.Entries.{entry_of, literals_of, level_of, place_of, MayStand}
+use Rattle.sat_trail.specs.Entries.{entry_with, literals_of, level_of, place_of, MayStand}
 
 -- how many variables there are, the clauses by their numbers, the entries by their places, the present
 -- level, and whether memory ran out in a call
@@ -34,7 +34,7 @@ extended t e = record t { entries = t.entries ++ e ∷ []; level = e.level }
 
 -- the next level is opened with its literal
 abbrev pub decided : TrailState → Lit → TrailState
-decided t l = extended t (entry_of l (t.level + 1) None)
+decided t l = extended t (entry_with l (t.level + 1) None)
 
 -- the clause stands at the end
 abbrev pub with_clause : TrailState → List Lit → TrailState
@@ -71,7 +71,7 @@ abbrev pub HasEntry : TrailState → ℕ → Entry → Type 0
 HasEntry t place e = slice_get t.entries place ≡ Some e
 
 -- the table has the place of each variable's entry, by the variable's index
-pub record IsTable (variables : ℕ) (places : List (Option ℕ)) (entries : List Entry) : Type 0 where
+pub record IsPlaceTable (variables : ℕ) (places : List (Option ℕ)) (entries : List Entry) : Type 0 where
   pub all : length places ≡ variables
   pub each : (index : ℕ) → index < variables → slice_get places index ≡ Some (place_of entries index)
 

@@ -3,7 +3,7 @@
 ghost use Rattle.std.specs.Prelude.{◌≡◌, ◌↔◌, ◌+◌, ◌-◌, ◌^◌, ◌<◌, ◌≤◌, ℕ, true, false, length, List, [], ◌∷◌, ◌++◌, Some, None, IfOk, OnOk, OnErr, IfSome, IfNone, All, Contains, option_map, slice_get, position, take};
 ghost use Rattle.clause_core.specs.Literals.{has};
 ghost use Rattle.clause_core.specs.Clauses.{IsOver, has_pair};
-ghost use Rattle.sat_trail.specs.Entries.{entry_of, place_of, value_of, literals_of, MayStand};
+ghost use Rattle.sat_trail.specs.Entries.{entry_with, place_of, truth_of, literals_of, MayStand};
 ghost use Rattle.sat_trail.specs.States.{IsSound, started, extended, decided, with_clause, undone};
 
 use crate::entries::Entry;
@@ -29,13 +29,13 @@ pub struct Stack {
 
 impl Model for Stack {
     ghost use Rattle.std.specs.Prelude.{◌≡◌};
-    ghost use Rattle.sat_trail.specs.States.{TrailState, IsSound, IsTable, AreTruths};
+    ghost use Rattle.sat_trail.specs.States.{TrailState, IsSound, IsPlaceTable, AreTruths};
 
     ghost Value = { TrailState };
 
     ghost view = { λ t. record { variables = t.variables; clauses = t.clauses.items; entries = t.entries.items; level = t.level; broken = t.broken } };
 
-    ghost invariant = { λ t. IsSound (record { variables = t.variables; clauses = t.clauses.items; entries = t.entries.items; level = t.level; broken = t.broken }) × IsTable t.variables t.places.items t.entries.items × AreTruths t.variables t.truths.items t.entries.items };
+    ghost invariant = { λ t. IsSound (record { variables = t.variables; clauses = t.clauses.items; entries = t.entries.items; level = t.level; broken = t.broken }) × IsPlaceTable t.variables t.places.items t.entries.items × AreTruths t.variables t.truths.items t.entries.items };
 }
 
 impl Stack {
@@ -65,7 +65,7 @@ impl Stack {
     pub fn decide(&mut self, literal: Literal) -> Result<(), NoMemory>
         requires usable { self.old.broken ≡ false }
         requires over { literal.index < self.old.variables }
-        requires unassigned { value_of self.old.entries literal ≡ None }
+        requires unassigned { truth_of self.old.entries literal ≡ None }
         ensures ok { OnOk result (self.new ≡ decided self.old literal) }
         ensures sound { IsSound self.new }
         ensures err { OnErr result (self.new.broken ≡ true) }
@@ -116,7 +116,7 @@ impl Stack {
     pub fn value(&self, literal: Literal) -> Option<bool>
         requires usable { self.now.broken ≡ false }
         requires over { literal.index < self.now.variables }
-        ensures { result ≡ value_of self.now.entries literal }
+        ensures { result ≡ truth_of self.now.entries literal }
     {
         match self.places[literal.index()] {
             None => None,
@@ -199,8 +199,8 @@ impl Stack {
 
     /// Sets a literal at the next place. An `Err` says that memory ran out.
     pub fn set(&mut self, literal: Literal, level: u32, reason: Option<u32>) -> Result<(), NoMemory>
-        requires { MayStand self.old.variables self.old.clauses self.old.entries (entry_of literal level reason) }
-        ensures ok { OnOk result (self.new ≡ extended self.old (entry_of literal level reason)) }
+        requires { MayStand self.old.variables self.old.clauses self.old.entries (entry_with literal level reason) }
+        ensures ok { OnOk result (self.new ≡ extended self.old (entry_with literal level reason)) }
         ensures sound { IsSound self.new }
         ensures err { OnErr result (self.new.broken ≡ true) }
     {

@@ -3,7 +3,7 @@
 ghost use Rattle.std.specs.Prelude.{◌≡◌, ◌↔◌, ◌+◌, ◌-◌, ◌^◌, ◌<◌, ◌≤◌, ℕ, true, false, length, List, [], ◌∷◌, ◌++◌, Some, None, IfOk, OnOk, OnErr, IfSome, IfNone, All, Contains, option_map, slice_get, position, take};
 ghost use Rattle.clause_core.specs.Literals.{has};
 ghost use Rattle.clause_core.specs.Clauses.{IsOver, has_pair};
-ghost use Rattle.sat_trail.specs.Entries.{place_of, value_of, literals_of};
+ghost use Rattle.sat_trail.specs.Entries.{place_of, truth_of, literals_of};
 ghost use Rattle.sat_trail.specs.States.{IsSound, started, decided, with_clause, undone, Propagates, EndsWith};
 
 use crate::errors::TrailError;
@@ -56,7 +56,7 @@ impl Trail {
     pub fn decide(&mut self, literal: Literal) -> Result<(), NoMemory>
         requires usable { self.old.broken ≡ false }
         requires over { literal.index < self.old.variables }
-        requires unassigned { value_of self.old.entries literal ≡ None }
+        requires unassigned { truth_of self.old.entries literal ≡ None }
         ensures ok { OnOk result (self.new ≡ decided self.old literal) }
         ensures sound { IsSound self.new }
         ensures err { OnErr result (self.new.broken ≡ true) }
@@ -113,7 +113,7 @@ impl Trail {
     pub fn value(&self, literal: Literal) -> Option<bool>
         requires usable { self.now.broken ≡ false }
         requires over { literal.index < self.now.variables }
-        ensures { result ≡ value_of self.now.entries literal }
+        ensures { result ≡ truth_of self.now.entries literal }
     {
         self.stack.value(literal)
     }

@@ -2,7 +2,7 @@
 use Rattle.std.specs.Prelude.{ℕ, ◌+◌, ◌<◌, ◌≤◌, ◌^◌, ⊤, nat_le, ◌==◌, Bool, false, not, cond, ℤ, pos, nat_abs, List, [], ◌∷◌, ◌++◌, map}
 use Rattle.std.specs.Prelude.{filter, length, flat_map, find, filter_map, Option, Some, None, option_map}
 use Rattle.std.specs.List.{list_all}
-use Rattle.clause_core.specs.Literals.{Lit, number_of, literal_of}
+use Rattle.clause_core.specs.Literals.{Lit, signed_number_of, literal_of}
 use Rattle.clause_core.specs.Clauses.{in_order}
 use Rattle.sequence.specs.Options.{all_there}
 use Rattle.tsl_text.specs.Lines.{NumberedLine, lines_from}
@@ -53,18 +53,18 @@ ended_clauses literals (n ∷ ns) =
 -- what a line is with these literals and the words after them
 abbrev pub with_literals : ℕ → List Lit → List (List ℕ) → Line
 with_literals name literals words =
-    step_of_numbers name (option_map (λ ns. map number_of literals ++ ns) (all_there (map signed_number_in words)))
+    step_of_numbers name (option_map (λ ns. map signed_number_of literals ++ ns) (all_there (map signed_number_in words)))
 
 -- what a line is with these literals, a 0, these hints and the words after them
 abbrev pub with_hints : ℕ → List Lit → List ℕ → List (List ℕ) → Line
 with_hints name literals hints words =
-    step_of_numbers name (option_map (λ ns. map number_of literals ++ pos 0 ∷ (map pos hints ++ ns))
+    step_of_numbers name (option_map (λ ns. map signed_number_of literals ++ pos 0 ∷ (map pos hints ++ ns))
     (all_there (map signed_number_in words)))
 
 -- what a line is with these literals, a 0, these hints, a 0 and the words after them
 abbrev pub with_both : ℕ → List Lit → List ℕ → List (List ℕ) → Line
 with_both name literals hints words =
-    step_of_numbers name (option_map (λ ns. map number_of literals ++ pos 0 ∷ (map pos hints ++ pos 0 ∷ ns))
+    step_of_numbers name (option_map (λ ns. map signed_number_of literals ++ pos 0 ∷ (map pos hints ++ pos 0 ∷ ns))
     (all_there (map signed_number_in words)))
 
 -- whether words end a deletion, where the number before them was a 0 or not

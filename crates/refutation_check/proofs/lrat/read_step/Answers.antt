@@ -1,6 +1,6 @@
 use Rattle.std.proofs.Common.{◌≡◌, ◌<◌, [], true, map, All, sym, ap, ◌∙◌}
 use Rattle.std.specs.List.{list_all}
-use Rattle.clause_core.specs.Literals.{number_of}
+use Rattle.clause_core.specs.Literals.{signed_number_of}
 use Rattle.clause_core.specs.Clauses.{in_order}
 use Rattle.refutation_check.specs.declared.lrat.Line.TheVariants.{Says, Wrong}
 use Rattle.tsl_text.specs.Lines.{words}
@@ -33,7 +33,7 @@ returns-clause-value c =
     (rw c.in-Some.is at c.in_ok-rest.ensures.some) name in
     let second : with_hints name literals [] (words c.in-Some.rest.now) ≡ with_both name literals hints (words c.in-Some-2.rest.now) =
     (rw c.in-Some-2.is at c.in_ok-hints.ensures.some) name literals in
-    let all : list_all is_literal (map number_of literals) ≡ true = rw c.in-Some.is at c.in_ok-rest.ensures.literals in
+    let all : list_all is_literal (map signed_number_of literals) ≡ true = rw c.in-Some.is at c.in_ok-rest.ensures.literals in
     let positive : All (λ hint. 0 < hint) hints = rw c.in-Some-2.is at c.in_ok-hints.ensures.positive in
     let last : with_both name literals hints (words c.in-Some-2.rest.now)
     ≡ Says (record { number = name; clause = in_order literals; hints = hints }) =

@@ -2,7 +2,7 @@ use Rattle.std.proofs.Common.{◌≡◌, ◌+◌, ◌++◌, ◌∷◌, [], ℕ, 
 use Rattle.clause_core.specs.Literals.{Lit}
 use Rattle.clause_core.specs.Clauses.{IsOver, has_pair}
 use Rattle.sat_trail.specs.States.{TrailState, with_clause, undone}
-use Rattle.sat_core.specs.Lessons.{step_of}
+use Rattle.sat_core.specs.Lessons.{learnt_step}
 use Rattle.sat_core.proofs.Searching.{lesson_over, lesson_no_pair, copied}
 use Rattle.sat_core.proofs.lessons.learn.Goals as goal
 
@@ -33,5 +33,5 @@ returns-clause-learnt c =
       back = lesson.back;
       lesson = c.in_ok-lesson.ensures;
       trail_is = c.in_ok-number.ensures.ok ∙ (ap (λ (s : TrailState). with_clause s c.in_ok-clause_of.field-0) back ∙ ap (with_clause (undone t lesson.back)) copy);
-      steps_are = c.in_ok-push.ensures.items ∙ (ap (λ (n : ℕ). c.args.steps.now.items ++ step_of n lesson.clause c.from_vec.result ∷ []) number ∙ ap (λ (hs : List ℕ). c.args.steps.now.items ++ step_of (length t.clauses + 1) lesson.clause hs ∷ []) c.from_vec.ensures);
+      steps_are = c.in_ok-push.ensures.items ∙ (ap (λ (n : ℕ). c.args.steps.now.items ++ learnt_step n lesson.clause c.from_vec.result ∷ []) number ∙ ap (λ (hs : List ℕ). c.args.steps.now.items ++ learnt_step (length t.clauses + 1) lesson.clause hs ∷ []) c.from_vec.ensures);
     }

@@ -6,9 +6,9 @@ use Rattle.refutation_check.specs.declared.steps.Step.{Step}
 use Rattle.sat_trail.specs.Entries.{literals_of}
 use Rattle.sat_trail.specs.States.{TrailState, EndsWith}
 use Rattle.sat_trail.proofs.Soundness.{length_entries}
-use Rattle.sat_core.specs.Answers.{IsAnswer, IsEnd}
-use Rattle.sat_core.specs.Choices.{AreSet, AreTruths, HasDecided, Decides}
-use Rattle.sat_core.specs.Lessons.{step_of}
+use Rattle.sat_core.specs.Answers.{IsRightAnswer, IsEnd}
+use Rattle.sat_core.specs.Choices.{AreSet, AreVariableTruths, HasDecided, Decides}
+use Rattle.sat_core.specs.Lessons.{learnt_step}
 use Rattle.sat_core.proofs.Searching.{IsSearch, search_begins, search_propagated, search_decided, search_learnt, search_satisfied, search_refuted, search_ended, decisions_propagated, decisions_learnt, decided_longer, less_unset}
 use Rattle.sat_core.proofs.solver.solve.Goals as goal
 
@@ -30,7 +30,7 @@ returns-in_default-2 c =
     let search = search_propagated cnf.variables cnf.clauses c.loop-decisions.trail u c.loop-decisions.steps.items c.loop-decisions.invariant.search c.in_ok-conflict.ensures.ok c.in_ok-conflict.ensures.sound in
     let quiet : IsQuiet u.clauses (literals_of u.entries) = subst (λ (o : Option ℕ). EndsWith o u) c.in_default-2.is c.in_ok-conflict.ensures.ends in
     let all : Decides u w c.loop-decisions.decisions c.decide.new.self false = subst (Decides u w c.loop-decisions.decisions c.decide.new.self) c.if-branch.false c.in_ok-decide.ensures in
-    search_satisfied cnf.variables cnf.clauses u c.loop-decisions.steps.items c.in_ok-assignment.assignment.truths search cnf.over quiet (subst (AreSet u.entries) search.same_variables all.0) (subst (λ (s : TrailState). AreTruths s.entries cnf.variables c.in_ok-assignment.assignment.truths) all.1 c.in_ok-assignment.ensures)
+    search_satisfied cnf.variables cnf.clauses u c.loop-decisions.steps.items c.in_ok-assignment.assignment.truths search cnf.over quiet (subst (AreSet u.entries) search.same_variables all.0) (subst (λ (s : TrailState). AreVariableTruths s.entries cnf.variables c.in_ok-assignment.assignment.truths) all.1 c.in_ok-assignment.ensures)
 
 pub loop-decisions-preserved-then-branch : goal.loop-decisions-preserved-then-branch
 loop-decisions-preserved-then-branch c =
@@ -70,7 +70,7 @@ returns-then-len-budget c =
     let u = c.propagate.new.self in
     let search = search_propagated cnf.variables cnf.clauses c.loop-decisions.trail u c.loop-decisions.steps.items c.loop-decisions.invariant.search c.in_ok-conflict.ensures.ok c.in_ok-conflict.ensures.sound in
     let spent : length c.loop-decisions.steps.items ≡ c.args.budget = omega (arith, c.len-in-loop-decisions.ensures, c.if-len-budget.true, c.loop-decisions.steps.ok.0) in
-    IfOk-weaker c.end.result (IsEnd u.clauses c.loop-decisions.steps.items) (IsAnswer cnf.variables cnf.clauses c.args.budget) (search_ended cnf.variables cnf.clauses u c.loop-decisions.steps.items c.args.budget search spent) c.end.ensures
+    IfOk-weaker c.end.result (IsEnd u.clauses c.loop-decisions.steps.items) (IsRightAnswer cnf.variables cnf.clauses c.args.budget) (search_ended cnf.variables cnf.clauses u c.loop-decisions.steps.items c.args.budget search spent) c.end.ensures
 
 pub learn-requires-clause-quiet : goal.learn-requires-clause-quiet
 learn-requires-clause-quiet c =
@@ -87,5 +87,5 @@ loop-decisions-preserved c =
     record {
       search = search_learnt cnf.variables cnf.clauses u c.learn.new.trail c.loop-decisions.steps.items c.learn.new.steps.items search learnt c.in_ok-learn.ensures.sound (let h : 0 < u.level = omega (arith, c.level.ensures.value, c.if-level-eq0.false) in h);
       decisions = decisions_learnt u c.learn.new.trail c.loop-decisions.decisions c.undo_to.new.self learnt.back learnt.clause (decisions_propagated c.loop-decisions.trail u c.loop-decisions.decisions c.in_ok-conflict.ensures.ok c.loop-decisions.invariant.decisions) learnt.trail_is below (ap (slice_get c.loop-decisions.decisions.by_level.items) (sym c.level-in-loop-decisions.ensures.value) ∙ c.undo_to.ensures.first) (c.undo_to.ensures.by_level ∙ ap (λ (n : ℕ). take n c.loop-decisions.decisions.by_level.items) c.level-in-loop-decisions.ensures.value);
-      within = omega (arith, ap (λ (ss : List Step). length ss) learnt.steps_are, length_push c.loop-decisions.steps.items (step_of (length u.clauses + 1) learnt.clause learnt.hints), c.loop-decisions.invariant.within, c.len-in-loop-decisions.ensures, c.if-len-budget.false, c.loop-decisions.steps.ok.0);
+      within = omega (arith, ap (λ (ss : List Step). length ss) learnt.steps_are, length_push c.loop-decisions.steps.items (learnt_step (length u.clauses + 1) learnt.clause learnt.hints), c.loop-decisions.invariant.within, c.len-in-loop-decisions.ensures, c.if-len-budget.false, c.loop-decisions.steps.ok.0);
     }

@@ -1,5 +1,5 @@
 use Rattle.std.proofs.Common.{◌≡◌, ℕ, ◌+◌, None, sym, subst, ◌∙◌, arith}
-use Rattle.sat_trail.specs.Entries.{entry_of, MayStand}
+use Rattle.sat_trail.specs.Entries.{entry_with, MayStand}
 use Rattle.sat_trail.proofs.Soundness.{length_entries}
 use Rattle.sat_trail.proofs.Steps.{decided_may_stand}
 use Rattle.sat_trail.proofs.stack.Stack.decide.Goals as goal
@@ -13,4 +13,4 @@ overflow_add-level c =
 pub set-requires : goal.set-requires
 set-requires c =
     let t = c.args.self.now in
-    subst (λ (n : ℕ). MayStand t.variables t.clauses t.entries (entry_of c.args.literal (n + 1) None)) (sym c.level-level.ensures.value) (decided_may_stand t c.level-level.ensures.sound c.args.literal c.requires.over c.requires.unassigned)
+    subst (λ (n : ℕ). MayStand t.variables t.clauses t.entries (entry_with c.args.literal (n + 1) None)) (sym c.level-level.ensures.value) (decided_may_stand t c.level-level.ensures.sound c.args.literal c.requires.over c.requires.unassigned)

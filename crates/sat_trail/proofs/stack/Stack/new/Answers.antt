@@ -3,7 +3,7 @@ use Rattle.std.specs.Prelude.{position}
 use Rattle.clause_core.specs.Literals.{Lit}
 use Rattle.clause_core.specs.Clauses.{has_pair}
 use Rattle.sat_trail.specs.declared.entries.Entry.{Entry}
-use Rattle.sat_trail.specs.States.{IsSound, IsTable, AreTruths, started}
+use Rattle.sat_trail.specs.States.{IsSound, IsPlaceTable, AreTruths, started}
 use Rattle.sat_trail.proofs.Steps.{sound_started, table_started, truths_started}
 use Rattle.sat_trail.proofs.stack.Stack.new.Goals as goal
 
@@ -15,9 +15,9 @@ invariant_of-result c =
     let filled : c.in_ok-vec.field-0.items ≡ replicate cnf.variables None = search rules in
     let falses : c.in_ok-vec-2.field-0.items ≡ replicate (2 * cnf.variables) false = search rules in
     let sound : IsSound (started cnf.variables cnf.clauses) = sound_started cnf.variables cnf.clauses cnf.few c.requires cnf.over none in
-    let table : IsTable cnf.variables c.in_ok-vec.field-0.items [] = table_started cnf.variables c.in_ok-vec.field-0.items filled in (
+    let table : IsPlaceTable cnf.variables c.in_ok-vec.field-0.items [] = table_started cnf.variables c.in_ok-vec.field-0.items filled in (
       subst (λ (es : List Entry). IsSound (record { variables = cnf.variables; clauses = c.in_ok-copies.field-0.items; entries = es; level = 0; broken = false })) (sym c.new.ensures.items) (subst (λ (cs : List (List Lit)). IsSound (started cnf.variables cs)) (sym clauses) sound),
-      subst (IsTable cnf.variables c.in_ok-vec.field-0.items) (sym c.new.ensures.items) table,
+      subst (IsPlaceTable cnf.variables c.in_ok-vec.field-0.items) (sym c.new.ensures.items) table,
       subst (AreTruths cnf.variables c.in_ok-vec-2.field-0.items) (sym c.new.ensures.items) (truths_started cnf.variables c.in_ok-vec-2.field-0.items falses),
     )
 

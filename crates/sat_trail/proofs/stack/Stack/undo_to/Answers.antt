@@ -2,7 +2,7 @@ use Rattle.std.proofs.Common.{◌≡◌, ◌++◌, ◌∷◌, [], ◌-◌, ◌�
 use Rattle.sequence.proofs.Places.{last_split}
 use Rattle.sat_trail.specs.declared.entries.Entry.{Entry}
 use Rattle.sat_trail.specs.Entries.{level_of}
-use Rattle.sat_trail.specs.States.{TrailState, IsSound, IsTable, AreTruths, up_to, undone}
+use Rattle.sat_trail.specs.States.{TrailState, IsSound, IsPlaceTable, AreTruths, up_to, undone}
 use Rattle.sat_trail.proofs.Places.{truths_pop, code_inside}
 use Rattle.sat_trail.proofs.Soundness.{AllStand}
 use Rattle.sat_trail.proofs.Steps.{TakesBack, takes_back, left_is, top_some, top_none, state_same, sound_left}
@@ -49,7 +49,7 @@ loop-last-preserved c =
       front = t.front;
       left = t.left ∙ kept.left;
       truths = subst (λ (n : ℕ). AreTruths c.loop-last.self-inside.variables (set c.loop-last.self-inside.truths.items n false) c.pop.new.self.items) (sym c.code.ensures) (truths_pop c.loop-last.self-inside.variables c.loop-last.self-inside.truths.items c.pop.new.self.items c.in-Some.last (subst (AreTruths c.loop-last.self-inside.variables c.loop-last.self-inside.truths.items) (split (goal.at.loop-last-preserved c).After-index) kept.truths) t.below t.unset);
-      table = subst (λ (i : ℕ). IsTable c.loop-last.self-inside.variables (set c.loop-last.self-inside.places.items i None) c.pop.new.self.items) (sym c.index.ensures.value) t.table;
+      table = subst (λ (i : ℕ). IsPlaceTable c.loop-last.self-inside.variables (set c.loop-last.self-inside.places.items i None) c.pop.new.self.items) (sym c.index.ensures.value) t.table;
       top = λ _. t.top;
     }
 

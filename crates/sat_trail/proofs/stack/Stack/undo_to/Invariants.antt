@@ -1,6 +1,6 @@
 use Rattle.std.proofs.Common.{◌≡◌, ◌<◌, ◌≤◌, length, take}
 use Rattle.sat_trail.specs.Entries.{level_of}
-use Rattle.sat_trail.specs.States.{up_to, IsTable, AreTruths}
+use Rattle.sat_trail.specs.States.{up_to, IsPlaceTable, AreTruths}
 use Rattle.sat_trail.proofs.stack.Stack.undo_to.Given as goal
 
 abbrev pub invariant-loop-last : goal.invariant-loop-last
@@ -13,7 +13,7 @@ invariant-loop-last l = record {
   front : l.self-inside.entries.items ≡ take (length l.self-inside.entries.items) l.initial.self-inside.entries.items;
   left : up_to l.level l.self-inside.entries.items ≡ up_to l.level l.initial.self-inside.entries.items;
   truths : AreTruths l.self-inside.variables l.self-inside.truths.items l.self-inside.entries.items;
-  table : IsTable l.self-inside.variables l.self-inside.places.items l.self-inside.entries.items;
+  table : IsPlaceTable l.self-inside.variables l.self-inside.places.items l.self-inside.entries.items;
   top : length l.self-inside.entries.items < length l.initial.self-inside.entries.items → l.level ≤ level_of l.self-inside.entries.items;
 }
 

@@ -3,13 +3,13 @@ use Rattle.std.proofs.lemmas.Option.{slice_get_within, slice_get_read}
 use Rattle.sequence.proofs.Places.{slice_get_one}
 use Rattle.clause_core.specs.Literals.{same}
 use Rattle.sat_trail.specs.declared.entries.Entry.{Entry}
-use Rattle.sat_trail.specs.Entries.{value_of}
-use Rattle.sat_trail.specs.States.{TrailState, IsTable}
+use Rattle.sat_trail.specs.Entries.{truth_of}
+use Rattle.sat_trail.specs.States.{TrailState, IsPlaceTable}
 use Rattle.sat_trail.proofs.Places.{Stands, place_found, table_at, value_unset, value_set}
 use Rattle.sat_trail.proofs.Soundness.{apart_from}
 use Rattle.sat_trail.proofs.stack.Stack.value.Goals as goal
 
-found : (variables : ℕ) (places : List (Option ℕ)) (es : List Entry) (i place j : ℕ) (o : Option ℕ) → IsTable variables places es → i < variables → o ≡ get_or places j o → j ≡ i → o ≡ Some place → Stands es place i
+found : (variables : ℕ) (places : List (Option ℕ)) (es : List Entry) (i place j : ℕ) (o : Option ℕ) → IsPlaceTable variables places es → i < variables → o ≡ get_or places j o → j ≡ i → o ≡ Some place → Stands es place i
 found variables places es i place j o table below read j_is is =
     let r = place_found 0 es i place (table_at variables places es i o table below (read ∙ ap (λ k. get_or places k o) j_is) ∙ is) in
     let e : place ≡ r.0 = omega (arith, r.1) in
@@ -26,7 +26,7 @@ index-requires-in-Some c =
 pub returns-in-None : goal.returns-in-None
 returns-in-None c =
     let unset = table_at c.self.inside.variables c.self.inside.places.items c.self.inside.entries.items c.args.literal.index c.index-2.result.now c.self.invariant.1 (below c.self.inside.variables c.args.self.now.variables c.args.literal.index (ap (λ (t : TrailState). t.variables) c.self.view_is) c.requires.over) (c.index-2.ensures ∙ ap (λ (i : ℕ). get_or c.self.inside.places.items i c.index-2.result.now) c.index.ensures.value) in
-    sym (ap (λ (t : TrailState). value_of t.entries c.args.literal) (sym c.self.view_is) ∙ value_unset c.self.inside.entries.items c.args.literal (unset ∙ c.in-None.is))
+    sym (ap (λ (t : TrailState). truth_of t.entries c.args.literal) (sym c.self.view_is) ∙ value_unset c.self.inside.entries.items c.args.literal (unset ∙ c.in-None.is))
 
 pub returns-in-Some : goal.returns-in-Some
 returns-in-Some c =
@@ -35,4 +35,4 @@ returns-in-Some c =
     let within = slice_get_within es c.in-Some.place f.entry f.there in
     let e = slice_get_one es c.in-Some.place f.entry c.index-in-Some.result.now f.there (slice_get_read es (length es) c.in-Some.place c.index-in-Some.result.now refl within c.index-in-Some.ensures) in
     let set = value_set es (apart_from c.self.inside.variables c.self.inside.clauses.items es c.self.invariant.0.stand) c.in-Some.place f.entry c.args.literal f.there f.is in
-    ap Some (c.eq.ensures ∙ ap (λ (d : Entry). same d.literal c.args.literal) (sym e)) ∙ sym (ap (λ (t : TrailState). value_of t.entries c.args.literal) (sym c.self.view_is) ∙ set)
+    ap Some (c.eq.ensures ∙ ap (λ (d : Entry). same d.literal c.args.literal) (sym e)) ∙ sym (ap (λ (t : TrailState). truth_of t.entries c.args.literal) (sym c.self.view_is) ∙ set)
