@@ -15,6 +15,7 @@ use Rattle.refutation_check.specs.DataLines.{words_beside, data_lines}
 use Rattle.tsl_text.specs.Numbers.{signed_number_in}
 use Rattle.refutation_check.specs.Numbers.{is_zero}
 use Rattle.sequence.specs.Options.{passes}
+use Rattle.refutation_check.specs.declared.dimacs.TheConstants.{MOST_VARIABLES, MOST_CLAUSES}
 use Rattle.refutation_check.specs.CnfText.{is_cnf, form_at, too_many_variables, too_many_clauses, header, means, with_zeros, is_right}
 use Rattle.refutation_check.specs.CnfText.{first_wrong, numbers_of, clauses_of_numbers, answer_of_words, answer_of_header, cnf_answer_of_lines}
 use Rattle.refutation_check.specs.CnfText.{cnf_answer}
@@ -185,7 +186,7 @@ clauses_are count ns e =
 pub cnf_is : (text : List ℕ) (line : NumberedLine) (behind : List NumberedLine) (counts : Counts) (ended : ℕ) (words' : List (ℕ × List ℕ))
     (clauses : List (List Lit)) → data_lines text ≡ line ∷ behind → Some counts ≡ header (words line.bytes) →
     words' ≡ flat_map words_beside behind → first_wrong counts words' ≡ None → ended ≡ count_by is_zero (numbers_of words') →
-    counts.clauses ≤ ended → counts.variables ≤ 1048576 → counts.clauses ≤ 2000000 → clauses ≡ ended_clauses [] (numbers_of words') →
+    counts.clauses ≤ ended → counts.variables ≤ MOST_VARIABLES → counts.clauses ≤ MOST_CLAUSES → clauses ≡ ended_clauses [] (numbers_of words') →
     cnf_answer text ≡ is_cnf counts.variables clauses
 cnf_is text line behind counts ended words' clauses first head same right passed all variables few is =
     ap (cnf_answer_of_lines after) first
@@ -193,14 +194,14 @@ cnf_is text line behind counts ended words' clauses first head same right passed
     ∙ (ap (λ ws. answer_of_words after counts ws (first_wrong counts ws)) (sym same)
     ∙ (ap (answer_of_words after counts words') right
     ∙ (cond-false (ltb (count_by is_zero ns) counts.clauses) (form_at after)
-    (cond (ltb 1048576 counts.variables) too_many_variables
-    (cond (ltb 2000000 counts.clauses) too_many_clauses (is_cnf counts.variables (clauses_of_numbers counts.clauses ns))))
+    (cond (ltb MOST_VARIABLES counts.variables) too_many_variables
+    (cond (ltb MOST_CLAUSES counts.clauses) too_many_clauses (is_cnf counts.variables (clauses_of_numbers counts.clauses ns))))
     (not_below (count_by is_zero ns) counts.clauses (omega (arith, all, passed)))
-    ∙ (cond-false (ltb 1048576 counts.variables) too_many_variables
-    (cond (ltb 2000000 counts.clauses) too_many_clauses (is_cnf counts.variables (clauses_of_numbers counts.clauses ns)))
-    (not_below 1048576 counts.variables variables)
-    ∙ (cond-false (ltb 2000000 counts.clauses) too_many_clauses (is_cnf counts.variables (clauses_of_numbers counts.clauses ns))
-    (not_below 2000000 counts.clauses few)
+    ∙ (cond-false (ltb MOST_VARIABLES counts.variables) too_many_variables
+    (cond (ltb MOST_CLAUSES counts.clauses) too_many_clauses (is_cnf counts.variables (clauses_of_numbers counts.clauses ns)))
+    (not_below MOST_VARIABLES counts.variables variables)
+    ∙ (cond-false (ltb MOST_CLAUSES counts.clauses) too_many_clauses (is_cnf counts.variables (clauses_of_numbers counts.clauses ns))
+    (not_below MOST_CLAUSES counts.clauses few)
     ∙ ap (is_cnf counts.variables) (clauses_are counts.clauses ns exact ∙ sym is)))))))
   where
     after : ℕ

@@ -1,6 +1,7 @@
 -- The definitions on cases that were worked by hand: what they accept, and what they refuse.
 use Rattle.std.proofs.Common.{◌≡◌, ℕ, List, [], ◌∷◌, pos, negsuc, Some, None, true, false, refl}
 use Rattle.std.specs.Prelude.{codes}
+use Rattle.refutation_check.specs.declared.dimacs.TheConstants.{MOST_VARIABLES, MOST_CLAUSES}
 use Rattle.clause_core.specs.Literals.{Lit, literal_of}
 use Rattle.refutation_check.specs.declared.steps.Step.{Step}
 use Rattle.refutation_check.specs.DataLines.{data_lines}
@@ -72,6 +73,13 @@ past_clauses = refl
 
 wrong_word : cnf_answer (codes "p cnf 2 1\n1x 0\n") ≡ form_at 2
 wrong_word = refl
+
+-- the limits in numbers
+most_variables : MOST_VARIABLES ≡ 1048576
+most_variables = refl
+
+most_clauses : MOST_CLAUSES ≡ 2000000
+most_clauses = refl
 
 many_variables : cnf_answer (codes "p cnf 1048577 2000001\n") ≡ form_at 2
 many_variables = refl

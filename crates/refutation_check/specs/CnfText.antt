@@ -6,6 +6,7 @@ use Rattle.clause_core.specs.Literals.{Lit, literal_of}
 use Rattle.clause_core.specs.Clauses.{in_order}
 use Rattle.refutation_check.specs.declared.dimacs.Counts.{Counts}
 use Rattle.sequence.specs.Options.{passes}
+use Rattle.refutation_check.specs.declared.dimacs.TheConstants.{MOST_VARIABLES, MOST_CLAUSES}
 use Rattle.tsl_text.specs.Lines.{NumberedLine, lines, words}
 use Rattle.tsl_text.specs.Numbers.{number_in, signed_number_in}
 use Rattle.refutation_check.specs.DataLines.{data_lines, words_beside}
@@ -56,8 +57,8 @@ clauses_of_numbers count numbers = map (λ part. in_order (map literal_of part))
 abbrev pub answer_of_numbers : ℕ → Counts → List ℤ → CnfAnswer
 answer_of_numbers after counts numbers =
     cond (nat_lt (count_by is_zero numbers) counts.clauses) (form_at after)
-    (cond (nat_lt 1048576 counts.variables) too_many_variables
-    (cond (nat_lt 2000000 counts.clauses) too_many_clauses
+    (cond (nat_lt MOST_VARIABLES counts.variables) too_many_variables
+    (cond (nat_lt MOST_CLAUSES counts.clauses) too_many_clauses
     (is_cnf counts.variables (clauses_of_numbers counts.clauses numbers))))
 
 abbrev pub answer_of_words : ℕ → Counts → List (ℕ × List ℕ) → Option (ℕ × (ℕ × List ℕ)) → CnfAnswer

@@ -17,6 +17,12 @@ use std::alloc::Global;
 use thiserror::Error;
 use tsl_text::{Line, Lines, first_line, first_word, line_count, lines_of, number_in};
 
+/// How many variables a formula may have.
+pub const MOST_VARIABLES: u64 = 1_048_576;
+
+/// How many clauses a formula may have.
+pub const MOST_CLAUSES: u64 = 2_000_000;
+
 /// Why a text is no formula.
 #[derive(Debug, Drop, Error)]
 pub enum CnfError {
@@ -93,9 +99,9 @@ pub fn read_dimacs(alloc: Global, text: &[u8]) -> Result<Cnf, CnfError>
         Ok(ended) => {
             if ended < counts.clauses {
                 Err(CnfError::Form(after))
-            } else if counts.variables > 1_048_576 {
+            } else if counts.variables > MOST_VARIABLES {
                 Err(CnfError::Variables)
-            } else if counts.clauses > 2_000_000 {
+            } else if counts.clauses > MOST_CLAUSES {
                 Err(CnfError::Clauses)
             } else {
                 let variables = counts.variables as u32;

@@ -20,7 +20,7 @@ mod numbers;
 mod steps;
 
 pub use checker::{LogError, check};
-pub use dimacs::{CnfError, read_dimacs};
+pub use dimacs::{CnfError, MOST_CLAUSES, MOST_VARIABLES, read_dimacs};
 pub use laws::accepted_logs_refute;
 pub use lrat::{LogTextError, read_lrat};
 pub use steps::{Log, Step};

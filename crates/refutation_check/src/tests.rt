@@ -129,6 +129,13 @@ fn a_missing_clause_is_named_by_the_line_after_the_last(rt: HostRuntime) -> Resu
 }
 
 #[test]
+fn the_limits_of_a_formula_are_those_of_its_form(rt: HostRuntime) -> Result<(), Fail> {
+    assert_eq!(rt; MOST_VARIABLES, 1_048_576);
+    assert_eq!(rt; MOST_CLAUSES, 2_000_000);
+    Ok(())
+}
+
+#[test]
 fn a_formula_has_at_most_1048576_variables(rt: HostRuntime) -> Result<(), Fail> {
     let Ok(cnf) = formula(rt.alloc(), "p cnf 1048576 1\n-1048576 0\n")? else {
         return Err("refused".into());

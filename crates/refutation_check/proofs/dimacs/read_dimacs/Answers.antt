@@ -17,4 +17,4 @@ returns-in_ok-clauses-in-Ok-clause-ok c =
     cnf_is c.args.text.now (line_view first) (data_lines_from (first.number + 1) left.text.now) c.in-Some-header.counts c.in-Ok.ended
     (words_left rest.line.now rest.number rest.text.now) c.from_vec.result c.in-Some.ensures.some (sym c.in-Some-header.is
     ∙ c.header.ensures) c.after_line-rest.ensures.left c.in-Ok.ensures.right c.in-Ok.ensures.ended c.if-ended-counts.false
-    c.if-counts-gt1048576.false c.if-counts-gt2000000.false (c.from_vec.ensures ∙ c.in_ok-clauses-in-Ok.ensures.value)
+    c.if-counts-gt-MOST_VARIABLES.false c.if-counts-gt-MOST_CLAUSES.false (c.from_vec.ensures ∙ c.in_ok-clauses-in-Ok.ensures.value)
