@@ -1,4 +1,6 @@
-use crate::{CnfError, LogError, LogTextError, check, read_dimacs, read_lrat};
+use crate::{
+    CnfError, LogError, LogTextError, MOST_CLAUSES, MOST_VARIABLES, check, read_dimacs, read_lrat,
+};
 use clause_core::Cnf;
 use std::alloc::Global;
 use std::test::Fail;

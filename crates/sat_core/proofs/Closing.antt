@@ -8,7 +8,7 @@ use Rattle.clause_core.specs.Propagation.{IsUnit, Reaches, SomeFalse, IsQuiet, R
 use Rattle.clause_core.specs.Propagation.Reaches.{done, turn}
 use Rattle.clause_core.proofs.Sets.{same_from, any_from_has, any_has}
 use Rattle.clause_core.proofs.Semantics.{reached_within, none_false_within}
-use Rattle.sat_trail.proofs.Steps.{not_false_has, has_not_false, has_one}
+use Rattle.sat_trail.proofs.TrailSteps.{not_false_has, has_not_false, has_one}
 
 -- ---- what is reached
 

@@ -6,7 +6,7 @@ use Rattle.std.proofs.lemmas.Bool.{true≢false, false≢true, or_cases, or_left
 use Rattle.std.proofs.lemmas.List.{length-map}
 use Rattle.std.proofs.lemmas.List.Elements.{Contains-append_left, Contains-append_right, All-contains}
 use Rattle.std.proofs.lemmas.Map.Steps.{length-le_from_distinct_below}
-use Rattle.sat_trail.proofs.Steps.{one_not_false, none_not_false}
+use Rattle.sat_trail.proofs.TrailSteps.{one_not_false, none_not_false}
 use Rattle.clause_core.specs.Literals.{Lit, negation, same, has}
 use Rattle.clause_core.specs.Clauses.{IsIncreasing, IsOver, has_pair}
 use Rattle.clause_core.specs.Propagation.{not_false, IsLearnt, IsTrace}

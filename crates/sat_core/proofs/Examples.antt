@@ -11,12 +11,12 @@ use Rattle.clause_core.proofs.Sets.{IsIncreasing-in_order}
 use Rattle.clause_core.proofs.Semantics.{reached_within, none_false_within}
 use Rattle.sat_trail.specs.declared.entries.Entry.{Entry}
 use Rattle.sat_trail.specs.Entries.{entry_with}
-use Rattle.sat_trail.proofs.Steps.{IsOpen, open_two, open_true, quiet_from}
+use Rattle.sat_trail.proofs.TrailSteps.{IsOpen, open_two, open_true, quiet_from}
 use Rattle.refutation_check.specs.declared.steps.Step.{Step}
-use Rattle.sat_core.proofs.Numbering.{is_numbered}
-use Rattle.sat_core.specs.Lessons.{learnt_step}
+use Rattle.sat_core.proofs.LogNumbers.{is_numbered}
+use Rattle.sat_core.specs.internal.Lessons.{learnt_step}
 use Rattle.sat_core.specs.declared.marks.Marks.{Marks}
-use Rattle.sat_core.specs.Walks.{is_marked, count_at, is_of_clause, AreMarks, replacement_of}
+use Rattle.sat_core.specs.internal.ConflictWalks.{is_marked, count_at, is_of_clause, AreMarks, replacement_of}
 use Rattle.sat_core.specs.Answers.{AreSatisfying, AreRefuting, IsWholeTrace}
 use Rattle.sat_core.proofs.Counting.{word, not_within}
 use Rattle.sat_core.proofs.Searching.{quiet_reaches}

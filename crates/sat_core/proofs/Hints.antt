@@ -9,11 +9,11 @@ use Rattle.clause_core.proofs.Sets.{same_is, same_from, negation-negation, negat
 use Rattle.sat_trail.specs.declared.entries.Entry.{Entry}
 use Rattle.sat_trail.specs.Entries.{literals_of, place_of}
 use Rattle.sat_trail.specs.States.{TrailState}
-use Rattle.sat_trail.proofs.Steps.{has_not_false, has_one}
+use Rattle.sat_trail.proofs.TrailSteps.{has_not_false, has_one}
 use Rattle.sat_trail.proofs.Places.{AreApart, place_of_entry, has_entry, entry_has, one_entry}
 use Rattle.refutation_check.specs.Checking.{numbered_from, clause_named, effect_of_open, effect_of_named, led_to, refused_hint}
 use Rattle.refutation_check.specs.Checking.Effect.{makes, shows_nothing}
-use Rattle.sat_core.specs.Walks.{is_of_clause, Carries, Shows}
+use Rattle.sat_core.specs.internal.ConflictWalks.{is_of_clause, Carries, Shows}
 use Rattle.sat_core.proofs.Marking.{is_of_clause_has}
 
 -- ---- clauses by the numbers of a log

@@ -6,4 +6,4 @@ pub mod Counting
 pub mod Searching
 pub mod Closing
 mod Examples
-pub mod Numbering
+pub mod LogNumbers

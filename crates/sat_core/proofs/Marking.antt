@@ -15,7 +15,7 @@ use Rattle.sat_trail.proofs.Places.{place_found}
 use Rattle.sat_trail.specs.States.{TrailState, IsSound}
 use Rattle.sat_trail.proofs.Soundness.{length_entries}
 use Rattle.sat_core.specs.declared.marks.Marks.{Marks}
-use Rattle.sat_core.specs.Walks.{is_marked, count_from, count_at, stands_at, is_of_clause, AreMarks}
+use Rattle.sat_core.specs.internal.ConflictWalks.{is_marked, count_from, count_at, stands_at, is_of_clause, AreMarks}
 
 -- what one entry counts
 abbrev pub one_at : ℕ → Bool → Entry → ℕ

@@ -7,6 +7,8 @@ use Rattle.std.proofs.lemmas.Option.{none-some, same_Some, slice_get_within}
 use Rattle.std.proofs.lemmas.List.{append_assoc, append-nil, map-append, length-append, length_push, length-map, length-take-le}
 use Rattle.std.proofs.lemmas.List.Elements.{All-push, All-nil, All-from_recursion, recursion_from_All, Contains-append_cases, Contains-append_left}
 use Rattle.sequence.proofs.Places.{slice_get_push, slice_get-take}
+use Rattle.sat_core.specs.internal.Ends.{IsEnd}
+use Rattle.sat_core.specs.internal.Hints.{AreHints}
 use Rattle.clause_core.specs.Literals.{Lit, negation, same, has}
 use Rattle.clause_core.specs.Clauses.{IsIncreasing, in_order, IsOver, has_pair, is_true, meets, meets_all, assignment_of}
 use Rattle.clause_core.specs.Propagation.{not_false, IsFalse, IsQuiet, ReachesFalse, IsLearnt, IsNotFound, IsTrace}
@@ -18,22 +20,22 @@ use Rattle.sat_trail.specs.Entries.{literals_of, place_of, entry_with}
 use Rattle.sat_trail.specs.States.{TrailState, IsSound, started, decided, with_clause, undone, up_to, Propagates}
 use Rattle.sat_trail.proofs.Places.{AreApart, place_from-front, place_from-after, place_here, has_entry, one_entry}
 use Rattle.sat_trail.proofs.Soundness.{apart_from, level_within}
-use Rattle.sat_trail.proofs.Steps.{up_to_all, up_to-push, unset_from, has_not_false, has_one}
+use Rattle.sat_trail.proofs.TrailSteps.{up_to_all, up_to-push, unset_from, has_not_false, has_one}
 use Rattle.refutation_check.specs.declared.steps.Step.{Step}
 use Rattle.refutation_check.specs.declared.steps.Log.{Log}
 use Rattle.refutation_check.specs.Checking.{Numbered, numbered_from, clause_named, effect_of_open, effect_of_named, led_to, refused_hint, Refusal, step_refusal, first_of, steps_refusal, is_empty_clause, end_refusal, HaveFewHints}
 use Rattle.refutation_check.specs.Checking.Effect.{makes, shows_nothing}
 use Rattle.refutation_check.specs.Checking.Refusal.{at_line, at_hint, unfinished}
-use Rattle.sat_core.specs.Levels.{IsSetAt, AreQuietBelow}
-use Rattle.sat_core.specs.Numbering.{AreHints, AreNumbered}
-use Rattle.sat_core.specs.Lessons.{IsAsserting, IsLesson, learnt_step, clauses_of, HasLearnt, IsRefuted}
+use Rattle.sat_core.specs.internal.Levels.{IsSetAt, AreQuietBelow}
+use Rattle.sat_core.specs.LogNumbers.{AreNumbered}
+use Rattle.sat_core.specs.internal.Lessons.{IsAsserting, IsLesson, learnt_step, clauses_of, HasLearnt, IsRefuted}
 use Rattle.sat_core.specs.declared.choices.Decisions.{Decisions}
-use Rattle.sat_core.specs.Choices.{AreSet, AreDecisions, AreVariableTruths}
+use Rattle.sat_core.specs.internal.Decisions.{AreSet, AreDecisions, AreVariableTruths}
 use Rattle.sat_core.specs.declared.answers.Answer.{Answer}
 use Rattle.sat_core.specs.declared.answers.Answer.TheVariants.{Sat, Unsat, Spent}
-use Rattle.sat_core.specs.Answers.{AreSatisfying, AreRefuting, IsWholeTrace, IsRightAnswer, IsEnd}
+use Rattle.sat_core.specs.Answers.{AreSatisfying, AreRefuting, IsWholeTrace, IsRightAnswer}
 use Rattle.sat_core.proofs.Hints.{has-map-negation}
-use Rattle.sat_core.proofs.Numbering.{is_numbered, numbered_more}
+use Rattle.sat_core.proofs.LogNumbers.{is_numbered, numbered_more}
 use Rattle.sat_core.proofs.Walking.{up_to_has, up_to_from}
 use Rattle.sat_core.proofs.Counting.{trace_is_short, filter-has}
 

@@ -9,12 +9,12 @@ use Rattle.clause_core.proofs.Sets.{same_from, negation-negation, has-append}
 use Rattle.sat_trail.specs.declared.entries.Entry.{Entry}
 use Rattle.sat_trail.specs.Entries.{literals_of, level_of, place_of, IsForced}
 use Rattle.sat_trail.specs.States.{TrailState, IsSound}
-use Rattle.sat_trail.proofs.Steps.{has_one, has_not_false}
+use Rattle.sat_trail.proofs.TrailSteps.{has_one, has_not_false}
 use Rattle.sat_trail.proofs.Places.{AreApart, place_of_entry, has_entry}
 use Rattle.sat_trail.proofs.Soundness.{apart_from, level_at_next, levels_rise, level_within}
 use Rattle.sat_core.specs.declared.walks.Walk.{Walk}
-use Rattle.sat_core.specs.Levels.{IsSetAt}
-use Rattle.sat_core.specs.Walks.{is_marked, is_of_clause, count_at, AreMarks, replacement_of, IsEarly, IsLate}
+use Rattle.sat_core.specs.internal.Levels.{IsSetAt}
+use Rattle.sat_core.specs.internal.ConflictWalks.{is_marked, is_of_clause, count_at, AreMarks, replacement_of, IsEarly, IsLate}
 use Rattle.sat_core.proofs.Marking.{one_at, count_some, count_has, HasMarked, one_same, one_other, is_of_clause_from, without, without_other, without_from, count_without}
 
 -- ---- levels of entries

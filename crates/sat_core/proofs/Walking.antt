@@ -10,6 +10,7 @@ use Rattle.std.proofs.lemmas.List.{reverse-append, length-reverse, length_push}
 use Rattle.std.proofs.lemmas.List.Elements.{All-nil}
 use Rattle.sequence.proofs.Places.{contains_at}
 use Rattle.sequence.proofs.Orders.{same_at, at_is}
+use Rattle.sat_core.specs.internal.Hints.{AreHints}
 use Rattle.clause_core.specs.Literals.{Lit, negation, same, has}
 use Rattle.clause_core.specs.Clauses.{in_order}
 use Rattle.clause_core.specs.Propagation.{not_false}
@@ -20,13 +21,12 @@ use Rattle.sat_trail.specs.States.{TrailState, IsSound, IsFalseAt, up_to}
 use Rattle.sat_trail.proofs.Places.{AreApart, has_entry, entry_has}
 use Rattle.sat_trail.proofs.Soundness.{apart_from, length_entries}
 use Rattle.sat_core.specs.declared.walks.Walk.{Walk}
-use Rattle.sat_core.specs.Levels.{IsSetAt, AreQuietBelow}
-use Rattle.sat_core.specs.Numbering.{AreHints}
-use Rattle.sat_core.specs.Lessons.{IsLesson, IsAsserting}
-use Rattle.sat_core.specs.Walks.{is_marked, is_of_clause, AreMarks, replacement_of, Shows, IsLate, IsWalk}
+use Rattle.sat_core.specs.internal.Levels.{IsSetAt, AreQuietBelow}
+use Rattle.sat_core.specs.internal.Lessons.{IsLesson, IsAsserting}
+use Rattle.sat_core.specs.internal.ConflictWalks.{is_marked, is_of_clause, AreMarks, replacement_of, Shows, IsLate, IsWalk}
 use Rattle.sat_core.proofs.Marking.{count_has, count_some, without, without_other}
 use Rattle.sat_core.proofs.Hints.{false_by, opposites_differ, has-map-negation, shows_start, shows_kept, shows_replaced, has_without}
-use Rattle.sat_core.proofs.Numbering.{hints_push, hints_reversed}
+use Rattle.sat_core.proofs.LogNumbers.{hints_push, hints_reversed}
 use Rattle.sat_core.proofs.Stages.{forced_by, entry_low, replaced_is, stage_kept, stage_replaced, ahead_cleared, ahead_replaced}
 
 -- ---- levels of the trail

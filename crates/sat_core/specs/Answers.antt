@@ -2,13 +2,12 @@
 use Rattle.std.specs.Prelude.{◌≡◌, ℕ, ◌+◌, ◌<◌, ◌^◌, Bool, true, List, [], length, None}
 use Rattle.clause_core.specs.Literals.{Lit}
 use Rattle.clause_core.specs.Clauses.{assignment_of, meets_all}
-use Rattle.clause_core.specs.Propagation.{IsTrace, ReachesFalse}
+use Rattle.clause_core.specs.Propagation.{IsTrace}
 use Rattle.refutation_check.specs.declared.steps.Step.{Step}
 use Rattle.refutation_check.specs.Checking.{log_refusal, HaveFewHints}
 use Rattle.sat_core.specs.declared.answers.Answer.{Answer}
 use Rattle.sat_core.specs.declared.answers.Answer.TheVariants.{Sat, Unsat, Spent}
-use Rattle.sat_core.specs.Numbering.{AreNumbered}
-use Rattle.sat_core.specs.Lessons.{clauses_of, IsRefuted}
+use Rattle.sat_core.specs.LogNumbers.{AreNumbered}
 
 -- one truth for each variable, and with these each clause is met
 pub record AreSatisfying (variables : ℕ) (clauses : List (List Lit)) (truths : List Bool) : Type 0 where
@@ -34,9 +33,3 @@ abbrev pub IsRightAnswer : ℕ → List (List Lit) → ℕ → Answer → Type 0
 IsRightAnswer variables clauses budget (Sat assignment) = AreSatisfying variables clauses assignment.truths
 IsRightAnswer variables clauses budget (Unsat log) = AreRefuting variables clauses log.steps
 IsRightAnswer variables clauses budget (Spent trace) = IsWholeTrace variables clauses budget trace
-
--- how the search ends where no more may be learnt, behind the clauses of a trail
-abbrev pub IsEnd : List (List Lit) → List Step → Answer → Type 0
-IsEnd clauses steps (Sat assignment) = ⊥
-IsEnd clauses steps (Unsat log) = IsRefuted clauses steps log
-IsEnd clauses steps (Spent trace) = (trace ≡ clauses_of steps) × (ReachesFalse clauses [] → ⊥)

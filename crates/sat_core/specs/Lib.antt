@@ -1,6 +1,3 @@
-pub mod Levels
-pub mod Numbering
-pub mod Lessons
-pub mod Walks
-pub mod Choices
+pub mod LogNumbers
 pub mod Answers
+pub mod internal

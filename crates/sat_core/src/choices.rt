@@ -2,7 +2,7 @@
 
 ghost use Rattle.std.specs.Prelude.{◌≡◌, ◌^◌, ◌<◌, false, length, take, slice_get, Some, MatchOption, IfOk};
 ghost use Rattle.sat_trail.specs.States.{TrailState, IsSound};
-ghost use Rattle.sat_core.specs.Choices.{AreSet, IsNext, AreDecisions, Decides, AreVariableTruths};
+ghost use Rattle.sat_core.specs.internal.Decisions.{AreSet, IsNext, AreDecisions, Decides, AreVariableTruths};
 
 use clause_core::{Assignment, Literal};
 use sat_trail::Trail;

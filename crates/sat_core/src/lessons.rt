@@ -2,8 +2,8 @@
 
 ghost use Rattle.std.specs.Prelude.{◌≡◌, ◌+◌, ◌<◌, ◌^◌, false, length, IfOk, OnOk};
 ghost use Rattle.sat_trail.specs.States.{IsSound, IsFalseAt};
-ghost use Rattle.sat_core.specs.Levels.{AreQuietBelow};
-ghost use Rattle.sat_core.specs.Lessons.{IsLesson, HasLearnt, IsRefuted};
+ghost use Rattle.sat_core.specs.internal.Levels.{AreQuietBelow};
+ghost use Rattle.sat_core.specs.internal.Lessons.{IsLesson, HasLearnt, IsRefuted};
 
 use crate::walks::Walk;
 use clause_core::{Clause, clause_of};

@@ -5,7 +5,7 @@ ghost use Rattle.clause_core.specs.Literals.{Lit};
 ghost use Rattle.sat_trail.specs.declared.entries.Entry.{Entry};
 ghost use Rattle.sat_trail.specs.Entries.{place_of};
 ghost use Rattle.sat_trail.specs.States.{TrailState, IsSound};
-ghost use Rattle.sat_core.specs.Walks.{is_marked, AreMarks, IsLastMark, stands_at, is_of_clause};
+ghost use Rattle.sat_core.specs.internal.ConflictWalks.{is_marked, AreMarks, IsLastMark, stands_at, is_of_clause};
 
 use clause_core::Literal;
 use sat_trail::Trail;

@@ -2,8 +2,9 @@
 
 ghost use Rattle.std.specs.Prelude.{◌≡◌, ◌+◌, ◌-◌, ◌^◌, ◌<◌, false, length, All, IfOk};
 ghost use Rattle.clause_core.specs.Clauses.{has_pair};
-ghost use Rattle.sat_core.specs.Answers.{IsRightAnswer, IsEnd};
-ghost use Rattle.sat_core.specs.Lessons.{clauses_of};
+ghost use Rattle.sat_core.specs.Answers.{IsRightAnswer};
+ghost use Rattle.sat_core.specs.internal.Ends.{IsEnd};
+ghost use Rattle.sat_core.specs.internal.Lessons.{clauses_of};
 
 use crate::answers::Answer;
 use crate::choices::{Decisions, assignment_of};

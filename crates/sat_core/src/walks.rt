@@ -4,8 +4,8 @@ ghost use Rattle.std.specs.Prelude.{◌≡◌, ◌==◌, ◌&&◌, ◌||◌, ℕ
 ghost use Rattle.clause_core.specs.Literals.{Lit, negation};
 ghost use Rattle.sat_trail.specs.declared.entries.Entry.{Entry};
 ghost use Rattle.sat_trail.specs.States.{IsSound, IsFalseAt};
-ghost use Rattle.sat_core.specs.Levels.{AreQuietBelow};
-ghost use Rattle.sat_core.specs.Walks.{is_marked, is_of_clause, AreMarks, IsWalk, replacement_of};
+ghost use Rattle.sat_core.specs.internal.Levels.{AreQuietBelow};
+ghost use Rattle.sat_core.specs.internal.ConflictWalks.{is_marked, is_of_clause, AreMarks, IsWalk, replacement_of};
 
 use crate::marks::Marks;
 use clause_core::Literal;

@@ -1,4 +1,4 @@
 pub mod Places
 pub mod Soundness
-pub mod Steps
+pub mod TrailSteps
 pub mod Watching

@@ -1,16 +1,16 @@
 -- Entries by their places and by their variables.
-use Rattle.std.proofs.Common.{◌≡◌, ℕ, zero, suc, ◌+◌, ◌*◌, ◌<◌, ◌≤◌, Bool, true, false, not, cond, ◌||◌, List, [], ◌∷◌, ◌++◌, length, set, map, take, drop, get_or, Option, Some, None, slice_get, sym, ap, ◌∙◌, refl, arith, eqb, inl, inr, ◌⊎◌}
+use Rattle.std.proofs.Common.{◌≡◌, ℕ, zero, suc, ◌+◌, ◌<◌, ◌≤◌, Bool, true, false, not, cond, ◌||◌, List, [], ◌∷◌, ◌++◌, length, set, map, take, drop, get_or, Option, Some, None, slice_get, sym, ap, ◌∙◌, refl, arith, eqb, inl, inr, ◌⊎◌}
 use Rattle.std.specs.List.{IsDistinct, AllByRecursion, list_any}
 use Rattle.std.proofs.lemmas.Bool.{true≢false, false≢true, or_cases, or_left, or_right, or_from, cases_Bool, cases_eq, eqb-true, eqb-false, eq-eqb, ne_eqb, false_from_ne_true, cond-true, cond-false}
 use Rattle.std.proofs.lemmas.Option.{none-some, same_Some, slice_get_within, get_or_from_slice_get}
 use Rattle.std.proofs.lemmas.List.{length-take-le, length-set, length-map}
 use Rattle.std.proofs.lemmas.Map.Steps.{length-le_from_distinct_below}
 use Rattle.sequence.proofs.Places.{split_at, slice_get-behind, slice_get_one, slice_get_set, slice_get_set_same}
+use Rattle.sat_trail.specs.internal.Tables.{IsPlaceTable, AreTruths}
 use Rattle.clause_core.specs.Literals.{Lit, negation, same, has, code_of}
 use Rattle.clause_core.proofs.Sets.{same_is, same_from, code_one, code_within}
 use Rattle.sat_trail.specs.declared.entries.Entry.{Entry}
 use Rattle.sat_trail.specs.Entries.{literals_of, place_from, place_of, truth_of}
-use Rattle.sat_trail.specs.States.{IsPlaceTable, AreTruths}
 
 -- ---- the place of a variable
 

@@ -1,5 +1,5 @@
 -- What holds of every trail stays when it changes.
-use Rattle.std.proofs.Common.{◌≡◌, ℕ, zero, suc, ◌+◌, ◌<◌, ◌≤◌, ◌^◌, Bool, false, List, [], ◌∷◌, ◌++◌, length, take, Option, Some, None, slice_get, sym, ap, ◌∙◌, subst, refl, arith, inl, inr, ◌⊎◌, MatchOption}
+use Rattle.std.proofs.Common.{◌≡◌, ℕ, zero, suc, ◌+◌, ◌<◌, ◌≤◌, ◌^◌, Bool, false, List, [], ◌∷◌, ◌++◌, length, take, Option, Some, None, slice_get, sym, ap, ◌∙◌, subst, refl, arith, inl, inr, MatchOption}
 use Rattle.std.proofs.lemmas.Option.{slice_get_within}
 use Rattle.std.proofs.lemmas.List.{take-append-le, take_all, take_at, take-take, length_push}
 use Rattle.std.proofs.lemmas.List.Elements.{All-push}

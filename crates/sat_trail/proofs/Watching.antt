@@ -1,5 +1,5 @@
 -- How watches stay what they are while literals are set and taken back.
-use Rattle.std.proofs.Common.{◌≡◌, ℕ, zero, suc, ◌+◌, ◌-◌, ◌*◌, ◌<◌, ◌≤◌, ◌^◌, min, Bool, true, false, not, cond, ◌&&◌, List, [], ◌∷◌, ◌++◌, length, set, take, Option, Some, None, slice_get, get_or, leb, sym, ap, ◌∙◌, subst, refl, arith, inl, inr, ◌⊎◌, MatchOption, All, Contains}
+use Rattle.std.proofs.Common.{◌≡◌, ℕ, zero, suc, ◌+◌, ◌-◌, ◌*◌, ◌<◌, ◌≤◌, min, Bool, true, false, not, cond, List, [], ◌∷◌, ◌++◌, length, set, take, Option, Some, None, slice_get, get_or, leb, sym, ap, ◌∙◌, subst, refl, arith, inl, inr, ◌⊎◌, MatchOption, All, Contains}
 use Rattle.std.specs.Prelude.{nat_lt, option_map, is_some, Result, Ok, Err, OnOk, OnErr, IfOk}
 use Rattle.std.proofs.lemmas.Option.{slice_get_within, same_Some, none-some, slice_get-get_or, get_or_from_slice_get}
 use Rattle.std.proofs.lemmas.List.{length_push, length-append, length-set}
@@ -16,10 +16,10 @@ use Rattle.sat_trail.specs.declared.watches.Pair.{Pair}
 use Rattle.sat_trail.specs.declared.watches.Watches.{Watches}
 use Rattle.sat_trail.specs.Entries.{literals_of, place_of, entry_with, MayStand}
 use Rattle.sat_trail.specs.States.{TrailState, IsSound, decided, with_clause, undone, up_to, Propagates, IsFalseAt}
-use Rattle.sat_trail.specs.Watching.{HasWatch, HasList, TakesOut, AddsWatch, DropsWatch, IsOf, IsPairOf, is_paired, IsPair, IsShort, IsExcused, AreWatched, IsVisit, AreDue, AreOthersFalse, CanForce, IsFalseBy, IsLater, IsBestOf, IsFree, AreFalseBetween}
+use Rattle.sat_trail.specs.internal.Watching.{HasWatch, HasList, TakesOut, AddsWatch, DropsWatch, IsOf, IsPairOf, is_paired, IsPair, IsShort, IsExcused, AreWatched, IsVisit, AreDue, AreOthersFalse, CanForce, IsFalseBy, IsLater, IsBestOf, IsFree, AreFalseBetween}
 use Rattle.sat_trail.proofs.Places.{AreApart, has_entry, entry_has, one_entry, place_of_entry}
 use Rattle.sat_trail.proofs.Soundness.{apart_from, level_within, length_entries}
-use Rattle.sat_trail.proofs.Steps.{IsOpen, open_two, open_true, quiet_from, has_not_false, has_one, none_not_false, one_not_false, forced_may_stand}
+use Rattle.sat_trail.proofs.TrailSteps.{IsOpen, open_two, open_true, quiet_from, has_not_false, has_one, none_not_false, one_not_false, forced_may_stand}
 
 -- ---- what is true stays true
 

@@ -1,3 +1,3 @@
 pub mod Entries
 pub mod States
-pub mod Watching
+pub mod internal

@@ -1,10 +1,10 @@
 -- What a contract sees of a trail, and what the calls do to it.
-use Rattle.std.specs.Prelude.{◌≡◌, ℕ, ◌+◌, ◌*◌, ◌^◌, ◌<◌, ◌≤◌, min, nat_le, Bool, false, List, [], ◌∷◌, ◌++◌, length, filter, take, Option, Some, None, slice_get, IsSome, All}
-use Rattle.clause_core.specs.Literals.{Lit, has, code_of}
+use Rattle.std.specs.Prelude.{◌≡◌, ℕ, ◌+◌, ◌^◌, ◌<◌, min, nat_le, Bool, false, List, [], ◌∷◌, ◌++◌, length, filter, take, Option, Some, None, slice_get, IsSome, All}
+use Rattle.clause_core.specs.Literals.{Lit, has}
 use Rattle.clause_core.specs.Clauses.{IsOver, has_pair}
 use Rattle.clause_core.specs.Propagation.{IsFalse, IsQuiet}
 use Rattle.sat_trail.specs.declared.entries.Entry.{Entry}
-use Rattle.sat_trail.specs.Entries.{entry_with, literals_of, level_of, place_of, MayStand}
+use Rattle.sat_trail.specs.Entries.{entry_with, literals_of, level_of, MayStand}
 
 -- how many variables there are, the clauses by their numbers, the entries by their places, the present
 -- level, and whether memory ran out in a call
@@ -65,17 +65,3 @@ pub record IsFalseAt (t : TrailState) (number : ℕ) : Type 0 where
 abbrev pub EndsWith : Option ℕ → TrailState → Type 0
 EndsWith (Some number) t = IsFalseAt t number
 EndsWith None t = IsQuiet t.clauses (literals_of t.entries)
-
--- the entry at a place
-abbrev pub HasEntry : TrailState → ℕ → Entry → Type 0
-HasEntry t place e = slice_get t.entries place ≡ Some e
-
--- the table has the place of each variable's entry, by the variable's index
-pub record IsPlaceTable (variables : ℕ) (places : List (Option ℕ)) (entries : List Entry) : Type 0 where
-  pub all : length places ≡ variables
-  pub each : (index : ℕ) → index < variables → slice_get places index ≡ Some (place_of entries index)
-
--- the table has the truth of each literal, by the literal's code
-pub record AreTruths (variables : ℕ) (truths : List Bool) (entries : List Entry) : Type 0 where
-  pub all : length truths ≡ 2 * variables
-  pub each : (l : Lit) → l.index < variables → slice_get truths (code_of l) ≡ Some (has (literals_of entries) l)

@@ -29,7 +29,8 @@ pub struct Stack {
 
 impl Model for Stack {
     ghost use Rattle.std.specs.Prelude.{◌≡◌};
-    ghost use Rattle.sat_trail.specs.States.{TrailState, IsSound, IsPlaceTable, AreTruths};
+    ghost use Rattle.sat_trail.specs.States.{TrailState, IsSound};
+    ghost use Rattle.sat_trail.specs.internal.Tables.{IsPlaceTable, AreTruths};
 
     ghost Value = { TrailState };
 

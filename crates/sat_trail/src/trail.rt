@@ -24,7 +24,7 @@ pub struct Trail {
 impl Model for Trail {
     ghost use Rattle.std.specs.Prelude.{◌≡◌, false};
     ghost use Rattle.sat_trail.specs.States.{TrailState, IsSound};
-    ghost use Rattle.sat_trail.specs.Watching.{AreWatched};
+    ghost use Rattle.sat_trail.specs.internal.Watching.{AreWatched};
 
     ghost Value = { TrailState };
 

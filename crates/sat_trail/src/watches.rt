@@ -6,7 +6,7 @@ ghost use Rattle.clause_core.specs.Clauses.{IsOver};
 ghost use Rattle.sat_trail.specs.declared.entries.Entry.{Entry};
 ghost use Rattle.sat_trail.specs.Entries.{literals_of};
 ghost use Rattle.sat_trail.specs.States.{TrailState, IsSound, Propagates, IsFalseAt, EndsWith};
-ghost use Rattle.sat_trail.specs.Watching.{HasList, TakesOut, AddsWatch, DropsWatch, IsOf, is_paired, IsExcused, AreWatched, IsVisit, AreDue, AreOthersFalse, CanForce, CanWatch, IsFalseBy, IsLater, IsBestOf, IsFree, AreFalseBetween, LooksAt};
+ghost use Rattle.sat_trail.specs.internal.Watching.{HasList, TakesOut, AddsWatch, DropsWatch, IsOf, is_paired, IsExcused, AreWatched, IsVisit, AreDue, AreOthersFalse, CanForce, CanWatch, IsFalseBy, IsLater, IsBestOf, IsFree, AreFalseBetween, LooksAt};
 
 use crate::stack::Stack;
 use clause_core::Literal;

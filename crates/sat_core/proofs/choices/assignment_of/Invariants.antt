@@ -1,4 +1,4 @@
-use Rattle.sat_core.specs.Choices.{AreVariableTruths}
+use Rattle.sat_core.specs.internal.Decisions.{AreVariableTruths}
 use Rattle.sat_core.proofs.choices.assignment_of.Given as goal
 
 abbrev pub invariant-loop-index : goal.invariant-loop-index

@@ -1,4 +1,4 @@
-use Rattle.sat_core.specs.Choices.{AreSet}
+use Rattle.sat_core.specs.internal.Decisions.{AreSet}
 use Rattle.sat_core.proofs.choices.next_decision.Given as goal
 
 abbrev pub invariant-loop-index : goal.invariant-loop-index

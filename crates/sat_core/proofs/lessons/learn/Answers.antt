@@ -2,7 +2,7 @@ use Rattle.std.proofs.Common.{◌≡◌, ◌+◌, ◌++◌, ◌∷◌, [], ℕ, 
 use Rattle.clause_core.specs.Literals.{Lit}
 use Rattle.clause_core.specs.Clauses.{IsOver, has_pair}
 use Rattle.sat_trail.specs.States.{TrailState, with_clause, undone}
-use Rattle.sat_core.specs.Lessons.{learnt_step}
+use Rattle.sat_core.specs.internal.Lessons.{learnt_step}
 use Rattle.sat_core.proofs.Searching.{lesson_over, lesson_no_pair, copied}
 use Rattle.sat_core.proofs.lessons.learn.Goals as goal
 

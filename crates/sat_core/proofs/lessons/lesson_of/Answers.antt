@@ -1,7 +1,7 @@
 use Rattle.std.proofs.Common.{◌≡◌, ℕ, List, ap, sym, subst, ◌∙◌, arith}
 use Rattle.clause_core.specs.Literals.{Lit}
 use Rattle.clause_core.specs.Clauses.{in_order}
-use Rattle.sat_core.specs.Lessons.{IsLesson}
+use Rattle.sat_core.specs.internal.Lessons.{IsLesson}
 use Rattle.sat_core.proofs.Walking.{reach_within, reach_has, walk_ends}
 use Rattle.sat_core.proofs.lessons.lesson_of.Goals as goal
 

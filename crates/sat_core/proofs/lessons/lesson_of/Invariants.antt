@@ -1,5 +1,5 @@
 use Rattle.std.proofs.Common.{ℕ}
-use Rattle.sat_core.specs.Walks.{IsWalk}
+use Rattle.sat_core.specs.internal.ConflictWalks.{IsWalk}
 use Rattle.sat_core.proofs.Walking.{reach}
 use Rattle.sat_core.proofs.lessons.lesson_of.Given as goal
 

@@ -1,14 +1,15 @@
 use Rattle.std.proofs.Common.{◌≡◌, ◌+◌, ◌<◌, ◌≤◌, ℕ, false, List, Option, length, take, slice_get, ap, sym, subst, ◌∙◌, arith}
 use Rattle.std.proofs.lemmas.Result.{IfOk-weaker}
 use Rattle.std.proofs.lemmas.List.{length_push}
+use Rattle.sat_core.specs.internal.Ends.{IsEnd}
 use Rattle.clause_core.specs.Propagation.{IsQuiet}
 use Rattle.refutation_check.specs.declared.steps.Step.{Step}
 use Rattle.sat_trail.specs.Entries.{literals_of}
 use Rattle.sat_trail.specs.States.{TrailState, EndsWith}
 use Rattle.sat_trail.proofs.Soundness.{length_entries}
-use Rattle.sat_core.specs.Answers.{IsRightAnswer, IsEnd}
-use Rattle.sat_core.specs.Choices.{AreSet, AreVariableTruths, HasDecided, Decides}
-use Rattle.sat_core.specs.Lessons.{learnt_step}
+use Rattle.sat_core.specs.Answers.{IsRightAnswer}
+use Rattle.sat_core.specs.internal.Decisions.{AreSet, AreVariableTruths, HasDecided, Decides}
+use Rattle.sat_core.specs.internal.Lessons.{learnt_step}
 use Rattle.sat_core.proofs.Searching.{IsSearch, search_begins, search_propagated, search_decided, search_learnt, search_satisfied, search_refuted, search_ended, decisions_propagated, decisions_learnt, decided_longer, less_unset}
 use Rattle.sat_core.proofs.solver.solve.Goals as goal
 

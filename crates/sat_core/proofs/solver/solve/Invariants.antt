@@ -1,5 +1,5 @@
 use Rattle.std.proofs.Common.{◌+◌, ◌-◌, ◌*◌, ◌≤◌, length}
-use Rattle.sat_core.specs.Choices.{AreDecisions}
+use Rattle.sat_core.specs.internal.Decisions.{AreDecisions}
 use Rattle.sat_core.proofs.Searching.{IsSearch}
 use Rattle.sat_core.proofs.solver.solve.Given as goal
 

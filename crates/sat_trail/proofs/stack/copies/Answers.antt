@@ -1,4 +1,4 @@
-use Rattle.sat_trail.proofs.Steps.{copy_more}
+use Rattle.sat_trail.proofs.TrailSteps.{copy_more}
 use Rattle.sat_trail.proofs.stack.copies.Goals as goal
 
 pub loop-clause-preserved : goal.loop-clause-preserved

@@ -1,6 +1,6 @@
 use Rattle.std.proofs.Common.{take}
 use Rattle.sat_trail.specs.Entries.{literals_of}
-use Rattle.sat_trail.specs.Watching.{IsBestOf}
+use Rattle.sat_trail.specs.internal.Watching.{IsBestOf}
 use Rattle.sat_trail.proofs.watches.best.Given as goal
 
 abbrev pub invariant-loop-literal : goal.invariant-loop-literal

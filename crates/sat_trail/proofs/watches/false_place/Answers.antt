@@ -1,4 +1,4 @@
-use Rattle.std.proofs.Common.{◌≡◌, ap, sym, ◌∙◌}
+use Rattle.std.proofs.Common.{ap, sym, ◌∙◌}
 use Rattle.clause_core.specs.Literals.{has}
 use Rattle.sat_trail.specs.Entries.{literals_of}
 use Rattle.sat_trail.proofs.Watching.{false_place_is}

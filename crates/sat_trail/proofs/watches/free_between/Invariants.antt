@@ -1,5 +1,5 @@
 use Rattle.sat_trail.specs.Entries.{literals_of}
-use Rattle.sat_trail.specs.Watching.{AreFalseBetween}
+use Rattle.sat_trail.specs.internal.Watching.{AreFalseBetween}
 use Rattle.sat_trail.proofs.watches.free_between.Given as goal
 
 abbrev pub invariant-loop-position : goal.invariant-loop-position

@@ -1,6 +1,6 @@
 use Rattle.std.proofs.Common.{◌≡◌, ◌-◌, ◌++◌, ◌∷◌, [], ℕ, ap, subst, ◌∙◌, arith}
 use Rattle.sat_trail.proofs.Places.{value_unset}
-use Rattle.sat_core.specs.Choices.{IsNext}
+use Rattle.sat_core.specs.internal.Decisions.{IsNext}
 use Rattle.sat_core.proofs.Searching.{decisions_decided}
 use Rattle.sat_core.proofs.choices.Decisions.decide.Goals as goal
 

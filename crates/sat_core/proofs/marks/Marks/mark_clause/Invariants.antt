@@ -1,5 +1,5 @@
 use Rattle.std.proofs.Common.{◌≡◌, ◌||◌, ℕ, drop}
-use Rattle.sat_core.specs.Walks.{is_marked, is_of_clause, AreMarks}
+use Rattle.sat_core.specs.internal.ConflictWalks.{is_marked, is_of_clause, AreMarks}
 use Rattle.sat_core.proofs.marks.Marks.mark_clause.Given as goal
 
 abbrev pub invariant-loop-literal : goal.invariant-loop-literal

@@ -1,6 +1,6 @@
 use Rattle.std.proofs.Common.{◌+◌, ◌∷◌, ◌++◌, [], List, ℕ, ap, ◌∙◌, refl}
 use Rattle.std.proofs.lemmas.Bool.{or_right}
-use Rattle.sat_core.specs.Walks.{is_marked, is_of_clause}
+use Rattle.sat_core.specs.internal.ConflictWalks.{is_marked, is_of_clause}
 use Rattle.sat_core.proofs.Walking.{walk_begins}
 use Rattle.sat_core.proofs.walks.Walk.new.Goals as goal
 

@@ -1,7 +1,7 @@
 use Rattle.std.proofs.Common.{◌∙◌}
 use Rattle.std.proofs.lemmas.Bool.{or_left}
 use Rattle.sequence.proofs.Places.{slice_get_some}
-use Rattle.sat_core.specs.Walks.{is_marked, is_of_clause}
+use Rattle.sat_core.specs.internal.ConflictWalks.{is_marked, is_of_clause}
 use Rattle.sat_core.proofs.walks.Walk.replace.Goals as goal
 
 pub clear-requires-clause-marked : goal.clear-requires-clause-marked

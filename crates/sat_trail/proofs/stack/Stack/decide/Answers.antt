@@ -1,7 +1,7 @@
-use Rattle.std.proofs.Common.{◌≡◌, ℕ, ◌+◌, None, sym, subst, ◌∙◌, arith}
+use Rattle.std.proofs.Common.{ℕ, ◌+◌, None, sym, subst, arith}
 use Rattle.sat_trail.specs.Entries.{entry_with, MayStand}
 use Rattle.sat_trail.proofs.Soundness.{length_entries}
-use Rattle.sat_trail.proofs.Steps.{decided_may_stand}
+use Rattle.sat_trail.proofs.TrailSteps.{decided_may_stand}
 use Rattle.sat_trail.proofs.stack.Stack.decide.Goals as goal
 
 pub overflow_add-level : goal.overflow_add-level

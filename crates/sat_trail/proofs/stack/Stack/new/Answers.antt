@@ -1,10 +1,11 @@
-use Rattle.std.proofs.Common.{◌≡◌, ◌<◌, ◌^◌, ◌*◌, ◌∙◌, false, [], None, List, replicate, sym, subst, ap, rules}
+use Rattle.std.proofs.Common.{◌≡◌, ◌*◌, ◌∙◌, false, [], None, List, replicate, sym, subst, ap, rules}
 use Rattle.std.specs.Prelude.{position}
+use Rattle.sat_trail.specs.internal.Tables.{IsPlaceTable, AreTruths}
 use Rattle.clause_core.specs.Literals.{Lit}
 use Rattle.clause_core.specs.Clauses.{has_pair}
 use Rattle.sat_trail.specs.declared.entries.Entry.{Entry}
-use Rattle.sat_trail.specs.States.{IsSound, IsPlaceTable, AreTruths, started}
-use Rattle.sat_trail.proofs.Steps.{sound_started, table_started, truths_started}
+use Rattle.sat_trail.specs.States.{IsSound, started}
+use Rattle.sat_trail.proofs.TrailSteps.{sound_started, table_started, truths_started}
 use Rattle.sat_trail.proofs.stack.Stack.new.Goals as goal
 
 pub invariant_of-result : goal.invariant_of-result

@@ -1,9 +1,10 @@
-use Rattle.std.proofs.Common.{◌≡◌, ℕ, ◌++◌, ◌∷◌, [], ◌+◌, ◌<◌, ◌^◌, true, Option, Some, List, length, set, sym, subst, ap, ◌∙◌, arith}
+use Rattle.std.proofs.Common.{◌≡◌, ℕ, ◌++◌, ◌∷◌, [], ◌+◌, true, Option, Some, List, length, set, sym, subst, ap, ◌∙◌, arith}
 use Rattle.std.specs.Prelude.{is_ok}
 use Rattle.std.proofs.lemmas.Bool.{cond-true, cond-false}
+use Rattle.sat_trail.specs.internal.Tables.{IsPlaceTable, AreTruths}
 use Rattle.sat_trail.specs.declared.entries.Entry.{Entry}
 use Rattle.sat_trail.specs.Entries.{entry_with, MayStand}
-use Rattle.sat_trail.specs.States.{TrailState, IsSound, IsPlaceTable, AreTruths}
+use Rattle.sat_trail.specs.States.{TrailState, IsSound}
 use Rattle.sat_trail.proofs.Places.{table_push, truths_push}
 use Rattle.sat_trail.proofs.Soundness.{sound_broken, sound_extended, length_entries}
 use Rattle.sat_trail.proofs.stack.Stack.set.Goals as goal

@@ -1,11 +1,12 @@
-use Rattle.std.proofs.Common.{◌≡◌, ◌++◌, ◌∷◌, [], ◌-◌, ◌≤◌, ◌<◌, ℕ, List, Some, None, false, length, take, set, min, slice_get, refl, sym, subst, ap, ◌∙◌, arith}
+use Rattle.std.proofs.Common.{◌≡◌, ◌++◌, ◌∷◌, [], ◌-◌, ◌≤◌, ℕ, List, Some, None, false, length, take, set, min, slice_get, refl, sym, subst, ap, ◌∙◌, arith}
 use Rattle.sequence.proofs.Places.{last_split}
+use Rattle.sat_trail.specs.internal.Tables.{IsPlaceTable, AreTruths}
 use Rattle.sat_trail.specs.declared.entries.Entry.{Entry}
 use Rattle.sat_trail.specs.Entries.{level_of}
-use Rattle.sat_trail.specs.States.{TrailState, IsSound, IsPlaceTable, AreTruths, up_to, undone}
+use Rattle.sat_trail.specs.States.{TrailState, IsSound, up_to, undone}
 use Rattle.sat_trail.proofs.Places.{truths_pop, code_inside}
 use Rattle.sat_trail.proofs.Soundness.{AllStand}
-use Rattle.sat_trail.proofs.Steps.{TakesBack, takes_back, left_is, top_some, top_none, state_same, sound_left}
+use Rattle.sat_trail.proofs.TrailSteps.{TakesBack, takes_back, left_is, top_some, top_none, state_same, sound_left}
 use Rattle.sat_trail.proofs.stack.Stack.undo_to.Goals as goal
 use Rattle.sat_trail.proofs.stack.Stack.undo_to.Goals.{After-index, in-Some+then-last-level, in_default}
 

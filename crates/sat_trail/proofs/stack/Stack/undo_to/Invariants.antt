@@ -1,6 +1,7 @@
 use Rattle.std.proofs.Common.{◌≡◌, ◌<◌, ◌≤◌, length, take}
+use Rattle.sat_trail.specs.internal.Tables.{IsPlaceTable, AreTruths}
 use Rattle.sat_trail.specs.Entries.{level_of}
-use Rattle.sat_trail.specs.States.{up_to, IsPlaceTable, AreTruths}
+use Rattle.sat_trail.specs.States.{up_to}
 use Rattle.sat_trail.proofs.stack.Stack.undo_to.Given as goal
 
 abbrev pub invariant-loop-last : goal.invariant-loop-last

@@ -1,10 +1,11 @@
 use Rattle.std.proofs.Common.{refl, ◌≡◌, ◌<◌, ◌∙◌, ℕ, Option, Some, List, length, sym, ap, slice_get, get_or, arith}
 use Rattle.std.proofs.lemmas.Option.{slice_get_within, slice_get_read}
 use Rattle.sequence.proofs.Places.{slice_get_one}
+use Rattle.sat_trail.specs.internal.Tables.{IsPlaceTable}
 use Rattle.clause_core.specs.Literals.{same}
 use Rattle.sat_trail.specs.declared.entries.Entry.{Entry}
 use Rattle.sat_trail.specs.Entries.{truth_of}
-use Rattle.sat_trail.specs.States.{TrailState, IsPlaceTable}
+use Rattle.sat_trail.specs.States.{TrailState}
 use Rattle.sat_trail.proofs.Places.{Stands, place_found, table_at, value_unset, value_set}
 use Rattle.sat_trail.proofs.Soundness.{apart_from}
 use Rattle.sat_trail.proofs.stack.Stack.value.Goals as goal

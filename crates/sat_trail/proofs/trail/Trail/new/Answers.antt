@@ -1,4 +1,3 @@
-use Rattle.std.proofs.Common.{◌≡◌}
 use Rattle.sat_trail.proofs.trail.Trail.new.Goals as goal
 
 -- a trail whose watches want memory is of a formula without tautologies

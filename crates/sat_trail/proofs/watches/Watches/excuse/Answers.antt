@@ -1,4 +1,4 @@
-use Rattle.std.proofs.Common.{◌≡◌, ◌+◌, ◌<◌, ◌≤◌, ◌^◌, false, List, [], ◌∷◌, ◌++◌, Option, Some, sym, subst, ◌∙◌}
+use Rattle.std.proofs.Common.{◌≡◌, false, List, [], Option, Some, sym, subst, ◌∙◌}
 use Rattle.std.proofs.lemmas.Option.{slice_get_within, same_Some}
 use Rattle.std.proofs.lemmas.Result.{on_ok_weaker}
 use Rattle.std.proofs.lemmas.Bool.{false≢true}
@@ -7,7 +7,7 @@ use Rattle.sequence.proofs.Results.{on_ok_two}
 use Rattle.clause_core.specs.Literals.{Lit, negation}
 use Rattle.sat_trail.proofs.Places.{entry_has}
 use Rattle.sat_trail.proofs.Watching.{over_literal, true_not_false, excused_by_first, lowered_le}
-use Rattle.sat_trail.specs.Watching.{IsExcused}
+use Rattle.sat_trail.specs.internal.Watching.{IsExcused}
 use Rattle.sat_trail.proofs.watches.Watches.excuse.Goals as goal
 
 pub false_place-requires-clause-over : goal.false_place-requires-clause-over

@@ -1,9 +1,9 @@
-use Rattle.std.proofs.Common.{◌≡◌, ℕ, ◌+◌, ◌<◌, ◌≤◌, ◌^◌, false, [], ◌∷◌, ◌++◌, length, Some, slice_get, sym, ap, subst, arith, ◌∙◌}
+use Rattle.std.proofs.Common.{◌≡◌, ℕ, ◌+◌, false, [], ◌∷◌, ◌++◌, length, Some, slice_get, sym, ap, subst, arith, ◌∙◌}
 use Rattle.std.proofs.lemmas.Option.{slice_get_within}
 use Rattle.clause_core.specs.Literals.{code_of}
 use Rattle.sat_trail.specs.States.{TrailState}
 use Rattle.sat_trail.specs.declared.watches.Watches.{Watches}
-use Rattle.sat_trail.specs.Watching.{AreWatched, AddsWatch, is_paired}
+use Rattle.sat_trail.specs.internal.Watching.{AreWatched, AddsWatch, is_paired}
 use Rattle.sat_trail.proofs.Watching.{over_named, lists_have, watched_low, watched_propagated, watched_long}
 use Rattle.sat_trail.proofs.watches.Watches.pass_long.Goals as goal
 

@@ -1,6 +1,6 @@
-use Rattle.std.proofs.Common.{◌≡◌, ◌+◌, ◌-◌, ◌<◌, ◌≤◌, ◌^◌, false, [], ◌∷◌, ◌++◌, length, ap, arith, ◌∙◌}
+use Rattle.std.proofs.Common.{◌-◌, false, [], length, ap, arith, ◌∙◌}
 use Rattle.sat_trail.specs.States.{TrailState}
-use Rattle.sat_trail.proofs.Steps.{propagates_after}
+use Rattle.sat_trail.proofs.TrailSteps.{propagates_after}
 use Rattle.sat_trail.proofs.Watching.{watched_quiet}
 use Rattle.sat_trail.proofs.watches.Watches.propagate.Goals as goal
 

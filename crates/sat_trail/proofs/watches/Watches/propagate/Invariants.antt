@@ -1,6 +1,6 @@
 use Rattle.std.proofs.Common.{◌≡◌, ◌-◌, ◌≤◌, false, length}
 use Rattle.sat_trail.specs.States.{IsSound, Propagates}
-use Rattle.sat_trail.specs.Watching.{AreWatched}
+use Rattle.sat_trail.specs.internal.Watching.{AreWatched}
 use Rattle.sat_trail.proofs.watches.Watches.propagate.Given as goal
 
 abbrev pub invariant-loop-self : goal.invariant-loop-self

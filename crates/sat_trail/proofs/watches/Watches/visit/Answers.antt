@@ -1,4 +1,4 @@
-use Rattle.std.proofs.Common.{◌≡◌, ◌+◌, ◌<◌, ◌≤◌, ◌^◌, true, false, List, [], ◌∷◌, ◌++◌, length, set, Some, slice_get, sym, ap, subst, refl, arith, ◌∙◌}
+use Rattle.std.proofs.Common.{◌≡◌, ◌+◌, ◌<◌, true, false, List, [], length, set, Some, slice_get, sym, ap, subst, refl, arith, ◌∙◌}
 use Rattle.std.proofs.lemmas.Option.{slice_get_within, get_or_from_slice_get}
 use Rattle.std.specs.Vec.{with_item}
 use Rattle.std.proofs.lemmas.Result.{on_ok_weaker}
@@ -6,7 +6,7 @@ use Rattle.clause_core.specs.Literals.{Lit, has, negation, code_of}
 use Rattle.clause_core.specs.Clauses.{IsOver}
 use Rattle.sat_trail.specs.Entries.{literals_of}
 use Rattle.sat_trail.specs.declared.watches.Watches.{Watches}
-use Rattle.sat_trail.specs.Watching.{AreOthersFalse, IsPairOf}
+use Rattle.sat_trail.specs.internal.Watching.{AreOthersFalse, IsPairOf}
 use Rattle.sat_trail.proofs.Watching.{due_excused, excused_now, due_other, due_forced, the_watch, the_pair, no_pair, pair_member, blocker_over, pair_over, over_named, watched_propagated, visit_propagated, lists_have, literal_member, free_differs, kept_list, watched_moved, due_moved, list_moved}
 use Rattle.sat_trail.proofs.watches.Watches.visit.Goals as goal
 

@@ -1,4 +1,4 @@
-use Rattle.std.proofs.Common.{◌≡◌, ℕ, ◌+◌, ◌-◌, ◌<◌, ◌≤◌, ◌^◌, min, cond, false, [], ◌∷◌, ◌++◌, length, Some, slice_get, sym, ap, subst, refl, arith, ◌∙◌}
+use Rattle.std.proofs.Common.{◌≡◌, ℕ, ◌+◌, ◌-◌, ◌<◌, min, cond, false, [], length, Some, slice_get, sym, ap, subst, refl, arith, ◌∙◌}
 use Rattle.std.specs.Prelude.{nat_lt}
 use Rattle.std.proofs.lemmas.Option.{slice_get_within}
 use Rattle.sequence.proofs.Places.{slice_get_some}
@@ -6,9 +6,9 @@ use Rattle.clause_core.specs.Literals.{negation, code_of}
 use Rattle.clause_core.proofs.Sets.{code_within}
 use Rattle.sat_trail.specs.States.{TrailState, IsFalseAt}
 use Rattle.sat_trail.specs.declared.watches.Watches.{Watches}
-use Rattle.sat_trail.specs.Watching.{AreWatched, AreDue}
+use Rattle.sat_trail.specs.internal.Watching.{AreWatched, AreDue}
 use Rattle.sat_trail.proofs.Soundness.{length_entries}
-use Rattle.sat_trail.proofs.Steps.{propagates_none, propagates_after}
+use Rattle.sat_trail.proofs.TrailSteps.{propagates_none, propagates_after}
 use Rattle.sat_trail.proofs.Watching.{falsified_is, falsified_over, visit_begins, list_read, due_all, watched_low, lowered_le, watched_visited, match_none}
 use Rattle.sat_trail.proofs.watches.Watches.visit_entry.Goals as goal
 

@@ -1,7 +1,7 @@
 use Rattle.std.proofs.Common.{◌≡◌, false}
 use Rattle.clause_core.specs.Literals.{code_of}
 use Rattle.sat_trail.specs.States.{IsSound, Propagates}
-use Rattle.sat_trail.specs.Watching.{HasList, AreWatched, IsVisit, AreDue}
+use Rattle.sat_trail.specs.internal.Watching.{HasList, AreWatched, IsVisit, AreDue}
 use Rattle.sat_trail.proofs.watches.Watches.visit_entry.Given as goal
 
 abbrev pub invariant-loop-index : goal.invariant-loop-index

@@ -1,5 +1,5 @@
 -- What a call looks at, and what it does with that.
-use Rattle.std.proofs.Common.{replicate, set, leb, ◌≡◌, ℕ, suc, ◌+◌, ◌-◌, ◌*◌, ◌<◌, ◌≤◌, ◌^◌, min, Bool, true, false, not, cond, List, [], ◌∷◌, ◌++◌, length, take, Option, Some, None, slice_get, get_or, sym, ap, ◌∙◌, subst, refl, arith, inl, inr, ◌⊎◌, All, Contains}
+use Rattle.std.proofs.Common.{replicate, set, leb, ◌≡◌, ℕ, suc, ◌+◌, ◌-◌, ◌*◌, ◌<◌, ◌≤◌, ◌^◌, min, Bool, true, false, not, cond, List, [], ◌∷◌, ◌++◌, length, take, Option, Some, None, slice_get, get_or, sym, ap, ◌∙◌, subst, refl, arith, inl, inr, All, Contains}
 use Rattle.std.specs.Prelude.{IsSome, position}
 use Rattle.std.specs.List.{AllByRecursion, position_from}
 use Rattle.std.proofs.lemmas.Iterator.Adapters.{position_from-zero}
@@ -8,13 +8,14 @@ use Rattle.std.proofs.lemmas.List.{length-replicate, get_or-replicate, take_more
 use Rattle.std.proofs.lemmas.List.Elements.{All-push, All-nil, All-append, All-contains, All-from_recursion}
 use Rattle.std.proofs.lemmas.Bool.{or_cases, or_left, or_right, true≢false, false≢true, cases_lt, cases_Bool, le-leb, lt-leb, cond-true, cond-false}
 use Rattle.sequence.proofs.Places.{slice_get-behind, slice_get_some, contains_at, last_split}
+use Rattle.sat_trail.specs.internal.Tables.{IsPlaceTable, AreTruths}
 use Rattle.clause_core.specs.Literals.{Lit, negation, same, has, code_of}
 use Rattle.clause_core.specs.Clauses.{IsIncreasing, in_order, IsOver, has_pair}
 use Rattle.clause_core.specs.Propagation.{not_false, IsFalse, IsUnit, IsQuiet}
 use Rattle.clause_core.proofs.Sets.{IsIncreasing-apart, same_from, one_increasing, IsIncreasing-in_order, has-in_order, has_from_Contains, Contains_from_has, same_is, code_within}
 use Rattle.sat_trail.specs.declared.entries.Entry.{Entry}
 use Rattle.sat_trail.specs.Entries.{literals_of, level_of, place_of, truth_of, MayStand}
-use Rattle.sat_trail.specs.States.{started, IsPlaceTable, TrailState, IsSound, extended, up_to, Propagates, AreTruths}
+use Rattle.sat_trail.specs.States.{started, TrailState, IsSound, extended, up_to, Propagates}
 use Rattle.sat_trail.proofs.Places.{AreApart, place_found, value_set, entry_has, one_variable, table_pop}
 use Rattle.sat_trail.proofs.Soundness.{apart_from, stand_take, level_step, level_within, levels_rise, level_of-push, AllStand}
 

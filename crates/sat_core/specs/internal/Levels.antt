@@ -1,3 +1,4 @@
+-- Internal: only private functions of this crate use these words.
 -- Entries of a trail by their levels.
 use Rattle.std.specs.Prelude.{◌≡◌, ℕ, ◌<◌, List, Some, slice_get}
 use Rattle.clause_core.specs.Literals.{Lit}

@@ -1,3 +1,4 @@
+-- Internal: only private functions of this crate use these words.
 -- The order of decisions, and the assignment that is read off a trail.
 use Rattle.std.specs.Prelude.{◌≡◌, ◌≢◌, ℕ, ◌+◌, ◌<◌, Bool, true, false, List, [], ◌∷◌, ◌++◌, length, Some, None, slice_get}
 use Rattle.clause_core.specs.Literals.{Lit, has}

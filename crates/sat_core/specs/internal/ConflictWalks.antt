@@ -1,9 +1,11 @@
+-- Internal: only private functions of this crate use these words.
 -- The walk along a trail, from its end, that finds what a conflict teaches. An entry is marked while the clause
 -- that is found so far has the opposite of its literal and the walk is yet to pass it.
 use Rattle.std.specs.Prelude.{◌≡◌, ℕ, suc, ◌+◌, ◌<◌, ◌≤◌, ◌==◌, nat_lt, Bool, true, false, cond, ◌&&◌, ◌||◌, ◌⊎◌, List, [], ◌∷◌, length, reverse, Option, Some, None, slice_get}
 use Rattle.std.specs.BTreeSet.{contains}
 use Rattle.std.specs.List.{list_any}
 use Rattle.std.specs.Ordering.{nat_cmp}
+use Rattle.sat_core.specs.internal.Hints.{AreHints}
 use Rattle.clause_core.specs.Literals.{Lit, negation, has}
 use Rattle.sat_trail.specs.declared.entries.Entry.{Entry}
 use Rattle.sat_trail.specs.Entries.{literals_of, place_of}
@@ -11,8 +13,7 @@ use Rattle.sat_trail.specs.States.{TrailState}
 use Rattle.refutation_check.specs.Checking.{numbered_from, refused_hint}
 use Rattle.sat_core.specs.declared.marks.Marks.{Marks}
 use Rattle.sat_core.specs.declared.walks.Walk.{Walk}
-use Rattle.sat_core.specs.Levels.{IsSetAt}
-use Rattle.sat_core.specs.Numbering.{AreHints}
+use Rattle.sat_core.specs.internal.Levels.{IsSetAt}
 
 -- whether the entry at a place is marked
 abbrev pub is_marked : Marks → ℕ → Bool

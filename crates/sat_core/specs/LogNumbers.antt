@@ -2,10 +2,6 @@
 use Rattle.std.specs.Prelude.{◌≡◌, ℕ, suc, ◌≤◌, ◌<◌, ⊤, All, List, [], ◌∷◌}
 use Rattle.refutation_check.specs.declared.steps.Step.{Step}
 
--- each hint is at least 1, and at most this number
-abbrev pub AreHints : ℕ → List ℕ → Type 0
-AreHints last hints = All (λ hint. (1 ≤ hint) × (hint ≤ last)) hints
-
 -- the step has this number, and each of its hints is at least 1 and below that number
 pub record IsNumbered (number : ℕ) (step : Step) : Type 0 where
   pub number_is : step.number ≡ number

@@ -4,8 +4,9 @@ use Rattle.std.specs.Prelude.{reverse}
 use Rattle.std.specs.List.{AllByRecursion}
 use Rattle.std.proofs.lemmas.List.{reverse-append}
 use Rattle.std.proofs.lemmas.List.Elements.{All-push, All-nil, All-from_recursion, recursion_from_All}
+use Rattle.sat_core.specs.internal.Hints.{AreHints}
 use Rattle.refutation_check.specs.declared.steps.Step.{Step}
-use Rattle.sat_core.specs.Numbering.{AreHints, IsNumbered, AreNumbered}
+use Rattle.sat_core.specs.LogNumbers.{IsNumbered, AreNumbered}
 
 -- what holds of each member holds of each member in the opposite order
 all_reverse : {X : Type 0} (P : X → Type 0) (xs : List X) → AllByRecursion P xs → All P (reverse xs)

@@ -1,6 +1,8 @@
+-- Internal: only private functions of this crate use these words.
 -- What is learnt from a conflict. The terms are those of N. Eén and N. Sörensson, An Extensible SAT-solver,
 -- 2003; hints are those of a log.
 use Rattle.std.specs.Prelude.{◌≡◌, ℕ, ◌+◌, ◌^◌, ◌<◌, ◌≤◌, true, List, [], ◌∷◌, ◌++◌, map, length, None}
+use Rattle.sat_core.specs.internal.Hints.{AreHints}
 use Rattle.clause_core.specs.Literals.{Lit, negation, has}
 use Rattle.clause_core.specs.Clauses.{IsIncreasing}
 use Rattle.sat_trail.specs.Entries.{literals_of}
@@ -8,8 +10,7 @@ use Rattle.sat_trail.specs.States.{TrailState, with_clause, undone}
 use Rattle.refutation_check.specs.declared.steps.Step.{Step}
 use Rattle.refutation_check.specs.declared.steps.Log.{Log}
 use Rattle.refutation_check.specs.Checking.{numbered_from, refused_hint}
-use Rattle.sat_core.specs.Levels.{IsSetAt}
-use Rattle.sat_core.specs.Numbering.{AreHints}
+use Rattle.sat_core.specs.internal.Levels.{IsSetAt}
 
 -- One literal of the clause is false at the present level. The others are false at lower levels, the largest of
 -- which is the level to go back to; that is 0 where there are no others.

@@ -1,0 +1,6 @@
+pub mod Levels
+pub mod Hints
+pub mod Lessons
+pub mod Ends
+pub mod Decisions
+pub mod ConflictWalks
