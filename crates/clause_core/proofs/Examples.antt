@@ -1,5 +1,6 @@
 -- Small cases of the definitions, accepted and refused.
-use Rattle.std.proofs.Common.{◌≡◌, ℕ, zero, suc, Bool, true, false, List, [], ◌∷◌, length, pos, negsuc, refl, ap, ◌∙◌, arith, lit<, Contains}
+use Rattle.std.proofs.Common.{◌≡◌, ℕ, zero, suc, Bool, true, false, List, [], ◌∷◌, length, pos, negsuc, refl, ap, ◌∙◌, arith, lit<}
+use Rattle.std.proofs.Common.{Contains}
 use Rattle.std.proofs.lemmas.Bool.{true≢false, false≢true}
 use Rattle.clause_core.specs.Literals.{Lit, signed_number_of, literal_of, negation, has}
 use Rattle.clause_core.specs.Clauses.{in_order, is_contained, has_pair, meets, meets_all}
@@ -78,7 +79,12 @@ square = (a ∷ b ∷ []) ∷ (negation b ∷ a ∷ []) ∷ (negation a ∷ b �
 
 -- 1 follows: with 1 false, 1 2 makes 2 true, and 1 -2 is false
 reverse : HasReversePropagation square (a ∷ [])
-reverse = (b ∷ negation a ∷ [], turn {clause = a ∷ b ∷ []} {l = b} (0, lit< tt, refl) (record { others_false = refl; unassigned = refl }) done, (negation b ∷ a ∷ [], (1, lit< tt, refl), refl))
+reverse = (
+  b ∷ negation a ∷ [],
+  turn {clause = a ∷ b ∷ []} {l = b} (0, lit< tt, refl)
+      (record { others_false = refl; unassigned = refl }) done,
+  (negation b ∷ a ∷ [], (1, lit< tt, refl), refl),
+)
 
 -- the clause 1 2 alone is quiet, so unit propagation over it makes nothing true
 abbrev one_clause : List (List Lit)

@@ -11,7 +11,8 @@ IsIncreasing (l ∷ ls) = AllByRecursion (λ m. signed_number_of l <ℤ signed_n
 -- an increasing list with one more literal, at its place; the same list if the literal is in it
 abbrev pub with_literal : Lit → List Lit → List Lit
 with_literal l [] = l ∷ []
-with_literal l (m ∷ ms) = cond (same l m) (m ∷ ms) (cond (int_lt (signed_number_of l) (signed_number_of m)) (l ∷ m ∷ ms) (m ∷ with_literal l ms))
+with_literal l (m ∷ ms) = cond (same l m) (m ∷ ms) (cond (int_lt (signed_number_of l) (signed_number_of m)) (l ∷ m ∷ ms)
+    (m ∷ with_literal l ms))
 
 -- the literals of a list by rising numbers, each once
 abbrev pub in_order : List Lit → List Lit

@@ -31,7 +31,8 @@ is_satisfied trues clause = list_any (has trues) clause
 -- turn it makes the one unassigned literal of a clause true whose others are all false.
 pub data Reaches (clauses : List (List Lit)) : List Lit → List Lit → Type 0 where
   done : {trues : List Lit} → Reaches clauses trues trues
-  turn : {trues later clause : List Lit} {l : Lit} → Contains clauses clause → IsUnit trues clause l → Reaches clauses (l ∷ trues) later → Reaches clauses trues later
+  turn : {trues later clause : List Lit} {l : Lit} → Contains clauses clause → IsUnit trues clause l → Reaches clauses (l ∷ trues) later →
+      Reaches clauses trues later
 
 -- some clause of the list is false
 abbrev pub SomeFalse : List (List Lit) → List Lit → Type 0
@@ -54,7 +55,8 @@ HasReversePropagation clauses clause = ReachesFalse clauses (map negation clause
 -- reaches a false clause nor makes this one true.
 abbrev pub IsNotFound : List (List Lit) → List Lit → Lit → Type 0
 IsNotFound clauses clause l =
-    (trues : List Lit) → Reaches clauses (map negation (filter (λ m. not (same m l)) clause)) trues → (SomeFalse clauses trues → ⊥) × (has trues l ≡ false)
+    (trues : List Lit) → Reaches clauses (map negation (filter (λ m. not (same m l)) clause)) trues →
+    (SomeFalse clauses trues → ⊥) × (has trues l ≡ false)
 
 -- a clause that may stand in a trace behind the known ones
 pub record IsLearnt (variables : ℕ) (known : List (List Lit)) (clause : List Lit) : Type 0 where

@@ -98,9 +98,11 @@ checked_more variables clauses steps place largest s within is so_far fine =
 -- where each step is accepted and one has the empty clause, the log is
 pub all_accepted : (variables : ℕ) (clauses : List (List Lit)) (steps : List Step) (place largest : ℕ) → length steps ≤ place →
     steps_refusal variables largest (known_after clauses (take place steps)) (drop place steps)
-    ≡ steps_refusal variables (length clauses) (numbered_from 1 clauses) steps → list_any (λ step. is_empty_clause step.clause) steps ≡ true →
+    ≡ steps_refusal variables (length clauses) (numbered_from 1 clauses) steps →
+    list_any (λ step. is_empty_clause step.clause) steps ≡ true →
     log_refusal variables clauses steps ≡ None
 all_accepted variables clauses steps place largest past same some =
     let none : steps_refusal variables (length clauses) (numbered_from 1 clauses) steps ≡ None = sym same
     ∙ ap (steps_refusal variables largest (known_after clauses (take place steps))) (drop_all place steps past) in
-    ap (λ o. first_of o (end_refusal steps)) none ∙ cond-true (list_any (λ step. is_empty_clause step.clause) steps) None (Some unfinished) some
+    ap (λ o. first_of o (end_refusal steps)) none ∙ cond-true (list_any (λ step. is_empty_clause step.clause) steps) None
+    (Some unfinished) some

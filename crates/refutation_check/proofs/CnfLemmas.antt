@@ -17,7 +17,8 @@ use Rattle.refutation_check.specs.Numbers.{is_zero}
 use Rattle.sequence.specs.Options.{passes}
 use Rattle.refutation_check.specs.declared.dimacs.TheConstants.{MOST_VARIABLES, MOST_CLAUSES}
 use Rattle.refutation_check.specs.CnfText.{is_cnf, form_at, too_many_variables, too_many_clauses, header, means, with_zeros, is_right}
-use Rattle.refutation_check.specs.CnfText.{first_wrong, numbers_of, clauses_of_numbers, answer_of_words, answer_of_header, cnf_answer_of_lines}
+use Rattle.refutation_check.specs.CnfText.{first_wrong, numbers_of, clauses_of_numbers, answer_of_words, answer_of_header}
+use Rattle.refutation_check.specs.CnfText.{cnf_answer_of_lines}
 use Rattle.refutation_check.specs.CnfText.{cnf_answer}
 use Rattle.refutation_check.specs.internal.Reading.{are_within, ended_clauses}
 use Rattle.refutation_check.specs.LogText.{is_literal}
@@ -186,7 +187,8 @@ clauses_are count ns e =
 pub cnf_is : (text : List ℕ) (line : NumberedLine) (behind : List NumberedLine) (counts : Counts) (ended : ℕ) (words' : List (ℕ × List ℕ))
     (clauses : List (List Lit)) → data_lines text ≡ line ∷ behind → Some counts ≡ header (words line.bytes) →
     words' ≡ flat_map words_beside behind → first_wrong counts words' ≡ None → ended ≡ count_by is_zero (numbers_of words') →
-    counts.clauses ≤ ended → counts.variables ≤ MOST_VARIABLES → counts.clauses ≤ MOST_CLAUSES → clauses ≡ ended_clauses [] (numbers_of words') →
+    counts.clauses ≤ ended → counts.variables ≤ MOST_VARIABLES → counts.clauses ≤ MOST_CLAUSES →
+    clauses ≡ ended_clauses [] (numbers_of words') →
     cnf_answer text ≡ is_cnf counts.variables clauses
 cnf_is text line behind counts ended words' clauses first head same right passed all variables few is =
     ap (cnf_answer_of_lines after) first

@@ -96,7 +96,8 @@ no_literal_number name literals n (Some ns) other none =
         (ap (list_all is_literal) (sym (append-nil (map signed_number_of literals ++ n ∷ [])))
         ∙ not_all is_literal (map signed_number_of literals) n [] none)
     by_parts (part ∷ parts) =
-        bad_first name ((map signed_number_of literals ++ n ∷ []) ++ part) parts (not_all is_literal (map signed_number_of literals) n part none)
+        bad_first name ((map signed_number_of literals ++ n ∷ []) ++ part) parts
+        (not_all is_literal (map signed_number_of literals) n part none)
 
 pub no_literal : (name : ℕ) (literals : List Lit) (word : List ℕ) (words : List (List ℕ)) → passes is_zero (signed_number_in word) ≡ false →
     passes is_literal (signed_number_in word) ≡ false → with_literals name literals (word ∷ words) ≡ Wrong
@@ -114,7 +115,8 @@ literals_end name literals = ap (step_of_parts name) (split_front (map signed_nu
 
 no_hint_number : (name : ℕ) (literals : List Lit) (hints : List ℕ) (n : ℤ) (rest : Option (List ℤ)) → All (λ hint. 0 < hint) hints →
     is_zero n ≡ false → is_hint n ≡ false →
-    step_of_numbers name (option_map (λ ns. map signed_number_of literals ++ pos 0 ∷ (map pos hints ++ ns)) (option_map (λ ns. n ∷ ns) rest))
+    step_of_numbers name (option_map (λ ns. map signed_number_of literals ++ pos 0 ∷ (map pos hints ++ ns))
+    (option_map (λ ns. n ∷ ns) rest))
     ≡ Wrong
 no_hint_number name literals hints n None some other none = refl
 no_hint_number name literals hints n (Some ns) some other none =
@@ -122,11 +124,13 @@ no_hint_number name literals hints n (Some ns) some other none =
     ∙ ap (λ parts. map signed_number_of literals ∷ parts) (split_behind (map pos hints) n ns (hints_no_zero hints some) other))
     ∙ by_parts (slice_split is_zero ns)
   where
-    by_parts : (parts : List (List ℤ)) → step_of_parts name (map signed_number_of literals ∷ onto_front (map pos hints ++ n ∷ []) parts) ≡ Wrong
+    by_parts : (parts : List (List ℤ)) → step_of_parts name (map signed_number_of literals ∷ onto_front (map pos hints ++ n ∷ []) parts)
+        ≡ Wrong
     by_parts [] = bad_second name (map signed_number_of literals) (map pos hints ++ n ∷ []) []
         (ap (list_all is_hint) (sym (append-nil (map pos hints ++ n ∷ []))) ∙ not_all is_hint (map pos hints) n [] none)
     by_parts (part ∷ parts) =
-        bad_second name (map signed_number_of literals) ((map pos hints ++ n ∷ []) ++ part) parts (not_all is_hint (map pos hints) n part none)
+        bad_second name (map signed_number_of literals) ((map pos hints ++ n ∷ []) ++ part) parts
+        (not_all is_hint (map pos hints) n part none)
 
 pub no_hint : (name : ℕ) (literals : List Lit) (hints : List ℕ) (word : List ℕ) (words : List (List ℕ)) → All (λ hint. 0 < hint) hints →
     passes is_zero (signed_number_in word) ≡ false → passes is_hint (signed_number_in word) ≡ false →
@@ -161,7 +165,8 @@ both_more name literals hints word words some = by_first (signed_number_in word)
         step_of_numbers name (option_map (λ ns. map signed_number_of literals ++ pos 0 ∷ (map pos hints ++ pos 0 ∷ ns))
         (option_map (λ ns. n ∷ ns) o)) ≡ Wrong
     by_rest n None = refl
-    by_rest n (Some ns) = both_split name literals hints (n ∷ ns) some ∙ more_behind name (map signed_number_of literals) (map pos hints) n ns
+    by_rest n (Some ns) = both_split name literals hints (n ∷ ns) some
+        ∙ more_behind name (map signed_number_of literals) (map pos hints) n ns
 
     by_first : (o : Option ℤ) →
         step_of_numbers name (option_map (λ ns. map signed_number_of literals ++ pos 0 ∷ (map pos hints ++ pos 0 ∷ ns))
@@ -187,7 +192,11 @@ pub both_end : (name : ℕ) (literals : List Lit) (hints : List ℕ) → list_al
 both_end name literals hints all some =
     both_split name literals hints [] some
     ∙ (ap (λ b. cond b (Says
-    (record { number = name; clause = in_order (map literal_of (map signed_number_of literals)); hints = map nat_abs (map pos hints) })) Wrong)
+    (record {
+      number = name;
+      clause = in_order (map literal_of (map signed_number_of literals));
+      hints = map nat_abs (map pos hints);
+    })) Wrong)
     (and_from (list_all is_literal (map signed_number_of literals)) (list_all is_hint (map pos hints)) all
     (hints_pass is_hint (λ n. refl) hints some))
     ∙ (λ i. Says (record { number = name; clause = in_order (literals_again literals i); hints = hints_again hints i })))
@@ -202,7 +211,8 @@ both_wrong (Some x) first later name literals hints words some begins there =
 
 -- and where none was
 pub both_right : {X : Type 0} (found : Option X) (name : ℕ) (literals : List Lit) (hints : List ℕ) (words : List (List ℕ)) →
-    list_all is_literal (map signed_number_of literals) ≡ true → All (λ hint. 0 < hint) hints → IfNone found (words ≡ []) → false ≡ is_some found →
+    list_all is_literal (map signed_number_of literals) ≡ true → All (λ hint. 0 < hint) hints → IfNone found (words ≡ []) →
+    false ≡ is_some found →
     with_both name literals hints words ≡ Says (record { number = name; clause = in_order literals; hints = hints })
 both_right (Some x) name literals hints words all some ends there = absurd (false≢true there)
 both_right None name literals hints words all some ends there =

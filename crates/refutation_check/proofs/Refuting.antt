@@ -105,7 +105,8 @@ steps_met v variables (step ∷ steps) largest known h m =
     (steps_refusal variables step.number (known ++ named ∷ []) steps) h in
     let met = step_follows variables largest known step parts.0 v m in
     let all : meets_all v (clauses_in (known ++ named ∷ [])) ≡ true =
-    ap (meets_all v) (map-append (λ (k : Numbered). k.clause) known (named ∷ [])) ∙ meets_all-append v (clauses_in known) step.clause m met in
+    ap (meets_all v) (map-append (λ (k : Numbered). k.clause) known (named ∷ []))
+    ∙ meets_all-append v (clauses_in known) step.clause m met in
     and_from (meets v step.clause) (list_all (λ s. meets v s.clause) steps) met
     (steps_met v variables steps step.number (known ++ named ∷ []) parts.1 all)
 

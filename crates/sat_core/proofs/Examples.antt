@@ -1,5 +1,6 @@
 -- Small cases of the definitions, accepted and refused.
-use Rattle.std.proofs.Common.{◌≡◌, ℕ, zero, suc, ◌+◌, ◌^◌, ◌<◌, ◌≤◌, inl, inr, Bool, true, false, List, [], ◌∷◌, length, Some, None, slice_get, pos, negsuc, refl, sym, ap, subst, arith, lit<}
+use Rattle.std.proofs.Common.{◌≡◌, ℕ, zero, suc, ◌+◌, ◌^◌, ◌<◌, ◌≤◌, inl, inr, Bool, true, false, List, [], ◌∷◌, length, Some, None}
+use Rattle.std.proofs.Common.{slice_get, pos, negsuc, refl, sym, ap, subst, arith, lit<}
 use Rattle.std.specs.Prelude.{nat_lt, map}
 use Rattle.std.proofs.lemmas.Bool.{false≢true, or_cases, or_left}
 use Rattle.std.proofs.lemmas.Option.{none-some, same_Some}
@@ -58,14 +59,20 @@ refuting = record {
   accepted = refl;
   few_hints = All-from_recursion (λ (s : Step). length s.hints + 1 < 2 ^ 32) log (lit< tt, (lit< tt, tt));
   numbered = (
-    is_numbered (learnt_step 5 (a ∷ []) (1 ∷ 2 ∷ [])) 4 refl (All-from_recursion (λ hint. (1 ≤ hint) × (hint ≤ 4)) (1 ∷ 2 ∷ []) ((omega arith, omega arith), ((omega arith, omega arith), tt))),
-    (is_numbered (learnt_step 6 [] (5 ∷ 3 ∷ 4 ∷ [])) 5 refl (All-from_recursion (λ hint. (1 ≤ hint) × (hint ≤ 5)) (5 ∷ 3 ∷ 4 ∷ []) ((omega arith, omega arith), ((omega arith, omega arith), ((omega arith, omega arith), tt)))), tt),
+    is_numbered (learnt_step 5 (a ∷ []) (1 ∷ 2 ∷ [])) 4 refl (All-from_recursion (λ hint. (1 ≤ hint) × (hint ≤ 4)) (1 ∷ 2 ∷ [])
+        ((omega arith, omega arith), ((omega arith, omega arith), tt))),
+    (
+      is_numbered (learnt_step 6 [] (5 ∷ 3 ∷ 4 ∷ [])) 5 refl (All-from_recursion (λ hint. (1 ≤ hint) × (hint ≤ 5)) (5 ∷ 3 ∷ 4 ∷ [])
+          ((omega arith, omega arith), ((omega arith, omega arith), ((omega arith, omega arith), tt)))),
+      tt,
+    ),
   );
 }
 
 -- a hint after the one that ends them names a clause too
 hint_zero : AreRefuting 2 square (learnt_step 5 (a ∷ []) (1 ∷ 2 ∷ 0 ∷ []) ∷ learnt_step 6 [] (5 ∷ 3 ∷ 4 ∷ []) ∷ []) → ⊥
-hint_zero h = let n = (recursion_from_All (λ hint. (1 ≤ hint) × (hint < 5)) (1 ∷ 2 ∷ 0 ∷ []) h.numbered.0.hints_earlier).1.1.0.0 in omega arith
+hint_zero h = let n = (recursion_from_All (λ hint. (1 ≤ hint) × (hint < 5))
+    (1 ∷ 2 ∷ 0 ∷ []) h.numbered.0.hints_earlier).1.1.0.0 in omega arith
 
 -- the numbers of steps follow one another
 number_left_out : AreRefuting 2 square (learnt_step 5 (a ∷ []) (1 ∷ 2 ∷ []) ∷ learnt_step 7 [] (5 ∷ 3 ∷ 4 ∷ []) ∷ []) → ⊥
@@ -95,13 +102,19 @@ quiet_last = quiet_from (a ∷ []) ((a ∷ b ∷ []) ∷ (negation b ∷ a ∷ [
   where
     each : (k : ℕ) (c : List Lit) → slice_get ((a ∷ b ∷ []) ∷ (negation b ∷ a ∷ []) ∷ (a ∷ []) ∷ []) k ≡ Some c → IsOpen (a ∷ []) c
     each zero c at = subst (IsOpen (a ∷ [])) (same_Some (a ∷ b ∷ []) c at) (open_two (a ∷ []) (a ∷ b ∷ []) (lit< tt))
-    each (suc zero) c at = subst (IsOpen (a ∷ [])) (same_Some (negation b ∷ a ∷ []) c at) (open_two (a ∷ []) (negation b ∷ a ∷ []) (lit< tt))
+    each (suc zero) c at = subst (IsOpen (a ∷ [])) (same_Some (negation b ∷ a ∷ []) c at)
+        (open_two (a ∷ []) (negation b ∷ a ∷ []) (lit< tt))
     each (suc (suc zero)) c at = subst (IsOpen (a ∷ [])) (same_Some (a ∷ []) c at) (open_true (a ∷ []) (a ∷ []) a refl refl)
     each (suc (suc (suc k))) c at = absurd (none-some c at)
 
 -- 1 follows from 1 2 and 1 -2: with 1 false, 1 2 makes 2 true, and 1 -2 is false
 found : HasReversePropagation pair (a ∷ [])
-found = (b ∷ negation a ∷ [], turn {clause = a ∷ b ∷ []} {l = b} (0, lit< tt, refl) (record { others_false = refl; unassigned = refl }) done, (negation b ∷ a ∷ [], (1, lit< tt, refl), refl))
+found = (
+  b ∷ negation a ∷ [],
+  turn {clause = a ∷ b ∷ []} {l = b} (0, lit< tt, refl)
+      (record { others_false = refl; unassigned = refl }) done,
+  (negation b ∷ a ∷ [], (1, lit< tt, refl), refl),
+)
 
 not_found : IsNotFound pair (a ∷ []) a
 not_found trues reaches =
@@ -145,7 +158,12 @@ empty t = t.0.not_empty refl
 
 -- 1 refutes the square by propagation, so a search does not end with it
 refuted : IsTrace 2 square ((a ∷ []) ∷ []) → ⊥
-refuted t = t.1 (b ∷ a ∷ [], turn {clause = a ∷ []} {l = a} (4, lit< tt, refl) (record { others_false = refl; unassigned = refl }) (turn {clause = negation a ∷ b ∷ []} {l = b} (2, lit< tt, refl) (record { others_false = refl; unassigned = refl }) done), (negation b ∷ negation a ∷ [], (3, lit< tt, refl), refl))
+refuted t = t.1 (
+  b ∷ a ∷ [],
+  turn {clause = a ∷ []} {l = a} (4, lit< tt, refl) (record { others_false = refl; unassigned = refl })
+      (turn {clause = negation a ∷ b ∷ []} {l = b} (2, lit< tt, refl) (record { others_false = refl; unassigned = refl }) done),
+  (negation b ∷ negation a ∷ [], (3, lit< tt, refl), refl),
+)
 
 -- ---- words of signs
 

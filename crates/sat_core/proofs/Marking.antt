@@ -1,5 +1,6 @@
 -- Marks of entries, and the count of the marked ones of one level.
-use Rattle.std.proofs.Common.{◌≡◌, ℕ, zero, suc, ◌+◌, ◌-◌, ◌<◌, ◌≤◌, ◌^◌, Bool, true, false, not, cond, ◌&&◌, List, [], ◌∷◌, length, Option, Some, None, slice_get, sym, ap, ◌∙◌, refl, arith, eqb, inl, inr, ◌⊎◌}
+use Rattle.std.proofs.Common.{◌≡◌, ℕ, zero, suc, ◌+◌, ◌-◌, ◌<◌, ◌≤◌, ◌^◌, Bool, true, false, not, cond, ◌&&◌, List, [], ◌∷◌, length, Option}
+use Rattle.std.proofs.Common.{Some, None, slice_get, sym, ap, ◌∙◌, refl, arith, eqb, inl, inr, ◌⊎◌}
 use mir.Val.{bool_byte}
 use Rattle.std.specs.BTreeSet.{BTreeSet, contains, Updates}
 use Rattle.std.specs.Ordering.{nat_cmp}
@@ -24,32 +25,43 @@ one_at level m e = cond (m && eqb e.level level) 1 0
 -- ---- the count
 
 -- marks that agree from a place on
-count_same : (level n : ℕ) (ms ns : ℕ → Bool) (es : List Entry) → ((j : ℕ) → n ≤ j → ns j ≡ ms j) → count_from n level ns es ≡ count_from n level ms es
+count_same : (level n : ℕ) (ms ns : ℕ → Bool) (es : List Entry) → ((j : ℕ) → n ≤ j → ns j ≡ ms j) →
+    count_from n level ns es ≡ count_from n level ms es
 count_same level n ms ns [] h = refl
-count_same level n ms ns (e ∷ es) h = both (one_at level (ns n) e) (one_at level (ms n) e) (count_from (suc n) level ns es) (count_from (suc n) level ms es) (ap (λ b. one_at level b e) (h n (omega arith))) (count_same level (suc n) ms ns es (λ j above. h j (omega arith)))
+count_same level n ms ns (e ∷ es) h = both (one_at level (ns n) e) (one_at level (ms n) e) (count_from (suc n) level ns es)
+    (count_from (suc n) level ms es) (ap (λ b. one_at level b e) (h n (omega arith)))
+    (count_same level (suc n) ms ns es (λ j above. h j (omega arith)))
   where
     both : (a b c d : ℕ) → a ≡ b → c ≡ d → a + c ≡ b + d
     both a b c d p q = omega arith
 
 -- the count after the mark of one place changes
-count_changed : (level n p : ℕ) (ms ns : ℕ → Bool) (es : List Entry) (k : ℕ) (e : Entry) → p ≡ n + k → slice_get es k ≡ Some e → ((j : ℕ) → (j ≡ p → ⊥) → ns j ≡ ms j) → count_from n level ns es + one_at level (ms p) e ≡ count_from n level ms es + one_at level (ns p) e
+count_changed : (level n p : ℕ) (ms ns : ℕ → Bool) (es : List Entry) (k : ℕ) (e : Entry) → p ≡ n + k → slice_get es k ≡ Some e →
+    ((j : ℕ) → (j ≡ p → ⊥) → ns j ≡ ms j) → count_from n level ns es + one_at level (ms p) e
+    ≡ count_from n level ms es + one_at level (ns p) e
 count_changed level n p ms ns [] k e is at h = absurd (none-some e at)
 count_changed level n p ms ns (d ∷ es) zero e is at h =
     let here : p ≡ n = omega arith in
     let same_entry : d ≡ e = same_Some d e at in
-    let a : one_at level (ns n) d ≡ one_at level (ns p) e = ap (λ (j : ℕ). one_at level (ns j) d) (sym here) ∙ ap (λ (z : Entry). one_at level (ns p) z) same_entry in
-    let b : one_at level (ms n) d ≡ one_at level (ms p) e = ap (λ (j : ℕ). one_at level (ms j) d) (sym here) ∙ ap (λ (z : Entry). one_at level (ms p) z) same_entry in
-    swapped (one_at level (ns n) d) (one_at level (ns p) e) (one_at level (ms n) d) (one_at level (ms p) e) (count_from (suc n) level ns es) (count_from (suc n) level ms es) a b (count_same level (suc n) ms ns es (λ j above. h j (λ i. omega arith)))
+    let a : one_at level (ns n) d ≡ one_at level (ns p) e = ap (λ (j : ℕ). one_at level (ns j) d) (sym here)
+    ∙ ap (λ (z : Entry). one_at level (ns p) z) same_entry in
+    let b : one_at level (ms n) d ≡ one_at level (ms p) e = ap (λ (j : ℕ). one_at level (ms j) d) (sym here)
+    ∙ ap (λ (z : Entry). one_at level (ms p) z) same_entry in
+    swapped (one_at level (ns n) d) (one_at level (ns p) e) (one_at level (ms n) d) (one_at level (ms p) e) (count_from (suc n) level ns es)
+    (count_from (suc n) level ms es) a b (count_same level (suc n) ms ns es (λ j above. h j (λ i. omega arith)))
   where
     swapped : (x a y b c d : ℕ) → x ≡ a → y ≡ b → c ≡ d → (x + c) + b ≡ (y + d) + a
     swapped x a y b c d p q r = omega arith
 count_changed level n p ms ns (d ∷ es) (suc k) e is at h =
-    moved (one_at level (ns n) d) (one_at level (ms n) d) (count_from (suc n) level ns es) (one_at level (ms p) e) (count_from (suc n) level ms es) (one_at level (ns p) e) (ap (λ b. one_at level b d) (h n (λ i. omega arith))) (count_changed level (suc n) p ms ns es k e (omega arith) at h)
+    moved (one_at level (ns n) d) (one_at level (ms n) d) (count_from (suc n) level ns es) (one_at level (ms p) e)
+    (count_from (suc n) level ms es) (one_at level (ns p) e) (ap (λ b. one_at level b d) (h n (λ i. omega arith)))
+    (count_changed level (suc n) p ms ns es k e (omega arith) at h)
   where
     moved : (x y c a d b : ℕ) → x ≡ y → c + a ≡ d + b → (x + c) + a ≡ (y + d) + b
     moved x y c a d b p q = omega arith
 
-pub count_set : (level : ℕ) (ms ns : ℕ → Bool) (es : List Entry) (k : ℕ) (e : Entry) → slice_get es k ≡ Some e → ((j : ℕ) → (j ≡ k → ⊥) → ns j ≡ ms j) → count_at level ns es + one_at level (ms k) e ≡ count_at level ms es + one_at level (ns k) e
+pub count_set : (level : ℕ) (ms ns : ℕ → Bool) (es : List Entry) (k : ℕ) (e : Entry) → slice_get es k ≡ Some e →
+    ((j : ℕ) → (j ≡ k → ⊥) → ns j ≡ ms j) → count_at level ns es + one_at level (ms k) e ≡ count_at level ms es + one_at level (ns k) e
 count_set level ms ns es k e at h = count_changed level 0 k ms ns es k e (omega arith) at h
 
 one_le : (b : Bool) → cond b 1 0 ≤ 1
@@ -58,7 +70,8 @@ one_le false = omega arith
 
 count_le : (level n : ℕ) (ms : ℕ → Bool) (es : List Entry) → count_from n level ms es ≤ length es
 count_le level n ms [] = omega arith
-count_le level n ms (e ∷ es) = more (one_at level (ms n) e) (count_from (suc n) level ms es) (length es) (one_le (ms n && eqb e.level level)) (count_le level (suc n) ms es)
+count_le level n ms (e ∷ es) = more (one_at level (ms n) e) (count_from (suc n) level ms es) (length es)
+    (one_le (ms n && eqb e.level level)) (count_le level (suc n) ms es)
   where
     more : (x n k : ℕ) → x ≤ 1 → n ≤ k → x + n ≤ suc k
     more x n k p q = omega arith
@@ -71,12 +84,17 @@ pub record HasMarked (level : ℕ) (ms : ℕ → Bool) (es : List Entry) : Type 
   pub there : slice_get es place ≡ Some entry
   pub same_level : entry.level ≡ level
 
-some_from : (level n : ℕ) (ms : ℕ → Bool) (es : List Entry) → 0 < count_from n level ms es → (k : ℕ) × (e : Entry) × (p : ℕ) × (p ≡ n + k) × (ms p ≡ true) × (slice_get es k ≡ Some e) × (e.level ≡ level)
+some_from : (level n : ℕ) (ms : ℕ → Bool) (es : List Entry) → 0 < count_from n level ms es →
+    (k : ℕ) × (e : Entry) × (p : ℕ) × (p ≡ n + k) × (ms p ≡ true) × (slice_get es k ≡ Some e) × (e.level ≡ level)
 some_from level n ms [] h = absurd (omega arith)
 some_from level n ms (e ∷ es) h = by_test (ms n && eqb e.level level) refl (some_from level (suc n) ms es) h
   where
-    by_test : (b : Bool) → (ms n && eqb e.level level) ≡ b → (0 < count_from (suc n) level ms es → (k : ℕ) × (d : Entry) × (p : ℕ) × (p ≡ suc n + k) × (ms p ≡ true) × (slice_get es k ≡ Some d) × (d.level ≡ level)) → 0 < cond b 1 0 + count_from (suc n) level ms es → (k : ℕ) × (d : Entry) × (p : ℕ) × (p ≡ n + k) × (ms p ≡ true) × (slice_get (e ∷ es) k ≡ Some d) × (d.level ≡ level)
-    by_test true t later h = let parts = and_parts (ms n) (eqb e.level level) t in (0, e, n, omega arith, parts.0, refl, eqb-true e.level level parts.1)
+    by_test : (b : Bool) → (ms n && eqb e.level level) ≡ b → (0 < count_from (suc n) level ms es →
+        (k : ℕ) × (d : Entry) × (p : ℕ) × (p ≡ suc n + k) × (ms p ≡ true) × (slice_get es k ≡ Some d) × (d.level ≡ level)) →
+        0 < cond b 1 0 + count_from (suc n) level ms es → (k : ℕ) × (d : Entry) × (p : ℕ) × (p ≡ n + k) × (ms p ≡ true)
+        × (slice_get (e ∷ es) k ≡ Some d) × (d.level ≡ level)
+    by_test true t later h = let parts = and_parts (ms n) (eqb e.level level) t in
+        (0, e, n, omega arith, parts.0, refl, eqb-true e.level level parts.1)
     by_test false t later h = let r = later (omega arith) in (suc r.0, r.1, r.2, omega (arith, r.3), r.4, r.5, r.6)
 
 pub count_some : (level : ℕ) (ms : ℕ → Bool) (es : List Entry) → 0 < count_at level ms es → HasMarked level ms es
@@ -92,26 +110,31 @@ pub one_other : (level : ℕ) (m : Bool) (e : Entry) → (e.level ≡ level → 
 one_other level true e h = ap (λ (b : Bool). cond b 1 0) (ne_eqb e.level level h)
 one_other level false e h = refl
 
-has_from : (level n p : ℕ) (ms : ℕ → Bool) (es : List Entry) (k : ℕ) (e : Entry) → p ≡ n + k → ms p ≡ true → slice_get es k ≡ Some e → e.level ≡ level → 0 < count_from n level ms es
+has_from : (level n p : ℕ) (ms : ℕ → Bool) (es : List Entry) (k : ℕ) (e : Entry) → p ≡ n + k → ms p ≡ true → slice_get es k ≡ Some e →
+    e.level ≡ level → 0 < count_from n level ms es
 has_from level n p ms [] k e is m at h = absurd (none-some e at)
 has_from level n p ms (d ∷ es) zero e is m at h =
     let here : p ≡ n = omega arith in
-    let one : one_at level (ms n) d ≡ 1 = ap (λ (j : ℕ). one_at level (ms j) d) (sym here) ∙ (ap (λ b. one_at level b d) m ∙ (ap (λ (z : Entry). one_at level true z) (same_Some d e at) ∙ one_same level e h)) in
+    let one : one_at level (ms n) d ≡ 1 = ap (λ (j : ℕ). one_at level (ms j) d) (sym here)
+    ∙ (ap (λ b. one_at level b d) m ∙ (ap (λ (z : Entry). one_at level true z) (same_Some d e at) ∙ one_same level e h)) in
     positive (one_at level (ms n) d) (count_from (suc n) level ms es) one
   where
     positive : (x c : ℕ) → x ≡ 1 → 0 < x + c
     positive x c q = omega arith
-has_from level n p ms (d ∷ es) (suc k) e is m at h = behind (one_at level (ms n) d) (count_from (suc n) level ms es) (has_from level (suc n) p ms es k e (omega arith) m at h)
+has_from level n p ms (d ∷ es) (suc k) e is m at h = behind (one_at level (ms n) d) (count_from (suc n) level ms es)
+    (has_from level (suc n) p ms es k e (omega arith) m at h)
   where
     behind : (x c : ℕ) → 0 < c → 0 < x + c
     behind x c q = omega arith
 
-pub count_has : (level : ℕ) (ms : ℕ → Bool) (es : List Entry) (k : ℕ) (e : Entry) → ms k ≡ true → slice_get es k ≡ Some e → e.level ≡ level → 0 < count_at level ms es
+pub count_has : (level : ℕ) (ms : ℕ → Bool) (es : List Entry) (k : ℕ) (e : Entry) → ms k ≡ true → slice_get es k ≡ Some e →
+    e.level ≡ level → 0 < count_at level ms es
 count_has level ms es k e m at h = has_from level 0 k ms es k e (omega arith) m at h
 
 none_from : (level n : ℕ) (ms : ℕ → Bool) (es : List Entry) → ((j : ℕ) → ms j ≡ false) → count_from n level ms es ≡ 0
 none_from level n ms [] h = refl
-none_from level n ms (e ∷ es) h = both (one_at level (ms n) e) (count_from (suc n) level ms es) (ap (λ b. one_at level b e) (h n)) (none_from level (suc n) ms es h)
+none_from level n ms (e ∷ es) h = both (one_at level (ms n) e) (count_from (suc n) level ms es) (ap (λ b. one_at level b e) (h n))
+    (none_from level (suc n) ms es h)
   where
     both : (x c : ℕ) → x ≡ 0 → c ≡ 0 → x + c ≡ 0
     both x c p q = omega arith
@@ -133,22 +156,31 @@ without_other ms q k n = ap (λ b. ms k && not b) (ne_eqb k q n) ∙ and-true (m
 
 -- a mark that is left is another one
 pub without_from : (ms : ℕ → Bool) (q k : ℕ) → without ms q k ≡ true → (k ≡ q → ⊥) × (ms k ≡ true)
-without_from ms q k h = (λ i. false≢true (sym (without_here ms q) ∙ (ap (without ms q) (sym i) ∙ h)), (and_parts (ms k) (not (eqb k q)) h).0)
+without_from ms q k h = (
+  λ i. false≢true (sym (without_here ms q) ∙ (ap (without ms q) (sym i) ∙ h)),
+  (and_parts (ms k) (not (eqb k q)) h).0,
+)
 
-pub count_without : (level : ℕ) (ms ns : ℕ → Bool) (es : List Entry) (q : ℕ) (e : Entry) → slice_get es q ≡ Some e → ms q ≡ true → ((k : ℕ) → ns k ≡ without ms q k) → count_at level ns es + one_at level true e ≡ count_at level ms es
+pub count_without : (level : ℕ) (ms ns : ℕ → Bool) (es : List Entry) (q : ℕ) (e : Entry) → slice_get es q ≡ Some e → ms q ≡ true →
+    ((k : ℕ) → ns k ≡ without ms q k) → count_at level ns es + one_at level true e ≡ count_at level ms es
 count_without level ms ns es q e at marked is =
-    summed (count_at level ns es) (one_at level (ms q) e) (one_at level true e) (count_at level ms es) (one_at level (ns q) e) (count_set level ms ns es q e at (λ k n. is k ∙ without_other ms q k n)) (ap (λ b. one_at level b e) marked) (ap (λ b. one_at level b e) (is q ∙ without_here ms q))
+    summed (count_at level ns es) (one_at level (ms q) e) (one_at level true e) (count_at level ms es) (one_at level (ns q) e)
+    (count_set level ms ns es q e at (λ k n. is k ∙ without_other ms q k n)) (ap (λ b. one_at level b e) marked)
+    (ap (λ b. one_at level b e) (is q ∙ without_here ms q))
   where
     summed : (n a x m b : ℕ) → n + a ≡ m + b → a ≡ x → b ≡ 0 → n + x ≡ m
     summed n a x m b s p q = omega arith
 
 -- ---- the entries of a clause
 
-pub is_of_clause_has : (es : List Entry) (ls : List Lit) (l : Lit) (k : ℕ) → has ls l ≡ true → place_of es l.index ≡ Some k → is_of_clause es ls k ≡ true
+pub is_of_clause_has : (es : List Entry) (ls : List Lit) (l : Lit) (k : ℕ) → has ls l ≡ true → place_of es l.index ≡ Some k →
+    is_of_clause es ls k ≡ true
 is_of_clause_has es [] l k h at = absurd (false≢true h)
 is_of_clause_has es (x ∷ xs) l k h at =
     elim (or_cases (same x l) (has xs l) h) [
-      | inl t ↦ or_left (stands_at (place_of es x.index) k) (is_of_clause es xs k) (ap (λ (z : Lit). stands_at (place_of es z.index) k) (same_is x l t) ∙ (ap (λ (o : Option ℕ). stands_at o k) at ∙ eq-eqb k k refl))
+      | inl t ↦ or_left (stands_at (place_of es x.index) k) (is_of_clause es xs k)
+          (ap (λ (z : Lit). stands_at (place_of es z.index) k) (same_is x l t)
+          ∙ (ap (λ (o : Option ℕ). stands_at o k) at ∙ eq-eqb k k refl))
       | inr t ↦ or_right (stands_at (place_of es x.index) k) (is_of_clause es xs k) (is_of_clause_has es xs l k t at)
     ]
 
@@ -166,8 +198,16 @@ pub is_of_clause_from : (es : List Entry) (ls : List Lit) (k : ℕ) → is_of_cl
 is_of_clause_from es [] k h = absurd (false≢true h)
 is_of_clause_from es (x ∷ xs) k h =
     elim (or_cases (stands_at (place_of es x.index) k) (is_of_clause es xs k) h) [
-      | inl t ↦ record { literal = x; member = or_left (same x x) (has xs x) (same_from x x refl); placed = stands_is (place_of es x.index) k t }
-      | inr t ↦ (let r = is_of_clause_from es xs k t in record { literal = r.literal; member = or_right (same x r.literal) (has xs r.literal) r.member; placed = r.placed })
+      | inl t ↦ record {
+        literal = x;
+        member = or_left (same x x) (has xs x) (same_from x x refl);
+        placed = stands_is (place_of es x.index) k t;
+      }
+      | inr t ↦ (let r = is_of_clause_from es xs k t in record {
+        literal = r.literal;
+        member = or_right (same x r.literal) (has xs r.literal) r.member;
+        placed = r.placed;
+      })
     ]
 
 -- ---- the count that is kept
@@ -176,43 +216,60 @@ pub byte_is : (b : Bool) → bool_byte b ≡ cond b 1 0
 byte_is true = refl
 byte_is false = refl
 
-pub place_within : (es : List Entry) (variable index place : ℕ) → variable ≡ index + 1 → Some place ≡ place_of es (variable - 1) → (place_of es index ≡ Some place) × (place < length es)
+pub place_within : (es : List Entry) (variable index place : ℕ) → variable ≡ index + 1 → Some place ≡ place_of es (variable - 1) →
+    (place_of es index ≡ Some place) × (place < length es)
 place_within es variable index place is h =
     let at : place_of es index ≡ Some place = ap (place_of es) (let e : index ≡ variable - 1 = omega arith in e) ∙ sym h in
     let r = place_found 0 es index place at in
     (at, omega (arith, r.1, slice_get_within es r.0 r.2.entry r.2.there))
 
 pub count_fits : (t : TrailState) → IsSound t → (ms : ℕ → Bool) → count_at t.level ms t.entries < 2 ^ 32
-count_fits t sound ms = omega (arith, count_le t.level 0 ms t.entries, length_entries t.variables t.clauses t.entries sound.stand, sound.few_variables)
+count_fits t sound ms = omega (
+  arith,
+  count_le t.level 0 ms t.entries,
+  length_entries t.variables t.clauses t.entries sound.stand,
+  sound.few_variables,
+)
 
 -- the count falls with a mark that is taken away
-counts_less : (t : TrailState) (waiting : ℕ) (ms ns : ℕ → Bool) (k : ℕ) (e : Entry) (present : Bool) (byte : ℕ) → waiting ≡ count_at t.level ms t.entries → ms k ≡ true → ns k ≡ false → ((j : ℕ) → (j ≡ k → ⊥) → ns j ≡ ms j) → slice_get t.entries k ≡ Some e → present ≡ eqb e.level t.level → byte ≡ bool_byte present → waiting ≡ count_at t.level ns t.entries + byte
+counts_less : (t : TrailState) (waiting : ℕ) (ms ns : ℕ → Bool) (k : ℕ) (e : Entry) (present : Bool) (byte : ℕ) →
+    waiting ≡ count_at t.level ms t.entries → ms k ≡ true → ns k ≡ false → ((j : ℕ) → (j ≡ k → ⊥) → ns j ≡ ms j) →
+    slice_get t.entries k ≡ Some e → present ≡ eqb e.level t.level → byte ≡ bool_byte present →
+    waiting ≡ count_at t.level ns t.entries + byte
 counts_less t waiting ms ns k e present byte counted marked cleared others at is read =
     let s = count_set t.level ms ns t.entries k e at others in
     let p : byte ≡ one_at t.level true e = read ∙ (byte_is present ∙ ap (λ (b : Bool). cond b 1 0) is) in
     let m : one_at t.level (ms k) e ≡ one_at t.level true e = ap (λ b. one_at t.level b e) marked in
     let n : one_at t.level (ns k) e ≡ 0 = ap (λ b. one_at t.level b e) cleared in
-    summed waiting (count_at t.level ms t.entries) (count_at t.level ns t.entries) (one_at t.level true e) (one_at t.level (ms k) e) (one_at t.level (ns k) e) byte counted s p m n
+    summed waiting (count_at t.level ms t.entries) (count_at t.level ns t.entries) (one_at t.level true e) (one_at t.level (ms k) e)
+    (one_at t.level (ns k) e) byte counted s p m n
   where
     summed : (w n c x a b p : ℕ) → w ≡ n → c + a ≡ n + b → p ≡ x → a ≡ x → b ≡ 0 → w ≡ c + p
     summed w n c x a b p h s e f g = omega arith
 
 -- the count rises with a new mark
-counts_more : (t : TrailState) (waiting : ℕ) (ms ns : ℕ → Bool) (k : ℕ) (e : Entry) (present : Bool) (byte : ℕ) → waiting ≡ count_at t.level ms t.entries → ms k ≡ false → ns k ≡ true → ((j : ℕ) → (j ≡ k → ⊥) → ns j ≡ ms j) → slice_get t.entries k ≡ Some e → present ≡ eqb e.level t.level → byte ≡ bool_byte present → waiting + byte ≡ count_at t.level ns t.entries
+counts_more : (t : TrailState) (waiting : ℕ) (ms ns : ℕ → Bool) (k : ℕ) (e : Entry) (present : Bool) (byte : ℕ) →
+    waiting ≡ count_at t.level ms t.entries → ms k ≡ false → ns k ≡ true → ((j : ℕ) → (j ≡ k → ⊥) → ns j ≡ ms j) →
+    slice_get t.entries k ≡ Some e → present ≡ eqb e.level t.level → byte ≡ bool_byte present →
+    waiting + byte ≡ count_at t.level ns t.entries
 counts_more t waiting ms ns k e present byte counted unmarked marked others at is read =
     let s = count_set t.level ms ns t.entries k e at others in
     let p : byte ≡ one_at t.level true e = read ∙ (byte_is present ∙ ap (λ (b : Bool). cond b 1 0) is) in
     let m : one_at t.level (ms k) e ≡ 0 = ap (λ b. one_at t.level b e) unmarked in
     let n : one_at t.level (ns k) e ≡ one_at t.level true e = ap (λ b. one_at t.level b e) marked in
-    summed waiting (count_at t.level ms t.entries) (count_at t.level ns t.entries) (one_at t.level true e) (one_at t.level (ms k) e) (one_at t.level (ns k) e) byte counted s p m n
+    summed waiting (count_at t.level ms t.entries) (count_at t.level ns t.entries) (one_at t.level true e) (one_at t.level (ms k) e)
+    (one_at t.level (ns k) e) byte counted s p m n
   where
     summed : (w n c x a b p : ℕ) → w ≡ n → c + a ≡ n + b → p ≡ x → a ≡ 0 → b ≡ x → w + p ≡ c
     summed w n c x a b p h s e f g = omega arith
 
 -- a mark is taken away
-pub clears : (t : TrailState) (m : Marks) (places : BTreeSet ℕ) (k : ℕ) (e : Entry) (present : Bool) (byte : ℕ) → AreMarks t m → is_marked m k ≡ true → Updates nat_cmp m.places places k false → slice_get t.entries k ≡ Some e → present ≡ eqb e.level t.level → byte ≡ bool_byte present → (byte ≤ m.waiting) × AreMarks t (record { places = places; waiting = m.waiting - byte })
+pub clears : (t : TrailState) (m : Marks) (places : BTreeSet ℕ) (k : ℕ) (e : Entry) (present : Bool) (byte : ℕ) → AreMarks t m →
+    is_marked m k ≡ true → Updates nat_cmp m.places places k false → slice_get t.entries k ≡ Some e → present ≡ eqb e.level t.level →
+    byte ≡ bool_byte present → (byte ≤ m.waiting) × AreMarks t (record { places = places; waiting = m.waiting - byte })
 clears t m places k e present byte marks marked updates at is read =
-    let less = counts_less t m.waiting (is_marked m) (contains nat_cmp places) k e present byte marks.counted marked updates.1 others at is read in
+    let less = counts_less t m.waiting (is_marked m) (contains nat_cmp places) k e present byte marks.counted marked updates.1 others at is
+    read in
     (omega arith, record { within = λ j h. within j h (cases_eq j k); counted = omega arith })
   where
     others : (j : ℕ) → (j ≡ k → ⊥) → contains nat_cmp places j ≡ is_marked m j
@@ -223,9 +280,15 @@ clears t m places k e present byte marks marked updates at is read =
     within j h (inr n) = marks.within j (sym (others j n) ∙ h)
 
 -- a mark is set
-pub adds : (t : TrailState) (m : Marks) (places : BTreeSet ℕ) (k : ℕ) (e : Entry) (present : Bool) (byte : ℕ) → AreMarks t m → is_marked m k ≡ false → Updates nat_cmp m.places places k true → slice_get t.entries k ≡ Some e → present ≡ eqb e.level t.level → byte ≡ bool_byte present → AreMarks t (record { places = places; waiting = m.waiting + byte })
+pub adds : (t : TrailState) (m : Marks) (places : BTreeSet ℕ) (k : ℕ) (e : Entry) (present : Bool) (byte : ℕ) → AreMarks t m →
+    is_marked m k ≡ false → Updates nat_cmp m.places places k true → slice_get t.entries k ≡ Some e → present ≡ eqb e.level t.level →
+    byte ≡ bool_byte present → AreMarks t (record { places = places; waiting = m.waiting + byte })
 adds t m places k e present byte marks unmarked updates at is read =
-    record { within = λ j h. within j h (cases_eq j k); counted = counts_more t m.waiting (is_marked m) (contains nat_cmp places) k e present byte marks.counted unmarked updates.1 others at is read }
+    record {
+      within = λ j h. within j h (cases_eq j k);
+      counted = counts_more t m.waiting (is_marked m)
+          (contains nat_cmp places) k e present byte marks.counted unmarked updates.1 others at is read;
+    }
   where
     others : (j : ℕ) → (j ≡ k → ⊥) → contains nat_cmp places j ≡ is_marked m j
     others j n = updates.2 j (apart_at k j n)
@@ -235,7 +298,8 @@ adds t m places k e present byte marks unmarked updates at is read =
     within j h (inr n) = marks.within j (sym (others j n) ∙ h)
 
 -- marks at the same places are counted alike
-pub marks_same : (t : TrailState) (m n : Marks) → ((k : ℕ) → is_marked n k ≡ is_marked m k) → n.waiting ≡ m.waiting → AreMarks t m → AreMarks t n
+pub marks_same : (t : TrailState) (m n : Marks) → ((k : ℕ) → is_marked n k ≡ is_marked m k) → n.waiting ≡ m.waiting → AreMarks t m →
+    AreMarks t n
 marks_same t m n h w marks = record {
   within = λ k marked. marks.within k (sym (h k) ∙ marked);
   counted = w ∙ (marks.counted ∙ sym (count_same t.level 0 (is_marked m) (is_marked n) t.entries (λ k above. h k)));

@@ -1,11 +1,15 @@
 -- What holds of a search between its steps.
-use Rattle.std.proofs.Common.{◌≡◌, ℕ, zero, suc, ◌+◌, ◌-◌, ◌*◌, ◌<◌, ◌≤◌, ◌^◌, Bool, true, false, not, cond, ◌||◌, List, [], ◌∷◌, ◌++◌, length, map, filter, take, min, Option, Some, None, slice_get, sym, ap, ◌∙◌, subst, refl, arith, eqb, leb, inl, inr, Contains, All}
+use Rattle.std.proofs.Common.{◌≡◌, ℕ, zero, suc, ◌+◌, ◌-◌, ◌*◌, ◌<◌, ◌≤◌, ◌^◌, Bool, true, false, not, cond, ◌||◌, List, [], ◌∷◌, ◌++◌}
+use Rattle.std.proofs.Common.{length, map, filter, take, min, Option, Some, None, slice_get, sym, ap, ◌∙◌, subst, refl, arith, eqb, leb}
+use Rattle.std.proofs.Common.{inl, inr, Contains, All}
 use Rattle.std.specs.Prelude.{option_map, IsSome, slice_index_or}
 use Rattle.std.specs.List.{AllByRecursion, list_any}
-use Rattle.std.proofs.lemmas.Bool.{true≢false, false≢true, or_left, or_right, cases_Bool, cases_eq, cases_lt, cond-true, cond-false, false_from_ne_true, lt-leb, leb-false, and_from}
+use Rattle.std.proofs.lemmas.Bool.{true≢false, false≢true, or_left, or_right, cases_Bool, cases_eq, cases_lt, cond-true, cond-false}
+use Rattle.std.proofs.lemmas.Bool.{false_from_ne_true, lt-leb, leb-false, and_from}
 use Rattle.std.proofs.lemmas.Option.{none-some, same_Some, slice_get_within}
 use Rattle.std.proofs.lemmas.List.{append_assoc, append-nil, map-append, length-append, length_push, length-map, length-take-le}
-use Rattle.std.proofs.lemmas.List.Elements.{All-push, All-nil, All-from_recursion, recursion_from_All, Contains-append_cases, Contains-append_left}
+use Rattle.std.proofs.lemmas.List.Elements.{All-push, All-nil, All-from_recursion, recursion_from_All, Contains-append_cases}
+use Rattle.std.proofs.lemmas.List.Elements.{Contains-append_left}
 use Rattle.sequence.proofs.Places.{slice_get_push, slice_get-take}
 use Rattle.sat_core.specs.internal.Ends.{IsEnd}
 use Rattle.sat_core.specs.internal.Hints.{AreHints}
@@ -13,7 +17,8 @@ use Rattle.clause_core.specs.Literals.{Lit, negation, same, has}
 use Rattle.clause_core.specs.Clauses.{IsIncreasing, in_order, IsOver, has_pair, is_true, meets, meets_all, assignment_of}
 use Rattle.clause_core.specs.Propagation.{not_false, IsFalse, IsQuiet, ReachesFalse, IsLearnt, IsNotFound, IsTrace}
 use Rattle.clause_core.specs.Propagation.Reaches.{done, turn}
-use Rattle.clause_core.proofs.Sets.{one_increasing, IsIncreasing-in_order, has-in_order, same_from, negation-negation, negation_differs, Contains_from_has, any_has}
+use Rattle.clause_core.proofs.Sets.{one_increasing, IsIncreasing-in_order, has-in_order, same_from, negation-negation, negation_differs}
+use Rattle.clause_core.proofs.Sets.{Contains_from_has, any_has}
 use Rattle.clause_core.proofs.Semantics.{reached_within, none_false_within}
 use Rattle.sat_trail.specs.declared.entries.Entry.{Entry}
 use Rattle.sat_trail.specs.Entries.{literals_of, place_of, entry_with}
@@ -23,8 +28,9 @@ use Rattle.sat_trail.proofs.Soundness.{apart_from, level_within}
 use Rattle.sat_trail.proofs.TrailSteps.{up_to_all, up_to-push, unset_from, has_not_false, has_one}
 use Rattle.refutation_check.specs.declared.steps.Step.{Step}
 use Rattle.refutation_check.specs.declared.steps.Log.{Log}
-use Rattle.refutation_check.specs.Checking.{Numbered, numbered_from, clause_named, effect_of_open, effect_of_named, led_to, refused_hint, Refusal, step_refusal, first_of, steps_refusal, is_empty_clause, end_refusal, HaveFewHints}
-use Rattle.refutation_check.specs.Checking.Effect.{makes, shows_nothing}
+use Rattle.refutation_check.specs.Checking.{Numbered, numbered_from, clause_named, effect_of_open, effect_of_named, led_to, refused_hint}
+use Rattle.refutation_check.specs.Checking.{Refusal, step_refusal, first_of, steps_refusal, is_empty_clause, end_refusal, HaveFewHints}
+use Rattle.refutation_check.specs.Checking.HintEffect.{makes, shows_nothing}
 use Rattle.refutation_check.specs.Checking.Refusal.{at_line, at_hint, unfinished}
 use Rattle.sat_core.specs.internal.Levels.{IsSetAt, AreQuietBelow}
 use Rattle.sat_core.specs.LogNumbers.{AreNumbered}
@@ -45,7 +51,8 @@ pub record IsSearch (variables : ℕ) (clauses : List (List Lit)) (t : TrailStat
   pub sound : IsSound t
   pub same_variables : t.variables ≡ variables
   pub stands : t.clauses ≡ clauses ++ clauses_of steps
-  pub logged : (later : List Step) → steps_refusal variables (length t.clauses) (numbered_from 1 t.clauses) later ≡ None → steps_refusal variables (length clauses) (numbered_from 1 clauses) (steps ++ later) ≡ None
+  pub logged : (later : List Step) → steps_refusal variables (length t.clauses) (numbered_from 1 t.clauses) later ≡ None →
+      steps_refusal variables (length clauses) (numbered_from 1 clauses) (steps ++ later) ≡ None
   pub few_hints : HaveFewHints steps
   pub numbered : AreNumbered (length clauses + 1) steps
   pub traced : (later : List (List Lit)) → IsTrace variables t.clauses later → IsTrace variables clauses (clauses_of steps ++ later)
@@ -54,7 +61,8 @@ pub record IsSearch (variables : ℕ) (clauses : List (List Lit)) (t : TrailStat
 
 -- ---- the beginning
 
-pub search_begins : (variables : ℕ) (clauses : List (List Lit)) (t : TrailState) → t ≡ started variables clauses → IsSound t → IsSearch variables clauses t []
+pub search_begins : (variables : ℕ) (clauses : List (List Lit)) (t : TrailState) → t ≡ started variables clauses → IsSound t →
+    IsSearch variables clauses t []
 search_begins variables clauses t is sound = subst (λ (s : TrailState). IsSearch variables clauses s []) (sym is) (record {
   usable = refl;
   sound = subst IsSound is sound;
@@ -70,89 +78,113 @@ search_begins variables clauses t is sound = subst (λ (s : TrailState). IsSearc
 
 -- ---- propagation
 
-up_to_added : (n level : ℕ) (es added : List Entry) → AllByRecursion (λ (e : Entry). (e.level ≡ n) × IsSome e.reason) added → level < n → up_to level (es ++ added) ≡ up_to level es
+up_to_added : (n level : ℕ) (es added : List Entry) → AllByRecursion (λ (e : Entry). (e.level ≡ n) × IsSome e.reason) added → level < n →
+    up_to level (es ++ added) ≡ up_to level es
 up_to_added n level [] [] all below = refl
-up_to_added n level [] (e ∷ es) all below = cond-false (leb e.level level) (e ∷ up_to level es) (up_to level es) (lt-leb e.level level (omega (arith, all.0.0))) ∙ up_to_added n level [] es all.1 below
-up_to_added n level (x ∷ es) added all below = ap (λ (xs : List Entry). cond (leb x.level level) (x ∷ xs) xs) (up_to_added n level es added all below)
+up_to_added n level [] (e ∷ es) all below = cond-false (leb e.level level) (e ∷ up_to level es) (up_to level es)
+    (lt-leb e.level level (omega (arith, all.0.0))) ∙ up_to_added n level [] es all.1 below
+up_to_added n level (x ∷ es) added all below = ap (λ (xs : List Entry). cond (leb x.level level) (x ∷ xs) xs)
+    (up_to_added n level es added all below)
 
-pub search_propagated : (variables : ℕ) (clauses : List (List Lit)) (t u : TrailState) (steps : List Step) → IsSearch variables clauses t steps → Propagates t u → IsSound u → IsSearch variables clauses u steps
-search_propagated variables clauses t u steps search grows sound = subst (λ (s : TrailState). IsSearch variables clauses s steps) (sym grows.rest_stays) (record {
-  usable = search.usable;
-  sound = subst IsSound grows.rest_stays sound;
-  same_variables = search.same_variables;
-  stands = search.stands;
-  logged = search.logged;
-  few_hints = search.few_hints;
-  numbered = search.numbered;
-  traced = search.traced;
-  increasing = search.increasing;
-  quiet = λ level below. subst (λ (es : List Entry). IsQuiet t.clauses (literals_of es)) (sym (up_to_added t.level level t.entries grows.added (recursion_from_All (λ (e : Entry). (e.level ≡ t.level) × IsSome e.reason) grows.added grows.forced) below)) (search.quiet level below);
-})
+pub search_propagated : (variables : ℕ) (clauses : List (List Lit)) (t u : TrailState) (steps : List Step) →
+    IsSearch variables clauses t steps → Propagates t u → IsSound u → IsSearch variables clauses u steps
+search_propagated variables clauses t u steps search grows sound = subst (λ (s : TrailState). IsSearch variables clauses s steps)
+    (sym grows.rest_stays) (record {
+      usable = search.usable;
+      sound = subst IsSound grows.rest_stays sound;
+      same_variables = search.same_variables;
+      stands = search.stands;
+      logged = search.logged;
+      few_hints = search.few_hints;
+      numbered = search.numbered;
+      traced = search.traced;
+      increasing = search.increasing;
+      quiet = λ level below. subst (λ (es : List Entry). IsQuiet t.clauses (literals_of es))
+          (sym (up_to_added t.level level t.entries grows.added (recursion_from_All
+          (λ (e : Entry). (e.level ≡ t.level) × IsSome e.reason) grows.added grows.forced) below)) (search.quiet level below);
+    })
 
 -- ---- a decision
 
-pub search_decided : (variables : ℕ) (clauses : List (List Lit)) (t u : TrailState) (steps : List Step) (l : Lit) → IsSearch variables clauses t steps → IsQuiet t.clauses (literals_of t.entries) → u ≡ decided t l → IsSound u → IsSearch variables clauses u steps
-search_decided variables clauses t u steps l search quiet is sound = subst (λ (s : TrailState). IsSearch variables clauses s steps) (sym is) (record {
-  usable = search.usable;
-  sound = subst IsSound is sound;
-  same_variables = search.same_variables;
-  stands = search.stands;
-  logged = search.logged;
-  few_hints = search.few_hints;
-  numbered = search.numbered;
-  traced = search.traced;
-  increasing = search.increasing;
-  quiet = λ level below. subst (λ (es : List Entry). IsQuiet t.clauses (literals_of es)) (sym (up_to-push level t.entries (entry_with l (t.level + 1) None) below)) (at_level level below);
-})
+pub search_decided : (variables : ℕ) (clauses : List (List Lit)) (t u : TrailState) (steps : List Step) (l : Lit) →
+    IsSearch variables clauses t steps → IsQuiet t.clauses (literals_of t.entries) → u ≡ decided t l → IsSound u →
+    IsSearch variables clauses u steps
+search_decided variables clauses t u steps l search quiet is sound = subst (λ (s : TrailState). IsSearch variables clauses s steps) (sym is)
+    (record {
+      usable = search.usable;
+      sound = subst IsSound is sound;
+      same_variables = search.same_variables;
+      stands = search.stands;
+      logged = search.logged;
+      few_hints = search.few_hints;
+      numbered = search.numbered;
+      traced = search.traced;
+      increasing = search.increasing;
+      quiet = λ level below. subst (λ (es : List Entry). IsQuiet t.clauses (literals_of es))
+          (sym (up_to-push level t.entries (entry_with l (t.level + 1) None) below)) (at_level level below);
+    })
   where
     whole : up_to t.level t.entries ≡ t.entries
-    whole = up_to_all t.level t.entries (λ k e at. (let h : e.level ≤ t.level = omega (arith, level_within t.variables t.clauses t.entries search.sound.stand k e at, search.sound.level_reached) in h))
+    whole = up_to_all t.level t.entries (λ k e at. (let h : e.level ≤ t.level = omega
+        (arith, level_within t.variables t.clauses t.entries search.sound.stand k e at, search.sound.level_reached) in h))
 
     at_level : (level : ℕ) → level < t.level + 1 → IsQuiet t.clauses (literals_of (up_to level t.entries))
     at_level level below = elim (cases_lt level t.level) [
       | inl less ↦ search.quiet level less
       | inr same ↦ (let is : level ≡ t.level = omega arith in
-          subst (λ (n : ℕ). IsQuiet t.clauses (literals_of (up_to n t.entries))) (sym is) (subst (λ (es : List Entry). IsQuiet t.clauses (literals_of es)) (sym whole) quiet))
+          subst (λ (n : ℕ). IsQuiet t.clauses (literals_of (up_to n t.entries))) (sym is)
+          (subst (λ (es : List Entry). IsQuiet t.clauses (literals_of es)) (sym whole) quiet))
     ]
 
 -- ---- a learnt clause
 
 -- the literals of a clause in order are the clause
 pub copied : (copy clause literals : List Lit) → copy ≡ in_order literals → literals ≡ clause → IsIncreasing clause → copy ≡ clause
-copied copy clause literals is reads up = is ∙ (ap in_order reads ∙ one_increasing (in_order clause) clause (IsIncreasing-in_order clause) up (has-in_order clause))
+copied copy clause literals is reads up = is ∙ (ap in_order reads
+    ∙ one_increasing (in_order clause) clause (IsIncreasing-in_order clause) up (has-in_order clause))
 
-numbered_push : (n : ℕ) (cs : List (List Lit)) (c : List Lit) (number : ℕ) → number ≡ n + length cs → numbered_from n (cs ++ c ∷ []) ≡ numbered_from n cs ++ record { number = number; clause = c } ∷ []
+numbered_push : (n : ℕ) (cs : List (List Lit)) (c : List Lit) (number : ℕ) → number ≡ n + length cs →
+    numbered_from n (cs ++ c ∷ []) ≡ numbered_from n cs ++ record { number = number; clause = c } ∷ []
 numbered_push n [] c number h = ap (λ (k : ℕ). (record { number = k; clause = c }) ∷ []) (let e : n ≡ number = omega arith in e)
-numbered_push n (d ∷ cs) c number h = ap (λ (ks : List Numbered). (record { number = n; clause = d }) ∷ ks) (numbered_push (suc n) cs c number (omega arith))
+numbered_push n (d ∷ cs) c number h = ap (λ (ks : List Numbered). (record { number = n; clause = d }) ∷ ks)
+    (numbered_push (suc n) cs c number (omega arith))
 
-named_there : (n : ℕ) (cs : List (List Lit)) (number : ℕ) (clause : List Lit) → clause_named (numbered_from n cs) number ≡ Some clause → Contains cs clause
+named_there : (n : ℕ) (cs : List (List Lit)) (number : ℕ) (clause : List Lit) → clause_named (numbered_from n cs) number ≡ Some clause →
+    Contains cs clause
 named_there n [] number clause h = absurd (none-some clause h)
 named_there n (c ∷ cs) number clause h = by_test (eqb n number) (named_there (suc n) cs number clause) h
   where
-    by_test : (b : Bool) → (clause_named (numbered_from (suc n) cs) number ≡ Some clause → Contains cs clause) → cond b (Some c) (clause_named (numbered_from (suc n) cs) number) ≡ Some clause → Contains (c ∷ cs) clause
+    by_test : (b : Bool) → (clause_named (numbered_from (suc n) cs) number ≡ Some clause → Contains cs clause) →
+        cond b (Some c) (clause_named (numbered_from (suc n) cs) number) ≡ Some clause → Contains (c ∷ cs) clause
     by_test true later h = (0, omega arith, same_Some c clause h)
     by_test false later h = let r = later h in (suc r.0, (let b = r.1 in omega arith), r.2)
 
 -- what hints show is found by unit propagation
-shown_found : (clauses : List (List Lit)) (hints : List ℕ) (trues : List Lit) (position : ℕ) → refused_hint (numbered_from 1 clauses) trues position hints ≡ None → ReachesFalse clauses trues
+shown_found : (clauses : List (List Lit)) (hints : List ℕ) (trues : List Lit) (position : ℕ) →
+    refused_hint (numbered_from 1 clauses) trues position hints ≡ None → ReachesFalse clauses trues
 shown_found clauses [] trues position h = absurd (none-some position (sym h))
-shown_found clauses (hint ∷ hints) trues position h = by_named (λ l. shown_found clauses hints (l ∷ trues) (suc position)) (clause_named (numbered_from 1 clauses) hint) refl h
+shown_found clauses (hint ∷ hints) trues position h = by_named (λ l. shown_found clauses hints (l ∷ trues) (suc position))
+    (clause_named (numbered_from 1 clauses) hint) refl h
   where
     later : Lit → Option ℕ
     later l = refused_hint (numbered_from 1 clauses) (l ∷ trues) (suc position) hints
 
-    by_named : ((l : Lit) → later l ≡ None → ReachesFalse clauses (l ∷ trues)) → (o : Option (List Lit)) → clause_named (numbered_from 1 clauses) hint ≡ o → led_to position later (effect_of_named trues o) ≡ None → ReachesFalse clauses trues
+    by_named : ((l : Lit) → later l ≡ None → ReachesFalse clauses (l ∷ trues)) → (o : Option (List Lit)) →
+        clause_named (numbered_from 1 clauses) hint ≡ o → led_to position later (effect_of_named trues o) ≡ None →
+        ReachesFalse clauses trues
     by_named found None is h = absurd (none-some position (sym h))
     by_named found (Some clause) is h = by_open (not_false trues clause) refl h
       where
         there : Contains clauses clause
         there = named_there 1 clauses hint clause is
 
-        by_open : (ls : List Lit) → not_false trues clause ≡ ls → led_to position later (effect_of_open trues ls) ≡ None → ReachesFalse clauses trues
+        by_open : (ls : List Lit) → not_false trues clause ≡ ls → led_to position later (effect_of_open trues ls) ≡ None →
+            ReachesFalse clauses trues
         by_open [] left h = (trues, done, (clause, there, left))
         by_open (l ∷ []) left h = by_test (has trues l) refl h
           where
-            by_test : (b : Bool) → has trues l ≡ b → led_to position later (cond b shows_nothing (makes l)) ≡ None → ReachesFalse clauses trues
+            by_test : (b : Bool) → has trues l ≡ b → led_to position later (cond b shows_nothing (makes l)) ≡ None →
+                ReachesFalse clauses trues
             by_test true t h = absurd (none-some position (sym h))
             by_test false t h =
                 let r = found l h in
@@ -160,49 +192,74 @@ shown_found clauses (hint ∷ hints) trues position h = by_named (λ l. shown_fo
         by_open (l ∷ m ∷ ms) left h = absurd (none-some position (sym h))
 
 -- a variable is set at one level
-one_level : (es : List Entry) → AreApart es → (a b : Lit) (m n : ℕ) → a.index ≡ b.index → IsSetAt es a m → IsSetAt es b n → (a ≡ b) × (m ≡ n)
+one_level : (es : List Entry) → AreApart es → (a b : Lit) (m n : ℕ) → a.index ≡ b.index → IsSetAt es a m → IsSetAt es b n →
+    (a ≡ b) × (m ≡ n)
 one_level es apart a b m n index at_a at_b =
-    let one = one_entry es apart at_a.place at_b.place at_a.entry at_b.entry at_a.there at_b.there (ap (λ (l : Lit). l.index) at_a.same_literal ∙ (index ∙ ap (λ (l : Lit). l.index) (sym at_b.same_literal))) in
-    (sym at_a.same_literal ∙ (ap (λ (e : Entry). e.literal) one.1 ∙ at_b.same_literal), sym at_a.same_level ∙ (ap (λ (e : Entry). e.level) one.1 ∙ at_b.same_level))
+    let one = one_entry es apart at_a.place at_b.place at_a.entry at_b.entry at_a.there at_b.there
+    (ap (λ (l : Lit). l.index) at_a.same_literal ∙ (index ∙ ap (λ (l : Lit). l.index) (sym at_b.same_literal))) in (
+      sym at_a.same_literal ∙ (ap (λ (e : Entry). e.literal) one.1 ∙ at_b.same_literal),
+      sym at_a.same_level
+          ∙ (ap (λ (e : Entry). e.level) one.1 ∙ at_b.same_level),
+    )
 
 -- where a literal of the clause is not false at a level, it is open there
-open_below : (t : TrailState) → IsSound t → (l : Lit) (level n : ℕ) → IsSetAt t.entries (negation l) n → level < n → has (literals_of (up_to level t.entries)) (negation l) ≡ false
-open_below t sound l level n set_at below = false_from_ne_true (has (literals_of (up_to level t.entries)) (negation l)) (λ h. (let r = up_to_from level t.entries (negation l) h in
-    let one = one_level t.entries (apart_from t.variables t.clauses t.entries sound.stand) (negation l) (negation l) r.0 n refl r.2 set_at in
+open_below : (t : TrailState) → IsSound t → (l : Lit) (level n : ℕ) → IsSetAt t.entries (negation l) n → level < n →
+    has (literals_of (up_to level t.entries)) (negation l) ≡ false
+open_below t sound l level n set_at below = false_from_ne_true (has (literals_of (up_to level t.entries)) (negation l))
+    (λ h. (let r = up_to_from level t.entries (negation l) h in
+    let one = one_level t.entries (apart_from t.variables t.clauses t.entries sound.stand) (negation l)
+    (negation l) r.0 n refl r.2 set_at in
     omega (arith, r.1, one.1)))
 
-unset_below : (t : TrailState) → IsSound t → (l : Lit) (level n : ℕ) → IsSetAt t.entries (negation l) n → has (literals_of (up_to level t.entries)) l ≡ false
-unset_below t sound l level n set_at = false_from_ne_true (has (literals_of (up_to level t.entries)) l) (λ h. (let r = up_to_from level t.entries l h in
+unset_below : (t : TrailState) → IsSound t → (l : Lit) (level n : ℕ) → IsSetAt t.entries (negation l) n →
+    has (literals_of (up_to level t.entries)) l ≡ false
+unset_below t sound l level n set_at = false_from_ne_true (has (literals_of (up_to level t.entries)) l)
+    (λ h. (let r = up_to_from level t.entries l h in
     let one = one_level t.entries (apart_from t.variables t.clauses t.entries sound.stand) l (negation l) r.0 n refl r.2 set_at in
     negation_differs l (sym one.0)))
 
 all_from_has : (P : Lit → Type 0) (xs : List Lit) → ((l : Lit) → has xs l ≡ true → P l) → AllByRecursion P xs
 all_from_has P [] h = tt
-all_from_has P (x ∷ xs) h = (h x (or_left (same x x) (has xs x) (same_from x x refl)), all_from_has P xs (λ l k. h l (or_right (same x l) (has xs l) k)))
+all_from_has P (x ∷ xs) h = (
+  h x (or_left (same x x) (has xs x) (same_from x x refl)),
+  all_from_has P xs (λ l k. h l (or_right (same x l) (has xs l) k)),
+)
 
-none_out : (variables : ℕ) (clause : List Lit) → AllByRecursion (λ (l : Lit). l.index < variables) clause → list_any (λ l. leb variables l.index) clause ≡ false
+none_out : (variables : ℕ) (clause : List Lit) → AllByRecursion (λ (l : Lit). l.index < variables) clause →
+    list_any (λ l. leb variables l.index) clause ≡ false
 none_out variables [] all = refl
-none_out variables (x ∷ xs) all = ap (λ b. b || list_any (λ l. leb variables l.index) xs) (lt-leb variables x.index all.0) ∙ none_out variables xs all.1
+none_out variables (x ∷ xs) all = ap (λ b. b || list_any (λ l. leb variables l.index) xs) (lt-leb variables x.index all.0)
+    ∙ none_out variables xs all.1
 
 -- a step of the next number whose hints show it is accepted
-pub step_accepted : (variables : ℕ) (clauses : List (List Lit)) (clause : List Lit) (hints : List ℕ) → IsOver variables clause → has_pair clause ≡ false → refused_hint (numbered_from 1 clauses) (map negation clause) 1 hints ≡ None → step_refusal variables (length clauses) (numbered_from 1 clauses) (learnt_step (length clauses + 1) clause hints) ≡ None
+pub step_accepted : (variables : ℕ) (clauses : List (List Lit)) (clause : List Lit) (hints : List ℕ) → IsOver variables clause →
+    has_pair clause ≡ false → refused_hint (numbered_from 1 clauses) (map negation clause) 1 hints ≡ None →
+    step_refusal variables (length clauses) (numbered_from 1 clauses) (learnt_step (length clauses + 1) clause hints) ≡ None
 step_accepted variables clauses clause hints over no_pair shown =
     let a : leb (length clauses + 1) (length clauses) ≡ false = lt-leb (length clauses + 1) (length clauses) (omega arith) in
-    let b : list_any (λ l. leb variables l.index) clause ≡ false = none_out variables clause (recursion_from_All (λ (l : Lit). l.index < variables) clause over) in
-    let no_step : (leb (length clauses + 1) (length clauses) || (list_any (λ l. leb variables l.index) clause || has_pair clause)) ≡ false = ap (λ z. z || (list_any (λ l. leb variables l.index) clause || has_pair clause)) a ∙ (ap (λ z. z || has_pair clause) b ∙ no_pair) in
-    cond-false (leb (length clauses + 1) (length clauses) || (list_any (λ l. leb variables l.index) clause || has_pair clause)) (Some (at_line (length clauses + 1))) (option_map (at_hint (length clauses + 1)) (refused_hint (numbered_from 1 clauses) (map negation clause) 1 hints)) no_step ∙ ap (option_map (at_hint (length clauses + 1))) shown
+    let b : list_any (λ l. leb variables l.index) clause ≡ false =
+    none_out variables clause (recursion_from_All (λ (l : Lit). l.index < variables) clause over) in
+    let no_step : (leb (length clauses + 1) (length clauses) || (list_any (λ l. leb variables l.index) clause || has_pair clause)) ≡ false =
+    ap (λ z. z || (list_any (λ l. leb variables l.index) clause || has_pair clause)) a ∙ (ap (λ z. z || has_pair clause) b ∙ no_pair) in
+    cond-false (leb (length clauses + 1) (length clauses) || (list_any (λ l. leb variables l.index) clause || has_pair clause))
+    (Some (at_line (length clauses + 1))) (option_map (at_hint (length clauses + 1))
+    (refused_hint (numbered_from 1 clauses) (map negation clause) 1 hints)) no_step
+    ∙ ap (option_map (at_hint (length clauses + 1))) shown
 
 module _ (t : TrailState) (sound : IsSound t) (clause : List Lit) (hints : List ℕ) (back : ℕ) (lesson : IsLesson t clause hints back) where
   pub lesson_over : IsOver t.variables clause
-  lesson_over = All-from_recursion (λ (l : Lit). l.index < t.variables) clause (all_from_has (λ (l : Lit). l.index < t.variables) clause (λ l h. (let r = has_entry t.entries (negation l) (lesson.is_false l h) in
+  lesson_over = All-from_recursion (λ (l : Lit). l.index < t.variables) clause
+      (all_from_has (λ (l : Lit). l.index < t.variables) clause (λ l h. (let r = has_entry t.entries (negation l) (lesson.is_false l h) in
       let below = (sound.stand r.0 r.1 r.2).over in
       omega (arith, ap (λ (x : Lit). x.index) r.3))))
 
   pub lesson_no_pair : has_pair clause ≡ false
   lesson_no_pair = false_from_ne_true (has_pair clause) (λ h. (let r = any_has (λ l. has clause (negation l)) clause h in
       let a = has_entry t.entries (negation r.0) (lesson.is_false r.0 r.1) in
-      let b = has_entry t.entries r.0 (ap (has (literals_of t.entries)) (sym (negation-negation r.0)) ∙ lesson.is_false (negation r.0) r.2) in
-      let one = one_entry t.entries (apart_from t.variables t.clauses t.entries sound.stand) a.0 b.0 a.1 b.1 a.2 b.2 (ap (λ (l : Lit). l.index) a.3 ∙ ap (λ (l : Lit). l.index) (sym b.3)) in
+      let b = has_entry t.entries r.0 (ap (has (literals_of t.entries)) (sym (negation-negation r.0))
+      ∙ lesson.is_false (negation r.0) r.2) in
+      let one = one_entry t.entries (apart_from t.variables t.clauses t.entries sound.stand) a.0 b.0 a.1 b.1 a.2 b.2
+      (ap (λ (l : Lit). l.index) a.3 ∙ ap (λ (l : Lit). l.index) (sym b.3)) in
       negation_differs r.0 (sym a.3 ∙ (ap (λ (e : Entry). e.literal) one.1 ∙ b.3))))
 
   lesson_learnt : AreQuietBelow t t.level → 0 < t.level → IsLearnt t.variables t.clauses clause
@@ -217,19 +274,27 @@ module _ (t : TrailState) (sound : IsSound t) (clause : List Lit) (hints : List 
       asserting : IsAsserting t clause back
       asserting = lesson.asserting above
 
-      others_set : (l : Lit) → has (map negation (filter (λ m. not (same m asserting.asserted)) clause)) l ≡ true → has (literals_of (up_to back t.entries)) l ≡ true
+      others_set : (l : Lit) → has (map negation (filter (λ m. not (same m asserting.asserted)) clause)) l ≡ true →
+          has (literals_of (up_to back t.entries)) l ≡ true
       others_set l h =
-          let r = filter-has (λ m. not (same m asserting.asserted)) clause (negation l) (sym (has-map-negation (filter (λ m. not (same m asserting.asserted)) clause) l) ∙ h) in
+          let r = filter-has (λ m. not (same m asserting.asserted)) clause (negation l)
+          (sym (has-map-negation (filter (λ m. not (same m asserting.asserted)) clause) l) ∙ h) in
           let o = asserting.others (negation l) r.0 (λ e. true≢false (sym r.1 ∙ ap not (same_from (negation l) asserting.asserted e))) in
           let is : o.2.entry.literal ≡ l = o.2.same_literal ∙ negation-negation l in
-          ap (has (literals_of (up_to back t.entries))) (sym is) ∙ up_to_has back t.entries o.2.place o.2.entry o.2.there (let b = o.1 in let c = o.2.same_level in omega arith)
+          ap (has (literals_of (up_to back t.entries))) (sym is) ∙ up_to_has back t.entries o.2.place o.2.entry o.2.there
+          (let b = o.1 in let c = o.2.same_level in omega arith)
 
       not_found : IsNotFound t.clauses clause asserting.asserted
       not_found trues reaches =
-          let within = reached_within t.clauses (map negation (filter (λ m. not (same m asserting.asserted)) clause)) trues (literals_of (up_to back t.entries)) reaches others_set (quiet back asserting.below) in
-          (none_false_within t.clauses trues (literals_of (up_to back t.entries)) within (quiet back asserting.below), false_from_ne_true (has trues asserting.asserted) (λ h. true≢false (sym (within asserting.asserted h) ∙ unset_below t sound asserting.asserted back t.level asserting.last)))
+          let within = reached_within t.clauses (map negation (filter (λ m. not (same m asserting.asserted)) clause)) trues
+          (literals_of (up_to back t.entries)) reaches others_set (quiet back asserting.below) in (
+            none_false_within t.clauses trues (literals_of (up_to back t.entries)) within (quiet back asserting.below),
+            false_from_ne_true (has trues asserting.asserted) (λ h. true≢false
+                (sym (within asserting.asserted h) ∙ unset_below t sound asserting.asserted back t.level asserting.last)),
+          )
 
-  lesson_quiet : AreQuietBelow t t.level → 0 < t.level → (level : ℕ) → level < back → IsQuiet (t.clauses ++ clause ∷ []) (literals_of (up_to level t.entries))
+  lesson_quiet : AreQuietBelow t t.level → 0 < t.level → (level : ℕ) → level < back →
+      IsQuiet (t.clauses ++ clause ∷ []) (literals_of (up_to level t.entries))
   lesson_quiet quiet above level below = record {
     none_false = λ (c, in', f). elim (Contains-append_cases t.clauses (clause ∷ []) c in') [
       | inl old ↦ before.none_false (c, old, f)
@@ -258,7 +323,8 @@ module _ (t : TrailState) (sound : IsSound t) (clause : List Lit) (hints : List 
       only c (suc k, in', is) = absurd (omega (arith, in'))
 
       first_open : has (not_false trues clause) asserting.asserted ≡ true
-      first_open = has_not_false trues clause asserting.asserted asserting.member (open_below t sound asserting.asserted level t.level asserting.last (let b = asserting.below in omega arith))
+      first_open = has_not_false trues clause asserting.asserted asserting.member
+          (open_below t sound asserting.asserted level t.level asserting.last (let b = asserting.below in omega arith))
 
       second : (l : Lit) × (has clause l ≡ true) × IsSetAt t.entries (negation l) back
       second = asserting.reached (omega arith)
@@ -268,41 +334,69 @@ module _ (t : TrailState) (sound : IsSound t) (clause : List Lit) (hints : List 
 
       apart : second.0 ≡ asserting.asserted → ⊥
       apart e =
-          let one = one_level t.entries (apart_from t.variables t.clauses t.entries sound.stand) (negation second.0) (negation asserting.asserted) back t.level (ap (λ (l : Lit). l.index) e) second.2 asserting.last in
+          let one = one_level t.entries (apart_from t.variables t.clauses t.entries sound.stand) (negation second.0)
+          (negation asserting.asserted) back t.level (ap (λ (l : Lit). l.index) e) second.2 asserting.last in
           omega (arith, one.1, asserting.below)
 
-  lesson_step : step_refusal t.variables (length t.clauses) (numbered_from 1 t.clauses) (learnt_step (length t.clauses + 1) clause hints) ≡ None
+  lesson_step : step_refusal t.variables (length t.clauses) (numbered_from 1 t.clauses) (learnt_step (length t.clauses + 1) clause hints)
+      ≡ None
   lesson_step = step_accepted t.variables t.clauses clause hints lesson_over lesson_no_pair lesson.shown
 
 up_to-up_to : (low high : ℕ) (es : List Entry) → low ≤ high → up_to low (up_to high es) ≡ up_to low es
 up_to-up_to low high [] h = refl
 up_to-up_to low high (e ∷ es) h = by_tests (leb e.level high) refl (up_to-up_to low high es h)
   where
-    by_tests : (b : Bool) → leb e.level high ≡ b → up_to low (up_to high es) ≡ up_to low es → up_to low (cond b (e ∷ up_to high es) (up_to high es)) ≡ cond (leb e.level low) (e ∷ up_to low es) (up_to low es)
+    by_tests : (b : Bool) → leb e.level high ≡ b → up_to low (up_to high es) ≡ up_to low es →
+        up_to low (cond b (e ∷ up_to high es) (up_to high es)) ≡ cond (leb e.level low) (e ∷ up_to low es) (up_to low es)
     by_tests true t ih = ap (λ (xs : List Entry). cond (leb e.level low) (e ∷ xs) xs) ih
-    by_tests false t ih = ih ∙ sym (cond-false (leb e.level low) (e ∷ up_to low es) (up_to low es) (lt-leb e.level low (let b = leb-false e.level high t in omega arith)))
+    by_tests false t ih = ih ∙ sym (cond-false (leb e.level low) (e ∷ up_to low es) (up_to low es)
+        (lt-leb e.level low (let b = leb-false e.level high t in omega arith)))
 
 pub clauses_of_push : (steps : List Step) (s : Step) → clauses_of (steps ++ s ∷ []) ≡ clauses_of steps ++ s.clause ∷ []
 clauses_of_push steps s = map-append (λ (step : Step). step.clause) steps (s ∷ [])
 
 -- the steps with one more, whose number is the next
-search_numbered : (variables : ℕ) (clauses : List (List Lit)) (t : TrailState) (steps : List Step) → IsSearch variables clauses t steps → (step : Step) → step.number ≡ length t.clauses + 1 → AreHints (length t.clauses) step.hints → AreNumbered (length clauses + 1) (steps ++ step ∷ [])
+search_numbered : (variables : ℕ) (clauses : List (List Lit)) (t : TrailState) (steps : List Step) → IsSearch variables clauses t steps →
+    (step : Step) → step.number ≡ length t.clauses + 1 → AreHints (length t.clauses) step.hints →
+    AreNumbered (length clauses + 1) (steps ++ step ∷ [])
 search_numbered variables clauses t steps search step is hints =
-    numbered_more (length clauses + 1) steps step (length t.clauses + 1) (omega (arith, ap length search.stands, length-append clauses (clauses_of steps), length-map steps (λ (s : Step). s.clause))) search.numbered (is_numbered step (length t.clauses) is hints)
+    numbered_more (length clauses + 1) steps step (length t.clauses + 1)
+    (omega (
+      arith,
+      ap length search.stands,
+      length-append clauses (clauses_of steps),
+      length-map steps (λ (s : Step). s.clause),
+    )) search.numbered (is_numbered step (length t.clauses) is hints)
 
-pub search_learnt : (variables : ℕ) (clauses : List (List Lit)) (t u : TrailState) (steps more : List Step) → IsSearch variables clauses t steps → HasLearnt t steps u more → IsSound u → 0 < t.level → IsSearch variables clauses u more
-search_learnt variables clauses t u steps more search learnt sound above = subst (λ (s : TrailState). IsSearch variables clauses s more) (sym learnt.trail_is) (subst (λ (ss : List Step). IsSearch variables clauses (with_clause (undone t back) clause) ss) (sym learnt.steps_are) (record {
-  usable = search.usable;
-  sound = subst IsSound learnt.trail_is sound;
-  same_variables = search.same_variables;
-  stands = ap (λ (cs : List (List Lit)). cs ++ clause ∷ []) search.stands ∙ (append_assoc clauses (clauses_of steps) (clause ∷ []) ∙ ap (λ (cs : List (List Lit)). clauses ++ cs) (sym (clauses_of_push steps step)));
-  logged = λ later h. ap (λ (ss : List Step). steps_refusal variables (length clauses) (numbered_from 1 clauses) ss) (append_assoc steps (step ∷ []) later) ∙ search.logged (step ∷ later) (follows later h);
-  few_hints = All-push (λ (s : Step). length s.hints + 1 < 2 ^ 32) steps step search.few_hints learnt.lesson.few_hints;
-  numbered = search_numbered variables clauses t steps search step refl learnt.lesson.named;
-  traced = λ later h. subst (λ (cs : List (List Lit)). IsTrace variables clauses cs) (sym (ap (λ (cs : List (List Lit)). cs ++ later) (clauses_of_push steps step) ∙ append_assoc (clauses_of steps) (clause ∷ []) later)) (search.traced (clause ∷ later) (subst (λ (v : ℕ). IsLearnt v t.clauses clause) search.same_variables (lesson_learnt t search.sound clause hints back learnt.lesson search.quiet above), h));
-  increasing = subst (AllByRecursion IsIncreasing) (sym (clauses_of_push steps step)) (all_push (clauses_of steps) search.increasing);
-  quiet = λ level below. subst (λ (es : List Entry). IsQuiet (t.clauses ++ clause ∷ []) (literals_of es)) (sym (up_to-up_to level back t.entries (omega arith))) (lesson_quiet t search.sound clause hints back learnt.lesson search.quiet above level (omega arith));
-}))
+pub search_learnt : (variables : ℕ) (clauses : List (List Lit)) (t u : TrailState) (steps more : List Step) →
+    IsSearch variables clauses t steps → HasLearnt t steps u more → IsSound u → 0 < t.level → IsSearch variables clauses u more
+search_learnt variables clauses t u steps more search learnt sound above = subst (λ (s : TrailState). IsSearch variables clauses s more)
+    (sym learnt.trail_is) (subst (λ (ss : List Step). IsSearch variables clauses (with_clause (undone t back) clause) ss)
+    (sym learnt.steps_are) (record {
+      usable = search.usable;
+      sound = subst IsSound learnt.trail_is sound;
+      same_variables = search.same_variables;
+      stands = ap (λ (cs : List (List Lit)). cs ++ clause ∷ []) search.stands
+          ∙ (append_assoc clauses (clauses_of steps) (clause ∷ []) ∙ ap (λ (cs : List (List Lit)). clauses ++ cs)
+          (sym (clauses_of_push steps step)));
+      logged = λ later h. ap (λ (ss : List Step). steps_refusal variables (length clauses) (numbered_from 1 clauses) ss)
+          (append_assoc steps (step ∷ []) later) ∙ search.logged (step ∷ later) (follows later h);
+      few_hints = All-push (λ (s : Step). length s.hints + 1 < 2 ^ 32) steps step search.few_hints learnt.lesson.few_hints;
+      numbered = search_numbered variables clauses t steps search step refl learnt.lesson.named;
+      traced = λ later h. subst (λ (cs : List (List Lit)). IsTrace variables clauses cs)
+          (sym (ap (λ (cs : List (List Lit)). cs ++ later) (clauses_of_push steps step)
+          ∙ append_assoc (clauses_of steps) (clause ∷ []) later))
+          (search.traced (clause ∷ later) (
+            subst (λ (v : ℕ). IsLearnt v t.clauses clause) search.same_variables
+                (lesson_learnt t search.sound clause hints back learnt.lesson search.quiet above),
+            h,
+          ));
+      increasing = subst (AllByRecursion IsIncreasing) (sym (clauses_of_push steps step)) (all_push (clauses_of steps) search.increasing);
+      quiet = λ level below. subst (λ (es : List Entry). IsQuiet (t.clauses ++ clause ∷ []) (literals_of es))
+          (sym (up_to-up_to level back t.entries (omega arith))) (lesson_quiet t search.sound clause hints back learnt.lesson search.quiet
+          above
+          level (omega arith));
+    }))
   where
     clause : List Lit
     clause = learnt.clause
@@ -320,15 +414,26 @@ search_learnt variables clauses t u steps more search learnt sound above = subst
     all_push [] all = (learnt.lesson.increasing, tt)
     all_push (c ∷ cs) all = (all.0, all_push cs all.1)
 
-    follows : (later : List Step) → steps_refusal variables (length (t.clauses ++ clause ∷ [])) (numbered_from 1 (t.clauses ++ clause ∷ [])) later ≡ None → steps_refusal variables (length t.clauses) (numbered_from 1 t.clauses) (step ∷ later) ≡ None
+    follows : (later : List Step) → steps_refusal variables (length (t.clauses ++ clause ∷ []))
+        (numbered_from 1 (t.clauses ++ clause ∷ [])) later ≡ None → steps_refusal variables (length t.clauses) (numbered_from 1 t.clauses)
+        (step ∷ later) ≡ None
     follows later h =
-        let accepted : step_refusal variables (length t.clauses) (numbered_from 1 t.clauses) step ≡ None = subst (λ (v : ℕ). step_refusal v (length t.clauses) (numbered_from 1 t.clauses) step ≡ None) search.same_variables (lesson_step t search.sound clause hints back learnt.lesson) in
-        let rest : steps_refusal variables (length t.clauses + 1) (numbered_from 1 t.clauses ++ record { number = length t.clauses + 1; clause = clause } ∷ []) later ≡ None = ap (λ (ks : List Numbered). steps_refusal variables (length t.clauses + 1) ks later) (sym (numbered_push 1 t.clauses clause (length t.clauses + 1) (omega arith))) ∙ (ap (λ (n : ℕ). steps_refusal variables n (numbered_from 1 (t.clauses ++ clause ∷ [])) later) (sym (length_push t.clauses clause)) ∙ h) in
-        ap (λ (o : Option Refusal). first_of o (steps_refusal variables (length t.clauses + 1) (numbered_from 1 t.clauses ++ record { number = length t.clauses + 1; clause = clause } ∷ []) later)) accepted ∙ rest
+        let accepted : step_refusal variables (length t.clauses) (numbered_from 1 t.clauses) step ≡ None =
+        subst (λ (v : ℕ). step_refusal v (length t.clauses) (numbered_from 1 t.clauses) step ≡ None) search.same_variables
+        (lesson_step t search.sound clause hints back learnt.lesson) in
+        let rest : steps_refusal variables (length t.clauses + 1) (numbered_from 1 t.clauses
+        ++ record { number = length t.clauses + 1; clause = clause } ∷ []) later
+        ≡ None = ap (λ (ks : List Numbered). steps_refusal variables (length t.clauses + 1) ks later)
+        (sym (numbered_push 1 t.clauses clause (length t.clauses + 1) (omega arith)))
+        ∙ (ap (λ (n : ℕ). steps_refusal variables n (numbered_from 1 (t.clauses ++ clause ∷ [])) later)
+        (sym (length_push t.clauses clause)) ∙ h) in
+        ap (λ (o : Option Refusal). first_of o (steps_refusal variables (length t.clauses + 1)
+        (numbered_from 1 t.clauses ++ record { number = length t.clauses + 1; clause = clause } ∷ []) later)) accepted ∙ rest
 
 -- ---- the answers
 
-pub search_refuted : (variables : ℕ) (clauses : List (List Lit)) (t : TrailState) (steps : List Step) (log : Log) → IsSearch variables clauses t steps → IsRefuted t.clauses steps log → AreRefuting variables clauses log.steps
+pub search_refuted : (variables : ℕ) (clauses : List (List Lit)) (t : TrailState) (steps : List Step) (log : Log) →
+    IsSearch variables clauses t steps → IsRefuted t.clauses steps log → AreRefuting variables clauses log.steps
 search_refuted variables clauses t steps log search refuted = subst (AreRefuting variables clauses) (sym refuted.steps_are) (record {
   accepted = ap (λ (o : Option Refusal). first_of o (end_refusal (steps ++ last ∷ []))) (search.logged (last ∷ []) accepted) ∙ ended steps;
   few_hints = All-push (λ (s : Step). length s.hints + 1 < 2 ^ 32) steps last search.few_hints refuted.few_hints;
@@ -339,18 +444,23 @@ search_refuted variables clauses t steps log search refuted = subst (AreRefuting
     last = learnt_step (length t.clauses + 1) [] refuted.hints
 
     accepted : steps_refusal variables (length t.clauses) (numbered_from 1 t.clauses) (last ∷ []) ≡ None
-    accepted = ap (λ (o : Option Refusal). first_of o None) (step_accepted variables t.clauses [] refuted.hints (All-nil (λ (l : Lit). l.index < variables)) refl refuted.shown)
+    accepted = ap (λ (o : Option Refusal). first_of o None) (step_accepted variables t.clauses [] refuted.hints
+        (All-nil (λ (l : Lit). l.index < variables)) refl refuted.shown)
 
     ended : (ss : List Step) → end_refusal (ss ++ last ∷ []) ≡ None
     ended ss = ap (λ (b : Bool). cond b None (Some unfinished)) (found ss)
       where
         found : (xs : List Step) → list_any (λ (s : Step). is_empty_clause s.clause) (xs ++ last ∷ []) ≡ true
         found [] = refl
-        found (x ∷ xs) = or_right (is_empty_clause x.clause) (list_any (λ (s : Step). is_empty_clause s.clause) (xs ++ last ∷ [])) (found xs)
+        found (x ∷ xs) = or_right (is_empty_clause x.clause) (list_any (λ (s : Step). is_empty_clause s.clause) (xs ++ last ∷ []))
+            (found xs)
 
-pub search_spent : (variables : ℕ) (clauses : List (List Lit)) (t : TrailState) (steps : List Step) (budget : ℕ) (trace : List (List Lit)) → IsSearch variables clauses t steps → length steps ≡ budget → trace ≡ clauses_of steps → (ReachesFalse t.clauses [] → ⊥) → IsWholeTrace variables clauses budget trace
+pub search_spent : (variables : ℕ) (clauses : List (List Lit)) (t : TrailState) (steps : List Step) (budget : ℕ) (trace : List (List Lit)) →
+    IsSearch variables clauses t steps → length steps ≡ budget → trace ≡ clauses_of steps → (ReachesFalse t.clauses [] → ⊥) →
+    IsWholeTrace variables clauses budget trace
 search_spent variables clauses t steps budget trace search spent is none =
-    let all : IsTrace variables clauses (clauses_of steps) = subst (λ (cs : List (List Lit)). IsTrace variables clauses cs) (append-nil (clauses_of steps)) (search.traced [] none) in
+    let all : IsTrace variables clauses (clauses_of steps) = subst (λ (cs : List (List Lit)). IsTrace variables clauses cs)
+    (append-nil (clauses_of steps)) (search.traced [] none) in
     let count : length (clauses_of steps) ≡ budget = length-map steps (λ (s : Step). s.clause) ∙ spent in
     let short = trace_is_short variables clauses (clauses_of steps) all search.increasing in
     record {
@@ -362,12 +472,16 @@ search_spent variables clauses t steps budget trace search spent is none =
 -- behind a quiet trail nothing is refuted
 pub quiet_reaches : (clauses : List (List Lit)) (trues : List Lit) → IsQuiet clauses trues → ReachesFalse clauses [] → ⊥
 quiet_reaches clauses trues quiet (reached, reaches, some) =
-    none_false_within clauses reached trues (reached_within clauses [] reached trues reaches (λ l h. absurd (false≢true h)) quiet) quiet some
+    none_false_within clauses reached trues (reached_within clauses [] reached trues reaches
+    (λ l h. absurd (false≢true h)) quiet) quiet some
 
 -- a literal is true under the assignment that was read off if it is set
-truths_true : (es : List Entry) (variables : ℕ) (truths : List Bool) → AreApart es → AreSet es variables → AreVariableTruths es variables truths → (l : Lit) → l.index < variables → has (literals_of es) (negation l) ≡ false → is_true (assignment_of truths) l ≡ true
+truths_true : (es : List Entry) (variables : ℕ) (truths : List Bool) → AreApart es → AreSet es variables →
+    AreVariableTruths es variables truths → (l : Lit) → l.index < variables → has (literals_of es) (negation l) ≡ false →
+    is_true (assignment_of truths) l ≡ true
 truths_true es variables truths apart all read l below open' =
-    let there : assignment_of truths l.index ≡ has (literals_of es) (record { index = l.index; positive = true }) = read_at truths l.index (has (literals_of es) (record { index = l.index; positive = true })) (read.each l.index below) in
+    let there : assignment_of truths l.index ≡ has (literals_of es) (record { index = l.index; positive = true }) =
+    read_at truths l.index (has (literals_of es) (record { index = l.index; positive = true })) (read.each l.index below) in
     by_sign l.positive refl there
   where
     read_at : (xs : List Bool) (i : ℕ) (b : Bool) → slice_get xs i ≡ Some b → slice_index_or xs i false ≡ b
@@ -381,39 +495,65 @@ truths_true es variables truths apart all read l below open' =
       | inr n ↦ absurd (all l.index below (unset_from es l n open'))
     ]
 
-    by_sign : (p : Bool) → l.positive ≡ p → assignment_of truths l.index ≡ has (literals_of es) (record { index = l.index; positive = true }) → cond l.positive (assignment_of truths l.index) (not (assignment_of truths l.index)) ≡ true
-    by_sign true s there = cond-true l.positive (assignment_of truths l.index) (not (assignment_of truths l.index)) s ∙ (there ∙ (ap (λ (b : Bool). has (literals_of es) (record { index = l.index; positive = b })) (sym s) ∙ set_true))
-    by_sign false s there = cond-false l.positive (assignment_of truths l.index) (not (assignment_of truths l.index)) s ∙ ap not (there ∙ (ap (λ (b : Bool). has (literals_of es) (record { index = l.index; positive = not b })) (sym s) ∙ open'))
+    by_sign : (p : Bool) → l.positive ≡ p → assignment_of truths l.index
+        ≡ has (literals_of es) (record { index = l.index; positive = true }) →
+        cond l.positive (assignment_of truths l.index) (not (assignment_of truths l.index)) ≡ true
+    by_sign true s there = cond-true l.positive (assignment_of truths l.index) (not (assignment_of truths l.index)) s
+        ∙ (there ∙ (ap (λ (b : Bool). has (literals_of es) (record { index = l.index; positive = b })) (sym s) ∙ set_true))
+    by_sign false s there = cond-false l.positive (assignment_of truths l.index) (not (assignment_of truths l.index)) s
+        ∙ ap not (there ∙ (ap (λ (b : Bool). has (literals_of es) (record { index = l.index; positive = not b })) (sym s) ∙ open'))
 
-pub quiet_met : (clauses : List (List Lit)) (es : List Entry) (variables : ℕ) (truths : List Bool) → AreApart es → AreSet es variables → AreVariableTruths es variables truths → AllByRecursion (IsOver variables) clauses → ((clause : List Lit) → Contains clauses clause → IsFalse (literals_of es) clause → ⊥) → meets_all (assignment_of truths) clauses ≡ true
+pub quiet_met : (clauses : List (List Lit)) (es : List Entry) (variables : ℕ) (truths : List Bool) → AreApart es → AreSet es variables →
+    AreVariableTruths es variables truths → AllByRecursion (IsOver variables) clauses →
+    ((clause : List Lit) → Contains clauses clause → IsFalse (literals_of es) clause → ⊥) → meets_all (assignment_of truths) clauses ≡ true
 quiet_met [] es variables truths apart all read over none = refl
 quiet_met (c ∷ cs) es variables truths apart all read over none =
-    and_from (meets (assignment_of truths) c) (meets_all (assignment_of truths) cs) (met c (recursion_from_All (λ (l : Lit). l.index < variables) c over.0) (none c (0, omega arith, refl))) (quiet_met cs es variables truths apart all read over.1 (λ d in' f. none d (suc in'.0, (let b = in'.1 in omega arith), in'.2) f))
+    and_from (meets (assignment_of truths) c) (meets_all (assignment_of truths) cs)
+    (met c (recursion_from_All (λ (l : Lit). l.index < variables) c over.0) (none c (0, omega arith, refl)))
+    (quiet_met cs es variables truths apart all read over.1 (λ d in' f. none d (suc in'.0, (let b = in'.1 in omega arith), in'.2) f))
   where
-    met : (ls : List Lit) → AllByRecursion (λ (l : Lit). l.index < variables) ls → (IsFalse (literals_of es) ls → ⊥) → meets (assignment_of truths) ls ≡ true
+    met : (ls : List Lit) → AllByRecursion (λ (l : Lit). l.index < variables) ls → (IsFalse (literals_of es) ls → ⊥) →
+        meets (assignment_of truths) ls ≡ true
     met [] over n = absurd (n refl)
     met (x ∷ xs) over n = by_test (has (literals_of es) (negation x)) refl (met xs over.1) n
       where
-        by_test : (b : Bool) → has (literals_of es) (negation x) ≡ b → ((IsFalse (literals_of es) xs → ⊥) → meets (assignment_of truths) xs ≡ true) → (cond (not b) (x ∷ not_false (literals_of es) xs) (not_false (literals_of es) xs) ≡ [] → ⊥) → meets (assignment_of truths) (x ∷ xs) ≡ true
-        by_test false f later n = or_left (is_true (assignment_of truths) x) (meets (assignment_of truths) xs) (truths_true es variables truths apart all read x over.0 f)
+        by_test : (b : Bool) → has (literals_of es) (negation x) ≡ b →
+            ((IsFalse (literals_of es) xs → ⊥) → meets (assignment_of truths) xs ≡ true) →
+            (cond (not b) (x ∷ not_false (literals_of es) xs) (not_false (literals_of es) xs) ≡ [] → ⊥) →
+            meets (assignment_of truths) (x ∷ xs) ≡ true
+        by_test false f later n = or_left (is_true (assignment_of truths) x) (meets (assignment_of truths) xs)
+            (truths_true es variables truths apart all read x over.0 f)
         by_test true f later n = or_right (is_true (assignment_of truths) x) (meets (assignment_of truths) xs) (later n)
 
-pub search_satisfied : (variables : ℕ) (clauses : List (List Lit)) (t : TrailState) (steps : List Step) (truths : List Bool) → IsSearch variables clauses t steps → All (IsOver variables) clauses → IsQuiet t.clauses (literals_of t.entries) → AreSet t.entries variables → AreVariableTruths t.entries variables truths → AreSatisfying variables clauses truths
+pub search_satisfied : (variables : ℕ) (clauses : List (List Lit)) (t : TrailState) (steps : List Step) (truths : List Bool) →
+    IsSearch variables clauses t steps → All (IsOver variables) clauses → IsQuiet t.clauses (literals_of t.entries) →
+    AreSet t.entries variables → AreVariableTruths t.entries variables truths → AreSatisfying variables clauses truths
 search_satisfied variables clauses t steps truths search over quiet all read = record {
   one_each = read.all;
-  all_met = quiet_met clauses t.entries variables truths (apart_from t.variables t.clauses t.entries search.sound.stand) all read (recursion_from_All (IsOver variables) clauses over) (λ c in' f. quiet.none_false (c, subst (λ (cs : List (List Lit)). Contains cs c) (sym search.stands) (Contains-append_left clauses (clauses_of steps) c in'), f));
+  all_met = quiet_met clauses t.entries variables truths (apart_from t.variables t.clauses t.entries search.sound.stand) all read
+      (recursion_from_All (IsOver variables) clauses over) (λ c in' f. quiet.none_false
+      (c, subst (λ (cs : List (List Lit)). Contains cs c) (sym search.stands) (Contains-append_left clauses (clauses_of steps) c in'), f));
 }
 
-pub search_ended : (variables : ℕ) (clauses : List (List Lit)) (t : TrailState) (steps : List Step) (budget : ℕ) → IsSearch variables clauses t steps → length steps ≡ budget → (answer : Answer) → IsEnd t.clauses steps answer → IsRightAnswer variables clauses budget answer
+pub search_ended : (variables : ℕ) (clauses : List (List Lit)) (t : TrailState) (steps : List Step) (budget : ℕ) →
+    IsSearch variables clauses t steps → length steps ≡ budget → (answer : Answer) → IsEnd t.clauses steps answer →
+    IsRightAnswer variables clauses budget answer
 search_ended variables clauses t steps budget search spent (Sat assignment) end' = absurd end'
 search_ended variables clauses t steps budget search spent (Unsat log) end' = search_refuted variables clauses t steps log search end'
-search_ended variables clauses t steps budget search spent (Spent trace) end' = search_spent variables clauses t steps budget trace search spent end'.0 end'.1
+search_ended variables clauses t steps budget search spent (Spent trace) end' = search_spent variables clauses t steps budget trace search
+    spent end'.0 end'.1
 
 -- ---- the measure
 
 pub decided_longer : (t u w : TrailState) (l : Lit) → Propagates t u → w ≡ decided u l → length t.entries < length w.entries
 decided_longer t u w l grows is =
-    omega (arith, ap (λ (s : TrailState). length s.entries) is, length_push u.entries (entry_with l (u.level + 1) None), ap (λ (s : TrailState). length s.entries) grows.rest_stays, length-append t.entries grows.added)
+    omega (
+      arith,
+      ap (λ (s : TrailState). length s.entries) is,
+      length_push u.entries (entry_with l (u.level + 1) None),
+      ap (λ (s : TrailState). length s.entries) grows.rest_stays,
+      length-append t.entries grows.added,
+    )
 
 pub less_unset : (a v len more : ℕ) → len < more → more ≤ v → a + (v - more) < a + (v - len)
 less_unset a v len more h k = omega arith
@@ -433,13 +573,18 @@ still_set es added index set_before none = by_place (place_of es index) refl
     by_place (Some p) is = none-some p (sym none ∙ place_from-front 0 es added index p is)
 
 pub set_propagated : (t u : TrailState) (n : ℕ) → Propagates t u → AreSet t.entries n → AreSet u.entries n
-set_propagated t u n grows all index below = subst (λ (s : TrailState). place_of s.entries index ≡ None → ⊥) (sym grows.rest_stays) (still_set t.entries grows.added index (all index below))
+set_propagated t u n grows all index below = subst (λ (s : TrailState). place_of s.entries index ≡ None → ⊥) (sym grows.rest_stays)
+    (still_set t.entries grows.added index (all index below))
 
-pub set_decided : (u w : TrailState) (l : Lit) (n : ℕ) → w ≡ decided u l → AreSet u.entries l.index → place_of u.entries l.index ≡ None → n ≡ l.index + 1 → AreSet w.entries n
-set_decided u w l n is all unset next index below = subst (λ (s : TrailState). place_of s.entries index ≡ None → ⊥) (sym is) (elim (cases_eq index l.index) [
-  | inl same_index ↦ (λ none. none-some (0 + length u.entries) (sym none ∙ (ap (place_of (u.entries ++ e ∷ [])) same_index ∙ (place_from-after 0 u.entries (e ∷ []) l.index unset ∙ place_here (0 + length u.entries) e [] l.index refl))))
-  | inr apart ↦ still_set u.entries (e ∷ []) index (all index (omega arith))
-])
+pub set_decided : (u w : TrailState) (l : Lit) (n : ℕ) → w ≡ decided u l → AreSet u.entries l.index → place_of u.entries l.index ≡ None →
+    n ≡ l.index + 1 → AreSet w.entries n
+set_decided u w l n is all unset next index below = subst (λ (s : TrailState). place_of s.entries index ≡ None → ⊥) (sym is)
+    (elim (cases_eq index l.index) [
+      | inl same_index ↦ (λ none. none-some (0 + length u.entries)
+          (sym none ∙ (ap (place_of (u.entries ++ e ∷ [])) same_index ∙
+          (place_from-after 0 u.entries (e ∷ []) l.index unset ∙ place_here (0 + length u.entries) e [] l.index refl))))
+      | inr apart ↦ still_set u.entries (e ∷ []) index (all index (omega arith))
+    ])
   where
     e : Entry
     e = entry_with l (u.level + 1) None
@@ -450,29 +595,43 @@ pub decisions_propagated : (t u : TrailState) (d : Decisions) → Propagates t u
 decisions_propagated t u d grows are = record {
   so_far = set_propagated t u d.first grows are.so_far;
   one_each = are.one_each ∙ ap (λ (s : TrailState). s.level) (sym grows.rest_stays);
-  each = λ level f at. subst (λ (s : TrailState). AreSet (up_to level s.entries) f) (sym grows.rest_stays) (subst (λ (es : List Entry). AreSet es f) (sym (up_to_added t.level level t.entries grows.added (recursion_from_All (λ (e : Entry). (e.level ≡ t.level) × IsSome e.reason) grows.added grows.forced) (omega (arith, are.one_each, slice_get_within d.by_level.items level f at)))) (are.each level f at));
+  each = λ level f at. subst (λ (s : TrailState). AreSet (up_to level s.entries) f) (sym grows.rest_stays)
+      (subst (λ (es : List Entry). AreSet es f) (sym (up_to_added t.level level t.entries grows.added
+      (recursion_from_All (λ (e : Entry). (e.level ≡ t.level) × IsSome e.reason) grows.added grows.forced)
+      (omega (arith, are.one_each, slice_get_within d.by_level.items level f at)))) (are.each level f at));
 }
 
-pub decisions_decided : (t u : TrailState) (d n : Decisions) (l : Lit) → IsSound t → AreDecisions t d → u ≡ decided t l → AreSet t.entries l.index → place_of t.entries l.index ≡ None → n.first ≡ l.index + 1 → n.by_level.items ≡ d.by_level.items ++ l.index ∷ [] → AreDecisions u n
+pub decisions_decided : (t u : TrailState) (d n : Decisions) (l : Lit) → IsSound t → AreDecisions t d → u ≡ decided t l →
+    AreSet t.entries l.index → place_of t.entries l.index ≡ None → n.first ≡ l.index + 1 →
+    n.by_level.items ≡ d.by_level.items ++ l.index ∷ [] → AreDecisions u n
 decisions_decided t u d n l sound are is all unset first more = record {
   so_far = set_decided t u l n.first is all unset first;
   one_each = omega (arith, ap length more, length_push d.by_level.items l.index, are.one_each, ap (λ (s : TrailState). s.level) is);
   each = λ level f at. elim (slice_get_push d.by_level.items l.index level f (sym (ap (λ (fs : List ℕ). slice_get fs level) more) ∙ at)) [
     | inl old ↦ below level f (omega (arith, are.one_each, old.0)) (are.each level f old.1)
-    | inr new ↦ below level f (omega (arith, are.one_each, new.0)) (subst (λ (i : ℕ). AreSet (up_to level t.entries) i) new.1 (subst (λ (es : List Entry). AreSet es l.index) (sym (up_to_all level t.entries (λ k e there. (let h = level_within t.variables t.clauses t.entries sound.stand k e there in omega (arith, sound.level_reached, are.one_each, new.0))))) all))
+    | inr new ↦ below level f (omega (arith, are.one_each, new.0))
+        (subst (λ (i : ℕ). AreSet (up_to level t.entries) i) new.1 (subst (λ (es : List Entry). AreSet es l.index)
+        (sym (up_to_all level t.entries (λ k e there. (let h = level_within t.variables t.clauses t.entries sound.stand k e there in omega
+        (arith, sound.level_reached, are.one_each, new.0))))) all))
   ];
 }
   where
     below : (level f : ℕ) → level ≤ t.level → AreSet (up_to level t.entries) f → AreSet (up_to level u.entries) f
-    below level f low set = subst (λ (s : TrailState). AreSet (up_to level s.entries) f) (sym is) (subst (λ (es : List Entry). AreSet es f) (sym (up_to-push level t.entries (entry_with l (t.level + 1) None) (omega arith))) set)
+    below level f low set = subst (λ (s : TrailState). AreSet (up_to level s.entries) f) (sym is)
+        (subst (λ (es : List Entry). AreSet es f) (sym (up_to-push level t.entries (entry_with l (t.level + 1) None) (omega arith))) set)
 
-pub decisions_learnt : (t u : TrailState) (d n : Decisions) (back : ℕ) (clause : List Lit) → AreDecisions t d → u ≡ with_clause (undone t back) clause → back < t.level → slice_get d.by_level.items u.level ≡ Some n.first → n.by_level.items ≡ take u.level d.by_level.items → AreDecisions u n
+pub decisions_learnt : (t u : TrailState) (d n : Decisions) (back : ℕ) (clause : List Lit) → AreDecisions t d →
+    u ≡ with_clause (undone t back) clause → back < t.level → slice_get d.by_level.items u.level ≡ Some n.first →
+    n.by_level.items ≡ take u.level d.by_level.items → AreDecisions u n
 decisions_learnt t u d n back clause are is below first fewer = record {
-  so_far = subst (λ (es : List Entry). AreSet es n.first) (sym entries) (are.each back n.first (ap (slice_get d.by_level.items) (sym level_is) ∙ first));
+  so_far = subst (λ (es : List Entry). AreSet es n.first) (sym entries)
+      (are.each back n.first (ap (slice_get d.by_level.items) (sym level_is) ∙ first));
   one_each = ap length fewer ∙ length-take-le u.level d.by_level.items (omega (arith, are.one_each, level_is));
   each = λ level f at.
       (let r = slice_get-take u.level d.by_level.items level f (sym (ap (λ (fs : List ℕ). slice_get fs level) fewer) ∙ at) in
-      subst (λ (es : List Entry). AreSet (up_to level es) f) (sym entries) (subst (λ (es : List Entry). AreSet es f) (sym (up_to-up_to level back t.entries (omega (arith, r.0, level_is)))) (are.each level f r.1)));
+      subst (λ (es : List Entry). AreSet (up_to level es) f) (sym entries)
+      (subst (λ (es : List Entry). AreSet es f) (sym (up_to-up_to level back t.entries (omega (arith, r.0, level_is))))
+      (are.each level f r.1)));
 }
   where
     entries : u.entries ≡ up_to back t.entries

@@ -1,5 +1,6 @@
 -- What holds of every trail stays when it changes.
-use Rattle.std.proofs.Common.{◌≡◌, ℕ, zero, suc, ◌+◌, ◌<◌, ◌≤◌, ◌^◌, Bool, false, List, [], ◌∷◌, ◌++◌, length, take, Option, Some, None, slice_get, sym, ap, ◌∙◌, subst, refl, arith, inl, inr, MatchOption}
+use Rattle.std.proofs.Common.{◌≡◌, ℕ, zero, suc, ◌+◌, ◌<◌, ◌≤◌, ◌^◌, Bool, false, List, [], ◌∷◌, ◌++◌, length, take, Option, Some, None}
+use Rattle.std.proofs.Common.{slice_get, sym, ap, ◌∙◌, subst, refl, arith, inl, inr, MatchOption}
 use Rattle.std.proofs.lemmas.Option.{slice_get_within}
 use Rattle.std.proofs.lemmas.List.{take-append-le, take_all, take_at, take-take, length_push}
 use Rattle.std.proofs.lemmas.List.Elements.{All-push}
@@ -14,7 +15,8 @@ use Rattle.sat_trail.proofs.Places.{AreApart, few_entries}
 
 -- each entry may stand behind those at smaller places
 abbrev pub AllStand : ℕ → List (List Lit) → List Entry → Type 0
-AllStand variables clauses entries = (place : ℕ) (e : Entry) → slice_get entries place ≡ Some e → MayStand variables clauses (take place entries) e
+AllStand variables clauses entries = (place : ℕ) (e : Entry) → slice_get entries place ≡ Some e →
+    MayStand variables clauses (take place entries) e
 
 pub apart_from : (variables : ℕ) (clauses : List (List Lit)) (es : List Entry) → AllStand variables clauses es → AreApart es
 apart_from variables clauses es stand = λ k e at. (stand k e at).unset
@@ -22,23 +24,37 @@ apart_from variables clauses es stand = λ k e at. (stand k e at).unset
 pub length_entries : (variables : ℕ) (clauses : List (List Lit)) (es : List Entry) → AllStand variables clauses es → length es ≤ variables
 length_entries variables clauses es stand = few_entries es variables (apart_from variables clauses es stand) (λ k e at. (stand k e at).over)
 
-pub stand_push : (variables : ℕ) (clauses : List (List Lit)) (es : List Entry) (e : Entry) → AllStand variables clauses es → MayStand variables clauses es e → AllStand variables clauses (es ++ e ∷ [])
+pub stand_push : (variables : ℕ) (clauses : List (List Lit)) (es : List Entry) (e : Entry) → AllStand variables clauses es →
+    MayStand variables clauses es e → AllStand variables clauses (es ++ e ∷ [])
 stand_push variables clauses es e stand may = λ k d at. elim (slice_get_push es e k d at) [
-  | inl p ↦ subst (λ (xs : List Entry). MayStand variables clauses xs d) (sym (take-append-le k es (e ∷ []) (omega (arith, p.0)))) (stand k d p.1)
-  | inr p ↦ subst (λ (xs : List Entry). MayStand variables clauses xs d) (sym (take_at es (e ∷ []) k (sym p.0))) (subst (MayStand variables clauses es) p.1 may)
+  | inl p ↦ subst (λ (xs : List Entry). MayStand variables clauses xs d) (sym (take-append-le k es (e ∷ []) (omega (arith, p.0))))
+      (stand k d p.1)
+  | inr p ↦ subst (λ (xs : List Entry). MayStand variables clauses xs d) (sym (take_at es (e ∷ []) k (sym p.0)))
+      (subst (MayStand variables clauses es) p.1 may)
 ]
 
-pub stand_take : (variables : ℕ) (clauses : List (List Lit)) (es : List Entry) (n : ℕ) → AllStand variables clauses es → AllStand variables clauses (take n es)
+pub stand_take : (variables : ℕ) (clauses : List (List Lit)) (es : List Entry) (n : ℕ) → AllStand variables clauses es →
+    AllStand variables clauses (take n es)
 stand_take variables clauses es n stand = λ k e at.
     let r = slice_get-take n es k e at in
     subst (λ (xs : List Entry). MayStand variables clauses xs e) (sym (take-take k n es (omega (arith, r.0)))) (stand k e r.1)
 
-stand_clause : (variables : ℕ) (clauses more : List (List Lit)) (es : List Entry) (e : Entry) → MayStand variables clauses es e → MayStand variables (clauses ++ more) es e
+stand_clause : (variables : ℕ) (clauses more : List (List Lit)) (es : List Entry) (e : Entry) → MayStand variables clauses es e →
+    MayStand variables (clauses ++ more) es e
 stand_clause variables clauses more es e may = record { over = may.over; unset = may.unset; cause = grown e.reason may.cause }
   where
-    grown : (o : Option ℕ) → MatchOption o (e.level ≡ level_of es + 1) (λ number. (e.level ≡ level_of es) × IsForced clauses es number e.literal) → MatchOption o (e.level ≡ level_of es + 1) (λ number. (e.level ≡ level_of es) × IsForced (clauses ++ more) es number e.literal)
+    grown : (o : Option ℕ) → MatchOption o (e.level ≡ level_of es + 1)
+        (λ number. (e.level ≡ level_of es) × IsForced clauses es number e.literal) →
+        MatchOption o (e.level ≡ level_of es + 1) (λ number. (e.level ≡ level_of es) × IsForced (clauses ++ more) es number e.literal)
     grown None h = h
-    grown (Some number) h = (h.0, record { clause = h.1.clause; named = slice_get_grown clauses more number h.1.clause h.1.named; others_false = h.1.others_false })
+    grown (Some number) h = (
+      h.0,
+      record {
+        clause = h.1.clause;
+        named = slice_get_grown clauses more number h.1.clause h.1.named;
+        others_false = h.1.others_false;
+      },
+    )
 
 -- ---- levels
 
@@ -50,10 +66,12 @@ pub level_of-push : (es : List Entry) (e : Entry) → level_of (es ++ e ∷ []) 
 level_of-push es e = last_level-push 0 es e
 
 -- an entry's level is that of those before it, or the next one
-pub level_step : (variables : ℕ) (clauses : List (List Lit)) (es : List Entry) (e : Entry) → MayStand variables clauses es e → (level_of es ≤ e.level) × (e.level ≤ level_of es + 1)
+pub level_step : (variables : ℕ) (clauses : List (List Lit)) (es : List Entry) (e : Entry) → MayStand variables clauses es e →
+    (level_of es ≤ e.level) × (e.level ≤ level_of es + 1)
 level_step variables clauses es e may = by_reason e.reason may.cause
   where
-    by_reason : (o : Option ℕ) → MatchOption o (e.level ≡ level_of es + 1) (λ number. (e.level ≡ level_of es) × IsForced clauses es number e.literal) → (level_of es ≤ e.level) × (e.level ≤ level_of es + 1)
+    by_reason : (o : Option ℕ) → MatchOption o (e.level ≡ level_of es + 1)
+        (λ number. (e.level ≡ level_of es) × IsForced clauses es number e.literal) → (level_of es ≤ e.level) × (e.level ≤ level_of es + 1)
     by_reason None h = (omega (arith, h), omega (arith, h))
     by_reason (Some number) h = (omega (arith, h.0), omega (arith, h.0))
 
@@ -61,34 +79,66 @@ pub level_at_next : (es : List Entry) (k : ℕ) (e : Entry) → slice_get es k �
 level_at_next es k e at = ap level_of (take_next es k e at) ∙ level_of-push (take k es) e
 
 -- levels never fall along the places
-pub levels_rise : (variables : ℕ) (clauses : List (List Lit)) (es : List Entry) → AllStand variables clauses es → (m n : ℕ) → m ≤ n → level_of (take m es) ≤ level_of (take n es)
+pub levels_rise : (variables : ℕ) (clauses : List (List Lit)) (es : List Entry) → AllStand variables clauses es → (m n : ℕ) → m ≤ n →
+    level_of (take m es) ≤ level_of (take n es)
 levels_rise variables clauses es stand m zero h = omega (arith, ap (λ k. level_of (take k es)) (let e : m ≡ 0 = omega arith in e))
 levels_rise variables clauses es stand m (suc n) h =
     elim (cases_lt m (suc n)) [
       | inl below ↦ elim (cases_lt n (length es)) [
         | inl in' ↦ (let r = slice_get_some es n in' in
-            omega (arith, levels_rise variables clauses es stand m n (omega arith), level_at_next es n r.0 r.1, (level_step variables clauses (take n es) r.0 (stand n r.0 r.1)).0))
-        | inr out ↦ omega (arith, levels_rise variables clauses es stand m n (omega arith), ap level_of (take_all n es out), ap level_of (take_all (suc n) es (omega arith)))
+            omega (
+              arith,
+              levels_rise variables clauses es stand m n (omega arith),
+              level_at_next es n r.0 r.1,
+              (level_step variables clauses (take n es) r.0 (stand n r.0 r.1)).0,
+            ))
+        | inr out ↦ omega (
+          arith,
+          levels_rise variables clauses es stand m n (omega arith),
+          ap level_of (take_all n es out),
+          ap level_of (take_all (suc n) es (omega arith)),
+        )
       ]
       | inr above ↦ omega (arith, ap (λ k. level_of (take k es)) (let e : m ≡ suc n = omega arith in e))
     ]
 
-pub level_within : (variables : ℕ) (clauses : List (List Lit)) (es : List Entry) → AllStand variables clauses es → (k : ℕ) (e : Entry) → slice_get es k ≡ Some e → e.level ≤ level_of es
+pub level_within : (variables : ℕ) (clauses : List (List Lit)) (es : List Entry) → AllStand variables clauses es → (k : ℕ) (e : Entry) →
+    slice_get es k ≡ Some e → e.level ≤ level_of es
 level_within variables clauses es stand k e at =
     let below = slice_get_within es k e at in
-    omega (arith, level_at_next es k e at, levels_rise variables clauses es stand (suc k) (length es) (omega arith), ap level_of (take_all (length es) es (omega arith)))
+    omega (
+      arith,
+      level_at_next es k e at,
+      levels_rise variables clauses es stand (suc k) (length es) (omega arith),
+      ap level_of (take_all (length es) es (omega arith)),
+    )
 
-pub level_small : (variables : ℕ) (clauses : List (List Lit)) (es : List Entry) → AllStand variables clauses es → (n : ℕ) → level_of (take n es) ≤ n
+pub level_small : (variables : ℕ) (clauses : List (List Lit)) (es : List Entry) → AllStand variables clauses es → (n : ℕ) →
+    level_of (take n es) ≤ n
 level_small variables clauses es stand zero = omega arith
 level_small variables clauses es stand (suc n) =
     elim (cases_lt n (length es)) [
       | inl in' ↦ (let r = slice_get_some es n in' in
-          omega (arith, level_small variables clauses es stand n, level_at_next es n r.0 r.1, (level_step variables clauses (take n es) r.0 (stand n r.0 r.1)).1))
-      | inr out ↦ omega (arith, level_small variables clauses es stand n, ap level_of (take_all n es out), ap level_of (take_all (suc n) es (omega arith)))
+          omega (
+            arith,
+            level_small variables clauses es stand n,
+            level_at_next es n r.0 r.1,
+            (level_step variables clauses (take n es) r.0 (stand n r.0 r.1)).1,
+          ))
+      | inr out ↦ omega (
+        arith,
+        level_small variables clauses es stand n,
+        ap level_of (take_all n es out),
+        ap level_of (take_all (suc n) es (omega arith)),
+      )
     ]
 
 pub level_few : (variables : ℕ) (clauses : List (List Lit)) (es : List Entry) → AllStand variables clauses es → level_of es ≤ length es
-level_few variables clauses es stand = omega (arith, level_small variables clauses es stand (length es), ap level_of (take_all (length es) es (omega arith)))
+level_few variables clauses es stand = omega (
+  arith,
+  level_small variables clauses es stand (length es),
+  ap level_of (take_all (length es) es (omega arith)),
+)
 
 -- ---- changes
 
@@ -102,7 +152,8 @@ sound_extended t e sound may = record {
   level_reached = sym (level_of-push t.entries e);
 }
 
-pub sound_clause : (t : TrailState) (clause : List Lit) → IsSound t → length t.clauses + 1 < 2 ^ 32 → IsOver t.variables clause → has_pair clause ≡ false → IsSound (with_clause t clause)
+pub sound_clause : (t : TrailState) (clause : List Lit) → IsSound t → length t.clauses + 1 < 2 ^ 32 → IsOver t.variables clause →
+    has_pair clause ≡ false → IsSound (with_clause t clause)
 sound_clause t clause sound few over no_pair = record {
   few_variables = sound.few_variables;
   few_clauses = omega (arith, length_push t.clauses clause);

@@ -1,6 +1,7 @@
 -- What stands at the places of a trail. The terms are those of N. Eén and N. Sörensson, An Extensible
 -- SAT-solver, 2003.
-use Rattle.std.specs.Prelude.{◌≡◌, ℕ, suc, ◌+◌, ◌<◌, ◌==◌, Bool, true, false, cond, List, [], ◌∷◌, map, Option, Some, None, slice_get, MatchOption}
+use Rattle.std.specs.Prelude.{◌≡◌, ℕ, suc, ◌+◌, ◌<◌, ◌==◌, Bool, true, false, cond, List, [], ◌∷◌, map, Option, Some, None, slice_get}
+use Rattle.std.specs.Prelude.{MatchOption}
 use Rattle.clause_core.specs.Literals.{Lit, negation, has}
 use Rattle.clause_core.specs.Propagation.{not_false}
 use Rattle.sat_trail.specs.declared.entries.Entry.{Entry}
@@ -47,4 +48,5 @@ pub record IsForced (clauses : List (List Lit)) (entries : List Entry) (number :
 pub record MayStand (variables : ℕ) (clauses : List (List Lit)) (earlier : List Entry) (e : Entry) : Type 0 where
   pub over : e.literal.index < variables
   pub unset : place_of earlier e.literal.index ≡ None
-  pub cause : MatchOption e.reason (e.level ≡ level_of earlier + 1) (λ number. (e.level ≡ level_of earlier) × IsForced clauses earlier number e.literal)
+  pub cause : MatchOption e.reason (e.level ≡ level_of earlier + 1)
+      (λ number. (e.level ≡ level_of earlier) × IsForced clauses earlier number e.literal)

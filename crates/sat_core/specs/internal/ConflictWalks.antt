@@ -1,7 +1,8 @@
 -- Internal: only private functions of this crate use these words.
 -- The walk along a trail, from its end, that finds what a conflict teaches. An entry is marked while the clause
 -- that is found so far has the opposite of its literal and the walk is yet to pass it.
-use Rattle.std.specs.Prelude.{◌≡◌, ℕ, suc, ◌+◌, ◌<◌, ◌≤◌, ◌==◌, nat_lt, Bool, true, false, cond, ◌&&◌, ◌||◌, ◌⊎◌, List, [], ◌∷◌, length, reverse, Option, Some, None, slice_get}
+use Rattle.std.specs.Prelude.{◌≡◌, ℕ, suc, ◌+◌, ◌<◌, ◌≤◌, ◌==◌, nat_lt, Bool, true, false, cond, ◌&&◌, ◌||◌, ◌⊎◌, List, [], ◌∷◌, length}
+use Rattle.std.specs.Prelude.{reverse, Option, Some, None, slice_get}
 use Rattle.std.specs.BTreeSet.{contains}
 use Rattle.std.specs.List.{list_any}
 use Rattle.std.specs.Ordering.{nat_cmp}
@@ -62,7 +63,8 @@ pub record Carries (entries : List Entry) (place : ℕ) (marks : ℕ → Bool) (
 -- from any such literals the hints lead to a false clause
 abbrev pub Shows : TrailState → ℕ → (ℕ → Bool) → List Lit → List ℕ → Type 0
 Shows t place marks kept hints =
-    (trues : List Lit) → Carries t.entries place marks kept trues → (position : ℕ) → refused_hint (numbered_from 1 t.clauses) trues position hints ≡ None
+    (trues : List Lit) → Carries t.entries place marks kept trues → (position : ℕ) →
+    refused_hint (numbered_from 1 t.clauses) trues position hints ≡ None
 
 -- nothing is kept yet, and a marked entry of the present level waits, but for level 0
 pub record IsEarly (t : TrailState) (w : Walk) : Type 0 where

@@ -43,4 +43,5 @@ Decides old new before after false = AreSet old.entries old.variables × (new �
 -- one truth for each variable: whether its positive literal is set
 pub record AreVariableTruths (entries : List Entry) (variables : ℕ) (truths : List Bool) : Type 0 where
   pub all : length truths ≡ variables
-  pub each : (index : ℕ) → index < variables → slice_get truths index ≡ Some (has (literals_of entries) (record { index = index; positive = true }))
+  pub each : (index : ℕ) → index < variables → slice_get truths index
+      ≡ Some (has (literals_of entries) (record { index = index; positive = true }))

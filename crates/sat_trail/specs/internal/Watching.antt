@@ -1,6 +1,7 @@
 -- Internal: only private functions of this crate use these words. How clauses watch literals, and how far propagation has
 -- come. The idea is that of M. Moskewicz and others, Chaff: Engineering an Efficient SAT Solver, 2001.
-use Rattle.std.specs.Prelude.{◌≡◌, ℕ, ◌+◌, ◌*◌, ◌<◌, ◌≤◌, ◌⊎◌, Bool, true, false, List, ◌∷◌, ◌++◌, [], length, Option, Some, None, MatchOption, slice_get}
+use Rattle.std.specs.Prelude.{◌≡◌, ℕ, ◌+◌, ◌*◌, ◌<◌, ◌≤◌, ◌⊎◌, Bool, true, false, List, ◌∷◌, ◌++◌, [], length, Option, Some, None}
+use Rattle.std.specs.Prelude.{MatchOption, slice_get}
 use Rattle.clause_core.specs.Literals.{Lit, negation, has, code_of}
 use Rattle.clause_core.specs.Clauses.{IsIncreasing}
 use Rattle.sat_trail.specs.declared.entries.Entry.{Entry}
@@ -42,7 +43,8 @@ pub record AddsWatch (old : List (List Watch)) (code : ℕ) (watch : Watch) (new
 -- one list has a watch less
 pub record DropsWatch (old : List (List Watch)) (code index : ℕ) (new : List (List Watch)) : Type 0 where
   pub all : length new ≡ length old
-  pub here : (list : List Watch) → slice_get old code ≡ Some list → (less : List Watch) × (slice_get new code ≡ Some less) × TakesOut list index less
+  pub here : (list : List Watch) → slice_get old code ≡ Some list →
+      (less : List Watch) × (slice_get new code ≡ Some less) × TakesOut list index less
   pub others : (other : ℕ) → (other ≡ code → ⊥) → slice_get new other ≡ slice_get old other
 
 -- ---- pairs
@@ -92,14 +94,22 @@ pub record AreWatched (t : TrailState) (w : Watches) : Type 0 where
   pub pairs_few : length w.pairs.items ≤ length t.clauses
   pub looked_few : w.looked ≤ length w.pairs.items
   pub head_few : w.head ≤ length t.entries
-  pub blocked : (code index : ℕ) (list : List Watch) (watch : Watch) → slice_get w.lists.items code ≡ Some list → slice_get list index ≡ Some watch →
-      (watch.clause < length w.pairs.items) × ((clause : List Lit) → slice_get t.clauses watch.clause ≡ Some clause → has clause watch.blocker ≡ true)
-  pub paired : (number : ℕ) (clause : List Lit) (pair : Pair) → slice_get t.clauses number ≡ Some clause → IsPairOf w.pairs.items number pair → IsPair clause pair
-  pub listed : (number : ℕ) (pair : Pair) (l : Lit) → IsPairOf w.pairs.items number pair → IsOf pair l → (index : ℕ) × HasWatch w.lists.items (code_of l) number index
-  pub excused : (number : ℕ) (clause : List Lit) (pair : Pair) (l : Lit) → slice_get t.clauses number ≡ Some clause → IsPairOf w.pairs.items number pair → IsOf pair l →
-      (place : ℕ) (e : Entry) → slice_get t.entries place ≡ Some e → e.literal ≡ negation l → place < w.head → IsExcused t.entries clause place w.low e.level
-  pub short_is : (number : ℕ) (clause : List Lit) → slice_get t.clauses number ≡ Some clause → slice_get w.pairs.items number ≡ Some None → IsShort clause
-  pub short_excused : (number : ℕ) (clause : List Lit) → slice_get t.clauses number ≡ Some clause → slice_get w.pairs.items number ≡ Some None → number < w.looked →
+  pub blocked : (code index : ℕ) (list : List Watch) (watch : Watch) → slice_get w.lists.items code ≡ Some list →
+      slice_get list index ≡ Some watch →
+      (watch.clause < length w.pairs.items) × ((clause : List Lit) → slice_get t.clauses watch.clause ≡ Some clause →
+      has clause watch.blocker ≡ true)
+  pub paired : (number : ℕ) (clause : List Lit) (pair : Pair) → slice_get t.clauses number ≡ Some clause →
+      IsPairOf w.pairs.items number pair → IsPair clause pair
+  pub listed : (number : ℕ) (pair : Pair) (l : Lit) → IsPairOf w.pairs.items number pair → IsOf pair l →
+      (index : ℕ) × HasWatch w.lists.items (code_of l) number index
+  pub excused : (number : ℕ) (clause : List Lit) (pair : Pair) (l : Lit) → slice_get t.clauses number ≡ Some clause →
+      IsPairOf w.pairs.items number pair → IsOf pair l →
+      (place : ℕ) (e : Entry) → slice_get t.entries place ≡ Some e → e.literal ≡ negation l → place < w.head →
+      IsExcused t.entries clause place w.low e.level
+  pub short_is : (number : ℕ) (clause : List Lit) → slice_get t.clauses number ≡ Some clause → slice_get w.pairs.items number ≡ Some None →
+      IsShort clause
+  pub short_excused : (number : ℕ) (clause : List Lit) → slice_get t.clauses number ≡ Some clause →
+      slice_get w.pairs.items number ≡ Some None → number < w.looked →
       IsExcused t.entries clause number w.short 0
 
 -- ---- what holds within the visit of an entry
@@ -114,8 +124,10 @@ pub record IsVisit (t : TrailState) (w : Watches) (falsified : Lit) : Type 0 whe
 -- each clause that watches the literal is excused, or has a watch that is still to be visited, before this index
 abbrev pub AreDue : TrailState → Watches → Lit → ℕ → Type 0
 AreDue t w falsified end =
-    (number : ℕ) (clause : List Lit) (pair : Pair) → slice_get t.clauses number ≡ Some clause → IsPairOf w.pairs.items number pair → IsOf pair falsified →
-    IsExcused t.entries clause w.head w.low t.level ⊎ ((index : ℕ) × (index < end) × HasWatch w.lists.items (code_of falsified) number index)
+    (number : ℕ) (clause : List Lit) (pair : Pair) → slice_get t.clauses number ≡ Some clause → IsPairOf w.pairs.items number pair →
+    IsOf pair falsified →
+    IsExcused t.entries clause w.head w.low t.level ⊎ ((index : ℕ) × (index < end)
+    × HasWatch w.lists.items (code_of falsified) number index)
 
 -- ---- what is looked for
 
@@ -162,7 +174,8 @@ IsLater trues first second l =
 
 -- the best of the literals but for the one given; none where there are no others
 abbrev pub IsBestOf : List Lit → List Lit → Option Lit → Option Lit → Type 0
-IsBestOf trues literals except found = MatchOption found ((m : Lit) → has literals m ≡ true → except ≡ Some m) (IsBest trues literals except)
+IsBestOf trues literals except found = MatchOption found ((m : Lit) → has literals m ≡ true → except ≡ Some m)
+    (IsBest trues literals except)
 
 -- at this position stands a literal that is not false and not the one given
 pub record IsFree (trues literals : List Lit) (except : Lit) (position : ℕ) : Type 0 where

@@ -10,28 +10,37 @@ pub learn-requires-clause-over : goal.learn-requires-clause-over
 learn-requires-clause-over c =
     let t = c.args.trail.now in
     let lesson = c.in_ok-lesson.lesson in
-    let copy : c.in_ok-clause_of.field-0 ≡ lesson.clause = copied c.in_ok-clause_of.field-0 lesson.clause c.literals.result.now c.in_ok-clause_of.ensures c.literals.ensures.value c.literals.ensures.increasing in
-    subst (λ (ls : List Lit). IsOver c.undo_to.new.self.variables ls) (sym copy) (subst (λ (s : TrailState). IsOver s.variables lesson.clause) (sym c.undo_to.ensures.value) (lesson_over t c.requires.sound lesson.clause lesson.hints.items lesson.back c.in_ok-lesson.ensures))
+    let copy : c.in_ok-clause_of.field-0 ≡ lesson.clause = copied c.in_ok-clause_of.field-0 lesson.clause c.literals.result.now
+    c.in_ok-clause_of.ensures c.literals.ensures.value c.literals.ensures.increasing in
+    subst (λ (ls : List Lit). IsOver c.undo_to.new.self.variables ls) (sym copy)
+    (subst (λ (s : TrailState). IsOver s.variables lesson.clause) (sym c.undo_to.ensures.value)
+    (lesson_over t c.requires.sound lesson.clause lesson.hints.items lesson.back c.in_ok-lesson.ensures))
 
 pub learn-requires-clause-no_pair : goal.learn-requires-clause-no_pair
 learn-requires-clause-no_pair c =
     let t = c.args.trail.now in
     let lesson = c.in_ok-lesson.lesson in
-    let copy : c.in_ok-clause_of.field-0 ≡ lesson.clause = copied c.in_ok-clause_of.field-0 lesson.clause c.literals.result.now c.in_ok-clause_of.ensures c.literals.ensures.value c.literals.ensures.increasing in
+    let copy : c.in_ok-clause_of.field-0 ≡ lesson.clause = copied c.in_ok-clause_of.field-0 lesson.clause c.literals.result.now
+    c.in_ok-clause_of.ensures c.literals.ensures.value c.literals.ensures.increasing in
     ap has_pair copy ∙ lesson_no_pair t c.requires.sound lesson.clause lesson.hints.items lesson.back c.in_ok-lesson.ensures
 
 pub returns-clause-learnt : goal.returns-clause-learnt
 returns-clause-learnt c =
     let t = c.args.trail.now in
     let lesson = c.in_ok-lesson.lesson in
-    let copy : c.in_ok-clause_of.field-0 ≡ lesson.clause = copied c.in_ok-clause_of.field-0 lesson.clause c.literals.result.now c.in_ok-clause_of.ensures c.literals.ensures.value c.literals.ensures.increasing in
+    let copy : c.in_ok-clause_of.field-0 ≡ lesson.clause = copied c.in_ok-clause_of.field-0 lesson.clause c.literals.result.now
+    c.in_ok-clause_of.ensures c.literals.ensures.value c.literals.ensures.increasing in
     let back : c.undo_to.new.self ≡ undone t lesson.back = c.undo_to.ensures.value in
-    let number : c.from.result + 1 ≡ length t.clauses + 1 = ap (λ (n : ℕ). n + 1) (c.from.ensures ∙ (c.in_ok-number.ensures.number ∙ ap (λ (s : TrailState). length s.clauses) back)) in
+    let number : c.from.result + 1 ≡ length t.clauses + 1 = ap (λ (n : ℕ). n + 1)
+    (c.from.ensures ∙ (c.in_ok-number.ensures.number ∙ ap (λ (s : TrailState). length s.clauses) back)) in
     record {
       clause = lesson.clause;
       hints = lesson.hints.items;
       back = lesson.back;
       lesson = c.in_ok-lesson.ensures;
-      trail_is = c.in_ok-number.ensures.ok ∙ (ap (λ (s : TrailState). with_clause s c.in_ok-clause_of.field-0) back ∙ ap (with_clause (undone t lesson.back)) copy);
-      steps_are = c.in_ok-push.ensures.items ∙ (ap (λ (n : ℕ). c.args.steps.now.items ++ learnt_step n lesson.clause c.from_vec.result ∷ []) number ∙ ap (λ (hs : List ℕ). c.args.steps.now.items ++ learnt_step (length t.clauses + 1) lesson.clause hs ∷ []) c.from_vec.ensures);
+      trail_is = c.in_ok-number.ensures.ok ∙ (ap (λ (s : TrailState). with_clause s c.in_ok-clause_of.field-0) back
+          ∙ ap (with_clause (undone t lesson.back)) copy);
+      steps_are = c.in_ok-push.ensures.items ∙ (ap (λ (n : ℕ). c.args.steps.now.items
+          ++ learnt_step n lesson.clause c.from_vec.result ∷ []) number
+          ∙ ap (λ (hs : List ℕ). c.args.steps.now.items ++ learnt_step (length t.clauses + 1) lesson.clause hs ∷ []) c.from_vec.ensures);
     }

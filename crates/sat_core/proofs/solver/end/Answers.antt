@@ -9,6 +9,11 @@ use Rattle.sat_core.proofs.solver.end.Goals as goal
 pub returns : goal.returns
 returns c =
     let u = c.propagate.new.self in
-    let quiet : IsQuiet u.clauses (literals_of u.entries) = subst (λ (o : Option ℕ). EndsWith o u) c.in-None.is c.in_ok-conflict.ensures.ends in
-    let same : u.clauses ≡ c.args.trail.clauses = ap (λ (s : TrailState). s.clauses) c.in_ok-conflict.ensures.ok.rest_stays ∙ ap (λ (s : TrailState). s.clauses) c.undo_to.ensures.value in
-    (c.in_ok-learnt_clauses-in-None.ensures, quiet_reaches c.args.trail.clauses (literals_of u.entries) (subst (λ (cs : List (List Lit)). IsQuiet cs (literals_of u.entries)) same quiet))
+    let quiet : IsQuiet u.clauses (literals_of u.entries) = subst
+    (λ (o : Option ℕ). EndsWith o u) c.in-None.is c.in_ok-conflict.ensures.ends in
+    let same : u.clauses ≡ c.args.trail.clauses = ap (λ (s : TrailState). s.clauses) c.in_ok-conflict.ensures.ok.rest_stays
+    ∙ ap (λ (s : TrailState). s.clauses) c.undo_to.ensures.value in (
+      c.in_ok-learnt_clauses-in-None.ensures,
+      quiet_reaches c.args.trail.clauses (literals_of u.entries)
+          (subst (λ (cs : List (List Lit)). IsQuiet cs (literals_of u.entries)) same quiet),
+    )

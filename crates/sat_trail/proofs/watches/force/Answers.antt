@@ -6,4 +6,5 @@ pub is_true-requires : goal.is_true-requires
 is_true-requires c = force_over c.args.stack.now c.requires.sound c.args.number c.args.literal c.requires.forced
 
 pub set-requires : goal.set-requires
-set-requires c = force_stands c.args.stack.now c.requires.sound c.args.number c.args.literal c.level-level.result c.requires.forced c.requires.not_false (sym c.is_true.ensures ∙ c.if-is_true.false) c.level-level.ensures.value
+set-requires c = force_stands c.args.stack.now c.requires.sound c.args.number c.args.literal c.level-level.result c.requires.forced
+    c.requires.not_false (sym c.is_true.ensures ∙ c.if-is_true.false) c.level-level.ensures.value

@@ -5,7 +5,9 @@ use Rattle.sat_trail.proofs.Watching.{force_over, force_fails}
 use Rattle.sat_trail.proofs.watches.force_or_fail.Goals as goal
 
 pub is_true-requires : goal.is_true-requires
-is_true-requires c = subst (λ (l : Lit). l.index < c.args.stack.now.variables) (sym c.negated.ensures) (force_over c.args.stack.now c.requires.sound c.args.number c.args.literal c.requires.forced)
+is_true-requires c = subst (λ (l : Lit). l.index < c.args.stack.now.variables) (sym c.negated.ensures)
+    (force_over c.args.stack.now c.requires.sound c.args.number c.args.literal c.requires.forced)
 
 pub returns-then-is_true-clause-ends : goal.returns-then-is_true-clause-ends
-returns-then-is_true-clause-ends c = force_fails c.args.stack.now c.args.number c.args.literal c.requires.forced (ap (has (literals_of c.args.stack.now.entries)) (sym c.negated.ensures) ∙ (sym c.is_true.ensures ∙ c.if-is_true.true))
+returns-then-is_true-clause-ends c = force_fails c.args.stack.now c.args.number c.args.literal c.requires.forced
+    (ap (has (literals_of c.args.stack.now.entries)) (sym c.negated.ensures) ∙ (sym c.is_true.ensures ∙ c.if-is_true.true))

@@ -13,7 +13,8 @@ returns c =
     let l = c.in-Some.literal in
     let next = c.in-Some.ensures in
     let pushed : c.variable.result - 1 ≡ l.index = omega (arith, c.variable.ensures.value) in
-    let opened : c.push.new.self.items ≡ c.args.self.now.by_level.items ++ l.index ∷ [] = c.in_ok-push.ensures.items ∙ ap (λ (n : ℕ). c.args.self.now.by_level.items ++ n ∷ []) pushed in
+    let opened : c.push.new.self.items ≡ c.args.self.now.by_level.items ++ l.index ∷ [] =
+    c.in_ok-push.ensures.items ∙ ap (λ (n : ℕ). c.args.self.now.by_level.items ++ n ∷ []) pushed in
     record {
       literal = l;
       next = subst (λ (n : ℕ). IsNext t.entries n l) c.requires.variables next;
@@ -21,5 +22,7 @@ returns c =
       sound = c.decide.ensures.sound;
       behind = c.variable-self.ensures.value;
       opened = opened;
-      decisions = decisions_decided t c.decide.new.self c.args.self.now (record { first = c.variable-self.result; by_level = c.push.new.self }) l c.requires.sound c.requires.decisions c.in_ok-decide.ensures.ok next.first next.unset c.variable-self.ensures.value opened;
+      decisions = decisions_decided t c.decide.new.self c.args.self.now
+          (record { first = c.variable-self.result; by_level = c.push.new.self }) l c.requires.sound c.requires.decisions
+          c.in_ok-decide.ensures.ok next.first next.unset c.variable-self.ensures.value opened;
     }

@@ -8,5 +8,13 @@ use Rattle.sat_core.proofs.marks.Marks.mark_clause.Goals as goal
 pub mark-requires-clause-over : goal.mark-requires-clause-over
 mark-requires-clause-over c =
     let t = c.args.trail.now in
-    let over : IsOver t.variables c.clause.result.now = All-contains (IsOver t.variables) t.clauses c.clause.result.now c.requires.sound.over (contains_at t.clauses c.args.number c.clause.result.now c.clause.ensures) in
-    All-contains (λ (l : Lit). l.index < t.variables) c.clause.result.now c.literal-item.result over (c.loop-literal.literal-index, (let h : c.loop-literal.literal-index < length c.clause.result.now = omega (arith, ap length c.literals-literal-items.ensures.value, c.loop-literal-test.true) in h), sym (c.literal-item.is ∙ ap (λ (ls : List Lit). get_or ls c.loop-literal.literal-index c.literal-item.result) c.literals-literal-items.ensures.value))
+    let over : IsOver t.variables c.clause.result.now = All-contains
+    (IsOver t.variables) t.clauses c.clause.result.now c.requires.sound.over
+    (contains_at t.clauses c.args.number c.clause.result.now c.clause.ensures) in
+    All-contains (λ (l : Lit). l.index < t.variables) c.clause.result.now c.literal-item.result over (
+      c.loop-literal.literal-index,
+      (let h : c.loop-literal.literal-index < length c.clause.result.now = omega
+          (arith, ap length c.literals-literal-items.ensures.value, c.loop-literal-test.true) in h),
+      sym (c.literal-item.is ∙ ap (λ (ls : List Lit). get_or ls c.loop-literal.literal-index c.literal-item.result)
+          c.literals-literal-items.ensures.value),
+    )

@@ -9,5 +9,9 @@ use Rattle.sat_core.proofs.marks.Marks.new.Goals as goal
 
 pub returns-clause-marks : goal.returns-clause-marks
 returns-clause-marks c =
-    let none : (place : ℕ) → contains nat_cmp c.new.result place ≡ false = λ place. ap (λ (ks : List ℕ). list_any (is_at (nat_cmp place)) ks) c.new.ensures.empty in
-    λ t. record { within = λ place h. absurd (false≢true (sym (none place) ∙ h)); counted = sym (count_none t.level (contains nat_cmp c.new.result) t.entries none) }
+    let none : (place : ℕ) → contains nat_cmp c.new.result place ≡ false =
+    λ place. ap (λ (ks : List ℕ). list_any (is_at (nat_cmp place)) ks) c.new.ensures.empty in
+    λ t. record {
+      within = λ place h. absurd (false≢true (sym (none place) ∙ h));
+      counted = sym (count_none t.level (contains nat_cmp c.new.result) t.entries none);
+    }

@@ -8,4 +8,13 @@ pub returns : goal.returns
 returns c =
     let t = c.args.trail.now in
     let f = c.requires.conflict in
-    walk_begins t c.requires.sound c.args.conflict f c.requires.quiet (record { marks = c.mark_clause.new.self; kept = c.new.result; hints = c.push.new.self; back = 0 }) c.in_ok-mark_clause.ensures.marks (λ k h. c.in_ok-mark_clause.ensures.marked f.clause f.named k ∙ or_right (is_marked c.new-marks.result k) (is_of_clause t.entries f.clause k) h) c.new.ensures.items (c.in_ok-push.ensures.items ∙ (ap (λ (hs : List ℕ). hs ++ (c.from.result + 1) ∷ []) c.new-hints.ensures.items ∙ ap (λ (n : ℕ). (n + 1) ∷ []) c.from.ensures)) refl
+    walk_begins t c.requires.sound c.args.conflict f c.requires.quiet
+    (record {
+      marks = c.mark_clause.new.self;
+      kept = c.new.result;
+      hints = c.push.new.self;
+      back = 0;
+    }) c.in_ok-mark_clause.ensures.marks (λ k h. c.in_ok-mark_clause.ensures.marked f.clause f.named k
+    ∙ or_right (is_marked c.new-marks.result k) (is_of_clause t.entries f.clause k) h) c.new.ensures.items
+    (c.in_ok-push.ensures.items ∙ (ap (λ (hs : List ℕ). hs ++ (c.from.result + 1) ∷ []) c.new-hints.ensures.items
+    ∙ ap (λ (n : ℕ). (n + 1) ∷ []) c.from.ensures)) refl

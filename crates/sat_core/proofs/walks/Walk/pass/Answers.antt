@@ -19,10 +19,15 @@ pub returns-in-Some : goal.returns-in-Some
 returns-in-Some c =
     let t = c.args.trail.now in
     let r = slice_get_some t.entries c.args.place c.requires.within in
-    on_ok_three c.replace.result (λ hints marked marks. walk_replaced t c.requires.sound c.args.place r.0 r.1 c.in-Some.reason c.args.self.now c.replace.new.self c.requires.walk c.requires.marked marks marked c.replace.ensures.kept hints c.replace.ensures.back (sym c.in-Some.is ∙ c.replacement.ensures r.0 r.1)) c.replace.ensures.hints c.replace.ensures.marked c.replace.ensures.marks
+    on_ok_three c.replace.result (λ hints marked marks. walk_replaced t c.requires.sound c.args.place r.0 r.1 c.in-Some.reason
+    c.args.self.now c.replace.new.self c.requires.walk c.requires.marked marks marked c.replace.ensures.kept hints
+    c.replace.ensures.back (sym c.in-Some.is ∙ c.replacement.ensures r.0 r.1)) c.replace.ensures.hints c.replace.ensures.marked
+    c.replace.ensures.marks
 
 pub returns-in-None : goal.returns-in-None
 returns-in-None c =
     let t = c.args.trail.now in
     let r = slice_get_some t.entries c.args.place c.requires.within in
-    on_ok_weaker c.keep.result (λ kept. walk_kept t c.requires.sound c.args.place r.0 r.1 c.args.self.now c.keep.new.self c.requires.walk c.requires.marked c.keep.ensures.marks c.keep.ensures.marked kept c.keep.ensures.hints (c.keep.ensures.back r.0 r.1) (sym c.in-None.is ∙ c.replacement.ensures r.0 r.1)) (c.keep.ensures.kept r.0 r.1)
+    on_ok_weaker c.keep.result (λ kept. walk_kept t c.requires.sound c.args.place r.0 r.1 c.args.self.now c.keep.new.self c.requires.walk
+    c.requires.marked c.keep.ensures.marks c.keep.ensures.marked kept c.keep.ensures.hints (c.keep.ensures.back r.0 r.1)
+    (sym c.in-None.is ∙ c.replacement.ensures r.0 r.1)) (c.keep.ensures.kept r.0 r.1)

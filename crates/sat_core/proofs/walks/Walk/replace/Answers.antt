@@ -8,4 +8,5 @@ pub clear-requires-clause-marked : goal.clear-requires-clause-marked
 clear-requires-clause-marked c =
     let t = c.args.trail.now in
     let r = slice_get_some t.clauses c.args.reason c.requires.given in
-    c.in_ok-mark_clause.ensures.marked r.0 r.1 c.args.place ∙ or_left (is_marked c.args.self.now.marks c.args.place) (is_of_clause t.entries r.0 c.args.place) c.requires.marked
+    c.in_ok-mark_clause.ensures.marked r.0 r.1 c.args.place ∙ or_left (is_marked c.args.self.now.marks c.args.place)
+    (is_of_clause t.entries r.0 c.args.place) c.requires.marked

@@ -13,4 +13,5 @@ overflow_add-level c =
 pub set-requires : goal.set-requires
 set-requires c =
     let t = c.args.self.now in
-    subst (λ (n : ℕ). MayStand t.variables t.clauses t.entries (entry_with c.args.literal (n + 1) None)) (sym c.level-level.ensures.value) (decided_may_stand t c.level-level.ensures.sound c.args.literal c.requires.over c.requires.unassigned)
+    subst (λ (n : ℕ). MayStand t.variables t.clauses t.entries (entry_with c.args.literal (n + 1) None)) (sym c.level-level.ensures.value)
+    (decided_may_stand t c.level-level.ensures.sound c.args.literal c.requires.over c.requires.unassigned)

@@ -10,9 +10,21 @@ use Rattle.sat_trail.proofs.stack.Stack.learn.Goals as goal
 pub invariant_of-self : goal.invariant_of-self
 invariant_of-self c =
     let inside = c.self.inside in
-    let t : TrailState = record { variables = inside.variables; clauses = inside.clauses.items; entries = inside.entries.items; level = inside.level; broken = inside.broken } in
-    let same : c.push.new.self.items ≡ inside.clauses.items = c.push.ensures.items ∙ cond-false (is_ok c.push.result) (inside.clauses.items ++ c.args.clause ∷ []) inside.clauses.items c.if-is_err.ensures.negation in
-    (subst (λ (cs : List (List Lit)). IsSound (record t { clauses = cs; broken = true })) (sym same) (sound_broken t true c.self.invariant.0), c.self.invariant.1, c.self.invariant.2)
+    let t : TrailState = record {
+      variables = inside.variables;
+      clauses = inside.clauses.items;
+      entries = inside.entries.items;
+      level =
+          inside.level;
+      broken = inside.broken;
+    } in
+    let same : c.push.new.self.items ≡ inside.clauses.items = c.push.ensures.items
+    ∙ cond-false (is_ok c.push.result) (inside.clauses.items ++ c.args.clause ∷ []) inside.clauses.items c.if-is_err.ensures.negation in (
+      subst (λ (cs : List (List Lit)). IsSound (record t { clauses = cs; broken = true })) (sym same)
+          (sound_broken t true c.self.invariant.0),
+      c.self.invariant.1,
+      c.self.invariant.2,
+    )
 
 pub returns-then-is_err-clause-sound : goal.returns-then-is_err-clause-sound
 returns-then-is_err-clause-sound c = (invariant_of-self c).0
@@ -20,12 +32,25 @@ returns-then-is_err-clause-sound c = (invariant_of-self c).0
 pub invariant_of-self-else-is_err : goal.invariant_of-self-else-is_err
 invariant_of-self-else-is_err c =
     let inside = c.self.inside in
-    let t : TrailState = record { variables = inside.variables; clauses = inside.clauses.items; entries = inside.entries.items; level = inside.level; broken = inside.broken } in
+    let t : TrailState = record {
+      variables = inside.variables;
+      clauses = inside.clauses.items;
+      entries = inside.entries.items;
+      level =
+          inside.level;
+      broken = inside.broken;
+    } in
     let is : t ≡ c.args.self.now = c.self.view_is in
-    let same : c.push.new.self.items ≡ inside.clauses.items ++ c.args.clause ∷ [] = c.push.ensures.items ∙ cond-true (is_ok c.push.result) (inside.clauses.items ++ c.args.clause ∷ []) inside.clauses.items c.if-is_err.ensures.negation in
+    let same : c.push.new.self.items ≡ inside.clauses.items ++ c.args.clause ∷ [] =
+    c.push.ensures.items ∙ cond-true (is_ok c.push.result) (inside.clauses.items
+    ++ c.args.clause ∷ []) inside.clauses.items c.if-is_err.ensures.negation in
     let few : length t.clauses + 1 < 2 ^ 32 = subst (λ (s : TrailState). length s.clauses + 1 < 2 ^ 32) (sym is) c.requires.few in
-    let over : IsOver t.variables c.args.clause = subst (λ (s : TrailState). IsOver s.variables c.args.clause) (sym is) c.requires.over in
-    (subst (λ (cs : List (List Lit)). IsSound (record t { clauses = cs })) (sym same) (sound_clause t c.args.clause c.self.invariant.0 few over c.requires.no_pair), c.self.invariant.1, c.self.invariant.2)
+    let over : IsOver t.variables c.args.clause = subst (λ (s : TrailState). IsOver s.variables c.args.clause) (sym is) c.requires.over in (
+      subst (λ (cs : List (List Lit)). IsSound (record t { clauses = cs })) (sym same)
+          (sound_clause t c.args.clause c.self.invariant.0 few over c.requires.no_pair),
+      c.self.invariant.1,
+      c.self.invariant.2,
+    )
 
 pub returns-clause-sound : goal.returns-clause-sound
 returns-clause-sound c = (invariant_of-self-else-is_err c).0

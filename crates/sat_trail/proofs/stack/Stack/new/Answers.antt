@@ -17,9 +17,17 @@ invariant_of-result c =
     let falses : c.in_ok-vec-2.field-0.items ≡ replicate (2 * cnf.variables) false = search rules in
     let sound : IsSound (started cnf.variables cnf.clauses) = sound_started cnf.variables cnf.clauses cnf.few c.requires cnf.over none in
     let table : IsPlaceTable cnf.variables c.in_ok-vec.field-0.items [] = table_started cnf.variables c.in_ok-vec.field-0.items filled in (
-      subst (λ (es : List Entry). IsSound (record { variables = cnf.variables; clauses = c.in_ok-copies.field-0.items; entries = es; level = 0; broken = false })) (sym c.new.ensures.items) (subst (λ (cs : List (List Lit)). IsSound (started cnf.variables cs)) (sym clauses) sound),
+      subst (λ (es : List Entry). IsSound (record {
+        variables = cnf.variables;
+        clauses = c.in_ok-copies.field-0.items;
+        entries = es;
+        level = 0;
+        broken = false;
+      })) (sym c.new.ensures.items) (subst (λ (cs : List (List Lit)). IsSound (started cnf.variables cs))
+          (sym clauses) sound),
       subst (IsPlaceTable cnf.variables c.in_ok-vec.field-0.items) (sym c.new.ensures.items) table,
-      subst (AreTruths cnf.variables c.in_ok-vec-2.field-0.items) (sym c.new.ensures.items) (truths_started cnf.variables c.in_ok-vec-2.field-0.items falses),
+      subst (AreTruths cnf.variables c.in_ok-vec-2.field-0.items) (sym c.new.ensures.items)
+          (truths_started cnf.variables c.in_ok-vec-2.field-0.items falses),
     )
 
 pub returns-clause-sound : goal.returns-clause-sound

@@ -7,10 +7,22 @@ pub overflow_cast-result : goal.overflow_cast-result
 overflow_cast-result c =
     let inside = c.self.inside in
     let sound = c.self.invariant.0 in
-    omega (arith, length_entries inside.variables inside.clauses.items inside.entries.items sound.stand, sound.few_variables, c.len.ensures, inside.entries.ok.0)
+    omega (
+      arith,
+      length_entries inside.variables inside.clauses.items inside.entries.items sound.stand,
+      sound.few_variables,
+      c.len.ensures,
+      inside.entries.ok.0,
+    )
 
 pub returns-clause-few : goal.returns-clause-few
 returns-clause-few c =
     let inside = c.self.inside in
     let sound = c.self.invariant.0 in
-    subst (λ (t : TrailState). c.len.result ≤ t.variables) c.self.view_is (omega (arith, length_entries inside.variables inside.clauses.items inside.entries.items sound.stand, c.len.ensures, inside.entries.ok.0))
+    subst (λ (t : TrailState). c.len.result ≤ t.variables) c.self.view_is
+    (omega (
+      arith,
+      length_entries inside.variables inside.clauses.items inside.entries.items sound.stand,
+      c.len.ensures,
+      inside.entries.ok.0,
+    ))

@@ -8,5 +8,7 @@ invariant_of-self c =
     let t = c.self.inside.stack in
     let u = c.decide.new.self in (
       c.decide.ensures.sound,
-      λ usable. watched_decided t u c.self.inside.watches c.args.literal (c.self.invariant.1 (subst (λ (s : TrailState). s.broken ≡ false) (sym c.self.view_is) c.requires.usable)) (answered c.decide.result (u ≡ decided t c.args.literal) u.broken c.decide.ensures.ok c.decide.ensures.err usable),
+      λ usable. watched_decided t u c.self.inside.watches c.args.literal
+          (c.self.invariant.1 (subst (λ (s : TrailState). s.broken ≡ false) (sym c.self.view_is) c.requires.usable))
+          (answered c.decide.result (u ≡ decided t c.args.literal) u.broken c.decide.ensures.ok c.decide.ensures.err usable),
     )

@@ -8,5 +8,7 @@ invariant_of-self c =
     let t = c.self.inside.stack in
     let u = c.learn.new.self in (
       c.learn.ensures.sound,
-      λ usable. watched_learnt t u c.self.inside.watches c.args.clause (c.self.invariant.1 (subst (λ (s : TrailState). s.broken ≡ false) (sym c.self.view_is) c.requires.usable)) (answered c.learn.result (u ≡ with_clause t c.args.clause) u.broken c.learn.ensures.ok c.learn.ensures.err usable),
+      λ usable. watched_learnt t u c.self.inside.watches c.args.clause
+          (c.self.invariant.1 (subst (λ (s : TrailState). s.broken ≡ false) (sym c.self.view_is) c.requires.usable))
+          (answered c.learn.result (u ≡ with_clause t c.args.clause) u.broken c.learn.ensures.ok c.learn.ensures.err usable),
     )

@@ -8,5 +8,9 @@ invariant_of-self c =
     let t = c.self.inside.stack in
     let w = c.self.inside.watches in (
       c.undo_to.ensures.sound,
-      λ usable. watched_undone t c.undo_to.new.self w c.undo.new.self c.args.level (c.self.invariant.1 (subst (λ (s : TrailState). s.broken ≡ false) (sym c.self.view_is) c.requires)) c.undo_to.ensures.value c.undo_to.ensures.in_place (c.undo.ensures.head ∙ ap (λ (n : ℕ). min (min w.head w.low) n) c.set_count.ensures.value) c.undo.ensures.looked (ap (λ (x : _). x.items) c.undo.ensures.lists) (ap (λ (x : _). x.items) c.undo.ensures.pairs),
+      λ usable. watched_undone t c.undo_to.new.self w c.undo.new.self c.args.level
+          (c.self.invariant.1 (subst (λ (s : TrailState). s.broken ≡ false)
+          (sym c.self.view_is) c.requires)) c.undo_to.ensures.value c.undo_to.ensures.in_place
+          (c.undo.ensures.head ∙ ap (λ (n : ℕ). min (min w.head w.low) n) c.set_count.ensures.value) c.undo.ensures.looked
+          (ap (λ (x : _). x.items) c.undo.ensures.lists) (ap (λ (x : _). x.items) c.undo.ensures.pairs),
     )

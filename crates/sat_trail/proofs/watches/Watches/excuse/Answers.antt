@@ -16,10 +16,12 @@ false_place-requires-clause-over c =
     over_literal c.args.stack.now c.requires.sound c.args.number l.clause c.args.second l.named l.other
 
 pub returns-in_default-clause-excused : goal.returns-in_default-clause-excused
-returns-in_default-clause-excused c = λ clause named place e there is. absurd (false≢true (sym c.in_default.ensures ∙ entry_has c.args.stack.now.entries place e (negation c.args.second) there is))
+returns-in_default-clause-excused c = λ clause named place e there is. absurd
+    (false≢true (sym c.in_default.ensures ∙ entry_has c.args.stack.now.entries place e (negation c.args.second) there is))
 
 pub note_place-requires-clause-within : goal.note_place-requires-clause-within
-note_place-requires-clause-within c = slice_get_within c.args.stack.now.entries c.in-Some.place c.in-Some.ensures.entry c.in-Some.ensures.there
+note_place-requires-clause-within c = slice_get_within c.args.stack.now.entries c.in-Some.place c.in-Some.ensures.entry
+    c.in-Some.ensures.there
 
 pub force-requires-clause-forced : goal.force-requires-clause-forced
 force-requires-clause-forced c =
@@ -34,14 +36,19 @@ force-requires-clause-forced c =
     }
 
 pub returns-clause-not_false : goal.returns-clause-not_false
-returns-clause-not_false c = on_ok_weaker c.force.result (λ h. true_not_false c.force.new.stack c.force.ensures.sound c.args.first h) c.force.ensures.is_true
+returns-clause-not_false c = on_ok_weaker c.force.result (λ h. true_not_false c.force.new.stack c.force.ensures.sound c.args.first h)
+    c.force.ensures.is_true
 
 pub returns-clause-excused : goal.returns-clause-excused
 returns-clause-excused c =
     let t = c.args.stack.now in
     let l = c.requires.literals in
     let by = c.in-Some.ensures in
-    on_ok_two c.force.result (λ grows is_true. λ clause named place e there is. subst (λ (d : List Lit). IsExcused c.force.new.stack.entries d place c.note_place.new.self.low e.level) (same_clause l.clause clause l.named named) (excused_by_first t c.force.new.stack c.requires.sound c.force.ensures.sound grows l.clause c.args.first c.args.second l.member is_true c.in-Some.place by c.args.self.now.low c.note_place.new.self.low (c.note_place.ensures.low by.entry by.there) place e there is)) c.force.ensures.ok c.force.ensures.is_true
+    on_ok_two c.force.result (λ grows is_true. λ clause named place e there is. subst
+    (λ (d : List Lit). IsExcused c.force.new.stack.entries d place c.note_place.new.self.low e.level)
+    (same_clause l.clause clause l.named named) (excused_by_first t c.force.new.stack c.requires.sound c.force.ensures.sound grows
+    l.clause c.args.first c.args.second l.member is_true c.in-Some.place by c.args.self.now.low c.note_place.new.self.low
+    (c.note_place.ensures.low by.entry by.there) place e there is)) c.force.ensures.ok c.force.ensures.is_true
   where
     same_clause : {o : Option (List Lit)} (a b : List Lit) → o ≡ Some a → o ≡ Some b → a ≡ b
     same_clause a b p q = same_Some a b (sym p ∙ q)
@@ -49,4 +56,5 @@ returns-clause-excused c =
 pub returns-clause-low : goal.returns-clause-low
 returns-clause-low c =
     let by = c.in-Some.ensures in
-    lowered_le (nat_lt by.entry.level c.args.stack.now.level) c.args.self.now.low c.in-Some.place c.note_place.new.self.low (c.note_place.ensures.low by.entry by.there)
+    lowered_le (nat_lt by.entry.level c.args.stack.now.level) c.args.self.now.low c.in-Some.place c.note_place.new.self.low
+    (c.note_place.ensures.low by.entry by.there)

@@ -9,7 +9,8 @@ use Rattle.sat_trail.specs.declared.watches.Watches.{Watches}
 use Rattle.sat_trail.specs.internal.Watching.{AreWatched, AreDue}
 use Rattle.sat_trail.proofs.Soundness.{length_entries}
 use Rattle.sat_trail.proofs.TrailSteps.{propagates_none, propagates_after}
-use Rattle.sat_trail.proofs.Watching.{falsified_is, falsified_over, visit_begins, list_read, due_all, watched_low, lowered_le, watched_visited, match_none}
+use Rattle.sat_trail.proofs.Watching.{falsified_is, falsified_over, visit_begins, list_read, due_all, watched_low, lowered_le}
+use Rattle.sat_trail.proofs.Watching.{watched_visited, match_none}
 use Rattle.sat_trail.proofs.watches.Watches.visit_entry.Goals as goal
 
 pub index-requires : goal.index-requires
@@ -18,8 +19,16 @@ index-requires c =
     let w = c.args.self.now in
     let f = c.negated-falsified.result in
     let found = slice_get_some t.entries w.head c.requires.more in
-    let is : found.0.literal ≡ negation f = falsified_is t w.head found.0 c.set_at.result f found.1 c.set_at.ensures c.negated-falsified.ensures in
-    omega (arith, code_within t.variables f (falsified_over t c.requires.sound w.head found.0 f found.1 is), c.requires.watched.lists_all, ap (λ (x : Watches). length x.lists.items) c.note_place.ensures.rest, c.code.ensures, c.note_place.new.self.lists.ok.0)
+    let is : found.0.literal ≡ negation f = falsified_is t w.head found.0 c.set_at.result f found.1 c.set_at.ensures
+    c.negated-falsified.ensures in
+    omega (
+      arith,
+      code_within t.variables f (falsified_over t c.requires.sound w.head found.0 f found.1 is),
+      c.requires.watched.lists_all,
+      ap (λ (x : Watches). length x.lists.items) c.note_place.ensures.rest,
+      c.code.ensures,
+      c.note_place.new.self.lists.ok.0,
+    )
 
 pub loop-index-init : goal.loop-index-init
 loop-index-init c =
@@ -28,11 +37,19 @@ loop-index-init c =
     let v = c.note_place.new.self in
     let f = c.negated-falsified.result in
     let found = slice_get_some t.entries w.head c.requires.more in
-    let is : found.0.literal ≡ negation f = falsified_is t w.head found.0 c.set_at.result f found.1 c.set_at.ensures c.negated-falsified.ensures in
-    let inside : code_of f < length v.lists.items = omega (arith, code_within t.variables f (falsified_over t c.requires.sound w.head found.0 f found.1 is), c.requires.watched.lists_all, ap (λ (x : Watches). length x.lists.items) c.note_place.ensures.rest) in
+    let is : found.0.literal ≡ negation f = falsified_is t w.head found.0 c.set_at.result f found.1 c.set_at.ensures
+    c.negated-falsified.ensures in
+    let inside : code_of f < length v.lists.items = omega (
+      arith,
+      code_within t.variables f (falsified_over t c.requires.sound w.head found.0 f found.1 is),
+      c.requires.watched.lists_all,
+      ap (λ (x : Watches). length x.lists.items) c.note_place.ensures.rest,
+    ) in
     let low : v.low ≡ cond (nat_lt found.0.level t.level) (min w.low w.head) w.low = c.note_place.ensures.low found.0 found.1 in
-    let watched : AreWatched t v = watched_low t w v c.requires.watched c.note_place.ensures.rest (lowered_le (nat_lt found.0.level t.level) w.low w.head v.low low) in
-    let listed : slice_get v.lists.items (code_of f) ≡ Some c.index.result.now = list_read v.lists.items (code_of f) c.code.result c.index.result.now c.code.ensures c.index.ensures inside in
+    let watched : AreWatched t v = watched_low t w v c.requires.watched c.note_place.ensures.rest
+    (lowered_le (nat_lt found.0.level t.level) w.low w.head v.low low) in
+    let listed : slice_get v.lists.items (code_of f) ≡ Some c.index.result.now =
+    list_read v.lists.items (code_of f) c.code.result c.index.result.now c.code.ensures c.index.ensures inside in
     record {
       usable = c.requires.usable;
       sound = c.requires.sound;
@@ -46,7 +63,8 @@ loop-index-init c =
     }
 
 pub returns-then-is_some-clause-ok : goal.returns-then-is_some-clause-ok
-returns-then-is_some-clause-ok c = propagates_after c.args.stack.now c.loop-index.stack c.visit.new.stack c.loop-index.invariant.grows c.in_ok-conflict.ensures.ok
+returns-then-is_some-clause-ok c = propagates_after c.args.stack.now c.loop-index.stack c.visit.new.stack c.loop-index.invariant.grows
+    c.in_ok-conflict.ensures.ok
 
 pub loop-index-preserved : goal.loop-index-preserved
 loop-index-preserved c = record {
@@ -56,7 +74,8 @@ loop-index-preserved c = record {
   watched = c.in_ok-conflict.ensures.watched;
   visit = c.in_ok-conflict.ensures.visit;
   list = c.in_ok-conflict.ensures.list;
-  due = match_none (AreDue c.visit.new.stack c.visit.new.self c.negated-falsified.result (c.loop-index.index - 1)) (IsFalseAt c.visit.new.stack) c.in_ok-conflict.conflict (sym c.is_some.ensures ∙ c.if-is_some.false) c.in_ok-conflict.ensures.ends;
+  due = match_none (AreDue c.visit.new.stack c.visit.new.self c.negated-falsified.result (c.loop-index.index - 1))
+      (IsFalseAt c.visit.new.stack) c.in_ok-conflict.conflict (sym c.is_some.ensures ∙ c.if-is_some.false) c.in_ok-conflict.ensures.ends;
   head = c.visit.ensures.head ∙ c.loop-index.invariant.head;
   looked = c.visit.ensures.looked ∙ c.loop-index.invariant.looked;
 }
@@ -66,10 +85,24 @@ overflow_add-self c =
     let t = c.loop-index.stack in
     let sound = c.loop-index.invariant.sound in
     let visit = c.loop-index.invariant.visit in
-    omega (arith, slice_get_within t.entries c.loop-index.self.head visit.entry visit.there, length_entries t.variables t.clauses t.entries sound.stand, sound.few_variables)
+    omega (
+      arith,
+      slice_get_within t.entries c.loop-index.self.head visit.entry visit.there,
+      length_entries t.variables t.clauses t.entries sound.stand,
+      sound.few_variables,
+    )
 
 pub returns-clause-watched : goal.returns-clause-watched
 returns-clause-watched c =
     let w = c.loop-index.self in
     let kept = c.loop-index.invariant in
-    watched_visited c.loop-index.stack w (record { lists = w.lists; pairs = w.pairs; looked = w.looked; short = w.short; head = w.head + 1; low = w.low }) c.negated-falsified.result kept.sound kept.watched kept.visit (subst (λ (n : ℕ). AreDue c.loop-index.stack w c.negated-falsified.result n) (let e : c.loop-index.index ≡ 0 = omega (arith, c.loop-index-test.false) in e) kept.due) refl
+    watched_visited c.loop-index.stack w (record {
+      lists = w.lists;
+      pairs = w.pairs;
+      looked = w.looked;
+      short = w.short;
+      head = w.head + 1;
+      low = w.low;
+    }) c.negated-falsified.result kept.sound kept.watched kept.visit
+    (subst (λ (n : ℕ). AreDue c.loop-index.stack w c.negated-falsified.result n)
+    (let e : c.loop-index.index ≡ 0 = omega (arith, c.loop-index-test.false) in e) kept.due) refl
