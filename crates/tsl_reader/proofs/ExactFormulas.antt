@@ -1,7 +1,8 @@
 -- Formulas are read exactly: atoms, prefixes, chains of operands, and the right sides of operators.
 use Rattle.std.proofs.Common.{◌≡◌, ℕ, zero, suc, ◌<◌, Bool, true, false, List, [], ◌∷◌, ◌++◌, refl, ap, sym, ◌∙◌, arith}
 use Rattle.std.proofs.lemmas.List.{append-nil}
-use Rattle.std.specs.Prelude.{Option, Some, None, Ok, codes}
+use Rattle.std.specs.Prelude.{Option, Some, None, codes}
+use Rattle.tsl_text.specs.declared.TokenKind.{TokenKind}
 use Rattle.tsl_text.specs.declared.TokenKind.TheVariants.{
   OpenRound,
   CloseRound,
@@ -13,28 +14,33 @@ use Rattle.tsl_text.specs.declared.TokenKind.TheVariants.{
   Arrow,
   BothArrow,
 }
-use Rattle.token_readers.specs.Readers.{Reader, form_at, map_read, below, closed_by, after}
+use Rattle.tsl_terms.specs.declared.operator.BinaryOperator.TheVariants.{Implication}
+use Rattle.token_readers.specs.Readers.{Reader, form_at, and_then, map_read, below, closed_by, after}
 use Rattle.token_readers.specs.Exact.{Grammar, Before, Begins, Exact}
 use Rattle.token_readers.proofs.Runs.{map_same, exact_map, exact_as, before_join, before_map}
-use Rattle.token_readers.proofs.Then.{IsThen, Fits, Any, IsClosed, lift_then, closed_exact, exact_then, map_first, then_left, then_right}
+use Rattle.token_readers.proofs.Then.{IsThen, Any, IsClosed, lift_then, closed_exact, exact_then, map_first, then_left, then_right}
 use Rattle.token_readers.proofs.Terminals.{Turn, by_first, end_wrong, end_as, turn_wrong, turn_alone, turn_takes, turn_as, IsAfter}
 use Rattle.token_readers.proofs.Levels.{Below, Up, turn_below, IsTail, lift_tail, tail_exact}
 use Rattle.token_readers.proofs.Lists.{AreAll, none, some, Member, marked_member, members_exact}
 use Rattle.tsl_reader.specs.declared.syntax.Word.TheVariants.{True, False, U, W, R}
 use Rattle.tsl_terms.specs.declared.operator.UnaryOperator.{UnaryOperator}
 use Rattle.tsl_terms.specs.declared.operator.BinaryOperator.{BinaryOperator}
-use Rattle.tsl_terms.specs.declared.operator.BinaryOperator.TheVariants.{Implication, Equivalence}
+use Rattle.tsl_terms.specs.declared.operator.ManyOperator.{ManyOperator}
+use Rattle.tsl_terms.specs.declared.operator.ManyOperator.TheVariants.{Conjunction, Disjunction}
+use Rattle.tsl_reader.specs.declared.syntax.ArrowKind.{ArrowKind}
+use Rattle.tsl_reader.specs.declared.syntax.ArrowKind.TheVariants.{Single, Double}
 use Rattle.tsl_reader.specs.Syntax.{Terminal, free, word, mark, TermSyntax, alone, FormulaSyntax, truth, falsehood, bare, updated, under}
-use Rattle.tsl_reader.specs.Syntax.{between, all_of, any_of}
+use Rattle.tsl_reader.specs.Syntax.{between, join}
 use Rattle.tsl_reader.specs.Grammar.{unary_of, temporal_of, IsTerm, signal, IsFormula, temporal, chain as chained, IsIff, no_iff, iff}
 use Rattle.tsl_reader.specs.Grammar.{IsImp, no_imp, imp, IsOr, disjunction, AreDisjuncts, no_disjunct, more_disjuncts, IsAnd, conjunction}
 use Rattle.tsl_reader.specs.Grammar.{AreConjuncts, no_conjunct, more_conjuncts, IsPrefix, prefix, atom, IsAtom, true_atom, false_atom}
 use Rattle.tsl_reader.specs.Grammar.{brackets_atom, update, bare_name, no_argument, test}
 use Rattle.tsl_reader.specs.Reading.{is_close_round, is_close_square, Level, bracketed_formula, atom_named, term_with, update_with}
-use Rattle.tsl_reader.specs.Reading.{atom_with, after_name, prefix_from, prefix_with, conjunct, and_after, and_with, disjunct, or_after_and}
-use Rattle.tsl_reader.specs.Reading.{or_after, imp_after_or, imp_after, imp_with, iff_after_imp, iff_after, iff_with, formula_from}
+use Rattle.tsl_reader.specs.Reading.{atom_with, after_name, prefix_from, prefix_with, is_sign, further_from, further, chain_after, and_with}
+use Rattle.tsl_reader.specs.Reading.{or_after}
+use Rattle.tsl_reader.specs.Reading.{is_arrow, operator_of, arrow_from, arrow_after, imp_after, iff_after, right_with, formula_from}
 use Rattle.tsl_reader.specs.Reading.{formula_after, formula_with, above, lower}
-use Rattle.tsl_reader.proofs.Lift.{lift_formula, lift_imp, lift_and, lift_prefix, lift_conjuncts, lift_disjuncts}
+use Rattle.tsl_reader.proofs.Lift.{lift_formula, lift_imp, lift_and, lift_prefix}
 use Rattle.tsl_reader.proofs.ExactTerms.{
   tie,
   Below_tie,
@@ -52,12 +58,24 @@ use Rattle.tsl_reader.proofs.ExactTerms.{
   term_exact,
 }
 
+-- the forms on the right of an arrow and on its left, and how strongly it ties
+abbrev IsRight : ArrowKind → Grammar Terminal FormulaSyntax
+IsRight Single = IsImp
+IsRight Double = IsIff
+
+abbrev IsLeft : ArrowKind → Grammar Terminal FormulaSyntax
+IsLeft Single = IsOr
+IsLeft Double = IsImp
+
+abbrev arrow_tie : ArrowKind → ℕ
+arrow_tie Single = 3
+arrow_tie Double = 2
+
 -- what holds of each level's readers
 pub record LevelExact (room : ℕ) (l : Level) : Type 0 where
   pub term : TermExact room l
   pub prefix : Exact IsPrefix (Below_tie 6) room l.prefix
-  pub imp : Exact IsImp (Below_tie 3) room l.imp
-  pub iff : Exact IsIff (Below_tie 2) room l.iff
+  pub right : (kind : ArrowKind) → Exact (IsRight kind) (Below_tie (arrow_tie kind)) room (l.right kind)
   pub formula : Exact IsFormula (Below_tie 1) room l.formula
 
 pub terms_below : (room : ℕ) (low : Option Level) → Below LevelExact room low → Below TermExact room low
@@ -86,11 +104,9 @@ an_and r = conjunction (atom (an_atom r)) no_conjunct
 an_or : (r : ℕ) → IsOr r (a ∷ []) (bare (codes "a"))
 an_or r = disjunction (an_and r) no_disjunct
 
-an_imp : (r : ℕ) → Begins (IsImp r) []
-an_imp r = record { ending = a ∷ []; value = bare (codes "a"); derives = no_imp (an_or r) }
-
-an_iff : (r : ℕ) → Begins (IsIff r) []
-an_iff r = record { ending = a ∷ []; value = bare (codes "a"); derives = no_iff (no_imp (an_or r)) }
+a_right : (kind : ArrowKind) (r : ℕ) → Begins (IsRight kind r) []
+a_right Single r = record { ending = a ∷ []; value = bare (codes "a"); derives = no_imp (an_or r) }
+a_right Double r = record { ending = a ∷ []; value = bare (codes "a"); derives = no_iff (no_imp (an_or r)) }
 
 pub a_formula : (r : ℕ) → IsFormula r (a ∷ []) (bare (codes "a"))
 a_formula r = chained (no_iff (no_imp (an_or r)))
@@ -331,63 +347,98 @@ prefix_exact room low b =
 
 -- ---- chains of operands
 
-abbrev is_and : Terminal → Bool
-is_and (mark And) = true
-is_and _ = false
+-- what is known of the operator between such operands, which ties so strongly
+pub record ChainFacts (op : ManyOperator) (IsOperand : Grammar Terminal FormulaSyntax) (n : ℕ) : Type 0 where
+  pub sign : Terminal
+  pub opens : is_sign op sign ≡ true
+  pub ties : (x : Terminal) → is_sign op x ≡ true → tie x ≡ n
+  pub begins : (r : ℕ) → Begins (IsOperand r) []
+  pub lift : (r : ℕ) (xs : List Terminal) (f : FormulaSyntax) → IsOperand r xs f → IsOperand (suc (suc r)) xs f
 
-abbrev is_or : Terminal → Bool
-is_or (mark Or) = true
-is_or _ = false
+-- the further operands, and what they make of the first one
+abbrev AreFurther : ManyOperator → Grammar Terminal FormulaSyntax → Grammar Terminal (List FormulaSyntax)
+AreFurther op IsOperand = AreAll (IsAfter (is_sign op) IsOperand)
 
-and_is : (x : Terminal) → is_and x ≡ true → x ≡ mark And
-and_is (mark And) h = refl
+abbrev ChainTail : ManyOperator → Grammar Terminal FormulaSyntax → FormulaSyntax → Grammar Terminal FormulaSyntax
+ChainTail op IsOperand a r xs f = (fs : List FormulaSyntax) × AreFurther op IsOperand r xs fs × (f ≡ join op a fs)
+
+module _ {op : ManyOperator} {IsOperand : Grammar Terminal FormulaSyntax} {n : ℕ} (k : ChainFacts op IsOperand n) where
+  module _ (room : ℕ) {operand : Reader Terminal FormulaSyntax} (exact : Exact IsOperand (Below_tie (suc n)) room operand) where
+    pub further_member : Member (IsAfter (is_sign op) IsOperand) (Below_tie (suc n)) (Below_tie n) room
+        (further op operand) (is_sign op) (after (is_sign op) operand)
+    unfolding further further_from
+    further_member =
+        marked_member (is_sign op) k.sign k.opens (k.begins room) k.lift refl (λ x rest e. ap (λ here. further_from here operand rest) e)
+        (λ x rest e. ap (λ here. further_from here operand rest) e) (λ x e. omega (arith, k.ties x e)) (λ x e. stops x e (is_sign op x) refl)
+        (λ x e. omega (arith, e)) exact where
+          stops : (x : Terminal) → tie x < n → (here : Bool) → is_sign op x ≡ here → is_sign op x ≡ false
+          stops x e true h = absurd (omega (arith, e, k.ties x h))
+          stops x e false h = h
+
+    chain_after_exact : (a : FormulaSyntax) → Exact (ChainTail op IsOperand a) (Below_tie n) room (chain_after op operand a)
+    unfolding chain_after
+    chain_after_exact a = exact_map (join op a) (λ r xs fs h. (fs, h, refl)) (λ r xs f h. h) (members_exact further_member)
+
+  chain_tail_ties : (a : FormulaSyntax) (r : ℕ) (xs : List Terminal) (f : FormulaSyntax) → ChainTail op IsOperand a r xs f →
+      Before (λ x. tie x ≡ n) xs
+  chain_tail_ties a r xs f h = by h.1 where
+    by : {xs : List Terminal} {fs : List FormulaSyntax} → AreFurther op IsOperand r xs fs → Before (λ x. tie x ≡ n) xs
+    by none = tt
+    by (some {f = []} h m) = absurd h
+    by (some {f = x ∷ f} h m) = k.ties x h.0
+
+  lift_chain_tail : (a : FormulaSyntax) (r : ℕ) (xs : List Terminal) (f : FormulaSyntax) → ChainTail op IsOperand a r xs f →
+      ChainTail op IsOperand a (suc (suc r)) xs f
+  lift_chain_tail a r xs f h = (h.0, by h.1, h.2) where
+    by : {xs : List Terminal} {fs : List FormulaSyntax} → AreFurther op IsOperand r xs fs → AreFurther op IsOperand (suc (suc r)) xs fs
+    by none = none
+    by (some {f = []} h m) = absurd h
+    by (some {f = x ∷ f} {v = v} h m) = some {f = x ∷ f} (h.0, k.lift r f v h.1) (by m)
+
+and_is : (x : Terminal) → is_sign Conjunction x ≡ true → (x ≡ mark And) × (tie x ≡ 5)
+and_is (mark And) h = (refl, refl)
 and_is _ h = cc
 
-or_is : (x : Terminal) → is_or x ≡ true → x ≡ mark Or
-or_is (mark Or) h = refl
+or_is : (x : Terminal) → is_sign Disjunction x ≡ true → (x ≡ mark Or) × (tie x ≡ 4)
+or_is (mark Or) h = (refl, refl)
 or_is _ h = cc
 
-pub conjunct_member : (room : ℕ) (low : Option Level) → Below LevelExact room low →
-    Member (IsAfter is_and IsPrefix) (Below_tie 6) (Below_tie 5) room (conjunct low) is_and (after is_and (prefix_with low))
-unfolding conjunct
-conjunct_member room low b =
-    marked_member is_and (mark And) refl (a_prefix room) lift_prefixes refl none_here some_here follows stops (λ x h. omega (arith, h))
-    (prefix_exact room low b) where
-      none_here : (x : Terminal) (rest : List Terminal) → is_and x ≡ false → conjunct low (x ∷ rest) ≡ None
-      none_here (mark And) rest e = cc
-      none_here _ rest e = refl
+abbrev AndTail : FormulaSyntax → Grammar Terminal FormulaSyntax
+AndTail = ChainTail Conjunction IsPrefix
 
-      some_here : (x : Terminal) (rest : List Terminal) → is_and x ≡ true → conjunct low (x ∷ rest) ≡ Some (prefix_with low rest)
-      some_here (mark And) rest e = refl
-      some_here _ rest e = cc
+abbrev OrTail : FormulaSyntax → Grammar Terminal FormulaSyntax
+OrTail = ChainTail Disjunction IsAnd
 
-      follows : (x : Terminal) → is_and x ≡ true → tie x < 6
-      follows (mark And) e = omega arith
-      follows _ e = cc
+pub and_facts : ChainFacts Conjunction IsPrefix 5
+and_facts = record { sign = mark And; opens = refl; ties = λ x e. (and_is x e).1; begins = a_prefix; lift = lift_prefixes }
 
-      stops : (x : Terminal) → tie x < 5 → is_and x ≡ false
-      stops (mark And) e = absurd (omega (arith, e))
-      stops _ e = refl
+pub or_facts : ChainFacts Disjunction IsAnd 4
+or_facts = record {
+  sign = mark Or;
+  opens = refl;
+  ties = λ x e. (or_is x e).1;
+  begins = λ r. record { ending = a ∷ []; value = bare (codes "a"); derives = an_and r };
+  lift =
+      λ r xs f h. lift_and (omega arith) h;
+}
 
-conjuncts_of : (r : ℕ) (xs : List Terminal) (fs : List FormulaSyntax) → AreAll (IsAfter is_and IsPrefix) r xs fs → AreConjuncts r xs fs
+conjuncts_of : (r : ℕ) (xs : List Terminal) (fs : List FormulaSyntax) → AreFurther Conjunction IsPrefix r xs fs → AreConjuncts r xs fs
 conjuncts_of r xs fs none = no_conjunct
 conjuncts_of r xs fs (some {f = []} h k) = absurd h
-conjuncts_of r xs fs (some {f = x ∷ f} {g = g} {vs = vs} h k) = rw (and_is x h.0) (more_conjuncts h.1 (conjuncts_of r g vs k))
+conjuncts_of r xs fs (some {f = x ∷ f} {g = g} {vs = vs} h k) = rw (and_is x h.0).0 (more_conjuncts h.1 (conjuncts_of r g vs k))
 
-all_conjuncts : {r : ℕ} {xs : List Terminal} {fs : List FormulaSyntax} → AreConjuncts r xs fs → AreAll (IsAfter is_and IsPrefix) r xs fs
+all_conjuncts : {r : ℕ} {xs : List Terminal} {fs : List FormulaSyntax} → AreConjuncts r xs fs → AreFurther Conjunction IsPrefix r xs fs
 all_conjuncts no_conjunct = none
 all_conjuncts (more_conjuncts {xs = xs} h k) = some {f = mark And ∷ xs} (refl, h) (all_conjuncts k)
 
--- the further operands of `&&`
-abbrev AndTail : FormulaSyntax → Grammar Terminal FormulaSyntax
-AndTail a r xs f = (fs : List FormulaSyntax) × AreConjuncts r xs fs × (f ≡ all_of a fs)
+disjuncts_of : (r : ℕ) (xs : List Terminal) (fs : List FormulaSyntax) → AreFurther Disjunction IsAnd r xs fs → AreDisjuncts r xs fs
+disjuncts_of r xs fs none = no_disjunct
+disjuncts_of r xs fs (some {f = []} h k) = absurd h
+disjuncts_of r xs fs (some {f = x ∷ f} {g = g} {vs = vs} h k) = rw (or_is x h.0).0 (more_disjuncts h.1 (disjuncts_of r g vs k))
 
-and_after_exact : (room : ℕ) (low : Option Level) → Below LevelExact room low → (a : FormulaSyntax) →
-    Exact (AndTail a) (Below_tie 5) room (and_after low a)
-unfolding and_after
-and_after_exact room low b a =
-    exact_map (all_of a) (λ r xs fs h. (fs, h, refl)) (λ r xs f h. h)
-    (exact_as conjuncts_of (λ r xs fs h. all_conjuncts h) (λ x h. h) (members_exact (conjunct_member room low b)))
+all_disjuncts : {r : ℕ} {xs : List Terminal} {fs : List FormulaSyntax} → AreDisjuncts r xs fs → AreFurther Disjunction IsAnd r xs fs
+all_disjuncts no_disjunct = none
+all_disjuncts (more_disjuncts {xs = xs} h k) = some {f = mark Or ∷ xs} (refl, h) (all_disjuncts k)
 
 -- a tail that begins with a terminal which ties so strongly, before one that ties less
 follow : (n : ℕ) (xs rest : List Terminal) → Before (λ x. tie x ≡ n) xs → Before (Below_tie n) rest →
@@ -396,151 +447,56 @@ follow n xs rest h k =
     before_join (Below_tie (suc n)) xs rest (before_map (λ x. tie x ≡ n) (Below_tie (suc n)) (λ x e. omega (arith, e)) xs h)
     (before_map (Below_tie n) (Below_tie (suc n)) (λ x e. omega (arith, e)) rest k)
 
-and_tail_ties : (a : FormulaSyntax) (r : ℕ) (xs : List Terminal) (f : FormulaSyntax) → AndTail a r xs f → Before (λ x. tie x ≡ 5) xs
-and_tail_ties a r xs f h = by h.1 where
-  by : {xs : List Terminal} {fs : List FormulaSyntax} → AreConjuncts r xs fs → Before (λ x. tie x ≡ 5) xs
-  by no_conjunct = tt
-  by (more_conjuncts h k) = refl
-
-lift_and_tail : (a : FormulaSyntax) (r : ℕ) (xs : List Terminal) (f : FormulaSyntax) → AndTail a r xs f → AndTail a (suc (suc r)) xs f
-lift_and_tail a r xs f h = (h.0, lift_conjuncts (omega arith) h.1, h.2)
-
-and_tails : Fits IsPrefix AndTail
-and_tails = record { lift = lift_prefixes; default = λ r a. record { ending = []; value = a; derives = ([], no_conjunct, refl) } }
-
 and_parts : (r : ℕ) (xs : List Terminal) (f : FormulaSyntax) → IsAnd r xs f → IsThen IsPrefix AndTail r xs f
 and_parts r xs f (conjunction {xs = front} {ys = tail} {a = a} {fs = fs} h k) =
-    record { value = a; front = front; tail = tail; split = refl; first = h; second = (fs, k, refl) }
+    record { value = a; front = front; tail = tail; split = refl; first = h; second = (fs, all_conjuncts k, refl) }
 
 and_of : (r : ℕ) (xs : List Terminal) (f : FormulaSyntax) → IsThen IsPrefix AndTail r xs f → IsAnd r xs f
-and_of r xs f h = rw (h.split, h.second.2) (conjunction h.first h.second.1)
-
-and_exact : (room : ℕ) (low : Option Level) → Below LevelExact room low → Exact IsAnd (Below_tie 5) room (and_with low)
-unfolding and_with
-and_exact room low b =
-    exact_as and_of and_parts (λ x h. h)
-    (exact_then and_tails (λ r a xs f h rest k. follow 5 xs rest (and_tail_ties a r xs f h) k) (prefix_exact room low b)
-    (and_after_exact room low b))
-
-pub disjunct_member : (room : ℕ) (low : Option Level) → Below LevelExact room low →
-    Member (IsAfter is_or IsAnd) (Below_tie 5) (Below_tie 4) room (disjunct low) is_or (after is_or (and_with low))
-unfolding disjunct
-disjunct_member room low b =
-    marked_member is_or (mark Or) refl (record { ending = a ∷ []; value = bare (codes "a"); derives = an_and room })
-    (λ r xs f h. lift_and (omega arith) h) refl none_here some_here follows stops (λ x h. omega (arith, h)) (and_exact room low b) where
-      none_here : (x : Terminal) (rest : List Terminal) → is_or x ≡ false → disjunct low (x ∷ rest) ≡ None
-      none_here (mark Or) rest e = cc
-      none_here _ rest e = refl
-
-      some_here : (x : Terminal) (rest : List Terminal) → is_or x ≡ true → disjunct low (x ∷ rest) ≡ Some (and_with low rest)
-      some_here (mark Or) rest e = refl
-      some_here _ rest e = cc
-
-      follows : (x : Terminal) → is_or x ≡ true → tie x < 5
-      follows (mark Or) e = omega arith
-      follows _ e = cc
-
-      stops : (x : Terminal) → tie x < 4 → is_or x ≡ false
-      stops (mark Or) e = absurd (omega (arith, e))
-      stops _ e = refl
-
-disjuncts_of : (r : ℕ) (xs : List Terminal) (fs : List FormulaSyntax) → AreAll (IsAfter is_or IsAnd) r xs fs → AreDisjuncts r xs fs
-disjuncts_of r xs fs none = no_disjunct
-disjuncts_of r xs fs (some {f = []} h k) = absurd h
-disjuncts_of r xs fs (some {f = x ∷ f} {g = g} {vs = vs} h k) = rw (or_is x h.0) (more_disjuncts h.1 (disjuncts_of r g vs k))
-
-all_disjuncts : {r : ℕ} {xs : List Terminal} {fs : List FormulaSyntax} → AreDisjuncts r xs fs → AreAll (IsAfter is_or IsAnd) r xs fs
-all_disjuncts no_disjunct = none
-all_disjuncts (more_disjuncts {xs = xs} h k) = some {f = mark Or ∷ xs} (refl, h) (all_disjuncts k)
-
--- the further operands of `||`
-abbrev OrTail : FormulaSyntax → Grammar Terminal FormulaSyntax
-OrTail a r xs f = (fs : List FormulaSyntax) × AreDisjuncts r xs fs × (f ≡ any_of a fs)
-
-or_tail_exact : (room : ℕ) (low : Option Level) → Below LevelExact room low → (a : FormulaSyntax) →
-    Exact (OrTail a) (Below_tie 4) room (or_after_and low a)
-unfolding or_after_and
-or_tail_exact room low b a =
-    exact_map (any_of a) (λ r xs fs h. (fs, h, refl)) (λ r xs f h. h)
-    (exact_as disjuncts_of (λ r xs fs h. all_disjuncts h) (λ x h. h) (members_exact (disjunct_member room low b)))
-
-or_tail_ties : (a : FormulaSyntax) (r : ℕ) (xs : List Terminal) (f : FormulaSyntax) → OrTail a r xs f → Before (λ x. tie x ≡ 4) xs
-or_tail_ties a r xs f h = by h.1 where
-  by : {xs : List Terminal} {fs : List FormulaSyntax} → AreDisjuncts r xs fs → Before (λ x. tie x ≡ 4) xs
-  by no_disjunct = tt
-  by (more_disjuncts h k) = refl
-
-lift_or_tail : (a : FormulaSyntax) (r : ℕ) (xs : List Terminal) (f : FormulaSyntax) → OrTail a r xs f → OrTail a (suc (suc r)) xs f
-lift_or_tail a r xs f h = (h.0, lift_disjuncts (omega arith) h.1, h.2)
+and_of r xs f h = rw (h.split, h.second.2) (conjunction h.first (conjuncts_of r h.tail h.second.0 h.second.1))
 
 or_parts : (r : ℕ) (xs : List Terminal) (f : FormulaSyntax) → IsOr r xs f → IsThen IsAnd OrTail r xs f
 or_parts r xs f (disjunction {xs = front} {ys = tail} {a = a} {fs = fs} h k) =
-    record { value = a; front = front; tail = tail; split = refl; first = h; second = (fs, k, refl) }
+    record { value = a; front = front; tail = tail; split = refl; first = h; second = (fs, all_disjuncts k, refl) }
 
 or_of : (r : ℕ) (xs : List Terminal) (f : FormulaSyntax) → IsThen IsAnd OrTail r xs f → IsOr r xs f
-or_of r xs f h = rw (h.split, h.second.2) (disjunction h.first h.second.1)
+or_of r xs f h = rw (h.split, h.second.2) (disjunction h.first (disjuncts_of r h.tail h.second.0 h.second.1))
+
+pub and_exact : (room : ℕ) (low : Option Level) → Below LevelExact room low → Exact IsAnd (Below_tie 5) room (and_with low)
+unfolding and_with
+and_exact room low b =
+    exact_as and_of and_parts (λ x h. h)
+    (exact_then (record { lift = lift_prefixes; default = λ r c. record { ending = []; value = c; derives = ([], none, refl) } })
+    (λ r c xs f h rest k. follow 5 xs rest (chain_tail_ties and_facts c r xs f h) k) (prefix_exact room low b)
+    (chain_after_exact and_facts room (prefix_exact room low b)))
 
 -- ---- the right sides of arrows
 
-abbrev is_arrow : Terminal → Bool
-is_arrow (mark Arrow) = true
-is_arrow _ = false
+abbrev arrow_sign : ArrowKind → TokenKind
+arrow_sign Single = Arrow
+arrow_sign Double = BothArrow
 
-abbrev is_both : Terminal → Bool
-is_both (mark BothArrow) = true
-is_both _ = false
+arrow_is : (kind : ArrowKind) (x : Terminal) → is_arrow kind x ≡ true → (x ≡ mark (arrow_sign kind)) × (tie x ≡ arrow_tie kind)
+arrow_is Single (mark Arrow) h = (refl, refl)
+arrow_is Double (mark BothArrow) h = (refl, refl)
+arrow_is Single _ h = cc
+arrow_is Double _ h = cc
 
-arrow_is : (x : Terminal) → is_arrow x ≡ true → (x ≡ mark Arrow) × (tie x ≡ 3)
-arrow_is (mark Arrow) h = (refl, refl)
-arrow_is _ h = cc
+no_arrow : (kind : ArrowKind) (x : Terminal) → tie x < arrow_tie kind → is_arrow kind x ≡ false
+no_arrow Single (mark Arrow) e = absurd (omega (arith, e))
+no_arrow Double (mark BothArrow) e = absurd (omega (arith, e))
+no_arrow Single _ e = refl
+no_arrow Double _ e = refl
 
-both_is : (x : Terminal) → is_both x ≡ true → (x ≡ mark BothArrow) × (tie x ≡ 2)
-both_is (mark BothArrow) h = (refl, refl)
-both_is _ h = cc
+abbrev ArrowTail : ArrowKind → FormulaSyntax → Grammar Terminal FormulaSyntax
+ArrowTail kind a = IsTail (is_arrow kind) (between (operator_of kind) a) (IsRight kind) a
 
-abbrev ImpTail : FormulaSyntax → Grammar Terminal FormulaSyntax
-ImpTail a = IsTail is_arrow (between Implication a) IsImp a
-
-abbrev IffTail : FormulaSyntax → Grammar Terminal FormulaSyntax
-IffTail a = IsTail is_both (between Equivalence a) IsIff a
-
-imp_tail_exact : (room : ℕ) (low : Option Level) → Below LevelExact room low → (a : FormulaSyntax) →
-    Exact (ImpTail a) (Below_tie 3) room (imp_after_or low a)
-unfolding imp_after_or
-imp_tail_exact room low b a =
-    tail_exact is_arrow (between Implication a) {Holds =
-    LevelExact} a low (λ l. l.imp) (λ k l h. h.imp) b refl goes stays stops (λ x h. h) (an_imp (suc room)) where
-      goes : (x : Terminal) (rest : List Terminal) → is_arrow x ≡ true →
-          imp_after_or low a (x ∷ rest) ≡ map_read (between Implication a) (below low (λ l. l.imp) (x ∷ rest))
-      goes (mark Arrow) rest e = refl
-      goes _ rest e = cc
-
-      stays : (x : Terminal) (rest : List Terminal) → is_arrow x ≡ false → imp_after_or low a (x ∷ rest) ≡ Ok (a, x ∷ rest)
-      stays (mark Arrow) rest e = cc
-      stays _ rest e = refl
-
-      stops : (x : Terminal) → tie x < 3 → is_arrow x ≡ false
-      stops (mark Arrow) e = absurd (omega (arith, e))
-      stops _ e = refl
-
-iff_tail_exact : (room : ℕ) (low : Option Level) → Below LevelExact room low → (a : FormulaSyntax) →
-    Exact (IffTail a) (Below_tie 2) room (iff_after_imp low a)
-unfolding iff_after_imp
-iff_tail_exact room low b a =
-    tail_exact is_both (between Equivalence a) {Holds =
-    LevelExact} a low (λ l. l.iff) (λ k l h. h.iff) b refl goes stays stops (λ x h. h) (an_iff (suc room)) where
-      goes : (x : Terminal) (rest : List Terminal) → is_both x ≡ true →
-          iff_after_imp low a (x ∷ rest) ≡ map_read (between Equivalence a) (below low (λ l. l.iff) (x ∷ rest))
-      goes (mark BothArrow) rest e = refl
-      goes _ rest e = cc
-
-      stays : (x : Terminal) (rest : List Terminal) → is_both x ≡ false → iff_after_imp low a (x ∷ rest) ≡ Ok (a, x ∷ rest)
-      stays (mark BothArrow) rest e = cc
-      stays _ rest e = refl
-
-      stops : (x : Terminal) → tie x < 2 → is_both x ≡ false
-      stops (mark BothArrow) e = absurd (omega (arith, e))
-      stops _ e = refl
+arrow_tail_exact : (kind : ArrowKind) (room : ℕ) (low : Option Level) → Below LevelExact room low → (a : FormulaSyntax) →
+    Exact (ArrowTail kind a) (Below_tie (arrow_tie kind)) room (arrow_after low kind a)
+unfolding arrow_after arrow_from
+arrow_tail_exact kind room low b a =
+    tail_exact (is_arrow kind) (between (operator_of kind) a) {Holds = LevelExact} a low (λ l. l.right kind) (λ k l h. h.right kind) b refl
+    (λ x rest e. ap (λ here. arrow_from low kind here a (x ∷ rest)) e)
+    (λ x rest e. ap (λ here. arrow_from low kind here a (x ∷ rest)) e) (no_arrow kind) (λ x h. h) (a_right kind (suc room))
 
 tail_ties : (is : Terminal → Bool) (make : FormulaSyntax → FormulaSyntax) (Low : Grammar Terminal FormulaSyntax) (n : ℕ) →
     ((x : Terminal) → is x ≡ true → tie x ≡ n) →
@@ -548,35 +504,38 @@ tail_ties : (is : Terminal → Bool) (make : FormulaSyntax → FormulaSyntax) (L
 tail_ties is make Low n ties a r [] f h = tt
 tail_ties is make Low n ties a r (x ∷ ys) f h = ties x h.0
 
-imp_tail_ties : (a : FormulaSyntax) (r : ℕ) (xs : List Terminal) (f : FormulaSyntax) → ImpTail a r xs f → Before (λ x. tie x ≡ 3) xs
-imp_tail_ties a = tail_ties is_arrow (between Implication a) IsImp 3 (λ x e. (arrow_is x e).1) a
+arrow_tail_ties : (kind : ArrowKind) (a : FormulaSyntax) (r : ℕ) (xs : List Terminal) (f : FormulaSyntax) → ArrowTail kind a r xs f →
+    Before (λ x. tie x ≡ arrow_tie kind) xs
+arrow_tail_ties kind a =
+    tail_ties (is_arrow kind) (between (operator_of kind) a) (IsRight kind) (arrow_tie kind) (λ x e. (arrow_is kind x e).1) a
 
-iff_tail_ties : (a : FormulaSyntax) (r : ℕ) (xs : List Terminal) (f : FormulaSyntax) → IffTail a r xs f → Before (λ x. tie x ≡ 2) xs
-iff_tail_ties a = tail_ties is_both (between Equivalence a) IsIff 2 (λ x e. (both_is x e).1) a
+-- the left side alone, and both sides
+left_alone : (kind : ArrowKind) (r : ℕ) (xs : List Terminal) (f : FormulaSyntax) → IsLeft kind r xs f → IsRight kind r xs f
+left_alone Single r xs f h = no_imp h
+left_alone Double r xs f h = no_iff h
 
-imp_parts : (r : ℕ) (xs : List Terminal) (f : FormulaSyntax) → IsImp r xs f → IsThen IsOr ImpTail r xs f
-imp_parts r xs f (no_imp h) = record { value = f; front = xs; tail = []; split = sym (append-nil xs); first = h; second = refl }
-imp_parts r xs f (imp {xs = front} {ys = ys} {a = a} {b = c} h k) =
+both_sides : (kind : ArrowKind) (r : ℕ) (xs ys : List Terminal) (a b : FormulaSyntax) → IsLeft kind (suc r) xs a → IsRight kind r ys b →
+    IsRight kind (suc r) (xs ++ mark (arrow_sign kind) ∷ ys) (between (operator_of kind) a b)
+both_sides Single r xs ys a b h k = imp h k
+both_sides Double r xs ys a b h k = iff h k
+
+right_parts : (kind : ArrowKind) (r : ℕ) (xs : List Terminal) (f : FormulaSyntax) → IsRight kind r xs f →
+    IsThen (IsLeft kind) (ArrowTail kind) r xs f
+right_parts Single r xs f (no_imp h) = record { value = f; front = xs; tail = []; split = sym (append-nil xs); first = h; second = refl }
+right_parts Double r xs f (no_iff h) = record { value = f; front = xs; tail = []; split = sym (append-nil xs); first = h; second = refl }
+right_parts Single r xs f (imp {xs = front} {ys = ys} {a = a} {b = c} h k) =
     record { value = a; front = front; tail = mark Arrow ∷ ys; split = refl; first = h; second = (refl, (c, k, refl)) }
-
-imp_of : (r : ℕ) (xs : List Terminal) (f : FormulaSyntax) → IsThen IsOr ImpTail r xs f → IsImp r xs f
-imp_of r xs f h = by r h.tail h.first h.second h.split where
-  by : (r : ℕ) (tail : List Terminal) → IsOr r h.front h.value → ImpTail h.value r tail f → xs ≡ h.front ++ tail → IsImp r xs f
-  by r [] first second split = rw (split, append-nil, second) (no_imp first)
-  by zero (x ∷ ys) first second split = absurd second.1.1
-  by (suc r) (x ∷ ys) first second split = rw (split, (arrow_is x second.0).0, second.1.2) (imp first second.1.1)
-
-iff_parts : (r : ℕ) (xs : List Terminal) (f : FormulaSyntax) → IsIff r xs f → IsThen IsImp IffTail r xs f
-iff_parts r xs f (no_iff h) = record { value = f; front = xs; tail = []; split = sym (append-nil xs); first = h; second = refl }
-iff_parts r xs f (iff {xs = front} {ys = ys} {a = a} {b = c} h k) =
+right_parts Double r xs f (iff {xs = front} {ys = ys} {a = a} {b = c} h k) =
     record { value = a; front = front; tail = mark BothArrow ∷ ys; split = refl; first = h; second = (refl, (c, k, refl)) }
 
-iff_of : (r : ℕ) (xs : List Terminal) (f : FormulaSyntax) → IsThen IsImp IffTail r xs f → IsIff r xs f
-iff_of r xs f h = by r h.tail h.first h.second h.split where
-  by : (r : ℕ) (tail : List Terminal) → IsImp r h.front h.value → IffTail h.value r tail f → xs ≡ h.front ++ tail → IsIff r xs f
-  by r [] first second split = rw (split, append-nil, second) (no_iff first)
+right_of : (kind : ArrowKind) (r : ℕ) (xs : List Terminal) (f : FormulaSyntax) → IsThen (IsLeft kind) (ArrowTail kind) r xs f →
+    IsRight kind r xs f
+right_of kind r xs f h = by r h.tail h.first h.second h.split where
+  by : (r : ℕ) (tail : List Terminal) → IsLeft kind r h.front h.value → ArrowTail kind h.value r tail f → xs ≡ h.front ++ tail →
+      IsRight kind r xs f
+  by r [] first second split = rw (split, append-nil, second) (left_alone kind r h.front h.value first)
   by zero (x ∷ ys) first second split = absurd second.1.1
-  by (suc r) (x ∷ ys) first second split = rw (split, (both_is x second.0).0, second.1.2) (iff first second.1.1)
+  by (suc r) (x ∷ ys) first second split = rw (split, (arrow_is kind x second.0).0, second.1.2) (both_sides kind r h.front ys h.value second.1.0 first second.1.1)
 
 -- ---- each form, by its first prefix and what follows it
 
@@ -584,38 +543,49 @@ abbrev OrAfter : FormulaSyntax → Grammar Terminal FormulaSyntax
 OrAfter a = IsThen (AndTail a) OrTail
 
 abbrev ImpAfter : FormulaSyntax → Grammar Terminal FormulaSyntax
-ImpAfter a = IsThen (OrAfter a) ImpTail
+ImpAfter a = IsThen (OrAfter a) (ArrowTail Single)
 
 abbrev IffAfter : FormulaSyntax → Grammar Terminal FormulaSyntax
-IffAfter a = IsThen (ImpAfter a) IffTail
+IffAfter a = IsThen (ImpAfter a) (ArrowTail Double)
 
 lift_or_after : (a : FormulaSyntax) (r : ℕ) (xs : List Terminal) (f : FormulaSyntax) → OrAfter a r xs f → OrAfter a (suc (suc r)) xs f
-lift_or_after a = lift_then (AndTail a) OrTail (lift_and_tail a) lift_or_tail
+lift_or_after a = lift_then (AndTail a) OrTail (lift_chain_tail and_facts a) (lift_chain_tail or_facts)
 
 lift_imp_after : (a : FormulaSyntax) (r : ℕ) (xs : List Terminal) (f : FormulaSyntax) → ImpAfter a r xs f → ImpAfter a (suc (suc r)) xs f
-lift_imp_after a = lift_then (OrAfter a) ImpTail (lift_or_after a)
-    (λ c. lift_tail is_arrow (between Implication c) IsImp (λ r xs f h. lift_imp (omega arith) h) c)
+lift_imp_after a = lift_then (OrAfter a) (ArrowTail Single) (lift_or_after a)
+    (λ c. lift_tail (is_arrow Single) (between Implication c) IsImp (λ r xs f h. lift_imp (omega arith) h) c)
 
 or_after_exact : (room : ℕ) (low : Option Level) → Below LevelExact room low → (a : FormulaSyntax) →
     Exact (OrAfter a) (Below_tie 4) room (or_after low a)
 unfolding or_after
 or_after_exact room low b a =
-    exact_then (record { lift = lift_and_tail a; default = λ r c. record { ending = []; value = c; derives = ([], no_disjunct, refl) } })
-    (λ r c xs f h rest k. follow 4 xs rest (or_tail_ties c r xs f h) k) (and_after_exact room low b a) (or_tail_exact room low b)
+    exact_then (record {
+      lift = lift_chain_tail and_facts a;
+      default =
+          λ r c. record { ending = []; value = c; derives = ([], none, refl) };
+    })
+    (λ r c xs f h rest k. follow 4 xs rest (chain_tail_ties or_facts c r xs f h) k)
+    (chain_after_exact and_facts room (prefix_exact room low b) a) (chain_after_exact or_facts room (and_exact room low b))
+
+-- an arrow and its right side after a left side
+arrow_exact : (kind : ArrowKind) (room : ℕ) (low : Option Level) → Below LevelExact room low → {Left : Grammar Terminal FormulaSyntax}
+    {left : Reader Terminal FormulaSyntax} →
+    ((r : ℕ) (xs : List Terminal) (f : FormulaSyntax) → Left r xs f → Left (suc (suc r)) xs f) →
+    Exact Left (Below_tie (suc (arrow_tie kind))) room left →
+    Exact (IsThen Left (ArrowTail kind)) (Below_tie (arrow_tie kind)) room (λ xs. and_then (left xs) (arrow_after low kind))
+arrow_exact kind room low b lift exact =
+    exact_then (record { lift = lift; default = λ r c. record { ending = []; value = c; derives = refl } })
+    (λ r c xs f h rest k. follow (arrow_tie kind) xs rest (arrow_tail_ties kind c r xs f h) k) exact (arrow_tail_exact kind room low b)
 
 imp_after_exact : (room : ℕ) (low : Option Level) → Below LevelExact room low → (a : FormulaSyntax) →
     Exact (ImpAfter a) (Below_tie 3) room (imp_after low a)
 unfolding imp_after
-imp_after_exact room low b a =
-    exact_then (record { lift = lift_or_after a; default = λ r c. record { ending = []; value = c; derives = refl } })
-    (λ r c xs f h rest k. follow 3 xs rest (imp_tail_ties c r xs f h) k) (or_after_exact room low b a) (imp_tail_exact room low b)
+imp_after_exact room low b a = arrow_exact Single room low b (lift_or_after a) (or_after_exact room low b a)
 
 iff_after_exact : (room : ℕ) (low : Option Level) → Below LevelExact room low → (a : FormulaSyntax) →
     Exact (IffAfter a) (Below_tie 2) room (iff_after low a)
 unfolding iff_after
-iff_after_exact room low b a =
-    exact_then (record { lift = lift_imp_after a; default = λ r c. record { ending = []; value = c; derives = refl } })
-    (λ r c xs f h rest k. follow 2 xs rest (iff_tail_ties c r xs f h) k) (imp_after_exact room low b a) (iff_tail_exact room low b)
+iff_after_exact room low b a = arrow_exact Double room low b (lift_imp_after a) (imp_after_exact room low b a)
 
 or_first : (r : ℕ) (xs : List Terminal) (f : FormulaSyntax) → IsOr r xs f → IsThen IsPrefix OrAfter r xs f
 or_first r xs f h = then_right IsPrefix AndTail OrTail r xs f
@@ -625,21 +595,31 @@ first_or : (r : ℕ) (xs : List Terminal) (f : FormulaSyntax) → IsThen IsPrefi
 first_or r xs f h = or_of r xs f
     (map_first (IsThen IsPrefix AndTail) IsAnd OrTail and_of r xs f (then_left IsPrefix AndTail OrTail r xs f h))
 
+module _ (kind : ArrowKind) (LeftAfter : FormulaSyntax → Grammar Terminal FormulaSyntax) where
+  right_first : ((r : ℕ) (xs : List Terminal) (f : FormulaSyntax) → IsLeft kind r xs f → IsThen IsPrefix LeftAfter r xs f) →
+      (r : ℕ) (xs : List Terminal) (f : FormulaSyntax) → IsRight kind r xs f →
+      IsThen IsPrefix (λ a. IsThen (LeftAfter a) (ArrowTail kind)) r xs f
+  right_first left_first r xs f h = then_right IsPrefix LeftAfter (ArrowTail kind) r xs f
+      (map_first (IsLeft kind) (IsThen IsPrefix LeftAfter) (ArrowTail kind) left_first r xs f (right_parts kind r xs f h))
+
+  first_right : ((r : ℕ) (xs : List Terminal) (f : FormulaSyntax) → IsThen IsPrefix LeftAfter r xs f → IsLeft kind r xs f) →
+      (r : ℕ) (xs : List Terminal) (f : FormulaSyntax) → IsThen IsPrefix (λ a. IsThen (LeftAfter a) (ArrowTail kind)) r xs f →
+      IsRight kind r xs f
+  first_right first_left r xs f h = right_of kind r xs f
+      (map_first (IsThen IsPrefix LeftAfter) (IsLeft kind) (ArrowTail kind) first_left r xs f
+      (then_left IsPrefix LeftAfter (ArrowTail kind) r xs f h))
+
 imp_first : (r : ℕ) (xs : List Terminal) (f : FormulaSyntax) → IsImp r xs f → IsThen IsPrefix ImpAfter r xs f
-imp_first r xs f h = then_right IsPrefix OrAfter ImpTail r xs f
-    (map_first IsOr (IsThen IsPrefix OrAfter) ImpTail or_first r xs f (imp_parts r xs f h))
+imp_first = right_first Single OrAfter or_first
 
 first_imp : (r : ℕ) (xs : List Terminal) (f : FormulaSyntax) → IsThen IsPrefix ImpAfter r xs f → IsImp r xs f
-first_imp r xs f h = imp_of r xs f
-    (map_first (IsThen IsPrefix OrAfter) IsOr ImpTail first_or r xs f (then_left IsPrefix OrAfter ImpTail r xs f h))
+first_imp = first_right Single OrAfter first_or
 
 iff_first : (r : ℕ) (xs : List Terminal) (f : FormulaSyntax) → IsIff r xs f → IsThen IsPrefix IffAfter r xs f
-iff_first r xs f h = then_right IsPrefix ImpAfter IffTail r xs f
-    (map_first IsImp (IsThen IsPrefix ImpAfter) IffTail imp_first r xs f (iff_parts r xs f h))
+iff_first = right_first Double ImpAfter imp_first
 
 first_iff : (r : ℕ) (xs : List Terminal) (f : FormulaSyntax) → IsThen IsPrefix IffAfter r xs f → IsIff r xs f
-first_iff r xs f h = iff_of r xs f
-    (map_first (IsThen IsPrefix ImpAfter) IsImp IffTail first_imp r xs f (then_left IsPrefix ImpAfter IffTail r xs f h))
+first_iff = first_right Double ImpAfter first_imp
 
 -- an operator between formulas begins what follows a prefix
 abbrev Infix : Terminal → Type 0
@@ -651,18 +631,18 @@ is_infix n more few xs h = before_map (λ x. tie x ≡ n) Infix (λ x e. (omega 
 or_after_infix : (a : FormulaSyntax) (r : ℕ) (xs : List Terminal) (f : FormulaSyntax) → OrAfter a r xs f → Before Infix xs
 or_after_infix a r xs f h =
     rw h.split (before_join Infix h.front h.tail
-    (is_infix 5 (omega arith) (omega arith) h.front (and_tail_ties a r h.front h.value h.first))
-    (is_infix 4 (omega arith) (omega arith) h.tail (or_tail_ties h.value r h.tail f h.second)))
+    (is_infix 5 (omega arith) (omega arith) h.front (chain_tail_ties and_facts a r h.front h.value h.first))
+    (is_infix 4 (omega arith) (omega arith) h.tail (chain_tail_ties or_facts h.value r h.tail f h.second)))
 
 imp_after_infix : (a : FormulaSyntax) (r : ℕ) (xs : List Terminal) (f : FormulaSyntax) → ImpAfter a r xs f → Before Infix xs
 imp_after_infix a r xs f h =
     rw h.split (before_join Infix h.front h.tail (or_after_infix a r h.front h.value h.first)
-    (is_infix 3 (omega arith) (omega arith) h.tail (imp_tail_ties h.value r h.tail f h.second)))
+    (is_infix 3 (omega arith) (omega arith) h.tail (arrow_tail_ties Single h.value r h.tail f h.second)))
 
 iff_after_infix : (a : FormulaSyntax) (r : ℕ) (xs : List Terminal) (f : FormulaSyntax) → IffAfter a r xs f → Before Infix xs
 iff_after_infix a r xs f h =
     rw h.split (before_join Infix h.front h.tail (imp_after_infix a r h.front h.value h.first)
-    (is_infix 2 (omega arith) (omega arith) h.tail (iff_tail_ties h.value r h.tail f h.second)))
+    (is_infix 2 (omega arith) (omega arith) h.tail (arrow_tail_ties Double h.value r h.tail f h.second)))
 
 -- before terminals that tie so weakly
 before_prefix : (n : ℕ) → n < 6 → (xs rest : List Terminal) → Before Infix xs → Before (Below_tie n) rest →
@@ -682,23 +662,21 @@ nothing_more a r = record {
     front = [];
     tail = [];
     split = refl;
-    first = record { value = a; front = []; tail = []; split = refl; first = ([], no_conjunct, refl); second = ([], no_disjunct, refl) };
+    first = record { value = a; front = []; tail = []; split = refl; first = ([], none, refl); second = ([], none, refl) };
     second = refl;
   };
   second = refl;
 }
 
-pub imp_exact : (room : ℕ) (low : Option Level) → Below LevelExact room low → Exact IsImp (Below_tie 3) room (imp_with low)
-unfolding imp_with
-imp_exact room low b =
+pub right_exact : (kind : ArrowKind) (room : ℕ) (low : Option Level) → Below LevelExact room low →
+    Exact (IsRight kind) (Below_tie (arrow_tie kind)) room (right_with kind low)
+unfolding right_with
+right_exact Single room low b =
     exact_as first_imp imp_first (λ x h. h)
     (exact_then (record { lift = lift_prefixes; default = λ r c. record { ending = []; value = c; derives = (nothing_more c r).first } })
     (λ r c xs f h rest k. before_prefix 3 (omega arith) xs rest (imp_after_infix c r xs f h) k) (prefix_exact room low b)
     (imp_after_exact room low b))
-
-pub iff_exact : (room : ℕ) (low : Option Level) → Below LevelExact room low → Exact IsIff (Below_tie 2) room (iff_with low)
-unfolding iff_with
-iff_exact room low b =
+right_exact Double room low b =
     exact_as first_iff iff_first (λ x h. h)
     (exact_then (record { lift = lift_prefixes; default = λ r c. record { ending = []; value = c; derives = nothing_more c r } })
     (λ r c xs f h rest k. before_prefix 2 (omega arith) xs rest (iff_after_infix c r xs f h) k) (prefix_exact room low b)
@@ -819,8 +797,7 @@ unfolding above
 level_exact room b = record {
   term = term_exact room (lower room) (terms_below room (lower room) b);
   prefix = prefix_exact room (lower room) b;
-  imp = imp_exact room (lower room) b;
-  iff = iff_exact room (lower room) b;
+  right = λ kind. right_exact kind room (lower room) b;
   formula = formula_exact room (lower room) b;
 }
 

@@ -9,8 +9,6 @@ use Rattle.std.proofs.lemmas.List.Folds.{list_all-append}
 use Rattle.sequence.proofs.Bytes.{bytes_same}
 use Rattle.sequence.proofs.Each.{each_left, each_right}
 use Rattle.tsl_terms.specs.declared.names.NameKind.TheVariants.{Signal, Function, Predicate}
-use Rattle.tsl_terms.specs.declared.operator.ManyOperator.{ManyOperator}
-use Rattle.tsl_terms.specs.declared.operator.ManyOperator.TheVariants.{Conjunction, Disjunction}
 use Rattle.tsl_text.specs.Names.{is_usable}
 use Rattle.tsl_terms.specs.Name.{Name, number_of, is_name, same_kind, question}
 use Rattle.tsl_terms.specs.TermTree.{TermTree, signal, apply, TermTrees, no_terms as no_trees, more_terms as more_trees, count_of_terms}
@@ -20,7 +18,7 @@ use Rattle.tsl_terms.specs.Atoms.{atoms, atoms_of_members, has_two, joins_two, a
 use Rattle.tsl_terms.specs.WellFormed.{is_usable_at, is_question, term_fits, terms_fit, bracketed as bracketed_tree, brackets}
 use Rattle.tsl_terms.specs.WellFormed.{brackets_of_arguments, deepest as most_brackets, atom_fits, formula_fits}
 use Rattle.tsl_reader.specs.Syntax.{TermSyntax, alone, applied, TermsSyntax, no_terms, more_terms, FormulaSyntax, truth, falsehood, bare}
-use Rattle.tsl_reader.specs.Syntax.{tested, updated, under, between, all, any, FormulasSyntax, no_formulas, more_formulas}
+use Rattle.tsl_reader.specs.Syntax.{tested, updated, under, between, joined, FormulasSyntax, no_formulas, more_formulas}
 use Rattle.tsl_reader.specs.Naming.{use_as, tested_signal, question_use, count_of_arguments, term_uses, terms_uses, uses, members_uses}
 use Rattle.tsl_reader.specs.Naming.{numbered_term, numbered_terms, test_of, numbered_formula, numbered_members, numbered_list}
 use Rattle.tsl_reader.proofs.Shapes.{IsShaped, AreShaped, HasTwo, bracketed, depth, depth_of_arguments}
@@ -175,16 +173,6 @@ both_fit : (names : List Name) (xs ys : List Atom) → list_all (atom_fits names
 both_fit names xs ys h k = list_all-append (atom_fits names) xs ys
     ∙ and_from (list_all (atom_fits names) xs) (list_all (atom_fits names) ys) h k
 
-many_good : (names : List Name) (op : ManyOperator) (f : FormulaSyntax) (fs : FormulasSyntax) →
-    numbered_formula names f ≡ option_map (many op) (numbered_members names fs) →
-    HasTwo fs → AllGood names fs → Good names f
-many_good names op f fs is two g = record {
-  tree = many op g.trees;
-  numbered_is = is ∙ ap (option_map (many op)) g.numbered_are;
-  atoms_fit = g.atoms_fit;
-  joins = and_from (has_two g.trees) (all_join_two g.trees) (g.two two) g.join;
-}
-
 mutual
   formula_good : (names : List Name) (f : FormulaSyntax) → IsShaped f → AllByRecursion (KnownUse names) (uses f) → Good names f
   formula_good names truth shape k = record { tree = constant true; numbered_is = refl; atoms_fit = refl; joins = refl }
@@ -205,8 +193,14 @@ mutual
         atoms_fit = both_fit names (atoms g.tree) (atoms h.tree) g.atoms_fit h.atoms_fit;
         joins = and_from (joins_two g.tree) (joins_two h.tree) g.joins h.joins;
       }
-  formula_good names (all fs) shape k = many_good names Conjunction (all fs) fs refl shape.0 (members_good names fs shape.1 k)
-  formula_good names (any fs) shape k = many_good names Disjunction (any fs) fs refl shape.0 (members_good names fs shape.1 k)
+  formula_good names (joined op fs) shape k =
+      let g : AllGood names fs = members_good names fs shape.1 k in
+      record {
+        tree = many op g.trees;
+        numbered_is = ap (option_map (many op)) g.numbered_are;
+        atoms_fit = g.atoms_fit;
+        joins = and_from (has_two g.trees) (all_join_two g.trees) (g.two shape.0) g.join;
+      }
 
   members_good : (names : List Name) (fs : FormulasSyntax) → AreShaped fs → AllByRecursion (KnownUse names) (members_uses fs) →
       AllGood names fs

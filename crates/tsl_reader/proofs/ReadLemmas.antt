@@ -3,7 +3,8 @@ use Rattle.std.proofs.Common.{◌≡◌, ℕ, zero, suc, ◌+◌, ◌-◌, ◌<�
 use Rattle.std.proofs.lemmas.List.{length-map}
 use Rattle.std.proofs.lemmas.Grind.{common_steps}
 use Rattle.std.proofs.lemmas.Result.{err_from_is_err_and}
-use Rattle.std.specs.Prelude.{◌≤◌, Bool, true, false, Option, Some, None, Result, Ok, Err, IfErr, if◌then◌else◌, take, drop}
+use Rattle.std.specs.Prelude.{◌≤◌, Bool, true, false, Option, Some, None, Result, Ok, Err, if◌then◌else◌, take, drop}
+use Rattle.std.specs.Borrow.{Bor}
 use Rattle.std.specs.Result.{IsErrAnd}
 use Rattle.tsl_text.specs.declared.TokenKind.TheVariants.{CloseRound, OpenBrace, LeftArrow}
 use Rattle.token_readers.specs.Readers.{form, deep, Answer, Reader, form_at, deep_at, closing, closed_by, and_then, map_read}
@@ -12,10 +13,10 @@ use Rattle.tsl_reader.specs.declared.fault.ReadFault.{ReadFault}
 use Rattle.tsl_reader.specs.declared.fault.ReadFault.TheVariants.{Form, Deep, NoMemory}
 use Rattle.tsl_reader.specs.declared.terminals.Terminal.{Terminal as LentTerminal}
 use Rattle.tsl_reader.specs.Syntax.{Terminal, free, mark, TermSyntax, FormulaSyntax, updated}
-use Rattle.tsl_reader.specs.SyntaxView.{terminal_view, terminals_view, HasSyntaxFault}
+use Rattle.tsl_reader.specs.SyntaxView.{terminal_view, terminals_view, HasSyntaxFault, Reads}
 use Rattle.tsl_reader.specs.declared.syntax.Part.{Part}
 use Rattle.tsl_reader.specs.declared.formulas.Form.{Form as GrammarForm}
-use Rattle.tsl_reader.specs.declared.formulas.Form.TheVariants.{Prefix, Implication, Equivalence, Formula}
+use Rattle.tsl_reader.specs.declared.formulas.Form.TheVariants.{Prefix, Right, Formula}
 use Rattle.tsl_reader.specs.Forms.{reader_of, form_with}
 use Rattle.tsl_reader.specs.Reading.{
   is_close_brace,
@@ -47,9 +48,17 @@ one_level zero below h = absurd (omega (arith, h))
 one_level (suc room) below h = let e : room ≡ below = omega (arith, h) in rw e refl
 
 -- a fault that is passed on
-pub passed_on : {T : Type 0} (r : Result T ReadFault) (fault : ReadFault) (P : ReadFault → Type 0) →
-    IsErrAnd r (λ e. e ≡ fault) → P fault → IfErr r P
-passed_on r fault P h k = let p = err_from_is_err_and r h in rw (p.1, p.2) k
+pub passed_on : {U V : Type 0} (view : U → V) (reader : Reader Terminal V) (xs : List LentTerminal)
+    (r : Result (U × Bor (List LentTerminal)) ReadFault) (fault : ReadFault) → IsErrAnd r (λ e. e ≡ fault) →
+    HasSyntaxFault (reader (terminals_view xs)) fault → Reads view reader xs r
+passed_on view reader xs r fault h k = let p = err_from_is_err_and r h in rw (p.1, p.2) k
+
+-- the same is read in another way
+pub reads_as : {U V : Type 0} (view : U → V) (f g : Reader Terminal V) (xs ys : List LentTerminal)
+    (r : Result (U × Bor (List LentTerminal)) ReadFault) → f (terminals_view xs) ≡ g (terminals_view ys) →
+    Reads view g ys r → Reads view f xs r
+reads_as view f g xs ys (Ok read) e h = e ∙ h
+reads_as view f g xs ys (Err fault) e h = rw e h
 
 -- the terminals after the first
 pub after_first : (xs : List LentTerminal) → 1 ≤ length xs →
@@ -240,8 +249,7 @@ form_after_first room below kind xs h k = rw (h, (after_first xs k).1) (by_form 
     by_form : (kind : GrammarForm) → reader_of kind (above (lower below)) (terminals_view (take (length xs - 1) (drop 1 xs)))
         ≡ form_with kind (lower below) (terminals_view (take (length xs - 1) (drop 1 xs)))
     by_form Prefix = refl
-    by_form Implication = refl
-    by_form Equivalence = refl
+    by_form (Right kind) = refl
     by_form Formula = refl
 
 -- in brackets

@@ -1,22 +1,29 @@
 -- The loops of reading: what is read so far, and then what is read of the terminals that are left.
-use Rattle.std.proofs.Common.{◌≡◌, ℕ, List, [], ◌∷◌, ◌++◌, map, refl, ap, sym, ◌∙◌}
-use Rattle.std.proofs.lemmas.List.{map-append}
+use Rattle.std.proofs.Common.{◌≡◌, ℕ, ◌<◌, List, [], ◌∷◌, ◌++◌, length, map, refl, ap, sym, ◌∙◌, arith}
+use Rattle.std.proofs.lemmas.List.{map-append, length-map}
 use Rattle.std.specs.Prelude.{true, false, Option, Some, None, Ok}
 use Rattle.tsl_text.specs.declared.TokenKind.TheVariants.{CloseBrace, Semicolon}
 use Rattle.tsl_reader.specs.declared.trees.ReadFormula.{ReadFormula}
 use Rattle.token_readers.specs.Readers.{form, deep, Answer, iterate, push, push_read, map_read, found_or_wrong}
 use Rattle.token_readers.proofs.Iterates.{Shrinks, step_shrinks, no_step, next_step, wrong_step}
 use Rattle.token_readers.proofs.Lists.{stepping as list_stepping}
+use Rattle.tsl_terms.specs.declared.operator.ManyOperator.{ManyOperator}
+use Rattle.tsl_terms.specs.declared.operator.ManyOperator.TheVariants.{Conjunction, Disjunction}
 use Rattle.tsl_reader.specs.declared.fault.ReadFault.{ReadFault}
+use Rattle.tsl_reader.specs.declared.terminals.Terminal.{Terminal as LentTerminal}
 use Rattle.tsl_reader.specs.declared.fault.ReadFault.TheVariants.{Form, Deep, NoMemory}
 use Rattle.tsl_reader.specs.Syntax.{Terminal, mark, FormulaSyntax}
-use Rattle.tsl_reader.specs.SyntaxView.{formula_syntax, HasSyntaxFault, HasFaultOfMember}
-use Rattle.tsl_reader.specs.Reading.{lower, Arguments, argument, fresh, goes_on, arguments_of, conjunct, disjunct, open_items, item_last}
+use Rattle.tsl_reader.specs.SyntaxView.{terminal_view, terminals_view, formula_syntax, HasSyntaxFault, HasFaultOfMember}
+use Rattle.tsl_reader.specs.Reading.{lower, Arguments, argument, argument_wanted, fresh, goes_on, arguments_of, further, operand_with}
+use Rattle.tsl_reader.specs.Reading.{open_items, item_last}
 use Rattle.tsl_reader.specs.Reading.{items_of, item, begins_item, formula_with, formulas}
 use Rattle.tsl_reader.proofs.ReadLemmas.{map_fault}
 use Rattle.tsl_reader.proofs.ExactTerms.{stepping as argument_stepping, no_step as no_argument, some_step as some_argument, at_end}
-use Rattle.tsl_reader.proofs.ExactFormulas.{terms_below, below_exact, conjunct_member, disjunct_member}
+use Rattle.tsl_reader.proofs.ExactFormulas.{terms_below, below_exact, prefix_exact, and_exact, further_member, and_facts, or_facts}
 use Rattle.tsl_reader.proofs.ExactSections.{item_shrinks}
+
+seen_shorter : (xs rest : List LentTerminal) → length (terminals_view rest) < length (terminals_view xs) → length rest < length xs
+seen_shorter xs rest h = omega (arith, length-map xs terminal_view, length-map rest terminal_view, h)
 
 module _ {S : Type 0} {step : S → List Terminal → Option (Answer Terminal S)} (shrinks : Shrinks step) where
   step_fault : (s : S) (xs : List Terminal) (fault : ReadFault) → HasFaultOfMember (step s xs) fault →
@@ -46,6 +53,11 @@ module _ {U V : Type 0} (view : U → V) (member : List Terminal → Option (Ans
       ap (λ vs. iterate (push member) vs rest) (map-append view before (u ∷ []))
       ∙ next_step shrinks (map view before) xs (map view before ++ view u ∷ []) rest (ap (push_read (map view before)) h)
 
+  -- and fewer terminals are left
+  pub member_shortens : (xs rest : List LentTerminal) (v : V) → member (terminals_view xs) ≡ Some (Ok (v, terminals_view rest)) →
+      length rest < length xs
+  member_shortens xs rest v h = seen_shorter xs rest (shrinks [] (terminals_view xs) (v ∷ []) (terminals_view rest) (ap (push_read []) h))
+
   -- no member is left
   pub members_end : (xs : List Terminal) (vs : List V) → member xs ≡ None → iterate (push member) vs xs ≡ Ok (vs, xs)
   members_end xs vs h = no_step shrinks vs xs (ap (push_read vs) h)
@@ -62,11 +74,9 @@ module _ {U V : Type 0} (view : U → V) (member : List Terminal → Option (Ans
       member xs ≡ Some answer → HasSyntaxFault answer fault → HasSyntaxFault whole fault
   member_found_fault xs vs whole answer fault h k e = members_fault xs vs whole fault h (rw k (member_fault answer fault e))
 
-pub conjuncts_shrink : (room : ℕ) → Shrinks (push (conjunct (lower room)))
-conjuncts_shrink room = step_shrinks (list_stepping (conjunct_member room (lower room) (below_exact room)))
-
-pub disjuncts_shrink : (room : ℕ) → Shrinks (push (disjunct (lower room)))
-disjuncts_shrink room = step_shrinks (list_stepping (disjunct_member room (lower room) (below_exact room)))
+pub further_shrinks : (op : ManyOperator) (room : ℕ) → Shrinks (push (further op (operand_with op (lower room))))
+further_shrinks Conjunction room = step_shrinks (list_stepping (further_member and_facts room (prefix_exact room (lower room) (below_exact room))))
+further_shrinks Disjunction room = step_shrinks (list_stepping (further_member or_facts room (and_exact room (lower room) (below_exact room))))
 
 -- ---- what follows a name
 
@@ -83,9 +93,15 @@ no_argument_is room s [] h = at_end (lower room) s
 no_argument_is room s (x ∷ rest) h = no_argument (lower room) s x rest h
 
 pub arguments_more : (room : ℕ) (s t : Arguments) (xs rest : List Terminal) → goes_on s xs ≡ true →
-    found_or_wrong (argument (lower room) s xs) xs ≡ Ok (t, rest) →
+    argument_wanted (lower room) s xs ≡ Ok (t, rest) →
     iterate (argument (lower room)) t rest ≡ iterate (argument (lower room)) s xs
 arguments_more room s t xs rest h k = next_step (arguments_shrink room) s xs t rest (argument_is room s xs h ∙ ap Some k)
+
+pub arguments_shorten : (room : ℕ) (s t : Arguments) (xs rest : List LentTerminal) → goes_on s (terminals_view xs) ≡ true →
+    argument_wanted (lower room) s (terminals_view xs) ≡ Ok (t, terminals_view rest) → length rest < length xs
+arguments_shorten room s t xs rest h k =
+    seen_shorter xs rest (arguments_shrink room s (terminals_view xs) t (terminals_view rest)
+    (argument_is room s (terminals_view xs) h ∙ ap Some k))
 
 pub arguments_end : (room : ℕ) (s : Arguments) (xs : List Terminal) → goes_on s xs ≡ false →
     iterate (argument (lower room)) s xs ≡ Ok (s, xs)
@@ -98,7 +114,7 @@ found_fault None xs fault e h = cc
 found_fault (Some answer) xs fault e h = member_fault answer fault h
 
 pub arguments_fault : (room : ℕ) (s : Arguments) (xs ys : List Terminal) (fault : ReadFault) → goes_on s xs ≡ true →
-    HasSyntaxFault (found_or_wrong (argument (lower room) s xs) xs) fault →
+    HasSyntaxFault (argument_wanted (lower room) s xs) fault →
     iterate (argument (lower room)) s xs ≡ iterate (argument (lower room)) fresh ys →
     HasSyntaxFault (map_read arguments_of (iterate (argument (lower room)) fresh ys)) fault
 arguments_fault room s xs ys fault h k e =
@@ -172,3 +188,11 @@ items_fault room fs xs ys fault h k e =
     (rw (← e) (step_fault (item_shrinks room) (open_items fs) xs fault
     (rw (item_is room fs xs h) (member_fault (map_read (λ f. item_last (fs ++ f ∷ [])) (formula_with (lower room) xs)) fault
     (map_fault (λ f. item_last (fs ++ f ∷ [])) (formula_with (lower room) xs) fault k)))))
+
+-- a formula and its semicolon take terminals
+pub items_shorten : (room : ℕ) (f : FormulaSyntax) (xs rest after : List LentTerminal) → begins_item (terminals_view xs) ≡ true →
+    formula_with (lower room) (terminals_view xs) ≡ Ok (f, terminals_view rest) → length after < length rest → length after < length xs
+items_shorten room f xs rest after h k few =
+    let less = seen_shorter xs rest (item_shrinks room (open_items []) (terminals_view xs) (item_last (f ∷ [])) (terminals_view rest)
+    (item_is room [] (terminals_view xs) h ∙ ap (λ answer. Some (map_read (λ g. item_last (g ∷ [])) answer)) k)) in
+    omega (arith, less, few)

@@ -2,10 +2,12 @@
 use Rattle.std.proofs.Common.{ℕ, suc, ◌+◌, ◌≤◌, List, [], ◌∷◌, arith}
 use Rattle.std.specs.Prelude.{max}
 use Rattle.std.specs.List.{AllByRecursion}
+use Rattle.tsl_terms.specs.declared.operator.ManyOperator.{ManyOperator}
+use Rattle.tsl_terms.specs.declared.operator.ManyOperator.TheVariants.{Conjunction, Disjunction}
 use Rattle.tsl_reader.specs.Syntax.{Terminal, TermSyntax, alone, applied, TermsSyntax, no_terms, more_terms, listed_terms, FormulaSyntax}
 use Rattle.tsl_reader.specs.Syntax.{truth}
-use Rattle.tsl_reader.specs.Syntax.{falsehood, bare, tested, updated, under, between, all, any, FormulasSyntax, no_formulas, more_formulas}
-use Rattle.tsl_reader.specs.Syntax.{all_of, any_of, listed_formulas, SectionSyntax}
+use Rattle.tsl_reader.specs.Syntax.{falsehood, bare, tested, updated, under, between, joined, FormulasSyntax, no_formulas, more_formulas}
+use Rattle.tsl_reader.specs.Syntax.{join, listed_formulas, SectionSyntax}
 use Rattle.tsl_reader.specs.Grammar.{IsTerm, signal, constant, application, brackets, AreArguments, one_argument, more_arguments}
 use Rattle.tsl_reader.specs.Grammar.{IsArgument, signal_argument, constant_argument, brackets_argument, IsFormula, temporal}
 use Rattle.tsl_reader.specs.Grammar.{chain as chained, IsIff, no_iff, iff, IsImp, no_imp, imp, IsOr, disjunction, AreDisjuncts, no_disjunct}
@@ -44,8 +46,7 @@ abbrev mutual
   IsShaped (updated x t) = depth t ≤ deepest_level
   IsShaped (under op a) = IsShaped a
   IsShaped (between op a b) = IsShaped a × IsShaped b
-  IsShaped (all fs) = HasTwo fs × AreShaped fs
-  IsShaped (any fs) = HasTwo fs × AreShaped fs
+  IsShaped (joined op fs) = HasTwo fs × AreShaped fs
 
   pub AreShaped : FormulasSyntax → Type 0
   AreShaped no_formulas = Unit {0}
@@ -73,13 +74,10 @@ mutual
   argument_depth (constant_argument c) = omega arith
   argument_depth (brackets_argument {room = room} {t = t} h) = bracketed_within t (depth t) room (term_depth h)
 
-all_shaped : (a : FormulaSyntax) (fs : List FormulaSyntax) → IsShaped a → AreShaped (listed_formulas fs) → IsShaped (all_of a fs)
-all_shaped a [] h k = h
-all_shaped a (g ∷ gs) h k = (tt, (h, k))
-
-any_shaped : (a : FormulaSyntax) (fs : List FormulaSyntax) → IsShaped a → AreShaped (listed_formulas fs) → IsShaped (any_of a fs)
-any_shaped a [] h k = h
-any_shaped a (g ∷ gs) h k = (tt, (h, k))
+join_shaped : (op : ManyOperator) (a : FormulaSyntax) (fs : List FormulaSyntax) → IsShaped a → AreShaped (listed_formulas fs) →
+    IsShaped (join op a fs)
+join_shaped op a [] h k = h
+join_shaped op a (g ∷ gs) h k = (tt, (h, k))
 
 mutual
   formula_shaped : {room : ℕ} {xs : List Terminal} {f : FormulaSyntax} → IsFormula room xs f → room ≤ deepest_level → IsShaped f
@@ -95,7 +93,7 @@ mutual
   imp_shaped (imp h k) few = (or_shaped h few, imp_shaped k (omega (arith, few)))
 
   or_shaped : {room : ℕ} {xs : List Terminal} {f : FormulaSyntax} → IsOr room xs f → room ≤ deepest_level → IsShaped f
-  or_shaped (disjunction {a = a} {fs = fs} h k) few = any_shaped a fs (and_shaped h few) (disjuncts_shaped k few)
+  or_shaped (disjunction {a = a} {fs = fs} h k) few = join_shaped Disjunction a fs (and_shaped h few) (disjuncts_shaped k few)
 
   disjuncts_shaped : {room : ℕ} {xs : List Terminal} {fs : List FormulaSyntax} → AreDisjuncts room xs fs → room ≤ deepest_level →
       AreShaped (listed_formulas fs)
@@ -103,7 +101,7 @@ mutual
   disjuncts_shaped (more_disjuncts h k) few = (and_shaped h few, disjuncts_shaped k few)
 
   and_shaped : {room : ℕ} {xs : List Terminal} {f : FormulaSyntax} → IsAnd room xs f → room ≤ deepest_level → IsShaped f
-  and_shaped (conjunction {a = a} {fs = fs} h k) few = all_shaped a fs (prefix_shaped h few) (conjuncts_shaped k few)
+  and_shaped (conjunction {a = a} {fs = fs} h k) few = join_shaped Conjunction a fs (prefix_shaped h few) (conjuncts_shaped k few)
 
   conjuncts_shaped : {room : ℕ} {xs : List Terminal} {fs : List FormulaSyntax} → AreConjuncts room xs fs → room ≤ deepest_level →
       AreShaped (listed_formulas fs)

@@ -6,8 +6,10 @@ use Rattle.std.proofs.lemmas.Simd.{map-map}
 use Rattle.tsl_text.specs.declared.TokenKind.TheVariants.{OpenBrace, CloseBrace, CloseRound, CloseSquare, Semicolon, Arrow, BothArrow}
 use Rattle.tsl_terms.specs.declared.operator.UnaryOperator.{UnaryOperator}
 use Rattle.tsl_terms.specs.declared.operator.BinaryOperator.{BinaryOperator}
+use Rattle.tsl_terms.specs.declared.operator.ManyOperator.{ManyOperator}
+use Rattle.tsl_terms.specs.declared.operator.ManyOperator.TheVariants.{Conjunction, Disjunction}
 use Rattle.tsl_reader.specs.declared.syntax.Part.{Part}
-use Rattle.tsl_reader.specs.Syntax.{Terminal, free, word, mark, TermSyntax, listed_terms, FormulaSyntax, all_of, any_of, listed_formulas}
+use Rattle.tsl_reader.specs.Syntax.{Terminal, free, word, mark, TermSyntax, listed_terms, FormulaSyntax, join, listed_formulas}
 use Rattle.tsl_reader.specs.Syntax.{SectionSyntax}
 use Rattle.tsl_reader.specs.Grammar.{unary_of, temporal_of, IsTerm, signal, constant, application, brackets, AreArguments, one_argument}
 use Rattle.tsl_reader.specs.Grammar.{more_arguments, IsArgument, signal_argument, constant_argument, brackets_argument, IsFormula, temporal}
@@ -73,13 +75,10 @@ unary_is_no_name (word w) op ys h = refl
 unary_is_no_name (mark m) op ys h = refl
 
 -- the uses of operands
-all_uses_are : (a : FormulaSyntax) (fs : List FormulaSyntax) → uses (all_of a fs) ≡ uses a ++ members_uses (listed_formulas fs)
-all_uses_are a [] = sym (append-nil (uses a))
-all_uses_are a (g ∷ gs) = refl
-
-any_uses_are : (a : FormulaSyntax) (fs : List FormulaSyntax) → uses (any_of a fs) ≡ uses a ++ members_uses (listed_formulas fs)
-any_uses_are a [] = sym (append-nil (uses a))
-any_uses_are a (g ∷ gs) = refl
+join_uses : (op : ManyOperator) (a : FormulaSyntax) (fs : List FormulaSyntax) →
+    uses (join op a fs) ≡ uses a ++ members_uses (listed_formulas fs)
+join_uses op a [] = sym (append-nil (uses a))
+join_uses op a (g ∷ gs) = refl
 
 mutual
   formula_texts : {room : ℕ} {xs : List Terminal} {f : FormulaSyntax} → IsFormula room xs f → map text_of (uses f) ≡ free_texts xs
@@ -97,7 +96,7 @@ mutual
 
   or_texts : {room : ℕ} {xs : List Terminal} {f : FormulaSyntax} → IsOr room xs f → map text_of (uses f) ≡ free_texts xs
   or_texts (disjunction {xs = xs} {ys = ys} {a = a} {fs = fs} h k) =
-      ap (map text_of) (any_uses_are a fs) ∙ joined (uses a) (members_uses (listed_formulas fs)) xs ys (and_texts h) (disjuncts_texts k)
+      ap (map text_of) (join_uses Disjunction a fs) ∙ joined (uses a) (members_uses (listed_formulas fs)) xs ys (and_texts h) (disjuncts_texts k)
 
   disjuncts_texts : {room : ℕ} {xs : List Terminal} {fs : List FormulaSyntax} → AreDisjuncts room xs fs →
       map text_of (members_uses (listed_formulas fs)) ≡ free_texts xs
@@ -107,7 +106,7 @@ mutual
 
   and_texts : {room : ℕ} {xs : List Terminal} {f : FormulaSyntax} → IsAnd room xs f → map text_of (uses f) ≡ free_texts xs
   and_texts (conjunction {xs = xs} {ys = ys} {a = a} {fs = fs} h k) =
-      ap (map text_of) (all_uses_are a fs) ∙ joined (uses a) (members_uses (listed_formulas fs)) xs ys (prefix_texts h) (conjuncts_texts k)
+      ap (map text_of) (join_uses Conjunction a fs) ∙ joined (uses a) (members_uses (listed_formulas fs)) xs ys (prefix_texts h) (conjuncts_texts k)
 
   conjuncts_texts : {room : ℕ} {xs : List Terminal} {fs : List FormulaSyntax} → AreConjuncts room xs fs →
       map text_of (members_uses (listed_formulas fs)) ≡ free_texts xs

@@ -2,21 +2,19 @@
 -- The forms that begin with a prefix, and how each is read.
 use Rattle.std.specs.Prelude.{Option}
 use Rattle.tsl_reader.specs.declared.formulas.Form.{Form}
-use Rattle.tsl_reader.specs.declared.formulas.Form.TheVariants.{Prefix, Implication, Equivalence, Formula}
+use Rattle.tsl_reader.specs.declared.formulas.Form.TheVariants.{Prefix, Right, Formula}
 use Rattle.token_readers.specs.Readers.{Reader}
 use Rattle.tsl_reader.specs.Syntax.{Terminal, FormulaSyntax}
-use Rattle.tsl_reader.specs.Reading.{Level, prefix_with, imp_with, iff_with, formula_with}
+use Rattle.tsl_reader.specs.Reading.{Level, prefix_with, right_with, formula_with}
 
 -- a level's reader of the form
 abbrev pub reader_of : Form → Level → Reader Terminal FormulaSyntax
 reader_of Prefix l = l.prefix
-reader_of Implication l = l.imp
-reader_of Equivalence l = l.iff
+reader_of (Right kind) l = l.right kind
 reader_of Formula l = l.formula
 
 -- a form above this level
 abbrev pub form_with : Form → Option Level → Reader Terminal FormulaSyntax
 form_with Prefix lower = prefix_with lower
-form_with Implication lower = imp_with lower
-form_with Equivalence lower = iff_with lower
+form_with (Right kind) lower = right_with kind lower
 form_with Formula lower = formula_with lower

@@ -23,6 +23,7 @@ use Rattle.tsl_terms.specs.declared.operator.UnaryOperator.{UnaryOperator}
 use Rattle.tsl_terms.specs.declared.operator.UnaryOperator.TheVariants.{Negation, Next, Finally, Globally}
 use Rattle.tsl_terms.specs.declared.operator.BinaryOperator.{BinaryOperator}
 use Rattle.tsl_terms.specs.declared.operator.BinaryOperator.TheVariants.{Implication, Equivalence, Until, WeakUntil, Release}
+use Rattle.tsl_terms.specs.declared.operator.ManyOperator.TheVariants.{Conjunction, Disjunction}
 use Rattle.tsl_reader.specs.declared.syntax.Part.{Part}
 use Rattle.tsl_reader.specs.declared.syntax.Part.TheVariants.{AssumeFirst, AssumeAlways, GuaranteeFirst, GuaranteeAlways}
 use Rattle.tsl_reader.specs.Syntax.{
@@ -43,8 +44,7 @@ use Rattle.tsl_reader.specs.Syntax.{
   updated,
   under,
   between,
-  all_of,
-  any_of,
+  join,
   SectionSyntax,
 }
 
@@ -114,7 +114,7 @@ mutual
   -- or(l) = and(l) ("||" and(l))*
   pub data IsOr : ℕ → List Terminal → FormulaSyntax → Type 0 where
     disjunction : {room : ℕ} {xs ys : List Terminal} {a : FormulaSyntax} {fs : List FormulaSyntax} →
-        IsAnd room xs a → AreDisjuncts room ys fs → IsOr room (xs ++ ys) (any_of a fs)
+        IsAnd room xs a → AreDisjuncts room ys fs → IsOr room (xs ++ ys) (join Disjunction a fs)
 
   -- ("||" and(l))*
   pub data AreDisjuncts : ℕ → List Terminal → List FormulaSyntax → Type 0 where
@@ -125,7 +125,7 @@ mutual
   -- and(l) = prefix(l) ("&&" prefix(l))*
   pub data IsAnd : ℕ → List Terminal → FormulaSyntax → Type 0 where
     conjunction : {room : ℕ} {xs ys : List Terminal} {a : FormulaSyntax} {fs : List FormulaSyntax} →
-        IsPrefix room xs a → AreConjuncts room ys fs → IsAnd room (xs ++ ys) (all_of a fs)
+        IsPrefix room xs a → AreConjuncts room ys fs → IsAnd room (xs ++ ys) (join Conjunction a fs)
 
   -- ("&&" prefix(l))*
   pub data AreConjuncts : ℕ → List Terminal → List FormulaSyntax → Type 0 where

@@ -4,7 +4,6 @@ use Rattle.std.specs.Prelude.{ℕ, ◌+◌, Bool, true, false, List, [], ◌∷�
 use Rattle.std.specs.Prelude.{option_and_then, if◌then◌else◌}
 use Rattle.tsl_terms.specs.declared.names.NameKind.{NameKind}
 use Rattle.tsl_terms.specs.declared.names.NameKind.TheVariants.{Signal, Function, Predicate}
-use Rattle.tsl_terms.specs.declared.operator.ManyOperator.TheVariants.{Conjunction, Disjunction}
 use Rattle.tsl_terms.specs.Name.{Name, number_of, question}
 use Rattle.tsl_terms.specs.Clashes.{first_uses}
 use Rattle.tsl_terms.specs.TermTree.{TermTree, signal, apply, TermTrees, no_terms as no_trees, more_terms as more_trees}
@@ -13,7 +12,7 @@ use Rattle.tsl_terms.specs.FormulaTree.{no_formulas as no_members, more_formulas
 use Rattle.tsl_reader.specs.declared.syntax.Part.{Part}
 use Rattle.tsl_reader.specs.declared.syntax.Part.TheVariants.{AssumeFirst, AssumeAlways, GuaranteeFirst, GuaranteeAlways}
 use Rattle.tsl_reader.specs.Syntax.{TermSyntax, alone, applied, TermsSyntax, no_terms, more_terms, FormulaSyntax, truth, falsehood, bare}
-use Rattle.tsl_reader.specs.Syntax.{tested, updated, under, between, all, any, FormulasSyntax, no_formulas, more_formulas, SectionSyntax}
+use Rattle.tsl_reader.specs.Syntax.{tested, updated, under, between, joined, FormulasSyntax, no_formulas, more_formulas, SectionSyntax}
 
 -- A use of a name: the name that it would be, and whether it stands alone in a formula, where the predicate `?` tests it.
 pub record Use : Type 0 where
@@ -50,8 +49,7 @@ abbrev mutual
   uses (updated x t) = use_as Signal x 0 ∷ term_uses t
   uses (under op a) = uses a
   uses (between op a b) = uses a ++ uses b
-  uses (all fs) = members_uses fs
-  uses (any fs) = members_uses fs
+  uses (joined op fs) = members_uses fs
 
   pub members_uses : FormulasSyntax → List Use
   members_uses no_formulas = []
@@ -108,8 +106,7 @@ abbrev mutual
   numbered_formula names (under op a) = option_map (unary op) (numbered_formula names a)
   numbered_formula names (between op a b) =
       option_and_then (λ left. option_map (binary op left) (numbered_formula names b)) (numbered_formula names a)
-  numbered_formula names (all fs) = option_map (many Conjunction) (numbered_members names fs)
-  numbered_formula names (any fs) = option_map (many Disjunction) (numbered_members names fs)
+  numbered_formula names (joined op fs) = option_map (many op) (numbered_members names fs)
 
   pub numbered_members : List Name → FormulasSyntax → Option FormulaTrees
   numbered_members names no_formulas = Some no_members

@@ -16,10 +16,15 @@ use Rattle.tsl_text.specs.declared.TokenKind.TheVariants.{
   LeftArrow,
 }
 use Rattle.token_readers.specs.Readers.{Answer, Reader, form_at, deep_at, closed_by, and_then, map_read, iterate, members, below}
+use Rattle.token_readers.specs.Readers.{found_or_wrong}
 use Rattle.tsl_reader.specs.declared.syntax.Word.TheVariants.{Assume, Guarantee, Always, Initially, True, False}
 use Rattle.tsl_terms.specs.declared.operator.UnaryOperator.{UnaryOperator}
 use Rattle.tsl_terms.specs.declared.operator.BinaryOperator.{BinaryOperator}
 use Rattle.tsl_terms.specs.declared.operator.BinaryOperator.TheVariants.{Implication, Equivalence}
+use Rattle.tsl_terms.specs.declared.operator.ManyOperator.{ManyOperator}
+use Rattle.tsl_terms.specs.declared.operator.ManyOperator.TheVariants.{Conjunction, Disjunction}
+use Rattle.tsl_reader.specs.declared.syntax.ArrowKind.{ArrowKind}
+use Rattle.tsl_reader.specs.declared.syntax.ArrowKind.TheVariants.{Single, Double}
 use Rattle.tsl_reader.specs.declared.syntax.Closer.{Closer}
 use Rattle.tsl_reader.specs.declared.syntax.Closer.TheVariants.{Round, Square, Brace}
 use Rattle.tsl_reader.specs.declared.syntax.Part.{Part}
@@ -42,8 +47,7 @@ use Rattle.tsl_reader.specs.Syntax.{
   updated,
   under,
   between,
-  all_of,
-  any_of,
+  join,
   SectionSyntax,
 }
 use Rattle.tsl_reader.specs.Grammar.{unary_of, temporal_of}
@@ -66,12 +70,11 @@ closes Round = is_close_round
 closes Square = is_close_square
 closes Brace = is_close_brace
 
--- the readers of one level
+-- the readers of one level: of the forms on the right of an arrow too
 pub record Level : Type 0 where
   pub term : Reader Terminal TermSyntax
   pub prefix : Reader Terminal FormulaSyntax
-  pub imp : Reader Terminal FormulaSyntax
-  pub iff : Reader Terminal FormulaSyntax
+  pub right : ArrowKind → Reader Terminal FormulaSyntax
   pub formula : Reader Terminal FormulaSyntax
 
 -- a term of a level in brackets, after the opening one
@@ -141,6 +144,10 @@ argument lower (term_last ts) (mark OpenRound ∷ rest) =
 argument lower s (mark OpenRound ∷ rest) = Some (map_read (λ o. with_brackets o s) (opened lower rest))
 argument lower s _ = None
 
+-- an argument where there has to be one
+abbrev pub argument_wanted : Option Level → Arguments → Reader Terminal Arguments
+argument_wanted lower s xs = found_or_wrong (argument lower s xs) xs
+
 -- whether arguments go on with this terminal, and with the first of these
 abbrev pub starts_argument : Arguments → Terminal → Bool
 starts_argument empty x = false
@@ -201,52 +208,73 @@ unary_in (x ∷ rest) = unary_of x
 unfoldable pub prefix_with : Option Level → Reader Terminal FormulaSyntax
 prefix_with lower xs = prefix_from lower (unary_in xs) xs
 
--- a further operand of `&&`
-unfoldable pub conjunct : Option Level → List Terminal → Option (Answer Terminal FormulaSyntax)
-conjunct lower (mark And ∷ rest) = Some (prefix_with lower rest)
-conjunct lower _ = None
+-- whether the terminal is this operator
+abbrev pub is_sign : ManyOperator → Terminal → Bool
+is_sign Conjunction (mark And) = true
+is_sign Disjunction (mark Or) = true
+is_sign op _ = false
 
--- the operands of `&&` after the first one
-unfoldable pub and_after : Option Level → FormulaSyntax → Reader Terminal FormulaSyntax
-and_after lower a xs = map_read (all_of a) (members (conjunct lower) xs)
+-- a further operand of `&&` or of `||`, each read so, where the operator is there
+unfoldable pub further_from : Bool → Reader Terminal FormulaSyntax → List Terminal → Option (Answer Terminal FormulaSyntax)
+further_from true operand rest = Some (operand rest)
+further_from false operand rest = None
+
+unfoldable pub further : ManyOperator → Reader Terminal FormulaSyntax → List Terminal → Option (Answer Terminal FormulaSyntax)
+further op operand [] = None
+further op operand (x ∷ rest) = further_from (is_sign op x) operand rest
+
+-- the operands after the first one
+unfoldable pub chain_after : ManyOperator → Reader Terminal FormulaSyntax → FormulaSyntax → Reader Terminal FormulaSyntax
+chain_after op operand a xs = map_read (join op a) (members (further op operand) xs)
 
 unfoldable pub and_with : Option Level → Reader Terminal FormulaSyntax
-and_with lower xs = and_then (prefix_with lower xs) (and_after lower)
+and_with lower xs = and_then (prefix_with lower xs) (chain_after Conjunction (prefix_with lower))
 
--- a further operand of `||`
-unfoldable pub disjunct : Option Level → List Terminal → Option (Answer Terminal FormulaSyntax)
-disjunct lower (mark Or ∷ rest) = Some (and_with lower rest)
-disjunct lower _ = None
+-- an operand of `&&`, and of `||`
+abbrev pub operand_with : ManyOperator → Option Level → Reader Terminal FormulaSyntax
+operand_with Conjunction lower = prefix_with lower
+operand_with Disjunction lower = and_with lower
 
--- the operands of `||` after the first one
-unfoldable pub or_after_and : Option Level → FormulaSyntax → Reader Terminal FormulaSyntax
-or_after_and lower a xs = map_read (any_of a) (members (disjunct lower) xs)
-
--- a form of `||` whose first operand of `&&` was read
+-- a form of `||` whose first prefix was read
 unfoldable pub or_after : Option Level → FormulaSyntax → Reader Terminal FormulaSyntax
-or_after lower a xs = and_then (and_after lower a xs) (or_after_and lower)
+or_after lower a xs = and_then (chain_after Conjunction (prefix_with lower) a xs) (chain_after Disjunction (and_with lower))
 
--- `->` and its right side, where they follow
-unfoldable pub imp_after_or : Option Level → FormulaSyntax → Reader Terminal FormulaSyntax
-imp_after_or lower a (mark Arrow ∷ rest) = map_read (between Implication a) (below lower (λ l. l.imp) (mark Arrow ∷ rest))
-imp_after_or lower a xs = Ok (a, xs)
+-- whether the terminal is this arrow, and whether it begins these
+abbrev pub is_arrow : ArrowKind → Terminal → Bool
+is_arrow Single (mark Arrow) = true
+is_arrow Double (mark BothArrow) = true
+is_arrow kind _ = false
+
+abbrev pub begins_with_arrow : ArrowKind → List Terminal → Bool
+begins_with_arrow kind [] = false
+begins_with_arrow kind (x ∷ rest) = is_arrow kind x
+
+abbrev pub operator_of : ArrowKind → BinaryOperator
+operator_of Single = Implication
+operator_of Double = Equivalence
+
+-- the arrow and its right side where it is there, and the left side alone where it is not
+unfoldable pub arrow_from : Option Level → ArrowKind → Bool → FormulaSyntax → Reader Terminal FormulaSyntax
+arrow_from lower kind true a xs = map_read (between (operator_of kind) a) (below lower (λ l. l.right kind) xs)
+arrow_from lower kind false a xs = Ok (a, xs)
+
+-- an arrow and its right side, where they follow
+unfoldable pub arrow_after : Option Level → ArrowKind → FormulaSyntax → Reader Terminal FormulaSyntax
+arrow_after lower kind a xs = arrow_from lower kind (begins_with_arrow kind xs) a xs
 
 unfoldable pub imp_after : Option Level → FormulaSyntax → Reader Terminal FormulaSyntax
-imp_after lower a xs = and_then (or_after lower a xs) (imp_after_or lower)
-
-unfoldable pub imp_with : Option Level → Reader Terminal FormulaSyntax
-imp_with lower xs = and_then (prefix_with lower xs) (imp_after lower)
-
--- `<->` and its right side, where they follow
-unfoldable pub iff_after_imp : Option Level → FormulaSyntax → Reader Terminal FormulaSyntax
-iff_after_imp lower a (mark BothArrow ∷ rest) = map_read (between Equivalence a) (below lower (λ l. l.iff) (mark BothArrow ∷ rest))
-iff_after_imp lower a xs = Ok (a, xs)
+imp_after lower a xs = and_then (or_after lower a xs) (arrow_after lower Single)
 
 unfoldable pub iff_after : Option Level → FormulaSyntax → Reader Terminal FormulaSyntax
-iff_after lower a xs = and_then (imp_after lower a xs) (iff_after_imp lower)
+iff_after lower a xs = and_then (imp_after lower a xs) (arrow_after lower Double)
 
-unfoldable pub iff_with : Option Level → Reader Terminal FormulaSyntax
-iff_with lower xs = and_then (prefix_with lower xs) (iff_after lower)
+-- the form on the right of an arrow, whose first prefix was read
+abbrev pub right_after : ArrowKind → Option Level → FormulaSyntax → Reader Terminal FormulaSyntax
+right_after Single lower = imp_after lower
+right_after Double lower = iff_after lower
+
+unfoldable pub right_with : ArrowKind → Option Level → Reader Terminal FormulaSyntax
+right_with kind lower xs = and_then (prefix_with lower xs) (right_after kind lower)
 
 abbrev pub temporal_in : List Terminal → Option BinaryOperator
 temporal_in [] = None
@@ -269,8 +297,7 @@ unfoldable pub above : Option Level → Level
 above lower = record {
   term = term_with lower;
   prefix = prefix_with lower;
-  imp = imp_with lower;
-  iff = iff_with lower;
+  right = λ kind. right_with kind lower;
   formula =
       formula_with lower;
 }

@@ -10,6 +10,7 @@ use Rattle.tsl_reader.specs.declared.syntax.Word.{Word}
 use Rattle.tsl_reader.specs.declared.syntax.Word.TheVariants.{Assume, Guarantee, Always, Initially, True, False, X, F, G, U, W, R, A}
 use Rattle.tsl_terms.specs.declared.operator.UnaryOperator.{UnaryOperator}
 use Rattle.tsl_terms.specs.declared.operator.BinaryOperator.{BinaryOperator}
+use Rattle.tsl_terms.specs.declared.operator.ManyOperator.{ManyOperator}
 use Rattle.tsl_reader.specs.declared.syntax.Part.{Part}
 
 -- what the grammar tells apart: a name that is not reserved, a reserved word, or a symbol or number
@@ -67,9 +68,8 @@ mutual
     updated : (name : List ℕ) → TermSyntax → FormulaSyntax
     under : UnaryOperator → FormulaSyntax → FormulaSyntax
     between : BinaryOperator → FormulaSyntax → FormulaSyntax → FormulaSyntax
-    -- the operands of `&&`, and of `||`
-    all : FormulasSyntax → FormulaSyntax
-    any : FormulasSyntax → FormulaSyntax
+    -- the operands of `&&`, or of `||`
+    joined : ManyOperator → FormulasSyntax → FormulaSyntax
 
   pub data FormulasSyntax : Type 0 where
     no_formulas : FormulasSyntax
@@ -84,15 +84,10 @@ abbrev pub listed_formulas : List FormulaSyntax → FormulasSyntax
 listed_formulas [] = no_formulas
 listed_formulas (f ∷ fs) = more_formulas f (listed_formulas fs)
 
--- the operands of `&&` as one formula: one operand stands for itself
-abbrev pub all_of : FormulaSyntax → List FormulaSyntax → FormulaSyntax
-all_of f [] = f
-all_of f (g ∷ gs) = all (more_formulas f (listed_formulas (g ∷ gs)))
-
--- the operands of `||` as one formula
-abbrev pub any_of : FormulaSyntax → List FormulaSyntax → FormulaSyntax
-any_of f [] = f
-any_of f (g ∷ gs) = any (more_formulas f (listed_formulas (g ∷ gs)))
+-- the operands of `&&` or of `||` as one formula: one operand stands for itself
+abbrev pub join : ManyOperator → FormulaSyntax → List FormulaSyntax → FormulaSyntax
+join op f [] = f
+join op f (g ∷ gs) = joined op (more_formulas f (listed_formulas (g ∷ gs)))
 
 -- a section: to which list of formulas its formulas go
 pub record SectionSyntax : Type 0 where

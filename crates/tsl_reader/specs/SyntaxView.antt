@@ -1,6 +1,7 @@
 -- Internal: only private functions of this crate use these words.
 -- What the code reads, without where it lies in memory.
-use Rattle.std.specs.Prelude.{◌≡◌, ℕ, List, map, codes, Option, Some, None, option_map, Err, Vec, if◌then◌else◌}
+use Rattle.std.specs.Prelude.{◌≡◌, ℕ, List, map, codes, Option, Some, None, option_map, Result, Ok, Err, Vec, if◌then◌else◌}
+use Rattle.std.specs.Borrow.{Bor}
 use Rattle.std.specs.Str.{bytes_eq}
 use Rattle.std.specs.declared.alloc.Global.{Global}
 use Rattle.tsl_reader.specs.declared.fault.ReadFault.{ReadFault}
@@ -14,14 +15,14 @@ use Rattle.tsl_reader.specs.declared.trees.ReadTerm.TheVariants.{Alone, Applied}
 use Rattle.tsl_reader.specs.declared.trees.ReadTerms.{ReadTerms}
 use Rattle.tsl_reader.specs.declared.trees.ReadTerms.TheVariants.{Empty as NoTerms, More' as MoreTerms'}
 use Rattle.tsl_reader.specs.declared.trees.ReadFormula.{ReadFormula}
-use Rattle.tsl_reader.specs.declared.trees.ReadFormula.TheVariants.{True, False, Bare, Tested, Updated, Under', Between', All, Any}
+use Rattle.tsl_reader.specs.declared.trees.ReadFormula.TheVariants.{True, False, Bare, Tested, Updated, Under', Between', Joined}
 use Rattle.tsl_reader.specs.declared.trees.ReadFormulas.{ReadFormulas}
 use Rattle.tsl_reader.specs.declared.trees.ReadFormulas.TheVariants.{Empty, More'}
 use Rattle.tsl_reader.specs.declared.trees.ReadSection.{ReadSection}
 use Rattle.tsl_reader.specs.Syntax.{Terminal, free, word, mark, TermSyntax, alone, applied, TermsSyntax, no_terms, more_terms}
-use Rattle.tsl_reader.specs.Syntax.{FormulaSyntax, truth, falsehood, bare, tested, updated, under, between, all, any, FormulasSyntax}
+use Rattle.tsl_reader.specs.Syntax.{FormulaSyntax, truth, falsehood, bare, tested, updated, under, between, joined, FormulasSyntax}
 use Rattle.tsl_reader.specs.Syntax.{no_formulas, more_formulas, SectionSyntax}
-use Rattle.token_readers.specs.Readers.{Answer, form, deep}
+use Rattle.token_readers.specs.Readers.{Answer, Reader, form, deep}
 use Rattle.tsl_reader.specs.declared.terms.Arguments.{Arguments as LentArguments}
 use Rattle.tsl_reader.specs.declared.terms.Arguments.TheVariants.{Fresh, Empty as NoArguments, NameLast, TermLast}
 use Rattle.tsl_reader.specs.Reading.{Arguments, fresh, empty, name_last, term_last}
@@ -52,21 +53,36 @@ abbrev mutual
   formula_syntax (Updated name term) = updated name.now (term_syntax term)
   formula_syntax (Under' op p a) = under op (formula_syntax a)
   formula_syntax (Between' op p a q b) = between op (formula_syntax a) (formula_syntax b)
-  formula_syntax (All fs) = all (formulas_syntax fs)
-  formula_syntax (Any fs) = any (formulas_syntax fs)
+  formula_syntax (Joined op fs) = joined op (formulas_syntax fs)
 
   pub formulas_syntax : ReadFormulas → FormulasSyntax
   formulas_syntax Empty = no_formulas
   formulas_syntax (More' p head q rest) = more_formulas (formula_syntax head) (formulas_syntax rest)
 
+abbrev pub listed_syntax : Vec ReadFormula Global → List FormulaSyntax
+listed_syntax formulas = map formula_syntax formulas.items
+
 abbrev pub section_syntax : ReadSection → SectionSyntax
 section_syntax s = record { part = s.part; formulas = map formula_syntax s.formulas.items }
+
+abbrev pub sections_syntax : Vec ReadSection Global → List SectionSyntax
+sections_syntax sections = map section_syntax sections.items
 
 -- the fault is the answer's, unless memory ran out
 abbrev pub HasSyntaxFault : {V : Type 0} → Answer Terminal V → ReadFault → Type 0
 HasSyntaxFault answer (Form left) = answer ≡ Err (form left)
 HasSyntaxFault answer (Deep left) = answer ≡ Err (deep left)
 HasSyntaxFault answer NoMemory = Unit {0}
+
+abbrev pub FormulaReader : Type 0
+FormulaReader = Reader Terminal FormulaSyntax
+
+-- The code's answer is what the reader gives for these terminals: what was read and the terminals after it, or the first
+-- fault, unless memory ran out.
+abbrev pub Reads : {U V : Type 0} → (U → V) → Reader Terminal V → List LentTerminal →
+    Result (U × Bor (List LentTerminal)) ReadFault → Type 0
+Reads view reader xs (Ok read) = reader (terminals_view xs) ≡ Ok (view read.0, terminals_view read.1.now)
+Reads view reader xs (Err fault) = HasSyntaxFault (reader (terminals_view xs)) fault
 
 -- the arguments of a name so far
 abbrev pub arguments_view : LentArguments → Arguments

@@ -1,22 +1,25 @@
 //! Reading formulas.
 
-ghost use Rattle.std.specs.Prelude.{◌≡◌, ◌<◌, ◌≤◌, length, map, Option, Some, None, Ok, IfOk, IfErr, IfSome, IfNone};
-ghost use Rattle.tsl_reader.specs.Syntax.{FormulaSyntax, between, all_of, any_of};
-ghost use Rattle.tsl_reader.specs.Forms.{reader_of, form_with};
+ghost use Rattle.std.specs.Prelude.{◌≡◌, map, option_map, IfOk};
 ghost use Rattle.token_readers.specs.Readers.{below, members};
-ghost use Rattle.tsl_reader.specs.Reading.{Level, lower, bracketed_formula, atom_named, update_with, atom_with, unary_in, prefix_with};
-ghost use Rattle.tsl_reader.specs.Reading.{conjunct, and_after, and_with, disjunct, or_after_and, or_after, imp_after_or, imp_after};
-ghost use Rattle.tsl_reader.specs.Reading.{iff_after_imp, iff_after, temporal_in, formula_after};
-ghost use Rattle.tsl_reader.specs.SyntaxView.{terminals_view, arguments_syntax, formula_syntax, HasSyntaxFault};
+ghost use Rattle.tsl_reader.specs.Syntax.{between, join};
+ghost use Rattle.tsl_reader.specs.Forms.{reader_of, form_with};
+ghost use Rattle.tsl_reader.specs.Reading.{lower, bracketed_formula, atom_named, update_with};
+ghost use Rattle.tsl_reader.specs.Reading.{atom_with, unary_in, prefix_with};
+ghost use Rattle.tsl_reader.specs.Reading.{further, operand_with, chain_after, begins_with_arrow};
+ghost use Rattle.tsl_reader.specs.Reading.{operator_of, arrow_after};
+ghost use Rattle.tsl_reader.specs.Reading.{right_after, temporal_in, formula_after};
+ghost use Rattle.tsl_reader.specs.SyntaxView.{terminals_view, arguments_syntax, formula_syntax};
+ghost use Rattle.tsl_reader.specs.SyntaxView.{listed_syntax, FormulaReader, Reads};
 
 use crate::fault::ReadFault;
-use crate::syntax::{Closer, Word};
+use crate::syntax::{ArrowKind, Closer, Word};
 use crate::terminals::{Left, Terminal};
 use crate::terms::{Answer, after_name, close, level_below, term_with};
 use crate::trees::{ReadFormula, ReadFormulas, ReadTerm, ReadTerms};
 use sequence::NoMemory;
 use std::alloc::Global;
-use tsl_terms::{BinaryOperator, UnaryOperator};
+use tsl_terms::{BinaryOperator, ManyOperator, UnaryOperator};
 use tsl_text::TokenKind;
 
 /// A form of the grammar that begins with a prefix.
@@ -24,10 +27,8 @@ use tsl_text::TokenKind;
 pub(crate) enum Form {
     /// A prefix and nothing else.
     Prefix,
-    /// The right side of an implication.
-    Implication,
-    /// The right side of an equivalence.
-    Equivalence,
+    /// The right side of an arrow.
+    Right(ArrowKind),
     /// A whole formula.
     Formula,
 }
@@ -57,31 +58,42 @@ fn temporal_in(xs: &[Terminal]) -> Option<BinaryOperator>
     }
 }
 
-/// The terminals after `&&` at the front.
-#[tactic(auto, unfolding(crate::specs::Reading::conjunct))]
-fn after_and<'a, 'b>(xs: &'b [Terminal<'a>]) -> Option<&'b [Terminal<'a>]>
-    ensures some { IfSome result (λ rest. (l : Option Level) →
-        conjunct l (terminals_view xs.now) ≡ Some (prefix_with l (terminals_view rest.now))) }
-    ensures none { IfNone result ((l : Option Level) → conjunct l (terminals_view xs.now) ≡ None) }
-    ensures shorter { IfSome result (λ rest. length rest.now < length xs.now) }
+/// The terminals after the operator at the front.
+#[tactic(auto, unfolding(crate::specs::Reading::further, crate::specs::Reading::further_from))]
+fn after_operator<'a, 'b>(op: ManyOperator, xs: &'b [Terminal<'a>]) -> Option<&'b [Terminal<'a>]>
+    ensures { (operand : FormulaReader) →
+        further op operand (terminals_view xs.now)
+        ≡ option_map (λ rest. operand (terminals_view rest.now)) result }
 {
-    match xs {
-        [Terminal::Mark(TokenKind::And), rest @ ..] => Some(rest),
-        _ => None,
+    match op {
+        ManyOperator::Conjunction => match xs {
+            [Terminal::Mark(TokenKind::And), rest @ ..] => Some(rest),
+            _ => None,
+        },
+        ManyOperator::Disjunction => match xs {
+            [Terminal::Mark(TokenKind::Or), rest @ ..] => Some(rest),
+            _ => None,
+        },
     }
 }
 
-/// The terminals after `||` at the front.
-#[tactic(auto, unfolding(crate::specs::Reading::disjunct))]
-fn after_or<'a, 'b>(xs: &'b [Terminal<'a>]) -> Option<&'b [Terminal<'a>]>
-    ensures some { IfSome result (λ rest. (l : Option Level) →
-        disjunct l (terminals_view xs.now) ≡ Some (and_with l (terminals_view rest.now))) }
-    ensures none { IfNone result ((l : Option Level) → disjunct l (terminals_view xs.now) ≡ None) }
-    ensures shorter { IfSome result (λ rest. length rest.now < length xs.now) }
+/// Whether this arrow stands at the front.
+fn begins_with_arrow(kind: ArrowKind, xs: &[Terminal]) -> bool
+    ensures { result ≡ begins_with_arrow kind (terminals_view xs.now) }
 {
-    match xs {
-        [Terminal::Mark(TokenKind::Or), rest @ ..] => Some(rest),
-        _ => None,
+    match kind {
+        ArrowKind::Single => matches!(xs, [Terminal::Mark(TokenKind::Arrow), ..]),
+        ArrowKind::Double => matches!(xs, [Terminal::Mark(TokenKind::BothArrow), ..]),
+    }
+}
+
+/// The operator that an arrow stands for.
+fn operator_of(kind: ArrowKind) -> BinaryOperator
+    ensures { result ≡ operator_of kind }
+{
+    match kind {
+        ArrowKind::Single => BinaryOperator::Implication,
+        ArrowKind::Double => BinaryOperator::Equivalence,
     }
 }
 
@@ -91,7 +103,8 @@ fn atom_named<'a>(
     name: &'a [u8],
     arguments: Option<Vec<ReadTerm<'a>>>,
 ) -> Result<ReadFormula<'a>, NoMemory>
-    ensures { IfOk result (λ formula. formula_syntax formula ≡ atom_named name.now (arguments_syntax arguments.entry)) }
+    ensures { IfOk result (λ formula.
+        formula_syntax formula ≡ atom_named name.now (arguments_syntax arguments.entry)) }
 {
     match arguments {
         None => Ok(ReadFormula::Bare(name)),
@@ -112,36 +125,21 @@ fn between<'a>(
     Ok(ReadFormula::Between(op, Box::new(alloc, left)?, Box::new(alloc, right)?))
 }
 
-/// The operands of `&&` as one formula: one operand stands for itself.
-fn all_of<'a>(
+/// The operands of `&&` or of `||` as one formula: one operand stands for itself.
+fn join<'a>(
     alloc: Global,
+    op: ManyOperator,
     first: ReadFormula<'a>,
     others: Vec<ReadFormula<'a>>,
 ) -> Result<ReadFormula<'a>, NoMemory>
     ensures { IfOk result (λ formula. formula_syntax formula
-        ≡ all_of (formula_syntax first.entry) (map formula_syntax others.entry.items)) }
+        ≡ join op (formula_syntax first.entry) (map formula_syntax others.entry.items)) }
 {
     if others.is_empty() {
         return Ok(first);
     }
-    let others = ReadFormulas::from_vec(alloc, others)?;
-    Ok(ReadFormula::All(ReadFormulas::More(Box::new(alloc, first)?, Box::new(alloc, others)?)))
-}
-
-/// The operands of `||` as one formula: one operand stands for itself.
-fn any_of<'a>(
-    alloc: Global,
-    first: ReadFormula<'a>,
-    others: Vec<ReadFormula<'a>>,
-) -> Result<ReadFormula<'a>, NoMemory>
-    ensures { IfOk result (λ formula. formula_syntax formula
-        ≡ any_of (formula_syntax first.entry) (map formula_syntax others.entry.items)) }
-{
-    if others.is_empty() {
-        return Ok(first);
-    }
-    let others = ReadFormulas::from_vec(alloc, others)?;
-    Ok(ReadFormula::Any(ReadFormulas::More(Box::new(alloc, first)?, Box::new(alloc, others)?)))
+    let others = Box::new(alloc, ReadFormulas::from_vec(alloc, others)?)?;
+    Ok(ReadFormula::Joined(op, ReadFormulas::More(Box::new(alloc, first)?, others)))
 }
 
 /// An update after its opening bracket.
@@ -151,10 +149,7 @@ fn update_with<'a, 'b>(
     room: u32,
     xs: &'b [Terminal<'a>],
 ) -> Answer<'a, 'b, ReadFormula<'a>>
-    ensures ok { IfOk result (λ read. update_with (lower room) (terminals_view xs.now)
-        ≡ Ok (formula_syntax read.0, terminals_view read.1.now)) }
-    ensures fault { IfErr result (HasSyntaxFault (update_with (lower room) (terminals_view xs.now))) }
-    ensures shorter { IfOk result (λ read. length read.1.now ≤ length xs.now) }
+    ensures { Reads formula_syntax (update_with (lower room)) xs.now result }
 {
     match xs {
         [
@@ -163,7 +158,7 @@ fn update_with<'a, 'b>(
             rest @ ..,
         ] => {
             let (term, rest) = term_with(alloc, room, rest)?;
-            let rest = close(Closer::Square, rest)?;
+            let (_, rest) = close(Closer::Square, rest)?;
             Ok((ReadFormula::Updated(name, term), rest))
         }
         [Terminal::Free(_), rest @ ..] => Err(ReadFault::Form(rest.len())),
@@ -180,10 +175,7 @@ fn form_below<'a, 'b>(
     form: Form,
     xs: &'b [Terminal<'a>],
 ) -> Answer<'a, 'b, ReadFormula<'a>>
-    ensures ok { IfOk result (λ read. below (lower room) (reader_of form) (terminals_view xs.now)
-        ≡ Ok (formula_syntax read.0, terminals_view read.1.now)) }
-    ensures fault { IfErr result (HasSyntaxFault (below (lower room) (reader_of form) (terminals_view xs.now))) }
-    ensures shorter { IfOk result (λ read. length read.1.now < length xs.now) }
+    ensures { Reads formula_syntax (below (lower room) (reader_of form)) xs.now result }
 {
     let below = level_below(room, xs)?;
     match xs {
@@ -194,23 +186,19 @@ fn form_below<'a, 'b>(
 
 /// A form above this level.
 #[cycle(read)]
-#[tactic(auto, unfolding(crate::specs::Reading::imp_with, crate::specs::Reading::iff_with, crate::specs::Reading::formula_with))]
+#[tactic(auto, unfolding(crate::specs::Reading::right_with, crate::specs::Reading::formula_with))]
 pub(crate) fn form_with<'a, 'b>(
     alloc: Global,
     room: u32,
     form: Form,
     xs: &'b [Terminal<'a>],
 ) -> Answer<'a, 'b, ReadFormula<'a>>
-    ensures ok { IfOk result (λ read. form_with form (lower room) (terminals_view xs.now)
-        ≡ Ok (formula_syntax read.0, terminals_view read.1.now)) }
-    ensures fault { IfErr result (HasSyntaxFault (form_with form (lower room) (terminals_view xs.now))) }
-    ensures shorter { IfOk result (λ read. length read.1.now < length xs.now) }
+    ensures { Reads formula_syntax (form_with form (lower room)) xs.now result }
 {
     let (first, rest) = prefix_with(alloc, room, xs)?;
     match form {
         Form::Prefix => Ok((first, rest)),
-        Form::Implication => imp_after(alloc, room, first, rest),
-        Form::Equivalence => iff_after(alloc, room, first, rest),
+        Form::Right(kind) => right_after(alloc, room, kind, first, rest),
         Form::Formula => formula_after(alloc, room, first, rest),
     }
 }
@@ -222,13 +210,10 @@ fn bracketed_formula<'a, 'b>(
     room: u32,
     xs: &'b [Terminal<'a>],
 ) -> Answer<'a, 'b, ReadFormula<'a>>
-    ensures ok { IfOk result (λ read. below (lower room) bracketed_formula (terminals_view xs.now)
-        ≡ Ok (formula_syntax read.0, terminals_view read.1.now)) }
-    ensures fault { IfErr result (HasSyntaxFault (below (lower room) bracketed_formula (terminals_view xs.now))) }
-    ensures shorter { IfOk result (λ read. length read.1.now < length xs.now) }
+    ensures { Reads formula_syntax (below (lower room) bracketed_formula) xs.now result }
 {
     let (formula, rest) = form_below(alloc, room, Form::Formula, xs)?;
-    let rest = close(Closer::Round, rest)?;
+    let (_, rest) = close(Closer::Round, rest)?;
     Ok((formula, rest))
 }
 
@@ -240,10 +225,7 @@ fn atom_with<'a, 'b>(
     room: u32,
     xs: &'b [Terminal<'a>],
 ) -> Answer<'a, 'b, ReadFormula<'a>>
-    ensures ok { IfOk result (λ read. atom_with (lower room) (terminals_view xs.now)
-        ≡ Ok (formula_syntax read.0, terminals_view read.1.now)) }
-    ensures fault { IfErr result (HasSyntaxFault (atom_with (lower room) (terminals_view xs.now))) }
-    ensures shorter { IfOk result (λ read. length read.1.now < length xs.now) }
+    ensures { Reads formula_syntax (atom_with (lower room)) xs.now result }
 {
     match xs {
         [Terminal::Word(Word::True), rest @ ..] => Ok((ReadFormula::True, rest)),
@@ -267,10 +249,7 @@ fn prefix_with<'a, 'b>(
     room: u32,
     xs: &'b [Terminal<'a>],
 ) -> Answer<'a, 'b, ReadFormula<'a>>
-    ensures ok { IfOk result (λ read. prefix_with (lower room) (terminals_view xs.now)
-        ≡ Ok (formula_syntax read.0, terminals_view read.1.now)) }
-    ensures fault { IfErr result (HasSyntaxFault (prefix_with (lower room) (terminals_view xs.now))) }
-    ensures shorter { IfOk result (λ read. length read.1.now < length xs.now) }
+    ensures { Reads formula_syntax (prefix_with (lower room)) xs.now result }
 {
     match unary_in(xs) {
         Some(op) => {
@@ -281,188 +260,106 @@ fn prefix_with<'a, 'b>(
     }
 }
 
-/// The further operands of `&&`.
-#[cycle(read)]
-fn conjuncts<'a, 'b>(
-    alloc: Global,
-    room: u32,
-    xs: &'b [Terminal<'a>],
-) -> Answer<'a, 'b, Vec<ReadFormula<'a>>>
-    ensures ok { IfOk result (λ read. members (conjunct (lower room)) (terminals_view xs.now)
-        ≡ Ok (map formula_syntax read.0.items, terminals_view read.1.now)) }
-    ensures fault { IfErr result (HasSyntaxFault (members (conjunct (lower room)) (terminals_view xs.now))) }
-    ensures shorter { IfOk result (λ read. length read.1.now ≤ length xs.now) }
-{
-    let mut operands = Vec::new(alloc);
-    let mut left = Left { terminals: xs };
-    while let Some(rest) = after_and(left.terminals) {
-        let (operand, rest) = prefix_with(alloc, room, rest)?;
-        operands.push(operand)?;
-        left = Left { terminals: rest };
-    }
-    Ok((operands, left.terminals))
-}
-
-/// The operands of `&&` after the first one.
-#[cycle(read)]
-#[tactic(auto, unfolding(crate::specs::Reading::and_after))]
-fn and_after<'a, 'b>(
-    alloc: Global,
-    room: u32,
-    first: ReadFormula<'a>,
-    xs: &'b [Terminal<'a>],
-) -> Answer<'a, 'b, ReadFormula<'a>>
-    ensures ok { IfOk result (λ read. and_after (lower room) (formula_syntax first.entry) (terminals_view xs.now)
-        ≡ Ok (formula_syntax read.0, terminals_view read.1.now)) }
-    ensures fault { IfErr result (HasSyntaxFault (and_after (lower room) (formula_syntax first.entry) (terminals_view xs.now))) }
-    ensures shorter { IfOk result (λ read. length read.1.now ≤ length xs.now) }
-{
-    let (operands, rest) = conjuncts(alloc, room, xs)?;
-    let formula = all_of(alloc, first, operands)?;
-    Ok((formula, rest))
-}
-
-/// Operands of `&&`, from the first one on.
+/// An operand of `&&`, which is a prefix, or of `||`.
 #[cycle(read)]
 #[tactic(auto, unfolding(crate::specs::Reading::and_with))]
-fn and_with<'a, 'b>(
+fn operand_with<'a, 'b>(
     alloc: Global,
     room: u32,
+    op: ManyOperator,
     xs: &'b [Terminal<'a>],
 ) -> Answer<'a, 'b, ReadFormula<'a>>
-    ensures ok { IfOk result (λ read. and_with (lower room) (terminals_view xs.now)
-        ≡ Ok (formula_syntax read.0, terminals_view read.1.now)) }
-    ensures fault { IfErr result (HasSyntaxFault (and_with (lower room) (terminals_view xs.now))) }
-    ensures shorter { IfOk result (λ read. length read.1.now < length xs.now) }
+    ensures { Reads formula_syntax (operand_with op (lower room)) xs.now result }
 {
     let (first, rest) = prefix_with(alloc, room, xs)?;
-    and_after(alloc, room, first, rest)
+    match op {
+        ManyOperator::Conjunction => Ok((first, rest)),
+        ManyOperator::Disjunction => {
+            chain_after(alloc, room, ManyOperator::Conjunction, first, rest)
+        }
+    }
 }
 
-/// The further operands of `||`.
+/// The further operands.
 #[cycle(read)]
-fn disjuncts<'a, 'b>(
+fn operands<'a, 'b>(
     alloc: Global,
     room: u32,
+    op: ManyOperator,
     xs: &'b [Terminal<'a>],
 ) -> Answer<'a, 'b, Vec<ReadFormula<'a>>>
-    ensures ok { IfOk result (λ read. members (disjunct (lower room)) (terminals_view xs.now)
-        ≡ Ok (map formula_syntax read.0.items, terminals_view read.1.now)) }
-    ensures fault { IfErr result (HasSyntaxFault (members (disjunct (lower room)) (terminals_view xs.now))) }
-    ensures shorter { IfOk result (λ read. length read.1.now ≤ length xs.now) }
+    ensures { Reads listed_syntax
+        (members (further op (operand_with op (lower room)))) xs.now result }
 {
     let mut operands = Vec::new(alloc);
     let mut left = Left { terminals: xs };
-    while let Some(rest) = after_or(left.terminals) {
-        let (operand, rest) = and_with(alloc, room, rest)?;
+    while let Some(rest) = after_operator(op, left.terminals) {
+        let (operand, rest) = operand_with(alloc, room, op, rest)?;
         operands.push(operand)?;
         left = Left { terminals: rest };
     }
     Ok((operands, left.terminals))
 }
 
-/// A form of `||` whose first prefix was read.
+/// The operands of `&&` or of `||` after the first one.
 #[cycle(read)]
-#[tactic(auto, unfolding(crate::specs::Reading::or_after, crate::specs::Reading::or_after_and))]
-fn or_after<'a, 'b>(
+#[tactic(auto, unfolding(crate::specs::Reading::chain_after))]
+fn chain_after<'a, 'b>(
     alloc: Global,
     room: u32,
+    op: ManyOperator,
     first: ReadFormula<'a>,
     xs: &'b [Terminal<'a>],
 ) -> Answer<'a, 'b, ReadFormula<'a>>
-    ensures ok { IfOk result (λ read. or_after (lower room) (formula_syntax first.entry) (terminals_view xs.now)
-        ≡ Ok (formula_syntax read.0, terminals_view read.1.now)) }
-    ensures fault { IfErr result (HasSyntaxFault (or_after (lower room) (formula_syntax first.entry) (terminals_view xs.now))) }
-    ensures shorter { IfOk result (λ read. length read.1.now ≤ length xs.now) }
+    ensures { Reads formula_syntax
+        (chain_after op (operand_with op (lower room)) (formula_syntax first.entry)) xs.now result }
 {
-    let (operand, rest) = and_after(alloc, room, first, xs)?;
-    let (operands, rest) = disjuncts(alloc, room, rest)?;
-    let formula = any_of(alloc, operand, operands)?;
+    let (operands, rest) = operands(alloc, room, op, xs)?;
+    let formula = join(alloc, op, first, operands)?;
     Ok((formula, rest))
 }
 
-/// `->` and its right side, where they follow.
+/// An arrow and its right side, where they follow.
 #[cycle(read)]
-#[tactic(auto, unfolding(crate::specs::Reading::imp_after_or))]
-fn imp_after_or<'a, 'b>(
+#[tactic(auto, unfolding(crate::specs::Reading::arrow_after, crate::specs::Reading::arrow_from))]
+fn arrow_after<'a, 'b>(
     alloc: Global,
     room: u32,
+    kind: ArrowKind,
     left: ReadFormula<'a>,
     xs: &'b [Terminal<'a>],
 ) -> Answer<'a, 'b, ReadFormula<'a>>
-    ensures ok { IfOk result (λ read. imp_after_or (lower room) (formula_syntax left.entry) (terminals_view xs.now)
-        ≡ Ok (formula_syntax read.0, terminals_view read.1.now)) }
-    ensures fault { IfErr result (HasSyntaxFault (imp_after_or (lower room) (formula_syntax left.entry) (terminals_view xs.now))) }
-    ensures shorter { IfOk result (λ read. length read.1.now ≤ length xs.now) }
+    ensures { Reads formula_syntax
+        (arrow_after (lower room) kind (formula_syntax left.entry)) xs.now result }
 {
-    match xs {
-        [Terminal::Mark(TokenKind::Arrow), ..] => {
-            let (right, rest) = form_below(alloc, room, Form::Implication, xs)?;
-            let formula = between(alloc, BinaryOperator::Implication, left, right)?;
-            Ok((formula, rest))
-        }
-        _ => Ok((left, xs)),
+    if !begins_with_arrow(kind, xs) {
+        return Ok((left, xs));
     }
+    let (right, rest) = form_below(alloc, room, Form::Right(kind), xs)?;
+    let formula = between(alloc, operator_of(kind), left, right)?;
+    Ok((formula, rest))
 }
 
-/// A form of `->` whose first prefix was read.
+/// The form on the right of an arrow, whose first prefix was read.
 #[cycle(read)]
-#[tactic(auto, unfolding(crate::specs::Reading::imp_after))]
-fn imp_after<'a, 'b>(
+#[tactic(auto, unfolding(crate::specs::Reading::or_after, crate::specs::Reading::imp_after, crate::specs::Reading::iff_after))]
+fn right_after<'a, 'b>(
     alloc: Global,
     room: u32,
+    kind: ArrowKind,
     first: ReadFormula<'a>,
     xs: &'b [Terminal<'a>],
 ) -> Answer<'a, 'b, ReadFormula<'a>>
-    ensures ok { IfOk result (λ read. imp_after (lower room) (formula_syntax first.entry) (terminals_view xs.now)
-        ≡ Ok (formula_syntax read.0, terminals_view read.1.now)) }
-    ensures fault { IfErr result (HasSyntaxFault (imp_after (lower room) (formula_syntax first.entry) (terminals_view xs.now))) }
-    ensures shorter { IfOk result (λ read. length read.1.now ≤ length xs.now) }
+    ensures { Reads formula_syntax
+        (right_after kind (lower room) (formula_syntax first.entry)) xs.now result }
 {
-    let (left, rest) = or_after(alloc, room, first, xs)?;
-    imp_after_or(alloc, room, left, rest)
-}
-
-/// `<->` and its right side, where they follow.
-#[cycle(read)]
-#[tactic(auto, unfolding(crate::specs::Reading::iff_after_imp))]
-fn iff_after_imp<'a, 'b>(
-    alloc: Global,
-    room: u32,
-    left: ReadFormula<'a>,
-    xs: &'b [Terminal<'a>],
-) -> Answer<'a, 'b, ReadFormula<'a>>
-    ensures ok { IfOk result (λ read. iff_after_imp (lower room) (formula_syntax left.entry) (terminals_view xs.now)
-        ≡ Ok (formula_syntax read.0, terminals_view read.1.now)) }
-    ensures fault { IfErr result (HasSyntaxFault (iff_after_imp (lower room) (formula_syntax left.entry) (terminals_view xs.now))) }
-    ensures shorter { IfOk result (λ read. length read.1.now ≤ length xs.now) }
-{
-    match xs {
-        [Terminal::Mark(TokenKind::BothArrow), ..] => {
-            let (right, rest) = form_below(alloc, room, Form::Equivalence, xs)?;
-            let formula = between(alloc, BinaryOperator::Equivalence, left, right)?;
-            Ok((formula, rest))
-        }
-        _ => Ok((left, xs)),
+    let (formula, rest) = chain_after(alloc, room, ManyOperator::Conjunction, first, xs)?;
+    let (formula, rest) = chain_after(alloc, room, ManyOperator::Disjunction, formula, rest)?;
+    let (formula, rest) = arrow_after(alloc, room, ArrowKind::Single, formula, rest)?;
+    match kind {
+        ArrowKind::Single => Ok((formula, rest)),
+        ArrowKind::Double => arrow_after(alloc, room, ArrowKind::Double, formula, rest),
     }
-}
-
-/// A form of `<->` whose first prefix was read.
-#[cycle(read)]
-#[tactic(auto, unfolding(crate::specs::Reading::iff_after))]
-fn iff_after<'a, 'b>(
-    alloc: Global,
-    room: u32,
-    first: ReadFormula<'a>,
-    xs: &'b [Terminal<'a>],
-) -> Answer<'a, 'b, ReadFormula<'a>>
-    ensures ok { IfOk result (λ read. iff_after (lower room) (formula_syntax first.entry) (terminals_view xs.now)
-        ≡ Ok (formula_syntax read.0, terminals_view read.1.now)) }
-    ensures fault { IfErr result (HasSyntaxFault (iff_after (lower room) (formula_syntax first.entry) (terminals_view xs.now))) }
-    ensures shorter { IfOk result (λ read. length read.1.now ≤ length xs.now) }
-{
-    let (left, rest) = imp_after(alloc, room, first, xs)?;
-    iff_after_imp(alloc, room, left, rest)
 }
 
 /// A whole formula whose first prefix was read.
@@ -474,13 +371,11 @@ fn formula_after<'a, 'b>(
     first: ReadFormula<'a>,
     xs: &'b [Terminal<'a>],
 ) -> Answer<'a, 'b, ReadFormula<'a>>
-    ensures ok { IfOk result (λ read. formula_after (lower room) (formula_syntax first.entry) (terminals_view xs.now)
-        ≡ Ok (formula_syntax read.0, terminals_view read.1.now)) }
-    ensures fault { IfErr result (HasSyntaxFault (formula_after (lower room) (formula_syntax first.entry) (terminals_view xs.now))) }
-    ensures shorter { IfOk result (λ read. length read.1.now ≤ length xs.now) }
+    ensures { Reads formula_syntax
+        (formula_after (lower room) (formula_syntax first.entry)) xs.now result }
 {
     let Some(op) = temporal_in(xs) else {
-        return iff_after(alloc, room, first, xs);
+        return right_after(alloc, room, ArrowKind::Double, first, xs);
     };
     match xs {
         [] => Err(ReadFault::Form(0)),

@@ -1,6 +1,7 @@
 //! Laws of the definitions that the contracts cite.
 
-ghost use Rattle.std.specs.Prelude.{◌≡◌, ℕ, suc, ◌+◌, List, [], ◌∷◌, ◌++◌, length, map, Result, Ok, Err};
+ghost use Rattle.std.specs.Prelude.{◌≡◌, ℕ, suc, ◌+◌, List, [], ◌∷◌, ◌++◌, length, map, Result, Ok};
+ghost use Rattle.std.specs.Prelude.{Err};
 ghost use Rattle.tsl_text.specs.declared.Token.{Token};
 ghost use Rattle.tsl_text.specs.Lexeme.{token_text};
 ghost use Rattle.tsl_terms.specs.SpecTree.{SpecTree};
@@ -11,7 +12,8 @@ ghost use Rattle.tsl_reader.specs.Grammar.{AreSections};
 ghost use Rattle.token_readers.specs.Readers.{form, deep};
 ghost use Rattle.tsl_reader.specs.Reading.{sections};
 ghost use Rattle.tsl_reader.specs.Naming.{written_uses};
-ghost use Rattle.tsl_reader.specs.Spells.{Spells, Derives, SomeTextBegins, NoTextBegins, IsNoText, name_tokens, HasCause, IsOfText};
+ghost use Rattle.tsl_reader.specs.Spells.{Spells, Derives, SomeTextBegins, NoTextBegins, IsNoText};
+ghost use Rattle.tsl_reader.specs.Spells.{name_tokens, HasCause, IsOfText};
 ghost use Rattle.tsl_reader.specs.Spells.{SpellsNoSpec};
 
 /// A text spells at most one specification.
@@ -21,8 +23,10 @@ pub fn one_specification()
 
 /// A text has at most one cause of refusal, and none where it spells a specification.
 pub fn one_cause()
-    ensures one { (text : List ℕ) (a b : SpecError) → IsOfText a → IsOfText b → HasCause text a → HasCause text b → a ≡ b }
-    ensures none { (text : List ℕ) (error : SpecError) → HasCause text error → SpellsNoSpec text error }
+    ensures one { (text : List ℕ) (a b : SpecError) → IsOfText a → IsOfText b → HasCause text a →
+        HasCause text b → a ≡ b }
+    ensures none { (text : List ℕ) (error : SpecError) → HasCause text error →
+        SpellsNoSpec text error }
 {}
 
 /// A specification that a text spells has distinct names that may be written, and its formulas fit them.
@@ -40,7 +44,8 @@ pub fn grammar_has_one_reading()
 
 /// The reading functions read exactly the texts of the grammar.
 pub fn reading_meets_the_grammar()
-    ensures derived { (room : ℕ) (xs : List Terminal) (a : List SectionSyntax) (rest : List Terminal)
+    ensures derived { (room : ℕ) (xs : List Terminal) (a : List SectionSyntax)
+        (rest : List Terminal)
         → sections room xs ≡ Ok (a, rest) → (rest ≡ []) × AreSections room xs a }
     ensures read { (room : ℕ) (xs : List Terminal) (a : List SectionSyntax) → AreSections room xs a
         → sections room xs ≡ Ok (a, []) }
@@ -76,5 +81,6 @@ pub fn deep_faults_are_the_first()
 /// what it derives from.
 pub fn names_stand_in_order()
     ensures { (text : List ℕ) (tokens : List Token) (a : List SectionSyntax) → Derives text tokens a
-        → map (λ name. name.text) (written_uses a) ≡ map (token_text text) (name_tokens text tokens) }
+        → map (λ name. name.text) (written_uses a)
+        ≡ map (token_text text) (name_tokens text tokens) }
 {}

@@ -15,7 +15,8 @@ pub(crate) fn written_names<'a>(
     alloc: Global,
     uses: &[ReadUse<'a>],
 ) -> Result<Vec<NameUse<'a>>, NoMemory>
-    ensures { IfOk result (λ list. map name_use list.items ≡ map (λ u. u.name) (map read_use uses.now)) }
+    ensures { IfOk result (λ list.
+        map name_use list.items ≡ map (λ u. u.name) (map read_use uses.now)) }
 {
     let mut list = Vec::new(alloc);
     for usage in uses {
@@ -30,7 +31,8 @@ pub(crate) fn numbered_names<'a>(
     alloc: Global,
     uses: &[ReadUse<'a>],
 ) -> Result<Vec<NameUse<'a>>, NoMemory>
-    ensures { IfOk result (λ list. map name_use list.items ≡ flat_map named_by (map read_use uses.now)) }
+    ensures { IfOk result (λ list.
+        map name_use list.items ≡ flat_map named_by (map read_use uses.now)) }
 {
     let mut list = Vec::new(alloc);
     for usage in uses {
@@ -41,7 +43,9 @@ pub(crate) fn numbered_names<'a>(
 
 /// Adds the names that get numbers by a use.
 fn add_names<'a>(list: &mut Vec<NameUse<'a>>, usage: &ReadUse<'a>) -> Result<(), NoMemory>
-    ensures { OnOk result (map name_use list.new.items ≡ map name_use list.old.items ++ named_by (read_use usage.now)) }
+    ensures { OnOk result
+        (map name_use list.new.items ≡ map name_use list.old.items
+        ++ named_by (read_use usage.now)) }
 {
     list.push(usage.usage)?;
     if usage.is_tested {

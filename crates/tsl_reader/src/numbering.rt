@@ -4,19 +4,22 @@ ghost use Rattle.std.specs.Prelude.{◌≡◌, ◌++◌, Some, map, option_map, 
 ghost use Rattle.std.specs.Option.{is_some};
 ghost use Rattle.tsl_terms.specs.Name.{number_of, question};
 ghost use Rattle.tsl_terms.specs.TermTree.{term_tree, term_trees};
-ghost use Rattle.tsl_terms.specs.FormulaTree.{formula_tree, formula_trees, member_trees, unary, binary};
-ghost use Rattle.tsl_reader.specs.Naming.{numbered_term, numbered_terms, numbered_formula, numbered_members, numbered_list, same_part};
+ghost use Rattle.tsl_terms.specs.FormulaTree.{formula_tree, formula_trees, member_trees, unary};
+ghost use Rattle.tsl_terms.specs.FormulaTree.{binary, many};
+ghost use Rattle.tsl_reader.specs.Naming.{numbered_term, numbered_terms, numbered_formula};
+ghost use Rattle.tsl_reader.specs.Naming.{numbered_members, numbered_list, same_part};
 ghost use Rattle.tsl_reader.specs.Naming.{formulas_of_part};
 ghost use Rattle.tsl_reader.specs.Syntax.{bare};
 ghost use Rattle.tsl_reader.specs.Numbering.{numbered_after, formulas_if};
-ghost use Rattle.tsl_reader.specs.SyntaxView.{term_syntax, terms_syntax, formula_syntax, formulas_syntax, section_syntax};
+ghost use Rattle.tsl_reader.specs.SyntaxView.{term_syntax, terms_syntax, formula_syntax};
+ghost use Rattle.tsl_reader.specs.SyntaxView.{formulas_syntax, section_syntax};
 
 use crate::syntax::Part;
 use crate::trees::{ReadFormula, ReadFormulas, ReadSection, ReadTerm, ReadTerms};
 use sequence::NoMemory;
 use std::alloc::Global;
 use tsl_terms::{
-    BinaryOperator, Formula, FormulaList, Names, Probe, Term, TermList, UnaryOperator,
+    BinaryOperator, Formula, FormulaList, ManyOperator, Names, Probe, Term, TermList, UnaryOperator,
 };
 
 /// The number of the name with a text.
@@ -65,7 +68,8 @@ fn numbered_terms(alloc: Global, names: &Names, terms: &ReadTerms) -> Result<Ter
 fn numbered_bare(alloc: Global, names: &Names, name: &[u8]) -> Result<Formula, NoMemory>
     requires signal { IsTrue (is_some (number_of names.now name.now)) }
     requires test { IsTrue (is_some (number_of names.now question)) }
-    ensures { IfOk result (λ tree. numbered_formula names.now (bare name.now) ≡ Some (formula_tree tree)) }
+    ensures { IfOk result (λ tree.
+        numbered_formula names.now (bare name.now) ≡ Some (formula_tree tree)) }
 {
     let signal = Box::new(alloc, Term::Signal(number_of(names, name)))?;
     Ok(Formula::Test(Probe {
@@ -108,6 +112,16 @@ fn between(
     })
 }
 
+/// The operands of `&&` or of `||`.
+fn joined(op: ManyOperator, members: FormulaList) -> Formula
+    ensures { formula_tree result ≡ many op (formula_trees members) }
+{
+    match op {
+        ManyOperator::Conjunction => Formula::All(members),
+        ManyOperator::Disjunction => Formula::Any(members),
+    }
+}
+
 /// A formula with numbers. An `Err` says that memory ran out.
 #[cycle(number_formulas)]
 fn numbered_formula(
@@ -117,7 +131,8 @@ fn numbered_formula(
 ) -> Result<Formula, NoMemory>
     requires { IsTrue (is_some (numbered_formula names.now (formula_syntax formula.now))) }
     ensures { IfOk result
-        (λ tree. numbered_formula names.now (formula_syntax formula.now) ≡ Some (formula_tree tree)) }
+        (λ tree. numbered_formula names.now (formula_syntax formula.now)
+        ≡ Some (formula_tree tree)) }
 {
     match formula {
         ReadFormula::True => Ok(Formula::True),
@@ -145,13 +160,9 @@ fn numbered_formula(
             let right = numbered_formula(alloc, names, right)?;
             between(alloc, *op, left, right)
         }
-        ReadFormula::All(members) => {
+        ReadFormula::Joined(op, members) => {
             let members = numbered_members(alloc, names, members)?;
-            Ok(Formula::All(members))
-        }
-        ReadFormula::Any(members) => {
-            let members = numbered_members(alloc, names, members)?;
-            Ok(Formula::Any(members))
+            Ok(joined(*op, members))
         }
     }
 }
@@ -186,7 +197,8 @@ fn add_formulas(
 ) -> Result<(), NoMemory>
     requires { IsTrue (is_some (numbered_list names.now (map formula_syntax formulas.now))) }
     ensures { OnOk result
-        (numbered_after (map formula_tree trees.old.items) (numbered_list names.now (map formula_syntax formulas.now))
+        (numbered_after (map formula_tree trees.old.items)
+        (numbered_list names.now (map formula_syntax formulas.now))
         ≡ Some (map formula_tree trees.new.items)) }
 {
     for formula in formulas {
@@ -218,9 +230,11 @@ fn add_section(
     trees: &mut Vec<Formula>,
     section: &ReadSection,
 ) -> Result<(), NoMemory>
-    requires { IsTrue (is_some (numbered_list names.now (formulas_if part (section_syntax section.now)))) }
+    requires { IsTrue
+        (is_some (numbered_list names.now (formulas_if part (section_syntax section.now)))) }
     ensures { OnOk result
-        (numbered_after (map formula_tree trees.old.items) (numbered_list names.now (formulas_if part (section_syntax section.now)))
+        (numbered_after (map formula_tree trees.old.items)
+        (numbered_list names.now (formulas_if part (section_syntax section.now)))
         ≡ Some (map formula_tree trees.new.items)) }
 {
     if same_part(part, section.part) {
@@ -236,8 +250,11 @@ pub(crate) fn formulas_of_part(
     part: Part,
     sections: &[ReadSection],
 ) -> Result<FormulaList, NoMemory>
-    requires { IsTrue (is_some (numbered_list names.now (formulas_of_part part (map section_syntax sections.now)))) }
-    ensures { IfOk result (λ trees. numbered_list names.now (formulas_of_part part (map section_syntax sections.now))
+    requires { IsTrue
+        (is_some (numbered_list names.now
+        (formulas_of_part part (map section_syntax sections.now)))) }
+    ensures { IfOk result (λ trees.
+        numbered_list names.now (formulas_of_part part (map section_syntax sections.now))
         ≡ Some (member_trees trees)) }
 {
     let mut trees = Vec::new(alloc);

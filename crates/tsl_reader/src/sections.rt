@@ -1,10 +1,14 @@
 //! Reading sections.
 
-ghost use Rattle.std.specs.Prelude.{◌≡◌, ◌<◌, ◌≤◌, ℕ, List, ◌∷◌, length, map, None, Some, Ok, IfOk, IfErr, IfSome, IfNone};
+ghost use Rattle.std.specs.Prelude.{◌≡◌, ◌<◌, ℕ, List, ◌∷◌, length, map, None, Some, Ok, IfOk};
+ghost use Rattle.std.specs.Prelude.{IfErr, IfSome, IfNone};
 ghost use Rattle.tsl_text.specs.declared.TokenKind.TheVariants.{Semicolon};
 ghost use Rattle.tsl_reader.specs.Syntax.{mark, FormulaSyntax};
-ghost use Rattle.tsl_reader.specs.Reading.{item, item_last, begins_item, formulas, items, side, section_at, section, sections};
-ghost use Rattle.tsl_reader.specs.SyntaxView.{terminals_view, formula_syntax, section_syntax, HasSyntaxFault, HasFaultOfMember};
+ghost use Rattle.tsl_reader.specs.Reading.{item, item_last, begins_item, formulas, items, side};
+ghost use Rattle.tsl_reader.specs.Reading.{section_at, section, sections};
+ghost use Rattle.tsl_reader.specs.SyntaxView.{terminals_view, listed_syntax, section_syntax};
+ghost use Rattle.tsl_reader.specs.SyntaxView.{sections_syntax};
+ghost use Rattle.tsl_reader.specs.SyntaxView.{Reads, HasFaultOfMember};
 
 use crate::fault::ReadFault;
 use crate::formulas::{Form, form_with};
@@ -25,8 +29,11 @@ fn begins_item(xs: &[Terminal]) -> bool
 /// The terminals after a semicolon at the front.
 #[tactic(auto, unfolding(crate::specs::Reading::item))]
 fn after_semicolon<'a, 'b>(xs: &'b [Terminal<'a>]) -> Option<&'b [Terminal<'a>]>
-    ensures some { IfSome result (λ rest. terminals_view xs.now ≡ mark Semicolon ∷ terminals_view rest.now) }
-    ensures none { IfNone result ((room : ℕ) (fs : List FormulaSyntax) → item room (item_last fs) (terminals_view xs.now) ≡ None) }
+    ensures some { IfSome result (λ rest.
+        terminals_view xs.now ≡ mark Semicolon ∷ terminals_view rest.now) }
+    ensures none { IfNone result
+        ((room : ℕ) (fs : List FormulaSyntax) → item room (item_last fs) (terminals_view xs.now)
+        ≡ None) }
     ensures shorter { IfSome result (λ rest. length rest.now < length xs.now) }
 {
     match xs {
@@ -41,10 +48,7 @@ fn formulas<'a, 'b>(
     room: u32,
     xs: &'b [Terminal<'a>],
 ) -> Answer<'a, 'b, Vec<ReadFormula<'a>>>
-    ensures ok { IfOk result (λ read. formulas room (terminals_view xs.now)
-        ≡ Ok (map formula_syntax read.0.items, terminals_view read.1.now)) }
-    ensures fault { IfErr result (HasSyntaxFault (formulas room (terminals_view xs.now))) }
-    ensures shorter { IfOk result (λ read. length read.1.now ≤ length xs.now) }
+    ensures { Reads listed_syntax (formulas room) xs.now result }
 {
     let mut formulas = Vec::new(alloc);
     let mut left = Left { terminals: xs };
@@ -67,15 +71,12 @@ fn items<'a, 'b>(
     part: Part,
     xs: &'b [Terminal<'a>],
 ) -> Answer<'a, 'b, ReadSection<'a>>
-    ensures ok { IfOk result (λ read. items room part (terminals_view xs.now)
-        ≡ Ok (section_syntax read.0, terminals_view read.1.now)) }
-    ensures fault { IfErr result (HasSyntaxFault (items room part (terminals_view xs.now))) }
-    ensures shorter { IfOk result (λ read. length read.1.now < length xs.now) }
+    ensures { Reads section_syntax (items room part) xs.now result }
 {
     match xs {
         [Terminal::Mark(TokenKind::OpenBrace), rest @ ..] => {
             let (formulas, rest) = formulas(alloc, room, rest)?;
-            let rest = close(Closer::Brace, rest)?;
+            let (_, rest) = close(Closer::Brace, rest)?;
             Ok((ReadSection { part, formulas }, rest))
         }
         _ => Err(ReadFault::Form(xs.len())),
@@ -91,10 +92,7 @@ fn side<'a, 'b>(
     guaranteed: Part,
     xs: &'b [Terminal<'a>],
 ) -> Answer<'a, 'b, ReadSection<'a>>
-    ensures ok { IfOk result (λ read. side room assumed guaranteed (terminals_view xs.now)
-        ≡ Ok (section_syntax read.0, terminals_view read.1.now)) }
-    ensures fault { IfErr result (HasSyntaxFault (side room assumed guaranteed (terminals_view xs.now))) }
-    ensures shorter { IfOk result (λ read. length read.1.now < length xs.now) }
+    ensures { Reads section_syntax (side room assumed guaranteed) xs.now result }
 {
     match xs {
         [Terminal::Word(Word::Assume), rest @ ..] => items(alloc, room, assumed, rest),
@@ -110,10 +108,7 @@ fn section_at<'a, 'b>(
     room: u32,
     xs: &'b [Terminal<'a>],
 ) -> Answer<'a, 'b, ReadSection<'a>>
-    ensures ok { IfOk result (λ read. section_at room (terminals_view xs.now)
-        ≡ Ok (section_syntax read.0, terminals_view read.1.now)) }
-    ensures fault { IfErr result (HasSyntaxFault (section_at room (terminals_view xs.now))) }
-    ensures shorter { IfOk result (λ read. length read.1.now < length xs.now) }
+    ensures { Reads section_syntax (section_at room) xs.now result }
 {
     match xs {
         [Terminal::Word(Word::Always), rest @ ..] => {
@@ -135,9 +130,9 @@ fn section<'a, 'b>(
 ) -> Result<Option<(ReadSection<'a>, &'b [Terminal<'a>])>, ReadFault>
     ensures some { IfOk result (λ found. IfSome found (λ read. section room (terminals_view xs.now)
         ≡ Some (Ok (section_syntax read.0, terminals_view read.1.now)))) }
-    ensures none { IfOk result (λ found. IfNone found (section room (terminals_view xs.now) ≡ None)) }
+    ensures none { IfOk result (λ found.
+        IfNone found (section room (terminals_view xs.now) ≡ None)) }
     ensures fault { IfErr result (HasFaultOfMember (section room (terminals_view xs.now))) }
-    ensures shorter { IfOk result (λ found. IfSome found (λ read. length read.1.now < length xs.now)) }
 {
     if xs.is_empty() {
         return Ok(None);
@@ -153,9 +148,7 @@ pub(crate) fn sections<'a, 'b>(
     room: u32,
     xs: &'b [Terminal<'a>],
 ) -> Answer<'a, 'b, Vec<ReadSection<'a>>>
-    ensures ok { IfOk result (λ read. sections room (terminals_view xs.now)
-        ≡ Ok (map section_syntax read.0.items, terminals_view read.1.now)) }
-    ensures fault { IfErr result (HasSyntaxFault (sections room (terminals_view xs.now))) }
+    ensures { Reads sections_syntax (sections room) xs.now result }
 {
     let mut sections = Vec::new(alloc);
     let mut left = Left { terminals: xs };

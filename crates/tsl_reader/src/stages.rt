@@ -1,20 +1,25 @@
 //! The stages of reading a specification.
 
-ghost use Rattle.std.specs.Prelude.{◌≡◌, ℕ, ◌-◌, ◌≤◌, ◌<◌, ◌^◌, length, map, slice_get, nat_le, Some, All, IsTrue, IfOk, IfErr, OnOk};
+ghost use Rattle.std.specs.Prelude.{◌≡◌, ℕ, ◌-◌, ◌≤◌, ◌<◌, ◌^◌, length, map, slice_get, nat_le};
+ghost use Rattle.std.specs.Prelude.{Some, All, IsTrue, IfOk, IfErr, OnOk};
 ghost use Rattle.std.specs.Prelude.{MatchOption};
 ghost use Rattle.tsl_reader.specs.declared.syntax.Part.{Part};
-ghost use Rattle.tsl_reader.specs.declared.syntax.Part.TheVariants.{AssumeFirst, AssumeAlways, GuaranteeFirst, GuaranteeAlways};
+ghost use Rattle.tsl_reader.specs.declared.syntax.Part.TheVariants.{AssumeFirst, AssumeAlways};
+ghost use Rattle.tsl_reader.specs.declared.syntax.Part.TheVariants.{GuaranteeFirst};
+ghost use Rattle.tsl_reader.specs.declared.syntax.Part.TheVariants.{GuaranteeAlways};
 ghost use Rattle.tsl_text.specs.Division.{AreTokens, IsTokenOf};
 ghost use Rattle.tsl_text.specs.Lexeme.{token_text};
 ghost use Rattle.tsl_terms.specs.FormulaTree.{formula_trees, member_trees};
-ghost use Rattle.tsl_terms.specs.Clashes.{name_use, first_uses, alike_in_kind, same_arity, alike_in, IsFirstClash, HasNoClash};
+ghost use Rattle.tsl_terms.specs.Clashes.{name_use, first_uses, alike_in_kind, same_arity};
+ghost use Rattle.tsl_terms.specs.Clashes.{alike_in, IsFirstClash, HasNoClash};
 ghost use Rattle.tsl_terms.specs.Nodes.{nodes};
 ghost use Rattle.tsl_terms.specs.WellFormed.{formulas_fit};
 ghost use Rattle.tsl_terms.specs.SpecTree.{whole_formula};
 ghost use Rattle.tsl_terms.specs.SpecView.{spec_tree};
 ghost use Rattle.tsl_reader.specs.Naming.{written_uses, names_of, numbered_list, formulas_of_part};
 ghost use Rattle.tsl_reader.specs.Numbering.{HasNumbers};
-ghost use Rattle.tsl_reader.specs.Spells.{most_formula_nodes, terminal_at, is_free, name_tokens, Derives, IsDerived, HasCause};
+ghost use Rattle.tsl_reader.specs.Spells.{most_formula_nodes, terminal_at, is_free, name_tokens};
+ghost use Rattle.tsl_reader.specs.Spells.{Derives, IsDerived, HasCause};
 ghost use Rattle.tsl_reader.specs.SyntaxView.{section_syntax};
 
 use crate::fault::ReadFault;
@@ -55,7 +60,8 @@ fn tokens_of(alloc: Global, text: &[u8]) -> Result<Vec<Token>, SpecError>
 fn start_of(text: &[u8], tokens: &[Token], left: usize) -> u32
     requires text { length text.now < 2 ^ 32 - 1 }
     requires left { left ≤ length tokens.now }
-    ensures { MatchOption (slice_get tokens.now (length tokens.now - left)) (result ≡ length text.now) (λ token. result ≡ token.start) }
+    ensures { MatchOption (slice_get tokens.now (length tokens.now - left))
+        (result ≡ length text.now) (λ token. result ≡ token.start) }
 {
     match tokens.get(tokens.len() - left) {
         Some(token) => token.start,
@@ -72,7 +78,8 @@ fn sections_of<'a>(
     requires text { length text.now < 2 ^ 32 - 1 }
     requires tokens { AreTokens text.now tokens.now }
     requires each { All (IsTokenOf text.now) tokens.now }
-    ensures derived { IfOk result (λ read. Derives text.now tokens.now (map section_syntax read.items)) }
+    ensures derived { IfOk result (λ read.
+        Derives text.now tokens.now (map section_syntax read.items)) }
     ensures cause { IfErr result (HasCause text.now) }
 {
     let terminals = terminals(alloc, text, tokens)?;
@@ -139,9 +146,11 @@ fn clash_token(
 ) -> Option<Token>
     requires each { All (IsTokenOf text.now) tokens.now }
     requires firsts { firsts.now ≡ first_uses (map name_use names.now) }
-    requires spelled { map (λ n. n.text) (map name_use names.now) ≡ map (token_text text.now) (name_tokens text.now tokens.now) }
+    requires spelled { map (λ n. n.text) (map name_use names.now)
+        ≡ map (token_text text.now) (name_tokens text.now tokens.now) }
     ensures { MatchOption result (HasNoClash (alike_in quality) (map name_use names.now))
-        (λ token. (at : ℕ) × IsFirstClash (alike_in quality) (map name_use names.now) at × (slice_get (name_tokens text.now tokens.now) at ≡ Some token)) }
+        (λ token. (at : ℕ) × IsFirstClash (alike_in quality) (map name_use names.now) at
+        × (slice_get (name_tokens text.now tokens.now) at ≡ Some token)) }
 {
     let place = first_clash(firsts, names, quality)?;
     name_token(text, tokens, place)
@@ -159,8 +168,10 @@ fn names_of_sections(
     requires each { All (IsTokenOf text.now) tokens.now }
     requires derived { Derives text.now tokens.now (map section_syntax sections.now) }
     ensures names { IfOk result (λ names. names ≡ names_of (map section_syntax sections.now)) }
-    ensures one_kind { OnOk result (HasNoClash alike_in_kind (written_uses (map section_syntax sections.now))) }
-    ensures one_arity { OnOk result (HasNoClash same_arity (written_uses (map section_syntax sections.now))) }
+    ensures one_kind { OnOk result
+        (HasNoClash alike_in_kind (written_uses (map section_syntax sections.now))) }
+    ensures one_arity { OnOk result
+        (HasNoClash same_arity (written_uses (map section_syntax sections.now))) }
     ensures cause { IfErr result (HasCause text.now) }
 {
     let uses = all_uses(alloc, sections)?;
@@ -184,7 +195,8 @@ fn list_of(
     sections: &[ReadSection],
 ) -> Result<FormulaList, NoMemory>
     requires { HasNumbers names.now (formulas_of_part part (map section_syntax sections.now)) }
-    ensures numbered { IfOk result (λ list. numbered_list names.now (formulas_of_part part (map section_syntax sections.now))
+    ensures numbered { IfOk result (λ list.
+        numbered_list names.now (formulas_of_part part (map section_syntax sections.now))
         ≡ Some (member_trees list)) }
     ensures fit { IfOk result (λ list. IsTrue (formulas_fit names.now (formula_trees list))) }
 {
@@ -193,16 +205,21 @@ fn list_of(
 
 /// The specification of sections with these names.
 fn spec_of(alloc: Global, names: Names, sections: &[ReadSection]) -> Result<Spec, NoMemory>
-    requires { (part : Part) → HasNumbers names (formulas_of_part part (map section_syntax sections.now)) }
+    requires { (part : Part) →
+        HasNumbers names (formulas_of_part part (map section_syntax sections.now)) }
     ensures names { IfOk result (λ spec. spec.names ≡ names) }
     ensures assume_first { IfOk result (λ spec.
-        numbered_list names (formulas_of_part AssumeFirst (map section_syntax sections.now)) ≡ Some (member_trees spec.assume_first)) }
+        numbered_list names (formulas_of_part AssumeFirst (map section_syntax sections.now))
+        ≡ Some (member_trees spec.assume_first)) }
     ensures assume_always { IfOk result (λ spec.
-        numbered_list names (formulas_of_part AssumeAlways (map section_syntax sections.now)) ≡ Some (member_trees spec.assume_always)) }
+        numbered_list names (formulas_of_part AssumeAlways (map section_syntax sections.now))
+        ≡ Some (member_trees spec.assume_always)) }
     ensures guarantee_first { IfOk result (λ spec.
-        numbered_list names (formulas_of_part GuaranteeFirst (map section_syntax sections.now)) ≡ Some (member_trees spec.guarantee_first)) }
+        numbered_list names (formulas_of_part GuaranteeFirst (map section_syntax sections.now))
+        ≡ Some (member_trees spec.guarantee_first)) }
     ensures guarantee_always { IfOk result (λ spec.
-        numbered_list names (formulas_of_part GuaranteeAlways (map section_syntax sections.now)) ≡ Some (member_trees spec.guarantee_always)) }
+        numbered_list names (formulas_of_part GuaranteeAlways (map section_syntax sections.now))
+        ≡ Some (member_trees spec.guarantee_always)) }
 {
     let assume_first = list_of(alloc, &names, Part::AssumeFirst, sections)?;
     let assume_always = list_of(alloc, &names, Part::AssumeAlways, sections)?;

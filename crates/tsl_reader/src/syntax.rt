@@ -31,6 +31,15 @@ pub(crate) enum Word {
     A,
 }
 
+/// An arrow between two formulas.
+#[derive(Clone, Copy, Debug)]
+pub(crate) enum ArrowKind {
+    /// `->`
+    Single,
+    /// `<->`
+    Double,
+}
+
 /// One of the four lists of formulas of a specification.
 #[derive(Clone, Copy, Debug)]
 pub(crate) enum Part {

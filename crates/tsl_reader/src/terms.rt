@@ -1,13 +1,17 @@
 //! Reading terms.
 
-ghost use Rattle.std.specs.Prelude.{◌≡◌, ◌<◌, ◌≤◌, length, map, option_map, Bool, true, false, Option, None, Some, Ok, IfOk, IfErr, IfSome};
+ghost use Rattle.std.specs.Prelude.{◌≡◌, ◌<◌, length, map, option_map, None, Some, IfOk, IfErr};
+ghost use Rattle.std.specs.Prelude.{IfSome};
 ghost use Rattle.std.specs.Prelude.{IfNone, if◌then◌else◌};
-ghost use Rattle.token_readers.specs.Readers.{closing, below, map_read, found_or_wrong};
+ghost use Rattle.token_readers.specs.Readers.{closing, below};
 ghost use Rattle.tsl_reader.specs.declared.fault.ReadFault.TheVariants.{Form, Deep};
-ghost use Rattle.tsl_reader.specs.Reading.{lower, above, closes, bracketed_term, begins_term, opened, complete, with_name, with_term};
-ghost use Rattle.tsl_reader.specs.Reading.{with_brackets, argument, goes_on, arguments_of, after_name, name_last, term_last, fresh};
-ghost use Rattle.tsl_reader.specs.Reading.{term_named, term_with};
-ghost use Rattle.tsl_reader.specs.SyntaxView.{terminal_view, terminals_view, term_syntax, arguments_view, arguments_syntax, HasSyntaxFault};
+ghost use Rattle.tsl_reader.specs.Reading.{lower, above, closes, bracketed_term, begins_term};
+ghost use Rattle.tsl_reader.specs.Reading.{opened, complete, with_name, with_term};
+ghost use Rattle.tsl_reader.specs.Reading.{with_brackets, argument, goes_on, arguments_of};
+ghost use Rattle.tsl_reader.specs.Reading.{after_name, name_last, term_last, fresh};
+ghost use Rattle.tsl_reader.specs.Reading.{argument_wanted, term_named, term_with};
+ghost use Rattle.tsl_reader.specs.SyntaxView.{terminal_view, terminals_view, term_syntax};
+ghost use Rattle.tsl_reader.specs.SyntaxView.{arguments_view, arguments_syntax, Reads};
 
 use crate::fault::ReadFault;
 use crate::syntax::Closer;
@@ -70,21 +74,15 @@ fn closes(closer: Closer, terminal: &Terminal) -> bool
     }
 }
 
-/// The terminals after the closing bracket.
-pub(crate) fn close<'a, 'b>(
-    closer: Closer,
-    xs: &'b [Terminal<'a>],
-) -> Result<&'b [Terminal<'a>], ReadFault>
-    ensures ok { IfOk result (λ rest.
-        closing (closes closer) (tt {0}) (terminals_view xs.now) ≡ Ok (tt {0}, terminals_view rest.now)) }
-    ensures fault { IfErr result (HasSyntaxFault (closing (closes closer) (tt {0}) (terminals_view xs.now))) }
-    ensures shorter { IfOk result (λ rest. length rest.now < length xs.now) }
+/// The closing bracket.
+pub(crate) fn close<'a, 'b>(closer: Closer, xs: &'b [Terminal<'a>]) -> Answer<'a, 'b, ()>
+    ensures { Reads (λ _. tt {0}) (closing (closes closer) (tt {0})) xs.now result }
 {
     match xs {
         [] => Err(ReadFault::Form(0)),
         [first, rest @ ..] => {
             if closes(closer, first) {
-                Ok(rest)
+                Ok(((), rest))
             } else {
                 Err(ReadFault::Form(xs.len()))
             }
@@ -105,7 +103,8 @@ fn begins_term(xs: &[Terminal]) -> bool
 /// The fault after a name and an opening bracket, where there is no level below: the closing bracket
 /// could follow, but a term would be a level too many.
 fn beyond(xs: &[Terminal]) -> ReadFault
-    ensures { result ≡ (if begins_term (terminals_view xs.now) then Deep (length xs.now) else Form (length xs.now)) }
+    ensures { result ≡ (if begins_term (terminals_view xs.now)
+        then Deep (length xs.now) else Form (length xs.now)) }
 {
     if begins_term(xs) {
         ReadFault::Deep(xs.len())
@@ -121,13 +120,10 @@ fn term_then_bracket<'a, 'b>(
     room: u32,
     xs: &'b [Terminal<'a>],
 ) -> Answer<'a, 'b, ReadTerm<'a>>
-    ensures ok { IfOk result (λ read. bracketed_term (above (lower room)) (terminals_view xs.now)
-        ≡ Ok (term_syntax read.0, terminals_view read.1.now)) }
-    ensures fault { IfErr result (HasSyntaxFault (bracketed_term (above (lower room)) (terminals_view xs.now))) }
-    ensures shorter { IfOk result (λ read. length read.1.now < length xs.now) }
+    ensures { Reads term_syntax (bracketed_term (above (lower room))) xs.now result }
 {
     let (term, rest) = term_with(alloc, room, xs)?;
-    let rest = close(Closer::Round, rest)?;
+    let (_, rest) = close(Closer::Round, rest)?;
     Ok((term, rest))
 }
 
@@ -138,10 +134,7 @@ pub(crate) fn bracketed_term<'a, 'b>(
     room: u32,
     xs: &'b [Terminal<'a>],
 ) -> Answer<'a, 'b, ReadTerm<'a>>
-    ensures ok { IfOk result (λ read. below (lower room) bracketed_term (terminals_view xs.now)
-        ≡ Ok (term_syntax read.0, terminals_view read.1.now)) }
-    ensures fault { IfErr result (HasSyntaxFault (below (lower room) bracketed_term (terminals_view xs.now))) }
-    ensures shorter { IfOk result (λ read. length read.1.now < length xs.now) }
+    ensures { Reads term_syntax (below (lower room) bracketed_term) xs.now result }
 {
     let below = level_below(room, xs)?;
     match xs {
@@ -158,10 +151,7 @@ fn opened<'a, 'b>(
     room: u32,
     xs: &'b [Terminal<'a>],
 ) -> Answer<'a, 'b, Option<ReadTerm<'a>>>
-    ensures ok { IfOk result (λ read. opened (lower room) (terminals_view xs.now)
-        ≡ Ok (option_map term_syntax read.0, terminals_view read.1.now)) }
-    ensures fault { IfErr result (HasSyntaxFault (opened (lower room) (terminals_view xs.now))) }
-    ensures shorter { IfOk result (λ read. length read.1.now < length xs.now) }
+    ensures { Reads (option_map term_syntax) (opened (lower room)) xs.now result }
 {
     match xs {
         [Terminal::Mark(TokenKind::CloseRound), rest @ ..] => Ok((None, rest)),
@@ -177,7 +167,8 @@ fn opened<'a, 'b>(
 
 /// The arguments, with the name that stands last among them. An `Err` says that memory ran out.
 fn complete<'a>(alloc: Global, arguments: Arguments<'a>) -> Result<Vec<ReadTerm<'a>>, NoMemory>
-    ensures { IfOk result (λ terms. map term_syntax terms.items ≡ complete (arguments_view arguments.entry)) }
+    ensures { IfOk result (λ terms.
+        map term_syntax terms.items ≡ complete (arguments_view arguments.entry)) }
 {
     match arguments {
         Arguments::Fresh => Ok(Vec::new(alloc)),
@@ -197,7 +188,8 @@ fn with_name<'a>(
     arguments: Arguments<'a>,
     name: &'a [u8],
 ) -> Result<Arguments<'a>, NoMemory>
-    ensures { IfOk result (λ next. arguments_view next ≡ with_name (arguments_view arguments.entry) name.now) }
+    ensures { IfOk result (λ next.
+        arguments_view next ≡ with_name (arguments_view arguments.entry) name.now) }
 {
     let terms = complete(alloc, arguments)?;
     Ok(Arguments::NameLast(terms, name))
@@ -209,7 +201,8 @@ fn with_term<'a>(
     arguments: Arguments<'a>,
     term: ReadTerm<'a>,
 ) -> Result<Arguments<'a>, NoMemory>
-    ensures { IfOk result (λ next. arguments_view next ≡ with_term (arguments_view arguments.entry) (term_syntax term.entry)) }
+    ensures { IfOk result (λ next.
+        arguments_view next ≡ with_term (arguments_view arguments.entry) (term_syntax term.entry)) }
 {
     let mut terms = complete(alloc, arguments)?;
     terms.push(term)?;
@@ -224,7 +217,8 @@ fn with_brackets<'a>(
     arguments: Arguments<'a>,
 ) -> Result<Arguments<'a>, NoMemory>
     ensures { IfOk result (λ next.
-        arguments_view next ≡ with_brackets (option_map term_syntax found.entry) (arguments_view arguments.entry)) }
+        arguments_view next
+        ≡ with_brackets (option_map term_syntax found.entry) (arguments_view arguments.entry)) }
 {
     match found {
         Some(term) => with_term(alloc, arguments, term),
@@ -234,7 +228,8 @@ fn with_brackets<'a>(
 
 /// `()` after a name. An `Err` says that memory ran out.
 fn without_term<'a>(arguments: Arguments<'a>) -> Result<Arguments<'a>, NoMemory>
-    ensures { IfOk result (λ next. arguments_view next ≡ with_brackets None (arguments_view arguments.entry)) }
+    ensures { IfOk result (λ next.
+        arguments_view next ≡ with_brackets None (arguments_view arguments.entry)) }
 {
     match arguments {
         Arguments::Fresh => Ok(Arguments::Empty),
@@ -268,10 +263,7 @@ fn first_argument<'a, 'b>(
     room: u32,
     xs: &'b [Terminal<'a>],
 ) -> Answer<'a, 'b, Arguments<'a>>
-    ensures ok { IfOk result (λ read. found_or_wrong (argument (lower room) fresh (terminals_view xs.now)) (terminals_view xs.now)
-        ≡ Ok (arguments_view read.0, terminals_view read.1.now)) }
-    ensures fault { IfErr result (HasSyntaxFault (found_or_wrong (argument (lower room) fresh (terminals_view xs.now)) (terminals_view xs.now))) }
-    ensures shorter { IfOk result (λ read. length read.1.now < length xs.now) }
+    ensures { Reads arguments_view (argument_wanted (lower room) fresh) xs.now result }
 {
     match xs {
         [Terminal::Free(name), rest @ ..] => {
@@ -297,12 +289,9 @@ fn argument_after_name<'a, 'b>(
     last: &'a [u8],
     xs: &'b [Terminal<'a>],
 ) -> Answer<'a, 'b, Arguments<'a>>
-    ensures ok { IfOk result (λ read. found_or_wrong
-        (argument (lower room) (name_last (map term_syntax terms.entry.items) last.now) (terminals_view xs.now)) (terminals_view xs.now)
-        ≡ Ok (arguments_view read.0, terminals_view read.1.now)) }
-    ensures fault { IfErr result (HasSyntaxFault (found_or_wrong
-        (argument (lower room) (name_last (map term_syntax terms.entry.items) last.now) (terminals_view xs.now)) (terminals_view xs.now))) }
-    ensures shorter { IfOk result (λ read. length read.1.now < length xs.now) }
+    ensures { Reads arguments_view
+        (argument_wanted (lower room) (name_last (map term_syntax terms.entry.items) last.now))
+        xs.now result }
 {
     match xs {
         [Terminal::Free(name), rest @ ..] => {
@@ -327,12 +316,9 @@ fn argument_after_term<'a, 'b>(
     terms: Vec<ReadTerm<'a>>,
     xs: &'b [Terminal<'a>],
 ) -> Answer<'a, 'b, Arguments<'a>>
-    ensures ok { IfOk result (λ read. found_or_wrong
-        (argument (lower room) (term_last (map term_syntax terms.entry.items)) (terminals_view xs.now)) (terminals_view xs.now)
-        ≡ Ok (arguments_view read.0, terminals_view read.1.now)) }
-    ensures fault { IfErr result (HasSyntaxFault (found_or_wrong
-        (argument (lower room) (term_last (map term_syntax terms.entry.items)) (terminals_view xs.now)) (terminals_view xs.now))) }
-    ensures shorter { IfOk result (λ read. length read.1.now < length xs.now) }
+    ensures { Reads arguments_view
+        (argument_wanted (lower room) (term_last (map term_syntax terms.entry.items)))
+        xs.now result }
 {
     match xs {
         [Terminal::Free(name), rest @ ..] => {
@@ -357,12 +343,8 @@ fn argument<'a, 'b>(
     arguments: Arguments<'a>,
     xs: &'b [Terminal<'a>],
 ) -> Answer<'a, 'b, Arguments<'a>>
-    ensures ok { IfOk result (λ read. found_or_wrong
-        (argument (lower room) (arguments_view arguments.entry) (terminals_view xs.now)) (terminals_view xs.now)
-        ≡ Ok (arguments_view read.0, terminals_view read.1.now)) }
-    ensures fault { IfErr result (HasSyntaxFault (found_or_wrong
-        (argument (lower room) (arguments_view arguments.entry) (terminals_view xs.now)) (terminals_view xs.now))) }
-    ensures shorter { IfOk result (λ read. length read.1.now < length xs.now) }
+    ensures { Reads arguments_view
+        (argument_wanted (lower room) (arguments_view arguments.entry)) xs.now result }
 {
     match arguments {
         Arguments::Empty => Err(ReadFault::Form(xs.len())),
@@ -380,10 +362,7 @@ pub(crate) fn after_name<'a, 'b>(
     room: u32,
     xs: &'b [Terminal<'a>],
 ) -> Answer<'a, 'b, Option<Vec<ReadTerm<'a>>>>
-    ensures ok { IfOk result (λ read. after_name (lower room) (terminals_view xs.now)
-        ≡ Ok (arguments_syntax read.0, terminals_view read.1.now)) }
-    ensures fault { IfErr result (HasSyntaxFault (after_name (lower room) (terminals_view xs.now))) }
-    ensures shorter { IfOk result (λ read. length read.1.now ≤ length xs.now) }
+    ensures { Reads arguments_syntax (after_name (lower room)) xs.now result }
 {
     let mut arguments = Arguments::Fresh;
     let mut left = Left { terminals: xs };
@@ -401,7 +380,8 @@ fn arguments_of<'a>(
     alloc: Global,
     arguments: Arguments<'a>,
 ) -> Result<Option<Vec<ReadTerm<'a>>>, NoMemory>
-    ensures { IfOk result (λ terms. arguments_syntax terms ≡ arguments_of (arguments_view arguments.entry)) }
+    ensures { IfOk result (λ terms.
+        arguments_syntax terms ≡ arguments_of (arguments_view arguments.entry)) }
 {
     match arguments {
         Arguments::Fresh => Ok(None),
@@ -421,7 +401,8 @@ fn term_named<'a>(
     name: &'a [u8],
     arguments: Option<Vec<ReadTerm<'a>>>,
 ) -> Result<ReadTerm<'a>, NoMemory>
-    ensures { IfOk result (λ term. term_syntax term ≡ term_named name.now (arguments_syntax arguments.entry)) }
+    ensures { IfOk result (λ term.
+        term_syntax term ≡ term_named name.now (arguments_syntax arguments.entry)) }
 {
     match arguments {
         None => Ok(ReadTerm::Alone(name)),
@@ -437,10 +418,7 @@ pub(crate) fn term_with<'a, 'b>(
     room: u32,
     xs: &'b [Terminal<'a>],
 ) -> Answer<'a, 'b, ReadTerm<'a>>
-    ensures ok { IfOk result (λ read. term_with (lower room) (terminals_view xs.now)
-        ≡ Ok (term_syntax read.0, terminals_view read.1.now)) }
-    ensures fault { IfErr result (HasSyntaxFault (term_with (lower room) (terminals_view xs.now))) }
-    ensures shorter { IfOk result (λ read. length read.1.now ≤ length xs.now) }
+    ensures { Reads term_syntax (term_with (lower room)) xs.now result }
 {
     match xs {
         [Terminal::Free(name), rest @ ..] => {

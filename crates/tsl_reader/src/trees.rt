@@ -2,12 +2,13 @@
 
 ghost use Rattle.std.specs.Prelude.{◌≡◌, map, IfOk};
 ghost use Rattle.tsl_reader.specs.Syntax.{listed_terms, listed_formulas};
-ghost use Rattle.tsl_reader.specs.SyntaxView.{term_syntax, terms_syntax, formula_syntax, formulas_syntax};
+ghost use Rattle.tsl_reader.specs.SyntaxView.{term_syntax, terms_syntax, formula_syntax};
+ghost use Rattle.tsl_reader.specs.SyntaxView.{formulas_syntax};
 
 use crate::syntax::Part;
 use sequence::NoMemory;
 use std::alloc::Global;
-use tsl_terms::{BinaryOperator, UnaryOperator};
+use tsl_terms::{BinaryOperator, ManyOperator, UnaryOperator};
 
 /// A term: a name alone, or a name and its arguments.
 #[cycle(read_terms)]
@@ -48,7 +49,8 @@ impl<'a> ReadTerms<'a> {
         alloc: Global,
         mut terms: Vec<ReadTerm<'a>>,
     ) -> Result<ReadTerms<'a>, NoMemory>
-        ensures { IfOk result (λ list. terms_syntax list ≡ listed_terms (map term_syntax terms.entry.items)) }
+        ensures { IfOk result (λ list.
+            terms_syntax list ≡ listed_terms (map term_syntax terms.entry.items)) }
     {
         let mut list = ReadTerms::Empty;
         while let Some(term) = terms.pop() {
@@ -76,10 +78,8 @@ pub(crate) enum ReadFormula<'a> {
     Under(UnaryOperator, Box<ReadFormula<'a>>),
     /// An operator between its operands.
     Between(BinaryOperator, Box<ReadFormula<'a>>, Box<ReadFormula<'a>>),
-    /// The operands of `&&`.
-    All(ReadFormulas<'a>),
-    /// The operands of `||`.
-    Any(ReadFormulas<'a>),
+    /// The operands of `&&`, or of `||`.
+    Joined(ManyOperator, ReadFormulas<'a>),
 }
 
 /// A list of formulas, in order.
@@ -112,7 +112,8 @@ impl<'a> ReadFormulas<'a> {
         mut formulas: Vec<ReadFormula<'a>>,
     ) -> Result<ReadFormulas<'a>, NoMemory>
         ensures { IfOk result
-            (λ list. formulas_syntax list ≡ listed_formulas (map formula_syntax formulas.entry.items)) }
+            (λ list. formulas_syntax list
+            ≡ listed_formulas (map formula_syntax formulas.entry.items)) }
     {
         let mut list = ReadFormulas::Empty;
         while let Some(formula) = formulas.pop() {

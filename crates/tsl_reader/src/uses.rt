@@ -1,9 +1,11 @@
 //! The uses of names, in the order of the text.
 
 ghost use Rattle.std.specs.Prelude.{◌≡◌, ◌<◌, ◌^◌, ◌++◌, length, map, IfOk, OnOk};
-ghost use Rattle.tsl_reader.specs.Naming.{count_of_arguments, use_as, tested_signal, term_uses, terms_uses, uses, members_uses};
+ghost use Rattle.tsl_reader.specs.Naming.{count_of_arguments, use_as, tested_signal, term_uses};
+ghost use Rattle.tsl_reader.specs.Naming.{terms_uses, uses, members_uses};
 ghost use Rattle.tsl_reader.specs.Naming.{section_uses, all_uses};
-ghost use Rattle.tsl_reader.specs.SyntaxView.{term_syntax, terms_syntax, formula_syntax, formulas_syntax, section_syntax};
+ghost use Rattle.tsl_reader.specs.SyntaxView.{term_syntax, terms_syntax, formula_syntax};
+ghost use Rattle.tsl_reader.specs.SyntaxView.{formulas_syntax, section_syntax};
 ghost use Rattle.tsl_reader.specs.UseView.{read_use};
 
 use crate::trees::{ReadFormula, ReadFormulas, ReadSection, ReadTerm, ReadTerms};
@@ -120,7 +122,7 @@ fn add_formula<'a>(list: &mut Vec<ReadUse<'a>>, formula: &ReadFormula<'a>) -> Re
             add_formula(list, left)?;
             add_formula(list, right)
         }
-        ReadFormula::All(members) | ReadFormula::Any(members) => add_members(list, members),
+        ReadFormula::Joined(_, members) => add_members(list, members),
     }
 }
 

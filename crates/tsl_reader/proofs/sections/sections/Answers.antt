@@ -1,15 +1,15 @@
 use Rattle.std.proofs.Common.{map, sym, ◌∙◌}
-use Rattle.tsl_reader.specs.SyntaxView.{terminals_view, section_syntax}
+use Rattle.tsl_reader.specs.SyntaxView.{terminals_view, section_syntax, sections_syntax}
 use Rattle.tsl_reader.specs.Reading.{section, sections}
 use Rattle.tsl_reader.proofs.ReadLemmas.{passed_on}
-use Rattle.tsl_reader.proofs.ReadLoops.{members_more, members_end, members_fault}
+use Rattle.tsl_reader.proofs.ReadLoops.{members_more, member_shortens, members_end, members_fault}
 use Rattle.tsl_reader.proofs.ExactSections.{section_shrinks}
 use Rattle.tsl_reader.proofs.sections.sections.Goals as goal
 
-pub returns-in_err-section-clause-fault : goal.returns-in_err-section-clause-fault
+pub returns-in_err-section : goal.returns-in_err-section
 unfolding sections
-returns-in_err-section-clause-fault c =
-    passed_on _ _ _ c.from_residual.ensures.1
+returns-in_err-section c =
+    passed_on sections_syntax (sections c.args.room) c.args.xs.now _ _ c.from_residual.ensures.1
     (members_fault section_syntax (section c.args.room) (section_shrinks c.args.room) (terminals_view c.loop-sections.left.terminals.now)
     (map section_syntax c.loop-sections.sections.items) _ _ c.loop-sections.invariant c.in_err-section.ensures.fault)
 
@@ -20,9 +20,14 @@ loop-sections-preserved c =
     (terminals_view c.in-Some.rest.now) c.loop-sections.sections.items c.in-Some.section (rw c.in-Some.is at c.in_ok-section.ensures.some))
     ∙ c.loop-sections.invariant
 
-pub returns-clause-ok : goal.returns-clause-ok
+pub loop-sections-smaller : goal.loop-sections-smaller
+loop-sections-smaller c =
+    member_shortens section_syntax (section c.args.room) (section_shrinks c.args.room) c.loop-sections.left.terminals.now
+    c.in-Some.rest.now _ (rw c.in-Some.is at c.in_ok-section.ensures.some)
+
+pub returns : goal.returns
 unfolding sections
-returns-clause-ok c =
+returns c =
     sym c.loop-sections.invariant
     ∙ members_end section_syntax (section c.args.room) (section_shrinks c.args.room) (terminals_view c.loop-sections.left.terminals.now)
     (map section_syntax c.loop-sections.sections.items) (rw c.in_default.is at c.in_ok-section.ensures.none)

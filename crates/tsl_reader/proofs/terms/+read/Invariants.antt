@@ -1,4 +1,4 @@
-use Rattle.std.proofs.Common.{◌≡◌, ◌+◌, ◌*◌, ◌≤◌, length}
+use Rattle.std.proofs.Common.{◌≡◌, ◌+◌, ◌*◌, length}
 use Rattle.token_readers.specs.Readers.{iterate}
 use Rattle.tsl_reader.specs.Reading.{lower, argument, fresh}
 use Rattle.tsl_reader.specs.SyntaxView.{terminals_view, arguments_view}
@@ -35,11 +35,9 @@ decreases-bracketed_term l = l.room * 16 + 1
 
 -- the arguments so far, and then those of the terminals that are left
 abbrev pub invariant-after_name-loop-arguments : goal.invariant-after_name-loop-arguments
-invariant-after_name-loop-arguments l = record {
-  rest_is : iterate (argument (lower l.room)) (arguments_view l.arguments) (terminals_view l.left.terminals.now)
-      ≡ iterate (argument (lower l.room)) fresh (terminals_view l.fn.xs);
-  shorter : length l.left.terminals.now ≤ length l.fn.xs;
-}
+invariant-after_name-loop-arguments l =
+    iterate (argument (lower l.room)) (arguments_view l.arguments) (terminals_view l.left.terminals.now)
+    ≡ iterate (argument (lower l.room)) fresh (terminals_view l.fn.xs)
 
 abbrev pub decreases-after_name-loop-arguments : goal.decreases-after_name-loop-arguments
 decreases-after_name-loop-arguments l = length l.left.terminals.now

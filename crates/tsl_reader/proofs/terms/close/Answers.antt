@@ -3,13 +3,13 @@ use Rattle.tsl_reader.specs.Reading.{closes}
 use Rattle.tsl_reader.proofs.ReadLemmas.{close_read, close_wrong, close_end}
 use Rattle.tsl_reader.proofs.terms.close.Goals as goal
 
-pub returns-in-empty-clause-fault : goal.returns-in-empty-clause-fault
-returns-in-empty-clause-fault c = close_end (closes c.args.closer) c.args.xs.now c.in-empty.len_below
+pub returns-in-empty : goal.returns-in-empty
+returns-in-empty c = close_end (closes c.args.closer) c.args.xs.now c.in-empty.len_below
 
-pub returns-then-closes-clause-ok : goal.returns-then-closes-clause-ok
-returns-then-closes-clause-ok c =
+pub returns-then-closes : goal.returns-then-closes
+returns-then-closes c =
     close_read (closes c.args.closer) c.args.xs.now _ c.in-len1-up.len_at_least (sym c.closes.ensures ∙ c.if-closes.true)
 
-pub returns-else-closes-clause-fault : goal.returns-else-closes-clause-fault
-returns-else-closes-clause-fault c =
+pub returns-else-closes : goal.returns-else-closes
+returns-else-closes c =
     close_wrong (closes c.args.closer) c.args.xs.now _ c.in-len1-up.len_at_least (sym c.closes.ensures ∙ c.if-closes.false)
