@@ -28,3 +28,8 @@ pub mod BracketLevels
 pub mod PhrasesRead
 pub mod LinesRead
 pub mod OrderOfLines
+pub mod LineFeeds
+pub mod ReachedLines
+pub mod ListingFacts
+pub mod FirstFaults
+pub mod ReadListings

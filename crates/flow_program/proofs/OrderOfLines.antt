@@ -1,13 +1,16 @@
 -- The order of lines: the lines of a listing are those that may stand one after another.
-use Rattle.std.proofs.Common.{◌≡◌, ℕ, suc, ◌+◌, ◌<◌, Bool, true, false, not, ◌&&◌, eqb, List, [], ◌∷◌, ◌++◌, length, map, Option, Some, None, refl, sym, ap, ◌∙◌, append_assoc, arith, length-append}
+use Rattle.std.proofs.Common.{◌≡◌, ℕ, suc, ◌+◌, ◌<◌, Bool, true, false, not, ◌&&◌, cond, eqb, List, [], ◌∷◌, ◌++◌, length, map, flat_map, Option, Some, None, refl, sym, ap, subst, ◌∙◌, append_assoc, arith, length-append}
 use Rattle.std.specs.Prelude.{option_and_then}
-use Rattle.std.proofs.lemmas.Bool.{and_from, cond-true, eq-eqb, false≢true}
-use Rattle.std.proofs.lemmas.List.{append-nil}
+use Rattle.std.proofs.lemmas.Bool.{and_parts, and_from, cond-true, eqb-true, eq-eqb, not-true, false≢true}
+use Rattle.std.proofs.lemmas.List.{append-nil, map-append}
 use Rattle.std.proofs.lemmas.Option.{none-some, same_Some}
 use Rattle.flow_program.specs.declared.listing.Name.{Name}
-use Rattle.flow_program.specs.ListingTree.{WindowLine, NodeLine, ListingTree}
+use Rattle.flow_program.specs.ListingTree.{WindowLine, NodeLine, ListingTree, empty_listing, listing_tree}
+use Rattle.tsl_terms.specs.Name.{Name as NameEntry}
+use Rattle.flow_program.specs.declared.listing_reader.Begun.{Begun}
+use Rattle.flow_program.specs.Listing.{declared, signal_named}
 use Rattle.flow_program.specs.LineText.{LineTree, head_line, input, cell, output, window, node, state, end_line, node_lines, state_lines, listing_lines}
-use Rattle.flow_program.specs.internal.LineOrder.{Progress, fresh, going, done, is_nil, when, empty_listing, add, add_all}
+use Rattle.flow_program.specs.internal.LineOrder.{may_stand, extended, Progress, fresh, going, done, is_nil, no_node, no_window, no_output, no_cell, when, added, add, add_all, listing_of, declares, names_so_far, progress_of}
 
 -- ---- adding lines
 
@@ -151,3 +154,213 @@ nil_is (x ∷ xs) h = absurd (false≢true h)
 lines_end : (l : ListingTree) (tail : List LineTree) → lines_with l [] ++ tail ≡ lines_with l tail
 lines_end l tail =
     simp (append_assoc, append-nil)
+
+-- ---- a line that is added stands after those so far
+
+no_node_is : (l : ListingTree) → no_node l ≡ true → (l.nodes ≡ []) × (l.states ≡ [])
+no_node_is l h = let parts = and_parts (is_nil l.nodes) (is_nil l.states) h in (nil_is l.nodes parts.0, nil_is l.states parts.1)
+
+no_window_is : (l : ListingTree) → no_window l ≡ true → (l.windows ≡ []) × (l.nodes ≡ []) × (l.states ≡ [])
+no_window_is l h =
+    let parts = and_parts (is_nil l.windows) (no_node l) h in
+    let more = no_node_is l parts.1 in
+    (nil_is l.windows parts.0, more.0, more.1)
+
+no_output_is : (l : ListingTree) → no_output l ≡ true → (l.outputs ≡ []) × (l.windows ≡ []) × (l.nodes ≡ []) × (l.states ≡ [])
+no_output_is l h =
+    let parts = and_parts (is_nil l.outputs) (no_window l) h in
+    let more = no_window_is l parts.1 in
+    (nil_is l.outputs parts.0, more.0, more.1, more.2)
+
+no_cell_is : (l : ListingTree) → no_cell l ≡ true → (l.cells ≡ []) × (l.outputs ≡ []) × (l.windows ≡ []) × (l.nodes ≡ []) × (l.states ≡ [])
+no_cell_is l h =
+    let parts = and_parts (is_nil l.cells) (no_output l) h in
+    let more = no_output_is l parts.1 in
+    (nil_is l.cells parts.0, more.0, more.1, more.2, more.3)
+
+-- one more in a section, where the sections after it are empty
+section_end : {A : Type 0} (make : A → LineTree) (xs : List A) (x : A) → map make (xs ++ x ∷ []) ++ [] ≡ map make xs ++ make x ∷ []
+section_end make xs x = append-nil (map make (xs ++ x ∷ [])) ∙ map-append make xs (x ∷ [])
+
+nodes_end : (ns : List NodeLine) (n : NodeLine) → node_lines 0 (ns ++ n ∷ []) ++ [] ≡ node_lines 0 ns ++ node (length ns) n ∷ []
+nodes_end ns n =
+    append-nil (node_lines 0 (ns ++ n ∷ [])) ∙ sym (numbered_nodes 0 (ns ++ n ∷ [])) ∙ numbered_more node 0 ns n
+    ∙ ap (λ (i : ℕ). numbered node 0 ns ++ node i n ∷ []) (let e : 0 + length ns ≡ length ns = omega arith in e)
+    ∙ ap (λ (ts : List LineTree). ts ++ node (length ns) n ∷ []) (numbered_nodes 0 ns)
+
+states_end : (ns : List ℕ) (n : ℕ) → state_lines 0 (ns ++ n ∷ []) ++ [] ≡ state_lines 0 ns ++ state (length ns) n ∷ []
+states_end ns n =
+    append-nil (state_lines 0 (ns ++ n ∷ [])) ∙ sym (numbered_states 0 (ns ++ n ∷ [])) ∙ numbered_more state 0 ns n
+    ∙ ap (λ (i : ℕ). numbered state 0 ns ++ state i n ∷ []) (let e : 0 + length ns ≡ length ns = omega arith in e)
+    ∙ ap (λ (ts : List LineTree). ts ++ state (length ns) n ∷ []) (numbered_states 0 ns)
+
+-- what is done has a node and a state
+abbrev pub HasBoth : Progress → Type 0
+HasBoth (done l) = (0 < length l.nodes) × (0 < length l.states)
+HasBoth _ = Unit {0}
+
+-- what a line changes: the lines so far and the names declared grow by it, and a state stands only after a node
+pub record Grown (l : ListingTree) (t : LineTree) (q : Progress) : Type 0 where
+  pub lines : lines_so_far q ≡ lines_with l (t ∷ [])
+  pub names : declared (listing_of q) ≡ declared l ++ declares t
+  pub valid : (is_nil l.nodes ≡ true → is_nil l.states ≡ true) → is_nil (listing_of q).nodes ≡ true → is_nil (listing_of q).states ≡ true
+  pub both : HasBoth q
+
+pushed : {A : Type 0} (xs : List A) (x : A) → is_nil (xs ++ x ∷ []) ≡ true → ⊥
+pushed [] x h = false≢true h
+pushed (y ∷ xs) x h = false≢true h
+
+some_length : {A : Type 0} (xs : List A) → not (is_nil xs) ≡ true → 0 < length xs
+some_length [] h = absurd (false≢true h)
+some_length (x ∷ xs) h = omega arith
+
+grown : (l : ListingTree) (t : LineTree) (q : Progress) → added l t ≡ Some q → Grown l t q
+grown l head_line q e = absurd (none-some q e)
+grown l (input n) q e =
+    let w = when_is (no_cell l) (going (record l { inputs = l.inputs ++ n ∷ [] })) q e in
+    let nil = no_cell_is l w.0 in
+    let P : Progress → Type 0 = Grown l (input n) in
+    subst P w.1
+    (record {
+      lines = rw (nil.0, nil.1, nil.2, nil.3, nil.4) (ap (λ (ts : List LineTree). head_line ∷ ts) (section_end input l.inputs n));
+      names = rw (nil.0, nil.1) (simp append-nil);
+      valid = λ h. h;
+      both = tt;
+    })
+grown l (cell n) q e =
+    let w = when_is (no_output l) (going (record l { cells = l.cells ++ n ∷ [] })) q e in
+    let nil = no_output_is l w.0 in
+    let P : Progress → Type 0 = Grown l (cell n) in
+    subst P w.1
+    (record {
+      lines = rw (nil.0, nil.1, nil.2, nil.3)
+          (ap (λ (ts : List LineTree). head_line ∷ (map input l.inputs ++ ts)) (section_end cell l.cells n));
+      names = rw nil.0 (simp (append-nil, append_assoc));
+      valid = λ h. h;
+      both = tt;
+    })
+grown l (output n) q e =
+    let w = when_is (no_window l) (going (record l { outputs = l.outputs ++ n ∷ [] })) q e in
+    let nil = no_window_is l w.0 in
+    let P : Progress → Type 0 = Grown l (output n) in
+    subst P w.1
+    (record {
+      lines = rw (nil.0, nil.1, nil.2)
+          (ap (λ (ts : List LineTree). head_line ∷ (map input l.inputs ++ (map cell l.cells ++ ts))) (section_end output l.outputs n));
+      names = simp append_assoc;
+      valid = λ h. h;
+      both = tt;
+    })
+grown l (window w') q e =
+    let w = when_is (no_node l) (going (record l { windows = l.windows ++ w' ∷ [] })) q e in
+    let nil = no_node_is l w.0 in
+    let P : Progress → Type 0 = Grown l (window w') in
+    subst P w.1
+    (record {
+      lines = rw (nil.0, nil.1)
+          (ap (λ (ts : List LineTree). head_line ∷ (map input l.inputs ++ (map cell l.cells ++ (map output l.outputs ++ ts))))
+          (section_end window l.windows w'));
+      names = sym (append-nil (declared l));
+      valid = λ h. h;
+      both = tt;
+    })
+grown l (node i n) q e =
+    let w = when_is (eqb i (length l.nodes) && is_nil l.states) (going (record l { nodes = l.nodes ++ n ∷ [] })) q e in
+    let parts = and_parts (eqb i (length l.nodes)) (is_nil l.states) w.0 in
+    let nil = nil_is l.states parts.1 in
+    let next : i ≡ length l.nodes = eqb-true i (length l.nodes) parts.0 in
+    let P : Progress → Type 0 = Grown l (node i n) in
+    subst P w.1
+    (record {
+      lines = rw (nil, next)
+          (ap (λ (ts : List LineTree).
+          head_line ∷ (map input l.inputs ++ (map cell l.cells ++ (map output l.outputs ++ (map window l.windows ++ ts)))))
+          (nodes_end l.nodes n));
+      names = sym (append-nil (declared l));
+      valid = λ h k. absurd (pushed l.nodes n k);
+      both = tt;
+    })
+grown l (state i n) q e =
+    let w = when_is (eqb i (length l.states) && not (is_nil l.nodes)) (going (record l { states = l.states ++ n ∷ [] })) q e in
+    let parts = and_parts (eqb i (length l.states)) (not (is_nil l.nodes)) w.0 in
+    let next : i ≡ length l.states = eqb-true i (length l.states) parts.0 in
+    let P : Progress → Type 0 = Grown l (state i n) in
+    subst P w.1
+    (record {
+      lines = rw next
+          (ap (λ (ts : List LineTree).
+          head_line ∷ (map input l.inputs ++ (map cell l.cells ++ (map output l.outputs ++ (map window l.windows
+          ++ (node_lines 0 l.nodes ++ ts))))))
+          (states_end l.states n));
+      names = sym (append-nil (declared l));
+      valid = λ h k. absurd (false≢true (sym (not-true (is_nil l.nodes) parts.1) ∙ k));
+      both = tt;
+    })
+grown l end_line q e =
+    let w = when_is (not (is_nil l.nodes) && not (is_nil l.states)) (done l) q e in
+    let parts = and_parts (not (is_nil l.nodes)) (not (is_nil l.states)) w.0 in
+    let P : Progress → Type 0 = Grown l end_line in
+    subst P w.1
+    (record {
+      lines = refl;
+      names = sym (append-nil (declared l));
+      valid = λ h. h;
+      both = (some_length l.nodes parts.0, some_length l.states parts.1);
+    })
+
+-- ---- what lines that stand one after another make
+
+pub record Made (lines : List LineTree) (q : Progress) : Type 0 where
+  pub lines_are : lines_so_far q ≡ lines
+  pub names_are : declared (listing_of q) ≡ flat_map declares lines
+  pub valid : is_nil (listing_of q).nodes ≡ true → is_nil (listing_of q).states ≡ true
+  pub both : HasBoth q
+
+pub made_fresh : Made [] fresh
+made_fresh = record { lines_are = refl; names_are = refl; valid = λ h. h; both = tt }
+
+flat_map_push : (lines : List LineTree) (t : LineTree) → flat_map declares (lines ++ t ∷ []) ≡ flat_map declares lines ++ declares t
+flat_map_push [] t = append-nil (declares t)
+flat_map_push (l ∷ lines) t =
+    ap (λ (ns : List Name). declares l ++ ns) (flat_map_push lines t)
+    ∙ sym (append_assoc (declares l) (flat_map declares lines) (declares t))
+
+pub made_more : (lines : List LineTree) (p q : Progress) (t : LineTree) → Made lines p → add p t ≡ Some q → Made (lines ++ t ∷ []) q
+made_more lines fresh q head_line m e =
+    let P : Progress → Type 0 = Made (lines ++ head_line ∷ []) in
+    subst P (same_Some (going empty_listing) q e)
+    (record {
+      lines_are = ap (λ (ts : List LineTree). ts ++ head_line ∷ []) m.lines_are;
+      names_are = m.names_are ∙ sym (append-nil (flat_map declares lines)) ∙ sym (flat_map_push lines head_line);
+      valid = λ h. h;
+      both = tt;
+    })
+made_more lines fresh q _ m e = absurd (none-some q e)
+made_more lines (going l) q t m e =
+    let g = grown l t q e in
+    record {
+      lines_are = g.lines ∙ sym (lines_end l (t ∷ [])) ∙ ap (λ (ts : List LineTree). ts ++ t ∷ []) m.lines_are;
+      names_are = g.names ∙ ap (λ (ns : List Name). ns ++ declares t) m.names_are ∙ sym (flat_map_push lines t);
+      valid = g.valid m.valid;
+      both = g.both;
+    }
+made_more lines (done l) q t m e = absurd (none-some q e)
+
+-- the names that a line declares come after those before it
+pub extended_names : (l : ListingTree) (t : LineTree) → may_stand l t ≡ true → declared (listing_of (extended l t)) ≡ declared l ++ declares t
+extended_names l t h = (grown l t (extended l t) (cond-true (may_stand l t) (Some (extended l t)) None h)).names
+
+pub progress_listing : (b : Begun) → listing_of (progress_of b) ≡ listing_tree b.listing
+progress_listing b = by_end b.ended where
+  by_end : (ended : Bool) → listing_of (cond ended (done (listing_tree b.listing)) (going (listing_tree b.listing))) ≡ listing_tree b.listing
+  by_end true = refl
+  by_end false = refl
+
+pub names_grow : (text : List ℕ) (l : ListingTree) (t : LineTree) (b : Begun) (old new : List NameEntry) → may_stand l t ≡ true →
+    progress_of b ≡ extended l t → old ≡ names_so_far text l → new ≡ old ++ map (signal_named text) (declares t) →
+    new ≡ names_so_far text (listing_tree b.listing)
+names_grow text l t b old new h e f g =
+    g ∙ ap (λ (ns : List NameEntry). ns ++ map (signal_named text) (declares t)) f
+    ∙ sym (map-append (signal_named text) (declared l) (declares t))
+    ∙ ap (map (signal_named text)) (sym (extended_names l t h) ∙ ap (λ (p : Progress). declared (listing_of p)) (sym e)
+    ∙ ap declared (progress_listing b))

@@ -1,5 +1,5 @@
 -- The lines of a program text as pure values, without where they lie in memory: names are places in the text.
-use Rattle.std.specs.Prelude.{ℕ, ◌+◌, List, map}
+use Rattle.std.specs.Prelude.{ℕ, ◌+◌, List, [], map}
 use Rattle.flow_program.specs.declared.listing.Name.{Name}
 use Rattle.flow_program.specs.declared.listing.Phrase.{Phrase}
 use Rattle.flow_program.specs.declared.listing.Phrase.TheVariants.{Bare, Applied}
@@ -97,3 +97,7 @@ listing_tree l = record {
   nodes = map node_line l.nodes.items;
   states = l.states.items;
 }
+
+-- the listing without lines
+abbrev pub empty_listing : ListingTree
+empty_listing = record { inputs = []; cells = []; outputs = []; windows = []; nodes = []; states = [] }

@@ -155,7 +155,7 @@ fn listed_updates(alloc: Global, left: Left<'_>) -> Reading<'_, Vec<SpelledListe
 }
 
 /// Whether there is a byte.
-fn has_bytes(bytes: &[u8]) -> bool
+pub(crate) fn has_bytes(bytes: &[u8]) -> bool
     ensures { result ≡ has_bytes bytes.now }
 {
     !matches!(bytes, [])

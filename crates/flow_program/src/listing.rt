@@ -1,7 +1,7 @@
 //! A program text as it is spelled: names are places in the text, and nothing but the form is asked.
 
 ghost use Rattle.std.specs.Prelude.{◌≡◌, map, IfOk};
-ghost use Rattle.flow_program.specs.ListingTree.{phrase_tree, phrase_trees};
+ghost use Rattle.flow_program.specs.ListingTree.{phrase_tree, phrase_trees, listing_tree, empty_listing};
 ghost use Rattle.flow_program.specs.internal.LineReading.{phrases_of};
 
 use sequence::NoMemory;
@@ -133,6 +133,22 @@ pub(crate) struct Listing {
     pub(crate) nodes: Vec<SpelledNode>,
     /// The node of each state.
     pub(crate) states: Vec<u64>,
+}
+
+impl Listing {
+    /// The listing without lines.
+    pub(crate) fn new(alloc: Global) -> Listing
+        ensures { listing_tree result ≡ empty_listing }
+    {
+        Listing {
+            inputs: Vec::new(alloc),
+            cells: Vec::new(alloc),
+            outputs: Vec::new(alloc),
+            windows: Vec::new(alloc),
+            nodes: Vec::new(alloc),
+            states: Vec::new(alloc),
+        }
+    }
 }
 
 /// Why a text has no listing.
