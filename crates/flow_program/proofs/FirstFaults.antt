@@ -36,7 +36,7 @@ list_all-append p (x ∷ xs) ys h k =
 
 -- ---- lines of bytes
 
-not_nil : (xs : List ℕ) (y : ℕ) (ys : List ℕ) → xs ++ y ∷ ys ≡ [] → ⊥
+pub not_nil : (xs : List ℕ) (y : ℕ) (ys : List ℕ) → xs ++ y ∷ ys ≡ [] → ⊥
 not_nil [] y ys e = cc
 not_nil (x ∷ xs) y ys e = cc
 

@@ -33,3 +33,4 @@ pub mod ReachedLines
 pub mod ListingFacts
 pub mod FirstFaults
 pub mod ReadListings
+pub mod OneListing
