@@ -16,6 +16,11 @@ pub mod RuleLemmas
 pub mod Lengths
 pub mod Composed
 pub mod KeptProgram
+pub mod Runs
+pub mod PlacedTerms
+pub mod PlacedLines
+pub mod PlacedProgram
+pub mod ReadingLaws
 pub mod Lines
 pub mod OneLine
 pub mod OneProgram

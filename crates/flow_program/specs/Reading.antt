@@ -1,5 +1,5 @@
 -- What reading a program text gives.
-use Rattle.std.specs.Prelude.{◌≡◌, ℕ, List, Some, None}
+use Rattle.std.specs.Prelude.{◌≡◌, ℕ, List, ◌++◌, Some, None}
 use Rattle.tsl_terms.specs.Name.{Name}
 use Rattle.flow_program.specs.declared.reading.ProgramError.{ProgramError}
 use Rattle.flow_program.specs.declared.reading.ProgramError.TheVariants.{Form, NoMemory}
@@ -28,3 +28,12 @@ abbrev pub HasProgramCause : List ℕ → List Name → ProgramError → Type 0
 HasProgramCause text given (Form line) = FormFault text line
 HasProgramCause text given NoMemory = Unit {0}
 HasProgramCause text given fault = HasRuleFault text given fault
+
+-- the refusal says something of the text: it is not that memory ran out
+abbrev pub IsOfText : ProgramError → Type 0
+IsOfText NoMemory = ⊥
+IsOfText _ = Unit {0}
+
+-- names that begin with these
+abbrev pub GoOnFrom : List Name → List Name → Type 0
+GoOnFrom given names = (more : List Name) × (names ≡ given ++ more)

@@ -27,7 +27,7 @@ mod uses;
 mod words;
 mod writing;
 
-pub use laws::one_program;
+pub use laws::{one_program, one_program_cause, one_reading, spelled_programs_are_read};
 pub use limits::{LONGEST_WINDOW, MOST_NODES, MOST_STATES, MOST_WINDOWS};
 pub use listing::Name;
 pub use node::Node;

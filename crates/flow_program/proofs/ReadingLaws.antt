@@ -1,0 +1,161 @@
+-- What follows for texts that are read: a text has one listing and one reading, a text that spells a program is read as it, and a
+-- text has one cause of refusal.
+use Rattle.std.proofs.Common.{◌≡◌, ℕ, zero, suc, ◌+◌, ◌<◌, ◌≤◌, true, List, [], ◌∷◌, ◌++◌, length, take, drop, refl, ap, sym, subst, ◌∙◌, flat_map, arith, inl, inr, ⊎_elim}
+use Rattle.std.proofs.Common.{append_assoc, length-append}
+use Rattle.std.specs.Prelude.{Option, Some, None, IsTrue}
+use Rattle.std.specs.List.{list_all}
+use Rattle.std.proofs.lemmas.Bool.{and_parts, and_from, cases_lt}
+use Rattle.std.proofs.lemmas.List.{append-nil}
+use Rattle.std.proofs.lemmas.Option.{same_Some}
+use Rattle.tsl_text.specs.Written.{is_line, text_of_lines}
+use Rattle.tsl_terms.specs.Name.{Name, AreDistinct}
+use Rattle.tsl_terms.specs.Clashes.{first_uses}
+use Rattle.tsl_terms.proofs.FirstUses.{first_uses_distinct}
+use Rattle.flow_program.specs.declared.reading.ProgramError.{ProgramError}
+use Rattle.flow_program.specs.declared.reading.ProgramError.TheVariants.{Form, Order, Target, Updates, Window, Unknown, Kind, Arity, Windows, Nodes, States, NoMemory}
+use Rattle.flow_program.specs.ProgramTree.{ProgramTree}
+use Rattle.flow_program.specs.ProgramText.{ProgramText}
+use Rattle.flow_program.specs.Listing.{ListingTree, IsListing, BeginAlike, FormFault}
+use Rattle.flow_program.specs.Uses.{uses_of, named_by, names_of}
+use Rattle.flow_program.specs.Rules.{fault_of}
+use Rattle.flow_program.specs.Reading.{IsReading, HasRuleFault, HasProgramCause, IsOfText, GoOnFrom}
+use Rattle.flow_program.proofs.OneListing.{one_listing}
+use Rattle.flow_program.proofs.ListingFacts.{listing_from}
+use Rattle.flow_program.proofs.OneProgram.{one_program}
+use Rattle.flow_program.proofs.WithUses.{are_first}
+use Rattle.flow_program.proofs.PlacedProgram.{ProgramPlaced, program_placed, all_stay}
+
+-- ---- a text has one reading
+
+distinct_after : (given uses : List Name) → AreDistinct given → AreDistinct (first_uses (given ++ uses))
+distinct_after given uses distinct = first_uses_distinct (given ++ uses)
+
+pub one_reading : (text : List ℕ) (given : List Name) (p q : ProgramTree) (names more : List Name) → AreDistinct given →
+    IsReading text given p names → IsReading text given q more → (p ≡ q) × (names ≡ more)
+one_reading text given p q names more distinct h k =
+    let lines : h.listing ≡ k.listing = one_listing text h.listing k.listing h.is_listing k.is_listing in
+    let same : names ≡ more = h.names_are ∙ ap (λ l. names_of given (uses_of text l)) lines ∙ sym k.names_are in
+    let apart : AreDistinct names = subst AreDistinct
+    (sym (h.names_are ∙ are_first given (flat_map named_by (uses_of text h.listing)) distinct))
+    (first_uses_distinct (given ++ flat_map named_by (uses_of text h.listing))) in
+    (one_program names apart text p q h.spelled (subst (λ ns. ProgramText text ns q) (sym same) k.spelled), same)
+
+-- ---- a text that spells a program is read
+
+placed_listing : (text : List ℕ) (names : List Name) → (r : ProgramPlaced text names) → IsListing text r.listing
+placed_listing text names r = listing_from text r.listing r.end r.stands r.within r.once r.has_node r.has_state
+
+pub spelled_is_read : (text : List ℕ) (names : List Name) (p : ProgramTree) → AreDistinct names → ProgramText text names p →
+    IsReading text names p names
+spelled_is_read text names p distinct h =
+    let r : ProgramPlaced text names = program_placed text names distinct p h in
+    record {
+      listing = r.listing;
+      is_listing = placed_listing text names r;
+      no_fault = r.no_fault names ([], sym (append-nil names));
+      names_are = sym (all_stay names (flat_map named_by (uses_of text r.listing)) r.held_names);
+      spelled = h;
+    }
+
+rule_fault_spells_none : (text : List ℕ) (given names : List Name) (e : ProgramError) (p : ProgramTree) → AreDistinct names →
+    GoOnFrom given names → HasRuleFault text given e → ProgramText text names p → ⊥
+rule_fault_spells_none text given names e p distinct goes fault h =
+    let r : ProgramPlaced text names = program_placed text names distinct p h in
+    let lines : fault.listing ≡ r.listing = one_listing text fault.listing r.listing fault.is_listing (placed_listing text names r) in
+    let never : Some e ≡ None = sym fault.fault_is ∙ ap (fault_of text given) lines ∙ r.no_fault given goes in
+    absurd (cc)
+
+pub refused_spells_none : (text : List ℕ) (given names : List Name) (e : ProgramError) (p : ProgramTree) → AreDistinct names →
+    GoOnFrom given names → IsOfText e → HasProgramCause text given e → ProgramText text names p → ⊥
+refused_spells_none text given names (Form n) p distinct goes is cause h =
+    let r : ProgramPlaced text names = program_placed text names distinct p h in
+    cause.none r.listing (placed_listing text names r)
+refused_spells_none text given names NoMemory p distinct goes is cause h = absurd is
+refused_spells_none text given names (Order n) p distinct goes is cause h = rule_fault_spells_none text given names (Order n) p distinct goes cause h
+refused_spells_none text given names (Target n) p distinct goes is cause h = rule_fault_spells_none text given names (Target n) p distinct goes cause h
+refused_spells_none text given names (Updates n) p distinct goes is cause h = rule_fault_spells_none text given names (Updates n) p distinct goes cause h
+refused_spells_none text given names (Window n) p distinct goes is cause h = rule_fault_spells_none text given names (Window n) p distinct goes cause h
+refused_spells_none text given names (Unknown n at) p distinct goes is cause h =
+    rule_fault_spells_none text given names (Unknown n at) p distinct goes cause h
+refused_spells_none text given names (Kind n at) p distinct goes is cause h = rule_fault_spells_none text given names (Kind n at) p distinct goes cause h
+refused_spells_none text given names (Arity n at) p distinct goes is cause h = rule_fault_spells_none text given names (Arity n at) p distinct goes cause h
+refused_spells_none text given names Windows p distinct goes is cause h = rule_fault_spells_none text given names Windows p distinct goes cause h
+refused_spells_none text given names Nodes p distinct goes is cause h = rule_fault_spells_none text given names Nodes p distinct goes cause h
+refused_spells_none text given names States p distinct goes is cause h = rule_fault_spells_none text given names States p distinct goes cause h
+
+-- ---- a text has one cause
+
+lines_taken : (k : ℕ) (ls : List (List ℕ)) → text_of_lines ls ≡ text_of_lines (take k ls) ++ text_of_lines (drop k ls)
+lines_taken zero ls = refl
+lines_taken (suc k) [] = refl
+lines_taken (suc k) (l ∷ ls) =
+    ap (λ rest. (l ++ 10 ∷ []) ++ rest) (lines_taken k ls)
+    ∙ sym (append_assoc (l ++ 10 ∷ []) (text_of_lines (take k ls)) (text_of_lines (drop k ls)))
+
+lines_within : (k : ℕ) (ls : List (List ℕ)) → list_all is_line ls ≡ true → list_all is_line (take k ls) ≡ true
+lines_within zero ls h = refl
+lines_within (suc k) [] h = refl
+lines_within (suc k) (l ∷ ls) h =
+    let parts = and_parts (is_line l) (list_all is_line ls) h in
+    and_from (is_line l) (list_all is_line (take k ls)) parts.0 (lines_within k ls parts.1)
+
+lines_count : (k : ℕ) (ls : List (List ℕ)) → k ≤ length ls → length (take k ls) ≡ k
+lines_count zero ls h = refl
+lines_count (suc k) [] h = absurd (omega (arith, h))
+lines_count (suc k) (l ∷ ls) h = ap suc (lines_count k ls (omega (arith, h)))
+
+-- texts that begin alike for many lines do for fewer
+fewer : (k n : ℕ) (text other : List ℕ) → k ≤ n → BeginAlike n text other → BeginAlike k text other
+fewer k n text other less h = record {
+  lines = take k h.lines;
+  are_lines = lines_within k h.lines h.are_lines;
+  number = lines_count k h.lines (omega (arith, less, h.number));
+  after_text = text_of_lines (drop k h.lines) ++ h.after_text;
+  text_is = h.text_is ∙ ap (λ bytes. bytes ++ h.after_text) (lines_taken k h.lines)
+      ∙ append_assoc (text_of_lines (take k h.lines)) (text_of_lines (drop k h.lines)) h.after_text;
+  after_other = text_of_lines (drop k h.lines) ++ h.after_other;
+  other_is = h.other_is ∙ ap (λ bytes. bytes ++ h.after_other) (lines_taken k h.lines)
+      ∙ append_assoc (text_of_lines (take k h.lines)) (text_of_lines (drop k h.lines)) h.after_other;
+}
+
+not_before : (text : List ℕ) (n m : ℕ) → FormFault text n → FormFault text m → n < m → ⊥
+not_before text n m h k less =
+    h.here k.other k.listing k.is_listing (fewer n k.count text k.other (omega (arith, less, k.next)) k.before)
+
+one_form : (text : List ℕ) (n m : ℕ) → FormFault text n → FormFault text m → n ≡ m
+one_form text n m h k =
+    ⊎_elim (λ (less : n < m). absurd (not_before text n m h k less))
+    (λ (more : m ≤ n). ⊎_elim (λ (less : m < n). absurd (not_before text m n k h less)) (λ (same : n ≤ m). omega (arith, more, same)) (cases_lt m n))
+    (cases_lt n m)
+
+one_rule : (text : List ℕ) (given : List Name) (e f : ProgramError) → HasRuleFault text given e → HasRuleFault text given f → e ≡ f
+one_rule text given e f h k =
+    same_Some e f (sym h.fault_is ∙ ap (fault_of text given) (one_listing text h.listing k.listing h.is_listing k.is_listing) ∙ k.fault_is)
+
+-- a cause that is not of the form is a fault of a listing
+data Cause (text : List ℕ) (given : List Name) (e : ProgramError) : Type 0 where
+  of_form : (n : ℕ) → e ≡ Form n → FormFault text n → Cause text given e
+  of_rule : HasRuleFault text given e → Cause text given e
+
+cause_is : (text : List ℕ) (given : List Name) (e : ProgramError) → IsOfText e → HasProgramCause text given e → Cause text given e
+cause_is text given (Form n) is h = of_form n refl h
+cause_is text given NoMemory is h = absurd is
+cause_is text given (Order n) is h = of_rule h
+cause_is text given (Target n) is h = of_rule h
+cause_is text given (Updates n) is h = of_rule h
+cause_is text given (Window n) is h = of_rule h
+cause_is text given (Unknown n at) is h = of_rule h
+cause_is text given (Kind n at) is h = of_rule h
+cause_is text given (Arity n at) is h = of_rule h
+cause_is text given Windows is h = of_rule h
+cause_is text given Nodes is h = of_rule h
+cause_is text given States is h = of_rule h
+
+pub one_cause : (text : List ℕ) (given : List Name) (e f : ProgramError) → IsOfText e → IsOfText f → HasProgramCause text given e →
+    HasProgramCause text given f → e ≡ f
+one_cause text given e f is too h k = by (cause_is text given e is h) (cause_is text given f too k) where
+  by : Cause text given e → Cause text given f → e ≡ f
+  by (of_form n a x) (of_form m b y) = a ∙ ap Form (one_form text n m x y) ∙ sym b
+  by (of_form n a x) (of_rule y) = absurd (x.none y.listing y.is_listing)
+  by (of_rule x) (of_form m b y) = absurd (y.none x.listing x.is_listing)
+  by (of_rule x) (of_rule y) = one_rule text given e f x y
