@@ -12,8 +12,8 @@ use Rattle.flow_program.specs.declared.reading.ProgramError.TheVariants.{Form, O
 use Rattle.flow_program.specs.ProgramTree.{ProgramTree}
 use Rattle.flow_program.specs.ProgramText.{ProgramText, most_windows, most_nodes, most_states}
 use Rattle.flow_program.specs.Listing.{ListingTree, IsListing}
-use Rattle.flow_program.specs.Uses.{Use, uses_of, names_of, named_by, first_window, first_node, first_state}
-use Rattle.flow_program.specs.Rules.{first_line, breaks_order, goes_nowhere, is_nowhere, breaks_updates, breaks_window, is_unknown, is_unlike, cells_of, readable_of, controlled_of, at_line, at_use, over, first_there, line_fault, use_fault, limit_fault, fault_of}
+use Rattle.flow_program.specs.Uses.{ProgramUse, uses_of, names_after, entries_of_use, first_window, first_node, first_state}
+use Rattle.flow_program.specs.Rules.{first_line, breaks_order, goes_nowhere, is_nowhere, breaks_updates, breaks_window, is_unknown, is_unlike, cell_texts, readable_of, controlled_of, at_line, at_use, over, first_there, line_fault, use_fault, limit_fault, fault_of}
 use Rattle.flow_program.specs.Reading.{IsReading, HasProgramCause}
 use Rattle.flow_program.specs.internal.Numbering.{Numbered}
 use Rattle.flow_program.proofs.UsableUses.{uses_usable}
@@ -38,7 +38,7 @@ line_rule : (fault : ℕ → ProgramError) → ((n : ℕ) → is_rule (fault n) 
 line_rule fault each None = refl
 line_rule fault each (Some n) = each n
 
-use_rule : (fault : ℕ → Name → ProgramError) → ((n : ℕ) (at : Name) → is_rule (fault n at) ≡ true) → (usage : Option Use) → IsRule (at_use fault usage)
+use_rule : (fault : ℕ → Name → ProgramError) → ((n : ℕ) (at : Name) → is_rule (fault n at) ≡ true) → (usage : Option ProgramUse) → IsRule (at_use fault usage)
 use_rule fault each None = refl
 use_rule fault each (Some u) = each u.line u.place
 
@@ -59,10 +59,10 @@ module _ (text : List ℕ) (given : List NameEntry) (l : ListingTree) where
       (line_rule Target (λ n. refl) (first_line (is_nowhere (length l.nodes)) (first_state l) l.states))
       (first_rule (at_line Updates (first_line (breaks_updates text (controlled_of text l)) (first_node l) l.nodes)) _
       (line_rule Updates (λ n. refl) (first_line (breaks_updates text (controlled_of text l)) (first_node l) l.nodes))
-      (first_rule (at_line Window (first_line (breaks_window text (cells_of text l)) (first_window l) l.windows)) []
-      (line_rule Window (λ n. refl) (first_line (breaks_window text (cells_of text l)) (first_window l) l.windows)) refl))))
+      (first_rule (at_line Window (first_line (breaks_window text (cell_texts text l)) (first_window l) l.windows)) []
+      (line_rule Window (λ n. refl) (first_line (breaks_window text (cell_texts text l)) (first_window l) l.windows)) refl))))
 
-  use_is_rule : (readable : List (List ℕ)) (names : List NameEntry) (us : List Use) → IsRule (use_fault readable names us)
+  use_is_rule : (readable : List (List ℕ)) (names : List NameEntry) (us : List ProgramUse) → IsRule (use_fault readable names us)
   use_is_rule readable names us =
       first_rule (at_use Unknown (find (is_unknown readable) us)) _ (use_rule Unknown (λ n at. refl) (find (is_unknown readable) us))
       (first_rule (at_use Kind (find (is_unlike alike_in_kind names) us)) _
@@ -79,8 +79,8 @@ module _ (text : List ℕ) (given : List NameEntry) (l : ListingTree) where
   fault_is_rule : IsRule (fault_of text given l)
   fault_is_rule =
       first_rule (line_fault text l) _ line_is_rule
-      (first_rule (use_fault (readable_of text l) (names_of given (uses_of text l)) (uses_of text l)) _
-      (use_is_rule (readable_of text l) (names_of given (uses_of text l)) (uses_of text l))
+      (first_rule (use_fault (readable_of text l) (names_after given (uses_of text l)) (uses_of text l)) _
+      (use_is_rule (readable_of text l) (names_after given (uses_of text l)) (uses_of text l))
       (first_rule (limit_fault l) [] limit_is_rule refl))
 
   -- ---- a fault is a cause
@@ -102,18 +102,18 @@ module _ (text : List ℕ) (given : List NameEntry) (l : ListingTree) where
     by NoMemory k rule = tt
 
   abbrev the_uses : Option ProgramError
-  the_uses = use_fault (readable_of text l) (names_of given (uses_of text l)) (uses_of text l)
+  the_uses = use_fault (readable_of text l) (names_after given (uses_of text l)) (uses_of text l)
 
   pub at_a_line : IsListing text l → (e : ProgramError) → line_fault text l ≡ Some e → HasProgramCause text given e
   at_a_line h e is = cause_of h e (ap (λ f. first_there (f ∷ the_uses ∷ limit_fault l ∷ [])) is)
 
   -- the code's table of what is read, its uses and its names are those of the listing
-  module _ (readable : List (List ℕ)) (readable_is : readable ≡ readable_of text l) (us : List Use) (us_are : us ≡ uses_of text l)
-      (names : List NameEntry) (names_are : names ≡ names_of given us) where
+  module _ (readable : List (List ℕ)) (readable_is : readable ≡ readable_of text l) (us : List ProgramUse) (us_are : us ≡ uses_of text l)
+      (names : List NameEntry) (names_are : names ≡ names_after given us) where
     same_uses : use_fault readable names us ≡ the_uses
     same_uses =
         ap (use_fault readable names) us_are ∙ ap (λ r. use_fault r names (uses_of text l)) readable_is
-        ∙ ap (λ ns. use_fault (readable_of text l) ns (uses_of text l)) (names_are ∙ ap (names_of given) us_are)
+        ∙ ap (λ ns. use_fault (readable_of text l) ns (uses_of text l)) (names_are ∙ ap (names_after given) us_are)
 
     pub at_a_use : IsListing text l → (e : ProgramError) → line_fault text l ≡ None → use_fault readable names us ≡ Some e →
         HasProgramCause text given e
@@ -136,9 +136,9 @@ module _ (text : List ℕ) (given : List NameEntry) (l : ListingTree) where
     pub spells : AreDistinct given → IsTrue (list_all name_fits given) → IsListing text l → line_fault text l ≡ None →
         use_fault readable names us ≡ None → limit_fault l ≡ None → (p : ProgramTree) × Numbered names text l p × ProgramText text names p
     spells distinct fit h lines uses limits =
-        let good : ProgramGood text (names_of given (uses_of text l)) l =
+        let good : ProgramGood text (names_after given (uses_of text l)) l =
         program_good text given distinct fit l h (keeps_rules text given l (no_fault lines uses limits)) in
-        let same : names_of given (uses_of text l) ≡ names = sym (names_are ∙ ap (names_of given) us_are) in (
+        let same : names_after given (uses_of text l) ≡ names = sym (names_are ∙ ap (names_after given) us_are) in (
           good.program,
           subst (λ ns. Numbered ns text l good.program) same good.numbers,
           subst (λ ns. ProgramText text ns good.program) same good.spelled,
@@ -150,11 +150,11 @@ module _ (text : List ℕ) (given : List NameEntry) (l : ListingTree) where
       listing = l;
       is_listing = h;
       no_fault = no_fault lines uses limits;
-      names_are = names_are ∙ ap (names_of given) us_are;
+      names_are = names_are ∙ ap (names_after given) us_are;
       spelled = spelled;
     }
 
     pub names_may_be_written : IsTrue (list_all name_fits given) → IsListing text l → IsTrue (list_all name_fits names)
     names_may_be_written fit h =
-        ap (list_all name_fits) (names_are ∙ ap (names_of given) us_are)
-        ∙ names_fit (flat_map named_by (uses_of text l)) given fit (named_fit (uses_of text l) (uses_usable text l h))
+        ap (list_all name_fits) (names_are ∙ ap (names_after given) us_are)
+        ∙ names_fit (flat_map entries_of_use (uses_of text l)) given fit (named_fit (uses_of text l) (uses_usable text l h))

@@ -16,7 +16,7 @@ use Rattle.tsl_text.proofs.Fronts.{one_run}
 use Rattle.tsl_terms.specs.Name.{AreDistinct, number_of, texts, Name as NameEntry}
 use Rattle.tsl_terms.proofs.FirstUses.{first_of, named_is, first_at}
 use Rattle.flow_program.specs.declared.listing.Name.{Name}
-use Rattle.flow_program.specs.Listing.{bytes_of, signal_named, declared, IsListing, BeginAlike, FormFault}
+use Rattle.flow_program.specs.Listing.{name_bytes, declared_entry, declared, IsListing, BeginAlike, FormFault}
 use Rattle.flow_program.specs.ListingTree.{NodeLine, assignment_line, ListingTree, empty_listing}
 use Rattle.flow_program.specs.LineText.{Piece, word, named, Place, Stand, LineTree, head_line, input, cell, output, window, node, state, end_line, ended_pieces, line_is_within, listing_lines}
 use Rattle.flow_program.specs.internal.LineReading.{read_line}
@@ -209,15 +209,15 @@ number_found names text i e =
 record Repeats (text : List ℕ) (names : List NameEntry) (t : LineTree) : Type 0 where
   name : Name
   declared_is : declares t ≡ name ∷ []
-  again : Again names (bytes_of text name)
+  again : Again names (name_bytes text name)
 
 repeats : (text : List ℕ) (names : List NameEntry) (t : LineTree) → are_new text names t ≡ false → Repeats text names t
 repeats text names t e = by t refl e where
-  one : (n : Name) → declares t ≡ n ∷ [] → (is_none (number_of names (bytes_of text n)) && true) ≡ false → Repeats text names t
-  one n d f = by_number (number_of names (bytes_of text n)) refl f where
-    by_number : (o : Option ℕ) → number_of names (bytes_of text n) ≡ o → (is_none o && true) ≡ false → Repeats text names t
+  one : (n : Name) → declares t ≡ n ∷ [] → (is_none (number_of names (name_bytes text n)) && true) ≡ false → Repeats text names t
+  one n d f = by_number (number_of names (name_bytes text n)) refl f where
+    by_number : (o : Option ℕ) → number_of names (name_bytes text n) ≡ o → (is_none o && true) ≡ false → Repeats text names t
     by_number None x y = absurd (false≢true (sym y))
-    by_number (Some i) x y = record { name = n; declared_is = d; again = number_found names (bytes_of text n) i x }
+    by_number (Some i) x y = record { name = n; declared_is = d; again = number_found names (name_bytes text n) i x }
 
   by : (u : LineTree) → declares t ≡ declares u → are_new text names u ≡ false → Repeats text names t
   by head_line d f = absurd (false≢true (sym f))
@@ -232,22 +232,22 @@ repeats text names t e = by t refl e where
 -- names are declared once in the other text, so that none is declared again here
 twice : (text another front xs ys : List ℕ) → text ≡ front ++ xs → another ≡ front ++ ys → (ds : List Name) →
     AllByRecursion (IsWithin (length front)) ds → (t : LineTree) → DeclaresWithin (length front) t → (rest : List Name) →
-    AreDistinct (map (signal_named another) (ds ++ (declares t ++ rest))) → Repeats text (map (signal_named text) ds) t → ⊥
+    AreDistinct (map (declared_entry another) (ds ++ (declares t ++ rest))) → Repeats text (map (declared_entry text) ds) t → ⊥
 twice text another front xs ys here other ds within t last rest distinct rep =
     let n : Name = rep.name in
-    let a : List NameEntry = map (signal_named text) ds in
-    let e : NameEntry = signal_named another n in
-    let tail : List NameEntry = map (signal_named another) rest in
-    let agree : map (signal_named another) ds ≡ a =
-    ap (λ (zs : List ℕ). map (signal_named zs) ds) other ∙ named_agree front ys xs ds within
-    ∙ ap (λ (zs : List ℕ). map (signal_named zs) ds) (sym here) in
+    let a : List NameEntry = map (declared_entry text) ds in
+    let e : NameEntry = declared_entry another n in
+    let tail : List NameEntry = map (declared_entry another) rest in
+    let agree : map (declared_entry another) ds ≡ a =
+    ap (λ (zs : List ℕ). map (declared_entry zs) ds) other ∙ named_agree front ys xs ds within
+    ∙ ap (λ (zs : List ℕ). map (declared_entry zs) ds) (sym here) in
     let P : List Name → Type 0 = λ ns. AllByRecursion (IsWithin (length front)) ns in
     let n_within : IsWithin (length front) n = (subst P rep.declared_is last).0 in
-    let bytes : bytes_of another n ≡ bytes_of text n =
-    ap (λ (zs : List ℕ). bytes_of zs n) other ∙ bytes_agree front ys xs n n_within ∙ ap (λ (zs : List ℕ). bytes_of zs n) (sym here) in
-    let all : map (signal_named another) (ds ++ (declares t ++ rest)) ≡ a ++ e ∷ tail =
-    ap (λ (ns : List Name). map (signal_named another) (ds ++ (ns ++ rest))) rep.declared_is
-    ∙ map-append (signal_named another) ds (n ∷ rest)
+    let bytes : name_bytes another n ≡ name_bytes text n =
+    ap (λ (zs : List ℕ). name_bytes zs n) other ∙ bytes_agree front ys xs n n_within ∙ ap (λ (zs : List ℕ). name_bytes zs n) (sym here) in
+    let all : map (declared_entry another) (ds ++ (declares t ++ rest)) ≡ a ++ e ∷ tail =
+    ap (λ (ns : List Name). map (declared_entry another) (ds ++ (ns ++ rest))) rep.declared_is
+    ∙ map-append (declared_entry another) ds (n ∷ rest)
     ∙ ap (λ (zs : List NameEntry). zs ++ e ∷ tail) agree in
     let good : AreDistinct (a ++ e ∷ tail) = subst AreDistinct all distinct in
     let below : rep.again.at < length a = slice_get_within a rep.again.at rep.again.entry rep.again.there in
@@ -297,7 +297,7 @@ no_more text progress number p r fails another l is more t order front line u v 
     (whole ∙ ap (λ (zs : List ℕ). front ++ zs) here ∙ sym (append_assoc front line (10 ∷ u)))
     (other ∙ sym (append_assoc front line (10 ∷ v))) ds before t
     (subst Q (sym both) (line_declares_within (record { at = p.at; bytes = line }) t at)) (flat_map declares more)
-    (let R : List Name → Type 0 = λ ns. AreDistinct (map (signal_named another) ns) in subst R names is.declared_once)
+    (let R : List Name → Type 0 = λ ns. AreDistinct (map (declared_entry another) ns) in subst R names is.declared_once)
     (repeats text (names_so_far text (listing_of progress)) t f))
   where
     by_new : (text : List ℕ) (progress : Progress) (b : Bool) (later : Place) (o : Option Progress) (more : List LineTree) (l : ListingTree) →
@@ -453,9 +453,9 @@ first_fault text progress number p r fails unfinished =
     subst S (sym r.made.names_are)
     (within_more p.at (length front) (omega arith) (flat_map declares r.lines)
     (lines_declare_within r.lines (record { at = 0; bytes = text }) p r.stands)) in
-    let names : map (signal_named text) ds ≡ map (signal_named other) (declared c.listing) =
-    ap (λ (zs : List ℕ). map (signal_named zs) ds) f.split ∙ named_agree front p.bytes tail ds before
-    ∙ ap (map (signal_named other)) (sym c.names) in
+    let names : map (declared_entry text) ds ≡ map (declared_entry other) (declared c.listing) =
+    ap (λ (zs : List ℕ). map (declared_entry zs) ds) f.split ∙ named_agree front p.bytes tail ds before
+    ∙ ap (map (declared_entry other)) (sym c.names) in
     record {
       count = length r.lines;
       next = r.count;

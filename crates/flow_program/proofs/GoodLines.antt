@@ -26,9 +26,9 @@ use Rattle.flow_program.specs.declared.listing.Name.{Name}
 use Rattle.flow_program.specs.NodeTree.{NodeTree, branch, assign}
 use Rattle.flow_program.specs.Fits.{longest, rises, comes_before, window_is_shaped, window_reads_only, window_fits, stands_before as stands_among}
 use Rattle.flow_program.specs.ProgramText.{declarations, updates_text, node_text, nodes_text, signal_fits, term_is_writable, probe_is_writable, listed_is_writable, window_is_writable, node_is_writable}
-use Rattle.flow_program.specs.Listing.{PhraseTree, bytes_of, phrase_text, update_spelling, declaration_line_text, listed_line_text, window_line_text, update_line_text, node_line_text, node_lines_text}
-use Rattle.flow_program.specs.Listing.{is_phrase, name_stands, update_line_stands, listed_line_stands, window_line_stands, node_line_stands, signal_named, UpdateLine, ListedLine, WindowLine, NodeLine, branch_line, assignment_line}
-use Rattle.flow_program.specs.Uses.{Use, signal_use, term_uses, test_uses, update_uses, listed_uses, window_uses, node_uses, windows_uses, nodes_uses}
+use Rattle.flow_program.specs.Listing.{PhraseTree, name_bytes, phrase_text, update_spelling, declaration_line_text, listed_line_text, window_line_text, update_line_text, node_line_text, node_lines_text}
+use Rattle.flow_program.specs.Listing.{is_phrase, name_stands, update_line_stands, listed_line_stands, window_line_stands, node_line_stands, declared_entry, UpdateLine, ListedLine, WindowLine, NodeLine, branch_line, assignment_line}
+use Rattle.flow_program.specs.Uses.{ProgramUse, signal_use, term_uses, test_uses, update_uses, listed_uses, window_uses, node_uses, windows_uses, nodes_uses}
 use Rattle.flow_program.specs.Rules.{are_texts, places_rise, place_in, place_of_cell, stands_before, listed_rise, is_cell_within, breaks_window, breaks_order, goes_nowhere, breaks_updates}
 use Rattle.flow_program.specs.internal.Numbering.{small, numbered, numbered_term, numbered_test, numbered_listed, numbered_window, numbered_node, listed_of, window_of}
 use Rattle.flow_program.proofs.KnownUses.{Known, KnownUse}
@@ -57,22 +57,22 @@ module _ (names : List NameEntry) (text : List ℕ) where
     pub ids : List ℕ
     pub numbers : map (numbered names text) ds ≡ map Some ids
     pub fit : list_all (signal_fits names) ids ≡ true
-    pub spelled : map (name_text names) ids ≡ map (bytes_of text) ds
+    pub spelled : map (name_text names) ids ≡ map (name_bytes text) ds
 
   pub signals_good : (ds : List Name) →
-      AllByRecursion (λ at. Known names (signal_named text at) × (is_usable (bytes_of text at) ≡ true)) ds → SignalsGood ds
+      AllByRecursion (λ at. Known names (declared_entry text at) × (is_usable (name_bytes text at) ≡ true)) ds → SignalsGood ds
   signals_good [] k = record { ids = []; numbers = refl; fit = refl; spelled = refl }
   signals_good (at ∷ ds) k =
       let rest : SignalsGood ds = signals_good ds k.1 in
-      let known : Known names (signal_named text at) = k.0.0 in
+      let known : Known names (declared_entry text at) = k.0.0 in
       record {
         ids = known.number ∷ rest.ids;
         numbers = λ i. known.numbered i ∷ rest.numbers i;
         fit = and_from (signal_fits names known.number) (list_all (signal_fits names) rest.ids)
             (and_from (is_name names known.number Signal 0) (is_usable_at names known.number)
-            (is_named names (signal_named text at) known) (is_named_usable names (signal_named text at) known k.0.1))
+            (is_named names (declared_entry text at) known) (is_named_usable names (declared_entry text at) known k.0.1))
             rest.fit;
-        spelled = λ i. text_is names (signal_named text at) known i ∷ rest.spelled i;
+        spelled = λ i. text_is names (declared_entry text at) known i ∷ rest.spelled i;
       }
 
   pub all_numbered : (ds : List Name) (ids : List ℕ) → map (numbered names text) ds ≡ map Some ids →
@@ -82,45 +82,45 @@ module _ (names : List NameEntry) (text : List ℕ) where
     some_there [] = refl
     some_there (n ∷ ns) = ap (option_map (λ ms. n ∷ ms)) (some_there ns)
 
-  pub declared_text : (word : List ℕ) (ds : List Name) (ids : List ℕ) → map (name_text names) ids ≡ map (bytes_of text) ds →
+  pub declared_text : (word : List ℕ) (ds : List Name) (ids : List ℕ) → map (name_text names) ids ≡ map (name_bytes text) ds →
       flat_map (declaration_line_text text word) ds ≡ declarations word names ids
   declared_text word [] [] is = refl
   declared_text word [] (n ∷ ids) is = absurd (cc)
   declared_text word (at ∷ ds) [] is = absurd (cc)
   declared_text word (at ∷ ds) (n ∷ ids) is =
-      let first : name_text names n ≡ bytes_of text at = cc in
-      let rest : map (name_text names) ids ≡ map (bytes_of text) ds = cc in
+      let first : name_text names n ≡ name_bytes text at = cc in
+      let rest : map (name_text names) ids ≡ map (name_bytes text) ds = cc in
       let others = declared_text word ds ids rest in
       λ i. (word ++ sym first i ++ codes "\n") ++ others i
 
   -- the number of a text at a place
   pub number_at : (ds : List Name) (ids : List ℕ) (i : ℕ) (bytes : List ℕ) → map (numbered names text) ds ≡ map Some ids →
-      slice_get (map (bytes_of text) ds) i ≡ Some bytes → (id : ℕ) × (slice_get ids i ≡ Some id) × (number_of names bytes ≡ Some id)
+      slice_get (map (name_bytes text) ds) i ≡ Some bytes → (id : ℕ) × (slice_get ids i ≡ Some id) × (number_of names bytes ≡ Some id)
   number_at [] ids i bytes is at = absurd (cc)
   number_at (d ∷ ds) [] i bytes is at = absurd (cc)
   number_at (d ∷ ds) (n ∷ ids) zero bytes is at =
-      let first : number_of names (bytes_of text d) ≡ Some n = cc in
-      let same : bytes_of text d ≡ bytes = cc in
+      let first : number_of names (name_bytes text d) ≡ Some n = cc in
+      let same : name_bytes text d ≡ bytes = cc in
       (n, refl, ap (number_of names) (sym same) ∙ first)
   number_at (d ∷ ds) (n ∷ ids) (suc i) bytes is at =
       let rest : map (numbered names text) ds ≡ map Some ids = cc in
       number_at ds ids i bytes rest at
 
   -- a name at a place of a list has the text of its number
-  name_at : (ds : List Name) (ids : List ℕ) (i n : ℕ) → map (name_text names) ids ≡ map (bytes_of text) ds → slice_get ids i ≡ Some n →
-      (m : NameEntry) × (slice_get (map (signal_named text) ds) i ≡ Some m) × (m.text ≡ name_text names n)
+  name_at : (ds : List Name) (ids : List ℕ) (i n : ℕ) → map (name_text names) ids ≡ map (name_bytes text) ds → slice_get ids i ≡ Some n →
+      (m : NameEntry) × (slice_get (map (declared_entry text) ds) i ≡ Some m) × (m.text ≡ name_text names n)
   name_at ds [] i n is at = absurd (cc)
   name_at [] (k ∷ ids) i n is at = absurd (cc)
   name_at (d ∷ ds) (k ∷ ids) zero n is at =
-      let first : name_text names k ≡ bytes_of text d = cc in
+      let first : name_text names k ≡ name_bytes text d = cc in
       let same : k ≡ n = cc in
-      (signal_named text d, refl, sym first ∙ ap (name_text names) same)
+      (declared_entry text d, refl, sym first ∙ ap (name_text names) same)
   name_at (d ∷ ds) (k ∷ ids) (suc i) n is at =
-      let rest : map (name_text names) ids ≡ map (bytes_of text) ds = cc in
+      let rest : map (name_text names) ids ≡ map (name_bytes text) ds = cc in
       name_at ds ids i n rest at
 
-  pub distinct_ids : (ds : List Name) (ids : List ℕ) → map (name_text names) ids ≡ map (bytes_of text) ds →
-      AreDistinct (map (signal_named text) ds) → IsDistinct ids
+  pub distinct_ids : (ds : List Name) (ids : List ℕ) → map (name_text names) ids ≡ map (name_bytes text) ds →
+      AreDistinct (map (declared_entry text) ds) → IsDistinct ids
   distinct_ids ds ids is distinct i j n at too =
       let a = name_at ds ids i n is at in
       let b = name_at ds ids j n is too in
@@ -151,8 +151,8 @@ or_and_weaker false false c d f h = h
 -- what the cells are: their names, and their numbers
 module _ (names : List NameEntry) (readable : List ℕ) (text : List ℕ) (cell_names : List Name) (cells : List ℕ)
     (cells_are : map (numbered names text) cell_names ≡ map Some cells) where
-  abbrev pub cell_texts : List (List ℕ)
-  cell_texts = map (bytes_of text) cell_names
+  abbrev pub texts_of_cells : List (List ℕ)
+  texts_of_cells = map (name_bytes text) cell_names
 
   abbrev pub AreKeys : List ListedLine → List ListedTree → Type 0
   AreKeys [] [] = Unit {0}
@@ -161,24 +161,24 @@ module _ (names : List NameEntry) (readable : List ℕ) (text : List ℕ) (cell_
   AreKeys (u ∷ us) (t ∷ ts) = (numbered names text u.signal ≡ Some t.signal) × ((t.offset ≡ u.offset) × AreKeys us ts)
 
   -- a place among the texts of the cells is that of the number
-  place_of_number : (u : ListedLine) (s i : ℕ) → numbered names text u.signal ≡ Some s → place_of_cell text cell_texts u ≡ Some i →
+  place_of_number : (u : ListedLine) (s i : ℕ) → numbered names text u.signal ≡ Some s → place_of_cell text texts_of_cells u ≡ Some i →
       slice_get cells i ≡ Some s
   place_of_number u s i is placed =
-      let found = number_at names text cell_names cells i (bytes_of text u.signal) cells_are
-      (place_at cell_texts (bytes_of text u.signal) i placed) in
+      let found = number_at names text cell_names cells i (name_bytes text u.signal) cells_are
+      (place_at texts_of_cells (name_bytes text u.signal) i placed) in
       found.1 ∙ (sym found.2 ∙ is)
 
-  is_cell : (u : ListedLine) (s : ℕ) → numbered names text u.signal ≡ Some s → is_some (place_of_cell text cell_texts u) ≡ true →
+  is_cell : (u : ListedLine) (s : ℕ) → numbered names text u.signal ≡ Some s → is_some (place_of_cell text texts_of_cells u) ≡ true →
       is_among cells s ≡ true
-  is_cell u s is placed = by (place_of_cell text cell_texts u) refl placed where
-    by : (found : Option ℕ) → place_of_cell text cell_texts u ≡ found → is_some found ≡ true → is_among cells s ≡ true
+  is_cell u s is placed = by (place_of_cell text texts_of_cells u) refl placed where
+    by : (found : Option ℕ) → place_of_cell text texts_of_cells u ≡ found → is_some found ≡ true → is_among cells s ≡ true
     by None e h = absurd (cc)
     by (Some i) e h = among_at cells i s (place_of_number u s i is e)
 
   rise : (u v : ListedLine) (r s : ℕ) → numbered names text u.signal ≡ Some r → numbered names text v.signal ≡ Some s →
-      places_rise (place_of_cell text cell_texts u) (place_of_cell text cell_texts v) ≡ true → stands_among cells r s ≡ true
-  rise u v r s is too h = by (place_of_cell text cell_texts u) (place_of_cell text cell_texts v) refl refl h where
-    by : (a b : Option ℕ) → place_of_cell text cell_texts u ≡ a → place_of_cell text cell_texts v ≡ b → places_rise a b ≡ true →
+      places_rise (place_of_cell text texts_of_cells u) (place_of_cell text texts_of_cells v) ≡ true → stands_among cells r s ≡ true
+  rise u v r s is too h = by (place_of_cell text texts_of_cells u) (place_of_cell text texts_of_cells v) refl refl h where
+    by : (a b : Option ℕ) → place_of_cell text texts_of_cells u ≡ a → place_of_cell text texts_of_cells v ≡ b → places_rise a b ≡ true →
         stands_among cells r s ≡ true
     by None b e f k = absurd (cc)
     by (Some i) None e f k = absurd (cc)
@@ -186,18 +186,18 @@ module _ (names : List NameEntry) (readable : List ℕ) (text : List ℕ) (cell_
         among_later cells i j r s (ltb-true i j k) (place_of_number u r i is e) (place_of_number v s j too f)
 
   pub keys_within : (n : ℕ) (us : List ListedLine) (ts : List ListedTree) → AreKeys us ts →
-      list_all (is_cell_within text cell_texts n) us ≡ true → list_all (λ t. nat_lt t.offset n && is_among cells t.signal) ts ≡ true
+      list_all (is_cell_within text texts_of_cells n) us ≡ true → list_all (λ t. nat_lt t.offset n && is_among cells t.signal) ts ≡ true
   keys_within n [] [] keys all = refl
   keys_within n [] (t ∷ ts) keys all = absurd keys
   keys_within n (u ∷ us) [] keys all = absurd keys
   keys_within n (u ∷ us) (t ∷ ts) keys all =
-      let parts = and_parts (is_cell_within text cell_texts n u) (list_all (is_cell_within text cell_texts n) us) all in
-      let here = and_parts (nat_lt u.offset n) (is_some (place_of_cell text cell_texts u)) parts.0 in
+      let parts = and_parts (is_cell_within text texts_of_cells n u) (list_all (is_cell_within text texts_of_cells n) us) all in
+      let here = and_parts (nat_lt u.offset n) (is_some (place_of_cell text texts_of_cells u)) parts.0 in
       and_from (nat_lt t.offset n && is_among cells t.signal) (list_all (λ v. nat_lt v.offset n && is_among cells v.signal) ts)
       (and_from (nat_lt t.offset n) (is_among cells t.signal) (ap (λ k. nat_lt k n) keys.1.0 ∙ here.0) (is_cell u t.signal keys.0 here.1))
       (keys_within n us ts keys.1.1 parts.1)
 
-  pub keys_rise : (us : List ListedLine) (ts : List ListedTree) → AreKeys us ts → listed_rise text cell_texts us ≡ true →
+  pub keys_rise : (us : List ListedLine) (ts : List ListedTree) → AreKeys us ts → listed_rise text texts_of_cells us ≡ true →
       rises cells ts ≡ true
   keys_rise [] [] keys h = refl
   keys_rise [] (t ∷ ts) keys h = absurd keys
@@ -206,11 +206,11 @@ module _ (names : List NameEntry) (readable : List ℕ) (text : List ℕ) (cell_
   keys_rise (u ∷ []) (t ∷ x ∷ ts) keys h = absurd keys.1.1
   keys_rise (u ∷ v ∷ us) (t ∷ []) keys h = absurd keys.1.1
   keys_rise (u ∷ v ∷ us) (t ∷ x ∷ ts) keys h =
-      let parts = and_parts (stands_before text cell_texts u v) (listed_rise text cell_texts (v ∷ us)) h in
+      let parts = and_parts (stands_before text texts_of_cells u v) (listed_rise text texts_of_cells (v ∷ us)) h in
       let next = keys.1.1 in
       and_from (comes_before cells t x) (rises cells (x ∷ ts))
       (rw (keys.1.0, next.1.0) (or_and_weaker (nat_lt u.offset v.offset) (u.offset == v.offset)
-      (places_rise (place_of_cell text cell_texts u) (place_of_cell text cell_texts v)) (stands_among cells t.signal x.signal)
+      (places_rise (place_of_cell text texts_of_cells u) (place_of_cell text texts_of_cells v)) (stands_among cells t.signal x.signal)
       (rise u v t.signal x.signal keys.0 next.0) parts.0))
       (keys_rise (v ∷ us) (x ∷ ts) next parts.1)
 
@@ -233,7 +233,7 @@ module _ (names : List NameEntry) (readable : List ℕ) (text : List ℕ) (cell_
         let name : NameEntry = (signal_use text line u.signal).name in
         let g : TermGood names readable text u.term = term_good names readable text line u.term k.1 in
         let is_one : is_phrase text u.term ≡ true = (and_parts (name_stands text u.signal) (is_phrase text u.term) stands).1 in
-        let signal_text : name_text names s.number ≡ bytes_of text u.signal = text_is names name s in
+        let signal_text : name_text names s.number ≡ name_bytes text u.signal = text_is names name s in
         record {
           tree = listed_of s.number g.tree u.offset;
           numbered_is =
@@ -262,15 +262,15 @@ module _ (names : List NameEntry) (readable : List ℕ) (text : List ℕ) (cell_
 
     pub all_listed_good : (n : ℕ) (us : List ListedLine) → n ≤ 2 ^ 32 →
         AllByRecursion (KnownUse names readable) (flat_map (listed_uses text line) us) →
-        list_all (listed_line_stands text) us ≡ true → list_all (is_cell_within text cell_texts n) us ≡ true → AllListedGood us
+        list_all (listed_line_stands text) us ≡ true → list_all (is_cell_within text texts_of_cells n) us ≡ true → AllListedGood us
     all_listed_good n [] short k stand within =
         record { trees = []; numbered_are = refl; writable = refl; spelled = refl; reads = refl; keys = tt }
     all_listed_good n (u ∷ us) short k stand within =
         let known = each_left (KnownUse names readable) (listed_uses text line u) (flat_map (listed_uses text line) us) k in
         let others = each_right (KnownUse names readable) (listed_uses text line u) (flat_map (listed_uses text line) us) k in
         let stands = and_parts (listed_line_stands text u) (list_all (listed_line_stands text) us) stand in
-        let parts = and_parts (is_cell_within text cell_texts n u) (list_all (is_cell_within text cell_texts n) us) within in
-        let below : u.offset < n = ltb-true u.offset n (and_parts (nat_lt u.offset n) (is_some (place_of_cell text cell_texts u)) parts.0).0 in
+        let parts = and_parts (is_cell_within text texts_of_cells n u) (list_all (is_cell_within text texts_of_cells n) us) within in
+        let below : u.offset < n = ltb-true u.offset n (and_parts (nat_lt u.offset n) (is_some (place_of_cell text texts_of_cells u)) parts.0).0 in
         let head : ListedGood u = listed_good u known stands.0 (omega (arith, below, short)) in
         let rest : AllListedGood us = all_listed_good n us short others stands.1 parts.1 in
         record {
@@ -292,7 +292,7 @@ module _ (names : List NameEntry) (readable : List ℕ) (text : List ℕ) (cell_
       pub fits : window_fits readable cells tree ≡ true
 
     pub window_good : (w : WindowLine) → AllByRecursion (KnownUse names readable) (window_uses text line w) →
-        window_line_stands text w ≡ true → breaks_window text cell_texts 0 w ≡ false → WindowGood w
+        window_line_stands text w ≡ true → breaks_window text texts_of_cells 0 w ≡ false → WindowGood w
     window_good w k stands keeps =
         let left_uses = test_uses text line w.left in
         let right_uses = test_uses text line w.right in
@@ -305,12 +305,12 @@ module _ (names : List NameEntry) (readable : List ℕ) (text : List ℕ) (cell_
         let stand = and_parts (is_phrase text w.left && is_phrase text w.right) (list_all (listed_line_stands text) w.updates) stands in
         let tests = and_parts (is_phrase text w.left) (is_phrase text w.right) stand.0 in
         let is_short : Bool = nat_le w.length longest && nat_le w.left_at w.length in
-        let within : Bool = list_all (is_cell_within text cell_texts w.length) w.updates in
-        let shaped : (is_short && (within && listed_rise text cell_texts w.updates)) ≡ true =
-        not_false (is_short && (within && listed_rise text cell_texts w.updates)) keeps in
-        let parts = and_parts is_short (within && listed_rise text cell_texts w.updates) shaped in
+        let within : Bool = list_all (is_cell_within text texts_of_cells w.length) w.updates in
+        let shaped : (is_short && (within && listed_rise text texts_of_cells w.updates)) ≡ true =
+        not_false (is_short && (within && listed_rise text texts_of_cells w.updates)) keeps in
+        let parts = and_parts is_short (within && listed_rise text texts_of_cells w.updates) shaped in
         let short = and_parts (nat_le w.length longest) (nat_le w.left_at w.length) parts.0 in
-        let rising = and_parts within (listed_rise text cell_texts w.updates) parts.1 in
+        let rising = and_parts within (listed_rise text texts_of_cells w.updates) parts.1 in
         let length_short : w.length ≤ longest = leb-true w.length longest short.0 in
         let left_short : w.left_at ≤ w.length = leb-true w.left_at w.length short.1 in
         let l : TestGood names readable text w.left = test_good names readable text line w.left known_left in
@@ -356,7 +356,7 @@ module _ (names : List NameEntry) (readable : List ℕ) (text : List ℕ) (cell_
 
   pub windows_good : (line : ℕ) (ws : List WindowLine) → AllByRecursion (KnownUse names readable) (windows_uses text line ws) →
       list_all (window_line_stands text) ws ≡ true →
-      ((i : ℕ) (w : WindowLine) → slice_get ws i ≡ Some w → breaks_window text cell_texts 0 w ≡ false) → WindowsGood ws
+      ((i : ℕ) (w : WindowLine) → slice_get ws i ≡ Some w → breaks_window text texts_of_cells 0 w ≡ false) → WindowsGood ws
   windows_good line [] k stand keep =
       record { trees = []; numbered_are = refl; writable = refl; spelled = refl; fit = refl; count = refl }
   windows_good line (w ∷ ws) k stand keep =

@@ -13,7 +13,7 @@ use Rattle.tsl_terms.specs.OnlyThese.{reads_only, read_only}
 use Rattle.term_text.specs.TermText.{name_text, term_text, update_text}
 use Rattle.flow_program.specs.NodeTree.{NodeTree, branch, assign}
 use Rattle.flow_program.specs.ProgramText.{updates_text, node_text, nodes_text, states_text, term_is_writable, probe_is_writable, node_is_writable}
-use Rattle.flow_program.specs.Listing.{bytes_of, phrase_text, update_line_text, node_line_text, node_lines_text, state_lines_text}
+use Rattle.flow_program.specs.Listing.{name_bytes, phrase_text, update_line_text, node_line_text, node_lines_text, state_lines_text}
 use Rattle.flow_program.specs.Listing.{is_phrase, name_stands, update_line_stands, node_line_stands, UpdateLine, NodeLine, branch_line, assignment_line}
 use Rattle.flow_program.specs.Uses.{test_uses, update_uses, node_uses, nodes_uses}
 use Rattle.flow_program.specs.Rules.{are_texts, breaks_order, goes_nowhere, is_nowhere, breaks_updates}
@@ -59,7 +59,7 @@ module _ (names : List NameEntry) (readable : List ℕ) (text : List ℕ) (contr
     pub reads : list_all (reads_only readable) trees ≡ true
     pub count : length trees ≡ length ids
 
-  updates_good : (line : ℕ) (ids : List ℕ) (us : List UpdateLine) → map (name_text names) ids ≡ map (λ u. bytes_of text u.signal) us →
+  updates_good : (line : ℕ) (ids : List ℕ) (us : List UpdateLine) → map (name_text names) ids ≡ map (λ u. name_bytes text u.signal) us →
       AllByRecursion (KnownUse names readable) (flat_map (update_uses text line) us) → list_all (update_line_stands text) us ≡ true →
       UpdatesGood ids us
   updates_good line [] [] same k stand =
@@ -71,8 +71,8 @@ module _ (names : List NameEntry) (readable : List ℕ) (text : List ℕ) (contr
       let others = each_right (KnownUse names readable) (update_uses text line u) (flat_map (update_uses text line) us) k in
       let stands = and_parts (update_line_stands text u) (list_all (update_line_stands text) us) stand in
       let is_one : is_phrase text u.term ≡ true = (and_parts (name_stands text u.signal) (is_phrase text u.term) stands.0).1 in
-      let first : name_text names id ≡ bytes_of text u.signal = cc in
-      let more : map (name_text names) ids ≡ map (λ v. bytes_of text v.signal) us = cc in
+      let first : name_text names id ≡ name_bytes text u.signal = cc in
+      let more : map (name_text names) ids ≡ map (λ v. name_bytes text v.signal) us = cc in
       let g : TermGood names readable text u.term = term_good names readable text line u.term known.1 in
       let rest : UpdatesGood ids us = updates_good line ids us more others stands.1 in
       record {
@@ -105,8 +105,8 @@ module _ (names : List NameEntry) (readable : List ℕ) (text : List ℕ) (contr
         fits = (a_below, b_below, g.reads);
       }
   node_good line number (assignment_line us go) k stands below order target same =
-      let texts = same_texts (map (λ u. bytes_of text u.signal) us) controlled_texts
-      (not_false (are_texts (map (λ u. bytes_of text u.signal) us) controlled_texts) same) in
+      let texts = same_texts (map (λ u. name_bytes text u.signal) us) controlled_texts
+      (not_false (are_texts (map (λ u. name_bytes text u.signal) us) controlled_texts) same) in
       let g : UpdatesGood controlled us = updates_good line controlled us (controlled_are ∙ sym texts) k stands in
       let go_below : go < states = ltb-true go states (not_false (nat_lt go states) target) in
       record {

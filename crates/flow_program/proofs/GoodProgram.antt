@@ -21,9 +21,9 @@ use Rattle.flow_program.specs.declared.reading.ProgramError.{ProgramError}
 use Rattle.flow_program.specs.NodeTree.{NodeTree, branch, assign}
 use Rattle.flow_program.specs.ProgramTree.{ProgramTree}
 use Rattle.flow_program.specs.ProgramText.{signal_fits, most_windows, most_nodes, most_states, IsWritable, IsProgram, ProgramText}
-use Rattle.flow_program.specs.Listing.{bytes_of, signal_named, declared, WindowLine, NodeLine, ListingTree, IsListing}
-use Rattle.flow_program.specs.Uses.{Use, declared_uses, windows_uses, nodes_uses, first_declaration, first_window, first_node, first_state, uses_of, names_of}
-use Rattle.flow_program.specs.Rules.{first_place, first_line, breaks_order, goes_nowhere, is_nowhere, breaks_updates, breaks_window, place_in, cells_of, readable_of, controlled_of, is_unknown, is_unlike, at_line, at_use, over, first_there, line_fault, use_fault, limit_fault, fault_of}
+use Rattle.flow_program.specs.Listing.{name_bytes, declared_entry, declared, WindowLine, NodeLine, ListingTree, IsListing}
+use Rattle.flow_program.specs.Uses.{ProgramUse, declared_uses, windows_uses, nodes_uses, first_declaration, first_window, first_node, first_state, uses_of, names_after}
+use Rattle.flow_program.specs.Rules.{first_place, first_line, breaks_order, goes_nowhere, is_nowhere, breaks_updates, breaks_window, place_in, cell_texts, readable_of, controlled_of, is_unknown, is_unlike, at_line, at_use, over, first_there, line_fault, use_fault, limit_fault, fault_of}
 use Rattle.flow_program.specs.internal.Numbering.{numbered, Numbered}
 use Rattle.flow_program.proofs.KnownUses.{Known, known_name, known_question, KnownUse, none_found}
 use Rattle.flow_program.proofs.UsableUses.{has_usable, uses_usable}
@@ -74,10 +74,10 @@ pub record KeepsRules (text : List ℕ) (given : List NameEntry) (l : ListingTre
   pub go : (i : ℕ) (n : NodeLine) → slice_get l.nodes i ≡ Some n → goes_nowhere (length l.states) (0 + i) n ≡ false
   pub starts : (i n : ℕ) → slice_get l.states i ≡ Some n → is_nowhere (length l.nodes) (0 + i) n ≡ false
   pub updates : (i : ℕ) (n : NodeLine) → slice_get l.nodes i ≡ Some n → breaks_updates text (controlled_of text l) (0 + i) n ≡ false
-  pub windows : (i : ℕ) (w : WindowLine) → slice_get l.windows i ≡ Some w → breaks_window text (cells_of text l) (0 + i) w ≡ false
+  pub windows : (i : ℕ) (w : WindowLine) → slice_get l.windows i ≡ Some w → breaks_window text (cell_texts text l) (0 + i) w ≡ false
   pub known : find (is_unknown (readable_of text l)) (uses_of text l) ≡ None
-  pub one_kind : find (is_unlike alike_in_kind (names_of given (uses_of text l))) (uses_of text l) ≡ None
-  pub one_arity : find (is_unlike same_arity (names_of given (uses_of text l))) (uses_of text l) ≡ None
+  pub one_kind : find (is_unlike alike_in_kind (names_after given (uses_of text l))) (uses_of text l) ≡ None
+  pub one_arity : find (is_unlike same_arity (names_after given (uses_of text l))) (uses_of text l) ≡ None
   pub few_windows : length l.windows ≤ most_windows
   pub few_nodes : length l.nodes ≤ most_nodes
   pub few_states : length l.states ≤ most_states
@@ -85,7 +85,7 @@ pub record KeepsRules (text : List ℕ) (given : List NameEntry) (l : ListingTre
 pub keeps_rules : (text : List ℕ) (given : List NameEntry) (l : ListingTree) → fault_of text given l ≡ None → KeepsRules text given l
 keeps_rules text given l none =
     let lines = none_first (line_fault text l) _ none in
-    let uses = none_first (use_fault (readable_of text l) (names_of given (uses_of text l)) (uses_of text l)) _ lines.1 in
+    let uses = none_first (use_fault (readable_of text l) (names_after given (uses_of text l)) (uses_of text l)) _ lines.1 in
     let limits = none_first (limit_fault l) [] uses.1 in
     let order = none_first _ _ lines.0 in
     let go = none_first _ _ order.1 in
@@ -103,10 +103,10 @@ keeps_rules text given l none =
       go = no_line ProgramError.Target (goes_nowhere (length l.states)) (first_node l) l.nodes go.0;
       starts = no_line ProgramError.Target (is_nowhere (length l.nodes)) (first_state l) l.states starts.0;
       updates = no_line ProgramError.Updates (breaks_updates text (controlled_of text l)) (first_node l) l.nodes updates.0;
-      windows = no_line ProgramError.Window (breaks_window text (cells_of text l)) (first_window l) l.windows windows.0;
+      windows = no_line ProgramError.Window (breaks_window text (cell_texts text l)) (first_window l) l.windows windows.0;
       known = none_mapped _ (find (is_unknown (readable_of text l)) (uses_of text l)) unknown.0;
-      one_kind = none_mapped _ (find (is_unlike alike_in_kind (names_of given (uses_of text l))) (uses_of text l)) kinds.0;
-      one_arity = none_mapped _ (find (is_unlike same_arity (names_of given (uses_of text l))) (uses_of text l)) arities.0;
+      one_kind = none_mapped _ (find (is_unlike alike_in_kind (names_after given (uses_of text l))) (uses_of text l)) kinds.0;
+      one_arity = none_mapped _ (find (is_unlike same_arity (names_after given (uses_of text l))) (uses_of text l)) arities.0;
       few_windows = within_limit ProgramError.Windows most_windows (length l.windows) many_windows.0;
       few_nodes = within_limit ProgramError.Nodes most_nodes (length l.nodes) many_nodes.0;
       few_states = within_limit ProgramError.States most_states (length l.states) many_states.0;
@@ -115,12 +115,12 @@ keeps_rules text given l none =
 -- ---- the program
 
 -- what the names say of a use, whatever is read
-abbrev IsNamed : List NameEntry → Use → Type 0
+abbrev IsNamed : List NameEntry → ProgramUse → Type 0
 IsNamed names u = Known names u.name × (is_usable u.name.text ≡ true)
 
 declared_known : (names : List NameEntry) (text : List ℕ) (line : ℕ) (ds : List Name) →
     AllByRecursion (IsNamed names) (declared_uses text line ds) →
-    AllByRecursion (λ at. Known names (signal_named text at) × (is_usable (bytes_of text at) ≡ true)) ds
+    AllByRecursion (λ at. Known names (declared_entry text at) × (is_usable (name_bytes text at) ≡ true)) ds
 declared_known names text line [] k = tt
 declared_known names text line (at ∷ ds) k = (k.0, declared_known names text (suc line) ds k.1)
 
@@ -139,20 +139,20 @@ pub record ProgramGood (text : List ℕ) (names : List NameEntry) (l : ListingTr
 
 module _ (text : List ℕ) (given : List NameEntry) (distinct : AreDistinct given) (fit : IsTrue (list_all name_fits given)) (l : ListingTree)
     (h : IsListing text l) (keeps : KeepsRules text given l) where
-  abbrev us : List Use
+  abbrev us : List ProgramUse
   us = uses_of text l
 
   abbrev names : List NameEntry
-  names = names_of given us
+  names = names_after given us
 
-  named_use : (at : ℕ) (u : Use) → slice_get us at ≡ Some u → Known names u.name
+  named_use : (at : ℕ) (u : ProgramUse) → slice_get us at ≡ Some u → Known names u.name
   named_use at u there =
       known_name given distinct us at u there (none_found (is_unlike alike_in_kind names) us at u keeps.one_kind there)
       (none_found (is_unlike same_arity names) us at u keeps.one_arity there)
 
-  usable_use : (at : ℕ) (u : Use) → slice_get us at ≡ Some u → is_usable u.name.text ≡ true
+  usable_use : (at : ℕ) (u : ProgramUse) → slice_get us at ≡ Some u → is_usable u.name.text ≡ true
   usable_use at u there = usable_at us at u (uses_usable text l h) there where
-    usable_at : (vs : List Use) (i : ℕ) (v : Use) → list_all has_usable vs ≡ true → slice_get vs i ≡ Some v → is_usable v.name.text ≡ true
+    usable_at : (vs : List ProgramUse) (i : ℕ) (v : ProgramUse) → list_all has_usable vs ≡ true → slice_get vs i ≡ Some v → is_usable v.name.text ≡ true
     usable_at [] i v all at = absurd (cc)
     usable_at (w ∷ vs) zero v all at =
         let same : w ≡ v = cc in
@@ -162,7 +162,7 @@ module _ (text : List ℕ) (given : List NameEntry) (distinct : AreDistinct give
   each_named : AllByRecursion (IsNamed names) us
   each_named = each_from_places (IsNamed names) us (λ at u there. (named_use at u there, usable_use at u there))
 
-  declared_named : AllByRecursion (λ at. Known names (signal_named text at) × (is_usable (bytes_of text at) ≡ true)) (declared l)
+  declared_named : AllByRecursion (λ at. Known names (declared_entry text at) × (is_usable (name_bytes text at) ≡ true)) (declared l)
   declared_named =
       declared_known names text first_declaration (declared l)
       (each_left (IsNamed names) (declared_uses text first_declaration (declared l)) (windows_uses text (first_window l) l.windows)
@@ -170,7 +170,7 @@ module _ (text : List ℕ) (given : List NameEntry) (distinct : AreDistinct give
       (nodes_uses text (first_node l) l.nodes) each_named))
 
   abbrev DeclaredKnown : Name → Type 0
-  DeclaredKnown at = Known names (signal_named text at) × (is_usable (bytes_of text at) ≡ true)
+  DeclaredKnown at = Known names (declared_entry text at) × (is_usable (name_bytes text at) ≡ true)
 
   inputs : SignalsGood names text l.inputs
   inputs = signals_good names text l.inputs (each_left DeclaredKnown l.inputs l.cells
@@ -189,7 +189,7 @@ module _ (text : List ℕ) (given : List NameEntry) (distinct : AreDistinct give
   readable_numbers : map (numbered names text) (l.inputs ++ l.cells) ≡ map Some readable
   readable_numbers = map_both (numbered names text) Some l.inputs l.cells inputs.ids cells.ids inputs.numbers cells.numbers
 
-  read_use : (at : ℕ) (u : Use) → slice_get us at ≡ Some u → (k : Known names u.name) → IsTrue u.is_read → is_among readable k.number ≡ true
+  read_use : (at : ℕ) (u : ProgramUse) → slice_get us at ≡ Some u → (k : Known names u.name) → IsTrue u.is_read → is_among readable k.number ≡ true
   read_use at u there k reads =
       by (place_in (readable_of text l) u.name.text) refl
       (none_found (is_unknown (readable_of text l)) us at u keeps.known there)
@@ -206,7 +206,7 @@ module _ (text : List ℕ) (given : List NameEntry) (distinct : AreDistinct give
           let number : found.0 ≡ k.number = cc in
           among_at readable i k.number (found.1 ∙ ap Some number)
 
-  known_use : (at : ℕ) (u : Use) → slice_get us at ≡ Some u → KnownUse names readable u
+  known_use : (at : ℕ) (u : ProgramUse) → slice_get us at ≡ Some u → KnownUse names readable u
   known_use at u there = record {
     name = named_use at u there;
     usable = usable_use at u there;
@@ -237,7 +237,7 @@ module _ (text : List ℕ) (given : List NameEntry) (distinct : AreDistinct give
   controlled = cells.ids ++ outputs.ids
 
   controlled_are : map (name_text names) controlled ≡ controlled_of text l
-  controlled_are = map_both (name_text names) (bytes_of text) cells.ids outputs.ids l.cells l.outputs cells.spelled outputs.spelled
+  controlled_are = map_both (name_text names) (name_bytes text) cells.ids outputs.ids l.cells l.outputs cells.spelled outputs.spelled
 
   nodes : NodesGood names readable text (controlled_of text l) controlled controlled_are (length l.nodes) (length l.states)
       (omega (arith, keeps.few_nodes)) (omega (arith, keeps.few_states)) 0 l.nodes
@@ -267,8 +267,8 @@ module _ (text : List ℕ) (given : List NameEntry) (distinct : AreDistinct give
   is_program : IsProgram program
   is_program = record {
     signals_distinct = distinct_ids names text (declared l) (readable ++ outputs.ids)
-        (map_both (name_text names) (bytes_of text) readable outputs.ids (l.inputs ++ l.cells) l.outputs
-        (map_both (name_text names) (bytes_of text) inputs.ids cells.ids l.inputs l.cells inputs.spelled cells.spelled) outputs.spelled)
+        (map_both (name_text names) (name_bytes text) readable outputs.ids (l.inputs ++ l.cells) l.outputs
+        (map_both (name_text names) (name_bytes text) inputs.ids cells.ids l.inputs l.cells inputs.spelled cells.spelled) outputs.spelled)
         h.declared_once;
     branches_fit = λ i a b t at.
         let fits = nodes.fit i (branch t a b) at in

@@ -17,9 +17,9 @@ use Rattle.tsl_terms.specs.OnlyThese.{reads_only, read_only}
 use Rattle.term_text.specs.TermText.{name_text, argument_text, applied_text, term_text, arguments_text, application_text, question_text, probe_text}
 use Rattle.flow_program.specs.declared.listing.Name.{Name}
 use Rattle.flow_program.specs.ProgramText.{signal_fits, term_is_writable, probe_is_writable}
-use Rattle.flow_program.specs.Listing.{PhraseTree, bare, applied, PhraseTrees, no_phrases, more_phrases, count_of_phrases, bytes_of}
+use Rattle.flow_program.specs.Listing.{PhraseTree, bare, applied, PhraseTrees, no_phrases, more_phrases, count_of_phrases, name_bytes}
 use Rattle.flow_program.specs.Listing.{argument_spelling, applied_spelling, phrase_text, phrases_text, bracketed_phrase, phrase_brackets, phrases_brackets, is_phrase, phrase_stands}
-use Rattle.flow_program.specs.Uses.{read_use, tested_use, applied_use, term_uses, terms_uses, test_uses, question_use}
+use Rattle.flow_program.specs.Uses.{read_use, tested_use, applied_use, term_uses, terms_uses, test_uses, question_entry}
 use Rattle.flow_program.specs.internal.Numbering.{numbered, numbered_term, numbered_terms, numbered_test, probe_of}
 use Rattle.flow_program.proofs.KnownUses.{Known, KnownUse}
 
@@ -61,12 +61,12 @@ module _ (names : List NameEntry) (readable : List ℕ) (text : List ℕ) where
     pub argument : (f : ℕ) (at : Name) (bytes : List ℕ) → argument_text (apply f trees) bytes ≡ argument_spelling (applied at ps) bytes
 
   -- the text of a name with arguments
-  with_arguments : (ps : PhraseTrees) (g : TermsGood ps) (id : ℕ) (at : Name) → name_text names id ≡ bytes_of text at →
+  with_arguments : (ps : PhraseTrees) (g : TermsGood ps) (id : ℕ) (at : Name) → name_text names id ≡ name_bytes text at →
       name_text names id ++ applied_text g.trees (arguments_text names g.trees)
-      ≡ bytes_of text at ++ applied_spelling ps (phrases_text text ps)
+      ≡ name_bytes text at ++ applied_spelling ps (phrases_text text ps)
   with_arguments ps g id at is =
       ap (λ a. a ++ applied_text g.trees (arguments_text names g.trees)) is
-      ∙ ap (λ b. bytes_of text at ++ b) (ap (applied_text g.trees) g.spelled ∙ g.applied_as (phrases_text text ps))
+      ∙ ap (λ b. name_bytes text at ++ b) (ap (applied_text g.trees) g.spelled ∙ g.applied_as (phrases_text text ps))
 
   module _ (line : ℕ) where
     mutual
@@ -157,9 +157,9 @@ module _ (names : List NameEntry) (readable : List ℕ) (text : List ℕ) where
   module _ (line : ℕ) where
     bare_good : (at : Name) → KnownUse names readable (tested_use text line at) → TestGood (bare at)
     bare_good at u =
-        let q : Known names question_use = u.asked refl in
+        let q : Known names question_entry = u.asked refl in
         let s : Known names (tested_use text line at).name = u.name in
-        let named : is_name names q.number Predicate 1 ≡ true = is_named names question_use q in
+        let named : is_name names q.number Predicate 1 ≡ true = is_named names question_entry q in
         let term : term_fits names (signal s.number) ≡ true =
         and_from (is_name names s.number Signal 0) (is_usable_at names s.number) (is_named names (tested_use text line at).name s)
         (is_named_usable names (tested_use text line at).name s u.usable) in

@@ -15,7 +15,7 @@ use Rattle.tsl_terms.specs.Clashes.{alike_in_kind, same_arity}
 use Rattle.tsl_terms.specs.WellFormed.{name_fits}
 use Rattle.tsl_terms.specs.internal.FirstUse.{named}
 use Rattle.tsl_terms.proofs.FirstUses.{first_of, named_first, FirstAt, first_at}
-use Rattle.flow_program.specs.Uses.{Use, question_use, named_by, names_of}
+use Rattle.flow_program.specs.Uses.{ProgramUse, question_entry, entries_of_use, names_after}
 use Rattle.flow_program.specs.Rules.{is_unlike}
 use Rattle.flow_program.proofs.WithUses.{are_first, first_behind}
 
@@ -37,23 +37,23 @@ known_of names u f found text kind arity = by (number_of names u.text) refl foun
   by (Some k) e g = record { number = k; entry = f; numbered = e; there = g; text = text; kind = kind; arity = arity }
 
 -- a use has its text among the names that get numbers
-first_use : (us : List Use) (at : ℕ) (u : Use) → slice_get us at ≡ Some u →
-    (f : Name) × (first_of (flat_map named_by us) u.name.text ≡ Some f)
+first_use : (us : List ProgramUse) (at : ℕ) (u : ProgramUse) → slice_get us at ≡ Some u →
+    (f : Name) × (first_of (flat_map entries_of_use us) u.name.text ≡ Some f)
 first_use [] at u there = absurd (cc)
 first_use (v ∷ us) zero u there =
     let same : v ≡ u = cc in (
       v.name,
-      ap (λ b. cond b (Some v.name) (first_of (cond v.is_tested (question_use ∷ []) [] ++ flat_map named_by us) u.name.text))
+      ap (λ b. cond b (Some v.name) (first_of (cond v.is_tested (question_entry ∷ []) [] ++ flat_map entries_of_use us) u.name.text))
           (bytes_same u.name.text v.name.text (ap (λ n. n.name.text) (sym same))),
     )
 first_use (v ∷ us) (suc at) u there =
     let rest = first_use us at u there in
-    let behind = first_behind (named_by v) (flat_map named_by us) u.name.text rest.0 rest.1 in
+    let behind = first_behind (entries_of_use v) (flat_map entries_of_use us) u.name.text rest.0 rest.1 in
     behind
 
 -- so has `?` where a signal is tested
-first_question : (us : List Use) (at : ℕ) (u : Use) → slice_get us at ≡ Some u → IsTrue u.is_tested →
-    (f : Name) × (first_of (flat_map named_by us) question ≡ Some f)
+first_question : (us : List ProgramUse) (at : ℕ) (u : ProgramUse) → slice_get us at ≡ Some u → IsTrue u.is_tested →
+    (f : Name) × (first_of (flat_map entries_of_use us) question ≡ Some f)
 first_question [] at u there asks = absurd (cc)
 first_question (v ∷ us) zero u there asks =
     let same : v ≡ u = cc in
@@ -61,12 +61,12 @@ first_question (v ∷ us) zero u there asks =
     by (bytes_eq question v.name.text) tested
   where
     by : (b : Bool) → v.is_tested ≡ true →
-        (f : Name) × (cond b (Some v.name) (first_of (cond v.is_tested (question_use ∷ []) [] ++ flat_map named_by us) question) ≡ Some f)
+        (f : Name) × (cond b (Some v.name) (first_of (cond v.is_tested (question_entry ∷ []) [] ++ flat_map entries_of_use us) question) ≡ Some f)
     by true e = (v.name, refl)
-    by false e = (question_use, ap (λ t. first_of (cond t (question_use ∷ []) [] ++ flat_map named_by us) question) e)
+    by false e = (question_entry, ap (λ t. first_of (cond t (question_entry ∷ []) [] ++ flat_map entries_of_use us) question) e)
 first_question (v ∷ us) (suc at) u there asks =
     let rest = first_question us at u there asks in
-    first_behind (named_by v) (flat_map named_by us) question rest.0 rest.1
+    first_behind (entries_of_use v) (flat_map entries_of_use us) question rest.0 rest.1
 
 -- a first one passes where all do
 first_passes : (p : Name → Bool) (ns : List Name) (text : List ℕ) (f : Name) → IsTrue (list_all p ns) → first_of ns text ≡ Some f →
@@ -81,38 +81,38 @@ first_passes p (n ∷ ns) text f all is =
     by false here rest e = rest e
 
 -- names that get numbers may be written
-pub named_fit : (us : List Use) → IsTrue (list_all (λ u. is_usable u.name.text) us) → IsTrue (list_all name_fits (flat_map named_by us))
+pub named_fit : (us : List ProgramUse) → IsTrue (list_all (λ u. is_usable u.name.text) us) → IsTrue (list_all name_fits (flat_map entries_of_use us))
 named_fit [] all = refl
 named_fit (u ∷ us) all =
     let parts = and_parts (is_usable u.name.text) (list_all (λ v. is_usable v.name.text) us) all in
-    and_from (name_fits u.name) (list_all name_fits (cond u.is_tested (question_use ∷ []) [] ++ flat_map named_by us))
+    and_from (name_fits u.name) (list_all name_fits (cond u.is_tested (question_entry ∷ []) [] ++ flat_map entries_of_use us))
     (ap (λ b. b || ((bytes_eq u.name.text question && same_kind u.name.kind Predicate) && (u.name.arity == 1))) parts.0)
     (by u.is_tested (named_fit us parts.1))
   where
-    by : (t : Bool) → IsTrue (list_all name_fits (flat_map named_by us)) →
-        IsTrue (list_all name_fits (cond t (question_use ∷ []) [] ++ flat_map named_by us))
+    by : (t : Bool) → IsTrue (list_all name_fits (flat_map entries_of_use us)) →
+        IsTrue (list_all name_fits (cond t (question_entry ∷ []) [] ++ flat_map entries_of_use us))
     by true h = h
     by false h = h
 
 -- what may be written and is `?` is the test of a signal
-question_entry : (f : Name) → f.text ≡ question → IsTrue (name_fits f) →
+question_like : (f : Name) → f.text ≡ question → IsTrue (name_fits f) →
     (same_kind f.kind Predicate ≡ true) × ((f.arity == 1) ≡ true)
-question_entry f is fits =
+question_like f is fits =
     let never : is_usable f.text ≡ false = ap is_usable is in
     let both : ((bytes_eq f.text question && same_kind f.kind Predicate) && (f.arity == 1)) ≡ true =
     sym (ap (λ b. b || ((bytes_eq f.text question && same_kind f.kind Predicate) && (f.arity == 1))) never) ∙ fits in
     let parts = and_parts (bytes_eq f.text question && same_kind f.kind Predicate) (f.arity == 1) both in
     ((and_parts (bytes_eq f.text question) (same_kind f.kind Predicate) parts.0).1, parts.1)
 
-module _ (given : List Name) (distinct : AreDistinct given) (us : List Use) where
+module _ (given : List Name) (distinct : AreDistinct given) (us : List ProgramUse) where
   abbrev all : List Name
-  all = given ++ flat_map named_by us
+  all = given ++ flat_map entries_of_use us
 
-  named_is_first : (text : List ℕ) → named (names_of given us) text ≡ first_of all text
-  named_is_first text = ap (λ names. named names text) (are_first given (flat_map named_by us) distinct) ∙ named_first all text
+  named_is_first : (text : List ℕ) → named (names_after given us) text ≡ first_of all text
+  named_is_first text = ap (λ names. named names text) (are_first given (flat_map entries_of_use us) distinct) ∙ named_first all text
 
-  alike_first : (alike : Name → Name → Bool) (u : Use) (f : Name) → named (names_of given us) u.name.text ≡ Some f →
-      is_unlike alike (names_of given us) u ≡ false → alike f u.name ≡ true
+  alike_first : (alike : Name → Name → Bool) (u : ProgramUse) (f : Name) → named (names_after given us) u.name.text ≡ Some f →
+      is_unlike alike (names_after given us) u ≡ false → alike f u.name ≡ true
   alike_first alike u f found like =
       by (alike f u.name) (sym (ap (λ o. option_map_or (λ n. not (alike n u.name)) o false) found) ∙ like)
     where
@@ -120,32 +120,32 @@ module _ (given : List Name) (distinct : AreDistinct given) (us : List Use) wher
       by true e = refl
       by false e = absurd (cc)
 
-  pub known_name : (at : ℕ) (u : Use) → slice_get us at ≡ Some u → is_unlike alike_in_kind (names_of given us) u ≡ false →
-      is_unlike same_arity (names_of given us) u ≡ false → Known (names_of given us) u.name
+  pub known_name : (at : ℕ) (u : ProgramUse) → slice_get us at ≡ Some u → is_unlike alike_in_kind (names_after given us) u ≡ false →
+      is_unlike same_arity (names_after given us) u ≡ false → Known (names_after given us) u.name
   known_name at u there kinds arities =
       let use_first = first_use us at u there in
-      let first = first_behind given (flat_map named_by us) u.name.text use_first.0 use_first.1 in
+      let first = first_behind given (flat_map entries_of_use us) u.name.text use_first.0 use_first.1 in
       let stands : FirstAt all u.name.text first.0 = first_at all u.name.text first.0 first.1 in
-      let found : named (names_of given us) u.name.text ≡ Some first.0 = named_is_first u.name.text ∙ first.1 in
-      known_of (names_of given us) u.name first.0 found (sym stands.same)
+      let found : named (names_after given us) u.name.text ≡ Some first.0 = named_is_first u.name.text ∙ first.1 in
+      known_of (names_after given us) u.name first.0 found (sym stands.same)
       (alike_first alike_in_kind u first.0 found kinds) (alike_first same_arity u first.0 found arities)
 
   pub known_question : IsTrue (list_all name_fits given) → IsTrue (list_all (λ u. is_usable u.name.text) us) →
-      (at : ℕ) (u : Use) → slice_get us at ≡ Some u → IsTrue u.is_tested → Known (names_of given us) question_use
+      (at : ℕ) (u : ProgramUse) → slice_get us at ≡ Some u → IsTrue u.is_tested → Known (names_after given us) question_entry
   known_question fit usable at u there asks =
       let use_first = first_question us at u there asks in
-      let first = first_behind given (flat_map named_by us) question use_first.0 use_first.1 in
+      let first = first_behind given (flat_map entries_of_use us) question use_first.0 use_first.1 in
       let stands : FirstAt all question first.0 = first_at all question first.0 first.1 in
       let fits : IsTrue (name_fits first.0) = first_passes name_fits all question first.0
-      (list_all-append name_fits given (flat_map named_by us) ∙ and_from _ _ fit (named_fit us usable)) first.1 in
-      let entry = question_entry first.0 (sym stands.same) fits in
-      known_of (names_of given us) question_use first.0 (named_is_first question ∙ first.1) (sym stands.same) entry.0 entry.1
+      (list_all-append name_fits given (flat_map entries_of_use us) ∙ and_from _ _ fit (named_fit us usable)) first.1 in
+      let entry = question_like first.0 (sym stands.same) fits in
+      known_of (names_after given us) question_entry first.0 (named_is_first question ∙ first.1) (sym stands.same) entry.0 entry.1
 
 -- the names know a use, the test of a signal that is tested, and a signal that is read as one of these
-pub record KnownUse (names : List Name) (readable : List ℕ) (u : Use) : Type 0 where
+pub record KnownUse (names : List Name) (readable : List ℕ) (u : ProgramUse) : Type 0 where
   pub name : Known names u.name
   pub usable : is_usable u.name.text ≡ true
-  pub asked : IsTrue u.is_tested → Known names question_use
+  pub asked : IsTrue u.is_tested → Known names question_entry
   pub read : IsTrue u.is_read → is_among readable name.number ≡ true
 
 -- where no member passes, the test fails at each

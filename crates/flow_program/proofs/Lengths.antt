@@ -10,9 +10,9 @@ use Rattle.tsl_terms.specs.Clashes.{added_unless_found, with_use, with_uses}
 use Rattle.tsl_terms.specs.WellFormed.{deepest}
 use Rattle.flow_program.specs.declared.listing.Name.{Name}
 use Rattle.flow_program.specs.Listing.{PhraseTree, bare, applied, PhraseTrees, no_phrases, more_phrases, UpdateLine, ListedLine, WindowLine, NodeLine, branch_line, assignment_line, ListingTree}
-use Rattle.flow_program.specs.Listing.{bytes_of, argument_spelling, applied_spelling, phrase_text, phrases_text, update_spelling, declaration_line_text, listed_line_text, window_line_text, update_line_text, node_line_text, node_lines_text, state_lines_text, listing_text}
+use Rattle.flow_program.specs.Listing.{name_bytes, argument_spelling, applied_spelling, phrase_text, phrases_text, update_spelling, declaration_line_text, listed_line_text, window_line_text, update_line_text, node_line_text, node_lines_text, state_lines_text, listing_text}
 use Rattle.flow_program.specs.Listing.{name_stands, phrase_stands, phrases_stand, phrase_brackets, is_phrase, update_line_stands, listed_line_stands, window_line_stands, node_line_stands, declared, IsListing}
-use Rattle.flow_program.specs.Uses.{Use, question_use, named_by, names_of, term_uses, terms_uses, test_uses, update_uses, listed_uses, window_uses, node_uses, declared_uses, windows_uses, nodes_uses, first_declaration, first_window, first_node, first_state, uses_of}
+use Rattle.flow_program.specs.Uses.{ProgramUse, question_entry, entries_of_use, names_after, term_uses, terms_uses, test_uses, update_uses, listed_uses, window_uses, node_uses, declared_uses, windows_uses, nodes_uses, first_declaration, first_window, first_node, first_state, uses_of}
 use Rattle.flow_program.proofs.UsableUses.{usable}
 use Rattle.flow_program.proofs.UseLemmas.{declared_append}
 use Rattle.std.proofs.lemmas.List.Folds.{list_all-append}
@@ -27,15 +27,15 @@ with_uses_within : (us names : List NameEntry) → length (with_uses names us) �
 with_uses_within [] names = omega arith
 with_uses_within (u ∷ us) names = omega (arith, with_uses_within us (with_use names u), added_within names u (number_of names u.text))
 
-named_within : (us : List Use) → length (flat_map named_by us) ≤ 2 * length us
+named_within : (us : List ProgramUse) → length (flat_map entries_of_use us) ≤ 2 * length us
 named_within [] = omega arith
-named_within (u ∷ us) = omega (arith, length-append (named_by u) (flat_map named_by us), one u.is_tested, named_within us) where
-  one : (b : Bool) → length (cond b (question_use ∷ []) []) ≤ 1
+named_within (u ∷ us) = omega (arith, length-append (entries_of_use u) (flat_map entries_of_use us), one u.is_tested, named_within us) where
+  one : (b : Bool) → length (cond b (question_entry ∷ []) []) ≤ 1
   one true = omega arith
   one false = omega arith
 
-pub names_within : (given : List NameEntry) (us : List Use) → length (names_of given us) ≤ length given + 2 * length us
-names_within given us = omega (arith, with_uses_within (flat_map named_by us) given, named_within us)
+pub names_within : (given : List NameEntry) (us : List ProgramUse) → length (names_after given us) ≤ length given + 2 * length us
+names_within given us = omega (arith, with_uses_within (flat_map entries_of_use us) given, named_within us)
 
 -- ---- bytes
 
@@ -56,8 +56,8 @@ applied_longer no_phrases text = omega arith
 applied_longer (more_phrases p ps) text = omega arith
 
 module _ (text : List ℕ) where
-  name_byte : (at : Name) → name_stands text at ≡ true → 1 ≤ length (bytes_of text at)
-  name_byte at h = has_byte (bytes_of text at) (usable text at h)
+  name_byte : (at : Name) → name_stands text at ≡ true → 1 ≤ length (name_bytes text at)
+  name_byte at h = has_byte (name_bytes text at) (usable text at h)
 
   stands_of : (p : PhraseTree) → is_phrase text p ≡ true → phrase_stands text p ≡ true
   stands_of p h = (and_parts (phrase_stands text p) (nat_le (phrase_brackets p) deepest) h).0
@@ -73,7 +73,7 @@ module _ (text : List ℕ) where
             name_byte at parts.0,
             terms_bytes ps parts.1,
             applied_longer ps text,
-            length-append (bytes_of text at) (applied_spelling ps (phrases_text text ps)),
+            length-append (name_bytes text at) (applied_spelling ps (phrases_text text ps)),
           )
 
       terms_bytes : (ps : PhraseTrees) → phrases_stand text ps ≡ true → 2 * length (terms_uses text line ps) ≤ length (phrases_text text ps)
@@ -101,14 +101,14 @@ module _ (text : List ℕ) where
             name_byte at parts.0,
             terms_bytes ps parts.1,
             applied_longer ps text,
-            length-append (bytes_of text at) (applied_spelling ps (phrases_text text ps)),
+            length-append (name_bytes text at) (applied_spelling ps (phrases_text text ps)),
           )
 
     update_bytes : (at : Name) (p : PhraseTree) → (name_stands text at && is_phrase text p) ≡ true →
         2 * suc (length (term_uses text line p)) ≤ length (update_spelling text at p)
     update_bytes at p h =
         let parts = and_parts (name_stands text at) (is_phrase text p) h in
-        let a = bytes_of text at in
+        let a = name_bytes text at in
         let b = phrase_text text p in
         omega (
           arith,
@@ -239,8 +239,8 @@ module _ (text : List ℕ) where
         name_byte d parts.0,
         declared_bytes word some (suc line) ds parts.1,
         length-append (declaration_line_text text word d) (flat_map (declaration_line_text text word) ds),
-        length-append (word ++ bytes_of text d) (codes "\n"),
-        length-append word (bytes_of text d),
+        length-append (word ++ name_bytes text d) (codes "\n"),
+        length-append word (name_bytes text d),
       )
 
   windows_bytes : (line : ℕ) (ws : List WindowLine) → list_all (window_line_stands text) ws ≡ true →

@@ -10,13 +10,13 @@ use Rattle.tsl_terms.specs.Name.{AreDistinct}
 use Rattle.flow_program.specs.declared.listing.Name.{Name}
 use Rattle.flow_program.specs.ListingTree.{PhraseTree, bare, applied, PhraseTrees, no_phrases, more_phrases, UpdateLine, ListedLine, WindowLine, NodeLine, branch_line, assignment_line, ListingTree}
 use Rattle.flow_program.specs.LineText.{Piece, word, named, Place, Stand, argument_pieces, phrase_pieces, phrases_pieces, LineTree, input, cell, output, window, node, state, end_line, update_pieces, set_pieces, listed_pieces, placed_pieces, window_pieces, node_pieces, line_pieces, ended_pieces, is_shallow, is_short, listed_is_within, placed_is_within, window_is_within, node_is_within, line_is_within, node_lines, state_lines, listing_lines}
-use Rattle.flow_program.specs.Listing.{bytes_of, argument_spelling, phrase_text, phrases_text, update_spelling, declaration_line_text, listed_line_text, window_line_text, update_line_text, node_line_text, node_lines_text, state_lines_text, listing_text, name_stands, phrase_stands, phrases_stand, is_phrase, update_line_stands, listed_line_stands, window_line_stands, node_line_stands, signal_named, declared, IsListing}
+use Rattle.flow_program.specs.Listing.{name_bytes, argument_spelling, phrase_text, phrases_text, update_spelling, declaration_line_text, listed_line_text, window_line_text, update_line_text, node_line_text, node_lines_text, state_lines_text, listing_text, name_stands, phrase_stands, phrases_stand, is_phrase, update_line_stands, listed_line_stands, window_line_stands, node_line_stands, declared_entry, declared, IsListing}
 
 -- ---- pieces in a text
 
 abbrev pub piece_text : List ℕ → Piece → List ℕ
 piece_text text (word w) = w
-piece_text text (named n) = bytes_of text n
+piece_text text (named n) = name_bytes text n
 
 abbrev pub pieces_text : List ℕ → List Piece → List ℕ
 pieces_text text xs = flat_map (piece_text text) xs
@@ -35,19 +35,19 @@ pub record InText (text : List ℕ) (xs : List Piece) (p q : Place) : Type 0 whe
 -- a name that stands has its bytes, and lies within the text
 named_in : (front name rest : List ℕ) → IsTrue (is_usable name) → (n : Name) →
     n ≡ record { start = length front; end = length front + length name } →
-    (bytes_of (front ++ (name ++ rest)) n ≡ name) × (name_stands (front ++ (name ++ rest)) n ≡ true)
+    (name_bytes (front ++ (name ++ rest)) n ≡ name) × (name_stands (front ++ (name ++ rest)) n ≡ true)
 named_in front name rest usable n e =
     let text : List ℕ = front ++ (name ++ rest) in
     let start : n.start ≡ length front = ap (λ (m : Name). m.start) e in
     let end : n.end ≡ length front + length name = ap (λ (m : Name). m.end) e in
     let long : n.end - n.start ≡ length name = omega arith in
-    let bytes : bytes_of text n ≡ name =
+    let bytes : name_bytes text n ≡ name =
     ap (λ (k : ℕ). take k (drop n.start text)) long ∙ ap (λ (k : ℕ). take (length name) (drop k text)) start
     ∙ ap (take (length name)) (drop-append_seam front (name ++ rest)) ∙ take-append_seam name rest in
     let whole : length text ≡ length front + (length name + length rest) =
     length-append front (name ++ rest) ∙ ap (λ (k : ℕ). length front + k) (length-append name rest) in (
       bytes,
-      and_from (leb n.start n.end && leb n.end (length text)) (is_usable (bytes_of text n))
+      and_from (leb n.start n.end && leb n.end (length text)) (is_usable (name_bytes text n))
           (and_from (leb n.start n.end) (leb n.end (length text)) (le-leb n.start n.end (omega arith)) (le-leb n.end (length text) (omega arith)))
           (ap is_usable bytes ∙ usable),
     )
@@ -73,11 +73,11 @@ in_text text (named n ∷ xs) p q front e at s =
     let place : n ≡ record { start = length front; end = length front + length name } =
     s.4 ∙ ap (λ (k : ℕ). record { start = k; end = k + length name }) (sym at) in
     let here = named_in front name rest s.3 n place in
-    let bytes : bytes_of text n ≡ name = ap (λ (zs : List ℕ). bytes_of zs n) split ∙ here.0 in
+    let bytes : name_bytes text n ≡ name = ap (λ (zs : List ℕ). name_bytes zs n) split ∙ here.0 in
     record {
       spelled = s.2 ∙ ap (λ (zs : List ℕ). name ++ zs) more.spelled
           ∙ ap (λ (zs : List ℕ). zs ++ (pieces_text text xs ++ q.bytes)) (sym bytes)
-          ∙ sym (append_assoc (bytes_of text n) (pieces_text text xs) q.bytes);
+          ∙ sym (append_assoc (name_bytes text n) (pieces_text text xs) q.bytes);
       stand = and_from (name_stands text n) (pieces_stand text xs) (ap (λ (zs : List ℕ). name_stands zs n) split ∙ here.1) more.stand;
     }
 
@@ -117,9 +117,9 @@ many_stand text pieces good stands each (a ∷ as') h k =
 module _ (text : List ℕ) where
   mutual
     phrase_spelled : (v : PhraseTree) → pieces_text text (phrase_pieces v) ≡ phrase_text text v
-    phrase_spelled (bare n) = append-nil (bytes_of text n)
+    phrase_spelled (bare n) = append-nil (name_bytes text n)
     phrase_spelled (applied n no_phrases) = refl
-    phrase_spelled (applied n (more_phrases v vs)) = ap (λ (zs : List ℕ). bytes_of text n ++ zs) (phrases_spelled (more_phrases v vs))
+    phrase_spelled (applied n (more_phrases v vs)) = ap (λ (zs : List ℕ). name_bytes text n ++ zs) (phrases_spelled (more_phrases v vs))
 
     phrases_spelled : (vs : PhraseTrees) → pieces_text text (phrases_pieces vs) ≡ phrases_text text vs
     phrases_spelled no_phrases = refl
@@ -130,12 +130,12 @@ module _ (text : List ℕ) where
         (pieces_append text (argument_pieces v (phrase_pieces v)) (phrases_pieces vs) ∙ (λ i. first i ++ rest i))
 
     argument_spelled : (v : PhraseTree) → pieces_text text (argument_pieces v (phrase_pieces v)) ≡ argument_spelling v (phrase_text text v)
-    argument_spelled (bare n) = append-nil (bytes_of text n)
+    argument_spelled (bare n) = append-nil (name_bytes text n)
     argument_spelled (applied n no_phrases) = refl
     argument_spelled (applied n (more_phrases v vs)) =
         ap (λ (zs : List ℕ). 40 ∷ zs)
         (pieces_append text (phrase_pieces (applied n (more_phrases v vs))) (word (codes ")") ∷ [])
-        ∙ ap (λ (zs : List ℕ). (bytes_of text n ++ zs) ++ codes ")") (phrases_spelled (more_phrases v vs)))
+        ∙ ap (λ (zs : List ℕ). (name_bytes text n ++ zs) ++ codes ")") (phrases_spelled (more_phrases v vs)))
 
   mutual
     phrase_is : (v : PhraseTree) → pieces_stand text (phrase_pieces v) ≡ true → phrase_stands text v ≡ true
@@ -173,9 +173,9 @@ four a b c d = simp (append_assoc, append-nil)
 module _ (text : List ℕ) where
   update_spelled : (s : Name) (t : PhraseTree) → pieces_text text (update_pieces s t) ≡ update_spelling text s t
   update_spelled s t =
-      ap (λ (zs : List ℕ). codes "[" ++ (bytes_of text s ++ (codes " <- " ++ zs)))
+      ap (λ (zs : List ℕ). codes "[" ++ (name_bytes text s ++ (codes " <- " ++ zs)))
       (pieces_append text (phrase_pieces t) (word (codes "]") ∷ []) ∙ ap (λ (zs : List ℕ). zs ++ codes "]") (phrase_spelled text t))
-      ∙ five (codes "[") (bytes_of text s) (codes " <- ") (phrase_text text t) (codes "]")
+      ∙ five (codes "[") (name_bytes text s) (codes " <- ") (phrase_text text t) (codes "]")
 
   set_spelled : (u : UpdateLine) → pieces_text text (set_pieces u) ≡ update_line_text text u
   set_spelled u = ap (λ (zs : List ℕ). codes " " ++ zs) (update_spelled u.signal u.term)
@@ -322,7 +322,7 @@ module _ (text : List ℕ) (w : List ℕ) (make : Name → LineTree) (is : (n : 
 
   declaration_spelled : (n : Name) → pieces_text text (ended_pieces (make n)) ≡ declaration_line_text text w n
   declaration_spelled n =
-      ap (λ (xs : List Piece). pieces_text text (xs ++ word (codes "\n") ∷ [])) (is n) ∙ three w (bytes_of text n) (codes "\n")
+      ap (λ (xs : List Piece). pieces_text text (xs ++ word (codes "\n") ∷ [])) (is n) ∙ three w (name_bytes text n) (codes "\n")
 
   declarations_spelled : (ns : List Name) → pieces_text text (flat_map ended_pieces (map make ns)) ≡ flat_map (declaration_line_text text w) ns
   declarations_spelled [] = refl
@@ -425,7 +425,7 @@ all_joined p (x ∷ xs) ys h k =
 -- what stands in a text in the order of a listing's lines is the listing of the text
 pub listing_from : (text : List ℕ) (l : ListingTree) (end : ℕ) →
     Stand (flat_map ended_pieces (listing_lines l)) (record { at = 0; bytes = text }) (record { at = end; bytes = [] }) →
-    IsTrue (list_all line_is_within (listing_lines l)) → AreDistinct (map (signal_named text) (declared l)) → 0 < length l.nodes →
+    IsTrue (list_all line_is_within (listing_lines l)) → AreDistinct (map (declared_entry text) (declared l)) → 0 < length l.nodes →
     0 < length l.states → IsListing text l
 listing_from text l end s within distinct some_node some_state =
     let here = in_text text (lines_pieces (listing_lines l)) (record { at = 0; bytes = text }) (record { at = end; bytes = [] }) [] refl refl s in

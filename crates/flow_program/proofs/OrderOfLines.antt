@@ -8,7 +8,7 @@ use Rattle.flow_program.specs.declared.listing.Name.{Name}
 use Rattle.flow_program.specs.ListingTree.{WindowLine, NodeLine, ListingTree, empty_listing, listing_tree}
 use Rattle.tsl_terms.specs.Name.{Name as NameEntry}
 use Rattle.flow_program.specs.declared.listing_reader.Begun.{Begun}
-use Rattle.flow_program.specs.Listing.{declared, signal_named}
+use Rattle.flow_program.specs.Listing.{declared, declared_entry}
 use Rattle.flow_program.specs.LineText.{LineTree, head_line, input, cell, output, window, node, state, end_line, node_lines, state_lines, listing_lines}
 use Rattle.flow_program.specs.internal.LineOrder.{may_stand, extended, Progress, fresh, going, done, is_nil, no_node, no_window, no_output, no_cell, when, added, add, add_all, listing_of, declares, names_so_far, progress_of}
 
@@ -357,10 +357,10 @@ progress_listing b = by_end b.ended where
   by_end false = refl
 
 pub names_grow : (text : List ℕ) (l : ListingTree) (t : LineTree) (b : Begun) (old new : List NameEntry) → may_stand l t ≡ true →
-    progress_of b ≡ extended l t → old ≡ names_so_far text l → new ≡ old ++ map (signal_named text) (declares t) →
+    progress_of b ≡ extended l t → old ≡ names_so_far text l → new ≡ old ++ map (declared_entry text) (declares t) →
     new ≡ names_so_far text (listing_tree b.listing)
 names_grow text l t b old new h e f g =
-    g ∙ ap (λ (ns : List NameEntry). ns ++ map (signal_named text) (declares t)) f
-    ∙ sym (map-append (signal_named text) (declared l) (declares t))
-    ∙ ap (map (signal_named text)) (sym (extended_names l t h) ∙ ap (λ (p : Progress). declared (listing_of p)) (sym e)
+    g ∙ ap (λ (ns : List NameEntry). ns ++ map (declared_entry text) (declares t)) f
+    ∙ sym (map-append (declared_entry text) (declared l) (declares t))
+    ∙ ap (map (declared_entry text)) (sym (extended_names l t h) ∙ ap (λ (p : Progress). declared (listing_of p)) (sym e)
     ∙ ap declared (progress_listing b))

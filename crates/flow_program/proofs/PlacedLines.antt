@@ -18,8 +18,8 @@ use Rattle.flow_program.specs.declared.listing.Name.{Name}
 use Rattle.flow_program.specs.NodeTree.{NodeTree, branch, assign}
 use Rattle.flow_program.specs.ProgramText.{declarations, updates_text, node_text, nodes_text, states_text, signal_fits, term_is_writable, probe_is_writable, listed_is_writable, window_is_writable, node_is_writable}
 use Rattle.flow_program.specs.LineText.{Piece, word, named, LineTree, window as window_tree_line, node as node_tree_line, state as state_tree_line, phrase_pieces, update_pieces, set_pieces, listed_pieces, placed_pieces, window_pieces, node_pieces, line_pieces, ended_pieces, is_short, is_shallow, listed_is_within, window_is_within, node_is_within, line_is_within, node_lines, state_lines}
-use Rattle.flow_program.specs.Listing.{PhraseTree, bytes_of, phrase_brackets, UpdateLine, ListedLine, WindowLine, NodeLine, branch_line, assignment_line}
-use Rattle.flow_program.specs.Uses.{Use, signal_use, term_uses, test_uses, update_uses, listed_uses, window_uses, node_uses, declared_uses, windows_uses, nodes_uses}
+use Rattle.flow_program.specs.Listing.{PhraseTree, name_bytes, phrase_brackets, UpdateLine, ListedLine, WindowLine, NodeLine, branch_line, assignment_line}
+use Rattle.flow_program.specs.Uses.{ProgramUse, signal_use, term_uses, test_uses, update_uses, listed_uses, window_uses, node_uses, declared_uses, windows_uses, nodes_uses}
 use Rattle.flow_program.specs.Rules.{are_texts, breaks_order, goes_nowhere, breaks_updates}
 use Rattle.flow_program.proofs.Runs.{Run, name_at, run_none, run_word, run_name, run_append, Occurs, occurs_left, occurs_right, bytes_at}
 use Rattle.flow_program.proofs.PlacedTerms.{HeldUse, usable_text, signal_held, TermPlaced, term_placed, TestPlaced, test_placed}
@@ -28,7 +28,7 @@ pub short_is : (n : ℕ) → n ≤ 65536 → is_short n ≡ true
 short_is n h = lt-ltb n 1000000000000000000 (omega (arith, h))
 
 module _ (names : List NameEntry) (readable : List ℕ) (text : List ℕ) where
-  abbrev Held : List Use → Type 0
+  abbrev Held : List ProgramUse → Type 0
   Held us = AllByRecursion (HeldUse names readable) us
 
   shallow : (p : PhraseTree) (d : ℕ) → phrase_brackets p ≡ d → nat_le d deepest ≡ true → is_shallow p ≡ true
@@ -40,7 +40,7 @@ module _ (names : List NameEntry) (readable : List ℕ) (text : List ℕ) where
     pub signal : Name
     pub term : PhraseTree
     pub runs : Run (update_pieces signal term) front (update_text names s t)
-    pub text_is : bytes_of text signal ≡ name_text names s
+    pub text_is : name_bytes text signal ≡ name_text names s
     pub flat : is_shallow term ≡ true
     pub held : (line : ℕ) → Held (signal_use text line signal ∷ term_uses text line term)
 
@@ -82,7 +82,7 @@ module _ (names : List NameEntry) (readable : List ℕ) (text : List ℕ) where
   pub record SetPlaced (ids : List ℕ) (ts : List TermTree) (front : List ℕ) : Type 0 where
     pub updates : List UpdateLine
     pub runs : Run (flat_map set_pieces updates) front (updates_text names ids ts)
-    pub texts_are : map (λ u. bytes_of text u.signal) updates ≡ map (name_text names) ids
+    pub texts_are : map (λ u. name_bytes text u.signal) updates ≡ map (name_text names) ids
     pub flat : list_all (λ u. is_shallow u.term) updates ≡ true
     pub held : (line : ℕ) → Held (flat_map (update_uses text line) updates)
 
@@ -121,7 +121,7 @@ module _ (names : List NameEntry) (readable : List ℕ) (text : List ℕ) where
   AreListed [] [] = Unit {0}
   AreListed [] (u ∷ us) = ⊥
   AreListed (x ∷ xs) [] = ⊥
-  AreListed (x ∷ xs) (u ∷ us) = (bytes_of text u.signal ≡ name_text names x.signal) × ((u.offset ≡ x.offset) × AreListed xs us)
+  AreListed (x ∷ xs) (u ∷ us) = (name_bytes text u.signal ≡ name_text names x.signal) × ((u.offset ≡ x.offset) × AreListed xs us)
 
   record AllListedPlaced (xs : List ListedTree) (front : List ℕ) : Type 0 where
     pub updates : List ListedLine
@@ -368,7 +368,7 @@ module _ (names : List NameEntry) (readable : List ℕ) (text : List ℕ) where
               (and_from (list_all (λ u. is_shallow u.term) p.updates) (is_short go) p.flat (short_is go (omega (arith, few_states, keeps.1))));
           order = refl;
           go_is = ap not (lt-ltb go states keeps.1);
-          updates_are = ap not (same_texts (map (λ u. bytes_of text u.signal) p.updates) controlled_texts (p.texts_are ∙ controlled_are));
+          updates_are = ap not (same_texts (map (λ u. name_bytes text u.signal) p.updates) controlled_texts (p.texts_are ∙ controlled_are));
           held = p.held;
         }
 
@@ -492,7 +492,7 @@ module _ (names : List NameEntry) (readable : List ℕ) (text : List ℕ) where
   pub record DeclaredPlaced (w : List ℕ) (make : Name → LineTree) (ids : List ℕ) (front : List ℕ) : Type 0 where
     pub ats : List Name
     pub runs : Run (flat_map ended_pieces (map make ats)) front (declarations w names ids)
-    pub texts_are : map (bytes_of text) ats ≡ map (name_text names) ids
+    pub texts_are : map (name_bytes text) ats ≡ map (name_text names) ids
     pub within : list_all line_is_within (map make ats) ≡ true
     pub held : (line : ℕ) → Held (declared_uses text line ats)
 

@@ -28,9 +28,9 @@ use Rattle.flow_program.specs.ProgramTree.{ProgramTree, controlled}
 use Rattle.flow_program.specs.Fits.{longest, rises, comes_before, window_fits, window_is_shaped, window_reads_only, stands_before as stands_among}
 use Rattle.flow_program.specs.ProgramText.{declarations, nodes_text, states_text, program_text, signal_fits, window_is_writable, node_is_writable, most_windows, most_nodes, most_states, IsWritable, IsProgram, ProgramText}
 use Rattle.flow_program.specs.LineText.{Piece, word, LineTree, head_line, end_line, input, cell, output, window as window_tree_line, ended_pieces, line_is_within, node_lines, state_lines, listing_lines, Stand}
-use Rattle.flow_program.specs.Listing.{bytes_of, signal_named, declared, ListedLine, WindowLine, NodeLine, ListingTree, IsListing}
-use Rattle.flow_program.specs.Uses.{Use, question_use, named_by, names_of, declared_uses, windows_uses, nodes_uses, first_declaration, first_window, first_node, first_state, uses_of}
-use Rattle.flow_program.specs.Rules.{first_place, first_line, breaks_order, goes_nowhere, is_nowhere, breaks_updates, places_rise, place_in, place_of_cell, stands_before, listed_rise, is_cell_within, breaks_window, cells_of, readable_of, controlled_of, is_unknown, is_unlike, at_line, at_use, over, first_there, line_fault, use_fault, limit_fault, fault_of}
+use Rattle.flow_program.specs.Listing.{name_bytes, declared_entry, declared, ListedLine, WindowLine, NodeLine, ListingTree, IsListing}
+use Rattle.flow_program.specs.Uses.{ProgramUse, question_entry, entries_of_use, names_after, declared_uses, windows_uses, nodes_uses, first_declaration, first_window, first_node, first_state, uses_of}
+use Rattle.flow_program.specs.Rules.{first_place, first_line, breaks_order, goes_nowhere, is_nowhere, breaks_updates, places_rise, place_in, place_of_cell, stands_before, listed_rise, is_cell_within, breaks_window, cell_texts, readable_of, controlled_of, is_unknown, is_unlike, at_line, at_use, over, first_there, line_fault, use_fault, limit_fault, fault_of}
 use Rattle.std.proofs.lemmas.Bool.{eqb-true}
 use Rattle.std.proofs.lemmas.Option.{same_Some, slice_get-map}
 use Rattle.std.specs.List.{position_or_len}
@@ -99,12 +99,12 @@ module _ (names : List NameEntry) where
   with_uses_in (u ∷ us) kept each uses = with_uses_in us (with_use kept u) (added_in kept u (number_of kept u.text) each uses.0) uses.1
 
   -- the names that get numbers by uses that are held
-  named_in : (readable : List ℕ) (us : List Use) → AllByRecursion (HeldUse names readable) us →
-      AllByRecursion (InNames names) (flat_map named_by us)
+  named_in : (readable : List ℕ) (us : List ProgramUse) → AllByRecursion (HeldUse names readable) us →
+      AllByRecursion (InNames names) (flat_map entries_of_use us)
   named_in readable [] h = tt
   named_in readable (u ∷ us) h = ((h.0.id, h.0.there), by u.is_tested refl (named_in readable us h.1)) where
-    by : (t : Bool) → u.is_tested ≡ t → AllByRecursion (InNames names) (flat_map named_by us) →
-        AllByRecursion (InNames names) (cond t (question_use ∷ []) [] ++ flat_map named_by us)
+    by : (t : Bool) → u.is_tested ≡ t → AllByRecursion (InNames names) (flat_map entries_of_use us) →
+        AllByRecursion (InNames names) (cond t (question_entry ∷ []) [] ++ flat_map entries_of_use us)
     by true e k = (h.0.asked e, k)
     by false e k = k
 
@@ -126,7 +126,7 @@ module _ (names : List NameEntry) where
   module _ (distinct : AreDistinct names) where
     -- a use is like the name of its text
     like : (alike : NameEntry → NameEntry → Bool) → ((n : NameEntry) → alike n n ≡ true) → (kept : List NameEntry) →
-        AllByRecursion (InNames names) kept → (readable : List ℕ) (u : Use) → HeldUse names readable u → is_unlike alike kept u ≡ false
+        AllByRecursion (InNames names) kept → (readable : List ℕ) (u : ProgramUse) → HeldUse names readable u → is_unlike alike kept u ≡ false
     like alike itself kept each readable u held = by (number_of kept u.name.text) refl where
       by_entry : (i : ℕ) → number_of kept u.name.text ≡ Some i → (found : Option NameEntry) → slice_get kept i ≡ found →
           option_map_or (λ n. not (alike n u.name)) found false ≡ false
@@ -147,7 +147,7 @@ module _ (names : List NameEntry) where
           ∙ by_entry i e (slice_get kept i) refl
 
     pub none_unlike : (alike : NameEntry → NameEntry → Bool) → ((n : NameEntry) → alike n n ≡ true) → (kept : List NameEntry) →
-        AllByRecursion (InNames names) kept → (readable : List ℕ) (us : List Use) → AllByRecursion (HeldUse names readable) us →
+        AllByRecursion (InNames names) kept → (readable : List ℕ) (us : List ProgramUse) → AllByRecursion (HeldUse names readable) us →
         find (is_unlike alike kept) us ≡ None
     none_unlike alike itself kept each readable us held =
         find_none (is_unlike alike kept) us (each_weaker (HeldUse names readable) (λ u. is_unlike alike kept u ≡ false)
@@ -211,8 +211,8 @@ in_order (c ∷ cs) r s h = by ((c == r) && is_among cs s) refl h (in_order cs r
 -- ---- windows
 
 module _ (names : List NameEntry) (distinct : AreDistinct names) (readable : List ℕ) (text : List ℕ) (cells : List ℕ)
-    (cells_fit : list_all (signal_fits names) cells ≡ true) (once : IsDistinct cells) (cell_texts : List (List ℕ))
-    (cells_are : cell_texts ≡ map (name_text names) cells) where
+    (cells_fit : list_all (signal_fits names) cells ≡ true) (once : IsDistinct cells) (texts_of_cells : List (List ℕ))
+    (cells_are : texts_of_cells ≡ map (name_text names) cells) where
   fits_at : (cs : List ℕ) (i s : ℕ) → list_all (signal_fits names) cs ≡ true → slice_get cs i ≡ Some s → signal_fits names s ≡ true
   fits_at [] i s fits is = absurd (cc)
   fits_at (c ∷ cs) zero s fits is =
@@ -221,20 +221,20 @@ module _ (names : List NameEntry) (distinct : AreDistinct names) (readable : Lis
   fits_at (c ∷ cs) (suc i) s fits is = fits_at cs i s (and_parts (signal_fits names c) (list_all (signal_fits names) cs) fits).1 is
 
   -- the place of a cell among the texts is its place among the numbers
-  cell_place : (i s : ℕ) → slice_get cells i ≡ Some s → place_in cell_texts (name_text names s) ≡ Some i
+  cell_place : (i s : ℕ) → slice_get cells i ≡ Some s → place_in texts_of_cells (name_text names s) ≡ Some i
   cell_place i s is =
-      let there : slice_get cell_texts i ≡ Some (name_text names s) =
+      let there : slice_get texts_of_cells i ≡ Some (name_text names s) =
       ap (λ ts. slice_get ts i) cells_are ∙ slice_get-map (name_text names) cells i ∙ ap (option_map (name_text names)) is in
-      let found = placed_some cell_texts i (name_text names s) there in
+      let found = placed_some texts_of_cells i (name_text names s) there in
       let stands : slice_get (map (name_text names) cells) found.0 ≡ Some (name_text names s) =
-      ap (λ ts. slice_get ts found.0) (sym cells_are) ∙ place_at cell_texts (name_text names s) found.0 found.1 in
+      ap (λ ts. slice_get ts found.0) (sym cells_are) ∙ place_at texts_of_cells (name_text names s) found.0 found.1 in
       let other = at_map (name_text names) cells found.0 (name_text names s) stands in
       let same : other.0 ≡ s = same_id names distinct other.0 s (fits_at cells found.0 other.0 cells_fit other.1) (fits_at cells i s cells_fit is) other.2 in
       let place : found.0 ≡ i = once found.0 i s (other.1 ∙ ap Some same) is in
       found.1 ∙ ap Some place
 
   all_within : (n : ℕ) (xs : List ListedTree) (us : List ListedLine) → AreListed names readable text xs us →
-      list_all (λ x. nat_lt x.offset n && is_among cells x.signal) xs ≡ true → list_all (is_cell_within text cell_texts n) us ≡ true
+      list_all (λ x. nat_lt x.offset n && is_among cells x.signal) xs ≡ true → list_all (is_cell_within text texts_of_cells n) us ≡ true
   all_within n [] [] are h = refl
   all_within n [] (u ∷ us) are h = absurd are
   all_within n (x ∷ xs) [] are h = absurd are
@@ -242,9 +242,9 @@ module _ (names : List NameEntry) (distinct : AreDistinct names) (readable : Lis
       let parts = and_parts (nat_lt x.offset n && is_among cells x.signal) (list_all (λ y. nat_lt y.offset n && is_among cells y.signal) xs) h in
       let here = and_parts (nat_lt x.offset n) (is_among cells x.signal) parts.0 in
       let place = among_place cells x.signal here.1 in
-      let found : place_of_cell text cell_texts u ≡ Some place.0 = ap (place_in cell_texts) are.0 ∙ cell_place place.0 x.signal place.1 in
-      and_from (is_cell_within text cell_texts n u) (list_all (is_cell_within text cell_texts n) us)
-      (and_from (nat_lt u.offset n) (is_some (place_of_cell text cell_texts u)) (ap (λ k. nat_lt k n) are.1.0 ∙ here.0) (ap is_some found))
+      let found : place_of_cell text texts_of_cells u ≡ Some place.0 = ap (place_in texts_of_cells) are.0 ∙ cell_place place.0 x.signal place.1 in
+      and_from (is_cell_within text texts_of_cells n u) (list_all (is_cell_within text texts_of_cells n) us)
+      (and_from (nat_lt u.offset n) (is_some (place_of_cell text texts_of_cells u)) (ap (λ k. nat_lt k n) are.1.0 ∙ here.0) (ap is_some found))
       (all_within n xs us are.1.1 parts.1)
 
   or_and_weaker : (a b c d : Bool) → (c ≡ true → d ≡ true) → (a || (b && c)) ≡ true → (a || (b && d)) ≡ true
@@ -252,17 +252,17 @@ module _ (names : List NameEntry) (distinct : AreDistinct names) (readable : Lis
   or_and_weaker false true c d f h = f h
   or_and_weaker false false c d f h = h
 
-  places_in_order : (x y : ListedTree) (u v : ListedLine) → bytes_of text u.signal ≡ name_text names x.signal →
-      bytes_of text v.signal ≡ name_text names y.signal → stands_among cells x.signal y.signal ≡ true →
-      places_rise (place_of_cell text cell_texts u) (place_of_cell text cell_texts v) ≡ true
+  places_in_order : (x y : ListedTree) (u v : ListedLine) → name_bytes text u.signal ≡ name_text names x.signal →
+      name_bytes text v.signal ≡ name_text names y.signal → stands_among cells x.signal y.signal ≡ true →
+      places_rise (place_of_cell text texts_of_cells u) (place_of_cell text texts_of_cells v) ≡ true
   places_in_order x y u v is too h =
       let o : InOrder cells x.signal y.signal = in_order cells x.signal y.signal h in
-      let first : place_of_cell text cell_texts u ≡ Some o.first = ap (place_in cell_texts) is ∙ cell_place o.first x.signal o.at_first in
-      let second : place_of_cell text cell_texts v ≡ Some o.second = ap (place_in cell_texts) too ∙ cell_place o.second y.signal o.at_second in
+      let first : place_of_cell text texts_of_cells u ≡ Some o.first = ap (place_in texts_of_cells) is ∙ cell_place o.first x.signal o.at_first in
+      let second : place_of_cell text texts_of_cells v ≡ Some o.second = ap (place_in texts_of_cells) too ∙ cell_place o.second y.signal o.at_second in
       (λ i. places_rise (first i) (second i)) ∙ lt-ltb o.first o.second o.less
 
   all_rise : (xs : List ListedTree) (us : List ListedLine) → AreListed names readable text xs us → rises cells xs ≡ true →
-      listed_rise text cell_texts us ≡ true
+      listed_rise text texts_of_cells us ≡ true
   all_rise [] [] are h = refl
   all_rise [] (u ∷ us) are h = absurd are
   all_rise (x ∷ xs) [] are h = absurd are
@@ -272,34 +272,34 @@ module _ (names : List NameEntry) (distinct : AreDistinct names) (readable : Lis
   all_rise (x ∷ y ∷ xs) (u ∷ v ∷ us) are h =
       let parts = and_parts (comes_before cells x y) (rises cells (y ∷ xs)) h in
       let next = are.1.1 in
-      and_from (stands_before text cell_texts u v) (listed_rise text cell_texts (v ∷ us))
+      and_from (stands_before text texts_of_cells u v) (listed_rise text texts_of_cells (v ∷ us))
       (rw (are.1.0, next.1.0) (or_and_weaker (nat_lt x.offset y.offset) (x.offset == y.offset) (stands_among cells x.signal y.signal)
-      (places_rise (place_of_cell text cell_texts u) (place_of_cell text cell_texts v)) (places_in_order x y u v are.0 next.0) parts.0))
+      (places_rise (place_of_cell text texts_of_cells u) (place_of_cell text texts_of_cells v)) (places_in_order x y u v are.0 next.0) parts.0))
       (all_rise (y ∷ xs) (v ∷ us) next parts.1)
 
   pub window_keeps : (x : WindowTree) (w : WindowLine) (number : ℕ) → SameWindow names readable text x w →
-      window_fits readable cells x ≡ true → breaks_window text cell_texts number w ≡ false
+      window_fits readable cells x ≡ true → breaks_window text texts_of_cells number w ≡ false
   window_keeps x w number same fits =
       let shaped = (and_parts (window_is_shaped cells x) (window_reads_only readable x) fits).0 in
       let parts = and_parts (nat_le x.length longest && nat_le x.left_at x.length)
       (list_all (λ u. nat_lt u.offset x.length && is_among cells u.signal) x.updates && rises cells x.updates) shaped in
       let listed = and_parts (list_all (λ u. nat_lt u.offset x.length && is_among cells u.signal) x.updates) (rises cells x.updates) parts.1 in
       ap not (and_from (nat_le w.length longest && nat_le w.left_at w.length)
-      (list_all (is_cell_within text cell_texts w.length) w.updates && listed_rise text cell_texts w.updates)
+      (list_all (is_cell_within text texts_of_cells w.length) w.updates && listed_rise text texts_of_cells w.updates)
       ((λ i. nat_le (same.length_is i) longest && nat_le (same.left_at_is i) (same.length_is i)) ∙ parts.0)
-      (and_from (list_all (is_cell_within text cell_texts w.length) w.updates) (listed_rise text cell_texts w.updates)
-      (ap (λ n. list_all (is_cell_within text cell_texts n) w.updates) same.length_is ∙ all_within x.length x.updates w.updates same.are listed.0)
+      (and_from (list_all (is_cell_within text texts_of_cells w.length) w.updates) (listed_rise text texts_of_cells w.updates)
+      (ap (λ n. list_all (is_cell_within text texts_of_cells n) w.updates) same.length_is ∙ all_within x.length x.updates w.updates same.are listed.0)
       (all_rise x.updates w.updates same.are listed.1)))
 
   pub windows_keep : (xs : List WindowTree) (ws : List WindowLine) → AreWindows names readable text xs ws →
       list_all (window_fits readable cells) xs ≡ true → (i : ℕ) (w : WindowLine) → slice_get ws i ≡ Some w → (number : ℕ) →
-      breaks_window text cell_texts number w ≡ false
+      breaks_window text texts_of_cells number w ≡ false
   windows_keep [] [] are fits i w is number = absurd (cc)
   windows_keep [] (v ∷ ws) are fits i w is number = absurd are
   windows_keep (x ∷ xs) [] are fits i w is number = absurd are
   windows_keep (x ∷ xs) (v ∷ ws) are fits zero w is number =
       let same : v ≡ w = cc in
-      ap (breaks_window text cell_texts number) (sym same)
+      ap (breaks_window text texts_of_cells number) (sym same)
       ∙ window_keeps x v number are.0 (and_parts (window_fits readable cells x) (list_all (window_fits readable cells) xs) fits).0
   windows_keep (x ∷ xs) (v ∷ ws) are fits (suc i) w is number =
       windows_keep xs ws are.1 (and_parts (window_fits readable cells x) (list_all (window_fits readable cells) xs) fits).1 i w is number
@@ -347,20 +347,20 @@ kept_windows names readable text cells (x ∷ xs) h =
 
 -- no name of the program is declared twice in the text
 declared_apart : (names : List NameEntry) (distinct : AreDistinct names) (text : List ℕ) (ds : List Name) (ids : List ℕ) →
-    map (bytes_of text) ds ≡ map (name_text names) ids → list_all (signal_fits names) ids ≡ true → IsDistinct ids →
-    AreDistinct (map (signal_named text) ds)
+    map (name_bytes text) ds ≡ map (name_text names) ids → list_all (signal_fits names) ids ≡ true → IsDistinct ids →
+    AreDistinct (map (declared_entry text) ds)
 declared_apart names distinct text ds ids are fits once i j m n is too same =
     let a = id_at i m is in
     let b = id_at j n too in
     let one : a.0 ≡ b.0 = same_id names distinct a.0 b.0 (fits_here ids i a.0 fits a.1) (fits_here ids j b.0 fits b.1) (a.2 ∙ same ∙ sym b.2) in
     once i j b.0 (a.1 ∙ ap Some one) b.1
   where
-    id_at : (k : ℕ) (e : NameEntry) → slice_get (map (signal_named text) ds) k ≡ Some e →
+    id_at : (k : ℕ) (e : NameEntry) → slice_get (map (declared_entry text) ds) k ≡ Some e →
         (id : ℕ) × (slice_get ids k ≡ Some id) × (name_text names id ≡ e.text)
     id_at k e there =
         at_map (name_text names) ids k e.text
         (ap (λ ts. slice_get ts k) (sym are) ∙ ap (λ ts. slice_get ts k) (sym (texts_are text ds))
-        ∙ slice_get-map (λ f. f.text) (map (signal_named text) ds) k ∙ ap (option_map (λ f. f.text)) there)
+        ∙ slice_get-map (λ f. f.text) (map (declared_entry text) ds) k ∙ ap (option_map (λ f. f.text)) there)
 
     fits_here : (cs : List ℕ) (k s : ℕ) → list_all (signal_fits names) cs ≡ true → slice_get cs k ≡ Some s → signal_fits names s ≡ true
     fits_here [] k s fit there = absurd (cc)
@@ -422,10 +422,10 @@ pub record ProgramPlaced (text : List ℕ) (names : List NameEntry) : Type 0 whe
   pub end : ℕ
   pub stands : Stand (flat_map ended_pieces (listing_lines listing)) (record { at = 0; bytes = text }) (record { at = end; bytes = [] })
   pub within : IsTrue (list_all line_is_within (listing_lines listing))
-  pub once : AreDistinct (map (signal_named text) (declared listing))
+  pub once : AreDistinct (map (declared_entry text) (declared listing))
   pub has_node : 0 < length listing.nodes
   pub has_state : 0 < length listing.states
-  pub held_names : AllByRecursion (InNames names) (flat_map named_by (uses_of text listing))
+  pub held_names : AllByRecursion (InNames names) (flat_map entries_of_use (uses_of text listing))
   pub no_fault : (given : List NameEntry) → GoOnFrom given names → fault_of text given listing ≡ None
 
 module _ (text : List ℕ) (names : List NameEntry) (distinct : AreDistinct names) (p : ProgramTree) (h : ProgramText text names p) where
@@ -516,12 +516,12 @@ module _ (text : List ℕ) (names : List NameEntry) (distinct : AreDistinct name
       (kept_windows names readable text p.cells p.windows h.is_program.windows_fit) (occurs_right text [] (((H ++ A) ++ B) ++ C) W to_windows)
 
   abbrev controlled_texts : List (List ℕ)
-  controlled_texts = map (bytes_of text) (b.ats ++ c.ats)
+  controlled_texts = map (name_bytes text) (b.ats ++ c.ats)
 
   controlled_are : map (name_text names) (p.cells ++ p.outputs) ≡ controlled_texts
   controlled_are =
       map-append (name_text names) p.cells p.outputs ∙ (λ i. sym b.texts_are i ++ sym c.texts_are i)
-      ∙ sym (map-append (bytes_of text) b.ats c.ats)
+      ∙ sym (map-append (name_bytes text) b.ats c.ats)
 
   kept_nodes : (i : ℕ) (x : NodeTree) → slice_get p.nodes i ≡ Some x →
       KeptNode names readable text (p.cells ++ p.outputs) controlled_fit controlled_texts controlled_are (length p.states)
@@ -588,10 +588,10 @@ module _ (text : List ℕ) (names : List NameEntry) (distinct : AreDistinct name
 
   readable_are : readable_of text listing ≡ map (name_text names) readable
   readable_are =
-      map-append (bytes_of text) a.ats b.ats ∙ (λ i. a.texts_are i ++ b.texts_are i) ∙ sym (map-append (name_text names) p.inputs p.cells)
+      map-append (name_bytes text) a.ats b.ats ∙ (λ i. a.texts_are i ++ b.texts_are i) ∙ sym (map-append (name_text names) p.inputs p.cells)
 
   -- a signal that is read is declared
-  known : (u : Use) → HeldUse names readable u → is_unknown (readable_of text listing) u ≡ false
+  known : (u : ProgramUse) → HeldUse names readable u → is_unknown (readable_of text listing) u ≡ false
   known u held_use = by u.is_read refl where
     by : (b : Bool) → u.is_read ≡ b → is_unknown (readable_of text listing) u ≡ false
     by false e = ap (λ r. r && not (is_some (place_in (readable_of text listing) u.name.text))) e
@@ -619,27 +619,27 @@ module _ (text : List ℕ) (names : List NameEntry) (distinct : AreDistinct name
       (λ i m is. ap not (lt-ltb m (length n.lines) (subst (λ k. m < k) (sym n.count) (starts_below i m is)))))
       (nothing_there (at_line ProgramError.Updates (first_line (breaks_updates text controlled_texts) (first_node listing) n.lines)) _
       (no_fault_line ProgramError.Updates (breaks_updates text controlled_texts) (first_node listing) n.lines n.updates_are)
-      (nothing_there (at_line ProgramError.Window (first_line (breaks_window text (cells_of text listing)) (first_window listing) w.lines)) []
-      (no_fault_line ProgramError.Window (breaks_window text (cells_of text listing)) (first_window listing) w.lines
-      (λ i v is. windows_keep names distinct readable text p.cells cells_fit cells_once (map (bytes_of text) b.ats) b.texts_are p.windows w.lines
+      (nothing_there (at_line ProgramError.Window (first_line (breaks_window text (cell_texts text listing)) (first_window listing) w.lines)) []
+      (no_fault_line ProgramError.Window (breaks_window text (cell_texts text listing)) (first_window listing) w.lines
+      (λ i v is. windows_keep names distinct readable text p.cells cells_fit cells_once (map (name_bytes text) b.ats) b.texts_are p.windows w.lines
       w.are h.is_program.windows_fit i v is (0 + i))) refl))))
 
   no_use_fault : (given : List NameEntry) → GoOnFrom given names →
-      use_fault (readable_of text listing) (names_of given (uses_of text listing)) (uses_of text listing) ≡ None
+      use_fault (readable_of text listing) (names_after given (uses_of text listing)) (uses_of text listing) ≡ None
   no_use_fault given goes =
       let us = uses_of text listing in
       let kept : AllByRecursion (InNames names) given = each_from_places (InNames names) given
       (λ i m is. (i, ap (λ ns. slice_get ns i) goes.1 ∙ slice_get_grown given goes.0 i m is)) in
-      let all : AllByRecursion (InNames names) (names_of given us) =
-      with_uses_in names (flat_map named_by us) given kept (named_in names readable us held) in
+      let all : AllByRecursion (InNames names) (names_after given us) =
+      with_uses_in names (flat_map entries_of_use us) given kept (named_in names readable us held) in
       nothing_there (at_use ProgramError.Unknown (find (is_unknown (readable_of text listing)) us)) _
       (ap (at_use ProgramError.Unknown) all_known)
-      (nothing_there (at_use ProgramError.Kind (find (is_unlike alike_in_kind (names_of given us)) us)) _
+      (nothing_there (at_use ProgramError.Kind (find (is_unlike alike_in_kind (names_after given us)) us)) _
       (ap (at_use ProgramError.Kind)
-      (none_unlike names distinct alike_in_kind (λ m. same_itself m.kind) (names_of given us) all readable us held))
-      (nothing_there (at_use ProgramError.Arity (find (is_unlike same_arity (names_of given us)) us)) []
+      (none_unlike names distinct alike_in_kind (λ m. same_itself m.kind) (names_after given us) all readable us held))
+      (nothing_there (at_use ProgramError.Arity (find (is_unlike same_arity (names_after given us)) us)) []
       (ap (at_use ProgramError.Arity)
-      (none_unlike names distinct same_arity (λ m. eqb_self m.arity) (names_of given us) all readable us held)) refl))
+      (none_unlike names distinct same_arity (λ m. eqb_self m.arity) (names_after given us) all readable us held)) refl))
 
   no_limit_fault : limit_fault listing ≡ None
   no_limit_fault =
@@ -652,8 +652,8 @@ module _ (text : List ℕ) (names : List NameEntry) (distinct : AreDistinct name
 
   pub program_placed : ProgramPlaced text names
   program_placed =
-      let declared_are : map (bytes_of text) (declared listing) ≡ map (name_text names) ((p.inputs ++ p.cells) ++ p.outputs) =
-      map-append (bytes_of text) (a.ats ++ b.ats) c.ats ∙ (λ i. readable_are i ++ c.texts_are i)
+      let declared_are : map (name_bytes text) (declared listing) ≡ map (name_text names) ((p.inputs ++ p.cells) ++ p.outputs) =
+      map-append (name_bytes text) (a.ats ++ b.ats) c.ats ∙ (λ i. readable_are i ++ c.texts_are i)
       ∙ sym (map-append (name_text names) (p.inputs ++ p.cells) p.outputs) in
       let stands = runs [] in
       record {
@@ -675,6 +675,6 @@ module _ (text : List ℕ) (names : List NameEntry) (distinct : AreDistinct name
         held_names = named_in names readable (uses_of text listing) held;
         no_fault = λ given goes.
             nothing_there (line_fault text listing) _ no_line_fault
-            (nothing_there (use_fault (readable_of text listing) (names_of given (uses_of text listing)) (uses_of text listing)) _
+            (nothing_there (use_fault (readable_of text listing) (names_after given (uses_of text listing)) (uses_of text listing)) _
             (no_use_fault given goes) (nothing_there (limit_fault listing) [] no_limit_fault refl));
       }

@@ -19,8 +19,8 @@ use Rattle.term_text.specs.TermText.{name_text, argument_text, applied_text, ter
 use Rattle.term_text.proofs.Spelling.{some_passes}
 use Rattle.flow_program.specs.declared.listing.Name.{Name}
 use Rattle.flow_program.specs.LineText.{Piece, word, named, argument_pieces, applied_pieces, phrase_pieces, phrases_pieces}
-use Rattle.flow_program.specs.Listing.{PhraseTree, bare, applied, PhraseTrees, no_phrases, more_phrases, count_of_phrases, bytes_of, bracketed_phrase, phrase_brackets, phrases_brackets}
-use Rattle.flow_program.specs.Uses.{Use, read_use, tested_use, applied_use, signal_use, term_uses, terms_uses, test_uses, question_use}
+use Rattle.flow_program.specs.Listing.{PhraseTree, bare, applied, PhraseTrees, no_phrases, more_phrases, count_of_phrases, name_bytes, bracketed_phrase, phrase_brackets, phrases_brackets}
+use Rattle.flow_program.specs.Uses.{ProgramUse, read_use, tested_use, applied_use, signal_use, term_uses, terms_uses, test_uses, question_entry}
 use Rattle.flow_program.proofs.Runs.{Run, name_at, run_none, run_word, run_name, run_append, Occurs, occurs_left, occurs_right, bytes_at}
 
 left_holds : (a : Bool) → (a || false) ≡ true → a ≡ true
@@ -67,11 +67,11 @@ module _ (names : List NameEntry) where
       ap is_usable (ap (λ o. option_map_or (λ n. n.text) o []) found.1) ∙ found.2
 
   -- a use is of a name of the program, and reads one of these signals
-  pub record HeldUse (readable : List ℕ) (u : Use) : Type 0 where
+  pub record HeldUse (readable : List ℕ) (u : ProgramUse) : Type 0 where
     pub id : ℕ
     pub there : slice_get names id ≡ Some u.name
     pub usable : is_usable u.name.text ≡ true
-    pub asked : IsTrue u.is_tested → (q : ℕ) × (slice_get names q ≡ Some question_use)
+    pub asked : IsTrue u.is_tested → (q : ℕ) × (slice_get names q ≡ Some question_entry)
     pub read : IsTrue u.is_read → is_among readable id ≡ true
 
   -- the name of a use with these bytes
@@ -88,7 +88,7 @@ module _ (names : List NameEntry) where
         let bytes = bytes_at text front (name_text names s) occurs in
         record {
           id = s;
-          there = entry_is s Signal 0 (bytes_of text (name_at front (name_text names s))) (entry_of s Signal 0 fits) bytes;
+          there = entry_is s Signal 0 (name_bytes text (name_at front (name_text names s))) (entry_of s Signal 0 fits) bytes;
           usable = ap is_usable bytes ∙ usable_text s usable;
           asked = λ h. absurd (cc);
           read = λ h. absurd (cc);
@@ -101,7 +101,7 @@ module _ (names : List NameEntry) where
         let bytes = bytes_at text front (name_text names s) occurs in
         record {
           id = s;
-          there = entry_is s Signal 0 (bytes_of text (name_at front (name_text names s))) (entry_of s Signal 0 fits) bytes;
+          there = entry_is s Signal 0 (name_bytes text (name_at front (name_text names s))) (entry_of s Signal 0 fits) bytes;
           usable = ap is_usable bytes ∙ usable_text s usable;
           asked = λ h. absurd (cc);
           read = λ h. reads;
@@ -114,7 +114,7 @@ module _ (names : List NameEntry) where
         let bytes = bytes_at text front (name_text names f) occurs in
         record {
           id = f;
-          there = entry_is f kind arity (bytes_of text (name_at front (name_text names f))) (entry_of f kind arity fits) bytes;
+          there = entry_is f kind arity (name_bytes text (name_at front (name_text names f))) (entry_of f kind arity fits) bytes;
           usable = ap is_usable bytes ∙ usable_text f usable;
           asked = λ h. absurd (cc);
           read = λ h. absurd (cc);
@@ -346,7 +346,7 @@ module _ (names : List NameEntry) where
           held = λ line. (
             record {
               id = s;
-              there = entry_is s Signal 0 (bytes_of text (name_at front (name_text names s))) (entry_of s Signal 0 name.0) bytes;
+              there = entry_is s Signal 0 (name_bytes text (name_at front (name_text names s))) (entry_of s Signal 0 name.0) bytes;
               usable = ap is_usable bytes ∙ usable_text s name.1;
               asked = λ h. (q, entry_is q Predicate 1 question e (sym text_is));
               read = λ h. read.0;

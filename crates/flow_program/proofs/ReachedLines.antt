@@ -11,7 +11,7 @@ use Rattle.tsl_terms.specs.declared.names.NameKind.TheVariants.{Signal}
 use Rattle.tsl_terms.specs.Name.{AreDistinct, number_of, Name as NameEntry}
 use Rattle.tsl_terms.proofs.FirstUses.{first_of, first_some, not_found}
 use Rattle.flow_program.specs.declared.listing.Name.{Name}
-use Rattle.flow_program.specs.Listing.{bytes_of, signal_named, declared}
+use Rattle.flow_program.specs.Listing.{name_bytes, declared_entry, declared}
 use Rattle.flow_program.specs.ListingTree.{empty_listing}
 use Rattle.flow_program.specs.LineText.{
   Piece,
@@ -69,17 +69,17 @@ none_is None h = refl
 none_is (Some a) h = absurd (false≢true h)
 
 distinct_more : (text : List ℕ) (names : List NameEntry) (t : LineTree) → are_new text names t ≡ true → AreDistinct names →
-    AreDistinct (names ++ map (signal_named text) (declares t))
+    AreDistinct (names ++ map (declared_entry text) (declares t))
 distinct_more text names t new h = by t new where
-  pushed : (n : Name) → (is_none (number_of names (bytes_of text n)) && true) ≡ true → AreDistinct (names ++ signal_named text n ∷ [])
+  pushed : (n : Name) → (is_none (number_of names (name_bytes text n)) && true) ≡ true → AreDistinct (names ++ declared_entry text n ∷ [])
   pushed n new =
-      push_distinct names (signal_named text n)
-      (none_is (number_of names (bytes_of text n)) (and_parts (is_none (number_of names (bytes_of text n))) true new).0) h
+      push_distinct names (declared_entry text n)
+      (none_is (number_of names (name_bytes text n)) (and_parts (is_none (number_of names (name_bytes text n))) true new).0) h
 
   same : AreDistinct (names ++ [])
   same = subst AreDistinct (sym (append-nil names)) h
 
-  by : (t : LineTree) → are_new text names t ≡ true → AreDistinct (names ++ map (signal_named text) (declares t))
+  by : (t : LineTree) → are_new text names t ≡ true → AreDistinct (names ++ map (declared_entry text) (declares t))
   by head_line new = same
   by (input n) new = pushed n new
   by (cell n) new = pushed n new
@@ -152,20 +152,20 @@ lines_declare_within (t ∷ lines) p q s =
     (lines_declare_within lines m q parts.2)
 
 -- names within a front of two texts have the same bytes in both
-pub bytes_agree : (front xs ys : List ℕ) (n : Name) → IsWithin (length front) n → bytes_of (front ++ xs) n ≡ bytes_of (front ++ ys) n
+pub bytes_agree : (front xs ys : List ℕ) (n : Name) → IsWithin (length front) n → name_bytes (front ++ xs) n ≡ name_bytes (front ++ ys) n
 bytes_agree front xs ys n h = in_front xs ∙ sym (in_front ys) where
-  in_front : (zs : List ℕ) → bytes_of (front ++ zs) n ≡ bytes_of front n
+  in_front : (zs : List ℕ) → name_bytes (front ++ zs) n ≡ name_bytes front n
   in_front zs =
       let few : n.end - n.start ≤ length (drop n.start front) = omega (arith, length-drop n.start front, h.0, h.1) in
       ap (take (n.end - n.start)) (drop-append-le n.start front zs (omega (arith, h.0, h.1)))
       ∙ take-append-le (n.end - n.start) (drop n.start front) zs few
 
 pub named_agree : (front xs ys : List ℕ) (ns : List Name) → AllByRecursion (IsWithin (length front)) ns →
-    map (signal_named (front ++ xs)) ns ≡ map (signal_named (front ++ ys)) ns
+    map (declared_entry (front ++ xs)) ns ≡ map (declared_entry (front ++ ys)) ns
 named_agree front xs ys [] h = refl
 named_agree front xs ys (n ∷ ns) h =
     let entry : List ℕ → NameEntry = λ bytes. record { text = bytes; kind = Signal; arity = 0 } in
-    let same : signal_named (front ++ xs) n ≡ signal_named (front ++ ys) n = ap entry (bytes_agree front xs ys n h.0) in
+    let same : declared_entry (front ++ xs) n ≡ declared_entry (front ++ ys) n = ap entry (bytes_agree front xs ys n h.0) in
     let rest = named_agree front xs ys ns h.1 in
     λ i. same i ∷ rest i
 
@@ -284,8 +284,8 @@ reached_more text progress later number p q r e =
     ∙ ap (λ (ns : List Name). flat_map declares r.lines ++ ns) (append-nil (declares t))
     ∙ ap (λ (ns : List Name). ns ++ declares t) (sym r.made.names_are) in
     let P : List Piece → Type 0 = λ xs. Stand xs (record { at = 0; bytes = text }) q in
-    let entries : names_so_far text (listing_of later) ≡ names_so_far text (listing_of progress) ++ map (signal_named text) (declares t) =
-    ap (map (signal_named text)) names ∙ map-append (signal_named text) (declared (listing_of progress)) (declares t) in
+    let entries : names_so_far text (listing_of later) ≡ names_so_far text (listing_of progress) ++ map (declared_entry text) (declares t) =
+    ap (map (declared_entry text)) names ∙ map-append (declared_entry text) (declared (listing_of progress)) (declares t) in
     let few : length (declared (listing_of later)) ≡ length (declared (listing_of progress)) + length (declares t) =
     ap length names ∙ length-append (declared (listing_of progress)) (declares t) in
     let one : length (declares t) ≤ 1 = few_declared t in

@@ -16,7 +16,7 @@ use Rattle.flow_program.specs.declared.reading.ProgramError.TheVariants.{Form, O
 use Rattle.flow_program.specs.ProgramTree.{ProgramTree}
 use Rattle.flow_program.specs.ProgramText.{ProgramText}
 use Rattle.flow_program.specs.Listing.{ListingTree, IsListing, BeginAlike, FormFault}
-use Rattle.flow_program.specs.Uses.{uses_of, named_by, names_of}
+use Rattle.flow_program.specs.Uses.{uses_of, entries_of_use, names_after}
 use Rattle.flow_program.specs.Rules.{fault_of}
 use Rattle.flow_program.specs.Reading.{IsReading, HasRuleFault, HasProgramCause, IsOfText, GoOnFrom}
 use Rattle.flow_program.proofs.OneListing.{one_listing}
@@ -34,10 +34,10 @@ pub one_reading : (text : List ℕ) (given : List Name) (p q : ProgramTree) (nam
     IsReading text given p names → IsReading text given q more → (p ≡ q) × (names ≡ more)
 one_reading text given p q names more distinct h k =
     let lines : h.listing ≡ k.listing = one_listing text h.listing k.listing h.is_listing k.is_listing in
-    let same : names ≡ more = h.names_are ∙ ap (λ l. names_of given (uses_of text l)) lines ∙ sym k.names_are in
+    let same : names ≡ more = h.names_are ∙ ap (λ l. names_after given (uses_of text l)) lines ∙ sym k.names_are in
     let apart : AreDistinct names = subst AreDistinct
-    (sym (h.names_are ∙ are_first given (flat_map named_by (uses_of text h.listing)) distinct))
-    (first_uses_distinct (given ++ flat_map named_by (uses_of text h.listing))) in
+    (sym (h.names_are ∙ are_first given (flat_map entries_of_use (uses_of text h.listing)) distinct))
+    (first_uses_distinct (given ++ flat_map entries_of_use (uses_of text h.listing))) in
     (one_program names apart text p q h.spelled (subst (λ ns. ProgramText text ns q) (sym same) k.spelled), same)
 
 -- ---- a text that spells a program is read
@@ -53,7 +53,7 @@ spelled_is_read text names p distinct h =
       listing = r.listing;
       is_listing = placed_listing text names r;
       no_fault = r.no_fault names ([], sym (append-nil names));
-      names_are = sym (all_stay names (flat_map named_by (uses_of text r.listing)) r.held_names);
+      names_are = sym (all_stay names (flat_map entries_of_use (uses_of text r.listing)) r.held_names);
       spelled = h;
     }
 

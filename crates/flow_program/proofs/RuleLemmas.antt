@@ -12,7 +12,7 @@ use Rattle.tsl_terms.proofs.NameLemmas.{absent_before}
 use Rattle.flow_program.specs.declared.listing.Name.{Name}
 use Rattle.flow_program.specs.declared.listing.SpelledUpdate.{SpelledUpdate}
 use Rattle.flow_program.specs.declared.listing.SpelledListed.{SpelledListed}
-use Rattle.flow_program.specs.Listing.{bytes_of, signal_named, update_line, listed_line, ListedLine}
+use Rattle.flow_program.specs.Listing.{name_bytes, declared_entry, update_line, listed_line, ListedLine}
 use Rattle.flow_program.specs.Rules.{are_texts, stands_before, listed_rise, is_cell_within}
 
 -- ---- the texts of updates
@@ -28,34 +28,34 @@ other_lengths (x ∷ xs) (y ∷ ys) apart = by (bytes_eq x y) (other_lengths xs 
 
 module _ (text : List ℕ) (us : List SpelledUpdate) (ns : List Name) (i : ℕ) (whole : Bool) where
   abbrev signals : List SpelledUpdate → List (List ℕ)
-  signals vs = map (λ u. bytes_of text u.signal) (map update_line vs)
+  signals vs = map (λ u. name_bytes text u.signal) (map update_line vs)
 
   updates_next : (u : SpelledUpdate) (d : Name) → i < length us → i < length ns → u ≡ get_or us i u →
-      are_texts (signals (drop i us)) (map (bytes_of text) (drop i ns))
-      ≡ (bytes_eq (bytes_of text u.signal) (bytes_of text (get_or ns i d))
-      && are_texts (signals (drop (i + 1) us)) (map (bytes_of text) (drop (i + 1) ns)))
+      are_texts (signals (drop i us)) (map (name_bytes text) (drop i ns))
+      ≡ (bytes_eq (name_bytes text u.signal) (name_bytes text (get_or ns i d))
+      && are_texts (signals (drop (i + 1) us)) (map (name_bytes text) (drop (i + 1) ns)))
   updates_next u d within inside is =
-      ap (λ vs. are_texts (signals vs) (map (bytes_of text) (drop i ns))) (left_at us i u within is)
-      ∙ ap (λ ms. are_texts (signals (u ∷ drop (i + 1) us)) (map (bytes_of text) ms)) (drop_more ns i d inside)
+      ap (λ vs. are_texts (signals vs) (map (name_bytes text) (drop i ns))) (left_at us i u within is)
+      ∙ ap (λ ms. are_texts (signals (u ∷ drop (i + 1) us)) (map (name_bytes text) ms)) (drop_more ns i d inside)
 
   pub update_same : (u : SpelledUpdate) (d : Name) → i < length us → i < length ns → u ≡ get_or us i u →
-      bytes_eq (bytes_of text u.signal) (bytes_of text (get_or ns i d)) ≡ true →
-      are_texts (signals (drop i us)) (map (bytes_of text) (drop i ns)) ≡ whole →
-      are_texts (signals (drop (i + 1) us)) (map (bytes_of text) (drop (i + 1) ns)) ≡ whole
+      bytes_eq (name_bytes text u.signal) (name_bytes text (get_or ns i d)) ≡ true →
+      are_texts (signals (drop i us)) (map (name_bytes text) (drop i ns)) ≡ whole →
+      are_texts (signals (drop (i + 1) us)) (map (name_bytes text) (drop (i + 1) ns)) ≡ whole
   update_same u d within inside is same h =
-      sym (ap (λ b. b && are_texts (signals (drop (i + 1) us)) (map (bytes_of text) (drop (i + 1) ns))) same)
+      sym (ap (λ b. b && are_texts (signals (drop (i + 1) us)) (map (name_bytes text) (drop (i + 1) ns))) same)
       ∙ sym (updates_next u d within inside is) ∙ h
 
   pub update_other : (u : SpelledUpdate) (d : Name) → i < length us → i < length ns → u ≡ get_or us i u →
-      bytes_eq (bytes_of text u.signal) (bytes_of text (get_or ns i d)) ≡ false →
-      are_texts (signals (drop i us)) (map (bytes_of text) (drop i ns)) ≡ whole → false ≡ whole
+      bytes_eq (name_bytes text u.signal) (name_bytes text (get_or ns i d)) ≡ false →
+      are_texts (signals (drop i us)) (map (name_bytes text) (drop i ns)) ≡ whole → false ≡ whole
   update_other u d within inside is other h =
-      sym (ap (λ b. b && are_texts (signals (drop (i + 1) us)) (map (bytes_of text) (drop (i + 1) ns))) other)
+      sym (ap (λ b. b && are_texts (signals (drop (i + 1) us)) (map (name_bytes text) (drop (i + 1) ns))) other)
       ∙ sym (updates_next u d within inside is) ∙ h
 
-  pub updates_all : length us ≤ i → length ns ≤ i → are_texts (signals (drop i us)) (map (bytes_of text) (drop i ns)) ≡ whole → true ≡ whole
+  pub updates_all : length us ≤ i → length ns ≤ i → are_texts (signals (drop i us)) (map (name_bytes text) (drop i ns)) ≡ whole → true ≡ whole
   updates_all out outside h =
-      sym (λ k. are_texts (signals (drop_all i us out k)) (map (bytes_of text) (drop_all i ns outside k))) ∙ h
+      sym (λ k. are_texts (signals (drop_all i us out k)) (map (name_bytes text) (drop_all i ns outside k))) ∙ h
 
 -- ---- updates of a window
 
@@ -115,9 +115,9 @@ module _ (text : List ℕ) (cells : List (List ℕ)) (us : List SpelledListed) (
 
 -- ---- names that are declared
 
-pub texts_are : (text : List ℕ) (ds : List Name) → texts (map (signal_named text) ds) ≡ map (bytes_of text) ds
+pub texts_are : (text : List ℕ) (ds : List Name) → texts (map (declared_entry text) ds) ≡ map (name_bytes text) ds
 texts_are text [] = refl
-texts_are text (d ∷ ds) = ap (λ ts. bytes_of text d ∷ ts) (texts_are text ds)
+texts_are text (d ∷ ds) = ap (λ ts. name_bytes text d ∷ ts) (texts_are text ds)
 
 take_map : {X Y : Type 0} (f : X → Y) (i : ℕ) (xs : List X) → take i (map f xs) ≡ map f (take i xs)
 take_map f zero xs = refl
@@ -125,15 +125,15 @@ take_map f (suc i) [] = refl
 take_map f (suc i) (x ∷ xs) = ap (λ ys. f x ∷ ys) (take_map f i xs)
 
 pub declared_absent : (text : List ℕ) (ds : List Name) (i : ℕ) (d : Name) (bytes : List ℕ) (names : List NameEntry) →
-    AreDistinct (map (signal_named text) ds) → i < length ds → bytes ≡ bytes_of text (get_or ds i d) →
-    names ≡ map (signal_named text) (take i ds) → number_of names bytes ≡ None
+    AreDistinct (map (declared_entry text) ds) → i < length ds → bytes ≡ name_bytes text (get_or ds i d) →
+    names ≡ map (declared_entry text) (take i ds) → number_of names bytes ≡ None
 declared_absent text ds i d bytes names distinct within is table =
-    ap (λ ns. number_of ns bytes) (table ∙ sym (take_map (signal_named text) i ds))
-    ∙ absent_before (map (signal_named text) ds) i bytes distinct
+    ap (λ ns. number_of ns bytes) (table ∙ sym (take_map (declared_entry text) i ds))
+    ∙ absent_before (map (declared_entry text) ds) i bytes distinct
     (subst (λ found. IsSomeAnd found (λ name. bytes ≡ name.text)) (sym there) is)
   where
-    there : slice_get (map (signal_named text) ds) i ≡ Some (signal_named text (get_or ds i d))
-    there = slice_get-map (signal_named text) ds i ∙ ap (option_map (signal_named text)) (slice_get-get_or ds i d within)
+    there : slice_get (map (declared_entry text) ds) i ≡ Some (declared_entry text (get_or ds i d))
+    there = slice_get-map (declared_entry text) ds i ∙ ap (option_map (declared_entry text)) (slice_get-get_or ds i d within)
 
 distinct_left : (xs ys : List NameEntry) → AreDistinct (xs ++ ys) → AreDistinct xs
 distinct_left xs ys h i j m n at too = h i j m n (slice_get_grown xs ys i m at) (slice_get_grown xs ys j n too)
@@ -147,11 +147,11 @@ distinct_right xs ys h i j m n at too same =
     let e = h (length xs + i) (length xs + j) m n (after_front xs ys i ∙ at) (after_front xs ys j ∙ too) same in
     omega (arith, e)
 
-pub first_distinct : (text : List ℕ) (xs ys : List Name) → AreDistinct (map (signal_named text) (xs ++ ys)) → AreDistinct (map (signal_named text) xs)
+pub first_distinct : (text : List ℕ) (xs ys : List Name) → AreDistinct (map (declared_entry text) (xs ++ ys)) → AreDistinct (map (declared_entry text) xs)
 first_distinct text xs ys h =
-    distinct_left (map (signal_named text) xs) (map (signal_named text) ys) (subst AreDistinct (map-append (signal_named text) xs ys) h)
+    distinct_left (map (declared_entry text) xs) (map (declared_entry text) ys) (subst AreDistinct (map-append (declared_entry text) xs ys) h)
 
-pub second_distinct : (text : List ℕ) (xs ys : List Name) → AreDistinct (map (signal_named text) (xs ++ ys)) →
-    AreDistinct (map (signal_named text) ys)
+pub second_distinct : (text : List ℕ) (xs ys : List Name) → AreDistinct (map (declared_entry text) (xs ++ ys)) →
+    AreDistinct (map (declared_entry text) ys)
 second_distinct text xs ys h =
-    distinct_right (map (signal_named text) xs) (map (signal_named text) ys) (subst AreDistinct (map-append (signal_named text) xs ys) h)
+    distinct_right (map (declared_entry text) xs) (map (declared_entry text) ys) (subst AreDistinct (map-append (declared_entry text) xs ys) h)

@@ -6,7 +6,7 @@ use Rattle.std.proofs.Math.Seq.{take-append_seam, drop-append_seam}
 use Rattle.tsl_text.specs.Names.{is_usable}
 use Rattle.flow_program.specs.declared.listing.Name.{Name}
 use Rattle.flow_program.specs.LineText.{Piece, word, named, Place, Stand}
-use Rattle.flow_program.specs.Listing.{bytes_of}
+use Rattle.flow_program.specs.Listing.{name_bytes}
 use Rattle.flow_program.proofs.Standing.{stand_append}
 
 -- the place after these bytes, where those are left
@@ -55,7 +55,7 @@ occurs_right text front a b h =
     (h.0, h.1 ∙ ap (λ bytes. front ++ bytes) (append_assoc a b h.0) ∙ sym (append_assoc front a (b ++ h.0)))
 
 -- the bytes of a name that stands there
-pub bytes_at : (text front name : List ℕ) → Occurs text front name → bytes_of text (name_at front name) ≡ name
+pub bytes_at : (text front name : List ℕ) → Occurs text front name → name_bytes text (name_at front name) ≡ name
 bytes_at text front name h =
     let count : length (front ++ name) - length front ≡ length name = omega (arith, length-append front name) in
     ap (λ n. take n (drop (length front) text)) count

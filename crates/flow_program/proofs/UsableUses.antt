@@ -8,26 +8,26 @@ use Rattle.tsl_text.specs.Names.{is_usable}
 use Rattle.tsl_terms.specs.WellFormed.{deepest}
 use Rattle.flow_program.specs.declared.listing.Name.{Name}
 use Rattle.flow_program.specs.Listing.{PhraseTree, bare, applied, PhraseTrees, no_phrases, more_phrases, UpdateLine, ListedLine, WindowLine, NodeLine, branch_line, assignment_line, ListingTree}
-use Rattle.flow_program.specs.Listing.{bytes_of, name_stands, phrase_stands, phrases_stand, phrase_brackets, is_phrase, update_line_stands, listed_line_stands, window_line_stands, node_line_stands, declared, IsListing}
-use Rattle.flow_program.specs.Uses.{Use, term_uses, terms_uses, test_uses, update_uses, listed_uses, window_uses, node_uses, declared_uses, windows_uses, nodes_uses, first_declaration, first_window, first_node, uses_of}
+use Rattle.flow_program.specs.Listing.{name_bytes, name_stands, phrase_stands, phrases_stand, phrase_brackets, is_phrase, update_line_stands, listed_line_stands, window_line_stands, node_line_stands, declared, IsListing}
+use Rattle.flow_program.specs.Uses.{ProgramUse, term_uses, terms_uses, test_uses, update_uses, listed_uses, window_uses, node_uses, declared_uses, windows_uses, nodes_uses, first_declaration, first_window, first_node, uses_of}
 
-abbrev pub has_usable : Use → Bool
+abbrev pub has_usable : ProgramUse → Bool
 has_usable u = is_usable u.name.text
 
-joined : (xs ys : List Use) → list_all has_usable xs ≡ true → list_all has_usable ys ≡ true → list_all has_usable (xs ++ ys) ≡ true
+joined : (xs ys : List ProgramUse) → list_all has_usable xs ≡ true → list_all has_usable ys ≡ true → list_all has_usable (xs ++ ys) ≡ true
 joined xs ys h k = list_all-append has_usable xs ys ∙ and_from (list_all has_usable xs) (list_all has_usable ys) h k
 
 module _ (text : List ℕ) where
-  pub usable : (at : Name) → name_stands text at ≡ true → is_usable (bytes_of text at) ≡ true
-  usable at h = (and_parts (nat_le at.start at.end && nat_le at.end (length text)) (is_usable (bytes_of text at)) h).1
+  pub usable : (at : Name) → name_stands text at ≡ true → is_usable (name_bytes text at) ≡ true
+  usable at h = (and_parts (nat_le at.start at.end && nat_le at.end (length text)) (is_usable (name_bytes text at)) h).1
 
   module _ (line : ℕ) where
     mutual
       term_usable : (p : PhraseTree) → phrase_stands text p ≡ true → list_all has_usable (term_uses text line p) ≡ true
-      term_usable (bare at) h = and_from (is_usable (bytes_of text at)) true (usable at h) refl
+      term_usable (bare at) h = and_from (is_usable (name_bytes text at)) true (usable at h) refl
       term_usable (applied at ps) h =
           let parts = and_parts (name_stands text at) (phrases_stand text ps) h in
-          and_from (is_usable (bytes_of text at)) (list_all has_usable (terms_uses text line ps)) (usable at parts.0) (terms_usable ps parts.1)
+          and_from (is_usable (name_bytes text at)) (list_all has_usable (terms_uses text line ps)) (usable at parts.0) (terms_usable ps parts.1)
 
       terms_usable : (ps : PhraseTrees) → phrases_stand text ps ≡ true → list_all has_usable (terms_uses text line ps) ≡ true
       terms_usable no_phrases h = refl
@@ -38,16 +38,16 @@ module _ (text : List ℕ) where
     test_usable : (p : PhraseTree) → is_phrase text p ≡ true → list_all has_usable (test_uses text line p) ≡ true
     test_usable p h = by p (and_parts (phrase_stands text p) (nat_le (phrase_brackets p) deepest) h).0 where
       by : (p : PhraseTree) → phrase_stands text p ≡ true → list_all has_usable (test_uses text line p) ≡ true
-      by (bare at) k = and_from (is_usable (bytes_of text at)) true (usable at k) refl
+      by (bare at) k = and_from (is_usable (name_bytes text at)) true (usable at k) refl
       by (applied at ps) k =
           let parts = and_parts (name_stands text at) (phrases_stand text ps) k in
-          and_from (is_usable (bytes_of text at)) (list_all has_usable (terms_uses text line ps)) (usable at parts.0) (terms_usable ps parts.1)
+          and_from (is_usable (name_bytes text at)) (list_all has_usable (terms_uses text line ps)) (usable at parts.0) (terms_usable ps parts.1)
 
     pair_usable : (at : Name) (p : PhraseTree) → (name_stands text at && is_phrase text p) ≡ true →
-        (is_usable (bytes_of text at) && list_all has_usable (term_uses text line p)) ≡ true
+        (is_usable (name_bytes text at) && list_all has_usable (term_uses text line p)) ≡ true
     pair_usable at p h =
         let parts = and_parts (name_stands text at) (is_phrase text p) h in
-        and_from (is_usable (bytes_of text at)) (list_all has_usable (term_uses text line p)) (usable at parts.0)
+        and_from (is_usable (name_bytes text at)) (list_all has_usable (term_uses text line p)) (usable at parts.0)
         (term_usable p (and_parts (phrase_stands text p) (nat_le (phrase_brackets p) deepest) parts.1).0)
 
     updates_usable : (us : List UpdateLine) → list_all (update_line_stands text) us ≡ true →
@@ -80,7 +80,7 @@ module _ (text : List ℕ) where
   declared_usable line [] h = refl
   declared_usable line (at ∷ ds) h =
       let parts = and_parts (name_stands text at) (list_all (name_stands text) ds) h in
-      and_from (is_usable (bytes_of text at)) (list_all has_usable (declared_uses text (suc line) ds)) (usable at parts.0)
+      and_from (is_usable (name_bytes text at)) (list_all has_usable (declared_uses text (suc line) ds)) (usable at parts.0)
       (declared_usable (suc line) ds parts.1)
 
   windows_usable : (line : ℕ) (ws : List WindowLine) → list_all (window_line_stands text) ws ≡ true →

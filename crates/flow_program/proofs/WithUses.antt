@@ -3,7 +3,7 @@ use Rattle.std.proofs.Common.{◌≡◌, ℕ, suc, ◌+◌, ◌≤◌, Bool, tru
 use Rattle.std.proofs.Common.{append_assoc, arith, length-append, ◌^◌, ◌<◌, get_or, drop, map}
 use Rattle.std.specs.Prelude.{flat_map}
 use Rattle.flow_program.specs.declared.uses.SpelledUse.{SpelledUse}
-use Rattle.flow_program.specs.Uses.{named_by, names_of}
+use Rattle.flow_program.specs.Uses.{entries_of_use, names_after}
 use Rattle.flow_program.specs.internal.UseView.{use_view}
 use Rattle.std.specs.Prelude.{Option, Some, None, IsSomeAnd, slice_get, IsTrue}
 use Rattle.std.specs.List.{list_all}
@@ -79,12 +79,12 @@ names_fit (u ∷ us) names fit fits =
 
 -- the names of one use are few where those of all are
 pub use_is_few : (names all : List Name) (us : List SpelledUse) (i : ℕ) (d : SpelledUse) → i < length us →
-    names_of names (map use_view (drop i us)) ≡ all → length all < 2 ^ 32 →
-    length (with_uses names (named_by (use_view (get_or us i d)))) < 2 ^ 32
+    names_after names (map use_view (drop i us)) ≡ all → length all < 2 ^ 32 →
+    length (with_uses names (entries_of_use (use_view (get_or us i d)))) < 2 ^ 32
 use_is_few names all us i d within h few =
-    let rest = flat_map named_by (map use_view (drop (i + 1) us)) in
-    let new = named_by (use_view (get_or us i d)) in
+    let rest = flat_map entries_of_use (map use_view (drop (i + 1) us)) in
+    let new = entries_of_use (use_view (get_or us i d)) in
     let whole : with_uses (with_uses names new) rest ≡ all =
     sym (with_uses_append names new rest)
-    ∙ sym (ap (λ vs. names_of names (map use_view vs)) (drop_more us i d within)) ∙ h in
+    ∙ sym (ap (λ vs. names_after names (map use_view vs)) (drop_more us i d within)) ∙ h in
     omega (arith, few, ap length whole, grows rest (with_uses names new))

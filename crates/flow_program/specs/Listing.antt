@@ -34,8 +34,8 @@ pub use Rattle.flow_program.specs.LineText.{bracketed_phrase, phrase_brackets, p
 use Rattle.flow_program.specs.LineText.{Stand, listing_lines, ended_pieces, line_is_within}
 
 -- the bytes of a name
-abbrev pub bytes_of : List ℕ → Name → List ℕ
-bytes_of text name = take (name.end - name.start) (drop name.start text)
+abbrev pub name_bytes : List ℕ → Name → List ℕ
+name_bytes text name = take (name.end - name.start) (drop name.start text)
 
 -- the text of an argument, and what follows the name of a function or a predicate
 abbrev pub argument_spelling : PhraseTree → List ℕ → List ℕ
@@ -48,18 +48,18 @@ applied_spelling (more_phrases p ps) spelling = spelling
 
 abbrev mutual
   pub phrase_text : List ℕ → PhraseTree → List ℕ
-  phrase_text text (bare name) = bytes_of text name
-  phrase_text text (applied name arguments) = bytes_of text name ++ applied_spelling arguments (phrases_text text arguments)
+  phrase_text text (bare name) = name_bytes text name
+  phrase_text text (applied name arguments) = name_bytes text name ++ applied_spelling arguments (phrases_text text arguments)
 
   pub phrases_text : List ℕ → PhraseTrees → List ℕ
   phrases_text text no_phrases = []
   phrases_text text (more_phrases p ps) = codes " " ++ argument_spelling p (phrase_text text p) ++ phrases_text text ps
 
 abbrev pub update_spelling : List ℕ → Name → PhraseTree → List ℕ
-update_spelling text signal term = codes "[" ++ bytes_of text signal ++ codes " <- " ++ phrase_text text term ++ codes "]"
+update_spelling text signal term = codes "[" ++ name_bytes text signal ++ codes " <- " ++ phrase_text text term ++ codes "]"
 
 abbrev pub declaration_line_text : List ℕ → List ℕ → Name → List ℕ
-declaration_line_text text word name = word ++ bytes_of text name ++ codes "\n"
+declaration_line_text text word name = word ++ name_bytes text name ++ codes "\n"
 
 abbrev pub listed_line_text : List ℕ → ListedLine → List ℕ
 listed_line_text text u = codes " when " ++ update_spelling text u.signal u.term ++ codes " at " ++ decimal u.offset
@@ -104,7 +104,7 @@ listing_text text l =
 
 -- a name stands in the text, and may be a name
 abbrev pub name_stands : List ℕ → Name → Bool
-name_stands text name = (nat_le name.start name.end && nat_le name.end (length text)) && is_usable (bytes_of text name)
+name_stands text name = (nat_le name.start name.end && nat_le name.end (length text)) && is_usable (name_bytes text name)
 
 abbrev mutual
   pub phrase_stands : List ℕ → PhraseTree → Bool
@@ -133,8 +133,8 @@ node_line_stands text (branch_line test then_node else_node) = is_phrase text te
 node_line_stands text (assignment_line updates go) = list_all (update_line_stands text) updates
 
 -- the names of signals that lines declare
-abbrev pub signal_named : List ℕ → Name → NameEntry
-signal_named text name = record { text = bytes_of text name; kind = Signal; arity = 0 }
+abbrev pub declared_entry : List ℕ → Name → NameEntry
+declared_entry text name = record { text = name_bytes text name; kind = Signal; arity = 0 }
 
 abbrev pub declared : ListingTree → List Name
 declared l = (l.inputs ++ l.cells) ++ l.outputs
@@ -144,7 +144,7 @@ declared l = (l.inputs ++ l.cells) ++ l.outputs
 pub record IsListing (text : List ℕ) (l : ListingTree) : Type 0 where
   pub spelled : text ≡ listing_text text l
   pub declared_stand : IsTrue (list_all (name_stands text) (declared l))
-  pub declared_once : AreDistinct (map (signal_named text) (declared l))
+  pub declared_once : AreDistinct (map (declared_entry text) (declared l))
   pub windows_stand : IsTrue (list_all (window_line_stands text) l.windows)
   pub nodes_stand : IsTrue (list_all (node_line_stands text) l.nodes)
   pub has_node : 0 < length l.nodes

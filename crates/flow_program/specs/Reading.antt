@@ -6,7 +6,7 @@ use Rattle.flow_program.specs.declared.reading.ProgramError.TheVariants.{Form, N
 use Rattle.flow_program.specs.ProgramTree.{ProgramTree}
 use Rattle.flow_program.specs.ProgramText.{ProgramText}
 use Rattle.flow_program.specs.Listing.{ListingTree, IsListing, FormFault}
-use Rattle.flow_program.specs.Uses.{uses_of, names_of}
+use Rattle.flow_program.specs.Uses.{uses_of, names_after}
 use Rattle.flow_program.specs.Rules.{fault_of}
 
 -- The text spells the program over these names, which are the given ones and then those of the text by first appearance.
@@ -14,7 +14,7 @@ pub record IsReading (text : List ℕ) (given : List Name) (p : ProgramTree) (na
   pub listing : ListingTree
   pub is_listing : IsListing text listing
   pub no_fault : fault_of text given listing ≡ None
-  pub names_are : names ≡ names_of given (uses_of text listing)
+  pub names_are : names ≡ names_after given (uses_of text listing)
   pub spelled : ProgramText text names p
 
 -- the lines of the text have this fault

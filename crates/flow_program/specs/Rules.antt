@@ -10,8 +10,8 @@ use Rattle.flow_program.specs.declared.reading.ProgramError.{ProgramError}
 use Rattle.flow_program.specs.declared.reading.ProgramError.TheVariants.{Order, Target, Updates, Window, Unknown, Kind, Arity, Windows, Nodes, States}
 use Rattle.flow_program.specs.Fits.{longest}
 use Rattle.flow_program.specs.ProgramText.{most_windows, most_nodes, most_states}
-use Rattle.flow_program.specs.Listing.{ListedLine, WindowLine, NodeLine, branch_line, assignment_line, ListingTree, bytes_of}
-use Rattle.flow_program.specs.Uses.{Use, first_window, first_node, first_state, uses_of, names_of}
+use Rattle.flow_program.specs.Listing.{ListedLine, WindowLine, NodeLine, branch_line, assignment_line, ListingTree, name_bytes}
+use Rattle.flow_program.specs.Uses.{ProgramUse, first_window, first_node, first_state, uses_of, names_after}
 
 -- the first place, counted from this one, at which a test of the place and the member holds
 abbrev pub first_place : {X : Type 0} → (ℕ → X → Bool) → ℕ → List X → Option ℕ
@@ -46,7 +46,7 @@ are_texts (x ∷ xs) [] = false
 abbrev pub breaks_updates : List ℕ → List (List ℕ) → ℕ → NodeLine → Bool
 breaks_updates text controlled number (branch_line test then_node else_node) = false
 breaks_updates text controlled number (assignment_line updates go) =
-    not (are_texts (map (λ u. bytes_of text u.signal) updates) controlled)
+    not (are_texts (map (λ u. name_bytes text u.signal) updates) controlled)
 
 -- the place of a text among others
 abbrev pub place_in : List (List ℕ) → List ℕ → Option ℕ
@@ -59,7 +59,7 @@ places_rise _ _ = false
 
 module _ (text : List ℕ) (cells : List (List ℕ)) where
   abbrev pub place_of_cell : ListedLine → Option ℕ
-  place_of_cell u = place_in cells (bytes_of text u.signal)
+  place_of_cell u = place_in cells (name_bytes text u.signal)
 
   abbrev pub stands_before : ListedLine → ListedLine → Bool
   stands_before u v =
@@ -80,28 +80,28 @@ module _ (text : List ℕ) (cells : List (List ℕ)) where
       && (list_all (is_cell_within w.length) w.updates && listed_rise w.updates))
 
 -- the texts of names that are declared
-abbrev pub cells_of : List ℕ → ListingTree → List (List ℕ)
-cells_of text l = map (bytes_of text) l.cells
+abbrev pub cell_texts : List ℕ → ListingTree → List (List ℕ)
+cell_texts text l = map (name_bytes text) l.cells
 
 abbrev pub readable_of : List ℕ → ListingTree → List (List ℕ)
-readable_of text l = map (bytes_of text) (l.inputs ++ l.cells)
+readable_of text l = map (name_bytes text) (l.inputs ++ l.cells)
 
 abbrev pub controlled_of : List ℕ → ListingTree → List (List ℕ)
-controlled_of text l = map (bytes_of text) (l.cells ++ l.outputs)
+controlled_of text l = map (name_bytes text) (l.cells ++ l.outputs)
 
 -- a signal of a term or a test is none of these
-abbrev pub is_unknown : List (List ℕ) → Use → Bool
+abbrev pub is_unknown : List (List ℕ) → ProgramUse → Bool
 is_unknown readable u = u.is_read && not (is_some (place_in readable u.name.text))
 
 -- The names have this text, and as they have it, it is not like this use. The names of a text have each name as it is used first.
-abbrev pub is_unlike : (NameEntry → NameEntry → Bool) → List NameEntry → Use → Bool
+abbrev pub is_unlike : (NameEntry → NameEntry → Bool) → List NameEntry → ProgramUse → Bool
 is_unlike alike names u =
     option_map_or (λ n. not (alike n u.name)) (option_and_then (slice_get names) (number_of names u.name.text)) false
 
 abbrev pub at_line : (ℕ → ProgramError) → Option ℕ → Option ProgramError
 at_line fault line = option_map fault line
 
-abbrev pub at_use : (ℕ → Name → ProgramError) → Option Use → Option ProgramError
+abbrev pub at_use : (ℕ → Name → ProgramError) → Option ProgramUse → Option ProgramError
 at_use fault usage = option_map (λ u. fault u.line u.place) usage
 
 abbrev pub over : ProgramError → ℕ → ℕ → Option ProgramError
@@ -120,11 +120,11 @@ line_fault text l = first_there (
     ∷ at_line Target (first_line (goes_nowhere (length l.states)) (first_node l) l.nodes)
     ∷ at_line Target (first_line (is_nowhere (length l.nodes)) (first_state l) l.states)
     ∷ at_line Updates (first_line (breaks_updates text (controlled_of text l)) (first_node l) l.nodes)
-    ∷ at_line Window (first_line (breaks_window text (cells_of text l)) (first_window l) l.windows)
+    ∷ at_line Window (first_line (breaks_window text (cell_texts text l)) (first_window l) l.windows)
     ∷ [])
 
 -- the fault of a use of a name, where the text uses names of these
-abbrev pub use_fault : List (List ℕ) → List NameEntry → List Use → Option ProgramError
+abbrev pub use_fault : List (List ℕ) → List NameEntry → List ProgramUse → Option ProgramError
 use_fault readable names uses = first_there (
     at_use Unknown (find (is_unknown readable) uses)
     ∷ at_use Kind (find (is_unlike alike_in_kind names) uses)
@@ -141,6 +141,6 @@ limit_fault l = first_there (
 abbrev pub fault_of : List ℕ → List NameEntry → ListingTree → Option ProgramError
 fault_of text given l = first_there (
     line_fault text l
-    ∷ use_fault (readable_of text l) (names_of given (uses_of text l)) (uses_of text l)
+    ∷ use_fault (readable_of text l) (names_after given (uses_of text l)) (uses_of text l)
     ∷ limit_fault l
     ∷ [])

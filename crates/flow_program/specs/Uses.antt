@@ -5,12 +5,12 @@ use Rattle.tsl_terms.specs.declared.names.NameKind.TheVariants.{Signal, Function
 use Rattle.tsl_terms.specs.Name.{question, Name as NameEntry}
 use Rattle.tsl_terms.specs.Clashes.{with_uses}
 use Rattle.flow_program.specs.declared.listing.Name.{Name}
-use Rattle.flow_program.specs.Listing.{PhraseTree, bare, applied, PhraseTrees, no_phrases, more_phrases, count_of_phrases, bytes_of}
+use Rattle.flow_program.specs.Listing.{PhraseTree, bare, applied, PhraseTrees, no_phrases, more_phrases, count_of_phrases, name_bytes}
 use Rattle.flow_program.specs.Listing.{UpdateLine, ListedLine, WindowLine, NodeLine, branch_line, assignment_line, ListingTree, declared}
 
 -- A use of a name: the name that it would be, where it stands, the number of its line, whether it is a signal of a term
 -- or a test, and whether it is a test alone, so that the predicate `?` tests it.
-pub record Use : Type 0 where
+pub record ProgramUse : Type 0 where
   pub name : NameEntry
   pub place : Name
   pub line : ℕ
@@ -19,9 +19,9 @@ pub record Use : Type 0 where
 
 module _ (text : List ℕ) (line : ℕ) where
   -- a signal that is declared or updated
-  abbrev pub signal_use : Name → Use
+  abbrev pub signal_use : Name → ProgramUse
   signal_use at = record {
-    name = record { text = bytes_of text at; kind = Signal; arity = 0 };
+    name = record { text = name_bytes text at; kind = Signal; arity = 0 };
     place = at;
     line = line;
     is_read = false;
@@ -29,9 +29,9 @@ module _ (text : List ℕ) (line : ℕ) where
   }
 
   -- a signal in a term
-  abbrev pub read_use : Name → Use
+  abbrev pub read_use : Name → ProgramUse
   read_use at = record {
-    name = record { text = bytes_of text at; kind = Signal; arity = 0 };
+    name = record { text = name_bytes text at; kind = Signal; arity = 0 };
     place = at;
     line = line;
     is_read = true;
@@ -39,9 +39,9 @@ module _ (text : List ℕ) (line : ℕ) where
   }
 
   -- a signal that is a test
-  abbrev pub tested_use : Name → Use
+  abbrev pub tested_use : Name → ProgramUse
   tested_use at = record {
-    name = record { text = bytes_of text at; kind = Signal; arity = 0 };
+    name = record { text = name_bytes text at; kind = Signal; arity = 0 };
     place = at;
     line = line;
     is_read = true;
@@ -49,9 +49,9 @@ module _ (text : List ℕ) (line : ℕ) where
   }
 
   -- a function or a predicate with its arguments
-  abbrev pub applied_use : NameKind → Name → ℕ → Use
+  abbrev pub applied_use : NameKind → Name → ℕ → ProgramUse
   applied_use kind at arity = record {
-    name = record { text = bytes_of text at; kind = kind; arity = arity };
+    name = record { text = name_bytes text at; kind = kind; arity = arity };
     place = at;
     line = line;
     is_read = false;
@@ -61,42 +61,42 @@ module _ (text : List ℕ) (line : ℕ) where
   -- the uses of a term, a test, an update, the line of a window and the line of a node
 
   abbrev mutual
-    pub term_uses : PhraseTree → List Use
+    pub term_uses : PhraseTree → List ProgramUse
     term_uses (bare at) = read_use at ∷ []
     term_uses (applied at arguments) = applied_use Function at (count_of_phrases arguments) ∷ terms_uses arguments
 
-    pub terms_uses : PhraseTrees → List Use
+    pub terms_uses : PhraseTrees → List ProgramUse
     terms_uses no_phrases = []
     terms_uses (more_phrases p ps) = term_uses p ++ terms_uses ps
 
-  abbrev pub test_uses : PhraseTree → List Use
+  abbrev pub test_uses : PhraseTree → List ProgramUse
   test_uses (bare at) = tested_use at ∷ []
   test_uses (applied at arguments) = applied_use Predicate at (count_of_phrases arguments) ∷ terms_uses arguments
 
-  abbrev pub update_uses : UpdateLine → List Use
+  abbrev pub update_uses : UpdateLine → List ProgramUse
   update_uses u = signal_use u.signal ∷ term_uses u.term
 
-  abbrev pub listed_uses : ListedLine → List Use
+  abbrev pub listed_uses : ListedLine → List ProgramUse
   listed_uses u = signal_use u.signal ∷ term_uses u.term
 
-  abbrev pub window_uses : WindowLine → List Use
+  abbrev pub window_uses : WindowLine → List ProgramUse
   window_uses w = test_uses w.left ++ test_uses w.right ++ flat_map listed_uses w.updates
 
-  abbrev pub node_uses : NodeLine → List Use
+  abbrev pub node_uses : NodeLine → List ProgramUse
   node_uses (branch_line test then_node else_node) = test_uses test
   node_uses (assignment_line updates go) = flat_map update_uses updates
 
 -- the uses of lines, the first of which has this number
 
-abbrev pub declared_uses : List ℕ → ℕ → List Name → List Use
+abbrev pub declared_uses : List ℕ → ℕ → List Name → List ProgramUse
 declared_uses text line [] = []
 declared_uses text line (at ∷ ats) = signal_use text line at ∷ declared_uses text (suc line) ats
 
-abbrev pub windows_uses : List ℕ → ℕ → List WindowLine → List Use
+abbrev pub windows_uses : List ℕ → ℕ → List WindowLine → List ProgramUse
 windows_uses text line [] = []
 windows_uses text line (w ∷ ws) = window_uses text line w ++ windows_uses text (suc line) ws
 
-abbrev pub nodes_uses : List ℕ → ℕ → List NodeLine → List Use
+abbrev pub nodes_uses : List ℕ → ℕ → List NodeLine → List ProgramUse
 nodes_uses text line [] = []
 nodes_uses text line (n ∷ ns) = node_uses text line n ++ nodes_uses text (suc line) ns
 
@@ -115,20 +115,20 @@ abbrev pub first_state : ListingTree → ℕ
 first_state l = first_node l + length l.nodes
 
 -- the uses of a text
-abbrev pub uses_of : List ℕ → ListingTree → List Use
+abbrev pub uses_of : List ℕ → ListingTree → List ProgramUse
 uses_of text l =
     declared_uses text first_declaration (declared l)
     ++ windows_uses text (first_window l) l.windows
     ++ nodes_uses text (first_node l) l.nodes
 
 -- the predicate that tests a Boolean signal
-abbrev pub question_use : NameEntry
-question_use = record { text = question; kind = Predicate; arity = 1 }
+abbrev pub question_entry : NameEntry
+question_entry = record { text = question; kind = Predicate; arity = 1 }
 
 -- the names that get numbers by a use: `?` comes directly after the signal that it tests
-abbrev pub named_by : Use → List NameEntry
-named_by u = u.name ∷ (if u.is_tested then question_use ∷ [] else [])
+abbrev pub entries_of_use : ProgramUse → List NameEntry
+entries_of_use u = u.name ∷ (if u.is_tested then question_entry ∷ [] else [])
 
 -- the given names, and then those of the text by first appearance, each as it is used first
-abbrev pub names_of : List NameEntry → List Use → List NameEntry
-names_of given uses = with_uses given (flat_map named_by uses)
+abbrev pub names_after : List NameEntry → List ProgramUse → List NameEntry
+names_after given uses = with_uses given (flat_map entries_of_use uses)

@@ -5,9 +5,15 @@
 //! inputs and cells alone, and windows are short and in order. `Walk` says what a program does at a
 //! step, and `ProgramText` which text spells it.
 //!
-//! `write_program` gives that text of every program that can be written over its names. `one_program`
-//! is the law that a text spells at most one program, so reading such a text back, over the same names,
-//! can give no other.
+//! - `write_program` gives that text of every program that can be written over its names.
+//! - `read_program` reads a text after given names. `specs/Listing.antt` says what the lines of a text
+//!   are, and which line is the first at fault; `specs/Rules.antt` the rules of its lines, each as the
+//!   first line that breaks it; `specs/Uses.antt` which names the text has, in the order of their first
+//!   uses; and `specs/Reading.antt` what reading gives: the program and its names, or the one cause why
+//!   there is none.
+//! - Laws: a text spells at most one program, and has at most one reading after given names; what is
+//!   written is read back, with the same names; a text has at most one cause of refusal, and where it
+//!   has one it spells no program over names that go on from the given ones.
 #![tactic(auto)]
 
 mod laws;

@@ -5,7 +5,7 @@ ghost use Rattle.std.specs.List.{prefix_len};
 ghost use Rattle.tsl_text.specs.Lines.{is_line_byte};
 ghost use Rattle.tsl_terms.specs.Name.{number_of};
 ghost use Rattle.flow_program.specs.ListingTree.{listing_tree};
-ghost use Rattle.flow_program.specs.Listing.{IsListing, signal_named};
+ghost use Rattle.flow_program.specs.Listing.{IsListing, declared_entry};
 ghost use Rattle.flow_program.specs.ListingFault.{HasListingFault};
 ghost use Rattle.flow_program.specs.internal.LineReading.{place_of, line_tree, IsMisread};
 ghost use Rattle.flow_program.specs.internal.LineOrder.{no_node, no_window, no_output, no_cell, may_stand, extended, declares, names_so_far, are_new, cut, next_line, progress_of, error_at, DeclaresWithin, IsRepeated, after_head};
@@ -154,7 +154,7 @@ fn declare(names: &mut Names, text: &[u8], line: &Line) -> Result<(), Misread>
     requires within { DeclaresWithin (length text.now) (line_tree line.now) }
     requires room { length names.old + 1 < 2 ^ 32 }
     ensures new { OnOk result (are_new text.now names.old (line_tree line.now) ≡ true) }
-    ensures added { OnOk result (names.new ≡ names.old ++ map (signal_named text.now) (declares (line_tree line.now))) }
+    ensures added { OnOk result (names.new ≡ names.old ++ map (declared_entry text.now) (declares (line_tree line.now))) }
     ensures again { IfErr result (IsRepeated (are_new text.now names.old (line_tree line.now))) }
 {
     match declared_name(line) {

@@ -3,7 +3,7 @@
 ghost use Rattle.std.specs.Prelude.{◌≡◌, ◌+◌, ◌<◌, ◌^◌, None, length, map, IfOk, OnOk};
 ghost use Rattle.tsl_terms.specs.Name.{number_of};
 ghost use Rattle.tsl_terms.specs.Clashes.{with_use, with_uses};
-ghost use Rattle.flow_program.specs.Uses.{named_by, names_of};
+ghost use Rattle.flow_program.specs.Uses.{entries_of_use, names_after};
 ghost use Rattle.flow_program.specs.internal.UseView.{use_view};
 
 use crate::uses::SpelledUse;
@@ -23,8 +23,8 @@ fn add_name(names: &mut Names, text: &[u8], kind: NameKind, arity: u32) -> Resul
 
 /// Adds the names that get numbers by a use. An `Err` says that memory ran out.
 fn add_use(names: &mut Names, usage: &SpelledUse) -> Result<(), NoMemory>
-    requires { length (with_uses names.old (named_by (use_view usage.now))) < 2 ^ 32 }
-    ensures { OnOk result (names.new ≡ with_uses names.old (named_by (use_view usage.now))) }
+    requires { length (with_uses names.old (entries_of_use (use_view usage.now))) < 2 ^ 32 }
+    ensures { OnOk result (names.new ≡ with_uses names.old (entries_of_use (use_view usage.now))) }
 {
     add_name(names, usage.usage.text, usage.usage.kind, usage.usage.arity)?;
     if usage.is_tested {
@@ -34,9 +34,9 @@ fn add_use(names: &mut Names, usage: &SpelledUse) -> Result<(), NoMemory>
 }
 
 /// The given names, and then those of uses. An `Err` says that memory ran out.
-pub(crate) fn names_of(mut names: Names, uses: &[SpelledUse]) -> Result<Names, NoMemory>
-    requires { length (names_of names (map use_view uses.now)) < 2 ^ 32 }
-    ensures { IfOk result (λ all. all ≡ names_of names (map use_view uses.now)) }
+pub(crate) fn names_after(mut names: Names, uses: &[SpelledUse]) -> Result<Names, NoMemory>
+    requires { length (names_after names (map use_view uses.now)) < 2 ^ 32 }
+    ensures { IfOk result (λ all. all ≡ names_after names (map use_view uses.now)) }
 {
     for usage in uses {
         add_use(&mut names, usage)?;

@@ -19,7 +19,7 @@ use crate::listing::{
 };
 use crate::node::Node;
 use crate::program::Program;
-use crate::uses::bytes_of;
+use crate::uses::name_bytes;
 use sequence::{NoMemory, Sequence};
 use std::alloc::Global;
 use tsl_terms::{Listed, Names, Probe, Term, TermList, Window};
@@ -46,7 +46,7 @@ fn numbered(names: &Names, text: &[u8], name: Name) -> u32
     requires known { IsTrue (is_some (numbered names.now text.now name)) }
     ensures { numbered names.now text.now name ≡ Some result }
 {
-    names.find(bytes_of(text, name)).unwrap()
+    names.find(name_bytes(text, name)).unwrap()
 }
 
 /// A term with numbers. An `Err` says that memory ran out.

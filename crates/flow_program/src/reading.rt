@@ -7,12 +7,12 @@ ghost use Rattle.tsl_terms.specs.WellFormed.{name_fits};
 ghost use Rattle.flow_program.specs.ProgramView.{program_tree};
 ghost use Rattle.flow_program.specs.Listing.{listing_tree, IsListing};
 ghost use Rattle.flow_program.specs.Uses.{first_state};
-ghost use Rattle.flow_program.specs.Rules.{cells_of, readable_of};
+ghost use Rattle.flow_program.specs.Rules.{cell_texts, readable_of};
 ghost use Rattle.flow_program.specs.Reading.{IsReading, HasProgramCause};
 
 use crate::listing::{Listing, ListingError, Name};
 use crate::listing_reader::read_listing;
-use crate::naming::names_of;
+use crate::naming::names_after;
 use crate::numbering::numbered_program;
 use crate::program::Program;
 use crate::rules::{declared_names, limit_fault, line_fault, use_fault};
@@ -113,7 +113,7 @@ fn joined(alloc: Global, left: &[Name], right: &[Name]) -> Result<Vec<Name>, NoM
 fn declared_signals(alloc: Global, text: &[u8], listing: &Listing) -> Result<Signals, NoMemory>
     requires listing { IsListing text.now (listing_tree listing.now) }
     requires lines { first_state (listing_tree listing.now) + length listing.now.states.items < 2 ^ 32 }
-    ensures cells { IfOk result (λ declared. texts declared.cells ≡ cells_of text.now (listing_tree listing.now)) }
+    ensures cells { IfOk result (λ declared. texts declared.cells ≡ cell_texts text.now (listing_tree listing.now)) }
     ensures readable { IfOk result (λ declared. texts declared.readable ≡ readable_of text.now (listing_tree listing.now)) }
     ensures controlled { IfOk result
         (λ declared. declared.controlled.items ≡ listing.now.cells.items ++ listing.now.outputs.items) }
@@ -156,7 +156,7 @@ fn program_of(
         return Err(fault);
     }
     let uses = all_uses(alloc, text, listing)?;
-    let names = names_of(names, &uses)?;
+    let names = names_after(names, &uses)?;
     if let Some(fault) = use_fault(&declared.readable, &names, &uses) {
         return Err(fault);
     }

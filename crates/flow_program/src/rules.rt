@@ -4,15 +4,15 @@ ghost use Rattle.std.specs.Prelude.{◌≡◌, ℕ, ◌+◌, ◌<◌, ◌^◌, �
 ghost use Rattle.std.specs.List.{list_all};
 ghost use Rattle.tsl_terms.specs.Name.{texts, same_kind, AreDistinct};
 ghost use Rattle.tsl_terms.specs.Clashes.{alike_in};
-ghost use Rattle.flow_program.specs.Listing.{bytes_of, name_stands, update_line_stands, listed_line_stands, window_line_stands, node_line_stands, update_line, listed_line, window_line, node_line, listing_tree, signal_named, IsListing};
+ghost use Rattle.flow_program.specs.Listing.{name_bytes, name_stands, update_line_stands, listed_line_stands, window_line_stands, node_line_stands, update_line, listed_line, window_line, node_line, listing_tree, declared_entry, IsListing};
 ghost use Rattle.flow_program.specs.Uses.{first_window, first_node, first_state};
-ghost use Rattle.flow_program.specs.Rules.{first_line, breaks_order, goes_nowhere, is_nowhere, are_texts, breaks_updates, places_rise, place_of_cell, stands_before, listed_rise, is_cell_within, breaks_window, is_unknown, is_unlike, line_fault, use_fault, limit_fault, cells_of, controlled_of};
+ghost use Rattle.flow_program.specs.Rules.{first_line, breaks_order, goes_nowhere, is_nowhere, are_texts, breaks_updates, places_rise, place_of_cell, stands_before, listed_rise, is_cell_within, breaks_window, is_unknown, is_unlike, line_fault, use_fault, limit_fault, cell_texts, controlled_of};
 ghost use Rattle.flow_program.specs.internal.UseView.{use_view};
 
 use crate::limits::{LONGEST_WINDOW, MOST_NODES, MOST_STATES, MOST_WINDOWS};
 use crate::listing::{Listing, Name, SpelledListed, SpelledNode, SpelledUpdate, SpelledWindow};
 use crate::reading::ProgramError;
-use crate::uses::{SpelledUse, bytes_of};
+use crate::uses::{SpelledUse, name_bytes};
 use sequence::NoMemory;
 use std::alloc::Global;
 use tsl_terms::{NameKind, Names, Quality};
@@ -41,13 +41,13 @@ pub(crate) fn declared_names(
     declared: &[Name],
 ) -> Result<Names, NoMemory>
     requires stand { IsTrue (list_all (name_stands text.now) declared.now) }
-    requires once { AreDistinct (map (signal_named text.now) declared.now) }
+    requires once { AreDistinct (map (declared_entry text.now) declared.now) }
     requires few { length declared.now < 2 ^ 32 }
-    ensures { IfOk result (λ names. names ≡ map (signal_named text.now) declared.now) }
+    ensures { IfOk result (λ names. names ≡ map (declared_entry text.now) declared.now) }
 {
     let mut names = Names::new(alloc);
     for name in declared {
-        names.add(bytes_of(text, *name), NameKind::Signal, 0)?;
+        names.add(name_bytes(text, *name), NameKind::Signal, 0)?;
     }
     Ok(names)
 }
@@ -119,13 +119,13 @@ fn start_line(nodes: usize, line: u32, states: &[u64]) -> Option<u32>
 fn are_updates_of(text: &[u8], updates: &[SpelledUpdate], controlled: &[Name]) -> bool
     requires updates { IsTrue (list_all (update_line_stands text.now) (map update_line updates.now)) }
     requires controlled { IsTrue (list_all (name_stands text.now) controlled.now) }
-    ensures { result ≡ are_texts (map (λ u. bytes_of text.now u.signal) (map update_line updates.now)) (map (bytes_of text.now) controlled.now) }
+    ensures { result ≡ are_texts (map (λ u. name_bytes text.now u.signal) (map update_line updates.now)) (map (name_bytes text.now) controlled.now) }
 {
     if updates.len() != controlled.len() {
         return false;
     }
     for (place, update) in updates.iter().enumerate() {
-        if bytes_of(text, update.signal) != bytes_of(text, controlled[place]) {
+        if name_bytes(text, update.signal) != name_bytes(text, controlled[place]) {
             return false;
         }
     }
@@ -136,7 +136,7 @@ fn are_updates_of(text: &[u8], updates: &[SpelledUpdate], controlled: &[Name]) -
 fn breaks_updates(text: &[u8], controlled: &[Name], node: &SpelledNode) -> bool
     requires node { IsTrue (node_line_stands text.now (node_line node.now)) }
     requires controlled { IsTrue (list_all (name_stands text.now) controlled.now) }
-    ensures { (number : ℕ) → result ≡ breaks_updates text.now (map (bytes_of text.now) controlled.now) number (node_line node.now) }
+    ensures { (number : ℕ) → result ≡ breaks_updates text.now (map (name_bytes text.now) controlled.now) number (node_line node.now) }
 {
     match node {
         SpelledNode::Branch { .. } => false,
@@ -149,7 +149,7 @@ fn updates_line(text: &[u8], controlled: &[Name], line: u32, nodes: &[SpelledNod
     requires few { line + length nodes.now < 2 ^ 32 }
     requires nodes { IsTrue (list_all (node_line_stands text.now) (map node_line nodes.now)) }
     requires controlled { IsTrue (list_all (name_stands text.now) controlled.now) }
-    ensures { result ≡ first_line (breaks_updates text.now (map (bytes_of text.now) controlled.now)) line (map node_line nodes.now) }
+    ensures { result ≡ first_line (breaks_updates text.now (map (name_bytes text.now) controlled.now)) line (map node_line nodes.now) }
 {
     for (number, node) in nodes.iter().enumerate() {
         if breaks_updates(text, controlled, node) {
@@ -164,7 +164,7 @@ fn place_of_cell(text: &[u8], cells: &Names, update: &SpelledListed) -> Option<u
     requires { IsTrue (listed_line_stands text.now (listed_line update.now)) }
     ensures { result ≡ place_of_cell text.now (texts cells.now) (listed_line update.now) }
 {
-    cells.find(bytes_of(text, update.signal))
+    cells.find(name_bytes(text, update.signal))
 }
 
 /// Whether the first of two places is there and smaller than the second.
@@ -262,7 +262,7 @@ pub(crate) fn line_fault(
 ) -> Option<ProgramError>
     requires listing { IsListing text.now (listing_tree listing.now) }
     requires lines { first_state (listing_tree listing.now) + length listing.now.states.items < 2 ^ 32 }
-    requires cells { texts cells.now ≡ cells_of text.now (listing_tree listing.now) }
+    requires cells { texts cells.now ≡ cell_texts text.now (listing_tree listing.now) }
     requires controlled { controlled.now ≡ listing.now.cells.items ++ listing.now.outputs.items }
     ensures { result ≡ line_fault text.now (listing_tree listing.now) }
 {

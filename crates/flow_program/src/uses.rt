@@ -2,7 +2,7 @@
 
 ghost use Rattle.std.specs.Prelude.{◌≡◌, ◌+◌, ◌<◌, ◌^◌, ◌++◌, length, map, flat_map, IfOk, OnOk, IsTrue};
 ghost use Rattle.std.specs.List.{list_all};
-ghost use Rattle.flow_program.specs.Listing.{bytes_of, name_stands, phrase_stands, phrases_stand, update_line_stands, listed_line_stands, window_line_stands, node_line_stands, count_of_phrases, phrase_tree, phrase_trees, update_line, listed_line, window_line, node_line, listing_tree, IsListing};
+ghost use Rattle.flow_program.specs.Listing.{name_bytes, name_stands, phrase_stands, phrases_stand, update_line_stands, listed_line_stands, window_line_stands, node_line_stands, count_of_phrases, phrase_tree, phrase_trees, update_line, listed_line, window_line, node_line, listing_tree, IsListing};
 ghost use Rattle.flow_program.specs.Uses.{signal_use, read_use, tested_use, applied_use, term_uses, terms_uses, test_uses, update_uses, listed_uses, window_uses, node_uses, declared_uses, windows_uses, nodes_uses, uses_of, first_state};
 ghost use Rattle.flow_program.specs.internal.UseView.{use_view};
 
@@ -30,9 +30,9 @@ pub(crate) struct SpelledUse<'a> {
 }
 
 /// The bytes of a name.
-pub(crate) fn bytes_of(text: &[u8], name: Name) -> &[u8]
+pub(crate) fn name_bytes(text: &[u8], name: Name) -> &[u8]
     requires { IsTrue (name_stands text.now name) }
-    ensures { result.now ≡ bytes_of text.now name }
+    ensures { result.now ≡ name_bytes text.now name }
 {
     &text[name.start as usize..name.end as usize]
 }
@@ -44,7 +44,7 @@ fn signal_use(text: &[u8], line: u32, place: Name) -> SpelledUse<'_>
 {
     SpelledUse {
         usage: NameUse {
-            text: bytes_of(text, place),
+            text: name_bytes(text, place),
             kind: NameKind::Signal,
             arity: 0,
         },
@@ -62,7 +62,7 @@ fn read_use(text: &[u8], line: u32, place: Name) -> SpelledUse<'_>
 {
     SpelledUse {
         usage: NameUse {
-            text: bytes_of(text, place),
+            text: name_bytes(text, place),
             kind: NameKind::Signal,
             arity: 0,
         },
@@ -80,7 +80,7 @@ fn tested_use(text: &[u8], line: u32, place: Name) -> SpelledUse<'_>
 {
     SpelledUse {
         usage: NameUse {
-            text: bytes_of(text, place),
+            text: name_bytes(text, place),
             kind: NameKind::Signal,
             arity: 0,
         },
@@ -98,7 +98,7 @@ fn applied_use(text: &[u8], line: u32, kind: NameKind, place: Name, arity: u32) 
 {
     SpelledUse {
         usage: NameUse {
-            text: bytes_of(text, place),
+            text: name_bytes(text, place),
             kind,
             arity,
         },

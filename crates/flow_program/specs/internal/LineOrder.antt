@@ -9,7 +9,7 @@ use Rattle.flow_program.specs.declared.listing.Name.{Name}
 use Rattle.flow_program.specs.declared.listing.ListingError.{ListingError}
 use Rattle.flow_program.specs.declared.listing.ListingError.TheVariants.{Form as FormAt, NoMemory as Exhausted}
 use Rattle.flow_program.specs.declared.listing_reader.Begun.{Begun}
-use Rattle.flow_program.specs.Listing.{bytes_of, signal_named, declared}
+use Rattle.flow_program.specs.Listing.{name_bytes, declared_entry, declared}
 use Rattle.flow_program.specs.ListingTree.{ListingTree, listing_tree, empty_listing}
 use Rattle.flow_program.specs.LineText.{Place, LineTree, head_line, input, cell, output, window, node, state, end_line}
 use Rattle.flow_program.specs.internal.LineReading.{skipped, read_line}
@@ -94,11 +94,11 @@ declares _ = []
 
 -- the names that were declared
 abbrev pub names_so_far : List ℕ → ListingTree → List NameEntry
-names_so_far text l = map (signal_named text) (declared l)
+names_so_far text l = map (declared_entry text) (declared l)
 
 -- no name that a line declares is among these
 abbrev pub are_new : List ℕ → List NameEntry → LineTree → Bool
-are_new text names line = list_all (λ n. is_none (number_of names (bytes_of text n))) (declares line)
+are_new text names line = list_all (λ n. is_none (number_of names (name_bytes text n))) (declares line)
 
 -- the first line that is left, without its line feed, and what is left after it
 abbrev pub cut_at : ℕ → Place → Option (Place × Place)

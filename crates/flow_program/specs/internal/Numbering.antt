@@ -8,7 +8,7 @@ use Rattle.tsl_terms.specs.WindowTree.{WindowTree, ListedTree}
 use Rattle.flow_program.specs.declared.listing.Name.{Name}
 use Rattle.flow_program.specs.NodeTree.{NodeTree, branch, assign}
 use Rattle.flow_program.specs.ProgramTree.{ProgramTree}
-use Rattle.flow_program.specs.Listing.{PhraseTree, bare, applied, PhraseTrees, no_phrases, more_phrases, bytes_of}
+use Rattle.flow_program.specs.Listing.{PhraseTree, bare, applied, PhraseTrees, no_phrases, more_phrases, name_bytes}
 use Rattle.flow_program.specs.Listing.{UpdateLine, ListedLine, WindowLine, NodeLine, branch_line, assignment_line, ListingTree}
 
 abbrev pub probe_of : ℕ → TermTrees → ProbeTree
@@ -30,7 +30,7 @@ after front rest = option_map (λ ys. front ++ ys) rest
 
 module _ (names : List NameEntry) (text : List ℕ) where
   abbrev pub numbered : Name → Option ℕ
-  numbered at = number_of names (bytes_of text at)
+  numbered at = number_of names (name_bytes text at)
 
   abbrev mutual
     pub numbered_term : PhraseTree → Option TermTree

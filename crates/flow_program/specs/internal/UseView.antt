@@ -5,7 +5,7 @@ use Rattle.std.specs.List.{list_all}
 use Rattle.tsl_terms.specs.Clashes.{name_use}
 use Rattle.flow_program.specs.declared.uses.SpelledUse.{SpelledUse}
 use Rattle.flow_program.specs.Listing.{ListingTree, declared, name_stands, window_line_stands, node_line_stands}
-use Rattle.flow_program.specs.Uses.{Use}
+use Rattle.flow_program.specs.Uses.{ProgramUse}
 
-abbrev pub use_view : SpelledUse → Use
+abbrev pub use_view : SpelledUse → ProgramUse
 use_view u = record { name = name_use u.usage; place = u.place; line = u.line; is_read = u.is_read; is_tested = u.is_tested }

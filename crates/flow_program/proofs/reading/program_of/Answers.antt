@@ -3,7 +3,7 @@ use Rattle.sequence.proofs.Results.{handed_on}
 use Rattle.tsl_terms.specs.Name.{texts}
 use Rattle.flow_program.specs.declared.reading.ProgramError.TheVariants.{NoMemory}
 use Rattle.flow_program.specs.Listing.{listing_tree}
-use Rattle.flow_program.specs.Uses.{uses_of, names_of}
+use Rattle.flow_program.specs.Uses.{uses_of, names_after}
 use Rattle.flow_program.specs.Reading.{HasProgramCause}
 use Rattle.flow_program.specs.internal.UseView.{use_view}
 use Rattle.flow_program.proofs.Lengths.{uses_and_lines, names_within}
@@ -30,8 +30,8 @@ pub all_uses-requires-clause-few : goal.all_uses-requires-clause-few
 all_uses-requires-clause-few c =
     omega (arith, uses_and_lines c.args.text.now (listing_tree c.args.listing.now) c.requires.listing, c.requires.room)
 
-pub names_of-requires : goal.names_of-requires
-names_of-requires c =
+pub names_after-requires : goal.names_after-requires
+names_after-requires c =
     let uses_are : map use_view c.deref-2.result.now ≡ uses_of c.args.text.now (listing_tree c.args.listing.now) =
     ap (map use_view) c.deref-2.ensures.value ∙ c.in_ok-uses.ensures in
     omega (
@@ -47,7 +47,7 @@ returns-in-Some-use_fault-clause-cause c =
     at_a_use c.args.text.now c.args.names (listing_tree c.args.listing.now) (texts c.in_ok-declared.declared.readable)
     c.in_ok-declared.ensures.readable (map use_view c.deref-3.result.now) (ap (map use_view) c.deref-3.ensures.value ∙ c.in_ok-uses.ensures)
     c.in_ok-names.names
-    (c.in_ok-names.ensures ∙ ap (λ us. names_of c.args.names (map use_view us)) (c.deref-2.ensures.value ∙ sym c.deref-3.ensures.value))
+    (c.in_ok-names.ensures ∙ ap (λ us. names_after c.args.names (map use_view us)) (c.deref-2.ensures.value ∙ sym c.deref-3.ensures.value))
     c.requires.listing c.in-Some-use_fault.fault (sym c.in_default.ensures) (sym c.in-Some-use_fault.ensures)
 
 pub returns-in-Some-limit_fault-clause-cause : goal.returns-in-Some-limit_fault-clause-cause
@@ -55,7 +55,7 @@ returns-in-Some-limit_fault-clause-cause c =
     at_a_limit c.args.text.now c.args.names (listing_tree c.args.listing.now) (texts c.in_ok-declared.declared.readable)
     c.in_ok-declared.ensures.readable (map use_view c.deref-3.result.now) (ap (map use_view) c.deref-3.ensures.value ∙ c.in_ok-uses.ensures)
     c.in_ok-names.names
-    (c.in_ok-names.ensures ∙ ap (λ us. names_of c.args.names (map use_view us)) (c.deref-2.ensures.value ∙ sym c.deref-3.ensures.value))
+    (c.in_ok-names.ensures ∙ ap (λ us. names_after c.args.names (map use_view us)) (c.deref-2.ensures.value ∙ sym c.deref-3.ensures.value))
     c.requires.listing c.in-Some-limit_fault.fault (sym c.in_default.ensures) (sym c.in_default-use_fault.ensures)
     (sym c.in-Some-limit_fault.ensures)
 
@@ -64,7 +64,7 @@ numbered_program-requires-clause-program c =
     spells c.args.text.now c.args.names (listing_tree c.args.listing.now) (texts c.in_ok-declared.declared.readable)
     c.in_ok-declared.ensures.readable (map use_view c.deref-3.result.now) (ap (map use_view) c.deref-3.ensures.value ∙ c.in_ok-uses.ensures)
     c.in_ok-names.names
-    (c.in_ok-names.ensures ∙ ap (λ us. names_of c.args.names (map use_view us)) (c.deref-2.ensures.value ∙ sym c.deref-3.ensures.value))
+    (c.in_ok-names.ensures ∙ ap (λ us. names_after c.args.names (map use_view us)) (c.deref-2.ensures.value ∙ sym c.deref-3.ensures.value))
     c.are_distinct.ensures c.requires.names c.requires.listing (sym c.in_default.ensures) (sym c.in_default-use_fault.ensures)
     (sym c.in_default-limit_fault.ensures)
 
@@ -77,5 +77,5 @@ returns-clause-names_fit c =
     names_may_be_written c.args.text.now c.args.names (listing_tree c.args.listing.now) (texts c.in_ok-declared.declared.readable)
     c.in_ok-declared.ensures.readable (map use_view c.deref-3.result.now) (ap (map use_view) c.deref-3.ensures.value ∙ c.in_ok-uses.ensures)
     c.in_ok-names.names
-    (c.in_ok-names.ensures ∙ ap (λ us. names_of c.args.names (map use_view us)) (c.deref-2.ensures.value ∙ sym c.deref-3.ensures.value))
+    (c.in_ok-names.ensures ∙ ap (λ us. names_after c.args.names (map use_view us)) (c.deref-2.ensures.value ∙ sym c.deref-3.ensures.value))
     c.requires.names c.requires.listing

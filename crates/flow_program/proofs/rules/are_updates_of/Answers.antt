@@ -3,25 +3,25 @@ use Rattle.std.specs.Prelude.{IsTrue}
 use Rattle.std.proofs.lemmas.Bool.{and_parts}
 use Rattle.std.proofs.lemmas.List.{length-map}
 use Rattle.sequence.proofs.Passes.{passes_within, map_passes_within}
-use Rattle.flow_program.specs.Listing.{bytes_of, name_stands, update_line, update_line_stands}
+use Rattle.flow_program.specs.Listing.{name_bytes, name_stands, update_line, update_line_stands}
 use Rattle.flow_program.proofs.RuleLemmas.{other_lengths}
 use Rattle.flow_program.proofs.rules.are_updates_of.Goals as goal
 
 pub returns-then-updates-controlled : goal.returns-then-updates-controlled
 returns-then-updates-controlled c =
-    sym (other_lengths (map (λ u. bytes_of c.args.text.now u.signal) (map update_line c.args.updates.now))
-    (map (bytes_of c.args.text.now) c.args.controlled.now) (λ e. c.if-updates-controlled.true
+    sym (other_lengths (map (λ u. name_bytes c.args.text.now u.signal) (map update_line c.args.updates.now))
+    (map (name_bytes c.args.text.now) c.args.controlled.now) (λ e. c.if-updates-controlled.true
     (sym (length-map c.args.updates.now update_line)
-    ∙ sym (length-map (map update_line c.args.updates.now) (λ u. bytes_of c.args.text.now u.signal)) ∙ e
-    ∙ length-map c.args.controlled.now (bytes_of c.args.text.now))))
+    ∙ sym (length-map (map update_line c.args.updates.now) (λ u. name_bytes c.args.text.now u.signal)) ∙ e
+    ∙ length-map c.args.controlled.now (name_bytes c.args.text.now))))
 
-pub bytes_of-requires : goal.bytes_of-requires
-bytes_of-requires c =
+pub name_bytes-requires : goal.name_bytes-requires
+name_bytes-requires c =
     let stands : IsTrue (update_line_stands c.args.text.now (update_line c.index-updates-place.result)) = rw c.index-updates-place.is
     (map_passes_within update_line (update_line_stands c.args.text.now) c.args.updates.now c.loop-place.place c.index-updates-place.result
     c.requires.updates c.loop-place-test.true) in
     (and_parts _ _ stands).0
 
-pub bytes_of-requires-in-loop-place : goal.bytes_of-requires-in-loop-place
-bytes_of-requires-in-loop-place c =
+pub name_bytes-requires-in-loop-place : goal.name_bytes-requires-in-loop-place
+name_bytes-requires-in-loop-place c =
     passes_within (name_stands c.args.text.now) c.args.controlled.now c.loop-place.place _ c.requires.controlled (omega arith)

@@ -1,7 +1,7 @@
 use Rattle.std.proofs.Common.{◌+◌, map, ap, sym, ◌∙◌}
 use Rattle.std.specs.Prelude.{option_map}
 use Rattle.sequence.proofs.Passes.{map_passes_within}
-use Rattle.flow_program.specs.Listing.{node_line, node_line_stands, bytes_of}
+use Rattle.flow_program.specs.Listing.{node_line, node_line_stands, name_bytes}
 use Rattle.flow_program.specs.Rules.{breaks_updates}
 use Rattle.flow_program.proofs.General.{place_here, place_later}
 use Rattle.flow_program.proofs.rules.updates_line.Goals as goal
@@ -15,12 +15,12 @@ breaks_updates-requires-clause-node c =
 pub returns-then-breaks_updates : goal.returns-then-breaks_updates
 returns-then-breaks_updates c =
     ap (option_map (λ place. c.args.line + place))
-    (place_here (breaks_updates c.args.text.now (map (bytes_of c.args.text.now) c.args.controlled.now)) node_line c.args.nodes.now
+    (place_here (breaks_updates c.args.text.now (map (name_bytes c.args.text.now) c.args.controlled.now)) node_line c.args.nodes.now
     c.loop-number.number c.index-nodes-number.result _ c.loop-number-test.true c.index-nodes-number.is
     (sym (c.breaks_updates.ensures c.loop-number.number) ∙ c.if-breaks_updates.true) c.loop-number.invariant)
 
 pub loop-number-preserved : goal.loop-number-preserved
 loop-number-preserved c =
-    place_later (breaks_updates c.args.text.now (map (bytes_of c.args.text.now) c.args.controlled.now)) node_line c.args.nodes.now
+    place_later (breaks_updates c.args.text.now (map (name_bytes c.args.text.now) c.args.controlled.now)) node_line c.args.nodes.now
     c.loop-number.number c.index-nodes-number.result _ c.loop-number-test.true c.index-nodes-number.is
     (sym (c.breaks_updates.ensures c.loop-number.number) ∙ c.if-breaks_updates.false) c.loop-number.invariant

@@ -1,5 +1,5 @@
 use Rattle.flow_program.proofs.WithUses.{use_is_few}
-use Rattle.flow_program.proofs.naming.names_of.Goals as goal
+use Rattle.flow_program.proofs.naming.names_after.Goals as goal
 
 pub add_use-requires : goal.add_use-requires
 add_use-requires c =
