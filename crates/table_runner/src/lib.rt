@@ -1,10 +1,17 @@
 //! Runs of programs, over any judge.
-//!
-//! `run_closed` gives the run of a program that closes at the first configuration that equals an earlier one.
 #![tactic(auto)]
 
+mod acting;
 mod closing;
 mod errors;
+mod recording;
+mod rows;
+mod runner;
+mod standing;
 
 pub use closing::run_closed;
 pub use errors::RunError;
+pub use runner::Runner;
+
+#[cfg(test)]
+mod tests;

@@ -1,0 +1,4 @@
+-- What private functions say.
+pub mod Returns
+pub mod Copied
+pub mod Wheel

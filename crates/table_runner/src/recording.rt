@@ -1,0 +1,71 @@
+//! The positions of a run, one by one.
+
+ghost use Rattle.std.specs.Prelude.{◌≡◌, ◌≤◌, ℕ, Some, length, slice_get, IfOk, map, take, drop};
+ghost use Rattle.tsl_terms.specs.TermTree.{term_tree};
+ghost use Rattle.flow_program.specs.ProgramView.{program_tree};
+ghost use Rattle.tsl_meaning.specs.RunTree.{PositionTree, position_tree};
+ghost use Rattle.tsl_meaning.specs.RunOf.{IsStepOf};
+ghost use Rattle.tsl_meaning.specs.Run.{action_in as action_of};
+ghost use Rattle.table_runner.specs.Running.{rows_seen, CanRun};
+ghost use Rattle.table_runner.specs.Standings.{shown, StandsAt};
+
+use crate::acting::{Action, action_in, copies};
+use crate::standing::{Standing, act, cells_of, first_standing, row_of};
+use flow_program::Program;
+use interp_core::Judge;
+use sequence::{NoMemory, Sequence};
+use std::alloc::Global;
+use tsl_meaning::{InputLoop, Position};
+use tsl_terms::copy_term;
+
+/// So many first positions of a run.
+pub(crate) fn first_positions<J: Judge>(
+    alloc: Global,
+    judge: &J,
+    program: &Program,
+    inputs: &InputLoop<J::Value>,
+    count: u32,
+) -> Result<Sequence<Position<J::Value>>, NoMemory>
+    requires can { CanRun (J.meanings judge.now) (program_tree program.now) (rows_seen J.seen inputs.now) }
+    ensures count { IfOk result (λ positions. length positions ≡ count) }
+    ensures steps { IfOk result (λ positions. (t : ℕ) (p : PositionTree J.Seen) → slice_get (map (position_tree J.seen) positions) t ≡ Some p
+        → IsStepOf (J.meanings judge.now) (program_tree program.now) (rows_seen J.seen inputs.now) t p) }
+{
+    let mut standing = first_standing(alloc, judge, program, inputs)?;
+    let mut positions = Sequence::new(alloc);
+    for _ in 0..count {
+        let action = action_in(alloc, judge, program, standing.state, &standing.leaves)?;
+        positions.push(position_of(alloc, judge, program, &standing, action)?)?;
+        act(alloc, judge, program, inputs, &mut standing, action)?;
+    }
+    Ok(positions)
+}
+
+/// The position where a run stands, with what is done there.
+fn position_of<J: Judge>(
+    alloc: Global,
+    judge: &J,
+    program: &Program,
+    standing: &Standing<J::Value>,
+    action: Action,
+) -> Result<Position<J::Value>, NoMemory>
+    ensures { IfOk result (λ p. position_tree J.seen p ≡ (record {
+      place = standing.now.place;
+      state = standing.now.state;
+      row = take (length program.now.inputs) (map J.seen standing.now.leaves.values);
+      cells = drop (length program.now.inputs) (map J.seen standing.now.leaves.values);
+      updates = map term_tree action.updates.now;
+    })) }
+{
+    let mut updates = Vec::new(alloc);
+    for term in action.updates {
+        updates.push(copy_term(alloc, term)?)?;
+    }
+    Ok(Position {
+        place: standing.place,
+        state: standing.state,
+        row: Sequence::from_vec(copies(alloc, judge, row_of(program, standing))?),
+        cells: Sequence::from_vec(copies(alloc, judge, cells_of(program, standing))?),
+        updates: Sequence::from_vec(updates),
+    })
+}
