@@ -103,10 +103,10 @@ pub(crate) fn next_values<A: Algebra>(
     row: &[A::Value],
     terms: &[Term],
 ) -> Result<Vec<A::Value>, NoMemory>
-    requires had { IsSome (all_there (map (value (A.meanings algebra.now) (leaf_value A.seen leaves.now)) (map term_tree terms.now))) }
+    requires had { IsSome (all_there (map (λ t. value (A.meanings algebra.now) (leaf_value A.seen leaves.now) (term_tree t)) terms.now)) }
     ensures { IfOk result (λ vs.
         option_map (λ cs. map A.seen row.now ++ cs)
-        (all_there (map (value (A.meanings algebra.now) (leaf_value A.seen leaves.now)) (map term_tree terms.now)))
+        (all_there (map (λ t. value (A.meanings algebra.now) (leaf_value A.seen leaves.now) (term_tree t)) terms.now))
         ≡ Some (map A.seen vs.items)) }
 {
     let mut values = copies(alloc, algebra, row)?;
