@@ -13,10 +13,10 @@ ghost use Rattle.table_runner.specs.internal.Returns.{Returns, IsReturnWithin, I
 
 use crate::errors::RunError;
 use crate::recording::first_positions;
-use crate::standing::{Standing, advance, copy_standing, first_standing, same_configuration};
+use crate::standing::{Standing, advance, copied, copy_standing, first_standing, same_configuration};
 use flow_program::Program;
 use interp_core::Judge;
-use sequence::{NoMemory, Sequence};
+use sequence::NoMemory;
 use std::alloc::Global;
 use tsl_meaning::{InputLoop, LoopRun};
 
@@ -49,9 +49,9 @@ pub fn run_closed<J: Judge>(
         return Err(RunError::NoLoop);
     }
     Ok(LoopRun {
-        inputs: copy_signals(alloc, program.inputs.as_slice())?,
-        cells: copy_signals(alloc, program.cells.as_slice())?,
-        outputs: copy_signals(alloc, program.outputs.as_slice())?,
+        inputs: copied(alloc, program.inputs.as_slice())?,
+        cells: copied(alloc, program.cells.as_slice())?,
+        outputs: copied(alloc, program.outputs.as_slice())?,
         start: start as u32,
         length: found.length as u32,
         positions: first_positions(alloc, judge, program, inputs, end as u32)?,
@@ -138,13 +138,4 @@ fn first_start<J: Judge>(
         advance(alloc, judge, program, inputs, &mut later)?;
     }
     Ok(found.step)
-}
-
-/// The same signals once more.
-fn copy_signals(alloc: Global, signals: &[u32]) -> Result<Sequence<u32>, NoMemory>
-    ensures { IfOk result (λ copy. copy ≡ signals.now) }
-{
-    let mut copy = Vec::new(alloc);
-    copy.extend_from_slice(signals)?;
-    Ok(Sequence::from_vec(copy))
 }

@@ -54,7 +54,7 @@ fn position_of<J: Judge>(
       state = standing.now.state;
       row = take (length program.now.inputs) (map J.seen standing.now.leaves.values);
       cells = drop (length program.now.inputs) (map J.seen standing.now.leaves.values);
-      updates = map term_tree action.updates.now;
+      updates = map term_tree action.entry.updates.now;
     })) }
 {
     let mut updates = Vec::new(alloc);

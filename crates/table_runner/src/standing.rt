@@ -1,6 +1,6 @@
 //! Where a run stands, and its steps.
 
-ghost use Rattle.std.specs.Prelude.{◌≡◌, ◌↔◌, ◌+◌, ◌≤◌, ℕ, Some, length, IsTrue, IfOk, OnOk, OnErr, map, take, drop};
+ghost use Rattle.std.specs.Prelude.{◌≡◌, ◌↔◌, ◌+◌, ◌++◌, ℕ, Some, length, IsTrue, IfOk, OnOk, OnErr, map, take, drop};
 ghost use Rattle.flow_program.specs.ProgramView.{program_tree};
 ghost use Rattle.table_runner.specs.Running.{rows_seen, CanRun};
 ghost use Rattle.table_runner.specs.Standings.{shown, StandsAt};
@@ -34,15 +34,13 @@ pub(crate) fn first_standing<J: Judge>(
     requires can { CanRun (J.meanings judge.now) (program_tree program.now) (rows_seen J.seen inputs.now) }
     ensures { IfOk result (StandsAt J.seen (J.meanings judge.now) (program_tree program.now) (rows_seen J.seen inputs.now) 0) }
 {
-    let mut signals = Vec::new(alloc);
-    signals.extend_from_slice(program.inputs.as_slice())?;
-    signals.extend_from_slice(program.cells.as_slice())?;
+    let signals = joined(alloc, program.inputs.as_slice(), program.cells.as_slice())?;
     let values = first_values(alloc, judge, row_at(inputs, 0), program.cells.as_slice())?;
     Ok(Standing {
         place: 0,
         state: 0,
         leaves: Leaves {
-            signals: Sequence::from_vec(signals),
+            signals,
             values: Sequence::from_vec(values),
         },
     })
@@ -145,15 +143,33 @@ pub(crate) fn copy_standing<A: Algebra>(
 ) -> Result<Standing<A::Value>, NoMemory>
     ensures { IfOk result (IsCopied A.seen standing.now) }
 {
-    let mut signals = Vec::new(alloc);
-    signals.extend_from_slice(standing.leaves.signals.as_slice())?;
+    let signals = copied(alloc, standing.leaves.signals.as_slice())?;
     let values = copies(alloc, algebra, standing.leaves.values.as_slice())?;
     Ok(Standing {
         place: standing.place,
         state: standing.state,
         leaves: Leaves {
-            signals: Sequence::from_vec(signals),
+            signals,
             values: Sequence::from_vec(values),
         },
     })
+}
+
+/// The members of two lists, those of the first before those of the second.
+pub(crate) fn joined(alloc: Global, first: &[u32], second: &[u32]) -> Result<Sequence<u32>, NoMemory>
+    ensures { IfOk result (λ list. list ≡ first.now ++ second.now) }
+{
+    let mut list = Vec::new(alloc);
+    list.extend_from_slice(first)?;
+    list.extend_from_slice(second)?;
+    Ok(Sequence::from_vec(list))
+}
+
+/// The same numbers once more.
+pub(crate) fn copied(alloc: Global, numbers: &[u32]) -> Result<Sequence<u32>, NoMemory>
+    ensures { IfOk result (λ copy. copy ≡ numbers.now) }
+{
+    let mut copy = Vec::new(alloc);
+    copy.extend_from_slice(numbers)?;
+    Ok(Sequence::from_vec(copy))
 }
