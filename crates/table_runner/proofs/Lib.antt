@@ -2,3 +2,5 @@ mod Gathering
 mod Walking
 mod Stepping
 mod Brent
+mod Comparing
+mod Meeting
