@@ -4,3 +4,4 @@ mod Stepping
 mod Brent
 mod Comparing
 mod Meeting
+mod Recorded

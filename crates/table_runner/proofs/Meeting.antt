@@ -38,6 +38,24 @@ module _ {V S : Type 0} (seen : V → S) (meanings : Meanings S) (program : Prog
   pub one_on : (t n : ℕ) (now : Standing V) → StandsAt seen meanings program rows ((t + n) + 1) now → StandsAt seen meanings program rows (t + (n + 1)) now
   one_on t n now stands = let e : (t + n) + 1 ≡ t + (n + 1) = omega arith in subst (λ u. StandsAt seen meanings program rows u now) e stands
 
+  pub moved : (t u : ℕ) (now : Standing V) → t ≡ u → StandsAt seen meanings program rows t now → StandsAt seen meanings program rows u now
+  moved t u now e stands = subst (λ v. StandsAt seen meanings program rows v now) e stands
+
+  -- one more step whose value is not there again
+  pub none_before : (n t : ℕ) (earlier later : Standing V) → StandsAt seen meanings program rows t earlier →
+      StandsAt seen meanings program rows (t + n) later →
+      (shown seen (length program.inputs) earlier ≡ shown seen (length program.inputs) later → ⊥) →
+      ((k : ℕ) → k < t → configuration_at meanings program rows (k + n) ≢ configuration_at meanings program rows k) →
+      (k : ℕ) → k < t + 1 → configuration_at meanings program rows (k + n) ≢ configuration_at meanings program rows k
+  none_before n t earlier later first second apart before k below same = elim (cases_lt k t) [
+    | inl less ↦ before k less same
+    | inr last ↦
+        let e : k ≡ t = omega (arith, last, below) in
+        let here : configuration_at meanings program rows (t + n) ≡ configuration_at meanings program rows t =
+        subst (λ m. configuration_at meanings program rows (m + n) ≡ configuration_at meanings program rows m) e same in
+        apart (sym (shown_same (t + n) t later earlier second first here))
+  ]
+
   module _ (t n : ℕ) (old now kept : Standing V) (stood : StandsAt seen meanings program rows t old) (copied : IsCopied seen old kept)
       (stands : StandsAt seen meanings program rows ((t + n) + 1) now) (away : IsAway (configuration_at meanings program rows) t n) where
     pub returned : shown seen (length program.inputs) now ≡ shown seen (length program.inputs) kept →

@@ -174,8 +174,19 @@ module _ {V S : Type 0} (seen : V → S) (meanings : Meanings S) (program : Prog
           let rest = length-all_there (map (λ u. value meanings leaves_at (term_tree u)) (take n us)) cells.0 cells.1 in
           let taken = length-map (take n us) (λ u. value meanings leaves_at (term_tree u)) in
           let whole = length-append row cells.0 in
-          omega (arith, first, rest, taken, whole, ap length cells.2, length-map vs seen, length-take-le n us enough, count,
-              ap length stands.signals, length-append program.inputs program.cells)
+          omega (
+            arith,
+            first,
+            rest,
+            taken,
+            whole,
+            ap length cells.2,
+            length-map vs seen,
+            length-take-le n us enough,
+            count,
+            ap length stands.signals,
+            length-append program.inputs program.cells,
+          )
 
       pub stands_next : (next : Standing V) → next.place ≡ place_after rows standing.place → next.state ≡ action.go →
           next.leaves.signals ≡ standing.leaves.signals → next.leaves.values ≡ vs → StandsAt seen meanings program rows (t + 1) next
@@ -185,7 +196,7 @@ module _ {V S : Type 0} (seen : V → S) (meanings : Meanings S) (program : Prog
           subst (λ at. all_there (map (value meanings at) (take (length program.cells) action.updates)) ≡ Some cells.0) leaves_are
           (ap all_there (terms_same us same) ∙ ap (λ k. all_there (map (λ u. value meanings leaves_at (term_tree u)) (take k us))) (sym count) ∙ cells.1) in
           let is_next : configuration_at meanings program rows (suc t)
-              ≡ Some (record { place = place_after rows standing.place; state = action.go; cells = cells.0 }) =
+          ≡ Some (record { place = place_after rows standing.place; state = action.go; cells = cells.0 }) =
           follows ∙ ap (option_map (λ (cs : List S). record { place = place_after rows standing.place; state = action.go; cells = cs })) there in
           record {
             is_now = rw (add-one t, place, state, values, ← cells.2, drop_at row cells.0 (length program.inputs) long) is_next;
@@ -201,8 +212,8 @@ read_distinct program i j n at_i at_j =
 
 -- where a run stands at first
 module _ {V S : Type 0} (seen : V → S) (meanings : Meanings S) (program : ProgramTree) (rows : InputRows S) (can : CanRun meanings program rows) where
-  pub first_there : (cells : List ℕ) → cells ≡ program.cells → IsSome (all_there (map meanings.initial cells))
-  first_there cells same = subst (λ cs. IsSome (all_there (map meanings.initial cs))) (sym same) (
+  pub first_there : (signals : List ℕ) → signals ≡ program.cells → IsSome (all_there (map meanings.initial signals))
+  first_there signals same = subst (λ cs. IsSome (all_there (map meanings.initial cs))) (sym same) (
       mapped_there (λ (cs : List S). record { place = 0; state = 0; cells = cs }) (all_there (map meanings.initial program.cells))
       (let first = can.goes_on 0 in subst IsSome (sym first.is_now) refl))
 
@@ -217,8 +228,16 @@ module _ {V S : Type 0} (seen : V → S) (meanings : Meanings S) (program : Prog
         let first : length row ≡ length program.inputs = can.rows_fit 0 row here in
         let rest = length-all_there (map meanings.initial program.cells) first_cells.0 first_cells.1 in
         let whole = length-append row first_cells.0 in
-        omega (arith, first, rest, length-map program.cells meanings.initial, whole, ap length first_cells.2, length-map vs seen,
-            length-append program.inputs program.cells)
+        omega (
+          arith,
+          first,
+          rest,
+          length-map program.cells meanings.initial,
+          whole,
+          ap length first_cells.2,
+          length-map vs seen,
+          length-append program.inputs program.cells,
+        )
 
     pub stands_first : (standing : Standing V) → standing.place ≡ 0 → standing.state ≡ 0 →
         standing.leaves.signals ≡ program.inputs ++ program.cells → standing.leaves.values ≡ vs → StandsAt seen meanings program rows 0 standing

@@ -13,7 +13,9 @@ ghost use Rattle.table_runner.specs.internal.Returns.{Returns, IsReturnWithin, I
 
 use crate::errors::RunError;
 use crate::recording::first_positions;
-use crate::standing::{Standing, advance, copied, copy_standing, first_standing, same_configuration};
+use crate::standing::{
+    Standing, advance, copied, copy_standing, first_standing, same_configuration,
+};
 use flow_program::Program;
 use interp_core::Judge;
 use sequence::NoMemory;
@@ -42,7 +44,10 @@ pub fn run_closed<J: Judge>(
     ensures within { IfOk result (λ run. run.start + run.length ≤ limit) }
     ensures no_loop { IfErr result (λ e. e ≡ RunError.NoLoop → AreDifferent (J.meanings judge.now) (program_tree program.now) (rows_seen J.seen inputs.now) (limit + 1)) }
 {
-    let found = some_return(alloc, judge, program, inputs, limit)?;
+    let found = match some_return(alloc, judge, program, inputs, limit) {
+        Ok(found) => found,
+        Err(error) => return Err(error),
+    };
     let start = first_start(alloc, judge, program, inputs, found)?;
     let end = start + found.length;
     if end > u64::from(limit) {

@@ -156,7 +156,11 @@ pub(crate) fn copy_standing<A: Algebra>(
 }
 
 /// The members of two lists, those of the first before those of the second.
-pub(crate) fn joined(alloc: Global, first: &[u32], second: &[u32]) -> Result<Sequence<u32>, NoMemory>
+pub(crate) fn joined(
+    alloc: Global,
+    first: &[u32],
+    second: &[u32],
+) -> Result<Sequence<u32>, NoMemory>
     ensures { IfOk result (λ list. list ≡ first.now ++ second.now) }
 {
     let mut list = Vec::new(alloc);

@@ -38,7 +38,10 @@ impl Algebra for Wheel {
     ghost meanings = { λ judge. wheel judge.size };
 
     fn apply(&self, _alloc: Global, function: u32, arguments: &[u32]) -> Result<u32, NoMemory> {
-        Ok(((u64::from(function) + u64::from(digits(self.size, arguments))) % u64::from(self.size)) as u32)
+        Ok(
+            ((u64::from(function) + u64::from(digits(self.size, arguments)))
+                % u64::from(self.size)) as u32,
+        )
     }
 
     fn initial(&self, _alloc: Global, _cell: u32) -> Result<u32, NoMemory> {
@@ -73,11 +76,17 @@ fn probe(alloc: Global, predicate: u32, arguments: &[u32]) -> Result<Probe, NoMe
     for signal in arguments {
         terms.push(Term::Signal(*signal))?;
     }
-    Ok(Probe { predicate, arguments: TermList::from_vec(alloc, terms)? })
+    Ok(Probe {
+        predicate,
+        arguments: TermList::from_vec(alloc, terms)?,
+    })
 }
 
 fn counter(alloc: Global, term: Term) -> Result<Program, NoMemory> {
-    let node = Node::Set { updates: Sequence::from_vec(vec![in alloc; term]?), go: 0 };
+    let node = Node::Set {
+        updates: Sequence::from_vec(vec![in alloc; term]?),
+        go: 0,
+    };
     Ok(Program {
         inputs: Sequence::new(alloc),
         cells: Sequence::from_vec(vec![in alloc; 7]?),
@@ -102,12 +111,18 @@ fn a_counter_closes_where_the_wheel_ends(rt: HostRuntime) -> Result<(), Fail> {
     let inputs = one_row(alloc)?;
     for size in [1, 2, 3, 5, 64, 100].as_slice() {
         let wheel = Wheel { size: *size };
-        let run = match run_closed(alloc, &wheel, &program, &inputs, 100) { Ok(run) => run, Err(_) => { assert!(rt; false); return Ok(()) } };
+        let run = match run_closed(alloc, &wheel, &program, &inputs, 100) {
+            Ok(run) => run,
+            Err(_) => {
+                assert!(rt; false);
+                return Ok(())
+            }
+        };
         assert_eq!(rt; run.start, 0);
         assert_eq!(rt; run.length, *size);
         assert_eq!(rt; run.positions.len(), *size as usize);
         if *size > 1 {
-        assert!(rt; run_closed(alloc, &wheel, &program, &inputs, *size - 1).is_err());
+            assert!(rt; run_closed(alloc, &wheel, &program, &inputs, *size - 1).is_err());
         }
     }
     Ok(())
@@ -119,7 +134,13 @@ fn long(rt: HostRuntime) -> Result<(), Fail> {
     let program = counter(alloc, applied(alloc, 1, &[7])?)?;
     let inputs = one_row(alloc)?;
     let wheel = Wheel { size: 65_536 };
-    let run = match run_closed(alloc, &wheel, &program, &inputs, 65_536) { Ok(run) => run, Err(_) => { assert!(rt; false); return Ok(()) } };
+    let run = match run_closed(alloc, &wheel, &program, &inputs, 65_536) {
+        Ok(run) => run,
+        Err(_) => {
+            assert!(rt; false);
+            return Ok(())
+        }
+    };
     assert_eq!(rt; run.length, 65_536);
     assert!(rt; run_closed(alloc, &wheel, &program, &inputs, 65_535).is_err());
     Ok(())

@@ -35,4 +35,4 @@ pub returns-clause-goes_on : goal.returns-clause-goes_on
 returns-clause-goes_on g c none t stands =
     let end : c.loop-steps.steps ≡ c.args.reach = omega (arith, c.loop-steps-test.false, c.loop-steps.auto.steps-end) in
     subst (λ n. StandsAt g.J.Algebra.seen (g.J.Algebra.meanings c.args.judge.now) (program_tree c.args.program.now)
-        (rows_seen g.J.Algebra.seen c.args.inputs.now) (t + n) c.loop-steps.standing) end (c.loop-steps.invariant t stands).0
+    (rows_seen g.J.Algebra.seen c.args.inputs.now) (t + n) c.loop-steps.standing) end (c.loop-steps.invariant t stands).0

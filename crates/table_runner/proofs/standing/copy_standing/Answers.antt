@@ -9,7 +9,14 @@ invariant_of-result g c =
     record {
       distinct = subst IsDistinct (sym signals) c.args.standing.now.leaves.distinct;
       paired =
-          omega (arith, ap length signals, c.args.standing.now.leaves.paired, ap length c.in_ok-values.ensures,
-              length-map c.in_ok-values.values.items g.A.Algebra.seen,
-              length-map c.as_slice-2.result.now g.A.Algebra.seen, ap length c.as_slice-2.ensures, ap length c.from_vec.ensures);
+          omega (
+            arith,
+            ap length signals,
+            c.args.standing.now.leaves.paired,
+            ap length c.in_ok-values.ensures,
+            length-map c.in_ok-values.values.items g.A.Algebra.seen,
+            length-map c.as_slice-2.result.now g.A.Algebra.seen,
+            ap length c.as_slice-2.ensures,
+            ap length c.from_vec.ensures,
+          );
     }
