@@ -41,6 +41,12 @@ one_more_fits inputs cells slots xs ys p same fit here i q at = elim (slice_get_
   | inr last ↦ subst (λ (r : Position _). (length r.row ≡ inputs) × (length r.cells ≡ cells) × (length r.updates ≡ slots)) last.1 here
 ]
 
+pub fits_by : {V : Type 0} (inputs cells slots inputs' cells' slots' : ℕ) (positions : List (Position V)) → inputs ≡ inputs' → cells ≡ cells' →
+    slots ≡ slots' → PositionsFit inputs cells slots positions → PositionsFit inputs' cells' slots' positions
+fits_by inputs cells slots inputs' cells' slots' positions first second third fit i p at =
+    let fits = fit i p at in
+    (fits.0 ∙ first, fits.1 ∙ second, fits.2 ∙ third)
+
 module _ {V S : Type 0} (seen : V → S) (meanings : Meanings S) (program : ProgramTree) (rows : InputRows S) where
   pub recorded : (t : ℕ) (standing : Standing V) (us : List Term) (go : ℕ) → StandsAt seen meanings program rows t standing →
       action_in meanings program rows (shown seen (length program.inputs) standing) ≡ Some (record { updates = map term_tree us; go = go }) →
