@@ -1,6 +1,6 @@
 -- Where a sequence first repeats, whose next value goes by the value alone.
 -- Source: R. P. Brent: An Improved Monte Carlo Factorization Algorithm (BIT 20, 1980), the search for a cycle.
-use Rattle.std.proofs.Common.{◌≡◌, ◌∙◌, ℕ, zero, suc, ◌+◌, ◌-◌, ◌<◌, ◌≤◌, ◌⊎◌, inl, inr, refl, sym, ap, subst, arith}
+use Rattle.std.proofs.Common.{◌≡◌, ◌∙◌, ℕ, zero, suc, ◌+◌, ◌-◌, ◌<◌, ◌≤◌, inl, inr, sym, ap, arith}
 use Rattle.std.specs.Prelude.{◌≢◌}
 use Rattle.std.proofs.lemmas.Bool.{cases_lt}
 use Rattle.table_runner.specs.internal.Returns.{IsAway, Returns, IsFirstStart}

@@ -1,12 +1,12 @@
 -- Two standings that show the same configuration.
-use Rattle.std.proofs.Common.{◌≡◌, ◌∙◌, ℕ, suc, ◌+◌, ◌<◌, ◌≤◌, ◌⊎◌, inl, inr, length, drop, map, Some, refl, sym, ap, subst, arith}
+use Rattle.std.proofs.Common.{◌≡◌, ◌∙◌, ℕ, suc, ◌+◌, ◌<◌, inl, inr, length, drop, Some, sym, ap, subst, arith}
 use Rattle.std.specs.Prelude.{◌≢◌, option_and_then}
 use Rattle.std.proofs.lemmas.Bool.{cases_lt}
 use Rattle.std.proofs.lemmas.Option.{same_Some}
 use Rattle.tsl_terms.specs.Value.{Meanings}
 use Rattle.flow_program.specs.ProgramTree.{ProgramTree}
 use Rattle.tsl_meaning.specs.Interpretation.{InputRows}
-use Rattle.tsl_meaning.specs.Run.{Configuration, configuration_at, configuration_after, action_in}
+use Rattle.tsl_meaning.specs.Run.{configuration_at, configuration_after, action_in}
 use Rattle.table_runner.specs.declared.standing.Standing.{Standing}
 use Rattle.table_runner.specs.Standings.{shown, StandsAt}
 use Rattle.table_runner.specs.internal.Copied.{IsCopied}

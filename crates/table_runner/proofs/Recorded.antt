@@ -1,18 +1,16 @@
 -- The positions of a run, one by one.
-use Rattle.std.proofs.Common.{◌≡◌, ◌∙◌, ℕ, ◌+◌, ◌<◌, ◌≤◌, ◌⊎◌, inl, inr, List, [], ◌∷◌, ◌++◌, length, map, take, drop, Some, slice_get, refl, sym, ap, subst, arith}
+use Rattle.std.proofs.Common.{◌≡◌, ◌∙◌, ℕ, ◌+◌, ◌≤◌, inl, inr, List, [], ◌∷◌, ◌++◌, length, map, take, drop, Some, slice_get, refl, sym, ap, subst, arith}
 use Rattle.std.proofs.lemmas.List.{map-append, length-append, length-map, length-drop}
-use Rattle.std.proofs.lemmas.Option.{same_Some}
 use Rattle.sequence.proofs.Places.{slice_get_push}
-use Rattle.loop_shape.specs.LoopShape.{LoopShape}
 use Rattle.tsl_terms.specs.declared.term.Term.{Term}
-use Rattle.tsl_terms.specs.TermTree.{TermTree, term_tree}
+use Rattle.tsl_terms.specs.TermTree.{term_tree}
 use Rattle.tsl_terms.specs.Value.{Meanings}
 use Rattle.flow_program.specs.declared.program.Program.{Program}
 use Rattle.flow_program.specs.ProgramTree.{ProgramTree}
 use Rattle.flow_program.specs.ProgramView.{program_tree}
 use Rattle.tsl_meaning.specs.Interpretation.{InputRows}
 use Rattle.tsl_meaning.specs.declared.run.Position.{Position}
-use Rattle.tsl_meaning.specs.Run.{Configuration, Closed, configuration_at, action_in, signal_value}
+use Rattle.tsl_meaning.specs.Run.{Closed, configuration_at, action_in}
 use Rattle.tsl_meaning.specs.RunTree.{PositionTree, position_tree}
 use Rattle.tsl_meaning.specs.RunOf.{IsStepOf}
 use Rattle.tsl_meaning.specs.LoopFits.{PositionsFit}
@@ -100,7 +98,15 @@ position_fits seen meanings program rows can t standing us go stands does p is =
     let fits = program.assignments_fit at.0 go (map term_tree us) at.1 in
     let signals = ap length stands.signals in (
       omega (arith, row, long, length-map p.row seen),
-      omega (arith, cells, length-map p.cells seen, length-drop (length program.inputs) (map seen standing.leaves.values),
-          length-map standing.leaves.values seen, standing.leaves.paired, signals, length-append program.inputs program.cells),
+      omega (
+        arith,
+        cells,
+        length-map p.cells seen,
+        length-drop (length program.inputs) (map seen standing.leaves.values),
+        length-map standing.leaves.values seen,
+        standing.leaves.paired,
+        signals,
+        length-append program.inputs program.cells,
+      ),
       omega (arith, updates, length-map p.updates term_tree, length-map us term_tree, fits.0),
     )

@@ -20,7 +20,7 @@ use Rattle.flow_program.specs.declared.program.Program.{Program}
 use Rattle.flow_program.specs.Walk.{Action, done_at, walk_from, walk}
 use Rattle.interp_core.specs.LeafValue.{leaf_value}
 use Rattle.tsl_meaning.specs.Interpretation.{InputRows}
-use Rattle.tsl_meaning.specs.Run.{Configuration, HasStep, row_at, place_after, signal_value, action_in, configuration_after, configuration_at}
+use Rattle.tsl_meaning.specs.Run.{Configuration, row_at, place_after, signal_value, action_in, configuration_after, configuration_at}
 use Rattle.table_runner.specs.declared.standing.Standing.{Standing}
 use Rattle.tsl_meaning.specs.declared.run.InputLoop.{InputLoop}
 use Rattle.table_runner.specs.Running.{CanRun, rows_of, rows_seen}

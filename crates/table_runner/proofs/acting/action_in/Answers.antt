@@ -1,10 +1,10 @@
-use Rattle.std.proofs.Common.{◌≡◌, ◌∙◌, ◌<◌, List, Some, length, map, slice_get, sym, ap, arith}
+use Rattle.std.proofs.Common.{◌∙◌, List, Some, length, map, sym, ap, arith}
 use Rattle.std.proofs.lemmas.List.{length-map}
 use Rattle.tsl_terms.specs.Value.{truth}
 use Rattle.tsl_terms.specs.TermTree.{probe_tree, term_tree}
 use Rattle.tsl_terms.specs.declared.term.Term.{Term}
 use Rattle.flow_program.specs.Walk.{Action}
-use Rattle.flow_program.specs.NodeTree.{node_tree, branch, assign}
+use Rattle.flow_program.specs.NodeTree.{node_tree}
 use Rattle.flow_program.specs.ProgramView.{program_tree}
 use Rattle.interp_core.specs.LeafValue.{leaf_value}
 use Rattle.table_runner.proofs.Walking.{begins, state_read, node_within, node_read, test_there, branch_taken, end_reached, cond_below}

@@ -1,9 +1,6 @@
-use Rattle.std.proofs.Common.{◌≡◌, ◌∙◌, ◌+◌, ◌<◌, ◌≤◌, ℕ, sym, ap, subst, arith}
+use Rattle.std.proofs.Common.{◌∙◌, ◌+◌, sym, arith}
 use Rattle.std.proofs.lemmas.Bool.{false≢true}
-use Rattle.flow_program.specs.ProgramView.{program_tree}
-use Rattle.table_runner.specs.Running.{rows_seen}
-use Rattle.table_runner.specs.Standings.{StandsAt}
-use Rattle.table_runner.proofs.Meeting.{moved, none_before, at_same}
+use Rattle.table_runner.proofs.Meeting.{moved, none_before}
 use Rattle.table_runner.proofs.closing.first_start.Goals as goal
 
 pub loop-preserved : goal.loop-preserved

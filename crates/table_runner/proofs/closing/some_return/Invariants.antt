@@ -1,7 +1,5 @@
-use Rattle.std.proofs.Common.{◌≡◌, ◌+◌, ◌^◌, ◌<◌, ◌≤◌, ◌-◌, ℕ}
-use Rattle.std.specs.Prelude.{◌≢◌}
+use Rattle.std.proofs.Common.{◌≡◌, ◌+◌, ◌^◌, ◌≤◌, ◌-◌}
 use Rattle.flow_program.specs.ProgramView.{program_tree}
-use Rattle.tsl_meaning.specs.Run.{configuration_at}
 use Rattle.table_runner.specs.Running.{rows_seen}
 use Rattle.table_runner.specs.Standings.{StandsAt}
 use Rattle.table_runner.proofs.closing.some_return.Given as goal

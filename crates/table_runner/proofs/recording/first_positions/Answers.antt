@@ -1,4 +1,4 @@
-use Rattle.std.proofs.Common.{◌≡◌, ◌∙◌, ◌+◌, [], ◌∷◌, length, map, sym, ap, arith}
+use Rattle.std.proofs.Common.{[], ◌∷◌, length, ap, arith}
 use Rattle.std.proofs.lemmas.List.{length-append}
 use Rattle.table_runner.proofs.Stepping.{acts, does_in}
 use Rattle.table_runner.proofs.Recorded.{recorded, position_fits, one_more_fits, one_more_step}

@@ -14,4 +14,4 @@ invariant-loop g l =
     × (length l.positions ≡ l.counter)
     × PositionsFit (length l.fn.program.inputs) (length l.fn.program.cells) (length l.fn.program.cells + length l.fn.program.outputs) l.positions
     × ((t : ℕ) (p : PositionTree g.J.Algebra.Seen) → slice_get (map (position_tree g.J.Algebra.seen) l.positions) t ≡ Some p →
-        IsStepOf (g.J.Algebra.meanings l.fn.judge) (program_tree l.fn.program) (rows_seen g.J.Algebra.seen l.fn.inputs) t p)
+    IsStepOf (g.J.Algebra.meanings l.fn.judge) (program_tree l.fn.program) (rows_seen g.J.Algebra.seen l.fn.inputs) t p)

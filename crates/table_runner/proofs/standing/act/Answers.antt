@@ -1,6 +1,5 @@
-use Rattle.std.proofs.Common.{◌≡◌, ◌∙◌, Some, map, length, refl, sym, ap, subst, arith, take}
+use Rattle.std.proofs.Common.{◌∙◌, map, length, refl, sym, ap, arith}
 use Rattle.std.proofs.lemmas.List.{length-take-le}
-use Rattle.tsl_meaning.specs.Run.{row_at}
 use Rattle.table_runner.proofs.Stepping.{place_within, next_within, updates_long, terms_there, values_paired, stands_next, place_same, row_seen}
 use Rattle.table_runner.proofs.standing.act.Goals as goal
 

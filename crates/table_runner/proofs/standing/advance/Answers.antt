@@ -1,4 +1,3 @@
-use Rattle.std.proofs.Common.{◌≡◌, ◌∙◌, Some, map, sym, ap, arith}
 use Rattle.table_runner.proofs.Stepping.{acts, does_in}
 use Rattle.table_runner.proofs.standing.advance.Goals as goal
 

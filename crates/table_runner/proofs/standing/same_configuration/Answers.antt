@@ -1,5 +1,5 @@
 use Rattle.std.proofs.Common.{◌≡◌, ◌∙◌, sym}
-use Rattle.std.proofs.lemmas.Bool.{false≢true, eqb-true}
+use Rattle.std.proofs.lemmas.Bool.{eqb-true}
 use Rattle.table_runner.proofs.Comparing.{same_shown}
 use Rattle.table_runner.proofs.standing.same_configuration.Goals.{then-a-b, else-a-b}
 use Rattle.table_runner.proofs.standing.same_configuration.Goals as goal

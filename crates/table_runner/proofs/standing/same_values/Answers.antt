@@ -1,4 +1,4 @@
-use Rattle.std.proofs.Common.{◌≡◌, ◌∙◌, map, sym, ap, arith}
+use Rattle.std.proofs.Common.{◌∙◌, sym, arith}
 use Rattle.std.proofs.lemmas.Bool.{false≢true}
 use Rattle.table_runner.proofs.Comparing.{same_at}
 use Rattle.table_runner.proofs.standing.same_values.Goals as goal

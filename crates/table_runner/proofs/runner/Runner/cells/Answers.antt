@@ -1,4 +1,4 @@
-use Rattle.std.proofs.Common.{◌≡◌, ◌∙◌, length, map, drop, sym, ap}
+use Rattle.std.proofs.Common.{◌∙◌, length, map, sym, ap}
 use Rattle.std.proofs.lemmas.List.{drop-map}
 use Rattle.table_runner.proofs.runner.Runner.cells.Goals as goal
 
