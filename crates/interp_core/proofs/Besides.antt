@@ -1,5 +1,6 @@
 -- What stands beside a signal is what stands at the first place of the signal.
-use Rattle.std.proofs.Common.{◌≡◌, ◌∙◌, ℕ, suc, ◌+◌, ◌==◌, Bool, true, false, cond, List, [], ◌∷◌, map, slice_get, length, get_or, ◌<◌, ◌≤◌, Bor, Option, Some, None, refl, sym, ap, arith}
+use Rattle.std.proofs.Common.{◌≡◌, ◌∙◌, ℕ, suc, ◌+◌, ◌==◌, Bool, true, false, cond, List, [], ◌∷◌, map, slice_get, length, get_or, ◌<◌, ◌≤◌}
+use Rattle.std.proofs.Common.{Bor, Option, Some, None, refl, sym, ap, arith}
 use Rattle.std.specs.Prelude.{option_map, option_and_then, MatchOption, IfSome}
 use Rattle.std.specs.Option.{option_copied}
 use Rattle.std.proofs.lemmas.Option.{slice_get_past, slice_get_read}
@@ -10,7 +11,8 @@ use Rattle.tsl_terms.specs.Value.{beside}
 module _ {K : Type 0} (test : K → Bool) where
   next_place : (i : ℕ) (xs : List K) → position_from test (suc i) xs ≡ option_map suc (position_from test i xs)
   next_place i [] = refl
-  next_place i (x ∷ xs) = by (let e : suc i + 1 ≡ suc (i + 1) = omega arith in ap (λ n. position_from test n xs) e ∙ next_place (i + 1) xs) (test x)
+  next_place i (x ∷ xs) = by (let e : suc i + 1 ≡ suc (i + 1) = omega arith in ap (λ n. position_from test n xs) e
+      ∙ next_place (i + 1) xs) (test x)
     where
       by : position_from test (suc i + 1) xs ≡ option_map suc (position_from test (i + 1) xs) → (b : Bool) →
           cond b (Some (suc i)) (position_from test (suc i + 1) xs) ≡ option_map suc (cond b (Some i) (position_from test (i + 1) xs))
@@ -62,7 +64,8 @@ beside-map seen s (r ∷ rs) (v ∷ vs) = by (beside-map seen s rs vs) (r == s)
     by rest false = rest
 
 -- what a look-up at a place answers
-pub got_at : {V : Type 0} (P : Bor V → Type 0) (found : Option (Bor V)) (vs : List V) (i : ℕ) → IfSome found (λ v. v.now ≡ get_or vs i v.now) →
+pub got_at : {V : Type 0} (P : Bor V → Type 0) (found : Option (Bor V)) (vs : List V) (i : ℕ) →
+    IfSome found (λ v. v.now ≡ get_or vs i v.now) →
     MatchOption found (length vs ≤ i) (λ v. (i < length vs) × P v) → option_copied found ≡ slice_get vs i
 got_at P None vs i read past = sym (slice_get_past vs i past)
 got_at P (Some v) vs i read within = sym (slice_get_read vs (length vs) i v.now refl within.0 read)

@@ -45,8 +45,14 @@ module _ {X : Type 0} (at : ℕ → X) (steady : (i j : ℕ) → at i ≡ at j �
         let far = far_apart i j before (omega (arith, before, below, within)) same in
         let last : ℕ = start - 1 in
         let p : ℕ = j - i in
-        let again : at last ≡ at (last + p) = later (last - i) i j last (last + p) same (omega (arith, far, before, below)) (omega (arith, far, before, below)) in
+        let again : at last ≡ at (last + p) = later (last - i) i j last (last + p) same (omega (arith, far, before, below)) (omega (
+          arith,
+          far,
+          before,
+          below,
+        )) in
         let round : at (last + n) ≡ at ((last + p) + n) = together n last (last + p) again in
-        let cycle : at ((last + p) + n) ≡ at (last + p) = later ((last + p) - start) (start + n) start ((last + p) + n) (last + p) first.same
+        let cycle : at ((last + p) + n) ≡ at (last + p) = later ((last + p) - start) (start + n) start ((last + p) + n)
+        (last + p) first.same
         (omega (arith, far, before, below)) (omega (arith, far, before, below)) in
         first.first last (omega (arith, far, before, below)) (round ∙ cycle ∙ sym again)

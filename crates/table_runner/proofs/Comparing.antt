@@ -30,5 +30,6 @@ module _ {V S : Type 0} (seen : V → S) where
       by : map seen us ≡ map seen ws → shown seen n a ≡ shown seen n b
       by same =
           let cells : drop n (map seen a.leaves.values) ≡ drop n (map seen b.leaves.values) =
-          drop-map seen n a.leaves.values ∙ sym (ap (map seen) first) ∙ same ∙ ap (map seen) second ∙ sym (drop-map seen n b.leaves.values) in
+          drop-map seen n a.leaves.values ∙ sym (ap (map seen) first) ∙ same ∙ ap (map seen) second
+          ∙ sym (drop-map seen n b.leaves.values) in
           λ i. record { place = place i; state = state i; cells = cells i }

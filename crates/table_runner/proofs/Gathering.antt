@@ -1,5 +1,6 @@
 -- Values that are found one by one.
-use Rattle.std.proofs.Common.{◌≡◌, ◌∙◌, ℕ, ◌+◌, ◌<◌, ◌≤◌, List, [], ◌∷◌, ◌++◌, length, map, drop, get_or, Option, Some, None, refl, sym, ap, subst}
+use Rattle.std.proofs.Common.{◌≡◌, ◌∙◌, ℕ, ◌+◌, ◌<◌, ◌≤◌, List, [], ◌∷◌, ◌++◌, length, map, drop, get_or, Option, Some, None, refl, sym, ap}
+use Rattle.std.proofs.Common.{subst}
 use Rattle.std.specs.Prelude.{option_map, IsSome}
 use Rattle.std.proofs.lemmas.List.{append_assoc, drop_all}
 use Rattle.sequence.specs.Options.{all_there}
@@ -55,4 +56,5 @@ module _ {S : Type 0} where
         ∙ at_item i found x within is so_far
 
     pub all_gathered : (i : ℕ) (found : List S) → length xs ≤ i → IsGathered i found → whole ≡ Some found
-    all_gathered i found past so_far = sym so_far ∙ ap (λ ys. and_then_all found (map f ys)) (drop_all i xs past) ∙ ap Some (append_none found)
+    all_gathered i found past so_far = sym so_far ∙ ap (λ ys. and_then_all found (map f ys)) (drop_all i xs past)
+        ∙ ap Some (append_none found)

@@ -16,7 +16,8 @@ module _ {V S : Type 0} (seen : V → S) (meanings : Meanings S) (program : Prog
   -- the next configuration goes by the one before it
   pub steady : (i j : ℕ) → configuration_at meanings program rows i ≡ configuration_at meanings program rows j →
       configuration_at meanings program rows (suc i) ≡ configuration_at meanings program rows (suc j)
-  steady i j same = ap (option_and_then (λ c. option_and_then (configuration_after meanings program rows c) (action_in meanings program rows c))) same
+  steady i j same = ap (option_and_then (λ c. option_and_then (configuration_after meanings program rows c)
+      (action_in meanings program rows c))) same
 
   pub at_same : (t u : ℕ) (a b : Standing V) → StandsAt seen meanings program rows t a → StandsAt seen meanings program rows u b →
       shown seen (length program.inputs) a ≡ shown seen (length program.inputs) b →
@@ -35,7 +36,8 @@ module _ {V S : Type 0} (seen : V → S) (meanings : Meanings S) (program : Prog
     cells = drop (length program.inputs) (copied.values i);
   }
 
-  pub one_on : (t n : ℕ) (now : Standing V) → StandsAt seen meanings program rows ((t + n) + 1) now → StandsAt seen meanings program rows (t + (n + 1)) now
+  pub one_on : (t n : ℕ) (now : Standing V) → StandsAt seen meanings program rows ((t + n) + 1) now →
+      StandsAt seen meanings program rows (t + (n + 1)) now
   one_on t n now stands = let e : (t + n) + 1 ≡ t + (n + 1) = omega arith in subst (λ u. StandsAt seen meanings program rows u now) e stands
 
   pub moved : (t u : ℕ) (now : Standing V) → t ≡ u → StandsAt seen meanings program rows t now → StandsAt seen meanings program rows u now

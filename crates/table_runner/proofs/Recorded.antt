@@ -1,5 +1,6 @@
 -- The positions of a run, one by one.
-use Rattle.std.proofs.Common.{◌≡◌, ◌∙◌, ℕ, ◌+◌, ◌≤◌, inl, inr, List, [], ◌∷◌, ◌++◌, length, map, take, drop, Some, slice_get, refl, sym, ap, subst, arith}
+use Rattle.std.proofs.Common.{◌≡◌, ◌∙◌, ℕ, ◌+◌, ◌≤◌, inl, inr, List, [], ◌∷◌, ◌++◌, length, map, take, drop, Some, slice_get, refl, sym, ap}
+use Rattle.std.proofs.Common.{subst, arith}
 use Rattle.std.proofs.lemmas.List.{map-append, length-append, length-map, length-drop}
 use Rattle.sequence.proofs.Places.{slice_get_push}
 use Rattle.tsl_terms.specs.declared.term.Term.{Term}
@@ -39,7 +40,8 @@ one_more_fits inputs cells slots xs ys p same fit here i q at = elim (slice_get_
   | inr last ↦ subst (λ (r : Position _). (length r.row ≡ inputs) × (length r.cells ≡ cells) × (length r.updates ≡ slots)) last.1 here
 ]
 
-pub fits_by : {V : Type 0} (inputs cells slots inputs' cells' slots' : ℕ) (positions : List (Position V)) → inputs ≡ inputs' → cells ≡ cells' →
+pub fits_by : {V : Type 0} (inputs cells slots inputs' cells' slots' : ℕ) (positions : List (Position V)) → inputs ≡ inputs' →
+    cells ≡ cells' →
     slots ≡ slots' → PositionsFit inputs cells slots positions → PositionsFit inputs' cells' slots' positions
 fits_by inputs cells slots inputs' cells' slots' positions first second third fit i p at =
     let fits = fit i p at in
@@ -47,7 +49,8 @@ fits_by inputs cells slots inputs' cells' slots' positions first second third fi
 
 module _ {V S : Type 0} (seen : V → S) (meanings : Meanings S) (program : ProgramTree) (rows : InputRows S) where
   pub recorded : (t : ℕ) (standing : Standing V) (us : List Term) (go : ℕ) → StandsAt seen meanings program rows t standing →
-      action_in meanings program rows (shown seen (length program.inputs) standing) ≡ Some (record { updates = map term_tree us; go = go }) →
+      action_in meanings program rows (shown seen (length program.inputs) standing)
+      ≡ Some (record { updates = map term_tree us; go = go }) →
       (p : Position V) → position_tree seen p ≡ record_of seen (length program.inputs) standing us →
       IsStepOf meanings program rows t (position_tree seen p)
   recorded t standing us go stands does p is = subst (λ q. IsStepOf meanings program rows t q) (sym is) (record {
@@ -85,7 +88,8 @@ module _ {V S : Type 0} (seen : V → S) (meanings : Meanings S) (program : Prog
 pub position_fits : {V S : Type 0} (seen : V → S) (meanings : Meanings S) (program : Program) (rows : InputRows S) →
     CanRun meanings (program_tree program) rows → (t : ℕ) (standing : Standing V) (us : List Term) (go : ℕ) →
     StandsAt seen meanings (program_tree program) rows t standing →
-    action_in meanings (program_tree program) rows (shown seen (length program.inputs) standing) ≡ Some (record { updates = map term_tree us; go = go }) →
+    action_in meanings (program_tree program) rows (shown seen (length program.inputs) standing)
+    ≡ Some (record { updates = map term_tree us; go = go }) →
     (p : Position V) → position_tree seen p ≡ record_of seen (length program.inputs) standing us →
     (length p.row ≡ length program.inputs) × (length p.cells ≡ length program.cells)
     × (length p.updates ≡ length program.cells + length program.outputs)

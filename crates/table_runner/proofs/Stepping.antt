@@ -1,5 +1,6 @@
 -- From one step to the next.
-use Rattle.std.proofs.Common.{◌≡◌, ◌∙◌, ℕ, zero, suc, ◌+◌, ◌<◌, ◌≤◌, ◌==◌, Bool, cond, true, false, List, [], ◌∷◌, ◌++◌, length, map, take, drop, Option, Some, None}
+use Rattle.std.proofs.Common.{◌≡◌, ◌∙◌, ℕ, zero, suc, ◌+◌, ◌<◌, ◌≤◌, ◌==◌, Bool, cond, true, false, List, [], ◌∷◌, ◌++◌, length, map, take}
+use Rattle.std.proofs.Common.{drop, Option, Some, None}
 use Rattle.std.proofs.Common.{slice_get, refl, sym, ap, subst, arith, add-one, inl, inr}
 use Rattle.std.specs.Prelude.{option_map, option_and_then, IsSome}
 use Rattle.std.specs.Option.{option_or}
@@ -56,12 +57,14 @@ length-all_there (Some x ∷ os) xs is =
     sym (ap length rest.2) ∙ ap suc (length-all_there os rest.0 rest.1)
 
 -- a walk ends at a node of the program
-walked_to : (nodes : List NodeTree) (truths : ProbeTree → Option Bool) (n i : ℕ) (action : Action) → walk_from nodes truths n i ≡ Some action →
+walked_to : (nodes : List NodeTree) (truths : ProbeTree → Option Bool) (n i : ℕ) (action : Action) →
+    walk_from nodes truths n i ≡ Some action →
     (j : ℕ) × (slice_get nodes j ≡ Some (assign action.updates action.go))
 walked_to nodes truths zero i action is = absurd cc
 walked_to nodes truths (suc n) i action is =
     let node = some_before (done_at truths (walk_from nodes truths n)) (slice_get nodes i) (rw is refl) in
-    by node.0 node.1 (sym (ap (option_and_then (done_at truths (walk_from nodes truths n))) node.1) ∙ is) (λ j. walked_to nodes truths n j action)
+    by node.0 node.1 (sym (ap (option_and_then (done_at truths (walk_from nodes truths n))) node.1)
+    ∙ is) (λ j. walked_to nodes truths n j action)
   where
     by : (node : NodeTree) → slice_get nodes i ≡ Some node → done_at truths (walk_from nodes truths n) node ≡ Some action →
         ((j : ℕ) → walk_from nodes truths n j ≡ Some action → (k : ℕ) × (slice_get nodes k ≡ Some (assign action.updates action.go))) →
@@ -73,7 +76,8 @@ walked_to nodes truths (suc n) i action is =
         let truth = some_before (λ holds. walk_from nodes truths n (cond holds a b)) (truths t) (rw done refl) in
         later (cond truth.0 a b) (sym (ap (option_and_then (λ holds. walk_from nodes truths n (cond holds a b))) truth.1) ∙ done)
 
-pub acts_at : (program : ProgramTree) (truths : ProbeTree → Option Bool) (state : ℕ) (action : Action) → walk program truths state ≡ Some action →
+pub acts_at : (program : ProgramTree) (truths : ProbeTree → Option Bool) (state : ℕ) (action : Action) →
+    walk program truths state ≡ Some action →
     (j : ℕ) × (slice_get program.nodes j ≡ Some (assign action.updates action.go))
 acts_at program truths state action is =
     let node = some_before (walk_from program.nodes truths (length program.nodes)) (slice_get program.states state) (rw is refl) in
@@ -88,7 +92,8 @@ place_stays rows place some within = elim (eqb_tells (place + 1) (length (rows.s
   | inr other ↦ rw other.0 (omega (arith, other.1, within))
 ]
 
-module _ {V S : Type 0} (seen : V → S) (meanings : Meanings S) (program : ProgramTree) (rows : InputRows S) (can : CanRun meanings program rows)
+module _ {V S : Type 0} (seen : V → S) (meanings : Meanings S) (program : ProgramTree) (rows : InputRows S)
+    (can : CanRun meanings program rows)
     (t : ℕ) (standing : Standing V) (stands : StandsAt seen meanings program rows t standing) where
   abbrev now : Configuration S
   now = shown seen (length program.inputs) standing
@@ -122,7 +127,8 @@ module _ {V S : Type 0} (seen : V → S) (meanings : Meanings S) (program : Prog
   acts =
       let step = can.goes_on t in
       let same = same_Some step.now now (sym step.is_now ∙ stands.is_now) in
-      let does : action_in meanings program rows now ≡ Some step.action = subst (λ c. action_in meanings program rows c ≡ Some step.action) same step.does in
+      let does : action_in meanings program rows now ≡ Some step.action = subst (λ c. action_in meanings program rows c
+      ≡ Some step.action) same step.does in
       subst (λ at. IsSome (walk program (truth meanings at) standing.state)) (sym leaves_are) (rw does refl)
 
   pub does_in : (action : Action) → walk program (truth meanings leaves_at) standing.state ≡ Some action →
@@ -132,7 +138,8 @@ module _ {V S : Type 0} (seen : V → S) (meanings : Meanings S) (program : Prog
   module _ (action : Action) (does : action_in meanings program rows now ≡ Some action) where
     follows : configuration_at meanings program rows (suc t) ≡ configuration_after meanings program rows now action
     follows =
-        ap (option_and_then (λ c. option_and_then (configuration_after meanings program rows c) (action_in meanings program rows c))) stands.is_now
+        ap (option_and_then (λ c. option_and_then (configuration_after meanings program rows c)
+        (action_in meanings program rows c))) stands.is_now
         ∙ ap (option_and_then (configuration_after meanings program rows now)) does
 
     terms : List TermTree
@@ -162,10 +169,13 @@ module _ {V S : Type 0} (seen : V → S) (meanings : Meanings S) (program : Prog
         (subst (λ vs. IsSome (all_there vs)) (terms_same us same) cells_there)
 
     -- and after the action it stands at the next step
-    module _ (us : List Term) (n : ℕ) (row : List S) (vs : List V) (count : n ≡ length program.cells) (same : action.updates ≡ map term_tree us)
+    module _ (us : List Term) (n : ℕ) (row : List S) (vs : List V) (count : n ≡ length program.cells) (same : action.updates
+        ≡ map term_tree us)
         (here : row_at rows (place_after rows standing.place) ≡ Some row)
-        (found : option_map (λ cs. row ++ cs) (all_there (map (λ u. value meanings leaves_at (term_tree u)) (take n us))) ≡ Some (map seen vs)) where
-      abbrev cells : (cs : List S) × (all_there (map (λ u. value meanings leaves_at (term_tree u)) (take n us)) ≡ Some cs) × (row ++ cs ≡ map seen vs)
+        (found : option_map (λ cs. row ++ cs) (all_there (map (λ u. value meanings leaves_at (term_tree u)) (take n us)))
+        ≡ Some (map seen vs)) where
+      abbrev cells : (cs : List S) × (all_there (map (λ u. value meanings leaves_at (term_tree u)) (take n us)) ≡ Some cs)
+          × (row ++ cs ≡ map seen vs)
       cells = mapped_some (λ cs. row ++ cs) _ _ found
 
       pub values_paired : n ≤ length us → length standing.leaves.signals ≡ length vs
@@ -192,9 +202,11 @@ module _ {V S : Type 0} (seen : V → S) (meanings : Meanings S) (program : Prog
           next.leaves.signals ≡ standing.leaves.signals → next.leaves.values ≡ vs → StandsAt seen meanings program rows (t + 1) next
       stands_next next place state signals values =
           let long = can.rows_fit _ row here in
-          let there : all_there (map (value meanings (signal_value program rows now)) (take (length program.cells) action.updates)) ≡ Some cells.0 =
+          let there : all_there (map (value meanings (signal_value program rows now)) (take (length program.cells) action.updates))
+          ≡ Some cells.0 =
           subst (λ at. all_there (map (value meanings at) (take (length program.cells) action.updates)) ≡ Some cells.0) leaves_are
-          (ap all_there (terms_same us same) ∙ ap (λ k. all_there (map (λ u. value meanings leaves_at (term_tree u)) (take k us))) (sym count) ∙ cells.1) in
+          (ap all_there (terms_same us same) ∙ ap (λ k. all_there (map (λ u. value meanings leaves_at (term_tree u)) (take k us)))
+          (sym count) ∙ cells.1) in
           let is_next : configuration_at meanings program rows (suc t)
           ≡ Some (record { place = place_after rows standing.place; state = action.go; cells = cells.0 }) =
           follows ∙ ap (option_map (λ (cs : List S). record { place = place_after rows standing.place; state = action.go; cells = cs })) there in
@@ -211,7 +223,8 @@ read_distinct program i j n at_i at_j =
     (slice_get_grown (program.inputs ++ program.cells) program.outputs j n at_j)
 
 -- where a run stands at first
-module _ {V S : Type 0} (seen : V → S) (meanings : Meanings S) (program : ProgramTree) (rows : InputRows S) (can : CanRun meanings program rows) where
+module _ {V S : Type 0} (seen : V → S) (meanings : Meanings S) (program : ProgramTree) (rows : InputRows S)
+    (can : CanRun meanings program rows) where
   pub first_there : (signals : List ℕ) → signals ≡ program.cells → IsSome (all_there (map meanings.initial signals))
   first_there signals same = subst (λ cs. IsSome (all_there (map meanings.initial cs))) (sym same) (
       mapped_there (λ (cs : List S). record { place = 0; state = 0; cells = cs }) (all_there (map meanings.initial program.cells))
@@ -240,7 +253,8 @@ module _ {V S : Type 0} (seen : V → S) (meanings : Meanings S) (program : Prog
         )
 
     pub stands_first : (standing : Standing V) → standing.place ≡ 0 → standing.state ≡ 0 →
-        standing.leaves.signals ≡ program.inputs ++ program.cells → standing.leaves.values ≡ vs → StandsAt seen meanings program rows 0 standing
+        standing.leaves.signals ≡ program.inputs ++ program.cells → standing.leaves.values ≡ vs →
+        StandsAt seen meanings program rows 0 standing
     stands_first standing place state signals values =
         let long = can.rows_fit 0 row here in
         record {
@@ -266,9 +280,11 @@ module _ {V S : Type 0} (seen : V → S) (inputs : InputLoop V) where
   pub row_seen : (place : ℕ) (row : List V) → slice_get (inputs.stem ++ inputs.cycle) place ≡ Some row →
       row_at (rows_seen seen inputs) place ≡ Some (map seen row)
   row_seen place row is =
-      ap (λ rows. slice_get rows place) joined_rows ∙ slice_get-map (map seen) (inputs.stem ++ inputs.cycle) place ∙ ap (option_map (map seen)) is
+      ap (λ rows. slice_get rows place) joined_rows ∙ slice_get-map (map seen) (inputs.stem ++ inputs.cycle) place
+      ∙ ap (option_map (map seen)) is
 
-  pub next_within : (place next : ℕ) → 0 < length inputs.cycle → place < length ((rows_seen seen inputs).stem ++ (rows_seen seen inputs).cycle) →
+  pub next_within : (place next : ℕ) → 0 < length inputs.cycle →
+      place < length ((rows_seen seen inputs).stem ++ (rows_seen seen inputs).cycle) →
       next ≡ place_after (rows_of inputs) place → next < length (inputs.stem ++ inputs.cycle)
   next_within place next some within is =
       let stays = place_stays (rows_seen seen inputs) place (omega (arith, some, length-map inputs.cycle (map seen))) within in

@@ -1,5 +1,6 @@
 -- A walk, node by node.
-use Rattle.std.proofs.Common.{◌≡◌, ◌∙◌, ℕ, zero, suc, ◌<◌, Bool, true, false, cond, List, length, map, get_or, Option, Some, None, slice_get, refl, sym, ap, subst, arith}
+use Rattle.std.proofs.Common.{◌≡◌, ◌∙◌, ℕ, zero, suc, ◌<◌, Bool, true, false, cond, List, length, map, get_or, Option, Some, None}
+use Rattle.std.proofs.Common.{slice_get, refl, sym, ap, subst, arith}
 use Rattle.std.specs.Prelude.{option_and_then, option_map, IsSome}
 use Rattle.std.proofs.lemmas.List.{length-map}
 use Rattle.std.proofs.lemmas.Option.{slice_get-map, slice_get_within, slice_get_read, slice_get-get_or}
@@ -22,20 +23,27 @@ cond_below true a b i left right = left
 cond_below false a b i left right = right
 
 -- the node that a state names
-pub state_read : (states members : List ℕ) (f : ℕ → Option Action) (i d : ℕ) → states ≡ members → IsSome (option_and_then f (slice_get members i)) →
+pub state_read : (states members : List ℕ) (f : ℕ → Option Action) (i d : ℕ) → states ≡ members →
+    IsSome (option_and_then f (slice_get members i)) →
     slice_get members i ≡ Some (get_or states i d)
 state_read states members f i d same some =
     let at = some_before f (slice_get members i) some in
     rw same (slice_get-get_or members i d (slice_get_within members i at.0 at.1))
 
 -- the tree of the node that was read
-pub node_read : (nodes members : List Node) (i : ℕ) (n m : Node) → nodes ≡ members → i < length (map node_tree members) → n ≡ get_or nodes i n → n ≡ m →
+pub node_read : (nodes members : List Node) (i : ℕ) (n m : Node) → nodes ≡ members → i < length (map node_tree members) →
+    n ≡ get_or nodes i n → n ≡ m →
     slice_get (map node_tree members) i ≡ Some (node_tree m)
 node_read nodes members i n m same within is matched =
     subst (λ k. slice_get (map node_tree members) i ≡ Some (node_tree k)) matched
     (subst (λ ns. slice_get (map node_tree ns) i ≡ Some (node_tree n)) same
     (slice_get-map node_tree nodes i
-    ∙ ap (λ o. option_map node_tree o) (slice_get_read nodes (length nodes) i n refl (omega (arith, within, length-map members node_tree, ap length same)) is)))
+    ∙ ap (λ o. option_map node_tree o) (slice_get_read nodes (length nodes) i n refl (omega (
+      arith,
+      within,
+      length-map members node_tree,
+      ap length same,
+    )) is)))
 
 module _ (nodes : List NodeTree) (truths : ProbeTree → Option Bool) (whole : Option Action) where
   -- from a node on, through some number of nodes at most, the walk is the whole one

@@ -9,6 +9,9 @@ use Rattle.table_runner.proofs.closing.return_within.Given as goal
 -- it stands so many steps on, and did not come back
 abbrev pub invariant-loop-steps : goal.invariant-loop-steps
 invariant-loop-steps g l = (t : ℕ) →
-    StandsAt g.J.Algebra.seen (g.J.Algebra.meanings l.fn.judge) (program_tree l.fn.program) (rows_seen g.J.Algebra.seen l.fn.inputs) t l.fn.standing →
-    StandsAt g.J.Algebra.seen (g.J.Algebra.meanings l.fn.judge) (program_tree l.fn.program) (rows_seen g.J.Algebra.seen l.fn.inputs) (t + l.steps) l.standing
-    × IsAway (configuration_at (g.J.Algebra.meanings l.fn.judge) (program_tree l.fn.program) (rows_seen g.J.Algebra.seen l.fn.inputs)) t l.steps
+    StandsAt g.J.Algebra.seen (g.J.Algebra.meanings l.fn.judge) (program_tree l.fn.program)
+    (rows_seen g.J.Algebra.seen l.fn.inputs) t l.fn.standing →
+    StandsAt g.J.Algebra.seen (g.J.Algebra.meanings l.fn.judge) (program_tree l.fn.program) (rows_seen g.J.Algebra.seen l.fn.inputs)
+    (t + l.steps) l.standing
+    × IsAway (configuration_at (g.J.Algebra.meanings l.fn.judge) (program_tree l.fn.program)
+    (rows_seen g.J.Algebra.seen l.fn.inputs)) t l.steps

@@ -12,8 +12,10 @@ use Rattle.table_runner.proofs.closing.run_closed.Goals as goal
 
 pub returns-then-end-from-clause-no_loop : goal.returns-then-end-from-clause-no_loop
 returns-then-end-from-clause-no_loop g c refused i j before below =
-    all_different (configuration_at (g.J.Algebra.meanings c.args.judge.now) (program_tree c.args.program.now) (rows_seen g.J.Algebra.seen c.args.inputs.now))
-    (steady g.J.Algebra.seen (g.J.Algebra.meanings c.args.judge.now) (program_tree c.args.program.now) (rows_seen g.J.Algebra.seen c.args.inputs.now))
+    all_different (configuration_at (g.J.Algebra.meanings c.args.judge.now) (program_tree c.args.program.now)
+    (rows_seen g.J.Algebra.seen c.args.inputs.now))
+    (steady g.J.Algebra.seen (g.J.Algebra.meanings c.args.judge.now) (program_tree c.args.program.now)
+    (rows_seen g.J.Algebra.seen c.args.inputs.now))
     c.in-Ok.found.step c.in-Ok.found.length c.in_ok-start.start c.in-Ok.ensures.found c.in_ok-start.ensures.first c.in_ok-start.ensures.within
     i j before (omega (arith, below, c.if-end-from.true, c.from.ensures))
 
@@ -47,7 +49,9 @@ returns-clause-first g c = record {
   closes =
       closes g.J.Algebra.seen _ _ _ c.requires.can c.in_ok-start.start c.in-Ok.found.length c.in-Ok.ensures.found.goes_on c.in_ok-start.ensures.first;
   different =
-      all_different (configuration_at (g.J.Algebra.meanings c.args.judge.now) (program_tree c.args.program.now) (rows_seen g.J.Algebra.seen c.args.inputs.now))
-      (steady g.J.Algebra.seen (g.J.Algebra.meanings c.args.judge.now) (program_tree c.args.program.now) (rows_seen g.J.Algebra.seen c.args.inputs.now))
+      all_different (configuration_at (g.J.Algebra.meanings c.args.judge.now) (program_tree c.args.program.now)
+      (rows_seen g.J.Algebra.seen c.args.inputs.now))
+      (steady g.J.Algebra.seen (g.J.Algebra.meanings c.args.judge.now) (program_tree c.args.program.now)
+      (rows_seen g.J.Algebra.seen c.args.inputs.now))
       c.in-Ok.found.step c.in-Ok.found.length c.in_ok-start.start c.in-Ok.ensures.found c.in_ok-start.ensures.first c.in_ok-start.ensures.within;
 }

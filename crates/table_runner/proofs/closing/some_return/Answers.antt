@@ -19,8 +19,10 @@ pub returns-then-reach-from-clause-no_loop : goal.returns-then-reach-from-clause
 returns-then-reach-from-clause-no_loop g c refused i j before below =
     let away = rw c.in_default.is at (c.in_ok-length.ensures.found c.loop-standing.step c.loop-standing.invariant.0) in
     let far : c.args.limit < c.loop-standing.reach = omega (arith, c.if-reach-from.true, c.from.ensures) in
-    none_within (configuration_at (g.J.Algebra.meanings c.args.judge.now) (program_tree c.args.program.now) (rows_seen g.J.Algebra.seen c.args.inputs.now))
-    (steady g.J.Algebra.seen (g.J.Algebra.meanings c.args.judge.now) (program_tree c.args.program.now) (rows_seen g.J.Algebra.seen c.args.inputs.now)) c.loop-standing.step c.loop-standing.reach i j away before
+    none_within (configuration_at (g.J.Algebra.meanings c.args.judge.now) (program_tree c.args.program.now)
+    (rows_seen g.J.Algebra.seen c.args.inputs.now))
+    (steady g.J.Algebra.seen (g.J.Algebra.meanings c.args.judge.now) (program_tree c.args.program.now)
+    (rows_seen g.J.Algebra.seen c.args.inputs.now)) c.loop-standing.step c.loop-standing.reach i j away before
     (omega (arith, below, far, c.loop-standing.invariant.1)) (omega (arith, below, far))
 
 pub loop-standing-preserved : goal.loop-standing-preserved

@@ -14,7 +14,12 @@ pub loop-preserved : goal.loop-preserved
 loop-preserved g c =
     let does = does_in _ _ _ _ c.requires.can c.loop.counter _ c.loop.invariant.0 _ c.in_ok-action.ensures in (
       c.in_ok-act.ensures.ok c.loop.counter c.loop.invariant.0,
-      omega (arith, ap length c.in_ok-push.ensures.ok, length-append c.loop.positions (c.in_ok-position_of.field-0 ∷ []), c.loop.invariant.1),
+      omega (
+        arith,
+        ap length c.in_ok-push.ensures.ok,
+        length-append c.loop.positions (c.in_ok-position_of.field-0 ∷ []),
+        c.loop.invariant.1,
+      ),
       one_more_fits _ _ _ _ _ c.in_ok-position_of.field-0 c.in_ok-push.ensures.ok c.loop.invariant.2
           (position_fits g.J.Algebra.seen _ c.args.program.now _ c.requires.can c.loop.counter _ c.in_ok-action.action.updates.now _
           c.loop.invariant.0 does c.in_ok-position_of.field-0 c.in_ok-position_of.ensures),

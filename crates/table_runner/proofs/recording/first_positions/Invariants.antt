@@ -10,8 +10,10 @@ use Rattle.table_runner.proofs.recording.first_positions.Given as goal
 -- it stands at a step, and has the positions of the steps before
 abbrev pub invariant-loop : goal.invariant-loop
 invariant-loop g l =
-    StandsAt g.J.Algebra.seen (g.J.Algebra.meanings l.fn.judge) (program_tree l.fn.program) (rows_seen g.J.Algebra.seen l.fn.inputs) l.counter l.standing
+    StandsAt g.J.Algebra.seen (g.J.Algebra.meanings l.fn.judge) (program_tree l.fn.program)
+    (rows_seen g.J.Algebra.seen l.fn.inputs) l.counter l.standing
     × (length l.positions ≡ l.counter)
-    × PositionsFit (length l.fn.program.inputs) (length l.fn.program.cells) (length l.fn.program.cells + length l.fn.program.outputs) l.positions
+    × PositionsFit (length l.fn.program.inputs) (length l.fn.program.cells)
+    (length l.fn.program.cells + length l.fn.program.outputs) l.positions
     × ((t : ℕ) (p : PositionTree g.J.Algebra.Seen) → slice_get (map (position_tree g.J.Algebra.seen) l.positions) t ≡ Some p →
     IsStepOf (g.J.Algebra.meanings l.fn.judge) (program_tree l.fn.program) (rows_seen g.J.Algebra.seen l.fn.inputs) t p)

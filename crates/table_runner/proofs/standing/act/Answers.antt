@@ -1,6 +1,7 @@
 use Rattle.std.proofs.Common.{◌∙◌, map, length, refl, sym, ap, arith}
 use Rattle.std.proofs.lemmas.List.{length-take-le}
-use Rattle.table_runner.proofs.Stepping.{place_within, next_within, updates_long, terms_there, values_paired, stands_next, place_same, row_seen}
+use Rattle.table_runner.proofs.Stepping.{place_within, next_within, updates_long, terms_there, values_paired, stands_next, place_same}
+use Rattle.table_runner.proofs.Stepping.{row_seen}
 use Rattle.table_runner.proofs.standing.act.Goals as goal
 
 pub slice_bounds-terms-end : goal.slice_bounds-terms-end
@@ -27,7 +28,10 @@ invariant_of-standing g c = record {
       let long = updates_long c.args.program.now _ _ _ c.args.action.updates.now c.requires.does in
       values_paired _ _ _ _ c.requires.can c.requires.stands.0 _ c.requires.stands.1 _ c.requires.does c.args.action.updates.now c.len.result
       (map g.J.Algebra.seen c.row_at.result.now) c.in_ok-values.values.items c.len.ensures refl
-      (rw (place_same g.J.Algebra.seen c.args.inputs.now c.args.standing.now.place, ← c.next_place-place.ensures) (row_seen g.J.Algebra.seen c.args.inputs.now _ _ c.row_at.ensures))
+      (rw (
+        place_same g.J.Algebra.seen c.args.inputs.now c.args.standing.now.place,
+        ← c.next_place-place.ensures,
+      ) (row_seen g.J.Algebra.seen c.args.inputs.now _ _ c.row_at.ensures))
       c.in_ok-values.ensures (omega (arith, long, c.len.ensures))
       ∙ sym (ap length c.from_vec.ensures);
 }
@@ -35,5 +39,9 @@ invariant_of-standing g c = record {
 pub returns-clause-ok : goal.returns-clause-ok
 returns-clause-ok g c t stands =
     stands_next _ _ _ _ c.requires.can t _ stands _ c.requires.does c.args.action.updates.now c.len.result _ c.in_ok-values.values.items c.len.ensures
-    refl (rw (place_same g.J.Algebra.seen c.args.inputs.now c.args.standing.now.place, ← c.next_place-place.ensures) (row_seen g.J.Algebra.seen c.args.inputs.now _ _ c.row_at.ensures))
-    c.in_ok-values.ensures _ (c.next_place-place.ensures ∙ sym (place_same g.J.Algebra.seen c.args.inputs.now c.args.standing.now.place)) refl refl c.from_vec.ensures
+    refl (rw (
+      place_same g.J.Algebra.seen c.args.inputs.now c.args.standing.now.place,
+      ← c.next_place-place.ensures,
+    ) (row_seen g.J.Algebra.seen c.args.inputs.now _ _ c.row_at.ensures))
+    c.in_ok-values.ensures _ (c.next_place-place.ensures ∙ sym
+    (place_same g.J.Algebra.seen c.args.inputs.now c.args.standing.now.place)) refl refl c.from_vec.ensures
