@@ -1,8 +1,8 @@
 -- Worked examples: counters, and the automaton of an until.
-use Rattle.std.proofs.Common.{◌≡◌, ℕ, ◌==◌, Bool, true, false, [], ◌∷◌, refl}
-use Rattle.ltl_formula.specs.LtlTree.{LtlTree, top, bit, until, release, bottom}
+use Rattle.std.proofs.Common.{◌≡◌, ◌==◌, true, false, [], ◌∷◌, refl}
+use Rattle.ltl_formula.specs.LtlTree.{LtlTree, top, bit, until}
 use Rattle.cobuchi_automata.specs.Counters.{passes, advanced}
-use Rattle.cobuchi_automata.specs.Automata.{untils_of, start_state, state_after, edge_of}
+use Rattle.cobuchi_automata.specs.Automata.{untils_of, start_state, edge_of}
 
 -- two untils, of which the second is postponed
 waits_for_the_second : advanced 2 (λ u. u == 1) 0 ≡ 1

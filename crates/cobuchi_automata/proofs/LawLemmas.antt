@@ -1,24 +1,22 @@
 -- On a letter loop on which the formula holds, the automaton has a path that passes rejecting edges again and again.
-use Rattle.std.proofs.Common.{◌≡◌, ◌∙◌, ℕ, zero, suc, ◌+◌, ◌*◌, ◌<◌, ◌≤◌, ◌^◌, Bool, true, false, cond, not, ◌&&◌, ◌||◌, List, [], ◌∷◌, ◌++◌, length, Option, Some, None, slice_get, Contains, refl, sym, ap, subst, arith, add-suc, add-zero, length-append}
-use Rattle.std.specs.List.{list_any, list_all, AllByRecursion}
+use Rattle.std.proofs.Common.{◌≡◌, ◌∙◌, ℕ, zero, suc, ◌+◌, ◌*◌, ◌<◌, ◌≤◌, ◌^◌, Bool, true, false, not, ◌&&◌, ◌||◌, List, [], ◌∷◌, ◌++◌, length, Some, slice_get, refl, sym, ap, arith, add-zero, length-append}
+use Rattle.std.specs.List.{list_any, list_all}
 use Rattle.std.specs.Option.{option_map_or}
-use Rattle.std.proofs.lemmas.Option.{none-some, same_Some}
 use Rattle.std.proofs.lemmas.Bool.{false≢true, and_parts}
 use Rattle.sequence.proofs.Each.{each_at}
-use Rattle.sequence.proofs.Places.{slice_get_some, contains_at}
+use Rattle.sequence.proofs.Places.{slice_get_some}
 use Rattle.sequence.proofs.Passes.{list_any_place, passes_at}
-use Rattle.loop_shape.specs.LoopShape.{LoopShape, IsPosition, after, steps_on}
-use Rattle.loop_shape.specs.AlongLoop.{ComesAfter}
+use Rattle.loop_shape.specs.LoopShape.{IsPosition, after, steps_on}
 use Rattle.loop_shape.proofs.Steps.{after_position}
 use Rattle.loop_shape.proofs.Untils.{until_comes}
 use Rattle.ltl_formula.specs.LtlTree.{LtlTree, until}
 use Rattle.ltl_formula.specs.LetterLoop.{LetterLoop, shape_of, letter_at, holds}
 use Rattle.ltl_formula.specs.Cubes.{cube_matches}
-use Rattle.obligations.specs.Expansion.{ChoiceTree, same_formula, choices}
+use Rattle.obligations.specs.Expansion.{ChoiceTree, same_formula}
 use Rattle.obligations.specs.StepLaw.{is_waited_for, is_good}
 use Rattle.obligations.proofs.FormulaNumbers.{same_is}
 use Rattle.obligations.proofs.StepLaws.{some_good}
-use Rattle.cobuchi_automata.specs.Counters.{passes, advanced}
+use Rattle.cobuchi_automata.specs.Counters.{passes}
 use Rattle.cobuchi_automata.specs.Automata.{StateTree, EdgeTree, untils_of, is_postponed, start_state, state_after, edge_of, Leads, IsAutomaton}
 use Rattle.cobuchi_automata.specs.Paths.{IsPath, rejections, FitsLetters}
 use Rattle.cobuchi_automata.proofs.CounterLemmas.{IsRun, IsFreeWithin, count_of, once, counted}

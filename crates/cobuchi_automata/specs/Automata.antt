@@ -2,7 +2,7 @@
 -- Source: Gerth, Peled, Vardi, Wolper: Simple On-the-fly Automatic Verification of Linear Temporal Logic (PSTV 1995),
 -- automata from sets of obligations; Schewe, Finkbeiner: Bounded Synthesis (ATVA 2007), universal co-Büchi automata.
 -- Here rejecting marks stand on edges.
-use Rattle.std.specs.Prelude.{◌≡◌, ℕ, Bool, false, List, [], ◌∷◌, ◌++◌, length, Option, Some, slice_get, Contains}
+use Rattle.std.specs.Prelude.{◌≡◌, ℕ, Bool, false, List, [], ◌∷◌, ◌++◌, length, Some, slice_get, Contains}
 use Rattle.std.specs.List.{list_any, AllByRecursion}
 use Rattle.std.specs.Option.{option_map_or}
 use Rattle.sequence.specs.Kept.{with_new}

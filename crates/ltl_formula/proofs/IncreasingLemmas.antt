@@ -1,31 +1,18 @@
 -- Lists that rise keep rising with one more member, and have the members that they should.
-use Rattle.std.proofs.Common.{◌≡◌, ◌∙◌, Bool, true, false, ◌&&◌, ◌||◌, List, [], ◌∷◌, refl, sym, ap}
+use Rattle.std.proofs.Common.{◌≡◌, ◌∙◌, Bool, ◌&&◌, ◌||◌, List, [], ◌∷◌, refl, sym, ap}
 use Rattle.std.specs.List.{list_any, list_all, AllByRecursion}
 use Rattle.std.specs.declared.cmp.Ordering.{Ordering}
 use Rattle.std.specs.declared.cmp.Ordering.TheVariants.{Less, Equal, Greater}
 use Rattle.std.specs.Ordering.{match_ordering, ordering_reverse}
 use Rattle.std.specs.Cmp.{IsTotalOrder}
+use Rattle.std.proofs.Math.Bool.{or_assoc, or_comm, or_self_left, or-false, and_assoc, and_comm, and_self_left, and-true}
 use Rattle.ltl_formula.specs.Increasing.{IsIncreasing, with_member, union}
 
-or_again : (a b : Bool) → (a || b) ≡ (a || (a || b))
-or_again true b = refl
-or_again false b = refl
-
 or_swap : (a b c : Bool) → (b || (a || c)) ≡ (a || (b || c))
-or_swap true true c = refl
-or_swap true false c = refl
-or_swap false true c = refl
-or_swap false false c = refl
+or_swap a b c = sym (or_assoc b a c) ∙ ap (λ d. d || c) (or_comm b a) ∙ or_assoc a b c
 
-or_assoc : (a b c : Bool) → ((a || b) || c) ≡ (b || (a || c))
-or_assoc true true c = refl
-or_assoc true false c = refl
-or_assoc false true c = refl
-or_assoc false false c = refl
-
-or_none : (a : Bool) → (a || false) ≡ a
-or_none true = refl
-or_none false = refl
+or_turn : (a b c : Bool) → ((a || b) || c) ≡ (b || (a || c))
+or_turn a b c = ap (λ d. d || c) (or_comm a b) ∙ or_assoc b a c
 
 module _ {A : Type 0} (cmp : A → A → Ordering) where
   -- what holds of a member and of each of a list holds of each with that member
@@ -70,34 +57,20 @@ module _ {A : Type 0} (cmp : A → A → Ordering) where
         by : (o : Ordering) → cmp x y ≡ o → list_any p (with_member cmp x ys) ≡ (p x || list_any p ys)
             → list_any p (match_ordering o (x ∷ (y ∷ ys)) (y ∷ ys) (y ∷ with_member cmp x ys)) ≡ (p x || (p y || list_any p ys))
         by Less is rest = refl
-        by Equal is rest = or_again (p y) (list_any p ys) ∙ ap (λ z. p z || (p y || list_any p ys)) (sym (same x y is))
+        by Equal is rest = sym (or_self_left (p y) (list_any p ys)) ∙ ap (λ z. p z || (p y || list_any p ys)) (sym (same x y is))
         by Greater is rest = ap (λ b. p y || b) rest ∙ or_swap (p x) (p y) (list_any p ys)
 
     pub any-union : (xs ys : List A) → list_any p (union cmp xs ys) ≡ (list_any p xs || list_any p ys)
-    any-union xs [] = sym (or_none (list_any p xs))
+    any-union xs [] = sym (or-false (list_any p xs))
     any-union xs (y ∷ ys) =
         any-union (with_member cmp y xs) ys ∙ ap (λ b. b || list_any p ys) (any-with_member y xs)
-        ∙ or_assoc (p y) (list_any p xs) (list_any p ys)
-
-and_again : (a b : Bool) → (a && b) ≡ (a && (a && b))
-and_again true b = refl
-and_again false b = refl
+        ∙ or_turn (p y) (list_any p xs) (list_any p ys)
 
 and_swap : (a b c : Bool) → (b && (a && c)) ≡ (a && (b && c))
-and_swap true true c = refl
-and_swap true false c = refl
-and_swap false true c = refl
-and_swap false false c = refl
+and_swap a b c = sym (and_assoc b a c) ∙ ap (λ d. d && c) (and_comm b a) ∙ and_assoc a b c
 
 and_turn : (a b c : Bool) → ((a && b) && c) ≡ (b && (a && c))
-and_turn true true c = refl
-and_turn true false c = refl
-and_turn false true c = refl
-and_turn false false c = refl
-
-and_all : (a : Bool) → (a && true) ≡ a
-and_all true = refl
-and_all false = refl
+and_turn a b c = ap (λ d. d && c) (and_comm a b) ∙ and_assoc b a c
 
 -- a test holds of each member of both lists exactly where it holds of each member of one and of the other
 module _ {A : Type 0} (cmp : A → A → Ordering) (same : (x y : A) → cmp x y ≡ Equal → x ≡ y) (p : A → Bool) where
@@ -108,11 +81,11 @@ module _ {A : Type 0} (cmp : A → A → Ordering) (same : (x y : A) → cmp x y
       by : (o : Ordering) → cmp x y ≡ o → list_all p (with_member cmp x ys) ≡ (p x && list_all p ys)
           → list_all p (match_ordering o (x ∷ (y ∷ ys)) (y ∷ ys) (y ∷ with_member cmp x ys)) ≡ (p x && (p y && list_all p ys))
       by Less is rest = refl
-      by Equal is rest = and_again (p y) (list_all p ys) ∙ ap (λ z. p z && (p y && list_all p ys)) (sym (same x y is))
+      by Equal is rest = sym (and_self_left (p y) (list_all p ys)) ∙ ap (λ z. p z && (p y && list_all p ys)) (sym (same x y is))
       by Greater is rest = ap (λ b. p y && b) rest ∙ and_swap (p x) (p y) (list_all p ys)
 
   pub all-union : (xs ys : List A) → list_all p (union cmp xs ys) ≡ (list_all p xs && list_all p ys)
-  all-union xs [] = sym (and_all (list_all p xs))
+  all-union xs [] = sym (and-true (list_all p xs))
   all-union xs (y ∷ ys) =
       all-union (with_member cmp y xs) ys ∙ ap (λ b. b && list_all p ys) (all-with_member y xs)
       ∙ and_turn (p y) (list_all p xs) (list_all p ys)

@@ -2,7 +2,7 @@
 -- some choice of the reduced list.
 use Rattle.std.proofs.Common.{◌≡◌, ◌∙◌, ℕ, zero, suc, ◌<◌, ◌≤◌, Bool, true, false, cond, not, ◌&&◌, ◌||◌, nat_eq, List, [], ◌∷◌, ◌++◌, filter, slice_get, Some, if◌then◌else◌, refl, sym, ap, arith}
 use Rattle.std.specs.List.{list_any, AllByRecursion}
-use Rattle.std.proofs.lemmas.Bool.{false≢true, and_parts}
+use Rattle.std.proofs.lemmas.Bool.{false≢true, and_parts, not-true}
 use Rattle.sequence.specs.Kept.{with_new}
 use Rattle.sequence.proofs.Booleans.{same_tests}
 use Rattle.sequence.proofs.Each.{each_at}
@@ -12,10 +12,6 @@ use Rattle.obligations.specs.Choices.{same_choice, is_within, is_larger, without
 use Rattle.obligations.specs.Numbers.{ChoiceKey, IsRising}
 use Rattle.obligations.specs.Rounds.{weight}
 use Rattle.obligations.proofs.WithinLemmas.{Within, within_is, within_itself, within_trans, lighter, same_key_is}
-
-pub not_true : (b : Bool) → not b ≡ true → b ≡ false
-not_true true h = absurd (false≢true h)
-not_true false h = refl
 
 or_absorb : (a t r : Bool) → (t ≡ true → a ≡ true) → (a || r) ≡ (a || (t || r))
 or_absorb true t r h = refl
@@ -93,7 +89,7 @@ module _ (cs : List ChoiceKey) (well : AllByRecursion IsRising cs) where
           let other = list_any_place (λ d. is_within nat_eq d x && not (same_choice nat_eq d x)) cs is in
           let parts = and_parts (is_within nat_eq other.1 x) (not (same_choice nat_eq other.1 x)) other.3 in
           let inside = within_is other.1 x parts.0 in
-          let less = lighter other.1 x (each_at IsRising cs other.0 other.1 well other.2) (each_at IsRising cs i x well at) inside (not_true (same_choice nat_eq other.1 x) parts.1) in
+          let less = lighter other.1 x (each_at IsRising cs other.0 other.1 well other.2) (each_at IsRising cs i x well at) inside (not-true (same_choice nat_eq other.1 x) parts.1) in
           let r = rest other.0 other.1 other.2 (omega arith) in
           (r.0, r.1, r.2, within_trans r.1 other.1 x r.3 inside, omega (arith, r.4, less))
 

@@ -1,29 +1,23 @@
 -- The flags after all rounds are those of the choices that no different one lies within.
 use Rattle.std.proofs.Common.{◌≡◌, ◌∙◌, ℕ, zero, suc, ◌<◌, Bool, true, false, cond, not, ◌&&◌, ◌||◌, ◌==◌, List, [], ◌∷◌, ◌++◌, map, filter, nat_lt, nat_eq, slice_get, Some, refl, sym, ap, arith, eq-eqb}
 use Rattle.std.specs.List.{list_any, AllByRecursion}
-use Rattle.std.proofs.lemmas.Bool.{lt-ltb, le-ltb, ltb-true, ltb-false, eqb-true, and_parts, and_from}
+use Rattle.std.proofs.lemmas.Bool.{lt-ltb, le-ltb, ltb-true, ltb-false, eqb-true, and_parts, and_from, not-true}
 use Rattle.sequence.proofs.Booleans.{same_tests}
 use Rattle.sequence.proofs.Each.{each_at, each_from_places}
 use Rattle.sequence.proofs.Passes.{list_any_place}
+use Rattle.std.proofs.Math.Bool.{and-or_distrib_right}
+use Rattle.std.proofs.lemmas.List.Folds.{list_any-append}
 use Rattle.obligations.specs.Choices.{same_choice, is_within, is_larger}
 use Rattle.obligations.specs.Numbers.{ChoiceKey, IsRising}
 use Rattle.obligations.specs.Rounds.{weight, is_kept, rounds, with_flags, flags_after}
 use Rattle.obligations.proofs.WithinLemmas.{within_is, is_within_key, within_trans, lighter, same_key_is}
-use Rattle.obligations.proofs.KeptChoices.{kept, any_at, any_filtered, not_true}
-
-or_assoc : (a b c : Bool) → ((a || b) || c) ≡ (a || (b || c))
-or_assoc true b c = refl
-or_assoc false b c = refl
+use Rattle.obligations.proofs.KeptChoices.{kept, any_at, any_filtered}
 
 or_cross : (a b c d : Bool) → ((a || b) || (c || d)) ≡ ((a || c) || (b || d))
 or_cross true b c d = refl
 or_cross false true true d = refl
 or_cross false true false d = refl
 or_cross false false c d = refl
-
-any_append : (p : ChoiceKey → Bool) (xs ys : List ChoiceKey) → list_any p (xs ++ ys) ≡ (list_any p xs || list_any p ys)
-any_append p [] ys = refl
-any_append p (x ∷ xs) ys = ap (λ b. p x || b) (any_append p xs ys) ∙ sym (or_assoc (p x) (list_any p xs) (list_any p ys))
 
 any_filter : (p q : ChoiceKey → Bool) (xs : List ChoiceKey) → list_any p (filter q xs) ≡ list_any (λ x. q x && p x) xs
 any_filter p q [] = refl
@@ -85,7 +79,7 @@ module _ (cs : List ChoiceKey) (well : AllByRecursion IsRising cs) where
           let other = list_any_place (λ d. is_within nat_eq d x && not (same_choice nat_eq d x)) cs is in
           let parts = and_parts (is_within nat_eq other.1 x) (not (same_choice nat_eq other.1 x)) other.3 in
           let inside = within_is other.1 x parts.0 in
-          let less = lighter other.1 x (each_at IsRising cs other.0 other.1 well other.2) (each_at IsRising cs i x well at) inside (not_true (same_choice nat_eq other.1 x) parts.1) in
+          let less = lighter other.1 x (each_at IsRising cs other.0 other.1 well other.2) (each_at IsRising cs i x well at) inside (not-true (same_choice nat_eq other.1 x) parts.1) in
           let r = kept cs well (suc (weight other.1)) other.0 other.1 other.2 (omega arith) in
           any_at (λ y. nat_lt (weight y) (weight x) && is_within nat_eq y x) (filter small cs) r.0 r.1 r.2
           (and_from (nat_lt (weight r.1) (weight x)) (is_within nat_eq r.1 x) (lt-ltb (weight r.1) (weight x) (omega (arith, r.4, less)))
@@ -134,7 +128,7 @@ module _ (cs : List ChoiceKey) (well : AllByRecursion IsRising cs) where
   rounds_are : (w : ℕ) (p : ChoiceKey → Bool) → list_any p (rounds cs w) ≡ list_any (λ y. nat_lt (weight y) w && p y) (filter small cs)
   rounds_are zero p = sym (any_none (λ y. nat_lt (weight y) 0 && p y) (filter small cs) (λ y. ap (λ b. b && p y) (le-ltb (weight y) 0 (omega arith))))
   rounds_are (suc w) p =
-      any_append p (rounds cs w) (filter (is_kept (rounds cs w) w) cs)
+      list_any-append p (rounds cs w) (filter (is_kept (rounds cs w) w) cs)
       ∙ (λ i. rounds_are w p i || list_any p (filter_same (is_kept (rounds cs w) w) (λ x. (weight x == w) && small x) cs
       (each_from_places (λ x. is_kept (rounds cs w) w x ≡ ((weight x == w) && small x)) cs (kept_is w (rounds_are w))) i))
       ∙ (λ i. any_filter (λ y. nat_lt (weight y) w && p y) small cs i || any_filter p (λ x. (weight x == w) && small x) cs i)
@@ -147,13 +141,6 @@ module _ (cs : List ChoiceKey) (well : AllByRecursion IsRising cs) where
   flags_map test f [] = refl
   flags_map test f (x ∷ xs) = ap (λ r. (f x || test x) ∷ r) (flags_map test f xs)
 
-  join : (lt eq s : Bool) → ((lt && s) || (eq && s)) ≡ ((lt || eq) && s)
-  join true true true = refl
-  join true true false = refl
-  join true false true = refl
-  join true false false = refl
-  join false eq s = refl
-
   -- after the rounds of weights below a number the flags tell the small ones of those weights
   pub flags_are : (w : ℕ) → flags_after cs w (map (λ x. false) cs) ≡ map (λ x. nat_lt (weight x) w && small x) cs
   flags_are zero = map_same (λ x. false) (λ x. nat_lt (weight x) 0 && small x) cs
@@ -164,7 +151,7 @@ module _ (cs : List ChoiceKey) (well : AllByRecursion IsRising cs) where
       ∙ map_same (λ x. (nat_lt (weight x) w && small x) || is_kept (rounds cs w) w x) (λ x. nat_lt (weight x) (suc w) && small x) cs
       (each_from_places (λ x. ((nat_lt (weight x) w && small x) || is_kept (rounds cs w) w x) ≡ (nat_lt (weight x) (suc w) && small x)) cs
       (λ i x at. ap (λ b. (nat_lt (weight x) w && small x) || b) (kept_is w (rounds_are w) i x at)
-      ∙ join (nat_lt (weight x) w) (weight x == w) (small x) ∙ ap (λ b. b && small x) (sym (one_more (weight x) w))))
+      ∙ sym (and-or_distrib_right (nat_lt (weight x) w) (weight x == w) (small x)) ∙ ap (λ b. b && small x) (sym (one_more (weight x) w))))
 
   -- with a bound on the weights they tell all small ones
   pub flags_tell : (bound : ℕ) → AllByRecursion (λ x. weight x < bound) cs → flags_after cs bound (map (λ x. false) cs) ≡ map small cs

@@ -9,6 +9,7 @@ use Rattle.std.proofs.lemmas.Option.{none-some, same_Some}
 use Rattle.std.proofs.lemmas.Bool.{ltb-false}
 use Rattle.sequence.proofs.Each.{each_left, each_right}
 use Rattle.sequence.proofs.Passes.{list_any-map}
+use Rattle.std.proofs.Math.Bool.{or-false, and-true, and_assoc, or_assoc}
 use Rattle.loop_shape.specs.LoopShape.{IsPosition, after}
 use Rattle.loop_shape.proofs.Untils.{until_unrolls}
 use Rattle.loop_shape.proofs.Words.{release_unrolls}
@@ -30,22 +31,6 @@ then_some : (x : Option (List ChoiceKey)) (go : List ChoiceKey → Option (List 
     → (ys : List ChoiceKey) × (x ≡ Some ys) × (go ys ≡ Some r)
 then_some None go r h = absurd (none-some r h)
 then_some (Some ys) go r h = (ys, refl, h)
-
-or_false : (a : Bool) → (a || false) ≡ a
-or_false true = refl
-or_false false = refl
-
-and_true : (a : Bool) → (a && true) ≡ a
-and_true true = refl
-and_true false = refl
-
-and_assoc : (a b c : Bool) → ((a && b) && c) ≡ (a && (b && c))
-and_assoc true b c = refl
-and_assoc false b c = refl
-
-or_assoc : (a b c : Bool) → ((a || b) || c) ≡ (a || (b || c))
-or_assoc true b c = refl
-or_assoc false b c = refl
 
 module _ (loop : LetterLoop) (i : ℕ) (position : IsPosition (shape_of loop) i) (letter : ℕ) (here : letter_at loop i ≡ Some letter) (fits : letter < 2 ^ 64)
     (test : LtlTree → Bool)
@@ -70,16 +55,16 @@ module _ (loop : LetterLoop) (i : ℕ) (position : IsPosition (shape_of loop) i)
     of_empty = no_care true
 
     of_goes_on : (n : ℕ) (f : LtlTree) → formula_named names n ≡ f → is (goes_on n) ≡ later f
-    of_goes_on n f same = no_care ((later (formula_named names n) && true) && true) ∙ and_true (later (formula_named names n) && true) ∙ and_true (later (formula_named names n)) ∙ ap later same
+    of_goes_on n f same = no_care ((later (formula_named names n) && true) && true) ∙ and-true (later (formula_named names n) && true) ∙ and-true (later (formula_named names n)) ∙ ap later same
 
     of_puts_off : (n : ℕ) (u : LtlTree) → formula_named names n ≡ u → is (puts_off n) ≡ (later u && test u)
     of_puts_off n u same =
         no_care ((later (formula_named names n) && true) && (test (formula_named names n) && true))
-        ∙ (λ k. and_true (later (formula_named names n)) k && and_true (test (formula_named names n)) k)
+        ∙ (λ k. and-true (later (formula_named names n)) k && and-true (test (formula_named names n)) k)
         ∙ ap (λ f. later f && test f) same
 
     one : (c : ChoiceKey) (r : List ChoiceKey) → Some (c ∷ []) ≡ Some r → list_any is r ≡ is c
-    one c r h = ap (list_any is) (sym (same_Some (c ∷ []) r h)) ∙ or_false (is c)
+    one c r h = ap (list_any is) (sym (same_Some (c ∷ []) r h)) ∙ or-false (is c)
 
     has_letter : (b : ℕ) → bit_holds loop b i ≡ has_bit b letter
     has_letter b = ap (λ o. option_map_or (has_bit b) o false) here
@@ -91,15 +76,15 @@ module _ (loop : LetterLoop) (i : ℕ) (position : IsPosition (shape_of loop) i)
     of_bit b r h = ap (list_any is) (sym (same_Some (bit_choices b) r h)) ∙ by (nat_lt b letter_bits) refl ∙ sym (has_letter b)
       where
         by : (l : Bool) → nat_lt b letter_bits ≡ l → list_any is (cond l ((record { care = 2 ^ b; want = 2 ^ b; next_set = []; postponed = [] }) ∷ []) []) ≡ has_bit b letter
-        by true low = or_false (cube_matches (2 ^ b) (2 ^ b) letter && true) ∙ and_true (cube_matches (2 ^ b) (2 ^ b) letter) ∙ literal_is letter b
+        by true low = or-false (cube_matches (2 ^ b) (2 ^ b) letter && true) ∙ and-true (cube_matches (2 ^ b) (2 ^ b) letter) ∙ literal_is letter b
         by false high = sym (no_high_bit b high)
 
     of_not_bit : (b : ℕ) (r : List ChoiceKey) → Some (not_bit_choices b) ≡ Some r → list_any is r ≡ not (bit_holds loop b i)
     of_not_bit b r h = ap (list_any is) (sym (same_Some (not_bit_choices b) r h)) ∙ by (nat_lt b letter_bits) refl ∙ ap not (sym (has_letter b))
       where
         by : (l : Bool) → nat_lt b letter_bits ≡ l → list_any is (cond l ((record { care = 2 ^ b; want = 0; next_set = []; postponed = [] }) ∷ []) (empty_choice ∷ [])) ≡ not (has_bit b letter)
-        by true low = or_false (cube_matches (2 ^ b) 0 letter && true) ∙ and_true (cube_matches (2 ^ b) 0 letter) ∙ literal_is_not letter b
-        by false high = or_false (is empty_choice) ∙ of_empty ∙ ap not (sym (no_high_bit b high))
+        by true low = or-false (cube_matches (2 ^ b) 0 letter && true) ∙ and-true (cube_matches (2 ^ b) 0 letter) ∙ literal_is_not letter b
+        by false high = or-false (is empty_choice) ∙ of_empty ∙ ap not (sym (no_high_bit b high))
 
     mutual
       pub expands : (f : LtlTree) → AreAllNamed (obligations f) → (r : List ChoiceKey) → expansion_by nat_eq nat_cmp (number_in names) f ≡ Some r → list_any is r ≡ holds loop f i
@@ -122,7 +107,7 @@ module _ (loop : LetterLoop) (i : ℕ) (position : IsPosition (shape_of loop) i)
           let made = of_product names rising letter later test late.0 (puts_off (number_in names (until a b)) ∷ []) put.0 (well_of a has_a late.0 late.1) own put.1 in
           (of_sum names rising letter later test now.0 put.0 r (well_of b has_b now.0 now.1) made.0 put.2).1
           ∙ (λ k. expands b has_b now.0 now.1 k || made.1 k)
-          ∙ (λ k. holds loop b i || (expands a has_a late.0 late.1 k && (or_false (is (puts_off (number_in names (until a b)))) ∙ of_puts_off (number_in names (until a b)) (until a b) n.1) k))
+          ∙ (λ k. holds loop b i || (expands a has_a late.0 late.1 k && (or-false (is (puts_off (number_in names (until a b)))) ∙ of_puts_off (number_in names (until a b)) (until a b) n.1) k))
           ∙ unrolls a b
       expands (release a b) has r h =
           let n = numbered names (release a b) has.0 in
@@ -135,12 +120,12 @@ module _ (loop : LetterLoop) (i : ℕ) (position : IsPosition (shape_of loop) i)
           let made = of_sum names rising letter later test freed.0 (goes_on (number_in names (release a b)) ∷ []) ends.0 (well_of a has_a freed.0 freed.1) own ends.1 in
           (of_product names rising letter later test held.0 ends.0 r (well_of b has_b held.0 held.1) made.0 ends.2).1
           ∙ (λ k. expands b has_b held.0 held.1 k && made.1 k)
-          ∙ (λ k. holds loop b i && (expands a has_a freed.0 freed.1 k || (or_false (is (goes_on (number_in names (release a b)))) ∙ of_goes_on (number_in names (release a b)) (release a b) n.1) k))
+          ∙ (λ k. holds loop b i && (expands a has_a freed.0 freed.1 k || (or-false (is (goes_on (number_in names (release a b)))) ∙ of_goes_on (number_in names (release a b)) (release a b) n.1) k))
           ∙ sym (release_unrolls (shape_of loop) i position (holds loop a) (holds loop b))
 
       pub all_expand : (so_far : List ChoiceKey) (fs : LtlTrees) → AreWell names rising so_far → AreAllNamed (obligations_of_all fs) → (r : List ChoiceKey)
           → all_choices_by nat_eq nat_cmp (number_in names) so_far fs ≡ Some r → list_any is r ≡ (list_any is so_far && holds_all loop fs i)
-      all_expand so_far no_formulas well has r h = ap (list_any is) (sym (same_Some so_far r h)) ∙ sym (and_true (list_any is so_far))
+      all_expand so_far no_formulas well has r h = ap (list_any is) (sym (same_Some so_far r h)) ∙ sym (and-true (list_any is so_far))
       all_expand so_far (more_formulas f fs) well has r h =
           let has_f = each_left (λ g. is_named names g ≡ true) (obligations f) (obligations_of_all fs) has in
           let has_fs = each_right (λ g. is_named names g ≡ true) (obligations f) (obligations_of_all fs) has in
@@ -154,7 +139,7 @@ module _ (loop : LetterLoop) (i : ℕ) (position : IsPosition (shape_of loop) i)
 
       pub any_expand : (so_far : List ChoiceKey) (fs : LtlTrees) → AreWell names rising so_far → AreAllNamed (obligations_of_all fs) → (r : List ChoiceKey)
           → any_choices_by nat_eq nat_cmp (number_in names) so_far fs ≡ Some r → list_any is r ≡ (list_any is so_far || holds_any loop fs i)
-      any_expand so_far no_formulas well has r h = ap (list_any is) (sym (same_Some so_far r h)) ∙ sym (or_false (list_any is so_far))
+      any_expand so_far no_formulas well has r h = ap (list_any is) (sym (same_Some so_far r h)) ∙ sym (or-false (list_any is so_far))
       any_expand so_far (more_formulas f fs) well has r h =
           let has_f = each_left (λ g. is_named names g ≡ true) (obligations f) (obligations_of_all fs) has in
           let has_fs = each_right (λ g. is_named names g ≡ true) (obligations f) (obligations_of_all fs) has in
@@ -168,7 +153,7 @@ module _ (loop : LetterLoop) (i : ℕ) (position : IsPosition (shape_of loop) i)
 
     set_expands : (so_far : List ChoiceKey) (fs : List LtlTree) → AreWell names rising so_far → AllByRecursion (λ f. AreAllNamed (obligations f)) fs → (r : List ChoiceKey)
         → choices_from nat_eq nat_cmp (number_in names) so_far fs ≡ Some r → list_any is r ≡ (list_any is so_far && list_all (λ f. holds loop f i) fs)
-    set_expands so_far [] well has r h = ap (list_any is) (sym (same_Some so_far r h)) ∙ sym (and_true (list_any is so_far))
+    set_expands so_far [] well has r h = ap (list_any is) (sym (same_Some so_far r h)) ∙ sym (and-true (list_any is so_far))
     set_expands so_far (f ∷ fs) well has r h =
         let first = then_some (expansion_by nat_eq nat_cmp (number_in names) f) _ r h in
         let more = then_some (product nat_eq nat_cmp so_far first.0) _ r first.2 in
@@ -195,7 +180,7 @@ module _ (loop : LetterLoop) (i letter : ℕ) (set : List LtlTree) (cs : List Ch
     (here : letter_at loop i ≡ Some letter) (fits : letter < 2 ^ 64) (at : choices set ≡ Some cs) where
   pub some_true : list_all (λ f. holds loop f i) set ≡ list_any (is_true loop i letter) cs
   some_true = set_law loop i position letter here fits (λ u. true)
-      (λ a b. ap (λ u. holds loop b i || (holds loop a i && u)) (and_true (holds loop (until a b) (after (shape_of loop) i)))
+      (λ a b. ap (λ u. holds loop b i || (holds loop a i && u)) (and-true (holds loop (until a b) (after (shape_of loop) i)))
       ∙ sym (until_unrolls (shape_of loop) (holds loop a) (holds loop b) i position)) set cs at
 
   waits : (b a u : Bool) → (b || (a && (u && (u && not b)))) ≡ (b || (a && u))

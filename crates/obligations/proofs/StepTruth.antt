@@ -11,6 +11,8 @@ use Rattle.std.proofs.lemmas.Bool.{eqb-true, false≢true, and_parts, and_from}
 use Rattle.std.proofs.lemmas.Bool.Decides.{eqb_tells}
 use Rattle.sequence.proofs.Booleans.{same_tests}
 use Rattle.sequence.proofs.Each.{each_joined, each_weaker}
+use Rattle.std.proofs.Math.Bool.{and-false, and-or_distrib_left, and-or_distrib_right}
+use Rattle.std.proofs.lemmas.List.Folds.{list_any-append}
 use Rattle.ltl_formula.specs.LtlTree.{LtlTree}
 use Rattle.ltl_formula.specs.LtlOrder.{tree_cmp}
 use Rattle.ltl_formula.specs.Increasing.{IsIncreasing}
@@ -78,22 +80,6 @@ shuffle true true true false false f = refl
 shuffle true true true true false f = refl
 shuffle true true true true true f = refl
 
-or_and_left : (a b c : Bool) → ((a && b) || (a && c)) ≡ (a && (b || c))
-or_and_left true b c = refl
-or_and_left false b c = refl
-
-and_false : (a : Bool) → (a && false) ≡ false
-and_false true = refl
-and_false false = refl
-
-or_assoc : (a b c : Bool) → ((a || b) || c) ≡ (a || (b || c))
-or_assoc true b c = refl
-or_assoc false b c = refl
-
-any_joined : {A : Type 0} (t : A → Bool) (xs ys : List A) → list_any t (xs ++ ys) ≡ (list_any t xs || list_any t ys)
-any_joined t [] ys = refl
-any_joined t (x ∷ xs) ys = ap (λ b. t x || b) (any_joined t xs ys) ∙ sym (or_assoc (t x) (list_any t xs) (list_any t ys))
-
 all_map : (f : ℕ → LtlTree) (p : LtlTree → Bool) (ns : List ℕ) → list_all p (map f ns) ≡ list_all (λ n. p (f n)) ns
 all_map f p [] = refl
 all_map f p (n ∷ ns) = ap (λ b. p (f n) && b) (all_map f p ns)
@@ -148,24 +134,17 @@ module _ (names : List LtlTree) (rising : IsIncreasing tree_cmp names) (letter :
       by false is = ap (λ b. b || list_any t ks) (sym (contradict c d is))
 
   any_joins_one : (c : ChoiceKey) (ds : List ChoiceKey) → IsWell names c → AreWell names rising ds → list_any t (filter_map (joined nat_eq nat_cmp c) ds) ≡ (t c && list_any t ds)
-  any_joins_one c [] p each = sym (and_false (t c))
+  any_joins_one c [] p each = sym (and-false (t c))
   any_joins_one c (d ∷ ds) p each =
       any_join c d (filter_map (joined nat_eq nat_cmp c) ds) p each.0
-      ∙ ap (λ b. (t c && t d) || b) (any_joins_one c ds p each.1) ∙ or_and_left (t c) (t d) (list_any t ds)
-
-  and_or_right : (a b c : Bool) → ((a && c) || (b && c)) ≡ ((a || b) && c)
-  and_or_right true true true = refl
-  and_or_right true true false = refl
-  and_or_right true false true = refl
-  and_or_right true false false = refl
-  and_or_right false b c = refl
+      ∙ ap (λ b. (t c && t d) || b) (any_joins_one c ds p each.1) ∙ sym (and-or_distrib_left (t c) (t d) (list_any t ds))
 
   any_joins : (cs ds : List ChoiceKey) → AreWell names rising cs → AreWell names rising ds → list_any t (joins nat_eq nat_cmp cs ds) ≡ (list_any t cs && list_any t ds)
   any_joins [] ds left right = refl
   any_joins (c ∷ cs) ds left right =
-      any_joined t (filter_map (joined nat_eq nat_cmp c) ds) (joins nat_eq nat_cmp cs ds)
+      list_any-append t (filter_map (joined nat_eq nat_cmp c) ds) (joins nat_eq nat_cmp cs ds)
       ∙ (λ k. any_joins_one c ds left.0 right k || any_joins cs ds left.1 right k)
-      ∙ and_or_right (t c) (list_any t cs) (list_any t ds)
+      ∙ sym (and-or_distrib_right (t c) (list_any t cs) (list_any t ds))
 
   -- what lies within a true choice is true
   down : (y x : ChoiceKey) → Within y x → t x ≡ true → t y ≡ true
@@ -208,4 +187,4 @@ module _ (names : List LtlTree) (rising : IsIncreasing tree_cmp names) (letter :
       → AreWell names rising r × (list_any t r ≡ (list_any t cs || list_any t ds))
   of_sum cs ds r left right is =
       let made = of_formed (cs ++ ds) r (each_joined (IsWell names) cs ds left right) is in
-      (made.0, made.1 ∙ any_joined t cs ds)
+      (made.0, made.1 ∙ list_any-append t cs ds)

@@ -27,6 +27,9 @@ module _ (cs : List NumberedChoice) (i : ℕ) (c : NumberedChoice) (within : i <
       (each_joined (λ d. weight d < next) (choice_keys (take i cs)) (choice_key c ∷ [])
       (each_weaker (λ d. weight d < bound) (λ d. weight d < next) (λ d h. omega arith) (choice_keys (take i cs)) before) ((omega (arith, is, less)), tt))
 
+smaller : (m : ℕ) (ks : List ℕ) → AllByRecursion (λ k. m < k) ks → AllByRecursion (λ k. nat_cmp m k ≡ Less) ks
+smaller m ks = each_weaker (λ k. m < k) (λ k. nat_cmp m k ≡ Less) (λ k less. rw (lt-ltb m k less) refl) ks
+
 above : (n : ℕ) (ms : List ℕ) → rises_after n ms ≡ true → AllByRecursion (λ m. n < m) ms × IsIncreasing nat_cmp ms
 above n [] h = (tt, tt)
 above n (m ∷ ms) h =
@@ -34,18 +37,10 @@ above n (m ∷ ms) h =
     let less = ltb-true n m parts.0 in
     let rest = above m ms parts.1 in
     ((less, each_weaker (λ k. m < k) (λ k. n < k) (λ k j. omega arith) ms rest.0), (smaller m ms rest.0, rest.1))
-  where
-    smaller : (m : ℕ) (ks : List ℕ) → AllByRecursion (λ k. m < k) ks → AllByRecursion (λ k. nat_cmp m k ≡ Less) ks
-    smaller m [] each = tt
-    smaller m (k ∷ ks) each = (rw (lt-ltb m k each.0) refl, smaller m ks each.1)
 
 increasing : (ns : List ℕ) → rises ns ≡ true → IsIncreasing nat_cmp ns
 increasing [] h = tt
 increasing (n ∷ ns) h = let r = above n ns h in (smaller n ns r.0, r.1)
-  where
-    smaller : (m : ℕ) (ks : List ℕ) → AllByRecursion (λ k. m < k) ks → AllByRecursion (λ k. nat_cmp m k ≡ Less) ks
-    smaller m [] each = tt
-    smaller m (k ∷ ks) each = (rw (lt-ltb m k each.0) refl, smaller m ks each.1)
 
 pub all_rising : (cs : List ChoiceKey) → list_all is_rising cs ≡ true → AllByRecursion IsRising cs
 all_rising [] h = tt
