@@ -2,7 +2,7 @@
 -- as often as one likes, each time within that many steps for each until and one more.
 use Rattle.std.proofs.Common.{◌≡◌, ◌∙◌, ℕ, zero, suc, ◌+◌, ◌-◌, ◌*◌, ◌<◌, ◌≤◌, ◌⊎◌, inl, inr, Bool, true, false, cond, ◌==◌, refl, sym, ap, arith, true≢false, add-zero, add-suc, suc-mul}
 use Rattle.std.proofs.lemmas.Bool.{eqb-false}
-use Rattle.cobuchi_automata.specs.Counters.{risen, passes, advanced}
+use Rattle.cobuchi_automata.specs.Counters.{risen, passes_last, advanced}
 
 -- the counters along steps, each of which postpones some untils
 pub record IsRun (untils : ℕ) (postponed : ℕ → ℕ → Bool) (counter : ℕ → ℕ) : Type 0 where
@@ -40,7 +40,7 @@ moves p (suc room) c h = by (p c) refl
 -- a step passes the last until, or leaves the counter at an until that is postponed, or raises it
 abbrev Step : ℕ → (ℕ → ℕ → Bool) → (ℕ → ℕ) → ℕ → Type 0
 Step untils postponed counter t =
-    (passes untils (postponed t) (counter t) ≡ true)
+    (passes_last untils (postponed t) (counter t) ≡ true)
     ⊎ ((counter t < untils) × (postponed t (counter t) ≡ true) × (counter (suc t) ≡ counter t))
     ⊎ ((counter t < counter (suc t)) × (counter (suc t) ≤ untils))
 
@@ -49,9 +49,9 @@ module _ (untils wait : ℕ) (postponed : ℕ → ℕ → Bool) (counter : ℕ �
   reached t = risen (postponed t) (untils - counter t) (counter t)
 
   step : (t : ℕ) → counter t ≤ untils → Step untils postponed counter t
-  step t below = by (passes untils (postponed t) (counter t)) refl
+  step t below = by (passes_last untils (postponed t) (counter t)) refl
     where
-      by : (b : Bool) → passes untils (postponed t) (counter t) ≡ b → Step untils postponed counter t
+      by : (b : Bool) → passes_last untils (postponed t) (counter t) ≡ b → Step untils postponed counter t
       by true e = inl e
       by false e =
           let new : counter (suc t) ≡ reached t = run.next t ∙ ap (λ b. cond b 0 (reached t)) e in
@@ -78,7 +78,7 @@ module _ (untils wait : ℕ) (postponed : ℕ → ℕ → Bool) (counter : ℕ �
   -- up to a step that does not postpone the counter's until, the last until is passed, or else the counter has risen past it
   abbrev Gets : ℕ → ℕ → Type 0
   Gets t s =
-      ((r : ℕ) × (t ≤ r) × (r ≤ s) × (passes untils (postponed r) (counter r) ≡ true))
+      ((r : ℕ) × (t ≤ r) × (r ≤ s) × (passes_last untils (postponed r) (counter r) ≡ true))
       ⊎ ((r : ℕ) × (t < r) × (r ≤ suc s) × (counter t < counter r))
 
   sooner : (t s : ℕ) → counter (suc t) ≡ counter t → Gets (suc t) s → Gets t s
@@ -112,7 +112,7 @@ module _ (untils wait : ℕ) (postponed : ℕ → ℕ → Bool) (counter : ℕ �
 
   -- with so many untils left the counter passes the last one
   abbrev Passing : ℕ → ℕ → Type 0
-  Passing t m = (s : ℕ) × (t ≤ s) × (s < t + m) × (passes untils (postponed s) (counter s) ≡ true)
+  Passing t m = (s : ℕ) × (t ≤ s) × (s < t + m) × (passes_last untils (postponed s) (counter s) ≡ true)
 
   goes : (d t : ℕ) → untils ≤ counter t + d → Passing t (bound d)
   goes zero t h = by (step t (within t))

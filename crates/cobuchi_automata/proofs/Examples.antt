@@ -1,7 +1,7 @@
 -- Worked examples: counters, and the automaton of an until.
 use Rattle.std.proofs.Common.{◌≡◌, ◌==◌, true, false, [], ◌∷◌, refl}
 use Rattle.ltl_formula.specs.LtlTree.{LtlTree, top, bit, until}
-use Rattle.cobuchi_automata.specs.Counters.{passes, advanced}
+use Rattle.cobuchi_automata.specs.Counters.{passes_last, advanced}
 use Rattle.cobuchi_automata.specs.Automata.{untils_of, start_state, edge_of}
 
 -- two untils, of which the second is postponed
@@ -9,10 +9,10 @@ waits_for_the_second : advanced 2 (λ u. u == 1) 0 ≡ 1
 waits_for_the_second = refl
 
 -- the counter rises past all that are not postponed at once
-passes_both : passes 2 (λ u. false) 0 ≡ true
+passes_both : passes_last 2 (λ u. false) 0 ≡ true
 passes_both = refl
 
-no_untils_pass_always : passes 0 (λ u. true) 0 ≡ true
+no_untils_pass_always : passes_last 0 (λ u. true) 0 ≡ true
 no_untils_pass_always = refl
 
 abbrev finally_b0 : LtlTree

@@ -16,7 +16,7 @@ use Rattle.obligations.specs.Expansion.{ChoiceTree, same_formula}
 use Rattle.obligations.specs.StepLaw.{is_waited_for, is_good}
 use Rattle.obligations.proofs.FormulaNumbers.{same_is}
 use Rattle.obligations.proofs.StepLaws.{some_good}
-use Rattle.cobuchi_automata.specs.Counters.{passes}
+use Rattle.cobuchi_automata.specs.Counters.{passes_last}
 use Rattle.cobuchi_automata.specs.Automata.{StateTree, EdgeTree, untils_of, is_postponed, start_state, state_after, edge_of, Leads, IsAutomaton}
 use Rattle.cobuchi_automata.specs.Paths.{IsPath, rejections, FitsLetters}
 use Rattle.cobuchi_automata.proofs.CounterLemmas.{IsRun, IsFreeWithin, count_of, once, counted}
@@ -160,7 +160,7 @@ module _ (f : LtlTree) (states : List StateTree) (edges : List EdgeTree) (automa
     length_is (suc n) t = ap suc (length_is n (suc t))
 
     abbrev turns : ℕ → Bool
-    turns s = passes U (postponed s) (counter s)
+    turns s = passes_last U (postponed s) (counter s)
 
     rejections_are : (n t : ℕ) → rejections (path_from n t) + count_of turns t ≡ count_of turns (t + n)
     rejections_are zero t = let e : t + 0 ≡ t = add-zero t in ap (λ c. 0 + c) (ap (count_of turns) (sym e)) ∙ omega arith

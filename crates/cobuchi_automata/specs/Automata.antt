@@ -8,7 +8,7 @@ use Rattle.std.specs.Option.{option_map_or}
 use Rattle.sequence.specs.Kept.{with_new}
 use Rattle.ltl_formula.specs.LtlTree.{LtlTree, LtlTrees, top, bottom, bit, not_bit, conjunction, disjunction, next, until, release, no_formulas, more_formulas}
 use Rattle.obligations.specs.Expansion.{ChoiceTree, same_formula, choices}
-use Rattle.cobuchi_automata.specs.Counters.{passes, advanced}
+use Rattle.cobuchi_automata.specs.Counters.{passes_last, advanced}
 
 -- the untils in a formula from the left, outer ones first
 abbrev mutual
@@ -63,7 +63,7 @@ edge_of untils from s c to = record {
   care = c.care;
   want = c.want;
   to = to;
-  rejecting = passes (length untils) (is_postponed untils c) s.counter;
+  rejecting = passes_last (length untils) (is_postponed untils c) s.counter;
 }
 
 -- states that choices lead to from the start

@@ -7,9 +7,9 @@ risen postponed zero counter = counter
 risen postponed (suc room) counter = cond (postponed counter) counter (risen postponed room (suc counter))
 
 -- whether it rises past the last of so many untils
-abbrev pub passes : ℕ → (ℕ → Bool) → ℕ → Bool
-passes untils postponed counter = risen postponed (untils - counter) counter == untils
+abbrev pub passes_last : ℕ → (ℕ → Bool) → ℕ → Bool
+passes_last untils postponed counter = risen postponed (untils - counter) counter == untils
 
 -- the counter of the next state: 0 after the last until
 abbrev pub advanced : ℕ → (ℕ → Bool) → ℕ → ℕ
-advanced untils postponed counter = cond (passes untils postponed counter) 0 (risen postponed (untils - counter) counter)
+advanced untils postponed counter = cond (passes_last untils postponed counter) 0 (risen postponed (untils - counter) counter)

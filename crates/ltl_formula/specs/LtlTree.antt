@@ -22,14 +22,14 @@ mutual
     more_formulas : LtlTree → LtlTrees → LtlTrees
 
 -- the members of a list of formulas, in order
-abbrev pub formulas_in : LtlTrees → List LtlTree
-formulas_in no_formulas = []
-formulas_in (more_formulas f fs) = f ∷ formulas_in fs
+abbrev pub ltl_formulas_in : LtlTrees → List LtlTree
+ltl_formulas_in no_formulas = []
+ltl_formulas_in (more_formulas f fs) = f ∷ ltl_formulas_in fs
 
 -- the list of these members
-abbrev pub formulas_of : List LtlTree → LtlTrees
-formulas_of [] = no_formulas
-formulas_of (f ∷ fs) = more_formulas f (formulas_of fs)
+abbrev pub ltl_formulas_of : List LtlTree → LtlTrees
+ltl_formulas_of [] = no_formulas
+ltl_formulas_of (f ∷ fs) = more_formulas f (ltl_formulas_of fs)
 
 -- the tree of a formula
 abbrev mutual
@@ -49,5 +49,5 @@ abbrev mutual
   ltl_trees (More' p head q rest) = more_formulas (ltl_tree head) (ltl_trees rest)
 
 -- the trees of a list's members, in order
-abbrev pub member_trees : LtlList → List LtlTree
-member_trees fs = formulas_in (ltl_trees fs)
+abbrev pub ltl_member_trees : LtlList → List LtlTree
+ltl_member_trees fs = ltl_formulas_in (ltl_trees fs)

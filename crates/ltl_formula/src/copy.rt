@@ -1,7 +1,7 @@
 //! Copies of formulas.
 
 ghost use Rattle.std.specs.Prelude.{◌≡◌, map, IfOk};
-ghost use Rattle.ltl_formula.specs.LtlTree.{ltl_tree, member_trees};
+ghost use Rattle.ltl_formula.specs.LtlTree.{ltl_tree, ltl_member_trees};
 
 use crate::formula::{Ltl, LtlList};
 use sequence::NoMemory;
@@ -44,7 +44,7 @@ fn copy_part(alloc: Global, part: &Ltl) -> Result<Box<Ltl>, NoMemory>
 #[cycle(copy)]
 #[tactic(auto, using(crate::proofs::ListLemmas::made_push, crate::proofs::ListLemmas::made_end))]
 fn copy_members(alloc: Global, formulas: &LtlList) -> Result<Vec<Ltl>, NoMemory>
-    ensures { IfOk result (λ copies. map ltl_tree copies.items ≡ member_trees formulas.now) }
+    ensures { IfOk result (λ copies. map ltl_tree copies.items ≡ ltl_member_trees formulas.now) }
 {
     let mut copies = Vec::new(alloc);
     let mut rest = formulas;

@@ -1,7 +1,7 @@
 //! The formula that holds where another one fails.
 
 ghost use Rattle.std.specs.Prelude.{◌≡◌, ℕ, map, not, IfOk};
-ghost use Rattle.ltl_formula.specs.LtlTree.{ltl_tree, ltl_trees, formulas_in};
+ghost use Rattle.ltl_formula.specs.LtlTree.{ltl_tree, ltl_trees, ltl_formulas_in};
 ghost use Rattle.ltl_formula.specs.Dual.{dual, duals};
 ghost use Rattle.ltl_formula.specs.LetterLoop.{LetterLoop, holds};
 
@@ -58,7 +58,7 @@ fn dual_part(alloc: Global, part: &Ltl) -> Result<Box<Ltl>, NoMemory>
 #[tactic(auto, using(crate::proofs::ListLemmas::made_push, crate::proofs::ListLemmas::made_end))]
 fn dual_members(alloc: Global, formulas: &LtlList) -> Result<Vec<Ltl>, NoMemory>
     ensures { IfOk result
-        (λ made. map ltl_tree made.items ≡ formulas_in (duals (ltl_trees formulas.now))) }
+        (λ made. map ltl_tree made.items ≡ ltl_formulas_in (duals (ltl_trees formulas.now))) }
 {
     let mut made = Vec::new(alloc);
     let mut rest = formulas;

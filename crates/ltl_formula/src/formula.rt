@@ -1,7 +1,7 @@
 //! Formulas of linear temporal logic, and their order.
 
 ghost use Rattle.std.specs.Prelude.{◌≡◌, map, IfOk};
-ghost use Rattle.ltl_formula.specs.LtlTree.{ltl_tree, ltl_trees, formulas_of};
+ghost use Rattle.ltl_formula.specs.LtlTree.{ltl_tree, ltl_trees, ltl_formulas_of};
 ghost use Rattle.ltl_formula.specs.LtlOrder.{tree_cmp};
 
 use sequence::NoMemory;
@@ -58,7 +58,7 @@ impl LtlList {
     /// The list of these formulas, in their order. An `Err` says that memory ran out.
     #[tactic(auto, using(crate::proofs::ListLemmas::with_front_none, crate::proofs::ListLemmas::with_front_push))]
     pub fn from_vec(alloc: Global, mut formulas: Vec<Ltl>) -> Result<LtlList, NoMemory>
-        ensures { IfOk result (λ list. ltl_trees list ≡ formulas_of (map ltl_tree formulas.items)) }
+        ensures { IfOk result (λ list. ltl_trees list ≡ ltl_formulas_of (map ltl_tree formulas.items)) }
     {
         let mut list = LtlList::Empty;
         while let Some(formula) = formulas.pop() {

@@ -16,7 +16,7 @@ use Rattle.ltl_formula.proofs.LtlOrderLaws.{tree_cmp_total, equal_trees}
 use Rattle.ltl_formula.proofs.Places.{by_place}
 use Rattle.obligations.specs.Choices.{is_subset}
 use Rattle.obligations.specs.Expansion.{same_formula}
-use Rattle.obligations.specs.Numbers.{number_in, formula_named}
+use Rattle.obligations.specs.Numbers.{formula_number, formula_named}
 
 is_eq_nat : (m n : ℕ) → is_eq (nat_cmp m n) ≡ nat_eq m n
 is_eq_nat m n = by (nat_lt m n) (m == n) refl refl
@@ -43,17 +43,17 @@ abbrev pub is_named : List LtlTree → LtlTree → Bool
 is_named names f = list_any (λ g. same_formula g f) names
 
 -- the number of a formula leads back to it
-pub numbered : (names : List LtlTree) (f : LtlTree) → is_named names f ≡ true → (number_in names f < length names) × (formula_named names (number_in names f) ≡ f)
+pub numbered : (names : List LtlTree) (f : LtlTree) → is_named names f ≡ true → (formula_number names f < length names) × (formula_named names (formula_number names f) ≡ f)
 numbered [] f h = absurd (false≢true h)
 numbered (g ∷ names) f h = by (same_formula g f) refl h (numbered names f)
   where
     by : (b : Bool) → same_formula g f ≡ b → (b || is_named names f) ≡ true
-        → (is_named names f ≡ true → (number_in names f < length names) × (formula_named names (number_in names f) ≡ f))
-        → (cond (not b) (1 + number_in names f) 0 < length (g ∷ names)) × (formula_named (g ∷ names) (cond (not b) (1 + number_in names f) 0) ≡ f)
+        → (is_named names f ≡ true → (formula_number names f < length names) × (formula_named names (formula_number names f) ≡ f))
+        → (cond (not b) (1 + formula_number names f) 0 < length (g ∷ names)) × (formula_named (g ∷ names) (cond (not b) (1 + formula_number names f) 0) ≡ f)
     by true is h rest = (omega arith, same_is g f is)
     by false is h rest =
         let r = rest h in
-        let one : 1 + number_in names f ≡ suc (number_in names f) = omega arith in
+        let one : 1 + formula_number names f ≡ suc (formula_number names f) = omega arith in
         (omega (arith, r.0), ap (formula_named (g ∷ names)) one ∙ r.1)
 
 module _ (names : List LtlTree) (rising : IsIncreasing tree_cmp names) where

@@ -9,7 +9,7 @@ use Rattle.sequence.proofs.Each.{each_at}
 use Rattle.sequence.proofs.Places.{contains_at}
 use Rattle.sequence.proofs.Passes.{list_any_place, list_any_contained, filter_has}
 use Rattle.obligations.specs.Choices.{same_choice, is_within, is_larger, without_repeats, without_larger}
-use Rattle.obligations.specs.Numbers.{ChoiceKey, IsRising}
+use Rattle.obligations.specs.Numbers.{ChoiceKey, IsRisingChoice}
 use Rattle.obligations.specs.Rounds.{weight}
 use Rattle.obligations.proofs.WithinLemmas.{Within, within_is, within_itself, within_trans, lighter, same_key_is}
 
@@ -68,7 +68,7 @@ any_new t kept (c ∷ cs) = by (list_any (λ k. same_choice nat_eq c k) kept) re
     by false is rest =
         rest (kept ++ c ∷ []) ∙ ap (λ b. b || list_any t cs) (any_push t kept c) ∙ or_move (list_any t kept) (t c) (list_any t cs)
 
-module _ (cs : List ChoiceKey) (well : AllByRecursion IsRising cs) where
+module _ (cs : List ChoiceKey) (well : AllByRecursion IsRisingChoice cs) where
   abbrev small : ChoiceKey → Bool
   small c = not (is_larger nat_eq cs c)
 
@@ -84,12 +84,12 @@ module _ (cs : List ChoiceKey) (well : AllByRecursion IsRising cs) where
           → (j : ℕ) × (y : ChoiceKey) × (slice_get (without_larger nat_eq cs) j ≡ Some y) × Within y x × (weight y ≤ weight x)
       by false is rest =
           let there = filter_has small cs i x at (ap not is) in
-          (there.0, x, there.1, within_itself x (each_at IsRising cs i x well at), omega arith)
+          (there.0, x, there.1, within_itself x (each_at IsRisingChoice cs i x well at), omega arith)
       by true is rest =
           let other = list_any_place (λ d. is_within nat_eq d x && not (same_choice nat_eq d x)) cs is in
           let parts = and_parts (is_within nat_eq other.1 x) (not (same_choice nat_eq other.1 x)) other.3 in
           let inside = within_is other.1 x parts.0 in
-          let less = lighter other.1 x (each_at IsRising cs other.0 other.1 well other.2) (each_at IsRising cs i x well at) inside (not-true (same_choice nat_eq other.1 x) parts.1) in
+          let less = lighter other.1 x (each_at IsRisingChoice cs other.0 other.1 well other.2) (each_at IsRisingChoice cs i x well at) inside (not-true (same_choice nat_eq other.1 x) parts.1) in
           let r = rest other.0 other.1 other.2 (omega arith) in
           (r.0, r.1, r.2, within_trans r.1 other.1 x r.3 inside, omega (arith, r.4, less))
 

@@ -17,8 +17,8 @@ use Rattle.ltl_formula.proofs.LtlOrderLaws.{tree_cmp_total, equal_trees}
 use Rattle.ltl_formula.proofs.IncreasingLemmas.{rises-union, each-union, any-union}
 use Rattle.obligations.specs.Choices.{most_choices, letter_bits, empty_choice, bit_choices, not_bit_choices, goes_on, puts_off, then_list, is_within, same_choice, without_repeats, is_larger, without_larger, reduced, formed, joined, joins, product}
 use Rattle.obligations.specs.Expansion.{ChoiceTree, same_formula, expansion_by, all_choices_by, any_choices_by, choices_from, expansion}
-use Rattle.obligations.specs.Numbers.{ChoiceKey, number_in, formula_named, choice_named, IsWell}
-use Rattle.obligations.specs.Obligations.{obligations, obligations_of_all, reachable, names_of}
+use Rattle.obligations.specs.Numbers.{ChoiceKey, formula_number, formula_named, choice_named, IsWell}
+use Rattle.obligations.specs.Obligations.{obligations, obligations_of_all, reachable, closure_of}
 use Rattle.obligations.proofs.FormulaNumbers.{is_named, numbered, same_itself, keeps_order, pointwise-named, subset-named}
 use Rattle.obligations.proofs.SetLemmas.{union-map}
 use Rattle.obligations.proofs.CubeJoins.{within_both}
@@ -227,20 +227,20 @@ module _ (names : List LtlTree) (rising : IsIncreasing tree_cmp names) where
 
   mutual
     pub expansion_agrees : (f : LtlTree) → AllByRecursion (λ g. is_named names g ≡ true) (obligations f)
-        → Agrees (expansion_by nat_eq nat_cmp (number_in names) f) (expansion f)
+        → Agrees (expansion_by nat_eq nat_cmp (formula_number names) f) (expansion f)
     expansion_agrees top has = (refl, (empty_well, tt))
     expansion_agrees bottom has = (refl, tt)
     expansion_agrees (bit b) has = bit_agree b
     expansion_agrees (not_bit b) has = not_bit_agree b
     expansion_agrees (conjunction fs) has = all_agree (empty_choice ∷ []) fs (empty_well, tt) has
     expansion_agrees (disjunction fs) has = any_agree [] fs tt has
-    expansion_agrees (next f) has = let n = numbered names f has.0 in goes_on_agree (number_in names f) f n.0 n.1
+    expansion_agrees (next f) has = let n = numbered names f has.0 in goes_on_agree (formula_number names f) f n.0 n.1
     expansion_agrees (until a b) has =
         let n = numbered names (until a b) has.0 in
-        let own = puts_off_agree (number_in names (until a b)) (until a b) n.0 n.1 in
+        let own = puts_off_agree (formula_number names (until a b)) (until a b) n.0 n.1 in
         then_agree _ _ _ _ (expansion_agrees b (each_right (λ g. is_named names g ≡ true) (obligations a) (obligations b) has.1)) (λ now well_now.
         then_agree _ _ _ _ (expansion_agrees a (each_left (λ g. is_named names g ≡ true) (obligations a) (obligations b) has.1)) (λ later well_later.
-        then_agree _ _ _ _ (with_own later (puts_off (number_in names (until a b)) ∷ []) (puts_off (until a b) ∷ []) well_later own) (λ put_off well_put_off.
+        then_agree _ _ _ _ (with_own later (puts_off (formula_number names (until a b)) ∷ []) (puts_off (until a b) ∷ []) well_later own) (λ put_off well_put_off.
         sum_agree now put_off well_now well_put_off)))
       where
         with_own : (later own : List ChoiceKey) (own_formulas : List ChoiceTree) → AreWell later → Agrees (Some own) (Some own_formulas)
@@ -250,10 +250,10 @@ module _ (names : List LtlTree) (rising : IsIncreasing tree_cmp names) where
             (product_agree later own well h.1)
     expansion_agrees (release a b) has =
         let n = numbered names (release a b) has.0 in
-        let own = goes_on_agree (number_in names (release a b)) (release a b) n.0 n.1 in
+        let own = goes_on_agree (formula_number names (release a b)) (release a b) n.0 n.1 in
         then_agree _ _ _ _ (expansion_agrees b (each_right (λ g. is_named names g ≡ true) (obligations a) (obligations b) has.1)) (λ held well_held.
         then_agree _ _ _ _ (expansion_agrees a (each_left (λ g. is_named names g ≡ true) (obligations a) (obligations b) has.1)) (λ freed well_freed.
-        then_agree _ _ _ _ (with_own freed (goes_on (number_in names (release a b)) ∷ []) (goes_on (release a b) ∷ []) well_freed own) (λ ends well_ends.
+        then_agree _ _ _ _ (with_own freed (goes_on (formula_number names (release a b)) ∷ []) (goes_on (release a b) ∷ []) well_freed own) (λ ends well_ends.
         product_agree held ends well_held well_ends)))
       where
         with_own : (freed own : List ChoiceKey) (own_formulas : List ChoiceTree) → AreWell freed → Agrees (Some own) (Some own_formulas)
@@ -263,7 +263,7 @@ module _ (names : List LtlTree) (rising : IsIncreasing tree_cmp names) where
             (sum_agree freed own well h.1)
 
     all_agree : (so_far : List ChoiceKey) (fs : LtlTrees) → AreWell so_far → AllByRecursion (λ g. is_named names g ≡ true) (obligations_of_all fs)
-        → Agrees (all_choices_by nat_eq nat_cmp (number_in names) so_far fs) (all_choices_by same_formula tree_cmp (λ f. f) (map named so_far) fs)
+        → Agrees (all_choices_by nat_eq nat_cmp (formula_number names) so_far fs) (all_choices_by same_formula tree_cmp (λ f. f) (map named so_far) fs)
     all_agree so_far no_formulas well has = (refl, well)
     all_agree so_far (more_formulas f fs) well has =
         then_agree _ _ _ _ (expansion_agrees f (each_left (λ g. is_named names g ≡ true) (obligations f) (obligations_of_all fs) has)) (λ cs well_cs.
@@ -271,7 +271,7 @@ module _ (names : List LtlTree) (rising : IsIncreasing tree_cmp names) where
         all_agree more fs well_more (each_right (λ g. is_named names g ≡ true) (obligations f) (obligations_of_all fs) has)))
 
     any_agree : (so_far : List ChoiceKey) (fs : LtlTrees) → AreWell so_far → AllByRecursion (λ g. is_named names g ≡ true) (obligations_of_all fs)
-        → Agrees (any_choices_by nat_eq nat_cmp (number_in names) so_far fs) (any_choices_by same_formula tree_cmp (λ f. f) (map named so_far) fs)
+        → Agrees (any_choices_by nat_eq nat_cmp (formula_number names) so_far fs) (any_choices_by same_formula tree_cmp (λ f. f) (map named so_far) fs)
     any_agree so_far no_formulas well has = (refl, well)
     any_agree so_far (more_formulas f fs) well has =
         then_agree _ _ _ _ (expansion_agrees f (each_left (λ g. is_named names g ≡ true) (obligations f) (obligations_of_all fs) has)) (λ cs well_cs.
@@ -281,7 +281,7 @@ module _ (names : List LtlTree) (rising : IsIncreasing tree_cmp names) where
   -- the choices of a set whose members and what they may leave have numbers
   pub choices_agree : (so_far : List ChoiceKey) (fs : List LtlTree) → AllByRecursion (IsWell names) so_far
       → AllByRecursion (λ f. AllByRecursion (λ g. is_named names g ≡ true) (obligations f)) fs
-      → Agrees (choices_from nat_eq nat_cmp (number_in names) so_far fs) (choices_from same_formula tree_cmp (λ f. f) (map (choice_named names) so_far) fs)
+      → Agrees (choices_from nat_eq nat_cmp (formula_number names) so_far fs) (choices_from same_formula tree_cmp (λ f. f) (map (choice_named names) so_far) fs)
   choices_agree so_far [] well has = (refl, well)
   choices_agree so_far (f ∷ fs) well has =
       then_agree _ _ _ _ (expansion_agrees f has.0) (λ cs well_cs.
@@ -307,11 +307,11 @@ split_reachable : (P : LtlTree → Type 0) (fs : List LtlTree) → AllByRecursio
 split_reachable P [] each = tt
 split_reachable P (f ∷ fs) each = ((each.0, each_left P (obligations f) (reachable fs) each.1), split_reachable P fs (each_right P (obligations f) (reachable fs) each.1))
 
-pub names_are_enough : (fs : List LtlTree) → AllByRecursion (λ f. AllByRecursion (λ g. is_named (names_of fs) g ≡ true) (obligations f)) fs
+pub names_are_enough : (fs : List LtlTree) → AllByRecursion (λ f. AllByRecursion (λ g. is_named (closure_of fs) g ≡ true) (obligations f)) fs
 names_are_enough fs =
-    each_weaker (λ f. (is_named (names_of fs) f ≡ true) × AllByRecursion (λ g. is_named (names_of fs) g ≡ true) (obligations f))
-    (λ f. AllByRecursion (λ g. is_named (names_of fs) g ≡ true) (obligations f)) (λ f both. both.1) fs
-    (split_reachable (λ g. is_named (names_of fs) g ≡ true) fs (names_have (reachable fs)))
+    each_weaker (λ f. (is_named (closure_of fs) f ≡ true) × AllByRecursion (λ g. is_named (closure_of fs) g ≡ true) (obligations f))
+    (λ f. AllByRecursion (λ g. is_named (closure_of fs) g ≡ true) (obligations f)) (λ f both. both.1) fs
+    (split_reachable (λ g. is_named (closure_of fs) g ≡ true) fs (names_have (reachable fs)))
 
-pub names_rise : (fs : List LtlTree) → IsIncreasing tree_cmp (names_of fs)
+pub names_rise : (fs : List LtlTree) → IsIncreasing tree_cmp (closure_of fs)
 names_rise fs = rises-union tree_cmp tree_cmp_total [] (reachable fs) tt

@@ -8,7 +8,7 @@ use Rattle.sequence.proofs.Passes.{list_any_place}
 use Rattle.std.proofs.Math.Bool.{and-or_distrib_right}
 use Rattle.std.proofs.lemmas.List.Folds.{list_any-append}
 use Rattle.obligations.specs.Choices.{same_choice, is_within, is_larger}
-use Rattle.obligations.specs.Numbers.{ChoiceKey, IsRising}
+use Rattle.obligations.specs.Numbers.{ChoiceKey, IsRisingChoice}
 use Rattle.obligations.specs.Rounds.{weight, is_kept, rounds, with_flags, flags_after}
 use Rattle.obligations.proofs.WithinLemmas.{within_is, is_within_key, within_trans, lighter, same_key_is}
 use Rattle.obligations.proofs.KeptChoices.{kept, any_at, any_filtered}
@@ -65,7 +65,7 @@ one_more n w = same_tests (nat_lt n (suc w)) (nat_lt n w || (n == w)) there back
         by true e k = let below = ltb-true n w e in lt-ltb n (suc w) (omega arith)
         by false e k = let same = eqb-true n w k in lt-ltb n (suc w) (omega arith)
 
-module _ (cs : List ChoiceKey) (well : AllByRecursion IsRising cs) where
+module _ (cs : List ChoiceKey) (well : AllByRecursion IsRisingChoice cs) where
   abbrev small : ChoiceKey → Bool
   small x = not (is_larger nat_eq cs x)
 
@@ -79,7 +79,7 @@ module _ (cs : List ChoiceKey) (well : AllByRecursion IsRising cs) where
           let other = list_any_place (λ d. is_within nat_eq d x && not (same_choice nat_eq d x)) cs is in
           let parts = and_parts (is_within nat_eq other.1 x) (not (same_choice nat_eq other.1 x)) other.3 in
           let inside = within_is other.1 x parts.0 in
-          let less = lighter other.1 x (each_at IsRising cs other.0 other.1 well other.2) (each_at IsRising cs i x well at) inside (not-true (same_choice nat_eq other.1 x) parts.1) in
+          let less = lighter other.1 x (each_at IsRisingChoice cs other.0 other.1 well other.2) (each_at IsRisingChoice cs i x well at) inside (not-true (same_choice nat_eq other.1 x) parts.1) in
           let r = kept cs well (suc (weight other.1)) other.0 other.1 other.2 (omega arith) in
           any_at (λ y. nat_lt (weight y) (weight x) && is_within nat_eq y x) (filter small cs) r.0 r.1 r.2
           (and_from (nat_lt (weight r.1) (weight x)) (is_within nat_eq r.1 x) (lt-ltb (weight r.1) (weight x) (omega (arith, r.4, less)))

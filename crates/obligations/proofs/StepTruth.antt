@@ -20,7 +20,7 @@ use Rattle.ltl_formula.specs.Cubes.{has_bit, cube_matches}
 use Rattle.ltl_formula.proofs.LtlOrderLaws.{equal_trees}
 use Rattle.ltl_formula.proofs.IncreasingLemmas.{all-union}
 use Rattle.obligations.specs.Choices.{is_subset, most_choices, joined, joins, product, formed, reduced, without_repeats}
-use Rattle.obligations.specs.Numbers.{ChoiceKey, formula_named, choice_named, IsWell, IsRising}
+use Rattle.obligations.specs.Numbers.{ChoiceKey, formula_named, choice_named, IsWell, IsRisingChoice}
 use Rattle.obligations.specs.StepLaw.{is_true_with}
 use Rattle.obligations.proofs.CubeJoins.{matches_left, matches_right, matches_both, matches_apart}
 use Rattle.obligations.proofs.WithinLemmas.{Within, subset_passes, rising as rising_of}
@@ -165,7 +165,7 @@ module _ (names : List LtlTree) (rising : IsIncreasing tree_cmp names) (letter :
 
   any_reduced : (cs : List ChoiceKey) → AreWell names rising cs → list_any t (reduced nat_eq cs) ≡ list_any t cs
   any_reduced cs each =
-      any_without_larger (without_repeats nat_eq cs) (each_weaker (IsWell names) IsRising (rising_of names) (without_repeats nat_eq cs) (repeats_well names rising cs each)) t down ∙ any_without_repeats t cs
+      any_without_larger (without_repeats nat_eq cs) (each_weaker (IsWell names) IsRisingChoice (rising_of names) (without_repeats nat_eq cs) (repeats_well names rising cs each)) t down ∙ any_without_repeats t cs
 
   -- a list that was formed is true exactly where it was before it was reduced
   pub of_formed : (cs r : List ChoiceKey) → AreWell names rising cs → formed nat_eq cs ≡ Some r → AreWell names rising r × (list_any t r ≡ list_any t cs)

@@ -8,8 +8,8 @@ use Rattle.std.proofs.lemmas.Bool.{ltb-true, lt-ltb, eqb-true, and_parts}
 use Rattle.sequence.proofs.Each.{each_joined, each_weaker}
 use Rattle.ltl_formula.specs.Increasing.{IsIncreasing}
 use Rattle.obligations.specs.declared.numbered.NumberedChoice.{NumberedChoice}
-use Rattle.obligations.specs.Numbers.{ChoiceKey, choice_key, choice_keys, IsRising}
-use Rattle.obligations.specs.Rounds.{weight, rises_after, rises, is_rising, flagged_members}
+use Rattle.obligations.specs.Numbers.{ChoiceKey, choice_key, choice_keys, IsRisingChoice}
+use Rattle.obligations.specs.Rounds.{weight, rises_after, numbers_rise, is_rising, flagged_members}
 
 module _ (cs : List NumberedChoice) (i : ℕ) (c : NumberedChoice) (within : i < length cs) (at : c ≡ get_or cs i c) where
   one_more_key : choice_keys (take (i + 1) cs) ≡ choice_keys (take i cs) ++ choice_key c ∷ []
@@ -38,16 +38,16 @@ above n (m ∷ ms) h =
     let rest = above m ms parts.1 in
     ((less, each_weaker (λ k. m < k) (λ k. n < k) (λ k j. omega arith) ms rest.0), (smaller m ms rest.0, rest.1))
 
-increasing : (ns : List ℕ) → rises ns ≡ true → IsIncreasing nat_cmp ns
+increasing : (ns : List ℕ) → numbers_rise ns ≡ true → IsIncreasing nat_cmp ns
 increasing [] h = tt
 increasing (n ∷ ns) h = let r = above n ns h in (smaller n ns r.0, r.1)
 
-pub all_rising : (cs : List ChoiceKey) → list_all is_rising cs ≡ true → AllByRecursion IsRising cs
+pub all_rising : (cs : List ChoiceKey) → list_all is_rising cs ≡ true → AllByRecursion IsRisingChoice cs
 all_rising [] h = tt
 all_rising (c ∷ cs) h =
     let parts = and_parts (is_rising c) (list_all is_rising cs) h in
-    let first = and_parts _ (rises c.next_set && rises c.postponed) parts.0 in
-    let sets = and_parts (rises c.next_set) (rises c.postponed) first.1 in
+    let first = and_parts _ (numbers_rise c.next_set && numbers_rise c.postponed) parts.0 in
+    let sets = and_parts (numbers_rise c.next_set) (numbers_rise c.postponed) first.1 in
     (record { within = eqb-true _ c.want first.0; next_rises = increasing c.next_set sets.0; postponed_rises = increasing c.postponed sets.1 }, all_rising cs parts.1)
 
 -- flags that a test tells leave the members that pass it

@@ -14,7 +14,7 @@ use Rattle.sequence.proofs.Booleans.{eqb_self}
 use Rattle.ltl_formula.specs.LtlTree.{LtlTree}
 use Rattle.ltl_formula.specs.Increasing.{IsIncreasing}
 use Rattle.obligations.specs.Choices.{is_subset, same_choice, is_within}
-use Rattle.obligations.specs.Numbers.{ChoiceKey, IsWell, IsRising}
+use Rattle.obligations.specs.Numbers.{ChoiceKey, IsWell, IsRisingChoice}
 use Rattle.obligations.specs.Rounds.{weight}
 
 -- a number whose bits are among those of another is it, or has fewer
@@ -175,13 +175,13 @@ within_trans x y z p q = record {
   postponed = subset_trans x.postponed y.postponed z.postponed p.postponed q.postponed;
 }
 
-pub rising : (names : List LtlTree) (c : ChoiceKey) → IsWell names c → IsRising c
+pub rising : (names : List LtlTree) (c : ChoiceKey) → IsWell names c → IsRisingChoice c
 rising names c p = record { within = p.within; next_rises = p.next_rises; postponed_rises = p.postponed_rises }
 
-pub within_itself : (c : ChoiceKey) → IsRising c → Within c c
+pub within_itself : (c : ChoiceKey) → IsRisingChoice c → Within c c
 within_itself c p = record { care = and_self c.care; want = p.within; next = subset_itself c.next_set; postponed = subset_itself c.postponed }
 
-pub lighter : (y x : ChoiceKey) → IsRising y → IsRising x → Within y x → same_choice nat_eq y x ≡ false → weight y < weight x
+pub lighter : (y x : ChoiceKey) → IsRisingChoice y → IsRisingChoice x → Within y x → same_choice nat_eq y x ≡ false → weight y < weight x
 lighter y x p q w different =
     by (fewer_bits y.care x.care w.care) (fewer_members y.next_set x.next_set p.next_rises q.next_rises w.next)
     (fewer_members y.postponed x.postponed p.postponed_rises q.postponed_rises w.postponed)

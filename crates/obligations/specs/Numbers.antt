@@ -26,12 +26,12 @@ abbrev pub lent_trees : List (Bor Ltl) → List LtlTree
 lent_trees fs = map (λ f. ltl_tree f.now) fs
 
 -- the number of a formula: how many stand before it in a list, and all where it is not there
-abbrev pub number_in : List LtlTree → LtlTree → ℕ
-number_in names f = prefix_len (λ g. not (same_formula g f)) names
+abbrev pub formula_number : List LtlTree → LtlTree → ℕ
+formula_number names f = prefix_len (λ g. not (same_formula g f)) names
 
 -- the expansion over numbers
 abbrev pub numbered_expansion : List LtlTree → LtlTree → Option (List ChoiceKey)
-numbered_expansion names f = expansion_by nat_eq nat_cmp (number_in names) f
+numbered_expansion names f = expansion_by nat_eq nat_cmp (formula_number names) f
 
 -- the formula with a number
 abbrev pub formula_named : List LtlTree → ℕ → LtlTree
@@ -55,7 +55,7 @@ pub record IsWell (names : List LtlTree) (c : ChoiceKey) : Type 0 where
   pub postponed_named : AllByRecursion (λ n. n < length names) c.postponed
 
 -- the cube wants no bit that it does not ask for, and both sets rise
-pub record IsRising (c : ChoiceKey) : Type 0 where
+pub record IsRisingChoice (c : ChoiceKey) : Type 0 where
   pub within : IsWithin c.care c.want
   pub next_rises : IsIncreasing nat_cmp c.next_set
   pub postponed_rises : IsIncreasing nat_cmp c.postponed

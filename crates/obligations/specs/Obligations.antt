@@ -27,5 +27,5 @@ reachable [] = []
 reachable (f ∷ fs) = (f ∷ obligations f) ++ reachable fs
 
 -- some formulas and what steps from them may leave, in order
-abbrev pub names_of : List LtlTree → List LtlTree
-names_of fs = union tree_cmp [] (reachable fs)
+abbrev pub closure_of : List LtlTree → List LtlTree
+closure_of fs = union tree_cmp [] (reachable fs)

@@ -45,13 +45,13 @@ abbrev pub rises_after : ℕ → List ℕ → Bool
 rises_after n [] = true
 rises_after n (m ∷ ms) = nat_lt n m && rises_after m ms
 
-abbrev pub rises : List ℕ → Bool
-rises [] = true
-rises (n ∷ ns) = rises_after n ns
+abbrev pub numbers_rise : List ℕ → Bool
+numbers_rise [] = true
+numbers_rise (n ∷ ns) = rises_after n ns
 
 -- whether a cube wants no bit that it does not ask for, and both sets rise
 abbrev pub is_rising : ChoiceKey → Bool
-is_rising c = (bit_and c.want c.care == c.want) && (rises c.next_set && rises c.postponed)
+is_rising c = (bit_and c.want c.care == c.want) && (numbers_rise c.next_set && numbers_rise c.postponed)
 
 -- the members of a list with flags that are set
 abbrev pub flagged_members : List ChoiceKey → List Bool → List ChoiceKey

@@ -13,8 +13,8 @@ abbrev pub is_true_with : ℕ → (LtlTree → Bool) → (LtlTree → Bool) → 
 is_true_with letter later test c = cube_matches c.care c.want letter && (list_all later c.next_set && list_all test c.postponed)
 
 -- at a position of a loop, whatever is put off
-abbrev pub is_true : LetterLoop → ℕ → ℕ → ChoiceTree → Bool
-is_true loop i letter c = is_true_with letter (λ f. holds loop f (after (shape_of loop) i)) (λ u. true) c
+abbrev pub is_true_choice : LetterLoop → ℕ → ℕ → ChoiceTree → Bool
+is_true_choice loop i letter c = is_true_with letter (λ f. holds loop f (after (shape_of loop) i)) (λ u. true) c
 
 -- whether an until is waited for at a position: its right side fails there, and it holds at the position after
 abbrev pub is_waited_for : LetterLoop → ℕ → LtlTree → Bool

@@ -5,7 +5,7 @@ ghost use Rattle.std.specs.Ordering.{nat_cmp};
 ghost use Rattle.ltl_formula.specs.LtlTree.{ltl_tree, ltl_trees};
 ghost use Rattle.obligations.specs.Choices.{formed, product, then_list, goes_on, puts_off, empty_choice, bit_choices, not_bit_choices};
 ghost use Rattle.obligations.specs.Expansion.{all_choices_by, any_choices_by, same_formula};
-ghost use Rattle.obligations.specs.Numbers.{choice_key, choice_keys, lent_trees, number_in, numbered_expansion};
+ghost use Rattle.obligations.specs.Numbers.{choice_key, choice_keys, lent_trees, formula_number, numbered_expansion};
 
 use crate::numbered::NumberedChoice;
 use crate::products::{product, sum};
@@ -26,7 +26,7 @@ fn is_same(left: &Ltl, right: &Ltl) -> bool
 
 /// How many formulas stand before the first one that is the same as this one.
 fn place_of(names: &[&Ltl], formula: &Ltl) -> usize
-    ensures place { result ≡ number_in (lent_trees names.now) (ltl_tree formula.now) }
+    ensures place { result ≡ formula_number (lent_trees names.now) (ltl_tree formula.now) }
     ensures within { result ≤ length names.now }
 {
     for (place, name) in names.iter().enumerate() {
@@ -40,7 +40,7 @@ fn place_of(names: &[&Ltl], formula: &Ltl) -> usize
 /// The number of a formula: its place among formulas, or their count where it is not there.
 pub fn number_of(names: &[&Ltl], formula: &Ltl) -> u32
     requires { length names.now < 2 ^ 32 }
-    ensures { result ≡ number_in (lent_trees names.now) (ltl_tree formula.now) }
+    ensures { result ≡ formula_number (lent_trees names.now) (ltl_tree formula.now) }
 {
     place_of(names, formula) as u32
 }
@@ -210,9 +210,9 @@ fn expand_all(
 ) -> Result<Vec<NumberedChoice>, StepError>
     requires { length names.now < 2 ^ 32 }
     ensures choices { IfOk result (λ list.
-        all_choices_by nat_eq nat_cmp (number_in (lent_trees names.now)) (empty_choice ∷ []) (ltl_trees formulas.now) ≡ Some (choice_keys list.items)) }
+        all_choices_by nat_eq nat_cmp (formula_number (lent_trees names.now)) (empty_choice ∷ []) (ltl_trees formulas.now) ≡ Some (choice_keys list.items)) }
     ensures many { IfErr result (λ e. e ≡ StepError.Choices →
-        all_choices_by nat_eq nat_cmp (number_in (lent_trees names.now)) (empty_choice ∷ []) (ltl_trees formulas.now) ≡ None) }
+        all_choices_by nat_eq nat_cmp (formula_number (lent_trees names.now)) (empty_choice ∷ []) (ltl_trees formulas.now) ≡ None) }
 {
     let mut so_far = literal(alloc, 0, 0)?;
     let mut rest = formulas;
@@ -233,9 +233,9 @@ fn expand_any(
 ) -> Result<Vec<NumberedChoice>, StepError>
     requires { length names.now < 2 ^ 32 }
     ensures choices { IfOk result (λ list.
-        any_choices_by nat_eq nat_cmp (number_in (lent_trees names.now)) [] (ltl_trees formulas.now) ≡ Some (choice_keys list.items)) }
+        any_choices_by nat_eq nat_cmp (formula_number (lent_trees names.now)) [] (ltl_trees formulas.now) ≡ Some (choice_keys list.items)) }
     ensures many { IfErr result (λ e. e ≡ StepError.Choices →
-        any_choices_by nat_eq nat_cmp (number_in (lent_trees names.now)) [] (ltl_trees formulas.now) ≡ None) }
+        any_choices_by nat_eq nat_cmp (formula_number (lent_trees names.now)) [] (ltl_trees formulas.now) ≡ None) }
 {
     let mut so_far = Vec::new(alloc);
     let mut rest = formulas;

@@ -5,7 +5,7 @@ ghost use Rattle.ltl_formula.specs.LtlTree.{ltl_tree, ltl_trees};
 ghost use Rattle.ltl_formula.specs.LtlOrder.{tree_cmp};
 ghost use Rattle.ltl_formula.specs.Increasing.{with_member, union};
 ghost use Rattle.obligations.specs.Numbers.{lent_trees};
-ghost use Rattle.obligations.specs.Obligations.{obligations, obligations_of_all, reachable, names_of};
+ghost use Rattle.obligations.specs.Obligations.{obligations, obligations_of_all, reachable, closure_of};
 
 use ltl_formula::{Ltl, LtlList, compare};
 use sequence::NoMemory;
@@ -89,7 +89,7 @@ fn add_formula<'a>(formula: &'a Ltl, names: &mut Vec<&'a Ltl>) -> Result<(), NoM
 
 /// A formula and what steps from it may leave, in order, each once. An `Err` says that memory ran out.
 pub fn names_of_formula(alloc: Global, formula: &Ltl) -> Result<Vec<&Ltl>, NoMemory>
-    ensures { IfOk result (λ names. lent_trees names.items ≡ names_of (ltl_tree formula.now ∷ [])) }
+    ensures { IfOk result (λ names. lent_trees names.items ≡ closure_of (ltl_tree formula.now ∷ [])) }
 {
     let mut names = Vec::new(alloc);
     add_formula(formula, &mut names)?;
@@ -100,7 +100,7 @@ pub fn names_of_formula(alloc: Global, formula: &Ltl) -> Result<Vec<&Ltl>, NoMem
 /// ran out.
 #[tactic(auto, using(crate::proofs::NamingLemmas::names_append))]
 pub fn names_of(alloc: Global, formulas: &[Ltl]) -> Result<Vec<&Ltl>, NoMemory>
-    ensures { IfOk result (λ names. lent_trees names.items ≡ names_of (map ltl_tree formulas.now)) }
+    ensures { IfOk result (λ names. lent_trees names.items ≡ closure_of (map ltl_tree formulas.now)) }
 {
     let mut names = Vec::new(alloc);
     for formula in formulas {

@@ -10,7 +10,7 @@ ghost use Rattle.std.specs.List.{list_all, AllByRecursion};
 ghost use Rattle.obligations.specs.Choices.{without_larger};
 ghost use Rattle.obligations.specs.Numbers.{choice_key, choice_keys};
 ghost use Rattle.std.specs.Prelude.{nat_eq};
-ghost use Rattle.obligations.specs.Rounds.{weight, has_within, is_kept, with_flags, flags_after, lent_keys, rises_after, rises, is_rising, flagged_members};
+ghost use Rattle.obligations.specs.Rounds.{weight, has_within, is_kept, with_flags, flags_after, lent_keys, rises_after, numbers_rise, is_rising, flagged_members};
 
 use crate::numbered::NumberedChoice;
 use crate::reducing::add_if;
@@ -129,7 +129,7 @@ fn rises_after(first: u32, numbers: &[u32]) -> bool
 
 /// Whether numbers rise.
 fn rises(numbers: &[u32]) -> bool
-    ensures { result ≡ rises numbers.now }
+    ensures { result ≡ numbers_rise numbers.now }
 {
     match numbers {
         [] => true,

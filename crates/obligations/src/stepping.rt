@@ -8,8 +8,8 @@ ghost use Rattle.ltl_formula.specs.LtlOrder.{tree_cmp};
 ghost use Rattle.ltl_formula.specs.Increasing.{IsIncreasing};
 ghost use Rattle.obligations.specs.Choices.{empty_choice};
 ghost use Rattle.obligations.specs.Expansion.{choices, choices_from, ChoiceTree};
-ghost use Rattle.obligations.specs.Numbers.{choice_key, choice_keys, lent_trees, number_in, choice_named, formula_named, IsWell};
-ghost use Rattle.obligations.specs.Obligations.{names_of};
+ghost use Rattle.obligations.specs.Numbers.{choice_key, choice_keys, lent_trees, formula_number, choice_named, formula_named, IsWell};
+ghost use Rattle.obligations.specs.Obligations.{closure_of};
 ghost use Rattle.obligations.specs.Chosen.{choice_tree, choice_trees};
 
 use crate::expanding::{expand, literal};
@@ -41,9 +41,9 @@ fn numbered_choices(
 ) -> Result<Vec<NumberedChoice>, StepError>
     requires { length names.now < 2 ^ 32 }
     ensures choices { IfOk result (λ list.
-        choices_from nat_eq nat_cmp (number_in (lent_trees names.now)) (empty_choice ∷ []) (map ltl_tree members.now) ≡ Some (choice_keys list.items)) }
+        choices_from nat_eq nat_cmp (formula_number (lent_trees names.now)) (empty_choice ∷ []) (map ltl_tree members.now) ≡ Some (choice_keys list.items)) }
     ensures many { IfErr result (λ e. e ≡ StepError.Choices →
-        choices_from nat_eq nat_cmp (number_in (lent_trees names.now)) (empty_choice ∷ []) (map ltl_tree members.now) ≡ None) }
+        choices_from nat_eq nat_cmp (formula_number (lent_trees names.now)) (empty_choice ∷ []) (map ltl_tree members.now) ≡ None) }
 {
     let mut so_far = literal(alloc, 0, 0)?;
     for member in members {
@@ -88,7 +88,7 @@ fn choices_of(
 
 /// The choices of formulas whose names are given.
 fn step_with(alloc: Global, members: &[Ltl], names: &[&Ltl]) -> Result<Vec<Choice>, StepError>
-    requires { lent_trees names.now ≡ names_of (map ltl_tree members.now) }
+    requires { lent_trees names.now ≡ closure_of (map ltl_tree members.now) }
     ensures choices { IfOk result (λ made. choices (map ltl_tree members.now) ≡ Some (choice_trees made.items)) }
     ensures many { IfErr result (λ e. e ≡ StepError.Choices → choices (map ltl_tree members.now) ≡ None) }
 {
