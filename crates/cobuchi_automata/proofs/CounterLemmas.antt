@@ -1,6 +1,6 @@
 -- The counter passes its last until: where each until is free of postponement within so many steps from anywhere, it does so
 -- as often as one likes, each time within that many steps for each until and one more.
-use Rattle.std.proofs.Common.{◌≡◌, ◌∙◌, ℕ, zero, suc, ◌+◌, ◌-◌, ◌*◌, ◌<◌, ◌≤◌, ◌⊎◌, inl, inr, Bool, true, false, cond, ◌==◌, refl, sym, ap, arith, true≢false, add-zero, add-suc, suc-mul}
+use Rattle.std.proofs.Common.{◌≡◌, ◌∙◌, ℕ, zero, suc, ◌+◌, ◌-◌, ◌*◌, ◌<◌, ◌≤◌, ◌⊎◌, inl, inr, Bool, true, false, cond, refl, sym, ap, arith, true≢false, add-zero, add-suc, suc-mul}
 use Rattle.std.proofs.lemmas.Bool.{eqb-false}
 use Rattle.cobuchi_automata.specs.Counters.{risen, passes_last, advanced}
 

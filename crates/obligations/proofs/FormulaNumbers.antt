@@ -9,6 +9,7 @@ use Rattle.std.specs.Ordering.{nat_cmp, is_eq}
 use Rattle.std.proofs.lemmas.Bool.{ltb-true, eqb-true, false≢true}
 use Rattle.std.proofs.lemmas.Cmp.{tied_itself}
 use Rattle.sequence.proofs.Places.{slice_get_some}
+use Rattle.obligations.specs.internal.Named.{formula_named}
 use Rattle.ltl_formula.specs.LtlTree.{LtlTree, top}
 use Rattle.ltl_formula.specs.LtlOrder.{tree_cmp}
 use Rattle.ltl_formula.specs.Increasing.{IsIncreasing}
@@ -16,7 +17,7 @@ use Rattle.ltl_formula.proofs.LtlOrderLaws.{tree_cmp_total, equal_trees}
 use Rattle.ltl_formula.proofs.Places.{by_place}
 use Rattle.obligations.specs.Choices.{is_subset}
 use Rattle.obligations.specs.Expansion.{same_formula}
-use Rattle.obligations.specs.Numbers.{formula_number, formula_named}
+use Rattle.obligations.specs.Numbers.{formula_number}
 
 is_eq_nat : (m n : ℕ) → is_eq (nat_cmp m n) ≡ nat_eq m n
 is_eq_nat m n = by (nat_lt m n) (m == n) refl refl

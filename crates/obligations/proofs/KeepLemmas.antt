@@ -2,7 +2,7 @@
 use Rattle.std.proofs.Common.{◌≡◌, ◌∙◌, ℕ, zero, suc, ◌<◌, ◌≤◌, Bool, true, false, cond, not, ◌||◌, ◌==◌, List, [], ◌∷◌, ◌++◌, map, filter, drop, length, get_or, slice_set, if◌then◌else◌, Bor, refl, sym, ap, arith, append_assoc, eq-eqb}
 use Rattle.obligations.specs.declared.numbered.NumberedChoice.{NumberedChoice}
 use Rattle.obligations.specs.Numbers.{ChoiceKey, choice_key, choice_keys}
-use Rattle.obligations.specs.Rounds.{weight, lent_keys, has_within, is_kept, with_flags, rounds, flags_after}
+use Rattle.obligations.specs.internal.Rounds.{weight, lent_keys, has_within, is_kept, with_flags, rounds, flags_after}
 
 pub weight_at : (cs : List NumberedChoice) (ws : List ℕ) (i : ℕ) (c : NumberedChoice) → ws ≡ map weight (choice_keys cs) → i < length cs → c ≡ get_or cs i c → get_or ws i 0 ≡ weight (choice_key c)
 weight_at cs ws i c is within at = rw is (by cs i within at)

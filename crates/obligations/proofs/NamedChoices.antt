@@ -10,6 +10,7 @@ use Rattle.sequence.specs.Kept.{with_new}
 use Rattle.std.proofs.lemmas.Bool.{or_right}
 use Rattle.std.proofs.lemmas.Option.{same_Some}
 use Rattle.sequence.proofs.Each.{each_joined, each_filtered, each_left, each_right, each_weaker}
+use Rattle.obligations.specs.internal.Named.{formula_named, choice_named, IsWell}
 use Rattle.ltl_formula.specs.LtlTree.{LtlTree, LtlTrees, top, bottom, bit, not_bit, conjunction, disjunction, next, until, release, no_formulas, more_formulas}
 use Rattle.ltl_formula.specs.LtlOrder.{tree_cmp}
 use Rattle.ltl_formula.specs.Increasing.{IsIncreasing, union}
@@ -17,7 +18,7 @@ use Rattle.ltl_formula.proofs.LtlOrderLaws.{tree_cmp_total, equal_trees}
 use Rattle.ltl_formula.proofs.IncreasingLemmas.{rises-union, each-union, any-union}
 use Rattle.obligations.specs.Choices.{most_choices, letter_bits, empty_choice, bit_choices, not_bit_choices, goes_on, puts_off, then_list, is_within, same_choice, without_repeats, is_larger, without_larger, reduced, formed, joined, joins, product}
 use Rattle.obligations.specs.Expansion.{ChoiceTree, same_formula, expansion_by, all_choices_by, any_choices_by, choices_from, expansion}
-use Rattle.obligations.specs.Numbers.{ChoiceKey, formula_number, formula_named, choice_named, IsWell}
+use Rattle.obligations.specs.Numbers.{ChoiceKey, formula_number}
 use Rattle.obligations.specs.Obligations.{obligations, obligations_of_all, reachable, closure_of}
 use Rattle.obligations.proofs.FormulaNumbers.{is_named, numbered, same_itself, keeps_order, pointwise-named, subset-named}
 use Rattle.obligations.proofs.SetLemmas.{union-map}

@@ -1,5 +1,5 @@
 -- The flags after all rounds are those of the choices that no different one lies within.
-use Rattle.std.proofs.Common.{◌≡◌, ◌∙◌, ℕ, zero, suc, ◌<◌, Bool, true, false, cond, not, ◌&&◌, ◌||◌, ◌==◌, List, [], ◌∷◌, ◌++◌, map, filter, nat_lt, nat_eq, slice_get, Some, refl, sym, ap, arith, eq-eqb}
+use Rattle.std.proofs.Common.{◌≡◌, ◌∙◌, ℕ, zero, suc, ◌<◌, Bool, true, false, cond, not, ◌&&◌, ◌||◌, ◌==◌, List, [], ◌∷◌, map, filter, nat_lt, nat_eq, slice_get, Some, refl, sym, ap, arith, eq-eqb}
 use Rattle.std.specs.List.{list_any, AllByRecursion}
 use Rattle.std.proofs.lemmas.Bool.{lt-ltb, le-ltb, ltb-true, ltb-false, eqb-true, and_parts, and_from, not-true}
 use Rattle.sequence.proofs.Booleans.{same_tests}
@@ -7,9 +7,10 @@ use Rattle.sequence.proofs.Each.{each_at, each_from_places}
 use Rattle.sequence.proofs.Passes.{list_any_place}
 use Rattle.std.proofs.Math.Bool.{and-or_distrib_right}
 use Rattle.std.proofs.lemmas.List.Folds.{list_any-append}
+use Rattle.obligations.specs.internal.Named.{IsRisingChoice}
 use Rattle.obligations.specs.Choices.{same_choice, is_within, is_larger}
-use Rattle.obligations.specs.Numbers.{ChoiceKey, IsRisingChoice}
-use Rattle.obligations.specs.Rounds.{weight, is_kept, rounds, with_flags, flags_after}
+use Rattle.obligations.specs.Numbers.{ChoiceKey}
+use Rattle.obligations.specs.internal.Rounds.{weight, is_kept, rounds, with_flags, flags_after}
 use Rattle.obligations.proofs.WithinLemmas.{within_is, is_within_key, within_trans, lighter, same_key_is}
 use Rattle.obligations.proofs.KeptChoices.{kept, any_at, any_filtered}
 

@@ -10,6 +10,7 @@ use Rattle.std.proofs.lemmas.Bool.{ltb-false}
 use Rattle.sequence.proofs.Each.{each_left, each_right}
 use Rattle.sequence.proofs.Passes.{list_any-map}
 use Rattle.std.proofs.Math.Bool.{or-false, and-true, and_assoc, or_assoc}
+use Rattle.obligations.specs.internal.Named.{formula_named, choice_named}
 use Rattle.loop_shape.specs.LoopShape.{IsPosition, after}
 use Rattle.loop_shape.proofs.Untils.{until_unrolls}
 use Rattle.loop_shape.proofs.Words.{release_unrolls}
@@ -20,7 +21,7 @@ use Rattle.ltl_formula.specs.LetterLoop.{LetterLoop, shape_of, letter_at, bit_ho
 use Rattle.ltl_formula.specs.Cubes.{has_bit, cube_matches}
 use Rattle.obligations.specs.Choices.{letter_bits, empty_choice, bit_choices, not_bit_choices, goes_on, puts_off, then_list, formed, product}
 use Rattle.obligations.specs.Expansion.{ChoiceTree, expansion_by, all_choices_by, any_choices_by, choices_from, expansion, choices}
-use Rattle.obligations.specs.Numbers.{ChoiceKey, formula_number, formula_named, choice_named}
+use Rattle.obligations.specs.Numbers.{ChoiceKey, formula_number}
 use Rattle.obligations.specs.Obligations.{obligations, obligations_of_all, closure_of}
 use Rattle.obligations.specs.StepLaw.{is_true_with, is_true_choice, is_waited_for, is_good}
 use Rattle.obligations.proofs.FormulaNumbers.{is_named, numbered}

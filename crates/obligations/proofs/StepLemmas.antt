@@ -2,12 +2,13 @@
 use Rattle.std.proofs.Common.{◌≡◌, ℕ, ◌<◌, length, true, nat_eq, List, [], ◌∷◌, map, Some, None, sym, subst}
 use Rattle.std.specs.List.{AllByRecursion}
 use Rattle.std.specs.Ordering.{nat_cmp}
+use Rattle.obligations.specs.internal.Named.{formula_named, choice_named, IsWell}
 use Rattle.ltl_formula.specs.LtlTree.{LtlTree}
 use Rattle.ltl_formula.specs.LtlOrder.{tree_cmp}
 use Rattle.ltl_formula.specs.Increasing.{IsIncreasing}
 use Rattle.obligations.specs.Choices.{empty_choice}
 use Rattle.obligations.specs.Expansion.{choices_from, choices}
-use Rattle.obligations.specs.Numbers.{ChoiceKey, formula_number, formula_named, choice_named, IsWell}
+use Rattle.obligations.specs.Numbers.{ChoiceKey, formula_number}
 use Rattle.obligations.specs.Obligations.{obligations, closure_of}
 use Rattle.obligations.proofs.FormulaNumbers.{is_named, rises-named}
 use Rattle.obligations.proofs.NamedChoices.{Agrees, choices_agree, empty_well, names_are_enough, names_rise}

@@ -13,6 +13,7 @@ use Rattle.sequence.proofs.Booleans.{same_tests}
 use Rattle.sequence.proofs.Each.{each_joined, each_weaker}
 use Rattle.std.proofs.Math.Bool.{and-false, and-or_distrib_left, and-or_distrib_right}
 use Rattle.std.proofs.lemmas.List.Folds.{list_any-append}
+use Rattle.obligations.specs.internal.Named.{formula_named, choice_named, IsWell, IsRisingChoice}
 use Rattle.ltl_formula.specs.LtlTree.{LtlTree}
 use Rattle.ltl_formula.specs.LtlOrder.{tree_cmp}
 use Rattle.ltl_formula.specs.Increasing.{IsIncreasing}
@@ -20,7 +21,7 @@ use Rattle.ltl_formula.specs.Cubes.{has_bit, cube_matches}
 use Rattle.ltl_formula.proofs.LtlOrderLaws.{equal_trees}
 use Rattle.ltl_formula.proofs.IncreasingLemmas.{all-union}
 use Rattle.obligations.specs.Choices.{is_subset, most_choices, joined, joins, product, formed, reduced, without_repeats}
-use Rattle.obligations.specs.Numbers.{ChoiceKey, formula_named, choice_named, IsWell, IsRisingChoice}
+use Rattle.obligations.specs.Numbers.{ChoiceKey}
 use Rattle.obligations.specs.StepLaw.{is_true_with}
 use Rattle.obligations.proofs.CubeJoins.{matches_left, matches_right, matches_both, matches_apart}
 use Rattle.obligations.proofs.WithinLemmas.{Within, subset_passes, rising as rising_of}

@@ -4,4 +4,4 @@ pub mod Numbers
 pub mod Obligations
 pub mod Chosen
 pub mod StepLaw
-pub mod Rounds
+pub mod internal

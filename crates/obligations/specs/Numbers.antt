@@ -1,15 +1,13 @@
 -- Choices over the numbers of formulas, as they lie in memory and without where they lie.
-use Rattle.std.specs.Prelude.{ℕ, ◌<◌, not, List, map, length, nat_eq, slice_get, Option, unwrap_or}
+use Rattle.std.specs.Prelude.{ℕ, not, List, map, nat_eq, Option}
 use Rattle.std.specs.Borrow.{Bor}
-use Rattle.std.specs.List.{prefix_len, AllByRecursion}
+use Rattle.std.specs.List.{prefix_len}
 use Rattle.std.specs.Ordering.{nat_cmp}
 use Rattle.ltl_formula.specs.declared.formula.Ltl.{Ltl}
-use Rattle.ltl_formula.specs.LtlTree.{LtlTree, top, ltl_tree}
-use Rattle.ltl_formula.specs.Increasing.{IsIncreasing}
-use Rattle.ltl_formula.specs.Cubes.{IsWithin}
+use Rattle.ltl_formula.specs.LtlTree.{LtlTree, ltl_tree}
 use Rattle.obligations.specs.declared.numbered.NumberedChoice.{NumberedChoice}
 use Rattle.obligations.specs.Choices.{ChoiceOf}
-use Rattle.obligations.specs.Expansion.{expansion_by, same_formula, ChoiceTree}
+use Rattle.obligations.specs.Expansion.{expansion_by, same_formula}
 
 -- a choice over numbers
 abbrev pub ChoiceKey : Type 0
@@ -32,30 +30,3 @@ formula_number names f = prefix_len (λ g. not (same_formula g f)) names
 -- the expansion over numbers
 abbrev pub numbered_expansion : List LtlTree → LtlTree → Option (List ChoiceKey)
 numbered_expansion names f = expansion_by nat_eq nat_cmp (formula_number names) f
-
--- the formula with a number
-abbrev pub formula_named : List LtlTree → ℕ → LtlTree
-formula_named names n = unwrap_or (slice_get names n) top
-
--- a choice over numbers as a choice of formulas
-abbrev pub choice_named : List LtlTree → ChoiceKey → ChoiceTree
-choice_named names c = record {
-  care = c.care;
-  want = c.want;
-  next_set = map (formula_named names) c.next_set;
-  postponed = map (formula_named names) c.postponed;
-}
-
--- the cube wants no bit that it does not ask for, and both sets rise and have numbers of formulas
-pub record IsWell (names : List LtlTree) (c : ChoiceKey) : Type 0 where
-  pub within : IsWithin c.care c.want
-  pub next_rises : IsIncreasing nat_cmp c.next_set
-  pub next_named : AllByRecursion (λ n. n < length names) c.next_set
-  pub postponed_rises : IsIncreasing nat_cmp c.postponed
-  pub postponed_named : AllByRecursion (λ n. n < length names) c.postponed
-
--- the cube wants no bit that it does not ask for, and both sets rise
-pub record IsRisingChoice (c : ChoiceKey) : Type 0 where
-  pub within : IsWithin c.care c.want
-  pub next_rises : IsIncreasing nat_cmp c.next_set
-  pub postponed_rises : IsIncreasing nat_cmp c.postponed

@@ -10,7 +10,7 @@ ghost use Rattle.std.specs.List.{list_all, AllByRecursion};
 ghost use Rattle.obligations.specs.Choices.{without_larger};
 ghost use Rattle.obligations.specs.Numbers.{choice_key, choice_keys};
 ghost use Rattle.std.specs.Prelude.{nat_eq};
-ghost use Rattle.obligations.specs.Rounds.{weight, has_within, is_kept, with_flags, flags_after, lent_keys, rises_after, numbers_rise, is_rising, flagged_members};
+ghost use Rattle.obligations.specs.internal.Rounds.{weight, has_within, is_kept, with_flags, flags_after, lent_keys, rises_after, numbers_rise, is_rising, flagged_members};
 
 use crate::numbered::NumberedChoice;
 use crate::reducing::add_if;

@@ -1,7 +1,7 @@
 use Rattle.std.proofs.Common.{◌≡◌, drop}
 use Rattle.std.specs.List.{list_all}
 use Rattle.obligations.specs.Numbers.{choice_keys}
-use Rattle.obligations.specs.Rounds.{is_rising}
+use Rattle.obligations.specs.internal.Rounds.{is_rising}
 use Rattle.obligations.proofs.rounds.are_rising.Given as goal
 
 -- the choices gone through rise

@@ -1,6 +1,6 @@
 use Rattle.std.proofs.Common.{◌≡◌, ◌++◌, drop}
 use Rattle.obligations.specs.Numbers.{choice_keys}
-use Rattle.obligations.specs.Rounds.{flagged_members}
+use Rattle.obligations.specs.internal.Rounds.{flagged_members}
 use Rattle.obligations.proofs.rounds.copy_flagged.Given as goal
 
 -- the copies so far, and then the choices that are left and flagged

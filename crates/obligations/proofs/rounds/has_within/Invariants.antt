@@ -1,6 +1,6 @@
 use Rattle.std.proofs.Common.{◌≡◌, drop}
 use Rattle.obligations.specs.Numbers.{choice_key}
-use Rattle.obligations.specs.Rounds.{has_within, lent_keys}
+use Rattle.obligations.specs.internal.Rounds.{has_within, lent_keys}
 use Rattle.obligations.proofs.rounds.has_within.Given as goal
 
 -- none of the choices gone through lies within it

@@ -1,5 +1,5 @@
 use Rattle.obligations.specs.Numbers.{choice_key}
-use Rattle.obligations.specs.Rounds.{lent_keys}
+use Rattle.obligations.specs.internal.Rounds.{lent_keys}
 use Rattle.obligations.proofs.KeepLemmas.{kept_by}
 use Rattle.obligations.proofs.rounds.is_kept.Goals as goal
 

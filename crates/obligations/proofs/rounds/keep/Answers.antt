@@ -1,7 +1,7 @@
 use Rattle.std.proofs.Common.{◌≡◌, ◌∙◌, ◌||◌, false, get_or, length, arith, add-one, sym, ap}
 use Rattle.std.proofs.Math.ListN.{length-set}
 use Rattle.obligations.specs.Numbers.{choice_keys}
-use Rattle.obligations.specs.Rounds.{lent_keys, is_kept}
+use Rattle.obligations.specs.internal.Rounds.{lent_keys, is_kept}
 use Rattle.obligations.proofs.KeepLemmas.{weight_at, flags_step, flags_end, found_step, length-keys}
 use Rattle.obligations.proofs.rounds.keep.Goals as goal
 

@@ -1,6 +1,6 @@
 use Rattle.std.proofs.Common.{◌≡◌, ◌++◌, drop, filter, length}
 use Rattle.obligations.specs.Numbers.{choice_keys}
-use Rattle.obligations.specs.Rounds.{lent_keys, is_kept, with_flags}
+use Rattle.obligations.specs.internal.Rounds.{lent_keys, is_kept, with_flags}
 use Rattle.obligations.proofs.rounds.keep.Given as goal
 
 abbrev pub invariant-loop-place : goal.invariant-loop-place

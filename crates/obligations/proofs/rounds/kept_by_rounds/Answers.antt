@@ -1,7 +1,7 @@
 use Rattle.std.proofs.Common.{◌∙◌, not, nat_eq, ap}
 use Rattle.obligations.specs.Choices.{is_larger}
 use Rattle.obligations.specs.Numbers.{choice_keys}
-use Rattle.obligations.specs.Rounds.{flags_after, flagged_members}
+use Rattle.obligations.specs.internal.Rounds.{flags_after, flagged_members}
 use Rattle.obligations.proofs.RoundsLemmas.{flags_tell}
 use Rattle.obligations.proofs.WeightLemmas.{all_rising, flagged_is}
 use Rattle.obligations.proofs.rounds.kept_by_rounds.Goals as goal

@@ -1,5 +1,5 @@
 use Rattle.std.proofs.Common.{◌≡◌, drop}
-use Rattle.obligations.specs.Rounds.{rises_after}
+use Rattle.obligations.specs.internal.Rounds.{rises_after}
 use Rattle.obligations.proofs.rounds.rises_after.Given as goal
 
 -- the numbers gone through rise

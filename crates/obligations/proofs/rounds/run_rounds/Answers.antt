@@ -1,5 +1,5 @@
 use Rattle.std.proofs.Common.{◌∙◌, add-one, ap, refl}
-use Rattle.obligations.specs.Rounds.{lent_keys}
+use Rattle.obligations.specs.internal.Rounds.{lent_keys}
 use Rattle.obligations.proofs.KeepLemmas.{lighter_step, round_step}
 use Rattle.obligations.proofs.rounds.run_rounds.Goals as goal
 

@@ -1,6 +1,6 @@
 use Rattle.std.proofs.Common.{◌≡◌, length}
 use Rattle.obligations.specs.Numbers.{choice_keys}
-use Rattle.obligations.specs.Rounds.{lent_keys, rounds, flags_after}
+use Rattle.obligations.specs.internal.Rounds.{lent_keys, rounds, flags_after}
 use Rattle.obligations.proofs.rounds.run_rounds.Given as goal
 
 abbrev pub invariant-loop-round : goal.invariant-loop-round

@@ -1,7 +1,7 @@
 use Rattle.std.proofs.Common.{◌≡◌, ◌+◌, ◌<◌, ◌≤◌, ◌^◌, map, take}
 use Rattle.std.specs.List.{AllByRecursion}
 use Rattle.obligations.specs.Numbers.{choice_keys}
-use Rattle.obligations.specs.Rounds.{weight}
+use Rattle.obligations.specs.internal.Rounds.{weight}
 use Rattle.obligations.proofs.rounds.weights_of.Given as goal
 
 -- the weights of the choices gone through, below the bound

@@ -1,6 +1,7 @@
 use Rattle.std.proofs.Common.{◌≡◌, ◌++◌, drop, map}
+use Rattle.obligations.specs.internal.Named.{formula_named}
 use Rattle.ltl_formula.specs.LtlTree.{ltl_tree}
-use Rattle.obligations.specs.Numbers.{lent_trees, formula_named}
+use Rattle.obligations.specs.Numbers.{lent_trees}
 use Rattle.obligations.proofs.set.set_named.Given as goal
 
 -- the formulas so far, and then those of the numbers that are left
