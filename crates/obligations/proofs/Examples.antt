@@ -1,7 +1,7 @@
 -- Worked examples of expansions.
 use Rattle.std.specs.Prelude.{◌≡◌, Some, [], ◌∷◌, refl}
 use Rattle.ltl_formula.specs.LtlTree.{LtlTree, top, bottom, bit, not_bit, conjunction, disjunction, until, release, no_formulas, more_formulas}
-use Rattle.obligations.specs.Choices.{empty_choice}
+use Rattle.obligations.specs.Choices.{empty_choice, most_choices}
 use Rattle.obligations.specs.Expansion.{choices}
 
 -- an until: now, or put off
@@ -41,3 +41,7 @@ of_response = refl
 -- a letter has no bit 64
 of_high_bit : choices (bit 64 ∷ []) ≡ Some []
 of_high_bit = refl
+
+-- how many choices a list may have
+most : most_choices ≡ 65536
+most = refl

@@ -2,16 +2,19 @@
 
 use sequence::NoMemory;
 use std::alloc::AllocFailed;
+use thiserror::Error;
 
 /// How many choices a list may have.
 pub const MOST_CHOICES: usize = 65_536;
 
 /// Why a set has no choices.
-#[derive(Debug, PartialEq, Eq, Clone, Copy)]
+#[derive(Clone, Copy, Debug, PartialEq, Eq, Error)]
 pub enum StepError {
     /// A list that is formed on the way has more than 65,536 members before it is reduced.
+    #[error("there are more than 65536 choices")]
     Choices,
     /// Memory ran out.
+    #[error("out of memory")]
     NoMemory,
 }
 

@@ -1,6 +1,6 @@
 //! How many choices a list may have, and that memory does not run out where there is ample.
 
-use crate::{Set, StepError, step};
+use crate::{MOST_CHOICES, Set, StepError, step};
 use ltl_formula::{Ltl, LtlList};
 use std::alloc::Global;
 use std::test::Fail;
@@ -33,6 +33,12 @@ fn count_of(alloc: Global, formula: &Ltl) -> Result<Option<usize>, Fail> {
         Err(StepError::Choices) => Ok(None),
         Err(StepError::NoMemory) => Err("memory ran out".into()),
     }
+}
+
+#[test]
+fn a_list_has_at_most_65536_choices(rt: HostRuntime) -> Result<(), Fail> {
+    assert_eq!(rt; MOST_CHOICES, 65_536);
+    Ok(())
 }
 
 #[test]
