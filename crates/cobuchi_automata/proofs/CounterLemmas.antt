@@ -1,6 +1,7 @@
 -- The counter passes its last until: where each until is free of postponement within so many steps from anywhere, it does so
 -- as often as one likes, each time within that many steps for each until and one more.
-use Rattle.std.proofs.Common.{◌≡◌, ◌∙◌, ℕ, zero, suc, ◌+◌, ◌-◌, ◌*◌, ◌<◌, ◌≤◌, ◌⊎◌, inl, inr, Bool, true, false, cond, refl, sym, ap, arith, true≢false, add-zero, add-suc, suc-mul}
+use Rattle.std.proofs.Common.{◌≡◌, ◌∙◌, ℕ, zero, suc, ◌+◌, ◌-◌, ◌*◌, ◌<◌, ◌≤◌, ◌⊎◌, inl, inr, Bool, true, false, cond, refl, sym, ap, arith}
+use Rattle.std.proofs.Common.{true≢false, add-zero, add-suc, suc-mul}
 use Rattle.std.proofs.lemmas.Bool.{eqb-false}
 use Rattle.cobuchi_automata.specs.Counters.{risen, passes_last, advanced}
 
@@ -24,7 +25,8 @@ rises : (p : ℕ → Bool) (room c : ℕ) → (c ≤ risen p room c) × (risen p
 rises p zero c = (omega arith, omega arith)
 rises p (suc room) c = by (p c) (rises p room (suc c))
   where
-    by : (b : Bool) → (suc c ≤ risen p room (suc c)) × (risen p room (suc c) ≤ suc c + room) → (c ≤ cond b c (risen p room (suc c))) × (cond b c (risen p room (suc c)) ≤ c + suc room)
+    by : (b : Bool) → (suc c ≤ risen p room (suc c)) × (risen p room (suc c) ≤ suc c + room) →
+        (c ≤ cond b c (risen p room (suc c))) × (cond b c (risen p room (suc c)) ≤ c + suc room)
     by true r = (omega arith, omega arith)
     by false r = (omega arith, omega arith)
 
@@ -33,7 +35,8 @@ moves : (p : ℕ → Bool) (room c : ℕ) → 0 < room → ((p c ≡ true) × (r
 moves p zero c h = absurd (omega arith)
 moves p (suc room) c h = by (p c) refl
   where
-    by : (b : Bool) → p c ≡ b → ((p c ≡ true) × (cond (p c) c (risen p room (suc c)) ≡ c)) ⊎ ((p c ≡ false) × (c < cond (p c) c (risen p room (suc c))))
+    by : (b : Bool) → p c ≡ b → ((p c ≡ true) × (cond (p c) c (risen p room (suc c)) ≡ c))
+        ⊎ ((p c ≡ false) × (c < cond (p c) c (risen p room (suc c))))
     by true e = inl (e, rw e refl)
     by false e = let up = (rises p room (suc c)).0 in inr (e, rw e (omega arith))
 
@@ -44,7 +47,8 @@ Step untils postponed counter t =
     ⊎ ((counter t < untils) × (postponed t (counter t) ≡ true) × (counter (suc t) ≡ counter t))
     ⊎ ((counter t < counter (suc t)) × (counter (suc t) ≤ untils))
 
-module _ (untils wait : ℕ) (postponed : ℕ → ℕ → Bool) (counter : ℕ → ℕ) (run : IsRun untils postponed counter) (free : IsFreeWithin untils wait postponed) where
+module _ (untils wait : ℕ) (postponed : ℕ → ℕ → Bool) (counter : ℕ → ℕ) (run : IsRun untils postponed counter)
+    (free : IsFreeWithin untils wait postponed) where
   abbrev reached : ℕ → ℕ
   reached t = risen (postponed t) (untils - counter t) (counter t)
 
@@ -60,8 +64,10 @@ module _ (untils wait : ℕ) (postponed : ℕ → ℕ → Bool) (counter : ℕ �
           let room : 0 < untils - counter t = omega arith in
           on new range room (moves (postponed t) (untils - counter t) (counter t) room)
         where
-          on : counter (suc t) ≡ reached t → (counter t ≤ reached t) × (reached t ≤ counter t + (untils - counter t)) → 0 < untils - counter t
-              → ((postponed t (counter t) ≡ true) × (reached t ≡ counter t)) ⊎ ((postponed t (counter t) ≡ false) × (counter t < reached t)) → Step untils postponed counter t
+          on : counter (suc t) ≡ reached t → (counter t ≤ reached t) × (reached t ≤ counter t + (untils - counter t)) →
+              0 < untils - counter t
+              → ((postponed t (counter t) ≡ true) × (reached t ≡ counter t))
+              ⊎ ((postponed t (counter t) ≡ false) × (counter t < reached t)) → Step untils postponed counter t
           on new range room (inl h) = inr (inl (omega arith, h.0, new ∙ h.1))
           on new range room (inr h) = inr (inr (omega (arith, h.1), omega arith))
 
@@ -123,9 +129,11 @@ module _ (untils wait : ℕ) (postponed : ℕ → ℕ → Bool) (counter : ℕ �
       by (inr (inr k)) = absurd (omega (arith, k.0, k.1))
   goes (suc d) t h = by (λ r. goes d r) (step t (within t))
     where
-      onward : ((r : ℕ) → untils ≤ counter r + d → Passing r (bound d)) → (n : ℕ) → n ≤ wait → Gets t (t + n) → Passing t (suc wait + bound d)
+      onward : ((r : ℕ) → untils ≤ counter r + d → Passing r (bound d)) → (n : ℕ) → n ≤ wait → Gets t (t + n) →
+          Passing t (suc wait + bound d)
       onward rest n few (inl (r, a, b, c)) = (r, a, omega arith, c)
-      onward rest n few (inr (r, a, b, c)) = let later = rest r (omega arith) in (later.0, omega (arith, later.1), omega (arith, later.2), later.3)
+      onward rest n few (inr (r, a, b, c)) = let later = rest r (omega arith) in
+          (later.0, omega (arith, later.1), omega (arith, later.2), later.3)
 
       from : ((r : ℕ) → untils ≤ counter r + d → Passing r (bound d)) → counter t < untils → Passing t (suc wait + bound d)
       from rest below = let at = free t (counter t) below in onward rest at.0 at.1 (gets at.0 t (t + at.0) refl at.2)
@@ -154,7 +162,8 @@ count_passed test t s n a b h =
     let here : count_of test (suc s) ≡ count_of test s + 1 = ap (λ b. count_of test s + cond b 1 0) h in
     omega (arith, before, after, here)
 
-pub counted : (test : ℕ → Bool) (m : ℕ) → ((t : ℕ) → (s : ℕ) × (t ≤ s) × (s < t + m) × (test s ≡ true)) → (k : ℕ) → k ≤ count_of test (k * m)
+pub counted : (test : ℕ → Bool) (m : ℕ) → ((t : ℕ) → (s : ℕ) × (t ≤ s) × (s < t + m) × (test s ≡ true)) → (k : ℕ) →
+    k ≤ count_of test (k * m)
 counted test m at zero = omega arith
 counted test m at (suc k) =
     let so_far = counted test m at k in

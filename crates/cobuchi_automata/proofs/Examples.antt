@@ -27,6 +27,7 @@ met : edge_of (untils_of finally_b0) 0 (start_state finally_b0) (record { care =
 met = refl
 
 -- the one that puts it off does not
-put_off : edge_of (untils_of finally_b0) 0 (start_state finally_b0) (record { care = 0; want = 0; next_set = finally_b0 ∷ []; postponed = finally_b0 ∷ [] }) 0
+put_off : edge_of (untils_of finally_b0) 0 (start_state finally_b0)
+    (record { care = 0; want = 0; next_set = finally_b0 ∷ []; postponed = finally_b0 ∷ [] }) 0
     ≡ record { from = 0; care = 0; want = 0; to = 0; rejecting = false }
 put_off = refl

@@ -3,7 +3,8 @@ use Rattle.std.proofs.Common.{◌≡◌, List, [], ◌∷◌, ◌++◌, Bool, tr
 use Rattle.std.specs.List.{AllByRecursion}
 use Rattle.sequence.specs.Kept.{with_new, is_kept}
 use Rattle.sequence.proofs.Each.{each_joined}
-use Rattle.ltl_formula.specs.LtlTree.{LtlTree, LtlTrees, top, bottom, bit, not_bit, conjunction, disjunction, next, until, release, no_formulas, more_formulas}
+use Rattle.ltl_formula.specs.LtlTree.{LtlTree, LtlTrees, top, bottom, bit, not_bit, conjunction, disjunction, next, until, release}
+use Rattle.ltl_formula.specs.LtlTree.{no_formulas, more_formulas}
 use Rattle.obligations.specs.Expansion.{same_formula}
 use Rattle.cobuchi_automata.specs.Automata.{untils_in, untils_in_all, untils_of}
 
@@ -28,11 +29,13 @@ mutual
   each_in_all no_formulas = tt
   each_in_all (more_formulas f fs) = each_joined IsUntil (untils_in f) (untils_in_all fs) (each_in f) (each_in_all fs)
 
-each_new : {A : Type 0} (P : A → Type 0) (same : A → A → Bool) (kept xs : List A) → AllByRecursion P kept → AllByRecursion P xs → AllByRecursion P (with_new same kept xs)
+each_new : {A : Type 0} (P : A → Type 0) (same : A → A → Bool) (kept xs : List A) → AllByRecursion P kept → AllByRecursion P xs →
+    AllByRecursion P (with_new same kept xs)
 each_new {A = A} P same kept [] first rest = first
 each_new {A = A} P same kept (x ∷ xs) first rest = by (is_kept same kept x) (λ ks each. each_new P same ks xs each rest.1)
   where
-    by : (b : Bool) → ((ks : List A) → AllByRecursion P ks → AllByRecursion P (with_new same ks xs)) → AllByRecursion P (with_new same (if b then kept else kept ++ x ∷ []) xs)
+    by : (b : Bool) → ((ks : List A) → AllByRecursion P ks → AllByRecursion P (with_new same ks xs)) →
+        AllByRecursion P (with_new same (if b then kept else kept ++ x ∷ []) xs)
     by true go = go kept first
     by false go = go (kept ++ x ∷ []) (each_joined P kept (x ∷ []) first (rest.0, tt))
 

@@ -6,7 +6,8 @@ use Rattle.std.specs.Prelude.{◌≡◌, ℕ, Bool, false, List, [], ◌∷◌, 
 use Rattle.std.specs.List.{list_any, AllByRecursion}
 use Rattle.std.specs.Option.{option_map_or}
 use Rattle.sequence.specs.Kept.{with_new}
-use Rattle.ltl_formula.specs.LtlTree.{LtlTree, LtlTrees, top, bottom, bit, not_bit, conjunction, disjunction, next, until, release, no_formulas, more_formulas}
+use Rattle.ltl_formula.specs.LtlTree.{LtlTree, LtlTrees, top, bottom, bit, not_bit, conjunction, disjunction, next, until, release}
+use Rattle.ltl_formula.specs.LtlTree.{no_formulas, more_formulas}
 use Rattle.obligations.specs.Expansion.{ChoiceTree, same_formula, choices}
 use Rattle.cobuchi_automata.specs.Counters.{passes_last, advanced}
 
@@ -73,7 +74,8 @@ pub data IsReached (f : LtlTree) : StateTree → Type 0 where
       → IsReached f (state_after (untils_of f) s c)
 
 -- a choice leads from the state with a number along an edge
-pub record Leads (untils : List LtlTree) (states : List StateTree) (edges : List EdgeTree) (from : ℕ) (s : StateTree) (c : ChoiceTree) : Type 0 where
+pub record Leads (untils : List LtlTree) (states : List StateTree) (edges : List EdgeTree) (from : ℕ) (s : StateTree)
+    (c : ChoiceTree) : Type 0 where
   pub to : ℕ
   pub there : slice_get states to ≡ Some (state_after untils s c)
   pub edge : Contains edges (edge_of untils from s c to)

@@ -22,8 +22,10 @@ mutual
   order_is (All fs) (All gs) = laws.is (All fs) (All gs) ∙ lists_order_is fs gs
   order_is (Any fs) (Any gs) = laws.is (Any fs) (Any gs) ∙ lists_order_is fs gs
   order_is (Next' p a) (Next' q b) = laws.is (Next' p a) (Next' q b) ∙ order_is a b
-  order_is (Until' p a q b) (Until' r c s d) = laws.is (Until' p a q b) (Until' r c s d) ∙ (λ i. ordering_then (order_is a c i) (order_is b d i))
-  order_is (Release' p a q b) (Release' r c s d) = laws.is (Release' p a q b) (Release' r c s d) ∙ (λ i. ordering_then (order_is a c i) (order_is b d i))
+  order_is (Until' p a q b) (Until' r c s d) = laws.is (Until' p a q b) (Until' r c s d)
+      ∙ (λ i. ordering_then (order_is a c i) (order_is b d i))
+  order_is (Release' p a q b) (Release' r c s d) = laws.is (Release' p a q b) (Release' r c s d)
+      ∙ (λ i. ordering_then (order_is a c i) (order_is b d i))
   order_is a b = laws.is a b
 
   pub lists_order_is : (a b : LtlList) → (list_impl.ghosts).cmp a b ≡ trees_cmp (ltl_trees a) (ltl_trees b)

@@ -3,7 +3,8 @@ use Rattle.std.proofs.Common.{◌≡◌, ◌∙◌, ℕ, Bool, true, false, not,
 use Rattle.sequence.proofs.Booleans.{not_not}
 use Rattle.loop_shape.specs.AlongLoop.{until_at, release_at}
 use Rattle.loop_shape.proofs.Words.{not_until, not_release}
-use Rattle.ltl_formula.specs.LtlTree.{LtlTree, LtlTrees, top, bottom, bit, not_bit, conjunction, disjunction, next, until, release, no_formulas, more_formulas}
+use Rattle.ltl_formula.specs.LtlTree.{LtlTree, LtlTrees, top, bottom, bit, not_bit, conjunction, disjunction, next, until, release}
+use Rattle.ltl_formula.specs.LtlTree.{no_formulas, more_formulas}
 use Rattle.ltl_formula.specs.LetterLoop.{LetterLoop, shape_of, bit_holds, holds, holds_all, holds_any}
 use Rattle.ltl_formula.specs.Dual.{dual, duals}
 

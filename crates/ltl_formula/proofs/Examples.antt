@@ -13,7 +13,8 @@ by_variant = refl
 by_left_part : tree_cmp (until (bit 1) (bit 0)) (until (bit 0) (bit 9)) ≡ Greater
 by_left_part = refl
 
-shorter_list_first : tree_cmp (conjunction (more_formulas top no_formulas)) (conjunction (more_formulas top (more_formulas top no_formulas))) ≡ Less
+shorter_list_first : tree_cmp (conjunction (more_formulas top no_formulas))
+    (conjunction (more_formulas top (more_formulas top no_formulas))) ≡ Less
 shorter_list_first = refl
 
 dual_of_until : dual (until top (release bottom (not_bit 0))) ≡ release bottom (until top (bit 0))

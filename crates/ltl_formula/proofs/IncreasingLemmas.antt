@@ -20,7 +20,8 @@ module _ {A : Type 0} (cmp : A → A → Ordering) where
   each-with_member P x [] here each = (here, each)
   each-with_member P x (y ∷ ys) here each = by (cmp x y) (each-with_member P x ys here each.1)
     where
-      by : (o : Ordering) → AllByRecursion P (with_member cmp x ys) → AllByRecursion P (match_ordering o (x ∷ (y ∷ ys)) (y ∷ ys) (y ∷ with_member cmp x ys))
+      by : (o : Ordering) → AllByRecursion P (with_member cmp x ys) →
+          AllByRecursion P (match_ordering o (x ∷ (y ∷ ys)) (y ∷ ys) (y ∷ with_member cmp x ys))
       by Less rest = (here, each)
       by Equal rest = each
       by Greater rest = (each.0, rest)

@@ -13,7 +13,8 @@ pub with_front_none : (front : List LtlTree) → with_front front no_formulas �
 with_front_none [] = refl
 with_front_none (f ∷ front) = ap (more_formulas f) (with_front_none front)
 
-pub with_front_push : (front : List Ltl) (f : Ltl) (fs : LtlTrees) → with_front (map ltl_tree (front ++ f ∷ [])) fs ≡ with_front (map ltl_tree front) (more_formulas (ltl_tree f) fs)
+pub with_front_push : (front : List Ltl) (f : Ltl) (fs : LtlTrees) →
+    with_front (map ltl_tree (front ++ f ∷ [])) fs ≡ with_front (map ltl_tree front) (more_formulas (ltl_tree f) fs)
 with_front_push [] f fs = refl
 with_front_push (g ∷ front) f fs = ap (more_formulas (ltl_tree g)) (with_front_push front f fs)
 
@@ -23,7 +24,8 @@ formulas_of_members no_formulas = refl
 formulas_of_members (more_formulas f fs) = ap (more_formulas f) (formulas_of_members fs)
 
 -- formulas that are made, and then the members that are left
-pub made_push : (made : List Ltl) (f : Ltl) (rest : List LtlTree) → map ltl_tree (made ++ f ∷ []) ++ rest ≡ map ltl_tree made ++ (ltl_tree f ∷ rest)
+pub made_push : (made : List Ltl) (f : Ltl) (rest : List LtlTree) →
+    map ltl_tree (made ++ f ∷ []) ++ rest ≡ map ltl_tree made ++ (ltl_tree f ∷ rest)
 made_push [] f rest = refl
 made_push (c ∷ made) f rest = ap (λ fs. ltl_tree c ∷ fs) (made_push made f rest)
 

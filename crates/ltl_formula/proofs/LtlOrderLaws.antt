@@ -7,7 +7,8 @@ use Rattle.std.specs.Ordering.{nat_cmp, ordering_then, ordering_reverse, on}
 use Rattle.std.specs.Cmp.{IsTotalOrder}
 use Rattle.std.specs.Cmp.Lexicographic.{slice_cmp}
 use Rattle.std.proofs.lemmas.Cmp.{on_total, nat_list_cmp_total, ranked}
-use Rattle.ltl_formula.specs.LtlTree.{LtlTree, top, bottom, bit, not_bit, conjunction, disjunction, next, until, release, LtlTrees, no_formulas, more_formulas}
+use Rattle.ltl_formula.specs.LtlTree.{LtlTree, top, bottom, bit, not_bit, conjunction, disjunction, next, until, release, LtlTrees}
+use Rattle.ltl_formula.specs.LtlTree.{no_formulas, more_formulas}
 use Rattle.ltl_formula.specs.LtlOrder.{tree_cmp, trees_cmp}
 
 abbrev mutual
@@ -42,15 +43,19 @@ mutual
   by_code (disjunction fs) (disjunction gs) s t = by_list_code fs gs s t
   by_code (next a) (next b) s t = by_code a b s t
   by_code (until a b) (until c d) s t =
-      by_code a c (code b s) (code d t) ∙ ap (ordering_then (tree_cmp a c)) (by_code b d s t) ∙ assoc (tree_cmp a c) (tree_cmp b d) (slice_cmp nat_cmp s t)
+      by_code a c (code b s) (code d t) ∙ ap (ordering_then (tree_cmp a c)) (by_code b d s t)
+      ∙ assoc (tree_cmp a c) (tree_cmp b d) (slice_cmp nat_cmp s t)
   by_code (release a b) (release c d) s t =
-      by_code a c (code b s) (code d t) ∙ ap (ordering_then (tree_cmp a c)) (by_code b d s t) ∙ assoc (tree_cmp a c) (tree_cmp b d) (slice_cmp nat_cmp s t)
+      by_code a c (code b s) (code d t) ∙ ap (ordering_then (tree_cmp a c)) (by_code b d s t)
+      ∙ assoc (tree_cmp a c) (tree_cmp b d) (slice_cmp nat_cmp s t)
   by_code f g s t = refl
 
-  by_list_code : (fs gs : LtlTrees) (s t : List ℕ) → slice_cmp nat_cmp (list_code fs s) (list_code gs t) ≡ ordering_then (trees_cmp fs gs) (slice_cmp nat_cmp s t)
+  by_list_code : (fs gs : LtlTrees) (s t : List ℕ) → slice_cmp nat_cmp (list_code fs s) (list_code gs t)
+      ≡ ordering_then (trees_cmp fs gs) (slice_cmp nat_cmp s t)
   by_list_code no_formulas no_formulas s t = refl
   by_list_code (more_formulas f fs) (more_formulas g gs) s t =
-      by_code f g (list_code fs s) (list_code gs t) ∙ ap (ordering_then (tree_cmp f g)) (by_list_code fs gs s t) ∙ assoc (tree_cmp f g) (trees_cmp fs gs) (slice_cmp nat_cmp s t)
+      by_code f g (list_code fs s) (list_code gs t) ∙ ap (ordering_then (tree_cmp f g)) (by_list_code fs gs s t)
+      ∙ assoc (tree_cmp f g) (trees_cmp fs gs) (slice_cmp nat_cmp s t)
   by_list_code fs gs s t = refl
 
 then_equal : (p : Ordering) → ordering_then p Equal ≡ p

@@ -1,5 +1,6 @@
 -- In a rising list the order of two members is that of their places.
-use Rattle.std.proofs.Common.{◌≡◌, ◌∙◌, ℕ, zero, suc, ◌<◌, Bool, true, false, cond, ◌==◌, List, [], ◌∷◌, Some, slice_get, refl, sym, ap, arith, eq-eqb}
+use Rattle.std.proofs.Common.{◌≡◌, ◌∙◌, ℕ, zero, suc, ◌<◌, Bool, true, false, cond, ◌==◌, List, [], ◌∷◌, Some, slice_get, refl, sym, ap}
+use Rattle.std.proofs.Common.{arith, eq-eqb}
 use Rattle.std.specs.List.{AllByRecursion}
 use Rattle.std.specs.declared.cmp.Ordering.{Ordering}
 use Rattle.std.specs.declared.cmp.Ordering.TheVariants.{Less, Equal, Greater}
@@ -38,13 +39,15 @@ module _ {A : Type 0} {cmp : A → A → Ordering} (total : IsTotalOrder cmp) wh
   above x (z ∷ ys) zero y all at = ap (cmp x) (sym (same_Some z y at)) ∙ all.0
   above x (z ∷ ys) (suc j) y all at = above x ys j y all.1 at
 
-  pub by_place : (xs : List A) → IsIncreasing cmp xs → (i j : ℕ) (x y : A) → slice_get xs i ≡ Some x → slice_get xs j ≡ Some y → cmp x y ≡ nat_cmp i j
+  pub by_place : (xs : List A) → IsIncreasing cmp xs → (i j : ℕ) (x y : A) → slice_get xs i ≡ Some x → slice_get xs j ≡ Some y →
+      cmp x y ≡ nat_cmp i j
   by_place [] up i j x y at_i at_j = absurd (none-some x at_i)
   by_place (z ∷ xs) up zero zero x y at_i at_j =
       (λ k. cmp (sym (same_Some z x at_i) k) (sym (same_Some z y at_j) k)) ∙ tied_itself total z
   by_place (z ∷ xs) up zero (suc j) x y at_i at_j =
       ap (λ w. cmp w y) (sym (same_Some z x at_i)) ∙ above z xs j y up.0 at_j ∙ sym (less zero (suc j) (omega arith))
   by_place (z ∷ xs) up (suc i) zero x y at_i at_j =
-      total.antisymm x y ∙ ap ordering_reverse (ap (λ w. cmp w x) (sym (same_Some z y at_j)) ∙ above z xs i x up.0 at_i) ∙ sym (more (suc i) zero (omega arith))
+      total.antisymm x y ∙ ap ordering_reverse (ap (λ w. cmp w x) (sym (same_Some z y at_j)) ∙ above z xs i x up.0 at_i)
+      ∙ sym (more (suc i) zero (omega arith))
   by_place (z ∷ xs) up (suc i) (suc j) x y at_i at_j =
       by_place xs up.1 i j x y at_i at_j ∙ by_rank i j (nat_cmp i j) (ranked i j (nat_cmp i j) refl)

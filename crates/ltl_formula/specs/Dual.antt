@@ -1,5 +1,6 @@
 -- The dual of a formula: each form exchanged with its opposite, all the way down.
-use Rattle.ltl_formula.specs.LtlTree.{LtlTree, LtlTrees, top, bottom, bit, not_bit, conjunction, disjunction, next, until, release, no_formulas, more_formulas}
+use Rattle.ltl_formula.specs.LtlTree.{LtlTree, LtlTrees, top, bottom, bit, not_bit, conjunction, disjunction, next, until, release}
+use Rattle.ltl_formula.specs.LtlTree.{no_formulas, more_formulas}
 
 abbrev mutual
   pub dual : LtlTree → LtlTree

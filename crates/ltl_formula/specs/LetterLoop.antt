@@ -6,7 +6,8 @@ use Rattle.std.specs.Prelude.{ℕ, Bool, true, false, not, ◌&&◌, ◌||◌, L
 use Rattle.std.specs.Option.{option_map_or}
 use Rattle.loop_shape.specs.LoopShape.{LoopShape}
 use Rattle.loop_shape.specs.AlongLoop.{next_at, until_at, release_at}
-use Rattle.ltl_formula.specs.LtlTree.{LtlTree, LtlTrees, top, bottom, bit, not_bit, conjunction, disjunction, next, until, release, no_formulas, more_formulas}
+use Rattle.ltl_formula.specs.LtlTree.{LtlTree, LtlTrees, top, bottom, bit, not_bit, conjunction, disjunction, next, until, release}
+use Rattle.ltl_formula.specs.LtlTree.{no_formulas, more_formulas}
 use Rattle.ltl_formula.specs.Cubes.{has_bit}
 
 -- the letters that come once, and those that come again and again

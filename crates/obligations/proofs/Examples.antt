@@ -1,6 +1,7 @@
 -- Worked examples of expansions.
 use Rattle.std.specs.Prelude.{◌≡◌, Some, [], ◌∷◌, refl}
-use Rattle.ltl_formula.specs.LtlTree.{LtlTree, top, bottom, bit, not_bit, conjunction, disjunction, until, release, no_formulas, more_formulas}
+use Rattle.ltl_formula.specs.LtlTree.{LtlTree, top, bottom, bit, not_bit, conjunction, disjunction, until, release, no_formulas}
+use Rattle.ltl_formula.specs.LtlTree.{more_formulas}
 use Rattle.obligations.specs.Choices.{empty_choice, most_choices}
 use Rattle.obligations.specs.Expansion.{choices}
 
@@ -24,7 +25,8 @@ of_both : choices (conjunction (more_formulas (bit 1) (more_formulas (not_bit 1)
 of_both = refl
 
 -- the larger one of two choices is dropped
-of_larger : choices (disjunction (more_formulas (conjunction (more_formulas (bit 0) (more_formulas (bit 1) no_formulas))) (more_formulas (bit 1) no_formulas)) ∷ [])
+of_larger : choices (disjunction (more_formulas (conjunction (more_formulas (bit 0) (more_formulas (bit 1) no_formulas)))
+    (more_formulas (bit 1) no_formulas)) ∷ [])
     ≡ Some ((record { care = 2; want = 2; next_set = []; postponed = [] }) ∷ [])
 of_larger = refl
 

@@ -1,5 +1,6 @@
 -- Numbers stand for formulas: the order, equality and sets of numbers are those of the formulas with these numbers.
-use Rattle.std.proofs.Common.{◌≡◌, ◌∙◌, ℕ, suc, ◌+◌, ◌<◌, Bool, true, false, cond, not, ◌&&◌, ◌||◌, ◌==◌, nat_lt, nat_eq, List, [], ◌∷◌, map, length, refl, ap, arith}
+use Rattle.std.proofs.Common.{◌≡◌, ◌∙◌, ℕ, suc, ◌+◌, ◌<◌, Bool, true, false, cond, not, ◌&&◌, ◌||◌, ◌==◌, nat_lt, nat_eq, List, [], ◌∷◌}
+use Rattle.std.proofs.Common.{map, length, refl, ap, arith}
 use Rattle.std.specs.Prelude.{unwrap_or}
 use Rattle.std.specs.List.{list_any, AllByRecursion}
 use Rattle.std.specs.Cmp.Lexicographic.{pointwise}
@@ -44,13 +45,15 @@ abbrev pub is_named : List LtlTree → LtlTree → Bool
 is_named names f = list_any (λ g. same_formula g f) names
 
 -- the number of a formula leads back to it
-pub numbered : (names : List LtlTree) (f : LtlTree) → is_named names f ≡ true → (formula_number names f < length names) × (formula_named names (formula_number names f) ≡ f)
+pub numbered : (names : List LtlTree) (f : LtlTree) → is_named names f ≡ true →
+    (formula_number names f < length names) × (formula_named names (formula_number names f) ≡ f)
 numbered [] f h = absurd (false≢true h)
 numbered (g ∷ names) f h = by (same_formula g f) refl h (numbered names f)
   where
     by : (b : Bool) → same_formula g f ≡ b → (b || is_named names f) ≡ true
         → (is_named names f ≡ true → (formula_number names f < length names) × (formula_named names (formula_number names f) ≡ f))
-        → (cond (not b) (1 + formula_number names f) 0 < length (g ∷ names)) × (formula_named (g ∷ names) (cond (not b) (1 + formula_number names f) 0) ≡ f)
+        → (cond (not b) (1 + formula_number names f) 0 < length (g ∷ names))
+        × (formula_named (g ∷ names) (cond (not b) (1 + formula_number names f) 0) ≡ f)
     by true is h rest = (omega arith, same_is g f is)
     by false is h rest =
         let r = rest h in
@@ -64,7 +67,8 @@ module _ (names : List LtlTree) (rising : IsIncreasing tree_cmp names) where
       let g = slice_get_some names n right in
       (λ k. tree_cmp (unwrap_or (f.1 k) top) (unwrap_or (g.1 k) top)) ∙ by_place tree_cmp_total names rising m n f.0 g.0 f.1 g.1
 
-  pub keeps_same : (m n : ℕ) → m < length names → n < length names → same_formula (formula_named names m) (formula_named names n) ≡ nat_eq m n
+  pub keeps_same : (m n : ℕ) → m < length names → n < length names →
+      same_formula (formula_named names m) (formula_named names n) ≡ nat_eq m n
   keeps_same m n left right = ap is_eq (keeps_order m n left right) ∙ is_eq_nat m n
 
   abbrev AreNamed : List ℕ → Type 0

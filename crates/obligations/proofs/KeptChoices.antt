@@ -1,6 +1,7 @@
 -- A test that passes from a choice to what lies within it passes for some choice of a list exactly where it passes for
 -- some choice of the reduced list.
-use Rattle.std.proofs.Common.{◌≡◌, ◌∙◌, ℕ, zero, suc, ◌<◌, ◌≤◌, Bool, true, false, cond, not, ◌&&◌, ◌||◌, nat_eq, List, [], ◌∷◌, ◌++◌, filter, slice_get, Some, if◌then◌else◌, refl, sym, ap, arith}
+use Rattle.std.proofs.Common.{◌≡◌, ◌∙◌, ℕ, zero, suc, ◌<◌, ◌≤◌, Bool, true, false, cond, not, ◌&&◌, ◌||◌, nat_eq, List, [], ◌∷◌, ◌++◌}
+use Rattle.std.proofs.Common.{filter, slice_get, Some, if◌then◌else◌, refl, sym, ap, arith}
 use Rattle.std.specs.List.{list_any, AllByRecursion}
 use Rattle.std.proofs.lemmas.Bool.{false≢true, and_parts, not-true}
 use Rattle.sequence.specs.Kept.{with_new}
@@ -36,7 +37,8 @@ pub any_filtered : {A : Type 0} (t p : A → Bool) (xs : List A) → list_any t 
 any_filtered t p [] h = h
 any_filtered t p (x ∷ xs) h = by (p x) h (any_filtered t p xs)
   where
-    by : (b : Bool) → list_any t (cond b (x ∷ filter p xs) (filter p xs)) ≡ true → (list_any t (filter p xs) ≡ true → list_any t xs ≡ true) → (t x || list_any t xs) ≡ true
+    by : (b : Bool) → list_any t (cond b (x ∷ filter p xs) (filter p xs)) ≡ true →
+        (list_any t (filter p xs) ≡ true → list_any t xs ≡ true) → (t x || list_any t xs) ≡ true
     by true h rest = on (t x) h
       where
         on : (b : Bool) → (b || list_any t (filter p xs)) ≡ true → (b || list_any t xs) ≡ true
@@ -52,7 +54,8 @@ pub any_at : {A : Type 0} (t : A → Bool) (xs : List A) (i : ℕ) (x : A) → s
 any_at t xs i x at h = list_any_contained t xs x (contains_at xs i x at) h
 
 -- without repeats
-any_new : (t : ChoiceKey → Bool) (kept cs : List ChoiceKey) → list_any t (with_new (λ k c. same_choice nat_eq c k) kept cs) ≡ (list_any t kept || list_any t cs)
+any_new : (t : ChoiceKey → Bool) (kept cs : List ChoiceKey) → list_any t (with_new (λ k c. same_choice nat_eq c k) kept cs)
+    ≡ (list_any t kept || list_any t cs)
 any_new t kept [] = by (list_any t kept)
   where
     by : (b : Bool) → b ≡ (b || false)
@@ -62,10 +65,12 @@ any_new t kept (c ∷ cs) = by (list_any (λ k. same_choice nat_eq c k) kept) re
   where
     by : (b : Bool) → list_any (λ k. same_choice nat_eq c k) kept ≡ b
         → ((ks : List ChoiceKey) → list_any t (with_new (λ k c. same_choice nat_eq c k) ks cs) ≡ (list_any t ks || list_any t cs))
-        → list_any t (with_new (λ k c. same_choice nat_eq c k) (if b then kept else kept ++ c ∷ []) cs) ≡ (list_any t kept || (t c || list_any t cs))
+        → list_any t (with_new (λ k c. same_choice nat_eq c k) (if b then kept else kept ++ c ∷ []) cs)
+        ≡ (list_any t kept || (t c || list_any t cs))
     by true is rest =
         let place = list_any_place (λ k. same_choice nat_eq c k) kept is in
-        rest kept ∙ or_absorb (list_any t kept) (t c) (list_any t cs) (λ h. any_at t kept place.0 place.1 place.2 (ap t (sym (same_key_is c place.1 place.3)) ∙ h))
+        rest kept ∙ or_absorb (list_any t kept) (t c) (list_any t cs)
+        (λ h. any_at t kept place.0 place.1 place.2 (ap t (sym (same_key_is c place.1 place.3)) ∙ h))
     by false is rest =
         rest (kept ++ c ∷ []) ∙ ap (λ b. b || list_any t cs) (any_push t kept c) ∙ or_move (list_any t kept) (t c) (list_any t cs)
 
@@ -90,11 +95,13 @@ module _ (cs : List ChoiceKey) (well : AllByRecursion IsRisingChoice cs) where
           let other = list_any_place (λ d. is_within nat_eq d x && not (same_choice nat_eq d x)) cs is in
           let parts = and_parts (is_within nat_eq other.1 x) (not (same_choice nat_eq other.1 x)) other.3 in
           let inside = within_is other.1 x parts.0 in
-          let less = lighter other.1 x (each_at IsRisingChoice cs other.0 other.1 well other.2) (each_at IsRisingChoice cs i x well at) inside (not-true (same_choice nat_eq other.1 x) parts.1) in
+          let less = lighter other.1 x (each_at IsRisingChoice cs other.0 other.1 well other.2)
+          (each_at IsRisingChoice cs i x well at) inside (not-true (same_choice nat_eq other.1 x) parts.1) in
           let r = rest other.0 other.1 other.2 (omega arith) in
           (r.0, r.1, r.2, within_trans r.1 other.1 x r.3 inside, omega (arith, r.4, less))
 
-  pub any_without_larger : (t : ChoiceKey → Bool) → ((y x : ChoiceKey) → Within y x → t x ≡ true → t y ≡ true) → list_any t (without_larger nat_eq cs) ≡ list_any t cs
+  pub any_without_larger : (t : ChoiceKey → Bool) → ((y x : ChoiceKey) → Within y x → t x ≡ true → t y ≡ true) →
+      list_any t (without_larger nat_eq cs) ≡ list_any t cs
   any_without_larger t down = same_tests (list_any t (without_larger nat_eq cs)) (list_any t cs) (any_filtered t small cs) back
     where
       back : list_any t cs ≡ true → list_any t (without_larger nat_eq cs) ≡ true

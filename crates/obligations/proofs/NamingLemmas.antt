@@ -21,19 +21,23 @@ pub names_append : (xs ys zs : List LtlTree) → union tree_cmp xs (ys ++ zs) �
 names_append = union_append tree_cmp
 
 module _ (f : LtlTree) (names : List (Bor Ltl)) (i : ℕ) (n : Bor Ltl) (within : i < length names) (at : n ≡ get_or names i n)
-    (before : with_member tree_cmp f (lent_trees names) ≡ lent_trees (take i names) ++ with_member tree_cmp f (lent_trees (drop i names))) where
+    (before : with_member tree_cmp f (lent_trees names) ≡ lent_trees (take i names)
+    ++ with_member tree_cmp f (lent_trees (drop i names))) where
   here : lent_trees (drop i names) ≡ ltl_tree n.now ∷ lent_trees (drop (i + 1) names)
   here = ap lent_trees (left_at names i n within at)
 
   opened : (o : Ordering) → tree_cmp f (ltl_tree n.now) ≡ o → with_member tree_cmp f (lent_trees names)
-      ≡ lent_trees (take i names) ++ match_ordering o (f ∷ (ltl_tree n.now ∷ lent_trees (drop (i + 1) names))) (ltl_tree n.now ∷ lent_trees (drop (i + 1) names))
+      ≡ lent_trees (take i names) ++ match_ordering o (f ∷ (ltl_tree n.now ∷ lent_trees (drop (i + 1) names)))
+      (ltl_tree n.now ∷ lent_trees (drop (i + 1) names))
       (ltl_tree n.now ∷ with_member tree_cmp f (lent_trees (drop (i + 1) names)))
   opened o is =
       before ∙ ap (λ w. lent_trees (take i names) ++ with_member tree_cmp f w) here
-      ∙ ap (λ p. lent_trees (take i names) ++ match_ordering p (f ∷ (ltl_tree n.now ∷ lent_trees (drop (i + 1) names))) (ltl_tree n.now ∷ lent_trees (drop (i + 1) names))
+      ∙ ap (λ p. lent_trees (take i names) ++ match_ordering p (f ∷ (ltl_tree n.now ∷ lent_trees (drop (i + 1) names)))
+      (ltl_tree n.now ∷ lent_trees (drop (i + 1) names))
       (ltl_tree n.now ∷ with_member tree_cmp f (lent_trees (drop (i + 1) names)))) is
 
-  pub at_less : tree_cmp f (ltl_tree n.now) ≡ Less → with_member tree_cmp f (lent_trees names) ≡ lent_trees (take i names) ++ f ∷ lent_trees (drop i names)
+  pub at_less : tree_cmp f (ltl_tree n.now) ≡ Less → with_member tree_cmp f (lent_trees names)
+      ≡ lent_trees (take i names) ++ f ∷ lent_trees (drop i names)
   at_less is = opened Less is ∙ ap (λ w. lent_trees (take i names) ++ f ∷ w) (sym here)
 
   pub at_equal : tree_cmp f (ltl_tree n.now) ≡ Equal → with_member tree_cmp f (lent_trees names) ≡ lent_trees names
@@ -42,7 +46,8 @@ module _ (f : LtlTree) (names : List (Bor Ltl)) (i : ℕ) (n : Bor Ltl) (within 
       ∙ sym (map-append (λ (g : Bor Ltl). ltl_tree g.now) (take i names) (drop i names)) ∙ ap lent_trees (take-append-drop i names)
 
   pub at_greater : tree_cmp f (ltl_tree n.now) ≡ Greater
-      → with_member tree_cmp f (lent_trees names) ≡ lent_trees (take (i + 1) names) ++ with_member tree_cmp f (lent_trees (drop (i + 1) names))
+      → with_member tree_cmp f (lent_trees names) ≡ lent_trees (take (i + 1) names)
+      ++ with_member tree_cmp f (lent_trees (drop (i + 1) names))
   at_greater is =
       opened Greater is
       ∙ sym (append_assoc (lent_trees (take i names)) (ltl_tree n.now ∷ []) (with_member tree_cmp f (lent_trees (drop (i + 1) names))))
@@ -51,7 +56,8 @@ module _ (f : LtlTree) (names : List (Bor Ltl)) (i : ℕ) (n : Bor Ltl) (within 
       ∙ ap (λ m. lent_trees (take i names ++ m ∷ [])) at ∙ ap lent_trees (sym (take_more names i n within)))
 
 pub inserted : (f : Bor Ltl) (names seen new : List (Bor Ltl)) (place : ℕ) → seen ≡ names → new ≡ insert names place f
-    → with_member tree_cmp (ltl_tree f.now) (lent_trees seen) ≡ lent_trees (take place seen) ++ ltl_tree f.now ∷ lent_trees (drop place seen)
+    → with_member tree_cmp (ltl_tree f.now) (lent_trees seen) ≡ lent_trees (take place seen)
+    ++ ltl_tree f.now ∷ lent_trees (drop place seen)
     → lent_trees new ≡ with_member tree_cmp (ltl_tree f.now) (lent_trees names)
 inserted f names seen new place same is found =
     ap lent_trees is ∙ map-append (λ (g : Bor Ltl). ltl_tree g.now) (take place names) (f ∷ drop place names)
@@ -59,7 +65,8 @@ inserted f names seen new place same is found =
 
 -- one more member of a list
 pub rest_step : (old new all : List LtlTree) (f : LtlTree) (rest fs : LtlTrees) → rest ≡ more_formulas f fs
-    → union tree_cmp old (obligations_of_all rest) ≡ all → new ≡ union tree_cmp old (obligations f) → union tree_cmp new (obligations_of_all fs) ≡ all
+    → union tree_cmp old (obligations_of_all rest) ≡ all → new ≡ union tree_cmp old (obligations f) →
+    union tree_cmp new (obligations_of_all fs) ≡ all
 rest_step old new all f rest fs is before grown =
     ap (λ n. union tree_cmp n (obligations_of_all fs)) grown ∙ sym (names_append old (obligations f) (obligations_of_all fs))
     ∙ ap (λ r. union tree_cmp old (obligations_of_all r)) (sym is) ∙ before

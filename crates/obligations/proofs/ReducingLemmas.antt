@@ -23,8 +23,10 @@ any_keys c (d ∷ cs) = ap (λ b. same_choice nat_eq (choice_key c) (choice_key 
 
 -- the set after an insertion
 with_keys : (c : NumberedChoice) (cs : List NumberedChoice)
-    → choice_keys (if list_any (λ d. same_choice nat_eq (choice_key c) (choice_key d)) cs then cs else cs ++ c ∷ []) ≡ with_choice (choice_keys cs) (choice_key c)
-with_keys c cs = by (list_any (λ d. same_choice nat_eq (choice_key c) (choice_key d)) cs) ∙ ap (λ b. cond b (choice_keys cs) (choice_keys cs ++ choice_key c ∷ [])) (any_keys c cs)
+    → choice_keys (if list_any (λ d. same_choice nat_eq (choice_key c) (choice_key d)) cs then cs else cs ++ c ∷ [])
+    ≡ with_choice (choice_keys cs) (choice_key c)
+with_keys c cs = by (list_any (λ d. same_choice nat_eq (choice_key c) (choice_key d)) cs)
+    ∙ ap (λ b. cond b (choice_keys cs) (choice_keys cs ++ choice_key c ∷ [])) (any_keys c cs)
   where
     by : (b : Bool) → choice_keys (cond b cs (cs ++ c ∷ [])) ≡ cond b (choice_keys cs) (choice_keys cs ++ choice_key c ∷ [])
     by true = refl

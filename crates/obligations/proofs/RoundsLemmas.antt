@@ -1,5 +1,6 @@
 -- The flags after all rounds are those of the choices that no different one lies within.
-use Rattle.std.proofs.Common.{◌≡◌, ◌∙◌, ℕ, zero, suc, ◌<◌, Bool, true, false, cond, not, ◌&&◌, ◌||◌, ◌==◌, List, [], ◌∷◌, map, filter, nat_lt, nat_eq, slice_get, Some, refl, sym, ap, arith, eq-eqb}
+use Rattle.std.proofs.Common.{◌≡◌, ◌∙◌, ℕ, zero, suc, ◌<◌, Bool, true, false, cond, not, ◌&&◌, ◌||◌, ◌==◌, List, [], ◌∷◌, map, filter}
+use Rattle.std.proofs.Common.{nat_lt, nat_eq, slice_get, Some, refl, sym, ap, arith, eq-eqb}
 use Rattle.std.specs.List.{list_any, AllByRecursion}
 use Rattle.std.proofs.lemmas.Bool.{lt-ltb, le-ltb, ltb-true, ltb-false, eqb-true, and_parts, and_from, not-true}
 use Rattle.sequence.proofs.Booleans.{same_tests}
@@ -73,14 +74,16 @@ module _ (cs : List ChoiceKey) (well : AllByRecursion IsRisingChoice cs) where
   -- a choice is larger than another exactly where a lighter one that is kept lies within it
   by_lighter : (i : ℕ) (x : ChoiceKey) → slice_get cs i ≡ Some x
       → is_larger nat_eq cs x ≡ list_any (λ y. nat_lt (weight y) (weight x) && is_within nat_eq y x) (filter small cs)
-  by_lighter i x at = same_tests (is_larger nat_eq cs x) (list_any (λ y. nat_lt (weight y) (weight x) && is_within nat_eq y x) (filter small cs)) there back
+  by_lighter i x at = same_tests (is_larger nat_eq cs x) (list_any (λ y. nat_lt (weight y) (weight x) && is_within nat_eq y x)
+      (filter small cs)) there back
     where
       there : is_larger nat_eq cs x ≡ true → list_any (λ y. nat_lt (weight y) (weight x) && is_within nat_eq y x) (filter small cs) ≡ true
       there is =
           let other = list_any_place (λ d. is_within nat_eq d x && not (same_choice nat_eq d x)) cs is in
           let parts = and_parts (is_within nat_eq other.1 x) (not (same_choice nat_eq other.1 x)) other.3 in
           let inside = within_is other.1 x parts.0 in
-          let less = lighter other.1 x (each_at IsRisingChoice cs other.0 other.1 well other.2) (each_at IsRisingChoice cs i x well at) inside (not-true (same_choice nat_eq other.1 x) parts.1) in
+          let less = lighter other.1 x (each_at IsRisingChoice cs other.0 other.1 well other.2)
+          (each_at IsRisingChoice cs i x well at) inside (not-true (same_choice nat_eq other.1 x) parts.1) in
           let r = kept cs well (suc (weight other.1)) other.0 other.1 other.2 (omega arith) in
           any_at (λ y. nat_lt (weight y) (weight x) && is_within nat_eq y x) (filter small cs) r.0 r.1 r.2
           (and_from (nat_lt (weight r.1) (weight x)) (is_within nat_eq r.1 x) (lt-ltb (weight r.1) (weight x) (omega (arith, r.4, less)))
@@ -88,19 +91,23 @@ module _ (cs : List ChoiceKey) (well : AllByRecursion IsRisingChoice cs) where
 
       distinct : (y : ChoiceKey) → nat_lt (weight y) (weight x) ≡ true → (b : Bool) → same_choice nat_eq y x ≡ b → not b ≡ true
       distinct y h false e = refl
-      distinct y h true e = let less = ltb-true (weight y) (weight x) h in let equal : weight y ≡ weight x = ap weight (same_key_is y x e) in absurd (omega arith)
+      distinct y h true e = let less = ltb-true (weight y) (weight x) h in let equal : weight y
+          ≡ weight x = ap weight (same_key_is y x e) in absurd (omega arith)
 
-      widen : (y : ChoiceKey) → (nat_lt (weight y) (weight x) && is_within nat_eq y x) ≡ true → (is_within nat_eq y x && not (same_choice nat_eq y x)) ≡ true
+      widen : (y : ChoiceKey) → (nat_lt (weight y) (weight x) && is_within nat_eq y x) ≡ true →
+          (is_within nat_eq y x && not (same_choice nat_eq y x)) ≡ true
       widen y h =
           let parts = and_parts (nat_lt (weight y) (weight x)) (is_within nat_eq y x) h in
           and_from (is_within nat_eq y x) (not (same_choice nat_eq y x)) parts.1 (distinct y parts.0 (same_choice nat_eq y x) refl)
 
-      any_wider : (p q : ChoiceKey → Bool) → ((y : ChoiceKey) → p y ≡ true → q y ≡ true) → (ys : List ChoiceKey) → list_any p ys ≡ true → list_any q ys ≡ true
+      any_wider : (p q : ChoiceKey → Bool) → ((y : ChoiceKey) → p y ≡ true → q y ≡ true) → (ys : List ChoiceKey) → list_any p ys ≡ true →
+          list_any q ys ≡ true
       any_wider p q up ys h = let s = list_any_place p ys h in any_at q ys s.0 s.1 s.2 (up s.1 s.3)
 
       back : list_any (λ y. nat_lt (weight y) (weight x) && is_within nat_eq y x) (filter small cs) ≡ true → is_larger nat_eq cs x ≡ true
       back is =
-          any_wider (λ y. nat_lt (weight y) (weight x) && is_within nat_eq y x) (λ y. is_within nat_eq y x && not (same_choice nat_eq y x)) widen cs
+          any_wider (λ y. nat_lt (weight y) (weight x) && is_within nat_eq y x)
+          (λ y. is_within nat_eq y x && not (same_choice nat_eq y x)) widen cs
           (any_filtered (λ y. nat_lt (weight y) (weight x) && is_within nat_eq y x) small cs is)
 
   -- what a round keeps, where the rounds before kept what they should
@@ -112,7 +119,8 @@ module _ (cs : List ChoiceKey) (well : AllByRecursion IsRisingChoice cs) where
       by false e = refl
       by true e =
           let is : weight x ≡ w = eqb-true (weight x) w e in
-          ap not (before (λ y. is_within nat_eq y x) ∙ ap (λ n. list_any (λ y. nat_lt (weight y) n && is_within nat_eq y x) (filter small cs)) (sym is) ∙ sym (by_lighter i x at))
+          ap not (before (λ y. is_within nat_eq y x) ∙ ap (λ n. list_any (λ y. nat_lt (weight y) n && is_within nat_eq y x)
+          (filter small cs)) (sym is) ∙ sym (by_lighter i x at))
 
   split : (lt eq s p : Bool) → ((s && (lt && p)) || ((eq && s) && p)) ≡ (s && ((lt || eq) && p))
   split true true true true = refl
@@ -127,14 +135,16 @@ module _ (cs : List ChoiceKey) (well : AllByRecursion IsRisingChoice cs) where
   split false false false p = refl
 
   rounds_are : (w : ℕ) (p : ChoiceKey → Bool) → list_any p (rounds cs w) ≡ list_any (λ y. nat_lt (weight y) w && p y) (filter small cs)
-  rounds_are zero p = sym (any_none (λ y. nat_lt (weight y) 0 && p y) (filter small cs) (λ y. ap (λ b. b && p y) (le-ltb (weight y) 0 (omega arith))))
+  rounds_are zero p = sym (any_none (λ y. nat_lt (weight y) 0 && p y) (filter small cs)
+      (λ y. ap (λ b. b && p y) (le-ltb (weight y) 0 (omega arith))))
   rounds_are (suc w) p =
       list_any-append p (rounds cs w) (filter (is_kept (rounds cs w) w) cs)
       ∙ (λ i. rounds_are w p i || list_any p (filter_same (is_kept (rounds cs w) w) (λ x. (weight x == w) && small x) cs
       (each_from_places (λ x. is_kept (rounds cs w) w x ≡ ((weight x == w) && small x)) cs (kept_is w (rounds_are w))) i))
       ∙ (λ i. any_filter (λ y. nat_lt (weight y) w && p y) small cs i || any_filter p (λ x. (weight x == w) && small x) cs i)
       ∙ any_or (λ x. small x && (nat_lt (weight x) w && p x)) (λ x. ((weight x == w) && small x) && p x) cs
-      ∙ any_same (λ x. (small x && (nat_lt (weight x) w && p x)) || (((weight x == w) && small x) && p x)) (λ x. small x && (nat_lt (weight x) (suc w) && p x)) cs
+      ∙ any_same (λ x. (small x && (nat_lt (weight x) w && p x)) || (((weight x == w) && small x) && p x))
+      (λ x. small x && (nat_lt (weight x) (suc w) && p x)) cs
       (λ x. split (nat_lt (weight x) w) (weight x == w) (small x) (p x) ∙ ap (λ b. small x && (b && p x)) (sym (one_more (weight x) w)))
       ∙ sym (any_filter (λ y. nat_lt (weight y) (suc w) && p y) small cs)
 
@@ -145,7 +155,8 @@ module _ (cs : List ChoiceKey) (well : AllByRecursion IsRisingChoice cs) where
   -- after the rounds of weights below a number the flags tell the small ones of those weights
   pub flags_are : (w : ℕ) → flags_after cs w (map (λ x. false) cs) ≡ map (λ x. nat_lt (weight x) w && small x) cs
   flags_are zero = map_same (λ x. false) (λ x. nat_lt (weight x) 0 && small x) cs
-      (each_from_places (λ x. false ≡ (nat_lt (weight x) 0 && small x)) cs (λ i x at. ap (λ b. b && small x) (sym (le-ltb (weight x) 0 (omega arith)))))
+      (each_from_places (λ x. false ≡ (nat_lt (weight x) 0 && small x)) cs
+      (λ i x at. ap (λ b. b && small x) (sym (le-ltb (weight x) 0 (omega arith)))))
   flags_are (suc w) =
       ap (with_flags (is_kept (rounds cs w) w) 0 cs) (flags_are w)
       ∙ flags_map (is_kept (rounds cs w) w) (λ x. nat_lt (weight x) w && small x) cs
@@ -159,6 +170,7 @@ module _ (cs : List ChoiceKey) (well : AllByRecursion IsRisingChoice cs) where
   flags_tell bound light =
       flags_are bound ∙ map_same (λ x. nat_lt (weight x) bound && small x) small cs (each cs light)
     where
-      each : (xs : List ChoiceKey) → AllByRecursion (λ x. weight x < bound) xs → AllByRecursion (λ x. (nat_lt (weight x) bound && small x) ≡ small x) xs
+      each : (xs : List ChoiceKey) → AllByRecursion (λ x. weight x < bound) xs →
+          AllByRecursion (λ x. (nat_lt (weight x) bound && small x) ≡ small x) xs
       each [] light = tt
       each (x ∷ xs) light = (ap (λ b. b && small x) (lt-ltb (weight x) bound light.0), each xs light.1)

@@ -1,5 +1,6 @@
 -- When choices over numbers are true with a letter, by which formulas hold later and a test of what is put off.
-use Rattle.std.proofs.Common.{◌≡◌, ◌∙◌, ℕ, ◌<◌, ◌^◌, Bool, true, false, cond, not, ◌&&◌, ◌||◌, ◌==◌, nat_lt, nat_eq, List, [], ◌∷◌, ◌++◌, map, length, Some, None, refl, sym, ap, arith, inl, inr, bit_and, bit_or, min, eq-eqb}
+use Rattle.std.proofs.Common.{◌≡◌, ◌∙◌, ℕ, ◌<◌, ◌^◌, Bool, true, false, cond, not, ◌&&◌, ◌||◌, ◌==◌, nat_lt, nat_eq, List, [], ◌∷◌, ◌++◌}
+use Rattle.std.proofs.Common.{map, length, Some, None, refl, sym, ap, arith, inl, inr, bit_and, bit_or, min, eq-eqb}
 use Rattle.std.specs.Prelude.{bit_xor}
 use Rattle.std.specs.List.{list_any, list_all, filter_map, cons_option}
 use Rattle.std.specs.Ordering.{nat_cmp}
@@ -36,11 +37,13 @@ literal_is l b = same_tests (bit_and l (2 ^ b) == 2 ^ b) (bit_at l b == 1)
     let one = bit_at-pow_same b in
     let both = bit_at_and l (2 ^ b) b in
     eq-eqb (bit_at l b) 1 (omega (arith, e, one, both, bit_at-lt l b)))
-    (λ h. eq-eqb (bit_and l (2 ^ b)) (2 ^ b) (same_from_bits (bit_and l (2 ^ b)) (2 ^ b) (λ i. bit_at_and l (2 ^ b) i ∙ each (eqb-true (bit_at l b) 1 h) i)))
+    (λ h. eq-eqb (bit_and l (2 ^ b)) (2 ^ b) (same_from_bits (bit_and l (2 ^ b)) (2 ^ b)
+    (λ i. bit_at_and l (2 ^ b) i ∙ each (eqb-true (bit_at l b) 1 h) i)))
   where
     each : bit_at l b ≡ 1 → (i : ℕ) → min (bit_at l i) (bit_at (2 ^ b) i) ≡ bit_at (2 ^ b) i
     each set i = elim (eqb_tells i b) [
-      | inl same ↦ (λ k. min (bit_at l (same.1 k)) (bit_at (2 ^ b) (same.1 k))) ∙ (let one = bit_at-pow_same b in let at = ap (bit_at (2 ^ b)) same.1 in omega (arith, one, set, at))
+      | inl same ↦ (λ k. min (bit_at l (same.1 k)) (bit_at (2 ^ b) (same.1 k)))
+          ∙ (let one = bit_at-pow_same b in let at = ap (bit_at (2 ^ b)) same.1 in omega (arith, one, set, at))
       | inr other ↦ (let none = bit_at-pow_other b i other.1 in omega (arith, none))
     ]
 
@@ -55,7 +58,8 @@ literal_is_not l b = same_tests (bit_and l (2 ^ b) == 0) (not (bit_at l b == 1))
     let both = bit_at_and l (2 ^ b) b in
     let zero_bit = bit_at-zero b in
     not_one (bit_at l b) (bit_at-lt l b) (omega (arith, e, one, both, zero_bit, bit_at-lt l b)))
-    (λ h. eq-eqb (bit_and l (2 ^ b)) 0 (same_from_bits (bit_and l (2 ^ b)) 0 (λ i. bit_at_and l (2 ^ b) i ∙ each h i ∙ sym (bit_at-zero i))))
+    (λ h. eq-eqb (bit_and l (2 ^ b)) 0 (same_from_bits (bit_and l (2 ^ b)) 0
+    (λ i. bit_at_and l (2 ^ b) i ∙ each h i ∙ sym (bit_at-zero i))))
   where
     each : not (bit_at l b == 1) ≡ true → (i : ℕ) → min (bit_at l i) (bit_at (2 ^ b) i) ≡ 0
     each unset i = elim (eqb_tells i b) [
@@ -90,7 +94,8 @@ module _ (names : List LtlTree) (rising : IsIncreasing tree_cmp names) (letter :
   t c = is_true_with letter later test (choice_named names c)
 
   cube_both : (c d : ChoiceKey) → IsWell names c → IsWell names d → bit_and (bit_xor c.want d.want) (bit_and c.care d.care) ≡ 0
-      → cube_matches (bit_or c.care d.care) (bit_or c.want d.want) letter ≡ (cube_matches c.care c.want letter && cube_matches d.care d.want letter)
+      → cube_matches (bit_or c.care d.care) (bit_or c.want d.want) letter
+      ≡ (cube_matches c.care c.want letter && cube_matches d.care d.want letter)
   cube_both c d p q apart = same_tests _ _
       (λ h.
       let e = eqb-true (bit_and letter (bit_or c.care d.care)) (bit_or c.want d.want) h in
@@ -100,9 +105,11 @@ module _ (names : List LtlTree) (rising : IsIncreasing tree_cmp names) (letter :
       (λ h.
       let parts = and_parts (cube_matches c.care c.want letter) (cube_matches d.care d.want letter) h in
       eq-eqb (bit_and letter (bit_or c.care d.care)) (bit_or c.want d.want)
-      (matches_both letter c.care c.want d.care d.want (eqb-true (bit_and letter c.care) c.want parts.0) (eqb-true (bit_and letter d.care) d.want parts.1)))
+      (matches_both letter c.care c.want d.care d.want (eqb-true (bit_and letter c.care) c.want parts.0)
+      (eqb-true (bit_and letter d.care) d.want parts.1)))
 
-  true_join : (c d : ChoiceKey) → IsWell names c → IsWell names d → bit_and (bit_xor c.want d.want) (bit_and c.care d.care) ≡ 0 → t (join names rising c d) ≡ (t c && t d)
+  true_join : (c d : ChoiceKey) → IsWell names c → IsWell names d → bit_and (bit_xor c.want d.want) (bit_and c.care d.care) ≡ 0 →
+      t (join names rising c d) ≡ (t c && t d)
   true_join c d p q apart =
       ap (is_true_with letter later test) (join_named names rising c d p q)
       ∙ (λ k. cube_both c d p q apart k
@@ -120,9 +127,12 @@ module _ (names : List LtlTree) (rising : IsIncreasing tree_cmp names) (letter :
       by false h = refl
       by true h =
           let parts = and_parts (t c) (t d) h in
-          let left = and_parts (cube_matches c.care c.want letter) (list_all later (map (formula_named names) c.next_set) && list_all test (map (formula_named names) c.postponed)) parts.0 in
-          let right = and_parts (cube_matches d.care d.want letter) (list_all later (map (formula_named names) d.next_set) && list_all test (map (formula_named names) d.postponed)) parts.1 in
-          let zero_at = matches_apart letter c.care c.want d.care d.want (eqb-true (bit_and letter c.care) c.want left.0) (eqb-true (bit_and letter d.care) d.want right.0) in
+          let left = and_parts (cube_matches c.care c.want letter) (list_all later (map (formula_named names) c.next_set)
+          && list_all test (map (formula_named names) c.postponed)) parts.0 in
+          let right = and_parts (cube_matches d.care d.want letter) (list_all later (map (formula_named names) d.next_set)
+          && list_all test (map (formula_named names) d.postponed)) parts.1 in
+          let zero_at = matches_apart letter c.care c.want d.care d.want (eqb-true (bit_and letter c.care) c.want left.0)
+          (eqb-true (bit_and letter d.care) d.want right.0) in
           absurd (false≢true (sym apart ∙ eq-eqb (bit_and (bit_xor c.want d.want) (bit_and c.care d.care)) 0 zero_at))
 
   any_join : (c d : ChoiceKey) (ks : List ChoiceKey) → IsWell names c → IsWell names d
@@ -131,16 +141,19 @@ module _ (names : List LtlTree) (rising : IsIncreasing tree_cmp names) (letter :
     where
       by : (b : Bool) → (bit_and (bit_xor c.want d.want) (bit_and c.care d.care) == 0) ≡ b
           → list_any t (cons_option (cond b (Some (join names rising c d)) None) ks) ≡ ((t c && t d) || list_any t ks)
-      by true is = ap (λ b. b || list_any t ks) (true_join c d p q (eqb-true (bit_and (bit_xor c.want d.want) (bit_and c.care d.care)) 0 is))
+      by true is = ap (λ b. b || list_any t ks) (true_join c d p q
+          (eqb-true (bit_and (bit_xor c.want d.want) (bit_and c.care d.care)) 0 is))
       by false is = ap (λ b. b || list_any t ks) (sym (contradict c d is))
 
-  any_joins_one : (c : ChoiceKey) (ds : List ChoiceKey) → IsWell names c → AreWell names rising ds → list_any t (filter_map (joined nat_eq nat_cmp c) ds) ≡ (t c && list_any t ds)
+  any_joins_one : (c : ChoiceKey) (ds : List ChoiceKey) → IsWell names c → AreWell names rising ds →
+      list_any t (filter_map (joined nat_eq nat_cmp c) ds) ≡ (t c && list_any t ds)
   any_joins_one c [] p each = sym (and-false (t c))
   any_joins_one c (d ∷ ds) p each =
       any_join c d (filter_map (joined nat_eq nat_cmp c) ds) p each.0
       ∙ ap (λ b. (t c && t d) || b) (any_joins_one c ds p each.1) ∙ sym (and-or_distrib_left (t c) (t d) (list_any t ds))
 
-  any_joins : (cs ds : List ChoiceKey) → AreWell names rising cs → AreWell names rising ds → list_any t (joins nat_eq nat_cmp cs ds) ≡ (list_any t cs && list_any t ds)
+  any_joins : (cs ds : List ChoiceKey) → AreWell names rising cs → AreWell names rising ds →
+      list_any t (joins nat_eq nat_cmp cs ds) ≡ (list_any t cs && list_any t ds)
   any_joins [] ds left right = refl
   any_joins (c ∷ cs) ds left right =
       list_any-append t (filter_map (joined nat_eq nat_cmp c) ds) (joins nat_eq nat_cmp cs ds)
@@ -150,26 +163,32 @@ module _ (names : List LtlTree) (rising : IsIncreasing tree_cmp names) (letter :
   -- what lies within a true choice is true
   down : (y x : ChoiceKey) → Within y x → t x ≡ true → t y ≡ true
   down y x w h =
-      let parts = and_parts (cube_matches x.care x.want letter) (list_all later (map (formula_named names) x.next_set) && list_all test (map (formula_named names) x.postponed)) h in
-      let sets = and_parts (list_all later (map (formula_named names) x.next_set)) (list_all test (map (formula_named names) x.postponed)) parts.1 in
+      let parts = and_parts (cube_matches x.care x.want letter) (list_all later (map (formula_named names) x.next_set)
+      && list_all test (map (formula_named names) x.postponed)) h in
+      let sets = and_parts (list_all later (map (formula_named names) x.next_set))
+      (list_all test (map (formula_named names) x.postponed)) parts.1 in
       let at : bit_and letter x.care ≡ x.want = eqb-true (bit_and letter x.care) x.want parts.0 in
       let cube : bit_and letter y.care ≡ y.want =
-      ap (bit_and letter) (sym w.care ∙ and_comm y.care x.care) ∙ sym (and_assoc y.care letter x.care) ∙ ap (λ n. bit_and n y.care) at ∙ w.want in
+      ap (bit_and letter) (sym w.care ∙ and_comm y.care x.care) ∙ sym (and_assoc y.care letter x.care) ∙ ap (λ n. bit_and n y.care) at
+      ∙ w.want in
       and_from (cube_matches y.care y.want letter) _ (eq-eqb (bit_and letter y.care) y.want cube)
       (and_from (list_all later (map (formula_named names) y.next_set)) _
       (passes later y.next_set x.next_set w.next sets.0) (passes test y.postponed x.postponed w.postponed sets.1))
     where
-      passes : (p : LtlTree → Bool) (ys xs : List ℕ) → is_subset nat_eq ys xs ≡ true → list_all p (map (formula_named names) xs) ≡ true → list_all p (map (formula_named names) ys) ≡ true
+      passes : (p : LtlTree → Bool) (ys xs : List ℕ) → is_subset nat_eq ys xs ≡ true → list_all p (map (formula_named names) xs) ≡ true →
+          list_all p (map (formula_named names) ys) ≡ true
       passes p ys xs sub all =
           all_map (formula_named names) p ys
           ∙ subset_passes (λ n. p (formula_named names n)) ys xs sub (sym (all_map (formula_named names) p xs) ∙ all)
 
   any_reduced : (cs : List ChoiceKey) → AreWell names rising cs → list_any t (reduced nat_eq cs) ≡ list_any t cs
   any_reduced cs each =
-      any_without_larger (without_repeats nat_eq cs) (each_weaker (IsWell names) IsRisingChoice (rising_of names) (without_repeats nat_eq cs) (repeats_well names rising cs each)) t down ∙ any_without_repeats t cs
+      any_without_larger (without_repeats nat_eq cs) (each_weaker (IsWell names) IsRisingChoice (rising_of names)
+      (without_repeats nat_eq cs) (repeats_well names rising cs each)) t down ∙ any_without_repeats t cs
 
   -- a list that was formed is true exactly where it was before it was reduced
-  pub of_formed : (cs r : List ChoiceKey) → AreWell names rising cs → formed nat_eq cs ≡ Some r → AreWell names rising r × (list_any t r ≡ list_any t cs)
+  pub of_formed : (cs r : List ChoiceKey) → AreWell names rising cs → formed nat_eq cs ≡ Some r →
+      AreWell names rising r × (list_any t r ≡ list_any t cs)
   of_formed cs r each is = by (nat_lt most_choices (length cs)) is
     where
       by : (b : Bool) → cond b None (Some (reduced nat_eq cs)) ≡ Some r → AreWell names rising r × (list_any t r ≡ list_any t cs)

@@ -1,5 +1,6 @@
 -- Choices over numbers that lie within others: the order is one of inclusion, and a different one within is lighter.
-use Rattle.std.proofs.Common.{◌≡◌, ◌∙◌, ℕ, zero, suc, ◌+◌, ◌/◌, ◌%◌, ◌<◌, ◌≤◌, Bool, true, false, ◌&&◌, ◌==◌, nat_eq, List, [], ◌∷◌, length, ◌⊎◌, inl, inr, refl, sym, ap, arith, bit_and, eq-eqb}
+use Rattle.std.proofs.Common.{◌≡◌, ◌∙◌, ℕ, zero, suc, ◌+◌, ◌/◌, ◌%◌, ◌<◌, ◌≤◌, Bool, true, false, ◌&&◌, ◌==◌, nat_eq, List, [], ◌∷◌, length}
+use Rattle.std.proofs.Common.{◌⊎◌, inl, inr, refl, sym, ap, arith, bit_and, eq-eqb}
 use Rattle.std.specs.List.{list_any, list_all, AllByRecursion}
 use Rattle.std.specs.Cmp.Lexicographic.{pointwise}
 use Rattle.std.specs.declared.cmp.Ordering.TheVariants.{Less}
@@ -27,7 +28,8 @@ fewer_within (suc d) y x a b h =
     let low : y % 2 ≤ x % 2 = omega (arith, step, h) in
     by low (ones_step y) (ones_step x) (fewer_within d (y / 2) (x / 2) (omega arith) (omega arith) half)
   where
-    by : y % 2 ≤ x % 2 → ones y ≡ y % 2 + ones (y / 2) → ones x ≡ x % 2 + ones (x / 2) → (y / 2 ≡ x / 2) ⊎ (ones (y / 2) < ones (x / 2)) → (y ≡ x) ⊎ (ones y < ones x)
+    by : y % 2 ≤ x % 2 → ones y ≡ y % 2 + ones (y / 2) → ones x ≡ x % 2 + ones (x / 2) → (y / 2 ≡ x / 2) ⊎ (ones (y / 2) < ones (x / 2)) →
+        (y ≡ x) ⊎ (ones y < ones x)
     by low oy ox (inr less) = inr (omega arith)
     by low oy ox (inl same) = on (y % 2 == x % 2) refl
       where
@@ -66,7 +68,8 @@ subset_more (y ∷ ys) xs x sub =
 
 pub subset_itself : (xs : List ℕ) → is_subset nat_eq xs xs ≡ true
 subset_itself [] = refl
-subset_itself (x ∷ xs) = and_from (has (x ∷ xs) x) (is_subset nat_eq xs (x ∷ xs)) (or_left (nat_eq x x) (has xs x) (eqb_self x)) (subset_more xs xs x (subset_itself xs))
+subset_itself (x ∷ xs) = and_from (has (x ∷ xs) x) (is_subset nat_eq xs (x ∷ xs)) (or_left (nat_eq x x) (has xs x) (eqb_self x))
+    (subset_more xs xs x (subset_itself xs))
 
 pub subset_trans : (xs ys zs : List ℕ) → is_subset nat_eq xs ys ≡ true → is_subset nat_eq ys zs ≡ true → is_subset nat_eq xs zs ≡ true
 subset_trans xs ys zs first second = subset_passes (λ m. has zs m) xs ys first second
@@ -80,7 +83,11 @@ drop_first x xs [] above sub = refl
 drop_first x xs (y ∷ ys) above sub =
     let parts = and_parts (has (x ∷ xs) y) (is_subset nat_eq ys (x ∷ xs)) sub in
     and_from (has xs y) (is_subset nat_eq ys xs)
-    (elim (or_cases (nat_eq x y) (has xs y) parts.0) [ inl same ↦ (let e = eqb-true x y same in absurd (omega (arith, above.0))) | inr later ↦ later ])
+    (elim (or_cases (nat_eq x y) (has xs y) parts.0) [
+      | inl same ↦
+          (let e = eqb-true x y same in absurd (omega (arith, above.0)))
+      | inr later ↦ later
+    ])
     (drop_first x xs ys above.1 parts.1)
 
 each_above : (x : ℕ) (ys : List ℕ) → AllByRecursion (λ n. nat_cmp x n ≡ Less) ys → AllByRecursion (λ n. x < n) ys
@@ -103,7 +110,8 @@ has_above x y (z ∷ zs) h each =
     ]
 
 -- a subset of a set is it, or has fewer members
-pub fewer_members : (ys xs : List ℕ) → IsIncreasing nat_cmp ys → IsIncreasing nat_cmp xs → is_subset nat_eq ys xs ≡ true → (ys ≡ xs) ⊎ (length ys < length xs)
+pub fewer_members : (ys xs : List ℕ) → IsIncreasing nat_cmp ys → IsIncreasing nat_cmp xs → is_subset nat_eq ys xs ≡ true →
+    (ys ≡ xs) ⊎ (length ys < length xs)
 fewer_members [] [] up_y up_x sub = inl refl
 fewer_members [] (x ∷ xs) up_y up_x sub = inr (omega arith)
 fewer_members (y ∷ ys) [] up_y up_x sub = absurd (false≢true sub)
@@ -120,7 +128,8 @@ fewer_members (y ∷ ys) (x ∷ xs) up_y up_x sub =
         let above : AllByRecursion (λ n. x < n) ys = rw e (each_above y ys up_y.0) in
         elim (go (drop_first x xs ys above rest)) [ inl all ↦ inl (λ i. sym e i ∷ all i) | inr shorter ↦ inr (omega (arith, shorter)) ]
 
-    other : x < y → (is_subset nat_eq (y ∷ ys) xs ≡ true → (y ∷ ys ≡ xs) ⊎ (length (y ∷ ys) < length xs)) → (y ∷ ys ≡ x ∷ xs) ⊎ (length (y ∷ ys) < length (x ∷ xs))
+    other : x < y → (is_subset nat_eq (y ∷ ys) xs ≡ true → (y ∷ ys ≡ xs) ⊎ (length (y ∷ ys) < length xs)) →
+        (y ∷ ys ≡ x ∷ xs) ⊎ (length (y ∷ ys) < length (x ∷ xs))
     other h go =
         elim (go (drop_first x xs (y ∷ ys) (above_more x y ys h up_y.0) sub)) [
           | inl all ↦ (let long : length (y ∷ ys) ≡ length xs = ap length all in inr (omega arith))
@@ -130,8 +139,10 @@ fewer_members (y ∷ ys) (x ∷ xs) up_y up_x sub =
 -- choices
 pub same_key_is : (c d : ChoiceKey) → same_choice nat_eq c d ≡ true → c ≡ d
 same_key_is c d h =
-    let first = and_parts (c.care == d.care) ((c.want == d.want) && (pointwise nat_eq c.next_set d.next_set && pointwise nat_eq c.postponed d.postponed)) h in
-    let second = and_parts (c.want == d.want) (pointwise nat_eq c.next_set d.next_set && pointwise nat_eq c.postponed d.postponed) first.1 in
+    let first = and_parts (c.care == d.care) ((c.want == d.want)
+    && (pointwise nat_eq c.next_set d.next_set && pointwise nat_eq c.postponed d.postponed)) h in
+    let second = and_parts (c.want == d.want) (pointwise nat_eq c.next_set d.next_set
+    && pointwise nat_eq c.postponed d.postponed) first.1 in
     let third = and_parts (pointwise nat_eq c.next_set d.next_set) (pointwise nat_eq c.postponed d.postponed) second.1 in
     λ i. record {
       care = eqb-true c.care d.care first.0 i;
@@ -140,10 +151,12 @@ same_key_is c d h =
       postponed = (bytes_eq-Decides c.postponed d.postponed).0 third.1 i;
     }
 
-pub is_same_key : (c d : ChoiceKey) → c.care ≡ d.care → c.want ≡ d.want → c.next_set ≡ d.next_set → c.postponed ≡ d.postponed → same_choice nat_eq c d ≡ true
+pub is_same_key : (c d : ChoiceKey) → c.care ≡ d.care → c.want ≡ d.want → c.next_set ≡ d.next_set → c.postponed ≡ d.postponed →
+    same_choice nat_eq c d ≡ true
 is_same_key c d a b e f =
     and_from (c.care == d.care) _ (eq-eqb c.care d.care a) (and_from (c.want == d.want) _ (eq-eqb c.want d.want b)
-    (and_from (pointwise nat_eq c.next_set d.next_set) _ ((bytes_eq-Decides c.next_set d.next_set).1 e) ((bytes_eq-Decides c.postponed d.postponed).1 f)))
+    (and_from (pointwise nat_eq c.next_set d.next_set) _ ((bytes_eq-Decides c.next_set d.next_set).1 e)
+    ((bytes_eq-Decides c.postponed d.postponed).1 f)))
 
 -- what it is to lie within
 pub record Within (c d : ChoiceKey) : Type 0 where
@@ -154,16 +167,24 @@ pub record Within (c d : ChoiceKey) : Type 0 where
 
 pub within_is : (c d : ChoiceKey) → is_within nat_eq c d ≡ true → Within c d
 within_is c d h =
-    let third = and_parts ((bit_and c.care d.care == c.care) && (bit_and d.want c.care == c.want) && is_subset nat_eq c.next_set d.next_set) (is_subset nat_eq c.postponed d.postponed) h in
-    let second = and_parts ((bit_and c.care d.care == c.care) && (bit_and d.want c.care == c.want)) (is_subset nat_eq c.next_set d.next_set) third.0 in
+    let third = and_parts ((bit_and c.care d.care == c.care) && (bit_and d.want c.care == c.want) && is_subset nat_eq c.next_set d.next_set)
+    (is_subset nat_eq c.postponed d.postponed) h in
+    let second = and_parts ((bit_and c.care d.care == c.care) && (bit_and d.want c.care == c.want))
+    (is_subset nat_eq c.next_set d.next_set) third.0 in
     let first = and_parts (bit_and c.care d.care == c.care) (bit_and d.want c.care == c.want) second.0 in
-    record { care = eqb-true (bit_and c.care d.care) c.care first.0; want = eqb-true (bit_and d.want c.care) c.want first.1; next = second.1; postponed = third.1 }
+    record {
+      care = eqb-true (bit_and c.care d.care) c.care first.0;
+      want = eqb-true (bit_and d.want c.care) c.want first.1;
+      next = second.1;
+      postponed = third.1;
+    }
 
 pub is_within_key : (c d : ChoiceKey) → Within c d → is_within nat_eq c d ≡ true
 is_within_key c d w =
     and_from ((bit_and c.care d.care == c.care) && (bit_and d.want c.care == c.want) && is_subset nat_eq c.next_set d.next_set) _
     (and_from ((bit_and c.care d.care == c.care) && (bit_and d.want c.care == c.want)) _
-    (and_from (bit_and c.care d.care == c.care) _ (eq-eqb (bit_and c.care d.care) c.care w.care) (eq-eqb (bit_and d.want c.care) c.want w.want)) w.next)
+    (and_from (bit_and c.care d.care == c.care) _ (eq-eqb (bit_and c.care d.care) c.care w.care)
+    (eq-eqb (bit_and d.want c.care) c.want w.want)) w.next)
     w.postponed
 
 pub within_trans : (x y z : ChoiceKey) → Within x y → Within y z → Within x z
@@ -171,7 +192,8 @@ within_trans x y z p q = record {
   care =
       ap (λ n. bit_and n z.care) (sym p.care) ∙ and_assoc z.care x.care y.care ∙ ap (bit_and x.care) q.care ∙ p.care;
   want =
-      ap (bit_and z.want) (sym p.care ∙ and_comm x.care y.care) ∙ sym (and_assoc x.care z.want y.care) ∙ ap (λ n. bit_and n x.care) q.want ∙ p.want;
+      ap (bit_and z.want) (sym p.care ∙ and_comm x.care y.care) ∙ sym (and_assoc x.care z.want y.care) ∙ ap (λ n. bit_and n x.care) q.want
+      ∙ p.want;
   next = subset_trans x.next_set y.next_set z.next_set p.next q.next;
   postponed = subset_trans x.postponed y.postponed z.postponed p.postponed q.postponed;
 }
@@ -180,7 +202,12 @@ pub rising : (names : List LtlTree) (c : ChoiceKey) → IsWell names c → IsRis
 rising names c p = record { within = p.within; next_rises = p.next_rises; postponed_rises = p.postponed_rises }
 
 pub within_itself : (c : ChoiceKey) → IsRisingChoice c → Within c c
-within_itself c p = record { care = and_self c.care; want = p.within; next = subset_itself c.next_set; postponed = subset_itself c.postponed }
+within_itself c p = record {
+  care = and_self c.care;
+  want = p.within;
+  next = subset_itself c.next_set;
+  postponed = subset_itself c.postponed;
+}
 
 pub lighter : (y x : ChoiceKey) → IsRisingChoice y → IsRisingChoice x → Within y x → same_choice nat_eq y x ≡ false → weight y < weight x
 lighter y x p q w different =

@@ -2,7 +2,8 @@
 -- of any type, which an order sorts: here formulas are their own names, and the code names them by numbers.
 -- Source: Gerth, Peled, Vardi, Wolper: Simple On-the-fly Automatic Verification of Linear Temporal Logic (PSTV 1995),
 -- the expansion of a node. Here choices that another one lies within are dropped, and untils that are put off are kept.
-use Rattle.std.specs.Prelude.{ℕ, ◌^◌, Bool, not, ◌&&◌, ◌==◌, List, [], ◌∷◌, ◌++◌, cond, length, filter, nat_lt, bit_and, bit_or, bit_xor, Option, None, Some}
+use Rattle.std.specs.Prelude.{ℕ, ◌^◌, Bool, not, ◌&&◌, ◌==◌, List, [], ◌∷◌, ◌++◌, cond, length, filter, nat_lt, bit_and, bit_or, bit_xor}
+use Rattle.std.specs.Prelude.{Option, None, Some}
 use Rattle.std.specs.List.{list_any, list_all, filter_map}
 use Rattle.std.specs.declared.cmp.Ordering.{Ordering}
 use Rattle.std.specs.Cmp.Lexicographic.{pointwise}
@@ -38,7 +39,8 @@ module _ {A : Type 0} where
 
   -- the choices of a bit that is not to be set: the empty one where a letter has no such bit
   abbrev pub not_bit_choices : ℕ → List (ChoiceOf A)
-  not_bit_choices b = cond (nat_lt b letter_bits) ((record { care = 2 ^ b; want = 0; next_set = []; postponed = [] }) ∷ []) (empty_choice ∷ [])
+  not_bit_choices b = cond (nat_lt b letter_bits) ((record { care = 2 ^ b; want = 0; next_set = []; postponed = [] }) ∷ [])
+      (empty_choice ∷ [])
 
   -- the choice that goes on with a formula, and the one that puts off an until
   abbrev pub goes_on : A → ChoiceOf A

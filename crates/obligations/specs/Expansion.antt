@@ -2,7 +2,8 @@
 use Rattle.std.specs.Prelude.{Bool, List, [], ◌∷◌, ◌++◌, Option, Some}
 use Rattle.std.specs.declared.cmp.Ordering.{Ordering}
 use Rattle.std.specs.Ordering.{eq_by_cmp}
-use Rattle.ltl_formula.specs.LtlTree.{LtlTree, top, bottom, bit, not_bit, conjunction, disjunction, next, until, release, LtlTrees, no_formulas, more_formulas}
+use Rattle.ltl_formula.specs.LtlTree.{LtlTree, top, bottom, bit, not_bit, conjunction, disjunction, next, until, release, LtlTrees}
+use Rattle.ltl_formula.specs.LtlTree.{no_formulas, more_formulas}
 use Rattle.ltl_formula.specs.LtlOrder.{tree_cmp}
 use Rattle.obligations.specs.Choices.{ChoiceOf, empty_choice, bit_choices, not_bit_choices, goes_on, puts_off, then_list, formed, product}
 

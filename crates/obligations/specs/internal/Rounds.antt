@@ -1,6 +1,7 @@
 -- Internal: only private functions of this crate use these words.
 -- The choices that no different one lies within, gathered by rising weight.
-use Rattle.std.specs.Prelude.{ℕ, ◌+◌, zero, suc, Bool, true, cond, not, bit_and, nat_lt, ◌&&◌, ◌||◌, ◌==◌, List, [], ◌∷◌, ◌++◌, filter, map, length, nat_eq, count_ones}
+use Rattle.std.specs.Prelude.{ℕ, ◌+◌, zero, suc, Bool, true, cond, not, bit_and, nat_lt, ◌&&◌, ◌||◌, ◌==◌, List, [], ◌∷◌, ◌++◌, filter, map}
+use Rattle.std.specs.Prelude.{length, nat_eq, count_ones}
 use Rattle.std.specs.Borrow.{Bor}
 use Rattle.std.specs.List.{list_any}
 use Rattle.obligations.specs.declared.numbered.NumberedChoice.{NumberedChoice}

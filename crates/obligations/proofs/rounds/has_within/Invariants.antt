@@ -5,4 +5,5 @@ use Rattle.obligations.proofs.rounds.has_within.Given as goal
 
 -- none of the choices gone through lies within it
 abbrev pub invariant-loop-other : goal.invariant-loop-other
-invariant-loop-other l = has_within (lent_keys (drop l.other-index l.lighter)) (choice_key l.choice) ≡ has_within (lent_keys l.lighter) (choice_key l.choice)
+invariant-loop-other l = has_within (lent_keys (drop l.other-index l.lighter)) (choice_key l.choice)
+    ≡ has_within (lent_keys l.lighter) (choice_key l.choice)

@@ -11,5 +11,6 @@ returns c =
     c.in_ok-kept.ensures
     ∙ ap (flagged_members (choice_keys c.args.choices.now))
     (c.in_ok-run_rounds.ensures ∙ ap (flags_after (choice_keys c.args.choices.now) c.args.bound) c.requires.flags
-    ∙ flags_tell (choice_keys c.args.choices.now) (all_rising (choice_keys c.args.choices.now) c.requires.rising) c.args.bound c.requires.bound)
+    ∙ flags_tell (choice_keys c.args.choices.now) (all_rising (choice_keys c.args.choices.now) c.requires.rising) c.args.bound
+    c.requires.bound)
     ∙ flagged_is (λ x. not (is_larger nat_eq (choice_keys c.args.choices.now) x)) (choice_keys c.args.choices.now)

@@ -11,7 +11,8 @@ loop-round-preserved c =
     let was = c.loop-round.invariant in
     let seen = ap lent_keys c.as_slice.ensures.value ∙ was.lighter in
     rw add-one (record {
-      lighter = lighter_step c.args.choices.now c.loop-round.round _ _ _ _ _ was.lighter seen c.in_ok-append.ensures.items c.new-found.ensures.items c.in_ok-keep.ensures.found;
+      lighter = lighter_step c.args.choices.now c.loop-round.round _ _ _ _ _ was.lighter seen c.in_ok-append.ensures.items
+          c.new-found.ensures.items c.in_ok-keep.ensures.found;
       flags = round_step c.args.choices.now c.loop-round.round _ _ _ _ seen was.flags c.in_ok-keep.ensures.flags;
       long = c.keep.auto.flags ∙ was.long;
     })

@@ -4,7 +4,8 @@ use Rattle.obligations.proofs.sets.insert_member.Goals as goal
 
 pub returns-then-is_at : goal.returns-then-is_at
 returns-then-is_at c =
-    when_there c.args.member _ _ _ _ c.deref.ensures.value c.place_of-place.ensures c.deref-2.ensures.value (c.is_at.ensures.0 c.if-is_at.true)
+    when_there c.args.member _ _ _ _ c.deref.ensures.value c.place_of-place.ensures c.deref-2.ensures.value
+    (c.is_at.ensures.0 c.if-is_at.true)
 
 pub insert-requires : goal.insert-requires
 insert-requires c =
@@ -13,4 +14,5 @@ insert-requires c =
 pub returns : goal.returns
 returns c =
     c.in_ok-insert.ensures.items
-    ∙ when_absent c.args.member _ _ _ _ c.deref.ensures.value c.place_of-place.ensures c.deref-2.ensures.value (λ h. true≢false (sym (c.is_at.ensures.1 h) ∙ c.if-is_at.false))
+    ∙ when_absent c.args.member _ _ _ _ c.deref.ensures.value c.place_of-place.ensures c.deref-2.ensures.value
+    (λ h. true≢false (sym (c.is_at.ensures.1 h) ∙ c.if-is_at.false))

@@ -9,5 +9,6 @@ use Rattle.obligations.proofs.stepping.numbered_choices.Given as goal
 -- what the choices so far make with the members that are left
 abbrev pub invariant-loop-member : goal.invariant-loop-member
 invariant-loop-member l =
-    choices_from nat_eq nat_cmp (formula_number (lent_trees l.names)) (choice_keys l.so_far.items) (map ltl_tree (drop l.member-index l.members))
+    choices_from nat_eq nat_cmp (formula_number (lent_trees l.names)) (choice_keys l.so_far.items)
+    (map ltl_tree (drop l.member-index l.members))
     ≡ choices_from nat_eq nat_cmp (formula_number (lent_trees l.names)) (empty_choice ∷ []) (map ltl_tree l.members)

@@ -15,15 +15,18 @@ choices_of-requires-clause-rising c = rising (map ltl_tree c.args.members.now) (
 pub choices_of-requires-clause-well : goal.choices_of-requires-clause-well
 choices_of-requires-clause-well c =
     subst (λ cs. AllByRecursion (IsWell (lent_trees c.args.names.now)) (choice_keys cs)) (sym c.as_slice.ensures.value)
-    (found_well (map ltl_tree c.args.members.now) (lent_trees c.args.names.now) c.requires (choice_keys c.in_ok-numbered.numbered.items) c.in_ok-numbered.ensures.choices)
+    (found_well (map ltl_tree c.args.members.now) (lent_trees c.args.names.now) c.requires
+    (choice_keys c.in_ok-numbered.numbered.items) c.in_ok-numbered.ensures.choices)
 
 pub returns-clause-choices : goal.returns-clause-choices
 returns-clause-choices c =
-    found (map ltl_tree c.args.members.now) (lent_trees c.args.names.now) c.requires (choice_keys c.in_ok-numbered.numbered.items) c.in_ok-numbered.ensures.choices
+    found (map ltl_tree c.args.members.now) (lent_trees c.args.names.now) c.requires
+    (choice_keys c.in_ok-numbered.numbered.items) c.in_ok-numbered.ensures.choices
     ∙ ap (λ cs. Some (map (choice_named (lent_trees c.args.names.now)) (choice_keys cs))) (sym c.as_slice.ensures.value)
     ∙ ap Some (sym c.in_ok-choices_of.ensures)
 
 pub returns-in_err-numbered-clause-many : goal.returns-in_err-numbered-clause-many
 returns-in_err-numbered-clause-many c =
-    handed_on c.from_residual.result c.in_err-numbered.field-0.0 (λ e. e ≡ Choices → choices (map ltl_tree c.args.members.now) ≡ None) c.from_residual.ensures.1
+    handed_on c.from_residual.result c.in_err-numbered.field-0.0
+    (λ e. e ≡ Choices → choices (map ltl_tree c.args.members.now) ≡ None) c.from_residual.ensures.1
     (λ is. none (map ltl_tree c.args.members.now) (lent_trees c.args.names.now) c.requires (c.in_err-numbered.ensures.many is))
