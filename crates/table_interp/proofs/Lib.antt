@@ -2,3 +2,4 @@ mod Lookups
 mod Exactness
 mod ReadLoops
 mod Slots
+mod Finds

@@ -49,17 +49,16 @@ has_other_width inputs row = not (length row == length inputs)
 abbrev pub is_no_value : ℕ → ℕ → Bool
 is_no_value domain n = not (nat_lt n domain)
 
--- ---- how far a text is one of inputs
+-- ---- how far a text gives rows
 
-module _ (text : List ℕ) (names : List Name) (inputs : List ℕ) (given : InputsSyntax) where
-  -- the text is of the form of inputs, and each column is for an input
-  pub record AreKnown : Type 0 where
-    pub read : IsRead IsInputs text given
-    pub known : find (λ x. not (is_input_name names inputs x)) given.names ≡ None
+module _ (names : List Name) (inputs : List ℕ) (given : InputsSyntax) where
+  -- each column is for an input
+  abbrev pub AreKnown : Type 0
+  AreKnown = find (λ x. not (is_input_name names inputs x)) given.names ≡ None
 
   -- and no two for the same one
   pub record AreOnce : Type 0 where
-    pub so_far : AreKnown
+    pub known : AreKnown
     pub once : HasNoRepeat (map (number_for names) given.names)
 
   -- and each input has a column
@@ -82,20 +81,23 @@ module _ (text : List ℕ) (names : List Name) (inputs : List ℕ) (given : Inpu
     pub so_far : AreCounted
     pub in_range : find (list_any (is_no_value domain)) (all_rows given) ≡ None
 
--- ---- the rows
-
 -- a row in the order of the inputs, where the columns are for the signals with these numbers
 abbrev pub by_inputs : List ℕ → List ℕ → List ℕ → Option (List ℕ)
 by_inputs columns inputs row = all_there (map (λ s. beside s columns row) inputs)
 
--- the text spells the rows: those of its stem and of its cycle, each in the order of the inputs
-pub record SpellsInputs (text : List ℕ) (names : List Name) (inputs : List ℕ) (domain : ℕ) (rows : InputRows ℕ) : Type 0 where
-  pub given : InputsSyntax
-  pub in_range : AreInRange text names inputs given domain
+-- the columns and rows give these rows: those of the stem and of the cycle, each in the order of the inputs
+pub record GivesRows (names : List Name) (inputs : List ℕ) (given : InputsSyntax) (domain : ℕ) (rows : InputRows ℕ) : Type 0 where
+  pub in_range : AreInRange names inputs given domain
   pub columns : List ℕ
   pub columns_are : map (number_for names) given.names ≡ map (λ s. Some s) columns
   pub stem : all_there (map (by_inputs columns inputs) given.stem) ≡ Some rows.stem
   pub cycle : all_there (map (by_inputs columns inputs) given.cycle) ≡ Some rows.cycle
+
+-- the text spells the rows
+pub record SpellsInputs (text : List ℕ) (names : List Name) (inputs : List ℕ) (domain : ℕ) (rows : InputRows ℕ) : Type 0 where
+  pub given : InputsSyntax
+  pub read : IsRead IsInputs text given
+  pub gives : GivesRows names inputs given domain rows
 
 -- the text spells no rows
 abbrev pub SpellsNoInputs : List ℕ → List Name → List ℕ → ℕ → Type 0
@@ -103,11 +105,9 @@ SpellsNoInputs text names inputs domain = (rows : InputRows ℕ) → SpellsInput
 
 -- ---- the causes of refusals
 
-module _ (text : List ℕ) (names : List Name) (inputs : List ℕ) where
+module _ (names : List Name) (inputs : List ℕ) (given : InputsSyntax) where
   -- the first column that is not for an input has its name between these offsets
   pub record HasUnknownColumn (start end : ℕ) : Type 0 where
-    pub given : InputsSyntax
-    pub read : IsRead IsInputs text given
     pub column : Terminal
     pub first : find (λ x. not (is_input_name names inputs x)) given.names ≡ Some column
     pub starts : start ≡ column.token.start
@@ -115,8 +115,7 @@ module _ (text : List ℕ) (names : List Name) (inputs : List ℕ) where
 
   -- the first column for an input that has an earlier one has its name between these offsets
   pub record HasSecondColumn (start end : ℕ) : Type 0 where
-    pub given : InputsSyntax
-    pub so_far : AreKnown text names inputs given
+    pub known : AreKnown names inputs given
     pub at : ℕ
     pub first : IsFirstRepeat (map (number_for names) given.names) at
     pub column : Terminal
@@ -126,43 +125,53 @@ module _ (text : List ℕ) (names : List Name) (inputs : List ℕ) where
 
   -- the first input without a column
   pub record HasMissingColumn (id : ℕ) : Type 0 where
-    pub given : InputsSyntax
-    pub so_far : AreOnce text names inputs given
+    pub so_far : AreOnce names inputs given
     pub first : find (has_no_column names given) inputs ≡ Some id
 
   -- there are too many rows
   pub record HasManyRows : Type 0 where
-    pub given : InputsSyntax
-    pub so_far : AreWhole text names inputs given
+    pub so_far : AreWhole names inputs given
     pub many_rows : MOST_ROWS < length (all_rows given)
 
   -- the first row that has not one number for each input
   pub record HasOtherWidth (row : ℕ) : Type 0 where
-    pub given : InputsSyntax
-    pub so_far : HasFewRows text names inputs given
+    pub so_far : HasFewRows names inputs given
     pub first : position (has_other_width inputs) (all_rows given) ≡ Some row
 
   -- the first row with a number that is no value, and the first such number of it
   pub record HasNoValue (domain row value : ℕ) : Type 0 where
-    pub given : InputsSyntax
-    pub so_far : AreCounted text names inputs given
+    pub so_far : AreCounted names inputs given
     pub first : position (list_any (is_no_value domain)) (all_rows given) ≡ Some row
     pub numbers : List ℕ
     pub there : slice_get (all_rows given) row ≡ Some numbers
     pub number : find (is_no_value domain) numbers ≡ Some value
+
+-- what a refusal says of the columns and rows
+abbrev pub HasRowCause : List Name → List ℕ → InputsSyntax → ℕ → InputError → Type 0
+HasRowCause names inputs given domain (Byte at) = ⊥
+HasRowCause names inputs given domain (OpenComment at) = ⊥
+HasRowCause names inputs given domain (Form at) = ⊥
+HasRowCause names inputs given domain (Unknown start end) = HasUnknownColumn names inputs given start end
+HasRowCause names inputs given domain (Twice start end) = HasSecondColumn names inputs given start end
+HasRowCause names inputs given domain (Missing id) = HasMissingColumn names inputs given id
+HasRowCause names inputs given domain Rows = HasManyRows names inputs given
+HasRowCause names inputs given domain (Count row) = HasOtherWidth names inputs given row
+HasRowCause names inputs given domain (Range row value) = HasNoValue names inputs given domain row value
+HasRowCause names inputs given domain NoMemory = Unit {0}
+
+-- the text is of the form of inputs, and its columns and rows have this cause
+pub record HasWrongRows (text : List ℕ) (names : List Name) (inputs : List ℕ) (domain : ℕ) (error : InputError) : Type 0 where
+  pub given : InputsSyntax
+  pub read : IsRead IsInputs text given
+  pub cause : HasRowCause names inputs given domain error
 
 -- what each refusal says of the text
 abbrev pub HasInputCause : List ℕ → List Name → List ℕ → ℕ → InputError → Type 0
 HasInputCause text names inputs domain (Byte at) = HasBadByte text at
 HasInputCause text names inputs domain (OpenComment at) = HasOpenComment text at
 HasInputCause text names inputs domain (Form at) = HasFormFault IsInputs text at
-HasInputCause text names inputs domain (Unknown start end) = HasUnknownColumn text names inputs start end
-HasInputCause text names inputs domain (Twice start end) = HasSecondColumn text names inputs start end
-HasInputCause text names inputs domain (Missing id) = HasMissingColumn text names inputs id
-HasInputCause text names inputs domain Rows = HasManyRows text names inputs
-HasInputCause text names inputs domain (Count row) = HasOtherWidth text names inputs row
-HasInputCause text names inputs domain (Range row value) = HasNoValue text names inputs domain row value
 HasInputCause text names inputs domain NoMemory = Unit {0}
+HasInputCause text names inputs domain error = HasWrongRows text names inputs domain error
 
 -- where the refusal does not say that memory ran out, the text spells no rows
 abbrev pub IsRefusedAsInputs : List ℕ → List Name → List ℕ → ℕ → InputError → Type 0

@@ -65,22 +65,16 @@ too_large names given id =
     option_and_then (λ n. option_and_then (find (λ v. not (nat_lt v (limit_of given.domain n.kind)))) (numbers_for names given.entries id))
     (slice_get names id)
 
--- ---- how far a text is one of tables
+-- ---- how far a text gives an interpretation
 
--- the text is of the form of tables, and does not have too many values
-pub record HasFewValues (text : List ℕ) (given : TablesSyntax) : Type 0 where
-  pub read : IsRead IsTables text given
-  pub few_values : given.domain ≤ MOST_VALUES
-
-module _ (text : List ℕ) (names : List Name) (cells : List ℕ) (given : TablesSyntax) where
-  -- and each entry is for a needed name, in its kind
-  pub record IsKnown : Type 0 where
-    pub so_far : HasFewValues text given
-    pub known : find (λ e. not (is_known names cells e)) given.entries ≡ None
+module _ (names : List Name) (cells : List ℕ) (given : TablesSyntax) where
+  -- each entry is for a needed name, in its kind
+  abbrev pub IsKnown : Type 0
+  IsKnown = find (λ e. not (is_known names cells e)) given.entries ≡ None
 
   -- and no two for the same one
   pub record IsOnce : Type 0 where
-    pub so_far : IsKnown
+    pub known : IsKnown
     pub once : HasNoRepeat (map (λ e. number_for names e.name) given.entries)
 
   -- and each needed name has an entry
@@ -103,19 +97,28 @@ module _ (text : List ℕ) (names : List Name) (cells : List ℕ) (given : Table
     pub so_far : IsCounted
     pub in_range : find (λ id. is_some (too_large names given id)) (needed names cells) ≡ None
 
--- ---- the interpretation
-
 -- the table of a function or a predicate; a signal has an empty one
 abbrev pub table_of : List Name → List Entry → ℕ → Option (List ℕ)
 table_of names entries id = if is_symbol_number names id then numbers_for names entries id else Some []
 
--- The text spells the interpretation: it has the text's domain, the numbers given for each function and predicate as
--- its table, and the number given for each cell as its value at first.
+-- The entries give the interpretation: the numbers for each function and predicate are its table, and the number for
+-- each cell is its value at first.
+pub record Gives (names : List Name) (cells : List ℕ) (given : TablesSyntax) (interpretation : Interpretation) : Type 0 where
+  pub in_range : IsInRange names cells given
+  pub domain : interpretation.domain ≡ given.domain
+  pub tables : all_there (map (table_of names given.entries) (numbers_from 0 (length names))) ≡ Some interpretation.tables
+  pub initial : all_there (map (numbers_for names given.entries) cells) ≡ Some (map (λ v. v ∷ []) interpretation.initial)
+
+-- the text is of the form of tables, and does not have too many values
+pub record HasFewValues (text : List ℕ) (given : TablesSyntax) : Type 0 where
+  pub read : IsRead IsTables text given
+  pub few_values : given.domain ≤ MOST_VALUES
+
+-- the text spells the interpretation
 pub record SpellsTables (text : List ℕ) (names : List Name) (cells : List ℕ) (interpretation : Interpretation) : Type 0 where
-  pub entries : List Entry
-  pub given : IsInRange text names cells (record { domain = interpretation.domain; entries = entries })
-  pub tables : all_there (map (table_of names entries) (numbers_from 0 (length names))) ≡ Some interpretation.tables
-  pub initial : all_there (map (numbers_for names entries) cells) ≡ Some (map (λ v. v ∷ []) interpretation.initial)
+  pub given : TablesSyntax
+  pub read : HasFewValues text given
+  pub gives : Gives names cells given interpretation
 
 -- the text spells no interpretation
 abbrev pub SpellsNoTables : List ℕ → List Name → List ℕ → Type 0
@@ -123,17 +126,9 @@ SpellsNoTables text names cells = (interpretation : Interpretation) → SpellsTa
 
 -- ---- the causes of refusals
 
--- the domain has too many values
-pub record HasManyValues (text : List ℕ) : Type 0 where
-  pub given : TablesSyntax
-  pub read : IsRead IsTables text given
-  pub many_values : MOST_VALUES < given.domain
-
-module _ (text : List ℕ) (names : List Name) (cells : List ℕ) where
+module _ (names : List Name) (cells : List ℕ) (given : TablesSyntax) where
   -- the first entry that is not for a needed name in its kind has its name between these offsets
   pub record HasUnknownEntry (start end : ℕ) : Type 0 where
-    pub given : TablesSyntax
-    pub so_far : HasFewValues text given
     pub entry : Entry
     pub first : find (λ e. not (is_known names cells e)) given.entries ≡ Some entry
     pub starts : start ≡ entry.name.token.start
@@ -141,8 +136,7 @@ module _ (text : List ℕ) (names : List Name) (cells : List ℕ) where
 
   -- the first entry for a name that has an earlier one has its name between these offsets
   pub record HasSecondEntry (start end : ℕ) : Type 0 where
-    pub given : TablesSyntax
-    pub so_far : IsKnown text names cells given
+    pub known : IsKnown names cells given
     pub at : ℕ
     pub first : IsFirstRepeat (map (λ e. number_for names e.name) given.entries) at
     pub entry : Entry
@@ -152,28 +146,50 @@ module _ (text : List ℕ) (names : List Name) (cells : List ℕ) where
 
   -- the first needed name without an entry
   pub record HasMissingEntry (id : ℕ) : Type 0 where
-    pub given : TablesSyntax
-    pub so_far : IsOnce text names cells given
+    pub so_far : IsOnce names cells given
     pub first : find (has_no_entry names given) (needed names cells) ≡ Some id
 
   -- the first needed name that needs too many numbers
   pub record HasManyEntries (id : ℕ) : Type 0 where
-    pub given : TablesSyntax
-    pub so_far : IsWhole text names cells given
+    pub so_far : IsWhole names cells given
     pub first : find (has_many_entries names given) (needed names cells) ≡ Some id
 
   -- the first needed name that has not as many numbers as it needs
   pub record HasOtherLength (id : ℕ) : Type 0 where
-    pub given : TablesSyntax
-    pub so_far : HasFewEntries text names cells given
+    pub so_far : HasFewEntries names cells given
     pub first : find (has_other_length names given) (needed names cells) ≡ Some id
 
   -- the first needed name with a number that is too large, and the first such number
   pub record HasLargeNumber (id value : ℕ) : Type 0 where
-    pub given : TablesSyntax
-    pub so_far : IsCounted text names cells given
+    pub so_far : IsCounted names cells given
     pub first : find (λ i. is_some (too_large names given i)) (needed names cells) ≡ Some id
     pub number : too_large names given id ≡ Some value
+
+-- what a refusal says of the entries
+abbrev pub HasEntryCause : List Name → List ℕ → TablesSyntax → TableError → Type 0
+HasEntryCause names cells given (Byte at) = ⊥
+HasEntryCause names cells given (OpenComment at) = ⊥
+HasEntryCause names cells given (Form at) = ⊥
+HasEntryCause names cells given Domain = ⊥
+HasEntryCause names cells given (Unknown start end) = HasUnknownEntry names cells given start end
+HasEntryCause names cells given (Twice start end) = HasSecondEntry names cells given start end
+HasEntryCause names cells given (Missing id) = HasMissingEntry names cells given id
+HasEntryCause names cells given (Entries id) = HasManyEntries names cells given id
+HasEntryCause names cells given (Count id) = HasOtherLength names cells given id
+HasEntryCause names cells given (Range id value) = HasLargeNumber names cells given id value
+HasEntryCause names cells given NoMemory = Unit {0}
+
+-- the domain has too many values
+pub record HasManyValues (text : List ℕ) : Type 0 where
+  pub given : TablesSyntax
+  pub read : IsRead IsTables text given
+  pub many_values : MOST_VALUES < given.domain
+
+-- the text is of the form of tables, does not have too many values, and its entries have this cause
+pub record HasWrongEntries (text : List ℕ) (names : List Name) (cells : List ℕ) (error : TableError) : Type 0 where
+  pub given : TablesSyntax
+  pub read : HasFewValues text given
+  pub cause : HasEntryCause names cells given error
 
 -- what each refusal says of the text
 abbrev pub HasTableCause : List ℕ → List Name → List ℕ → TableError → Type 0
@@ -181,13 +197,8 @@ HasTableCause text names cells (Byte at) = HasBadByte text at
 HasTableCause text names cells (OpenComment at) = HasOpenComment text at
 HasTableCause text names cells (Form at) = HasFormFault IsTables text at
 HasTableCause text names cells Domain = HasManyValues text
-HasTableCause text names cells (Unknown start end) = HasUnknownEntry text names cells start end
-HasTableCause text names cells (Twice start end) = HasSecondEntry text names cells start end
-HasTableCause text names cells (Missing id) = HasMissingEntry text names cells id
-HasTableCause text names cells (Entries id) = HasManyEntries text names cells id
-HasTableCause text names cells (Count id) = HasOtherLength text names cells id
-HasTableCause text names cells (Range id value) = HasLargeNumber text names cells id value
 HasTableCause text names cells NoMemory = Unit {0}
+HasTableCause text names cells error = HasWrongEntries text names cells error
 
 -- where the refusal does not say that memory ran out, the text spells no interpretation
 abbrev pub IsRefusedAsTables : List ℕ → List Name → List ℕ → TableError → Type 0

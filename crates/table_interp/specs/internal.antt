@@ -1,3 +1,4 @@
 pub mod Reading
 pub mod View
 pub mod Resolving
+pub mod Texts

@@ -26,6 +26,8 @@ use thiserror::Error;
 use tsl_meaning::InputLoop;
 use tsl_terms::Names;
 
+mod forms;
+mod naming;
 mod reading;
 mod resolving;
 mod tables;

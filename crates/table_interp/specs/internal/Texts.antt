@@ -1,0 +1,38 @@
+-- Internal: only private functions of this crate use these words.
+-- Why a text is not of the form of a grammar, and which name must not stand in it.
+use Rattle.std.specs.Prelude.{◌≡◌, ℕ, List, Option, IsSomeAnd}
+use Rattle.tsl_text.specs.Division.{HasBadByte, HasOpenComment}
+use Rattle.table_interp.specs.declared.forms.TextFault.{TextFault}
+use Rattle.table_interp.specs.declared.forms.TextFault.TheVariants as text
+use Rattle.table_interp.specs.declared.naming.NameFault.{NameFault}
+use Rattle.table_interp.specs.declared.naming.NameFault.TheVariants as naming
+use Rattle.table_interp.specs.declared.TableError.{TableError}
+use Rattle.table_interp.specs.declared.TableError.TheVariants as table
+use Rattle.table_interp.specs.declared.InputError.{InputError}
+use Rattle.table_interp.specs.declared.InputError.TheVariants as input
+use Rattle.table_interp.specs.Syntax.{Terminal}
+use Rattle.table_interp.specs.Forms.{HasFormFault}
+
+-- what a fault says of the text
+abbrev pub HasTextFault : {V : Type 0} → (List Terminal → V → Type 0) → List ℕ → TextFault → Type 0
+HasTextFault Is bytes (text.Byte at) = HasBadByte bytes at
+HasTextFault Is bytes (text.OpenComment at) = HasOpenComment bytes at
+HasTextFault Is bytes (text.Form at) = HasFormFault Is bytes at
+HasTextFault Is bytes text.NoMemory = Unit {0}
+
+abbrev pub table_error : TextFault → TableError
+table_error (text.Byte at) = table.Byte at
+table_error (text.OpenComment at) = table.OpenComment at
+table_error (text.Form at) = table.Form at
+table_error text.NoMemory = table.NoMemory
+
+abbrev pub input_error : TextFault → InputError
+input_error (text.Byte at) = input.Byte at
+input_error (text.OpenComment at) = input.OpenComment at
+input_error (text.Form at) = input.Form at
+input_error text.NoMemory = input.NoMemory
+
+-- the first name that must not stand in the text has the fault's token
+abbrev pub HasUnknown : Option Terminal → NameFault → Type 0
+HasUnknown found (naming.Unknown token) = IsSomeAnd found (λ x. x.token ≡ token)
+HasUnknown found naming.NoMemory = Unit {0}
