@@ -3,3 +3,8 @@ mod Exactness
 mod ReadLoops
 mod Slots
 mod Finds
+mod Locate
+mod Faults
+mod Gather
+mod Located
+mod Facts

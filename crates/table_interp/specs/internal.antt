@@ -2,3 +2,4 @@ pub mod Reading
 pub mod View
 pub mod Resolving
 pub mod Texts
+pub mod Located

@@ -26,6 +26,7 @@ use thiserror::Error;
 use tsl_meaning::InputLoop;
 use tsl_terms::Names;
 
+mod entries;
 mod forms;
 mod naming;
 mod reading;

@@ -22,7 +22,7 @@ fn same_kind(left: NameKind, right: NameKind) -> bool
 }
 
 /// Whether names of this kind have tables: functions and predicates.
-fn has_table(kind: NameKind) -> bool
+pub(crate) fn has_table(kind: NameKind) -> bool
     ensures { result ≡ has_table kind }
 {
     match kind {

@@ -1,6 +1,7 @@
 //! Interpretations by tables.
 
 ghost use Rattle.std.specs.Prelude.{◌≡◌, ◌^◌, ◌<◌, ◌≤◌, Some, IsSome, IsOk, IfOk, length, map, if◌then◌else◌};
+ghost use Rattle.sequence.specs.Numbers.{IsDistinct};
 ghost use Rattle.tsl_meaning.specs.Interpretation.{are_values, place_of_arguments, entry_at};
 
 use crate::MOST_VALUES;
@@ -46,6 +47,31 @@ impl Tables {
         self.domain
     }
 
+    /// The interpretation with these tables, and these values of the cells at first. An `Err` says that
+    /// memory ran out.
+    pub(crate) fn from_parts(
+        alloc: Global,
+        domain: u32,
+        tables: Vec<Sequence<u32>>,
+        cells: &[u32],
+        initial: &[u32],
+    ) -> Result<Tables, NoMemory>
+        requires few { domain ≤ MOST_VALUES }
+        requires distinct { IsDistinct cells.now }
+        requires paired { length cells.now ≡ length initial.now }
+        ensures cells { IfOk result (λ t. t.cells ≡ cells.now) }
+        ensures domain { IfOk result (λ t. t.interpretation.domain ≡ domain) }
+        ensures tables { IfOk result (λ t. t.interpretation.tables ≡ tables.items) }
+        ensures initial { IfOk result (λ t. t.interpretation.initial ≡ initial.now) }
+    {
+        let values = values_by_cell(alloc, cells, initial)?;
+        Ok(Tables {
+            domain,
+            tables: Sequence::from_vec(tables),
+            initial: values,
+        })
+    }
+
     /// The entry of a symbol at its arguments.
     fn entry(&self, symbol: u32, arguments: &[u32]) -> u32
         requires { IsSome (entry_at self.now.interpretation symbol arguments.now) }
@@ -57,6 +83,24 @@ impl Tables {
             None => 0,
         }
     }
+}
+
+/// Each cell with its value. An `Err` says that memory ran out.
+fn values_by_cell(
+    alloc: Global,
+    cells: &[u32],
+    initial: &[u32],
+) -> Result<IndexMap<u32, u32>, NoMemory>
+    requires distinct { IsDistinct cells.now }
+    requires paired { length cells.now ≡ length initial.now }
+    ensures cells { IfOk result (λ values. map (λ e. e.0) values.entries ≡ cells.now) }
+    ensures initial { IfOk result (λ values. map (λ e. e.1) values.entries ≡ initial.now) }
+{
+    let mut values = IndexMap::new(alloc);
+    for place in 0..cells.len() {
+        values.insert(cells[place], initial[place])?;
+    }
+    Ok(values)
 }
 
 /// The place of arguments in a table: the number that they write in the base of the domain, the first one

@@ -1,0 +1,178 @@
+-- What entries without a cause of refusal say of each needed name, and that they give an interpretation.
+use Rattle.std.proofs.Common.{◌≡◌, ◌∙◌, ℕ, zero, suc, ◌+◌, ◌<◌, ◌≤◌, ◌==◌, ◌^◌, Bool, true, false, not, ◌&&◌, ◌||◌, cond, List, [], ◌∷◌, ◌++◌}
+use Rattle.std.proofs.Common.{length, map, Option, Some, None, refl, sym, ap, subst, arith}
+use Rattle.std.specs.Prelude.{option_map, option_and_then, slice_get, is_some, filter, nat_lt, All, IsTrue, IsSomeAnd}
+use Rattle.std.specs.Option.{option_map_or}
+use Rattle.std.specs.List.{find, list_all, AllByRecursion}
+use Rattle.std.proofs.lemmas.Bool.{and_parts, ltb-true, eqb-true}
+use Rattle.std.proofs.lemmas.Option.{none-some, same_Some, slice_get-map, slice_get_within}
+use Rattle.std.proofs.Math.Nat.{pow-zero}
+use Rattle.sequence.specs.Numbers.{is_among, numbers_from}
+use Rattle.sequence.specs.Options.{all_there, passes}
+use Rattle.sequence.proofs.Booleans.{not_not}
+use Rattle.sequence.proofs.Each.{each_left, each_right, each_at, each_from_places}
+use Rattle.sequence.proofs.Passes.{filter_has, filter_at, each_from_list_all, within_from_test}
+use Rattle.tsl_terms.specs.declared.names.NameKind.{NameKind}
+use Rattle.tsl_terms.specs.declared.names.NameKind.TheVariants.{Signal, Function, Predicate}
+use Rattle.tsl_terms.specs.Name.{Name, is_name, same_kind}
+use Rattle.tsl_meaning.specs.Interpretation.{Interpretation, IsInterpretation}
+use Rattle.table_interp.specs.declared.TheConstants.{MOST_VALUES}
+use Rattle.table_interp.specs.Syntax.{Entry, TablesSyntax}
+use Rattle.table_interp.specs.Needed.{has_table, is_symbol_number, needed}
+use Rattle.table_interp.specs.Tables.{numbers_for, has_no_entry, size_of, has_other_length, limit_of, too_large, table_of, IsInRange, Gives}
+use Rattle.table_interp.specs.internal.Located.{HasSmallTable, HasOneSmall}
+use Rattle.table_interp.proofs.Finds.{each_all, all_each}
+
+-- what a search without an answer says of each member
+find_each : {X : Type 0} (test : X → Bool) (xs : List X) → find test xs ≡ None → AllByRecursion (λ x. test x ≡ false) xs
+find_each test [] h = tt
+find_each test (x ∷ xs) h = by (test x) refl h where
+  by : (b : Bool) → test x ≡ b → cond b (Some x) (find test xs) ≡ None → AllByRecursion (λ x. test x ≡ false) (x ∷ xs)
+  by true e k = absurd cc
+  by false e k = (e, find_each test xs k)
+
+-- ---- numbers of names
+
+at_number : (first count i : ℕ) → i < count → slice_get (numbers_from first count) i ≡ Some (first + i)
+at_number first zero i within = absurd (omega (arith, within))
+at_number first (suc count) zero within = ap (λ n. Some n) (omega arith)
+at_number first (suc count) (suc i) within = at_number (suc first) count i (omega (arith, within)) ∙ ap (λ n. Some n) (omega arith)
+
+numbers_within : (first count last : ℕ) → first + count ≡ last → AllByRecursion (λ n. n < last) (numbers_from first count)
+numbers_within first zero last e = tt
+numbers_within first (suc count) last e = (omega (arith, e), numbers_within (suc first) count last (omega (arith, e)))
+
+each_filter : {X : Type 0} (P : X → Type 0) (test : X → Bool) (xs : List X) → AllByRecursion P xs → AllByRecursion P (filter test xs)
+each_filter P test [] each = tt
+each_filter P test (x ∷ xs) each = by (test x) (each_filter P test xs each.1) where
+  by : (b : Bool) → AllByRecursion P (filter test xs) → AllByRecursion P (cond b (x ∷ filter test xs) (filter test xs))
+  by true rest = (each.0, rest)
+  by false rest = rest
+
+each_join : {X : Type 0} (P : X → Type 0) (xs ys : List X) → AllByRecursion P xs → AllByRecursion P ys → AllByRecursion P (xs ++ ys)
+each_join P [] ys first second = second
+each_join P (x ∷ xs) ys first second = (first.0, each_join P xs ys first.1 second)
+
+-- the cells are names
+pub cells_within : (names : List Name) (cells : List ℕ) → IsTrue (list_all (λ s. is_name names s Signal 0) cells) →
+    All (λ s. s < length names) cells
+cells_within names cells h = each_all (λ s. s < length names) cells (by cells (each_from_list_all (λ s. is_name names s Signal 0) cells h)) where
+  by : (xs : List ℕ) → AllByRecursion (λ s. is_name names s Signal 0 ≡ true) xs → AllByRecursion (λ s. s < length names) xs
+  by [] each = tt
+  by (x ∷ xs) each = (within_from_test names x (λ n. same_kind n.kind Signal && (n.arity == 0)) each.0, by xs each.1)
+
+pub needed_within : (names : List Name) (cells : List ℕ) → All (λ s. s < length names) cells →
+    All (λ id. id < length names) (needed names cells)
+needed_within names cells h =
+    each_all (λ id. id < length names) (needed names cells)
+    (each_join (λ id. id < length names) (filter (is_symbol_number names) (numbers_from 0 (length names))) cells
+    (each_filter (λ id. id < length names) (is_symbol_number names) (numbers_from 0 (length names))
+    (numbers_within 0 (length names) (length names) (omega arith)))
+    (all_each (λ s. s < length names) cells h))
+
+-- ---- what is known of a needed name
+
+-- it has an entry, with as many numbers as it needs, each small enough
+pub record IsGiven (names : List Name) (given : TablesSyntax) (id : ℕ) : Type 0 where
+  pub numbers : List ℕ
+  pub is : numbers_for names given.entries id ≡ Some numbers
+  pub name : Name
+  pub there : slice_get names id ≡ Some name
+  pub many : length numbers ≡ given.domain ^ name.arity
+  pub small : AllByRecursion (λ v. v < limit_of given.domain name.kind) numbers
+
+is_some_is : {X : Type 0} (o : Option X) → is_some o ≡ true → (x : X) × (o ≡ Some x)
+is_some_is (Some x) e = (x, refl)
+is_some_is None e = cc
+
+is_none_is : {X : Type 0} (o : Option X) → is_some o ≡ false → o ≡ None
+is_none_is (Some x) e = cc
+is_none_is None e = refl
+
+not_false : (b : Bool) → not b ≡ false → b ≡ true
+not_false true e = refl
+not_false false e = cc
+
+below_each : (limit : ℕ) (xs : List ℕ) → find (λ v. not (nat_lt v limit)) xs ≡ None → AllByRecursion (λ v. v < limit) xs
+below_each limit xs h = by xs (find_each (λ v. not (nat_lt v limit)) xs h) where
+  by : (ys : List ℕ) → AllByRecursion (λ v. not (nat_lt v limit) ≡ false) ys → AllByRecursion (λ v. v < limit) ys
+  by [] each = tt
+  by (y ∷ ys) each = (ltb-true y limit (not_false (nat_lt y limit) each.0), by ys each.1)
+
+is_given : (names : List Name) (given : TablesSyntax) (id : ℕ) → id < length names → has_no_entry names given id ≡ false →
+    has_other_length names given id ≡ false → is_some (too_large names given id) ≡ false → IsGiven names given id
+is_given names given id within entry length_is small =
+    named (slice_get names id) refl where
+      found : (ns : List ℕ) × (numbers_for names given.entries id ≡ Some ns)
+      found = is_some_is (numbers_for names given.entries id) (not_false _ entry)
+
+      named : (o : Option Name) → slice_get names id ≡ o → IsGiven names given id
+      named None e = absurd (there names id within e) where
+        there : (xs : List Name) (k : ℕ) → k < length xs → slice_get xs k ≡ None → ⊥
+        there [] k few none = omega (arith, few)
+        there (x ∷ xs) zero few none = none-some x (sym none)
+        there (x ∷ xs) (suc k) few none = there xs k (omega (arith, few)) none
+      named (Some n) e = record {
+        numbers = found.0;
+        is = found.1;
+        name = n;
+        there = e;
+        many = eqb-true (length found.0) (given.domain ^ n.arity) (not_false _ sized);
+        small = below_each (limit_of given.domain n.kind) found.0 (is_none_is _ limited);
+      } where
+        sized : not (length found.0 == (given.domain ^ n.arity)) ≡ false
+        sized =
+            sym (ap (passes (λ ns. passes (λ size. not (length ns == size)) (size_of names given.domain id))) found.1
+            ∙ ap (λ o. passes (λ size. not (length found.0 == size)) (option_map (λ (m : Name). given.domain ^ m.arity) o)) e) ∙ length_is
+
+        limited : is_some (find (λ v. not (nat_lt v (limit_of given.domain n.kind))) found.0) ≡ false
+        limited =
+            sym (ap is_some (ap (option_and_then (λ (m : Name). option_and_then (find (λ v. not (nat_lt v (limit_of given.domain m.kind))))
+            (numbers_for names given.entries id))) e
+            ∙ ap (option_and_then (find (λ v. not (nat_lt v (limit_of given.domain n.kind))))) found.1)) ∙ small
+
+module _ (names : List Name) (cells : List ℕ) (given : TablesSyntax) (within : All (λ s. s < length names) cells)
+    (h : IsInRange names cells given) where
+  each_given : AllByRecursion (IsGiven names given) (needed names cells)
+  each_given =
+      by (needed names cells) (all_each (λ id. id < length names) (needed names cells) (needed_within names cells within))
+      (find_each (has_no_entry names given) (needed names cells) h.so_far.so_far.so_far.whole)
+      (find_each (has_other_length names given) (needed names cells) h.so_far.counted)
+      (find_each (λ id. is_some (too_large names given id)) (needed names cells) h.in_range)
+    where
+      by : (ids : List ℕ) → AllByRecursion (λ id. id < length names) ids → AllByRecursion (λ id. has_no_entry names given id ≡ false) ids →
+          AllByRecursion (λ id. has_other_length names given id ≡ false) ids →
+          AllByRecursion (λ id. is_some (too_large names given id) ≡ false) ids → AllByRecursion (IsGiven names given) ids
+      by [] a b c d = tt
+      by (id ∷ ids) a b c d = (is_given names given id a.0 b.0 c.0 d.0, by ids a.1 b.1 c.1 d.1)
+
+  pub cells_given : AllByRecursion (IsGiven names given) cells
+  cells_given = each_right (IsGiven names given) (filter (is_symbol_number names) (numbers_from 0 (length names))) cells each_given
+
+  pub symbol_given : (id : ℕ) → is_symbol_number names id ≡ true → IsGiven names given id
+  symbol_given id symbol =
+      let inside : id < length names = symbol_within names id symbol in
+      let place = filter_has (is_symbol_number names) (numbers_from 0 (length names)) id id (at_number 0 (length names) id inside
+      ∙ ap (λ n. Some n) (omega arith)) symbol in
+      each_at (IsGiven names given) (filter (is_symbol_number names) (numbers_from 0 (length names))) place.0 id
+      (each_left (IsGiven names given) (filter (is_symbol_number names) (numbers_from 0 (length names))) cells each_given) place.1
+    where
+      symbol_within : (xs : List Name) (k : ℕ) → passes (λ n. has_table n.kind) (slice_get xs k) ≡ true → k < length xs
+      symbol_within [] k e = cc
+      symbol_within (x ∷ xs) zero e = omega arith
+      symbol_within (x ∷ xs) (suc k) e = let rest : k < length xs = symbol_within xs k e in omega (arith, rest)
+
+  -- a function or a predicate has a table of small numbers
+  pub small_table : given.domain ≤ MOST_VALUES → (id : ℕ) → HasSmallTable names given.entries id
+  small_table few id symbol =
+      let g = symbol_given id symbol in
+      rw g.is (each_all (λ n. n < 2 ^ 32) g.numbers (each_less (limit_of given.domain g.name.kind) (limit_small g.name.kind) g.numbers g.small))
+    where
+      limit_small : (kind : NameKind) → limit_of given.domain kind ≤ 256
+      limit_small Signal = few
+      limit_small Function = few
+      limit_small Predicate = omega arith
+
+      each_less : (limit : ℕ) → limit ≤ 256 → (ns : List ℕ) → AllByRecursion (λ v. v < limit) ns → AllByRecursion (λ v. v < 2 ^ 32) ns
+      each_less limit low [] each = tt
+      each_less limit low (n ∷ ns) each = (omega (arith, low, each.0), each_less limit low ns each.1)

@@ -1,0 +1,11 @@
+use Rattle.std.proofs.Common.{◌≡◌, drop}
+use Rattle.std.specs.List.{find}
+use Rattle.table_interp.specs.Tables.{has_no_entry}
+use Rattle.table_interp.specs.internal.Located.{located_tables}
+use Rattle.table_interp.proofs.entries.first_missing.Given as goal
+
+-- the first one is still to come
+abbrev pub invariant-loop-id : goal.invariant-loop-id
+invariant-loop-id l =
+    find (has_no_entry l.given.names.now (located_tables l.given)) l.needed
+    ≡ find (has_no_entry l.given.names.now (located_tables l.given)) (drop l.id-index l.needed)

@@ -1,0 +1,344 @@
+//! The interpretation that the entries of a text give.
+
+ghost use Rattle.std.specs.Prelude.{◌≡◌, ℕ, ◌<◌, ◌≤◌, ◌^◌, [], ◌∷◌, Some, not, nat_lt, IsTrue, is_some, option_map, length, map, All, IfOk, IfErr, IfSome};
+ghost use Rattle.std.specs.Prelude.{slice_get, IsSomeAnd};
+ghost use Rattle.std.specs.Option.{SomeIff};
+ghost use Rattle.std.specs.List.{find, list_all};
+ghost use Rattle.sequence.specs.Numbers.{IsDistinct, numbers_from};
+ghost use Rattle.sequence.specs.Options.{all_there};
+ghost use Rattle.tsl_terms.specs.declared.names.NameKind.TheVariants.{Signal};
+ghost use Rattle.tsl_terms.specs.Name.{is_name};
+ghost use Rattle.table_interp.specs.Needed.{needed};
+ghost use Rattle.table_interp.specs.Tables.{
+    numbers_for, has_no_entry, size_of, has_many_entries, has_other_length, limit_of, too_large, table_of, IsOnce, IsInRange, Gives, HasEntryCause
+};
+ghost use Rattle.table_interp.specs.internal.View.{entries_view, tables_view};
+ghost use Rattle.table_interp.specs.internal.Located.{located_tables, IsLocated, AreLocated, HasSmallTable, HasOneSmall};
+
+use crate::naming::{NameFault, entry_numbers};
+use crate::reading::{Entry, TablesText};
+use crate::resolving::{RepeatFault, has_table, marks, needed, place_of, places};
+use crate::tables::Tables;
+use crate::{MOST_ENTRIES, MOST_VALUES, TableError};
+use sequence::{NoMemory, Sequence};
+use std::alloc::{AllocError, Global};
+use tsl_terms::{NameKind, Names};
+use tsl_text::Token;
+
+/// The entries of a text, and the place of the entry for each name.
+#[derive(Clone, Copy)]
+pub(crate) struct Located<'a, 'b> {
+    names: &'b Names,
+    domain: u32,
+    entries: &'b [Entry<'a>],
+    places: &'b [Option<usize>],
+}
+
+/// The numbers that are given for a name.
+fn numbers_for<'a, 'b>(given: &Located<'a, 'b>, id: u32) -> Option<&'b [u64]>
+    requires located { IsLocated given.now }
+    requires within { id < length given.now.names.now }
+    ensures { option_map (λ ns. ns.now) result ≡ numbers_for given.now.names.now (located_tables given.now).entries id }
+{
+    match place_of(given.places, id) {
+        None => None,
+        Some(place) => match given.entries.get(place) {
+            None => None,
+            Some(entry) => Some(entry.numbers.as_slice()),
+        },
+    }
+}
+
+/// Whether a name has no entry.
+fn has_no_entry(given: &Located, id: u32) -> bool
+    requires located { IsLocated given.now }
+    requires within { id < length given.now.names.now }
+    ensures { result ≡ has_no_entry given.now.names.now (located_tables given.now) id }
+{
+    numbers_for(given, id).is_none()
+}
+
+/// How many numbers a name needs. `None` where they are 2^64 or more.
+fn size_of(given: &Located, id: u32) -> Option<u64>
+    requires { id < length given.now.names.now }
+    ensures { IsSomeAnd (size_of given.now.names.now given.now.domain id) (λ size. SomeIff result (size < 2 ^ 64) size) }
+{
+    u64::from(given.domain).checked_pow(given.names.arity(id))
+}
+
+/// Whether a name needs too many numbers.
+fn has_many_entries(given: &Located, id: u32) -> bool
+    requires { id < length given.now.names.now }
+    ensures { result ≡ has_many_entries given.now.names.now (located_tables given.now) id }
+{
+    match size_of(given, id) {
+        None => true,
+        Some(size) => size > u64::from(MOST_ENTRIES),
+    }
+}
+
+/// Whether a name has another number of numbers than it needs.
+fn has_other_length(given: &Located, id: u32) -> bool
+    requires located { IsLocated given.now }
+    requires within { id < length given.now.names.now }
+    ensures { result ≡ has_other_length given.now.names.now (located_tables given.now) id }
+{
+    match numbers_for(given, id) {
+        None => false,
+        Some(numbers) => match size_of(given, id) {
+            None => true,
+            Some(size) => numbers.len() as u64 != size,
+        },
+    }
+}
+
+/// What the numbers of names of a kind lie below.
+fn limit_of(domain: u32, kind: NameKind) -> u64
+    ensures { result ≡ limit_of domain kind }
+{
+    match kind {
+        NameKind::Predicate => 2,
+        NameKind::Signal | NameKind::Function => u64::from(domain),
+    }
+}
+
+/// The first number from a limit on.
+pub(crate) fn first_from(limit: u64, numbers: &[u64]) -> Option<u64>
+    ensures { result ≡ find (λ v. not (nat_lt v limit)) numbers.now }
+{
+    for number in numbers {
+        if *number >= limit {
+            return Some(*number);
+        }
+    }
+    None
+}
+
+/// The first number of a name that is too large.
+fn too_large(given: &Located, id: u32) -> Option<u64>
+    requires located { IsLocated given.now }
+    requires within { id < length given.now.names.now }
+    ensures { result ≡ too_large given.now.names.now (located_tables given.now) id }
+{
+    match numbers_for(given, id) {
+        None => None,
+        Some(numbers) => first_from(limit_of(given.domain, given.names.kind(id)), numbers),
+    }
+}
+
+/// The first of these names that has no entry.
+fn first_missing(given: &Located, needed: &[u32]) -> Option<u32>
+    requires located { IsLocated given.now }
+    requires within { All (λ id. id < length given.now.names.now) needed.now }
+    ensures { result ≡ find (has_no_entry given.now.names.now (located_tables given.now)) needed.now }
+{
+    for id in needed {
+        if has_no_entry(given, *id) {
+            return Some(*id);
+        }
+    }
+    None
+}
+
+/// The first of these names that needs too many numbers.
+fn first_with_many(given: &Located, needed: &[u32]) -> Option<u32>
+    requires { All (λ id. id < length given.now.names.now) needed.now }
+    ensures { result ≡ find (has_many_entries given.now.names.now (located_tables given.now)) needed.now }
+{
+    for id in needed {
+        if has_many_entries(given, *id) {
+            return Some(*id);
+        }
+    }
+    None
+}
+
+/// The first of these names that has not as many numbers as it needs.
+fn first_miscounted(given: &Located, needed: &[u32]) -> Option<u32>
+    requires located { IsLocated given.now }
+    requires within { All (λ id. id < length given.now.names.now) needed.now }
+    ensures { result ≡ find (has_other_length given.now.names.now (located_tables given.now)) needed.now }
+{
+    for id in needed {
+        if has_other_length(given, *id) {
+            return Some(*id);
+        }
+    }
+    None
+}
+
+/// The first of these names with a number that is too large, and its first such number.
+fn first_too_large(given: &Located, needed: &[u32]) -> Option<(u32, u64)>
+    requires located { IsLocated given.now }
+    requires within { All (λ id. id < length given.now.names.now) needed.now }
+    ensures name { option_map (λ p. p.0) result ≡ find (λ id. is_some (too_large given.now.names.now (located_tables given.now) id)) needed.now }
+    ensures number { IfSome result (λ p. too_large given.now.names.now (located_tables given.now) p.0 ≡ Some p.1) }
+{
+    for id in needed {
+        match too_large(given, *id) {
+            Some(value) => return Some((*id, value)),
+            None => (),
+        }
+    }
+    None
+}
+
+/// The token of the name of the entry at a place.
+fn name_at(entries: &[Entry], at: usize) -> Token
+    requires { at < length entries.now }
+    ensures { IsSomeAnd (slice_get (entries_view entries.now) at) (λ e. result ≡ e.name.token) }
+{
+    entries[at].name.token
+}
+
+/// The place of the entry for each name.
+fn located_entries(
+    alloc: Global,
+    names: &Names,
+    cells: &[u32],
+    given: &TablesText,
+) -> Result<Vec<Option<usize>>, TableError>
+    requires cells { All (λ s. s < length names.now) cells.now }
+    ensures once { IfOk result (λ places. IsOnce names.now cells.now (tables_view given.now)) }
+    ensures located { IfOk result (λ places. AreLocated names.now (tables_view given.now).entries places.items) }
+    ensures cause { IfErr result (HasEntryCause names.now cells.now (tables_view given.now)) }
+{
+    let marks = marks(alloc, names.count(), cells)?;
+    let numbers = match entry_numbers(alloc, names, cells, &marks, &given.entries) {
+        Ok(numbers) => numbers,
+        Err(NameFault::Unknown(token)) => return Err(TableError::Unknown(token.start, token.end)),
+        Err(NameFault::NoMemory) => return Err(TableError::NoMemory),
+    };
+    match places(alloc, names.count(), &numbers) {
+        Ok(places) => Ok(places),
+        Err(RepeatFault::Repeat(at)) => {
+            let token = name_at(&given.entries, at);
+            Err(TableError::Twice(token.start, token.end))
+        }
+        Err(RepeatFault::NoMemory) => Err(TableError::NoMemory),
+    }
+}
+
+/// Whether each needed name has as many numbers as it needs, and none is too large.
+fn check_entries(given: &Located, cells: &[u32], ids: &[u32]) -> Result<(), TableError>
+    requires once { IsOnce given.now.names.now cells.now (located_tables given.now) }
+    requires located { IsLocated given.now }
+    requires needed { ids.now ≡ needed given.now.names.now cells.now }
+    requires within { All (λ id. id < length given.now.names.now) ids.now }
+    ensures ok { IfOk result (λ _. IsInRange given.now.names.now cells.now (located_tables given.now)) }
+    ensures cause { IfErr result (HasEntryCause given.now.names.now cells.now (located_tables given.now)) }
+{
+    if let Some(id) = first_missing(given, ids) {
+        return Err(TableError::Missing(id));
+    }
+    if let Some(id) = first_with_many(given, ids) {
+        return Err(TableError::Entries(id));
+    }
+    if let Some(id) = first_miscounted(given, ids) {
+        return Err(TableError::Count(id));
+    }
+    if let Some((id, value)) = first_too_large(given, ids) {
+        return Err(TableError::Range(id, value));
+    }
+    Ok(())
+}
+
+/// Numbers below 2^32 as such. An `Err` says that memory ran out.
+pub(crate) fn narrow(alloc: Global, numbers: &[u64]) -> Result<Vec<u32>, NoMemory>
+    requires { All (λ n. n < 2 ^ 32) numbers.now }
+    ensures { IfOk result (λ all. all.items ≡ numbers.now) }
+{
+    let mut all = Vec::new(alloc);
+    for number in numbers {
+        all.push(*number as u32)?;
+    }
+    Ok(all)
+}
+
+/// The table of a function or a predicate; a signal has an empty one. An `Err` says that memory ran out.
+fn table_of(alloc: Global, given: &Located, id: u32) -> Result<Vec<u32>, NoMemory>
+    requires located { IsLocated given.now }
+    requires within { id < length given.now.names.now }
+    requires small { HasSmallTable given.now.names.now (located_tables given.now).entries id }
+    ensures { IfOk result (λ table. table_of given.now.names.now (located_tables given.now).entries id ≡ Some table.items) }
+{
+    if !has_table(given.names.kind(id)) {
+        return Ok(Vec::new(alloc));
+    }
+    match numbers_for(given, id) {
+        Some(numbers) => narrow(alloc, numbers),
+        None => Err(AllocError),
+    }
+}
+
+/// The tables of all names. An `Err` says that memory ran out.
+fn tables_of(alloc: Global, given: &Located) -> Result<Vec<Sequence<u32>>, NoMemory>
+    requires located { IsLocated given.now }
+    requires small { (id : ℕ) → HasSmallTable given.now.names.now (located_tables given.now).entries id }
+    ensures { IfOk result (λ tables. all_there (map (table_of given.now.names.now (located_tables given.now).entries)
+        (numbers_from 0 (length given.now.names.now))) ≡ Some tables.items) }
+{
+    let mut tables = Vec::new(alloc);
+    for id in 0..given.names.count() {
+        let table = table_of(alloc, given, id)?;
+        tables.push(Sequence::from_vec(table))?;
+    }
+    Ok(tables)
+}
+
+/// The number that is given for a cell.
+fn value_of(given: &Located, cell: u32) -> u32
+    requires located { IsLocated given.now }
+    requires within { cell < length given.now.names.now }
+    requires one { HasOneSmall given.now.names.now (located_tables given.now).entries cell }
+    ensures { numbers_for given.now.names.now (located_tables given.now).entries cell ≡ Some (result ∷ []) }
+{
+    match numbers_for(given, cell) {
+        Some([value, ..]) => *value as u32,
+        _ => 0,
+    }
+}
+
+/// The value of each cell at first. An `Err` says that memory ran out.
+fn initial_of(alloc: Global, given: &Located, cells: &[u32]) -> Result<Vec<u32>, NoMemory>
+    requires located { IsLocated given.now }
+    requires within { All (λ s. s < length given.now.names.now) cells.now }
+    requires one { All (HasOneSmall given.now.names.now (located_tables given.now).entries) cells.now }
+    ensures { IfOk result (λ initial. all_there (map (numbers_for given.now.names.now (located_tables given.now).entries) cells.now)
+        ≡ Some (map (λ v. v ∷ []) initial.items)) }
+{
+    let mut initial = Vec::new(alloc);
+    for cell in cells {
+        initial.push(value_of(given, *cell))?;
+    }
+    Ok(initial)
+}
+
+/// The interpretation that the entries of a text give for the names and the cells.
+pub(crate) fn tables_from(
+    alloc: Global,
+    names: &Names,
+    cells: &[u32],
+    given: &TablesText,
+) -> Result<Tables, TableError>
+    requires few { given.now.domain ≤ MOST_VALUES }
+    requires cells { IsTrue (list_all (λ s. is_name names.now s Signal 0) cells.now) }
+    requires distinct { IsDistinct cells.now }
+    ensures gives { IfOk result (λ tables. Gives names.now cells.now (tables_view given.now) tables.interpretation) }
+    ensures cells { IfOk result (λ tables. tables.cells ≡ cells.now) }
+    ensures cause { IfErr result (HasEntryCause names.now cells.now (tables_view given.now)) }
+{
+    let places = located_entries(alloc, names, cells, given)?;
+    let needed = needed(alloc, names, cells)?;
+    let located = Located {
+        names,
+        domain: given.domain as u32,
+        entries: &given.entries,
+        places: &places,
+    };
+    check_entries(&located, cells, &needed)?;
+    let tables = tables_of(alloc, &located)?;
+    let initial = initial_of(alloc, &located, cells)?;
+    let tables = Tables::from_parts(alloc, located.domain, tables, cells, &initial)?;
+    Ok(tables)
+}
