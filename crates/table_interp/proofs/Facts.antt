@@ -6,6 +6,7 @@ use Rattle.std.specs.Option.{option_map_or}
 use Rattle.std.specs.List.{find, list_all, AllByRecursion}
 use Rattle.std.proofs.lemmas.Bool.{and_parts, ltb-true, eqb-true}
 use Rattle.std.proofs.lemmas.Option.{none-some, same_Some, slice_get-map, slice_get_within}
+use Rattle.std.proofs.lemmas.List.{length-map}
 use Rattle.std.proofs.Math.Nat.{pow-zero}
 use Rattle.sequence.specs.Numbers.{is_among, numbers_from}
 use Rattle.sequence.specs.Options.{all_there, passes}
@@ -15,7 +16,7 @@ use Rattle.sequence.proofs.Passes.{filter_has, filter_at, each_from_list_all, wi
 use Rattle.tsl_terms.specs.declared.names.NameKind.{NameKind}
 use Rattle.tsl_terms.specs.declared.names.NameKind.TheVariants.{Signal, Function, Predicate}
 use Rattle.tsl_terms.specs.Name.{Name, is_name, same_kind}
-use Rattle.tsl_meaning.specs.Interpretation.{Interpretation, IsInterpretation}
+use Rattle.tsl_meaning.specs.Interpretation.{Interpretation, IsInterpretation, IsTable}
 use Rattle.table_interp.specs.declared.TheConstants.{MOST_VALUES}
 use Rattle.table_interp.specs.Syntax.{Entry, TablesSyntax}
 use Rattle.table_interp.specs.Needed.{has_table, is_symbol_number, needed}
@@ -26,10 +27,11 @@ use Rattle.table_interp.proofs.Finds.{each_all, all_each}
 -- what a search without an answer says of each member
 find_each : {X : Type 0} (test : X → Bool) (xs : List X) → find test xs ≡ None → AllByRecursion (λ x. test x ≡ false) xs
 find_each test [] h = tt
-find_each test (x ∷ xs) h = by (test x) refl h where
-  by : (b : Bool) → test x ≡ b → cond b (Some x) (find test xs) ≡ None → AllByRecursion (λ x. test x ≡ false) (x ∷ xs)
-  by true e k = absurd cc
-  by false e k = (e, find_each test xs k)
+find_each test (x ∷ xs) h = by (test x) refl (find_each test xs) h where
+  by : (b : Bool) → test x ≡ b → (find test xs ≡ None → AllByRecursion (λ x. test x ≡ false) xs) → cond b (Some x) (find test xs) ≡ None →
+      AllByRecursion (λ x. test x ≡ false) (x ∷ xs)
+  by true e further k = absurd cc
+  by false e further k = (e, further k)
 
 -- ---- numbers of names
 
@@ -131,6 +133,36 @@ is_given names given id within entry length_is small =
             (numbers_for names given.entries id))) e
             ∙ ap (option_and_then (find (λ v. not (nat_lt v (limit_of given.domain n.kind))))) found.1)) ∙ small
 
+kind_signal : (a b : NameKind) → same_kind a b ≡ true → a ≡ b
+kind_signal Signal Signal e = refl
+kind_signal Function Function e = refl
+kind_signal Predicate Predicate e = refl
+kind_signal Signal Function e = cc
+kind_signal Signal Predicate e = cc
+kind_signal Function Signal e = cc
+kind_signal Function Predicate e = cc
+kind_signal Predicate Signal e = cc
+kind_signal Predicate Function e = cc
+
+name_kind : (n : Name) → (same_kind n.kind Signal && (n.arity == 0)) ≡ true → (n.kind ≡ Signal) × (n.arity ≡ 0)
+name_kind n e =
+    let parts = and_parts (same_kind n.kind Signal) (n.arity == 0) e in
+    (kind_signal n.kind Signal parts.0, eqb-true n.arity 0 parts.1)
+
+-- as many members as are there
+pub there_length : {X : Type 0} (os : List (Option X)) (xs : List X) → all_there os ≡ Some xs → length os ≡ length xs
+there_length [] xs h = ap length (same_Some [] xs h)
+there_length (None ∷ os) xs h = absurd (none-some xs h)
+there_length {X = X} (Some y ∷ os) xs h = by (all_there os) (λ ys e. there_length os ys e) refl h where
+  by : (found : Option (List X)) → ((ys : List X) → all_there os ≡ Some ys → length os ≡ length ys) → all_there os ≡ found →
+      option_map (λ ys. y ∷ ys) found ≡ Some xs → suc (length os) ≡ length xs
+  by None further e k = absurd (none-some xs k)
+  by (Some ys) further e k = ap suc (further ys e) ∙ ap length (same_Some (y ∷ ys) xs k)
+
+pub paired : (f : ℕ → Option (List ℕ)) (cells initial : List ℕ) → all_there (map f cells) ≡ Some (map (λ v. v ∷ []) initial) →
+    length cells ≡ length initial
+paired f cells initial h = sym (length-map cells f) ∙ there_length (map f cells) (map (λ v. v ∷ []) initial) h ∙ length-map initial (λ v. v ∷ [])
+
 module _ (names : List Name) (cells : List ℕ) (given : TablesSyntax) (within : All (λ s. s < length names) cells)
     (h : IsInRange names cells given) where
   each_given : AllByRecursion (IsGiven names given) (needed names cells)
@@ -176,3 +208,111 @@ module _ (names : List Name) (cells : List ℕ) (given : TablesSyntax) (within :
       each_less : (limit : ℕ) → limit ≤ 256 → (ns : List ℕ) → AllByRecursion (λ v. v < limit) ns → AllByRecursion (λ v. v < 2 ^ 32) ns
       each_less limit low [] each = tt
       each_less limit low (n ∷ ns) each = (omega (arith, low, each.0), each_less limit low ns each.1)
+
+  -- a cell has one number, a value
+  pub cells_one : given.domain ≤ MOST_VALUES → IsTrue (list_all (λ s. is_name names s Signal 0) cells) →
+      AllByRecursion (HasOneSmall names given.entries) cells
+  cells_one few are = by cells cells_given (each_from_list_all (λ s. is_name names s Signal 0) cells are) where
+    single : (ns : List ℕ) → length ns ≡ 1 → (n : ℕ) × (ns ≡ n ∷ [])
+    single [] e = cc
+    single (n ∷ []) e = (n, refl)
+    single (n ∷ m ∷ ns) e = absurd (omega (arith, e))
+
+    one : (s : ℕ) → IsGiven names given s → is_name names s Signal 0 ≡ true → HasOneSmall names given.entries s
+    one s g is =
+        let kind = name_kind g.name (sym (ap (λ o. option_map_or (λ n. same_kind n.kind Signal && (n.arity == 0)) o false) g.there) ∙ is) in
+        let size : length g.numbers ≡ 1 = g.many ∙ ap (λ n. given.domain ^ n) kind.1 ∙ pow-zero given.domain in
+        let alone = single g.numbers size in
+        let below : AllByRecursion (λ v. v < given.domain) (alone.0 ∷ []) =
+        subst (λ (ns : List ℕ). AllByRecursion (λ v. v < given.domain) ns) alone.1
+        (subst (λ (k : NameKind). AllByRecursion (λ v. v < limit_of given.domain k) g.numbers) kind.0 g.small) in
+        record { number = alone.0; is = g.is ∙ ap (λ ns. Some ns) alone.1; small = omega (arith, few, below.0) }
+
+    by : (ids : List ℕ) → AllByRecursion (IsGiven names given) ids → AllByRecursion (λ s. is_name names s Signal 0 ≡ true) ids →
+        AllByRecursion (HasOneSmall names given.entries) ids
+    by [] a b = tt
+    by (s ∷ ids) a b = (one s a.0 b.0, by ids a.1 b.1)
+
+  -- ---- the interpretation
+
+  module _ (interpretation : Interpretation) (gives : Gives names cells given interpretation) where
+    there_at : {X : Type 0} (os : List (Option X)) (xs : List X) (i : ℕ) (x : X) → all_there os ≡ Some xs → slice_get os i ≡ Some (Some x) →
+        slice_get xs i ≡ Some x
+    there_at [] xs i x h at = absurd (none-some (Some x) at)
+    there_at (None ∷ os) xs i x h at = absurd (none-some xs h)
+    there_at {X = X} (Some y ∷ os) xs i x h at = by (all_there os) (λ ys j e. there_at os ys j x e) refl i h at where
+      by : (found : Option (List X)) →
+          ((ys : List X) (j : ℕ) → all_there os ≡ Some ys → slice_get os j ≡ Some (Some x) → slice_get ys j ≡ Some x) →
+          all_there os ≡ found → (i : ℕ) → option_map (λ ys. y ∷ ys) found ≡ Some xs → slice_get (Some y ∷ os) i ≡ Some (Some x) →
+          slice_get xs i ≡ Some x
+      by None further e i k at = absurd (none-some xs k)
+      by (Some ys) further e zero k at =
+          ap (λ zs. slice_get zs 0) (sym (same_Some (y ∷ ys) xs k)) ∙ same_Some (Some y) (Some x) at
+      by (Some ys) further e (suc j) k at =
+          ap (λ zs. slice_get zs (suc j)) (sym (same_Some (y ∷ ys) xs k)) ∙ further ys j e at
+
+    table_at : (id : ℕ) (g : IsGiven names given id) → id < length names → is_symbol_number names id ≡ true →
+        slice_get interpretation.tables id ≡ Some g.numbers
+    table_at id g inside symbol =
+        let table : table_of names given.entries id ≡ Some g.numbers =
+        ap (λ b. cond b (numbers_for names given.entries id) (Some [])) symbol ∙ g.is in
+        there_at (map (table_of names given.entries) (numbers_from 0 (length names))) interpretation.tables id g.numbers gives.tables
+        (slice_get-map (table_of names given.entries) (numbers_from 0 (length names)) id
+        ∙ ap (option_map (table_of names given.entries)) (at_number 0 (length names) id inside ∙ ap (λ n. Some n) (omega arith))
+        ∙ ap (λ t. Some t) table)
+
+    is_table : (id : ℕ) (name : Name) (limit : ℕ) → slice_get names id ≡ Some name → has_table name.kind ≡ true →
+        limit_of given.domain name.kind ≡ limit →
+        (table : List ℕ) × (slice_get interpretation.tables id ≡ Some table) × IsTable interpretation.domain name.arity limit table
+    is_table id name limit there kind is =
+        let symbol : is_symbol_number names id ≡ true = ap (passes (λ n. has_table n.kind)) there ∙ kind in
+        let g : IsGiven names given id = symbol_given id symbol in
+        let same : g.name ≡ name = same_Some g.name name (sym g.there ∙ there) in
+        let size : length g.numbers ≡ interpretation.domain ^ name.arity =
+        g.many ∙ ap (λ (n : Name). given.domain ^ n.arity) same ∙ ap (λ d. d ^ name.arity) (sym gives.domain) in
+        let small : AllByRecursion (λ v. v < limit) g.numbers =
+        subst (λ l. AllByRecursion (λ v. v < l) g.numbers) (ap (λ (n : Name). limit_of given.domain n.kind) same ∙ is) g.small in
+        (g.numbers, table_at id g (slice_get_within names id name there) symbol, (size, each_all (λ v. v < limit) g.numbers small))
+
+    pub interprets : 1 ≤ given.domain → given.domain ≤ MOST_VALUES → IsTrue (list_all (λ s. is_name names s Signal 0) cells) →
+        IsInterpretation names cells interpretation
+    interprets some few are = record {
+      domain = omega (arith, some, gives.domain);
+      functions = λ f name there kind. is_table f name interpretation.domain there (ap has_table kind)
+          (ap (limit_of given.domain) kind ∙ sym gives.domain);
+      predicates = λ p name there kind. is_table p name 2 there (ap has_table kind) (ap (limit_of given.domain) kind);
+      initial = (
+        sym (paired (numbers_for names given.entries) cells interpretation.initial gives.initial),
+        each_all (λ v. v < interpretation.domain) interpretation.initial
+        (values interpretation.initial cells cells_given (each_from_list_all (λ s. is_name names s Signal 0) cells are) gives.initial),
+      );
+    } where
+      single : (s v : ℕ) → IsGiven names given s → is_name names s Signal 0 ≡ true → numbers_for names given.entries s ≡ Some (v ∷ []) →
+          v < interpretation.domain
+      single s v g is e =
+          let kind = name_kind g.name (sym (ap (λ o. option_map_or (λ n. same_kind n.kind Signal && (n.arity == 0)) o false) g.there) ∙ is) in
+          let same : g.numbers ≡ v ∷ [] = same_Some g.numbers (v ∷ []) (sym g.is ∙ e) in
+          let below : AllByRecursion (λ w. w < given.domain) (v ∷ []) =
+          subst (λ (ns : List ℕ). AllByRecursion (λ w. w < given.domain) ns) same
+          (subst (λ (k : NameKind). AllByRecursion (λ w. w < limit_of given.domain k) g.numbers) kind.0 g.small) in
+          omega (arith, below.0, gives.domain)
+
+      values : (vs ids : List ℕ) → AllByRecursion (IsGiven names given) ids → AllByRecursion (λ s. is_name names s Signal 0 ≡ true) ids →
+          all_there (map (numbers_for names given.entries) ids) ≡ Some (map (λ v. v ∷ []) vs) →
+          AllByRecursion (λ v. v < interpretation.domain) vs
+      values [] ids a b h = tt
+      values (v ∷ vs) [] a b h = absurd cc
+      values (v ∷ vs) (s ∷ ids) a b h =
+          by (numbers_for names given.entries s) refl (all_there (map (numbers_for names given.entries) ids)) (values vs ids a.1 b.1) refl h where
+            by : (o : Option (List ℕ)) → numbers_for names given.entries s ≡ o → (rest : Option (List (List ℕ))) →
+                (all_there (map (numbers_for names given.entries) ids) ≡ Some (map (λ v. v ∷ []) vs) →
+                AllByRecursion (λ v. v < interpretation.domain) vs) → all_there (map (numbers_for names given.entries) ids) ≡ rest →
+                all_there (o ∷ map (numbers_for names given.entries) ids) ≡ Some (map (λ v. v ∷ []) (v ∷ vs)) →
+                AllByRecursion (λ v. v < interpretation.domain) (v ∷ vs)
+            by None e rest further f k = absurd (none-some _ k)
+            by (Some ns) e None further f k = absurd (none-some _ (sym (ap (option_map (λ xs. ns ∷ xs)) f) ∙ k))
+            by (Some ns) e (Some xs) further f k =
+                let same : ns ∷ xs ≡ (v ∷ []) ∷ map (λ w. w ∷ []) vs = same_Some _ _ (sym (ap (option_map (λ xs. ns ∷ xs)) f) ∙ k) in
+                let first : ns ≡ v ∷ [] = cc in
+                let others : xs ≡ map (λ w. w ∷ []) vs = cc in
+                (single s v a.0 b.0 (e ∙ ap (λ n. Some n) first), further (f ∙ ap (λ n. Some n) others))
