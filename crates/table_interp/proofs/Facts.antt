@@ -284,7 +284,7 @@ module _ (names : List Name) (cells : List ℕ) (given : TablesSyntax) (within :
       initial = (
         sym (paired (numbers_for names given.entries) cells interpretation.initial gives.initial),
         each_all (λ v. v < interpretation.domain) interpretation.initial
-        (values interpretation.initial cells cells_given (each_from_list_all (λ s. is_name names s Signal 0) cells are) gives.initial),
+            (values interpretation.initial cells cells_given (each_from_list_all (λ s. is_name names s Signal 0) cells are) gives.initial),
       );
     } where
       single : (s v : ℕ) → IsGiven names given s → is_name names s Signal 0 ≡ true → numbers_for names given.entries s ≡ Some (v ∷ []) →

@@ -118,7 +118,7 @@ pub cell_added : (es after : List (ℕ × ℕ)) (cells values : List ℕ) (i d e
     (map (λ p. p.0) after ≡ take (i + 1) cells) × (map (λ p. p.1) after ≡ take (i + 1) values)
 cell_added es after cells values i d e below within is h = (
   ap (map (λ p. p.0)) is ∙ map-append (λ p. p.0) es ((get_or cells i d, get_or values i e) ∷ [])
-  ∙ ap (λ xs. xs ++ get_or cells i d ∷ []) h.0 ∙ sym (take_more cells i d below),
+      ∙ ap (λ xs. xs ++ get_or cells i d ∷ []) h.0 ∙ sym (take_more cells i d below),
   ap (map (λ p. p.1)) is ∙ map-append (λ p. p.1) es ((get_or cells i d, get_or values i e) ∷ [])
-  ∙ ap (λ xs. xs ++ get_or values i e ∷ []) h.1 ∙ sym (take_more values i e within),
+      ∙ ap (λ xs. xs ++ get_or values i e ∷ []) h.1 ∙ sym (take_more values i e within),
 )

@@ -8,3 +8,4 @@ mod Faults
 mod Gather
 mod Located
 mod Facts
+mod Refusals

@@ -85,8 +85,11 @@ module _ {names : List Name} {entries : List Entry} {places : List (Option ℕ)}
   pub place_within : (id place : ℕ) → id < length names → slice_get places id ≡ Some (Some place) → place < length entries
   place_within id place within there =
       let stands : slice_get l.numbers place ≡ Some id = slot_is id (Some place) within there in
-      omega (arith, slice_get_within l.numbers place id stands,
-      any_none (λ (e : Entry). number_for names e.name) id entries l.numbers l.numbers_are)
+      omega (
+        arith,
+        slice_get_within l.numbers place id stands,
+        any_none (λ (e : Entry). number_for names e.name) id entries l.numbers l.numbers_are,
+      )
 
   pub numbers_given : (id place : ℕ) (e : Entry) → id < length names → slice_get places id ≡ Some (Some place) →
       slice_get entries place ≡ Some e → numbers_for names entries id ≡ Some e.numbers

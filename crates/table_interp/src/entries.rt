@@ -10,7 +10,18 @@ ghost use Rattle.tsl_terms.specs.declared.names.NameKind.TheVariants.{Signal};
 ghost use Rattle.tsl_terms.specs.Name.{is_name};
 ghost use Rattle.table_interp.specs.Needed.{needed};
 ghost use Rattle.table_interp.specs.Tables.{
-    numbers_for, has_no_entry, size_of, has_many_entries, has_other_length, limit_of, too_large, table_of, IsOnce, IsInRange, Gives, HasEntryCause
+  numbers_for,
+  has_no_entry,
+  size_of,
+  has_many_entries,
+  has_other_length,
+  limit_of,
+  too_large,
+  table_of,
+  IsOnce,
+  IsInRange,
+  Gives,
+  HasEntryCause,
 };
 ghost use Rattle.table_interp.specs.internal.View.{entries_view, tables_view};
 ghost use Rattle.table_interp.specs.internal.Located.{located_tables, IsLocated, AreLocated, HasSmallTable, HasOneSmall};

@@ -20,6 +20,8 @@ ghost use Rattle.table_interp.specs.Meaning.{rows_of};
 ghost use Rattle.table_interp.specs.Tables.{SpellsTables, HasTableCause, IsRefusedAsTables};
 ghost use Rattle.table_interp.specs.Inputs.{SpellsInputs, HasInputCause, IsRefusedAsInputs};
 
+use entries::tables_from;
+use forms::tables_of;
 use sequence::NoMemory;
 use std::alloc::{AllocFailed, Global};
 use thiserror::Error;
@@ -186,7 +188,11 @@ pub fn read_tables(
     ensures cause { IfErr result (HasTableCause text.now names.now cells.now) }
     ensures refused { IfErr result (IsRefusedAsTables text.now names.now cells.now) }
 {
-    Err(TableError::NoMemory)
+    let given = tables_of(alloc, text)?;
+    if given.domain > u64::from(MOST_VALUES) {
+        return Err(TableError::Domain);
+    }
+    tables_from(alloc, names, cells, &given)
 }
 
 /// The rows that a text spells for the inputs, each in the order of the inputs.

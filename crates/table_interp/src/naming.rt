@@ -82,11 +82,7 @@ fn column_number(names: &Names, inputs: &[u32], marks: &[bool], column: &Termina
     ensures within { IfSome result (λ id. id < length names.now) }
 {
     let id = names.find(column.text)?;
-    if marks[id as usize] {
-        Some(id)
-    } else {
-        None
-    }
+    if marks[id as usize] { Some(id) } else { None }
 }
 
 /// The numbers of the names of columns. An `Err` tells the first name that is that of no input, or that

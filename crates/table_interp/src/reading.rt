@@ -37,7 +37,7 @@ ghost use Rattle.table_interp.specs.internal.View.{
   HasFault,
 };
 
-use crate::terminals::{Left, Terminal, is_numeral, is_name, is_symbol, is_word, number_at};
+use crate::terminals::{Left, Terminal, is_name, is_numeral, is_symbol, is_word, number_at};
 use sequence::NoMemory;
 use std::alloc::{AllocFailed, Global};
 use tsl_terms::NameKind;

@@ -1,0 +1,154 @@
+-- A text gives one thing by a grammar, and each cause of refusal leaves none.
+use Rattle.std.proofs.Common.{◌≡◌, ◌∙◌, ℕ, ◌<◌, ◌≤◌, List, [], ◌∷◌, ◌++◌, Option, Some, None, refl, sym, ap, subst, inl, inr, append_assoc, arith}
+use Rattle.std.specs.Prelude.{Result, Err, Ok, IfErr}
+use Rattle.std.specs.Result.{IsErrAnd}
+use Rattle.std.proofs.lemmas.Result.{err_from_is_err_and}
+use Rattle.std.proofs.lemmas.List.{map-append}
+use Rattle.std.proofs.lemmas.Option.{none-some}
+use Rattle.tsl_text.specs.declared.Token.{Token}
+use Rattle.tsl_text.specs.declared.TextError.{TextError}
+use Rattle.tsl_text.specs.declared.TextError.TheVariants as bytes
+use Rattle.tsl_text.specs.Division.{AreTokens, IsAnswer}
+use Rattle.tsl_text.proofs.Parts.{one_answer}
+use Rattle.tsl_terms.specs.Name.{Name}
+use Rattle.token_readers.specs.Readers.{Reader}
+use Rattle.token_readers.specs.Exact.{Exact}
+use Rattle.token_readers.proofs.Whole.{one_value}
+use Rattle.table_interp.specs.declared.TheConstants.{MOST_VALUES}
+use Rattle.table_interp.specs.declared.TableError.{TableError}
+use Rattle.table_interp.specs.declared.TableError.TheVariants as table
+use Rattle.table_interp.specs.declared.forms.TextFault.{TextFault}
+use Rattle.table_interp.specs.declared.forms.TextFault.TheVariants as text_fault
+use Rattle.table_interp.specs.Syntax.{Terminal, terminal_at, terminals, TablesSyntax}
+use Rattle.table_interp.specs.Grammar.{IsTables, tables}
+use Rattle.table_interp.specs.Forms.{IsRead, HasFormFault}
+use Rattle.table_interp.specs.Tables.{HasEntryCause, HasFewValues, HasTableCause, IsRefusedAsTables, SpellsTables, Gives}
+use Rattle.table_interp.specs.Tables.{HasUnknownEntry, HasSecondEntry, HasMissingEntry, HasManyEntries, HasOtherLength, HasLargeNumber}
+use Rattle.tsl_meaning.specs.Interpretation.{Interpretation}
+use Rattle.table_interp.specs.internal.Texts.{HasTextFault, table_error}
+use Rattle.table_interp.proofs.Exactness.{Never, tables_exact}
+
+one_list : (text : List ℕ) (a b : List Token) → AreTokens text a → AreTokens text b → a ≡ b
+one_list text a b h k =
+    let same : Ok a ≡ Ok b = one_answer text (Ok a) (Ok b) h k in
+    cc
+
+pub no_tokens : (text : List ℕ) (fault : TextError) → IsAnswer text (Err fault) → (tokens : List Token) → AreTokens text tokens → ⊥
+no_tokens text fault h tokens are =
+    let same : Err fault ≡ Ok tokens = one_answer text (Err fault) (Ok tokens) h are in
+    cc
+
+module _ {V : Type 0} {Is : List Terminal → V → Type 0} {reader : Reader Terminal V} (exact : Exact (λ r. Is) Never 0 reader) where
+  -- a text gives one thing
+  pub one_given : (text : List ℕ) (a b : V) → IsRead Is text a → IsRead Is text b → a ≡ b
+  one_given text a b h k =
+      let same : h.tokens ≡ k.tokens = one_list text h.tokens k.tokens h.tokens_are k.tokens_are in
+      one_value exact (terminals text k.tokens) a b (subst (λ tokens. Is (terminals text tokens) a) same h.derived) k.derived
+
+-- a fault of the form leaves nothing
+pub form_refuses : {V : Type 0} (Is : List Terminal → V → Type 0) (text : List ℕ) (at : ℕ) → HasFormFault Is text at → (v : V) →
+    IsRead Is text v → ⊥
+form_refuses Is text at (inl h) v k =
+    let same : k.tokens ≡ h.before ++ h.token ∷ h.after = one_list text k.tokens (h.before ++ h.token ∷ h.after) k.tokens_are h.tokens_are in
+    let split : h.before ++ h.token ∷ h.after ≡ (h.before ++ h.token ∷ []) ++ h.after = sym (append_assoc h.before (h.token ∷ []) h.after) in
+    let parts : terminals text (h.before ++ h.token ∷ h.after) ≡ terminals text (h.before ++ h.token ∷ []) ++ terminals text h.after =
+    ap (terminals text) split ∙ map-append (terminal_at text) (h.before ++ h.token ∷ []) h.after in
+    h.stops (terminals text h.after) v (subst (λ xs. Is xs v) (ap (terminals text) same ∙ parts) k.derived)
+form_refuses Is text at (inr h) v k =
+    let same : k.tokens ≡ h.tokens = one_list text k.tokens h.tokens k.tokens_are h.tokens_are in
+    h.no_text v (subst (λ tokens. Is (terminals text tokens) v) same k.derived)
+
+-- ---- tables
+
+-- one that has no first member that passes has none
+none_first : {X : Type 0} (o : Option X) (x : X) → o ≡ None → o ≡ Some x → ⊥
+none_first o x e h = none-some x (sym e ∙ h)
+
+module _ (text : List ℕ) (names : List Name) (cells : List ℕ) where
+  -- what is given where a text spells an interpretation and has this cause
+  same_given : (given : TablesSyntax) (interpretation : Interpretation) → HasFewValues text given →
+      SpellsTables text names cells interpretation → Gives names cells given interpretation
+  same_given given interpretation h spelled =
+      subst (λ g. Gives names cells g interpretation)
+      (one_given (tables_exact 0) text spelled.given given spelled.read.read h.read) spelled.gives
+
+  unknown_refuses : (given : TablesSyntax) (start end : ℕ) → HasUnknownEntry names cells given start end → (i : Interpretation) →
+      Gives names cells given i → ⊥
+  unknown_refuses given start end h i g = none_first _ h.entry g.in_range.so_far.so_far.so_far.so_far.known h.first
+
+  second_refuses : (given : TablesSyntax) (start end : ℕ) → HasSecondEntry names cells given start end → (i : Interpretation) →
+      Gives names cells given i → ⊥
+  second_refuses given start end h i g = g.in_range.so_far.so_far.so_far.so_far.once h.at h.first.repeat
+
+  missing_refuses : (given : TablesSyntax) (id : ℕ) → HasMissingEntry names cells given id → (i : Interpretation) →
+      Gives names cells given i → ⊥
+  missing_refuses given id h i g = none_first _ id g.in_range.so_far.so_far.so_far.whole h.first
+
+  many_refuses : (given : TablesSyntax) (id : ℕ) → HasManyEntries names cells given id → (i : Interpretation) →
+      Gives names cells given i → ⊥
+  many_refuses given id h i g = none_first _ id g.in_range.so_far.so_far.few_entries h.first
+
+  length_refuses : (given : TablesSyntax) (id : ℕ) → HasOtherLength names cells given id → (i : Interpretation) →
+      Gives names cells given i → ⊥
+  length_refuses given id h i g = none_first _ id g.in_range.so_far.counted h.first
+
+  large_refuses : (given : TablesSyntax) (id value : ℕ) → HasLargeNumber names cells given id value → (i : Interpretation) →
+      Gives names cells given i → ⊥
+  large_refuses given id value h i g = none_first _ id g.in_range.in_range h.first
+
+  -- where a cause is there the text spells no interpretation
+  pub tables_refused : (error : TableError) → HasTableCause text names cells error → IsRefusedAsTables text names cells error
+  tables_refused (table.Byte at) h = λ i s. no_tokens text (bytes.Byte at) h s.read.read.tokens s.read.read.tokens_are
+  tables_refused (table.OpenComment at) h = λ i s. no_tokens text (bytes.OpenComment at) h s.read.read.tokens s.read.read.tokens_are
+  tables_refused (table.Form at) h = λ i s. form_refuses IsTables text at h s.given s.read.read
+  tables_refused table.Domain h = λ i s.
+      let same : s.given ≡ h.given = one_given (tables_exact 0) text s.given h.given s.read.read h.read in
+      let few : h.given.domain ≤ MOST_VALUES = subst (λ (g : TablesSyntax). g.domain ≤ MOST_VALUES) same s.read.few_values in
+      omega (arith, few, h.many_values)
+  tables_refused (table.Unknown start end) h = λ i s. unknown_refuses h.given start end h.cause i (same_given h.given i h.read s)
+  tables_refused (table.Twice start end) h = λ i s. second_refuses h.given start end h.cause i (same_given h.given i h.read s)
+  tables_refused (table.Missing id) h = λ i s. missing_refuses h.given id h.cause i (same_given h.given i h.read s)
+  tables_refused (table.Entries id) h = λ i s. many_refuses h.given id h.cause i (same_given h.given i h.read s)
+  tables_refused (table.Count id) h = λ i s. length_refuses h.given id h.cause i (same_given h.given i h.read s)
+  tables_refused (table.Range id value) h = λ i s. large_refuses h.given id value h.cause i (same_given h.given i h.read s)
+  tables_refused table.NoMemory h = tt
+
+  -- a fault of the form is a cause
+  pub form_cause : (fault : TextFault) → HasTextFault IsTables text fault → HasTableCause text names cells (table_error fault)
+  form_cause (text_fault.Byte at) h = h
+  form_cause (text_fault.OpenComment at) h = h
+  form_cause (text_fault.Form at) h = h
+  form_cause text_fault.NoMemory h = tt
+
+  -- a cause of the entries is one of the text
+  pub entry_cause : (given : TablesSyntax) → HasFewValues text given → (error : TableError) → HasEntryCause names cells given error →
+      HasTableCause text names cells error
+  entry_cause given h (table.Byte at) k = absurd k
+  entry_cause given h (table.OpenComment at) k = absurd k
+  entry_cause given h (table.Form at) k = absurd k
+  entry_cause given h table.Domain k = absurd k
+  entry_cause given h table.NoMemory k = tt
+  entry_cause given h (table.Unknown start end) k = record { given = given; read = h; cause = k }
+  entry_cause given h (table.Twice start end) k = record { given = given; read = h; cause = k }
+  entry_cause given h (table.Missing id) k = record { given = given; read = h; cause = k }
+  entry_cause given h (table.Entries id) k = record { given = given; read = h; cause = k }
+  entry_cause given h (table.Count id) k = record { given = given; read = h; cause = k }
+  entry_cause given h (table.Range id value) k = record { given = given; read = h; cause = k }
+
+-- the domain of a text of tables has a value
+pub has_value : (text : List ℕ) (given : TablesSyntax) → IsRead IsTables text given → 1 ≤ given.domain
+has_value text given h = by (terminals text h.tokens) given h.derived where
+  by : (xs : List Terminal) (t : TablesSyntax) → IsTables xs t → 1 ≤ t.domain
+  by xs t (tables a b c d n head one word number few entries) = few
+
+-- what an error says, and what follows of it
+pub err_weaker : {T E : Type 0} (r : Result T E) (P Q : E → Type 0) → ((e : E) → P e → Q e) → IfErr r P → IfErr r Q
+err_weaker (Ok t) P Q f h = h
+err_weaker (Err e) P Q f h = f e h
+
+-- a fault of the form that is passed on leaves no interpretation
+pub form_passed : {T : Type 0} (text : List ℕ) (names : List Name) (cells : List ℕ) (r : Result T TableError) (fault : TextFault) →
+    IsErrAnd r (λ e. e ≡ table_error fault) → HasTextFault IsTables text fault → IfErr r (IsRefusedAsTables text names cells)
+form_passed text names cells r fault h k =
+    let p = err_from_is_err_and r h in
+    rw (p.1, p.2) (tables_refused text names cells (table_error fault) (form_cause text names cells fault k))
