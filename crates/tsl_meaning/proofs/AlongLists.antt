@@ -1,7 +1,8 @@
 -- What operators make of lists of truths is their truth at each position of the loop.
 use Rattle.std.proofs.Common.{◌≡◌, ◌∙◌, ℕ, zero, suc, ◌+◌, ◌-◌, ◌<◌, ◌≤◌, nat_lt, Bool, true, false, not, ◌&&◌, ◌||◌, List, [], ◌∷◌, ◌++◌}
 use Rattle.std.proofs.Common.{map, take, drop, refl, sym, ap, arith, inl, inr}
-use Rattle.std.proofs.lemmas.Bool.{or_cases, or_left, or_right, and_parts, and_from, false≢true, false_from_ne_true, cases_lt, cases_Bool, lt-ltb, le-ltb}
+use Rattle.std.proofs.lemmas.Bool.{or_cases, or_left, or_right, and_parts, and_from, false≢true, false_from_ne_true, cases_lt, cases_Bool}
+use Rattle.std.proofs.lemmas.Bool.{lt-ltb, le-ltb}
 use Rattle.sequence.specs.Numbers.{numbers_from}
 use Rattle.sequence.proofs.Booleans.{not_not}
 use Rattle.loop_shape.specs.LoopShape.{LoopShape, IsPosition, after}
@@ -141,7 +142,8 @@ module _ (shape : LoopShape) (goes_on : 1 ≤ shape.length) where
         ∙ ap (λ x. x ∷ map (until_at shape a b) (numbers_from (suc k) m)) (ap (λ x. b k || (a k && x)) later ∙ sym unrolls)
       where
         first : (m : ℕ) → k + suc m ≡ shape.start + shape.length →
-            first_or (until_at shape a b shape.start) (map (until_at shape a b) (numbers_from (suc k) m)) ≡ until_at shape a b (after shape k)
+            first_or (until_at shape a b shape.start) (map (until_at shape a b) (numbers_from (suc k) m))
+            ≡ until_at shape a b (after shape k)
         first zero end = ap (until_at shape a b) (sym (last shape k end))
         first (suc m) end = ap (until_at shape a b) (sym (onward shape k (omega (arith, end))))
 

@@ -6,6 +6,7 @@ pub mod Agree
 pub mod TruthLists
 pub mod AlongLists
 pub mod RunTruths
+pub mod TestRuns
 pub mod RunsOf
 pub mod FirstRepetition
 pub mod OneAction

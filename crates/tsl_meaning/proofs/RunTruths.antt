@@ -1,5 +1,6 @@
 -- From lists of truths to what holds in a run.
-use Rattle.std.proofs.Common.{◌≡◌, ◌∙◌, ℕ, zero, suc, ◌+◌, ◌<◌, ◌≤◌, Bool, true, false, Option, List, [], ◌∷◌, ◌++◌, length, map, slice_get, Vec, Global, Result}
+use Rattle.std.proofs.Common.{◌≡◌, ◌∙◌, ℕ, zero, suc, ◌+◌, ◌<◌, ◌≤◌, Bool, true, false, Option, List, [], ◌∷◌, ◌++◌, length, map, slice_get}
+use Rattle.std.proofs.Common.{Vec, Global, Result}
 use Rattle.std.proofs.Common.{refl, sym, ap, subst, arith}
 use Rattle.std.specs.Prelude.{IfOk, IsSome}
 use Rattle.std.specs.Option.{option_map_or}
@@ -18,7 +19,8 @@ use Rattle.tsl_terms.specs.declared.operator.ManyOperator.{ManyOperator}
 use Rattle.tsl_terms.specs.declared.operator.ManyOperator.TheVariants.{Conjunction, Disjunction}
 use Rattle.tsl_terms.specs.TermTree.{TermTree, ProbeTree, term_tree}
 use Rattle.tsl_terms.specs.SameTree.{same_tree}
-use Rattle.tsl_terms.specs.FormulaTree.{test, update, FormulaTree, FormulaTrees, constant, atom, unary, binary, many, no_formulas, more_formulas}
+use Rattle.tsl_terms.specs.FormulaTree.{test, update, FormulaTree, FormulaTrees, constant, atom, unary, binary, many, no_formulas}
+use Rattle.tsl_terms.specs.FormulaTree.{more_formulas}
 use Rattle.tsl_terms.specs.Value.{Meanings, truth, beside}
 use Rattle.tsl_meaning.specs.declared.run.LoopRun.{LoopRun}
 use Rattle.tsl_meaning.specs.Lasso.{Lasso, meets, meet_each, many_at}
@@ -99,7 +101,8 @@ module _ {V S : Type 0} (seen : V → S) (meanings : Meanings S) (run : LoopRun 
 
     pub test_made : (leaves : List (Leaves V)) (probe : ProbeTree) (whole : FormulaTree) → whole ≡ atom (test probe) →
         map (leaf_value seen) leaves ≡ map (value_at (run_tree seen run)) (run_tree seen run).positions →
-        IfOk result (λ made. made.items ≡ map (λ l. option_map_or (λ (b : Bool). b) (truth meanings (leaf_value seen l) probe) false) leaves) →
+        IfOk result (λ made. made.items
+        ≡ map (λ l. option_map_or (λ (b : Bool). b) (truth meanings (leaf_value seen l) probe) false) leaves) →
         IfOk result (λ made. AreTruths whole made.items)
     test_made leaves probe whole is fit =
         let holds : (ℕ → Option S) → Bool = λ at. option_map_or (λ (b : Bool). b) (truth meanings at probe) false in
@@ -127,7 +130,8 @@ module _ {V S : Type 0} (seen : V → S) (meanings : Meanings S) (run : LoopRun 
     pub binary_made : (op : BinaryOperator) (f g whole : FormulaTree) (left right : List Bool) → whole ≡ binary op f g →
         AreTruths f left → AreTruths g right → IfOk result (λ made. made.items ≡ binary_in run.start op left right) →
         IfOk result (λ made. AreTruths whole made.items)
-    binary_made op f g whole left right is first second = IfOk-weaker result _ _ (λ made made_is. renamed (binary op f g) whole is made.items
+    binary_made op f g whole left right is first second =
+        IfOk-weaker result _ _ (λ made made_is. renamed (binary op f g) whole is made.items
         (made_is ∙ (λ i. binary_in run.start op (first i) (second i)) ∙ binary_along shape goes_on op (meets lasso f) (meets lasso g)))
 
 -- what is had at each position is had of the leaves there

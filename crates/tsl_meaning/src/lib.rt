@@ -1,4 +1,16 @@
 //! What specifications and programs mean.
+//!
+//! The definitions in `specs/` say what a program does under an interpretation and an input loop, when
+//! its run closes, and which formulas a closed run meets. A `LoopRun` is a run that is written down, over
+//! values of any type; clauses speak of its pure tree, `run_tree`, over what an algebra says is seen of
+//! its values.
+//!
+//! - `judge` says whether a formula holds at the first position of such a run. It goes through the formula
+//!   from the inside out, with one list of truths for each part, so its time is the number of nodes times
+//!   the number of positions. Calls go as deep as the formula nests.
+//! - Laws stand on functions that do nothing: each run of a program over names goes on and closes, a run
+//!   that is written down means what the program's closed run means, and its first repetition is the
+//!   least pair that it closes with.
 #![tactic(auto)]
 
 mod atom_truths;
@@ -15,3 +27,6 @@ pub use laws::{
     runs_mean_what_programs_do, writable_programs_are_over_names,
 };
 pub use run::{InputLoop, LoopRun, Position};
+
+#[cfg(test)]
+mod tests;

@@ -9,7 +9,8 @@ use Rattle.tsl_terms.specs.FormulaTree.{unary, binary, more_formulas, formula_tr
 use Rattle.tsl_terms.specs.Atoms.{atoms, atoms_of_members}
 use Rattle.tsl_meaning.specs.RunTree.{run_tree}
 use Rattle.tsl_meaning.specs.RunLasso.{run_lasso, HasTruths}
-use Rattle.tsl_meaning.proofs.RunTruths.{constant_made, test_made, update_made, unary_made, binary_made, leaves_had, within_run, always_along}
+use Rattle.tsl_meaning.proofs.RunTruths.{constant_made, test_made, update_made, unary_made, binary_made, leaves_had, within_run}
+use Rattle.tsl_meaning.proofs.RunTruths.{always_along}
 use Rattle.tsl_meaning.specs.internal.TruthLists.{pairwise, joined}
 use Rattle.tsl_meaning.proofs.RunTruths.{none_joined, one_joined}
 use Rattle.tsl_meaning.proofs.judging.+formula_truths.Goals as goal
@@ -88,8 +89,10 @@ formula_truths-binary_truths-requires-clause-within g t c =
 pub formula_truths-returns-in_ok-right-in-Implies : goal.formula_truths-returns-in_ok-right-in-Implies
 formula_truths-returns-in_ok-right-in-Implies g t c =
     binary_made g.J.Algebra.seen (g.J.Algebra.meanings c.args.judge.now) c.args.run.now c.binary_truths.result Implication
-    (formula_tree c.deref-in-Implies.result.now) (formula_tree c.deref-in-Implies-2.result.now) _ c.in_ok-left-in-Implies.left.items c.deref-in-Implies-3.result.now
-    (ap formula_tree c.in-Implies.is ∙ (λ i. binary Implication (formula_tree (sym c.deref-in-Implies.ensures i)) (formula_tree (sym c.deref-in-Implies-2.ensures i))))
+    (formula_tree c.deref-in-Implies.result.now) (formula_tree c.deref-in-Implies-2.result.now) _
+    c.in_ok-left-in-Implies.left.items c.deref-in-Implies-3.result.now
+    (ap formula_tree c.in-Implies.is
+    ∙ (λ i. binary Implication (formula_tree (sym c.deref-in-Implies.ensures i)) (formula_tree (sym c.deref-in-Implies-2.ensures i))))
     c.in_ok-left-in-Implies.ensures (c.deref-in-Implies-3.ensures.value ∙ c.in_ok-right-in-Implies.ensures) c.binary_truths.ensures
 
 pub formula_truths-formula_truths-requires-in-Iff : goal.formula_truths-formula_truths-requires-in-Iff
@@ -111,8 +114,10 @@ formula_truths-binary_truths-requires-in-Iff-clause-within g t c =
 pub formula_truths-returns-in_ok-right-in-Iff : goal.formula_truths-returns-in_ok-right-in-Iff
 formula_truths-returns-in_ok-right-in-Iff g t c =
     binary_made g.J.Algebra.seen (g.J.Algebra.meanings c.args.judge.now) c.args.run.now c.binary_truths-in-Iff.result Equivalence
-    (formula_tree c.deref-in-Iff.result.now) (formula_tree c.deref-in-Iff-2.result.now) _ c.in_ok-left-in-Iff.left.items c.deref-in-Iff-3.result.now
-    (ap formula_tree c.in-Iff.is ∙ (λ i. binary Equivalence (formula_tree (sym c.deref-in-Iff.ensures i)) (formula_tree (sym c.deref-in-Iff-2.ensures i))))
+    (formula_tree c.deref-in-Iff.result.now) (formula_tree c.deref-in-Iff-2.result.now) _
+    c.in_ok-left-in-Iff.left.items c.deref-in-Iff-3.result.now
+    (ap formula_tree c.in-Iff.is
+    ∙ (λ i. binary Equivalence (formula_tree (sym c.deref-in-Iff.ensures i)) (formula_tree (sym c.deref-in-Iff-2.ensures i))))
     c.in_ok-left-in-Iff.ensures (c.deref-in-Iff-3.ensures.value ∙ c.in_ok-right-in-Iff.ensures) c.binary_truths-in-Iff.ensures
 
 pub formula_truths-formula_truths-requires-in-Until : goal.formula_truths-formula_truths-requires-in-Until
@@ -134,8 +139,10 @@ formula_truths-binary_truths-requires-in-Until-clause-within g t c =
 pub formula_truths-returns-in_ok-right-in-Until : goal.formula_truths-returns-in_ok-right-in-Until
 formula_truths-returns-in_ok-right-in-Until g t c =
     binary_made g.J.Algebra.seen (g.J.Algebra.meanings c.args.judge.now) c.args.run.now c.binary_truths-in-Until.result Until
-    (formula_tree c.deref-in-Until.result.now) (formula_tree c.deref-in-Until-2.result.now) _ c.in_ok-left-in-Until.left.items c.deref-in-Until-3.result.now
-    (ap formula_tree c.in-Until.is ∙ (λ i. binary Until (formula_tree (sym c.deref-in-Until.ensures i)) (formula_tree (sym c.deref-in-Until-2.ensures i))))
+    (formula_tree c.deref-in-Until.result.now) (formula_tree c.deref-in-Until-2.result.now) _
+    c.in_ok-left-in-Until.left.items c.deref-in-Until-3.result.now
+    (ap formula_tree c.in-Until.is
+    ∙ (λ i. binary Until (formula_tree (sym c.deref-in-Until.ensures i)) (formula_tree (sym c.deref-in-Until-2.ensures i))))
     c.in_ok-left-in-Until.ensures (c.deref-in-Until-3.ensures.value ∙ c.in_ok-right-in-Until.ensures) c.binary_truths-in-Until.ensures
 
 pub formula_truths-formula_truths-requires-in-Weak : goal.formula_truths-formula_truths-requires-in-Weak
@@ -157,8 +164,10 @@ formula_truths-binary_truths-requires-in-Weak-clause-within g t c =
 pub formula_truths-returns-in_ok-right-in-Weak : goal.formula_truths-returns-in_ok-right-in-Weak
 formula_truths-returns-in_ok-right-in-Weak g t c =
     binary_made g.J.Algebra.seen (g.J.Algebra.meanings c.args.judge.now) c.args.run.now c.binary_truths-in-Weak.result WeakUntil
-    (formula_tree c.deref-in-Weak.result.now) (formula_tree c.deref-in-Weak-2.result.now) _ c.in_ok-left-in-Weak.left.items c.deref-in-Weak-3.result.now
-    (ap formula_tree c.in-Weak.is ∙ (λ i. binary WeakUntil (formula_tree (sym c.deref-in-Weak.ensures i)) (formula_tree (sym c.deref-in-Weak-2.ensures i))))
+    (formula_tree c.deref-in-Weak.result.now) (formula_tree c.deref-in-Weak-2.result.now) _
+    c.in_ok-left-in-Weak.left.items c.deref-in-Weak-3.result.now
+    (ap formula_tree c.in-Weak.is
+    ∙ (λ i. binary WeakUntil (formula_tree (sym c.deref-in-Weak.ensures i)) (formula_tree (sym c.deref-in-Weak-2.ensures i))))
     c.in_ok-left-in-Weak.ensures (c.deref-in-Weak-3.ensures.value ∙ c.in_ok-right-in-Weak.ensures) c.binary_truths-in-Weak.ensures
 
 pub formula_truths-formula_truths-requires-in-Release : goal.formula_truths-formula_truths-requires-in-Release
@@ -180,9 +189,12 @@ formula_truths-binary_truths-requires-in-Release-clause-within g t c =
 pub formula_truths-returns-in_ok-right-in-Release : goal.formula_truths-returns-in_ok-right-in-Release
 formula_truths-returns-in_ok-right-in-Release g t c =
     binary_made g.J.Algebra.seen (g.J.Algebra.meanings c.args.judge.now) c.args.run.now c.binary_truths-in-Release.result Release
-    (formula_tree c.deref-in-Release.result.now) (formula_tree c.deref-in-Release-2.result.now) _ c.in_ok-left-in-Release.left.items c.deref-in-Release-3.result.now
-    (ap formula_tree c.in-Release.is ∙ (λ i. binary Release (formula_tree (sym c.deref-in-Release.ensures i)) (formula_tree (sym c.deref-in-Release-2.ensures i))))
-    c.in_ok-left-in-Release.ensures (c.deref-in-Release-3.ensures.value ∙ c.in_ok-right-in-Release.ensures) c.binary_truths-in-Release.ensures
+    (formula_tree c.deref-in-Release.result.now) (formula_tree c.deref-in-Release-2.result.now) _
+    c.in_ok-left-in-Release.left.items c.deref-in-Release-3.result.now
+    (ap formula_tree c.in-Release.is
+    ∙ (λ i. binary Release (formula_tree (sym c.deref-in-Release.ensures i)) (formula_tree (sym c.deref-in-Release-2.ensures i))))
+    c.in_ok-left-in-Release.ensures (c.deref-in-Release-3.ensures.value
+    ∙ c.in_ok-right-in-Release.ensures) c.binary_truths-in-Release.ensures
 
 pub formula_truths-returns-in-True : goal.formula_truths-returns-in-True
 formula_truths-returns-in-True g t c =
@@ -223,8 +235,10 @@ member_truths-formula_truths-requires g t c =
 
 pub member_truths-loop-rest-preserved : goal.member_truths-loop-rest-preserved
 member_truths-loop-rest-preserved g t c =
-    let left : formula_trees c.loop-rest.rest.now ≡ more_formulas (formula_tree c.deref.result.now) (formula_trees c.deref-rest.result.now) =
-    ap formula_trees c.in-More.is ∙ (λ i. more_formulas (formula_tree (sym c.deref.ensures i)) (formula_trees (sym c.deref-rest.ensures i))) in
+    let left : formula_trees c.loop-rest.rest.now ≡ more_formulas (formula_tree c.deref.result.now)
+    (formula_trees c.deref-rest.result.now) =
+    ap formula_trees c.in-More.is ∙ (λ i. more_formulas (formula_tree (sym c.deref.ensures i)) (formula_trees
+    (sym c.deref-rest.ensures i))) in
     record {
       shorter = search (rules, list_lemmas);
       had = each_right (HasTruths (g.J.Algebra.meanings c.args.judge.now) (run_tree g.J.Algebra.seen c.args.run.now))
@@ -233,5 +247,6 @@ member_truths-loop-rest-preserved g t c =
       joined = one_joined (run_lasso (g.J.Algebra.meanings c.args.judge.now) (run_tree g.J.Algebra.seen c.args.run.now)) c.args.operator
           c.loop-rest.truths.items c.in_ok-more.more.items c.in_ok-truths-2.truths.items (formula_tree c.deref.result.now) _ _ _ left
           c.loop-rest.invariant.joined c.in_ok-more.ensures
-          (c.in_ok-truths-2.ensures ∙ (λ i. pairwise (joined c.args.operator) (c.deref-in-More.ensures.value i) (c.deref-in-More-2.ensures.value i)));
+          (c.in_ok-truths-2.ensures ∙ (λ i. pairwise (joined c.args.operator) (c.deref-in-More.ensures.value i)
+          (c.deref-in-More-2.ensures.value i)));
     }

@@ -12,7 +12,8 @@ use Rattle.tsl_meaning.proofs.judging.+formula_truths.Given as goal
 abbrev pub invariant-member_truths-loop-rest : goal.invariant-member_truths-loop-rest
 invariant-member_truths-loop-rest g l = record {
   shorter : size-FormulaList l.rest ≤ size-FormulaList l.initial.rest;
-  had : AllByRecursion (HasTruths (g.J.Algebra.meanings l.judge) (run_tree g.J.Algebra.seen l.run)) (atoms_of_members (formula_trees l.rest));
+  had : AllByRecursion (HasTruths (g.J.Algebra.meanings l.judge) (run_tree g.J.Algebra.seen l.run)) (atoms_of_members
+      (formula_trees l.rest));
   joined : AreJoined (run_lasso (g.J.Algebra.meanings l.judge) (run_tree g.J.Algebra.seen l.run)) l.operator l.truths.items
       (formula_trees l.rest) (formula_trees l.fn.members);
 }

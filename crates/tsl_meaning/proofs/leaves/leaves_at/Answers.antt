@@ -12,7 +12,8 @@ invariant_of-result g c =
     let values : map g.J.Algebra.seen c.from_vec-2.result
     ≡ map g.J.Algebra.seen c.args.position.now.row ++ map g.J.Algebra.seen c.args.position.now.cells =
     ap (map g.J.Algebra.seen) c.from_vec-2.ensures ∙ c.in_ok-add_copies-2.ensures
-    ∙ (λ i. (c.in_ok-add_copies.ensures ∙ (λ k. map g.J.Algebra.seen (c.new-values.ensures.items k) ++ map g.J.Algebra.seen (c.as_slice-3.ensures k))) i
+    ∙ (λ i. (c.in_ok-add_copies.ensures ∙ (λ k. map g.J.Algebra.seen (c.new-values.ensures.items k)
+    ++ map g.J.Algebra.seen (c.as_slice-3.ensures k))) i
     ++ map g.J.Algebra.seen (c.as_slice-4.ensures i)) in
     record {
       distinct = subst IsDistinct (sym signals)
@@ -29,7 +30,8 @@ returns g c =
     let values : map g.J.Algebra.seen c.from_vec-2.result
     ≡ map g.J.Algebra.seen c.args.position.now.row ++ map g.J.Algebra.seen c.args.position.now.cells =
     ap (map g.J.Algebra.seen) c.from_vec-2.ensures ∙ c.in_ok-add_copies-2.ensures
-    ∙ (λ i. (c.in_ok-add_copies.ensures ∙ (λ k. map g.J.Algebra.seen (c.new-values.ensures.items k) ++ map g.J.Algebra.seen (c.as_slice-3.ensures k))) i
+    ∙ (λ i. (c.in_ok-add_copies.ensures ∙ (λ k. map g.J.Algebra.seen (c.new-values.ensures.items k)
+    ++ map g.J.Algebra.seen (c.as_slice-3.ensures k))) i
     ++ map g.J.Algebra.seen (c.as_slice-4.ensures i)) in
     λ i s. leaf_values g.J.Algebra.seen c.from_vec.result c.args.run.now.inputs c.args.run.now.cells c.from_vec-2.result
     c.args.position.now.row c.args.position.now.cells signals values c.requires.row s i

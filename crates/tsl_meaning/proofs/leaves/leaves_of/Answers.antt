@@ -28,5 +28,6 @@ loop-position-preserved g c =
 pub returns : goal.returns
 returns g c =
     c.loop-position.invariant
-    ∙ ap (map (λ p. value_at (run_tree g.J.Algebra.seen c.args.run.now) (position_tree g.J.Algebra.seen p))) (take_all c.loop-position.position-index _ c.loop-position-test.false ∙ c.as_slice-position-items.ensures)
+    ∙ ap (map (λ p. value_at (run_tree g.J.Algebra.seen c.args.run.now) (position_tree g.J.Algebra.seen p)))
+    (take_all c.loop-position.position-index _ c.loop-position-test.false ∙ c.as_slice-position-items.ensures)
     ∙ sym (map_twice (value_at (run_tree g.J.Algebra.seen c.args.run.now)) (position_tree g.J.Algebra.seen) c.args.run.now.positions)
