@@ -1,5 +1,6 @@
 -- When a reader reads exactly what pieces spell, and how readers made of others keep this.
-use Rattle.std.proofs.Common.{◌≡◌, ℕ, zero, suc, ◌+◌, Bool, true, false, ◌&&◌, cond, List, [], ◌∷◌, ◌++◌, length, flat_map, Option, Some, None, IsTrue, refl, sym, ap, subst, ◌∙◌}
+use Rattle.std.proofs.Common.{◌≡◌, ℕ, zero, suc, ◌+◌, Bool, true, false, ◌&&◌, cond, List, [], ◌∷◌, ◌++◌, length, flat_map, Option, Some}
+use Rattle.std.proofs.Common.{None, IsTrue, refl, sym, ap, subst, ◌∙◌}
 use Rattle.std.specs.List.{list_all}
 use Rattle.std.proofs.lemmas.Bool.{and_parts, and_from}
 use Rattle.std.proofs.lemmas.Option.{none-some, same_Some}
@@ -104,7 +105,8 @@ module _ {A : Type 0} {reader : Reader A} {pieces : A → List Piece} {within : 
           let Q : List Piece → Type 0 = λ xs. Stand xs p m in
           subst P (same_Some (make a, m) (b, q) g) (subst Q (same a) inner.0, sym (keeps a) ∙ inner.1)
 
-    complete : (p : Place) (b : B) (q : Place) → Stand (others b) p q → IsTrue (good b) → Ends q.bytes → mapped make (reader p) ≡ Some (b, q)
+    complete : (p : Place) (b : B) (q : Place) → Stand (others b) p q → IsTrue (good b) → Ends q.bytes →
+        mapped make (reader p) ≡ Some (b, q)
     complete p b q k fine ends =
         let Q : List Piece → Type 0 = λ xs. Stand xs p q in
         let way : others b ≡ pieces (back b) = ap others (sym (again b)) ∙ sym (same (back b)) in
@@ -113,7 +115,8 @@ module _ {A : Type 0} {reader : Reader A} {pieces : A → List Piece} {within : 
 
 -- ---- one after another
 
-module _ {A B : Type 0} {first : Reader A} {second : Reader B} {xs : A → List Piece} {ys : B → List Piece} {good : A → Bool} {fine : B → Bool}
+module _ {A B : Type 0} {first : Reader A} {second : Reader B} {xs : A → List Piece} {ys : B → List Piece} {good : A → Bool} {fine : B →
+    Bool}
     {Between Ends : List ℕ → Type 0} where
   pub pair_reads :
       ((b : B) (p q : Place) → Stand (ys b) p q → IsTrue (fine b) → Ends q.bytes → Between p.bytes) →

@@ -1,5 +1,6 @@
 -- The first line at fault.
-use Rattle.std.proofs.Common.{◌≡◌, ℕ, suc, ◌+◌, ◌<◌, Bool, true, false, ◌&&◌, cond, List, [], ◌∷◌, ◌++◌, length, length-append, map, flat_map, Option, Some, None, slice_get, refl, sym, ap, subst, ◌∙◌, append_assoc, arith}
+use Rattle.std.proofs.Common.{◌≡◌, ℕ, suc, ◌+◌, ◌<◌, Bool, true, false, ◌&&◌, cond, List, [], ◌∷◌, ◌++◌, length, length-append, map}
+use Rattle.std.proofs.Common.{flat_map, Option, Some, None, slice_get, refl, sym, ap, subst, ◌∙◌, append_assoc, arith}
 use Rattle.std.specs.Prelude.{is_none, option_and_then}
 use Rattle.std.specs.List.{list_all, AllByRecursion}
 use Rattle.std.specs.Str.{bytes_eq}
@@ -18,14 +19,17 @@ use Rattle.tsl_terms.proofs.FirstUses.{first_of, named_is, first_at}
 use Rattle.flow_program.specs.declared.listing.Name.{Name}
 use Rattle.flow_program.specs.Listing.{name_bytes, declared_entry, declared, IsListing, BeginAlike, FormFault}
 use Rattle.flow_program.specs.ListingTree.{NodeLine, assignment_line, ListingTree, empty_listing}
-use Rattle.flow_program.specs.LineText.{Piece, word, named, Place, Stand, LineTree, head_line, input, cell, output, window, node, state, end_line, ended_pieces, line_is_within, listing_lines}
+use Rattle.flow_program.specs.LineText.{Piece, word, named, Place, Stand, LineTree, head_line, input, cell, output, window, node, state}
+use Rattle.flow_program.specs.LineText.{end_line, ended_pieces, line_is_within, listing_lines}
 use Rattle.flow_program.specs.internal.LineReading.{read_line}
-use Rattle.flow_program.specs.internal.LineOrder.{Progress, fresh, going, done, is_nil, add, add_all, listing_of, declares, names_so_far, are_new, and_place, checked, with_line, after_cut, next_line, IsWithin, DeclaresWithin}
+use Rattle.flow_program.specs.internal.LineOrder.{Progress, fresh, going, done, is_nil, add, add_all, listing_of, declares, names_so_far}
+use Rattle.flow_program.specs.internal.LineOrder.{are_new, and_place, checked, with_line, after_cut, next_line, IsWithin, DeclaresWithin}
 use Rattle.flow_program.proofs.ListingFacts.{listing_from}
 use Rattle.flow_program.proofs.LineFeeds.{cut_found, EndedLine, ended_line}
 use Rattle.flow_program.proofs.LinesRead.{IsLineAt, line_complete}
 use Rattle.flow_program.proofs.OrderOfLines.{add_all_append, listing_adds, Made, made_fresh, made_more}
-use Rattle.flow_program.proofs.ReachedLines.{Reached, within_more, bytes_agree, named_agree, line_declares_within, lines_declare_within, same_place}
+use Rattle.flow_program.proofs.ReachedLines.{Reached, within_more, bytes_agree, named_agree, line_declares_within, lines_declare_within}
+use Rattle.flow_program.proofs.ReachedLines.{same_place}
 use Rattle.flow_program.proofs.Standing.{stand_append, stand_split}
 
 list_all-append : {A : Type 0} (p : A → Bool) (xs ys : List A) → list_all p xs ≡ true → list_all p ys ≡ true → list_all p (xs ++ ys) ≡ true
@@ -113,7 +117,8 @@ front_of (t ∷ lines) p q h s =
           (record { at = q.at; bytes = more }) in
           subst P (sym (feed_end line others more))
           (stand_append (ended_pieces t) (flat_map ended_pieces lines) (record { at = p.at; bytes = line ++ 10 ∷ (others ++ more) })
-          (record { at = m.at; bytes = others ++ more }) (record { at = q.at; bytes = more }) (first.moves (others ++ more)) (rest.moves more));
+          (record { at = m.at; bytes = others ++ more }) (record { at = q.at; bytes = more }) (first.moves (others
+          ++ more)) (rest.moves more));
     }
 
 -- ---- lines are read in one way
@@ -175,13 +180,14 @@ made_all [] lines p q m e =
     let P : Progress → Type 0 = Made (lines ++ []) in
     let Q : List LineTree → Type 0 = λ ls. Made ls p in
     subst P (same_Some p q e) (subst Q (sym (append-nil lines)) m)
-made_all (t ∷ more) lines p q m e = by_add (add p t) refl e (λ r f g. made_all more (lines ++ t ∷ []) r q (made_more lines p r t m f) g) where
-  by_add : (o : Option Progress) → add p t ≡ o → option_and_then (add_all more) o ≡ Some q →
-      ((r : Progress) → add p t ≡ Some r → add_all more r ≡ Some q → Made ((lines ++ t ∷ []) ++ more) q) → Made (lines ++ t ∷ more) q
-  by_add None f g next = absurd (none-some q g)
-  by_add (Some r) f g next =
-      let P : List LineTree → Type 0 = λ ls. Made ls q in
-      subst P (append_assoc lines (t ∷ []) more) (next r f g)
+made_all (t ∷ more) lines p q m e = by_add (add p t) refl e (λ r f g. made_all more (lines
+    ++ t ∷ []) r q (made_more lines p r t m f) g) where
+      by_add : (o : Option Progress) → add p t ≡ o → option_and_then (add_all more) o ≡ Some q →
+          ((r : Progress) → add p t ≡ Some r → add_all more r ≡ Some q → Made ((lines ++ t ∷ []) ++ more) q) → Made (lines ++ t ∷ more) q
+      by_add None f g next = absurd (none-some q g)
+      by_add (Some r) f g next =
+          let P : List LineTree → Type 0 = λ ls. Made ls q in
+          subst P (append_assoc lines (t ∷ []) more) (next r f g)
 
 pub listing_made : (text : List ℕ) (l : ListingTree) → IsListing text l → Made (listing_lines l) (done l)
 listing_made text l is = made_all (listing_lines l) [] fresh (done l) made_fresh (listing_adds l is.has_node is.has_state)
@@ -300,7 +306,8 @@ no_more text progress number p r fails another l is more t order front line u v 
     (let R : List Name → Type 0 = λ ns. AreDistinct (map (declared_entry another) ns) in subst R names is.declared_once)
     (repeats text (names_so_far text (listing_of progress)) t f))
   where
-    by_new : (text : List ℕ) (progress : Progress) (b : Bool) (later : Place) (o : Option Progress) (more : List LineTree) (l : ListingTree) →
+    by_new : (text : List ℕ) (progress : Progress) (b : Bool) (later : Place) (o : Option Progress) (more : List LineTree)
+        (l : ListingTree) →
         and_place (cond b o None) later ≡ None → option_and_then (add_all more) o ≡ Some (done l) →
         {c : Bool} → c ≡ b → (c ≡ false → ⊥) → ⊥
     by_new text progress true later None more l x y e never = none-some (done l) y

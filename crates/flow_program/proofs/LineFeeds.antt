@@ -1,5 +1,7 @@
 -- A line has no line feed within it, and is read alike whatever follows it.
-use Rattle.std.proofs.Common.{◌≡◌, ℕ, suc, ◌+◌, ◌<◌, ◌^◌, Bool, true, false, not, ◌&&◌, cond, eqb, ltb, List, [], ◌∷◌, ◌++◌, length, length-append, take, drop, flat_map, codes, decimal, Option, Some, None, IsTrue, refl, sym, ap, subst, ◌∙◌, append_assoc, arith}
+use Rattle.std.proofs.Common.{◌≡◌, ℕ, suc, ◌+◌, ◌<◌, ◌^◌, Bool, true, false, not, ◌&&◌, cond, eqb, ltb, List, [], ◌∷◌, ◌++◌, length}
+use Rattle.std.proofs.Common.{length-append, take, drop, flat_map, codes, decimal, Option, Some, None, IsTrue, refl, sym, ap, subst, ◌∙◌}
+use Rattle.std.proofs.Common.{append_assoc, arith}
 use Rattle.std.specs.Char.{is_ascii_digit}
 use Rattle.std.specs.List.{list_all, prefix_len}
 use Rattle.std.proofs.Math.Seq.{take-append_seam, drop-append-add}
@@ -14,7 +16,8 @@ use Rattle.tsl_text.specs.Written.{is_line}
 use Rattle.tsl_text.proofs.LineLaws.{split_feed}
 use Rattle.tsl_text.proofs.NumberLaws.{decimal_digits}
 use Rattle.flow_program.specs.declared.listing.Name.{Name}
-use Rattle.flow_program.specs.ListingTree.{PhraseTree, bare, applied, PhraseTrees, no_phrases, more_phrases, UpdateLine, ListedLine, WindowLine, NodeLine, branch_line, assignment_line}
+use Rattle.flow_program.specs.ListingTree.{PhraseTree, bare, applied, PhraseTrees, no_phrases, more_phrases, UpdateLine, ListedLine}
+use Rattle.flow_program.specs.ListingTree.{WindowLine, NodeLine, branch_line, assignment_line}
 use Rattle.flow_program.specs.LineText.{
   Piece,
   word,
@@ -125,9 +128,11 @@ placed_lined v n h =
 
 window_lined : (w : WindowLine) → window_is_within w ≡ true → are_lined (window_pieces w) ≡ true
 window_lined w h =
-    let parts = and_parts (placed_is_within w.left w.left_at) (placed_is_within w.right w.length && list_all listed_is_within w.updates) h in
+    let parts = and_parts (placed_is_within w.left w.left_at)
+    (placed_is_within w.right w.length && list_all listed_is_within w.updates) h in
     let rest = and_parts (placed_is_within w.right w.length) (list_all listed_is_within w.updates) parts.1 in
-    lined_append (placed_pieces w.left w.left_at) (word (codes " is ") ∷ (placed_pieces w.right w.length ++ flat_map listed_pieces w.updates))
+    lined_append (placed_pieces w.left w.left_at) (word (codes " is ") ∷ (placed_pieces w.right w.length
+    ++ flat_map listed_pieces w.updates))
     (placed_lined w.left w.left_at parts.0)
     (lined_append (placed_pieces w.right w.length) (flat_map listed_pieces w.updates) (placed_lined w.right w.length rest.0)
     (lined_many listed_pieces listed_is_within listed_lined w.updates rest.1))
@@ -136,7 +141,8 @@ node_lined : (n : NodeLine) → node_is_within n ≡ true → are_lined (node_pi
 node_lined (branch_line v a b) h =
     let parts = and_parts (is_shallow v) (is_short a && is_short b) h in
     let numbers = and_parts (is_short a) (is_short b) parts.1 in
-    lined_append (phrase_pieces v) (word (codes " then ") ∷ word (decimal a) ∷ word (codes " else ") ∷ word (decimal b) ∷ []) (phrase_lined v)
+    lined_append (phrase_pieces v) (word (codes " then ") ∷ word (decimal a) ∷ word (codes " else ") ∷ word (decimal b) ∷ [])
+    (phrase_lined v)
     (number_lined a (word (codes " else ") ∷ word (decimal b) ∷ []) numbers.0 (number_lined b [] numbers.1 refl))
 node_lined (assignment_line us go) h =
     let parts = and_parts (list_all (λ (u : UpdateLine). is_shallow u.term) us) (is_short go) h in
@@ -250,7 +256,11 @@ pub record EndedLine (t : LineTree) (p q : Place) : Type 0 where
   pub split : p.bytes ≡ bytes ++ 10 ∷ q.bytes
   pub end : q.at ≡ p.at + (length bytes + 1)
   pub stands : Stand (line_pieces t) (record { at = p.at; bytes = bytes }) (record { at = p.at + length bytes; bytes = [] })
-  pub moves : (rest : List ℕ) → Stand (ended_pieces t) (record { at = p.at; bytes = bytes ++ 10 ∷ rest }) (record { at = q.at; bytes = rest })
+  pub moves : (rest : List ℕ) → Stand (ended_pieces t) (record {
+    at = p.at;
+    bytes = bytes
+        ++ 10 ∷ rest;
+  }) (record { at = q.at; bytes = rest })
 
 pub ended_line : (t : LineTree) (p q : Place) → line_is_within t ≡ true → Stand (ended_pieces t) p q → EndedLine t p q
 ended_line t p q within s =

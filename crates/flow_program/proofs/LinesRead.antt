@@ -1,5 +1,6 @@
 -- The lines of program texts are read exactly.
-use Rattle.std.proofs.Common.{◌≡◌, ℕ, suc, ◌+◌, ◌<◌, ◌≤◌, ◌^◌, Bool, true, false, not, ◌&&◌, List, [], ◌∷◌, ◌++◌, length, flat_map, codes, decimal, Option, Some, None, option_map, IsTrue, refl, sym, ap, subst, ◌∙◌, arith}
+use Rattle.std.proofs.Common.{◌≡◌, ℕ, suc, ◌+◌, ◌<◌, ◌≤◌, ◌^◌, Bool, true, false, not, ◌&&◌, List, [], ◌∷◌, ◌++◌, length, flat_map, codes}
+use Rattle.std.proofs.Common.{decimal, Option, Some, None, option_map, IsTrue, refl, sym, ap, subst, ◌∙◌, arith}
 use Rattle.std.specs.Char.{is_ascii_digit}
 use Rattle.std.specs.List.{list_all}
 use Rattle.std.proofs.lemmas.Bool.{and_parts}
@@ -9,8 +10,15 @@ use Rattle.tsl_text.specs.Lines.{has_bytes}
 use Rattle.tsl_text.specs.Names.{is_name_byte}
 use Rattle.tsl_text.proofs.NumberLaws.{decimal_digits}
 use Rattle.flow_program.specs.ListingTree.{PhraseTree, UpdateLine, ListedLine, WindowLine, NodeLine, branch_line, assignment_line}
-use Rattle.flow_program.specs.LineText.{Piece, word, Place, Stand, phrase_pieces, LineTree, head_line, input, cell, output, window, node, state, end_line, update_pieces, set_pieces, listed_pieces, placed_pieces, window_pieces, node_pieces, line_pieces, is_short, is_shallow, listed_is_within, placed_is_within, window_is_within, node_is_within, line_is_within}
-use Rattle.flow_program.specs.internal.LineReading.{Reader, strip, after, from, pair, mapped, prefixed, repeat, value_at_end, at_end, begins, first_number, phrase, update, is_square, update_follows, as_update, set_update, as_listed, listed, placed, as_window, window_rest, as_branch, branch_rest, as_assignment, assignment_rest, either, node_rest, numbered_node, numbered_state, read_line}
+use Rattle.flow_program.specs.LineText.{Piece, word, Place, Stand, phrase_pieces, LineTree, head_line, input, cell, output, window, node}
+use Rattle.flow_program.specs.LineText.{state, end_line, update_pieces, set_pieces, listed_pieces, placed_pieces, window_pieces}
+use Rattle.flow_program.specs.LineText.{node_pieces, line_pieces, is_short, is_shallow, listed_is_within, placed_is_within}
+use Rattle.flow_program.specs.LineText.{window_is_within, node_is_within, line_is_within}
+use Rattle.flow_program.specs.internal.LineReading.{Reader, strip, after, from, pair, mapped, prefixed, repeat, value_at_end, at_end}
+use Rattle.flow_program.specs.internal.LineReading.{begins, first_number, phrase, update, is_square, update_follows, as_update, set_update}
+use Rattle.flow_program.specs.internal.LineReading.{as_listed, listed, placed, as_window, window_rest, as_branch, branch_rest}
+use Rattle.flow_program.specs.internal.LineReading.{as_assignment, assignment_rest, either, node_rest, numbered_node, numbered_state}
+use Rattle.flow_program.specs.internal.LineReading.{read_line}
 use Rattle.flow_program.proofs.Strips.{after_found, after_sound}
 use Rattle.flow_program.proofs.Standing.{stand_split, stand_shorter}
 use Rattle.flow_program.proofs.Repeats.{Shrinks}
@@ -78,14 +86,18 @@ set_shrinks p u q e =
 
 listed_reads : Reads listed listed_pieces listed_is_within NoDigit
 listed_reads =
-    mapped_reads as_listed (λ (u : ListedLine). ((u.signal, u.term), u.offset)) listed_pieces listed_is_within (λ u. refl) (λ u. refl) (λ u. refl)
+    mapped_reads as_listed (λ (u : ListedLine). (
+      (u.signal, u.term),
+      u.offset,
+    )) listed_pieces listed_is_within (λ u. refl) (λ u. refl) (λ u. refl)
     (prefixed_reads (codes " when ") (pair_reads (λ n p q s good ends. tt) update_reads (prefixed_reads (codes " at ") number_reads)))
 
 pub listed_shrinks : Shrinks listed
 listed_shrinks p u q e =
     let s = (listed_reads.sound p u q e).0 in
     let rest : length q.bytes ≤ length s.0 =
-    stand_shorter (update_pieces u.signal u.term ++ word (codes " at ") ∷ word (decimal u.offset) ∷ []) (record { at = p.at + 6; bytes = s.0 }) q s.2 in
+    stand_shorter (update_pieces u.signal u.term ++ word (codes " at ") ∷ word (decimal u.offset) ∷ [])
+    (record { at = p.at + 6; bytes = s.0 }) q s.2 in
     let whole : length p.bytes ≡ length (codes " when " ++ s.0) = ap length s.1 in
     omega arith
 
@@ -165,29 +177,31 @@ node_reads : Reads node_rest node_pieces node_is_within NoDigit
 node_reads = record { sound = sound; complete = complete } where
   branch_sound : (m : Place) (n : NodeLine) (q : Place) → branch_rest m ≡ Some (n, q) → (p : Place) (rest : List ℕ) →
       p.bytes ≡ codes " if " ++ rest → m ≡ record { at = p.at + 4; bytes = rest } → Stand (node_pieces n) p q × IsTrue (node_is_within n)
-  branch_sound m n q e p rest f g = by_read (pair phrase (pair (prefixed (codes " then ") first_number) (prefixed (codes " else ") first_number)) m) refl e where
-    by_read : (o : Option ((PhraseTree × (ℕ × ℕ)) × Place)) →
-        pair phrase (pair (prefixed (codes " then ") first_number) (prefixed (codes " else ") first_number)) m ≡ o →
-        mapped as_branch o ≡ Some (n, q) → Stand (node_pieces n) p q × IsTrue (node_is_within n)
-    by_read None x y = absurd (none-some (n, q) y)
-    by_read (Some (b, k)) x y =
-        let P : NodeLine × Place → Type 0 = λ z. Stand (node_pieces z.0) p z.1 × IsTrue (node_is_within z.0) in
-        let Q : Place → Type 0 = λ z. Stand (branch_pieces b) z k in
-        let inner = branch_reads.sound m b k x in
-        subst P (same_Some (as_branch b, k) (n, q) y) ((rest, f, subst Q g inner.0), inner.1)
+  branch_sound m n q e p rest f g = by_read (pair phrase (pair (prefixed (codes " then ") first_number) (prefixed
+      (codes " else ") first_number)) m) refl e where
+        by_read : (o : Option ((PhraseTree × (ℕ × ℕ)) × Place)) →
+            pair phrase (pair (prefixed (codes " then ") first_number) (prefixed (codes " else ") first_number)) m ≡ o →
+            mapped as_branch o ≡ Some (n, q) → Stand (node_pieces n) p q × IsTrue (node_is_within n)
+        by_read None x y = absurd (none-some (n, q) y)
+        by_read (Some (b, k)) x y =
+            let P : NodeLine × Place → Type 0 = λ z. Stand (node_pieces z.0) p z.1 × IsTrue (node_is_within z.0) in
+            let Q : Place → Type 0 = λ z. Stand (branch_pieces b) z k in
+            let inner = branch_reads.sound m b k x in
+            subst P (same_Some (as_branch b, k) (n, q) y) ((rest, f, subst Q g inner.0), inner.1)
 
   assignment_sound : (m : Place) (n : NodeLine) (q : Place) → assignment_rest m ≡ Some (n, q) → (p : Place) (rest : List ℕ) →
       p.bytes ≡ codes " set" ++ rest → m ≡ record { at = p.at + 4; bytes = rest } → Stand (node_pieces n) p q × IsTrue (node_is_within n)
-  assignment_sound m n q e p rest f g = by_read (pair (repeat update_follows set_update) (prefixed (codes " go ") first_number) m) refl e where
-    by_read : (o : Option ((List UpdateLine × ℕ) × Place)) →
-        pair (repeat update_follows set_update) (prefixed (codes " go ") first_number) m ≡ o →
-        mapped as_assignment o ≡ Some (n, q) → Stand (node_pieces n) p q × IsTrue (node_is_within n)
-    by_read None x y = absurd (none-some (n, q) y)
-    by_read (Some (a, k)) x y =
-        let P : NodeLine × Place → Type 0 = λ z. Stand (node_pieces z.0) p z.1 × IsTrue (node_is_within z.0) in
-        let Q : Place → Type 0 = λ z. Stand (assignment_pieces a) z k in
-        let inner = assignment_reads.sound m a k x in
-        subst P (same_Some (as_assignment a, k) (n, q) y) ((rest, f, subst Q g inner.0), inner.1)
+  assignment_sound m n q e p rest f g = by_read (pair (repeat update_follows set_update) (prefixed
+      (codes " go ") first_number) m) refl e where
+        by_read : (o : Option ((List UpdateLine × ℕ) × Place)) →
+            pair (repeat update_follows set_update) (prefixed (codes " go ") first_number) m ≡ o →
+            mapped as_assignment o ≡ Some (n, q) → Stand (node_pieces n) p q × IsTrue (node_is_within n)
+        by_read None x y = absurd (none-some (n, q) y)
+        by_read (Some (a, k)) x y =
+            let P : NodeLine × Place → Type 0 = λ z. Stand (node_pieces z.0) p z.1 × IsTrue (node_is_within z.0) in
+            let Q : Place → Type 0 = λ z. Stand (assignment_pieces a) z k in
+            let inner = assignment_reads.sound m a k x in
+            subst P (same_Some (as_assignment a, k) (n, q) y) ((rest, f, subst Q g inner.0), inner.1)
 
   sound : (p : Place) (n : NodeLine) (q : Place) → node_rest p ≡ Some (n, q) → Stand (node_pieces n) p q × IsTrue (node_is_within n)
   sound p n q e = by_if (after (codes " if ") p) refl e where
@@ -197,7 +211,8 @@ node_reads = record { sound = sound; complete = complete } where
     by_set (Some m) f g = let found = after_sound (codes " set") p m f in assignment_sound m n q g p found.0 found.1 found.2
 
     by_if : (o : Option Place) → after (codes " if ") p ≡ o →
-        either o branch_rest (prefixed (codes " set") assignment_rest p) ≡ Some (n, q) → Stand (node_pieces n) p q × IsTrue (node_is_within n)
+        either o branch_rest (prefixed (codes " set") assignment_rest p) ≡ Some (n, q) →
+        Stand (node_pieces n) p q × IsTrue (node_is_within n)
     by_if None f g = by_set (after (codes " set") p) refl g
     by_if (Some m) f g = let found = after_sound (codes " if ") p m f in branch_sound m n q g p found.0 found.1 found.2
 
@@ -246,7 +261,8 @@ module _ {A : Type 0} where
   at_end_complete o a q e f = ap at_end e ∙ ap (value_at_end a) f
 
   -- one kind of line, by its first word
-  module _ {reader : Reader A} {pieces : A → List Piece} {good : A → Bool} {Ends : List ℕ → Type 0} (w : List ℕ) (h : Reads reader pieces good Ends)
+  module _ {reader : Reader A} {pieces : A → List Piece} {good : A → Bool} {Ends : List ℕ →
+      Type 0} (w : List ℕ) (h : Reads reader pieces good Ends)
       (empty : (bytes : List ℕ) → bytes ≡ [] → Ends bytes) (make : A → LineTree)
       (pieces_are : (a : A) → line_pieces (make a) ≡ word w ∷ pieces a) (within_is : (a : A) → line_is_within (make a) ≡ good a) where
     kind_sound : (p : Place) (t : LineTree) (other : Option LineTree) →

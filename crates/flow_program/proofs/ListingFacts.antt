@@ -1,5 +1,6 @@
 -- What a text says whose lines stand in it.
-use Rattle.std.proofs.Common.{◌≡◌, ℕ, suc, ◌+◌, ◌-◌, ◌<◌, Bool, true, ◌&&◌, leb, List, [], ◌∷◌, ◌++◌, length, length-append, take, drop, map, flat_map, codes, decimal, IsTrue, refl, sym, ap, ◌∙◌, append_assoc, arith}
+use Rattle.std.proofs.Common.{◌≡◌, ℕ, suc, ◌+◌, ◌-◌, ◌<◌, Bool, true, ◌&&◌, leb, List, [], ◌∷◌, ◌++◌, length, length-append, take, drop}
+use Rattle.std.proofs.Common.{map, flat_map, codes, decimal, IsTrue, refl, sym, ap, ◌∙◌, append_assoc, arith}
 use Rattle.std.specs.List.{list_all}
 use Rattle.std.proofs.Math.Seq.{take-append_seam, drop-append_seam}
 use Rattle.std.proofs.lemmas.Bool.{and_parts, and_from, le-leb}
@@ -8,9 +9,18 @@ use Rattle.std.proofs.lemmas.List.{append-nil}
 use Rattle.tsl_text.specs.Names.{is_usable}
 use Rattle.tsl_terms.specs.Name.{AreDistinct}
 use Rattle.flow_program.specs.declared.listing.Name.{Name}
-use Rattle.flow_program.specs.ListingTree.{PhraseTree, bare, applied, PhraseTrees, no_phrases, more_phrases, UpdateLine, ListedLine, WindowLine, NodeLine, branch_line, assignment_line, ListingTree}
-use Rattle.flow_program.specs.LineText.{Piece, word, named, Place, Stand, argument_pieces, phrase_pieces, phrases_pieces, LineTree, input, cell, output, window, node, state, end_line, update_pieces, set_pieces, listed_pieces, placed_pieces, window_pieces, node_pieces, line_pieces, ended_pieces, is_shallow, is_short, listed_is_within, placed_is_within, window_is_within, node_is_within, line_is_within, node_lines, state_lines, listing_lines}
-use Rattle.flow_program.specs.Listing.{name_bytes, argument_spelling, phrase_text, phrases_text, update_spelling, declaration_line_text, listed_line_text, window_line_text, update_line_text, node_line_text, node_lines_text, state_lines_text, listing_text, name_stands, phrase_stands, phrases_stand, is_phrase, update_line_stands, listed_line_stands, window_line_stands, node_line_stands, declared_entry, declared, IsListing}
+use Rattle.flow_program.specs.ListingTree.{PhraseTree, bare, applied, PhraseTrees, no_phrases, more_phrases, UpdateLine, ListedLine}
+use Rattle.flow_program.specs.ListingTree.{WindowLine, NodeLine, branch_line, assignment_line, ListingTree}
+use Rattle.flow_program.specs.LineText.{Piece, word, named, Place, Stand, argument_pieces, phrase_pieces, phrases_pieces, LineTree, input}
+use Rattle.flow_program.specs.LineText.{cell, output, window, node, state, end_line, update_pieces, set_pieces, listed_pieces}
+use Rattle.flow_program.specs.LineText.{placed_pieces, window_pieces, node_pieces, line_pieces, ended_pieces, is_shallow, is_short}
+use Rattle.flow_program.specs.LineText.{listed_is_within, placed_is_within, window_is_within, node_is_within, line_is_within, node_lines}
+use Rattle.flow_program.specs.LineText.{state_lines, listing_lines}
+use Rattle.flow_program.specs.Listing.{name_bytes, argument_spelling, phrase_text, phrases_text, update_spelling, declaration_line_text}
+use Rattle.flow_program.specs.Listing.{listed_line_text, window_line_text, update_line_text, node_line_text, node_lines_text}
+use Rattle.flow_program.specs.Listing.{state_lines_text, listing_text, name_stands, phrase_stands, phrases_stand, is_phrase}
+use Rattle.flow_program.specs.Listing.{update_line_stands, listed_line_stands, window_line_stands, node_line_stands, declared_entry}
+use Rattle.flow_program.specs.Listing.{declared, IsListing}
 
 -- ---- pieces in a text
 
@@ -48,7 +58,8 @@ named_in front name rest usable n e =
     length-append front (name ++ rest) ∙ ap (λ (k : ℕ). length front + k) (length-append name rest) in (
       bytes,
       and_from (leb n.start n.end && leb n.end (length text)) (is_usable (name_bytes text n))
-          (and_from (leb n.start n.end) (leb n.end (length text)) (le-leb n.start n.end (omega arith)) (le-leb n.end (length text) (omega arith)))
+          (and_from (leb n.start n.end) (leb n.end (length text)) (le-leb n.start n.end (omega arith)) (le-leb n.end (length text)
+          (omega arith)))
           (ap is_usable bytes ∙ usable),
     )
 
@@ -228,14 +239,16 @@ module _ (text : List ℕ) where
       ∙ ten (codes "window ") (phrase_text text w.left) (codes " at ") (decimal w.left_at) (codes " is ") (phrase_text text w.right)
       (codes " at ") (decimal w.length) (flat_map (listed_line_text text) w.updates) (codes "\n")
 
-  placed_is : (v : PhraseTree) (n : ℕ) → placed_is_within v n ≡ true → pieces_stand text (placed_pieces v n) ≡ true → is_phrase text v ≡ true
+  placed_is : (v : PhraseTree) (n : ℕ) → placed_is_within v n ≡ true → pieces_stand text (placed_pieces v n) ≡ true →
+      is_phrase text v ≡ true
   placed_is v n h k =
       within_is text v (and_parts (is_shallow v) (is_short n) h).0
       (all_parts (piece_stands text) (phrase_pieces v) (word (codes " at ") ∷ word (decimal n) ∷ []) k).0
 
   window_is : (w : WindowLine) → window_is_within w ≡ true → pieces_stand text (window_pieces w) ≡ true → window_line_stands text w ≡ true
   window_is w h k =
-      let good = and_parts (placed_is_within w.left w.left_at) (placed_is_within w.right w.length && list_all listed_is_within w.updates) h in
+      let good = and_parts (placed_is_within w.left w.left_at)
+      (placed_is_within w.right w.length && list_all listed_is_within w.updates) h in
       let fine = and_parts (placed_is_within w.right w.length) (list_all listed_is_within w.updates) good.1 in
       let parts = all_parts (piece_stands text) (placed_pieces w.left w.left_at)
       (word (codes " is ") ∷ (placed_pieces w.right w.length ++ flat_map listed_pieces w.updates)) k in
@@ -265,7 +278,8 @@ module _ (text : List ℕ) where
       (pieces_append text (phrase_pieces v ++ numbers) (word (codes "\n") ∷ [])
       ∙ ap (λ (zs : List ℕ). zs ++ codes "\n")
       (pieces_append text (phrase_pieces v) numbers ∙ ap (λ (zs : List ℕ). zs ++ behind) (phrase_spelled text v)))
-      ∙ nine (codes "node ") (decimal i) (codes " if ") (phrase_text text v) (codes " then ") (decimal a) (codes " else ") (decimal b) (codes "\n")
+      ∙ nine (codes "node ") (decimal i) (codes " if ") (phrase_text text v) (codes " then ") (decimal a) (codes " else ") (decimal b)
+      (codes "\n")
   node_spelled i (assignment_line us go) =
       let last : List Piece = word (codes " go ") ∷ word (decimal go) ∷ [] in
       ap (λ (zs : List ℕ). codes "node " ++ (decimal i ++ (codes " set" ++ zs)))
@@ -301,7 +315,8 @@ module _ (text : List ℕ) where
       let fine = and_parts (is_short i) (node_is_within n) good.0 in
       let parts = all_parts (piece_stands text) (ended_pieces (node i n)) (flat_map ended_pieces (node_lines (suc i) ns)) k in
       let line = all_parts (piece_stands text) (node_pieces n) (word (codes "\n") ∷ []) parts.0 in
-      and_from (node_line_stands text n) (list_all (node_line_stands text) ns) (node_is n fine.1 line.0) (nodes_are (suc i) ns good.1 parts.1)
+      and_from (node_line_stands text n) (list_all (node_line_stands text) ns) (node_is n fine.1 line.0) (nodes_are
+      (suc i) ns good.1 parts.1)
 
   six : (a b c d e f : List ℕ) → (a ++ (b ++ (c ++ (d ++ (e ++ []))))) ++ f ≡ ((((a ++ b) ++ c) ++ d) ++ e) ++ f
   six a b c d e f = simp (append_assoc, append-nil)
@@ -324,7 +339,8 @@ module _ (text : List ℕ) (w : List ℕ) (make : Name → LineTree) (is : (n : 
   declaration_spelled n =
       ap (λ (xs : List Piece). pieces_text text (xs ++ word (codes "\n") ∷ [])) (is n) ∙ three w (name_bytes text n) (codes "\n")
 
-  declarations_spelled : (ns : List Name) → pieces_text text (flat_map ended_pieces (map make ns)) ≡ flat_map (declaration_line_text text w) ns
+  declarations_spelled : (ns : List Name) → pieces_text text (flat_map ended_pieces (map make ns))
+      ≡ flat_map (declaration_line_text text w) ns
   declarations_spelled [] = refl
   declarations_spelled (n ∷ ns) =
       let first = declaration_spelled n in
@@ -338,7 +354,8 @@ module _ (text : List ℕ) (w : List ℕ) (make : Name → LineTree) (is : (n : 
       let parts = all_parts (piece_stands text) (ended_pieces (make n)) (flat_map ended_pieces (map make ns)) h in
       let line : pieces_stand text (word w ∷ named n ∷ word (codes "\n") ∷ []) ≡ true =
       ap (λ (xs : List Piece). pieces_stand text (xs ++ word (codes "\n") ∷ [])) (sym (is n)) ∙ parts.0 in
-      and_from (name_stands text n) (list_all (name_stands text) ns) (and_parts (name_stands text n) true line).0 (declarations_stand ns parts.1)
+      and_from (name_stands text n) (list_all (name_stands text) ns) (and_parts (name_stands text n) true line).0
+      (declarations_stand ns parts.1)
 
 windows_spelled : (text : List ℕ) (ws : List WindowLine) →
     pieces_text text (flat_map ended_pieces (map window ws)) ≡ flat_map (window_line_text text) ws
@@ -360,7 +377,8 @@ windows_are text (w ∷ ws) h k =
 
 -- ---- the whole text
 
-eight : (a b c d e f g h : List ℕ) → a ++ (b ++ (c ++ (d ++ (e ++ (f ++ (g ++ (h ++ []))))))) ≡ ((((((a ++ b) ++ c) ++ d) ++ e) ++ f) ++ g) ++ h
+eight : (a b c d e f g h : List ℕ) → a ++ (b ++ (c ++ (d ++ (e ++ (f ++ (g ++ (h ++ []))))))) ≡ ((((((a ++ b) ++ c) ++ d) ++ e) ++ f)
+    ++ g) ++ h
 eight a b c d e f g h = simp (append_assoc, append-nil)
 
 -- the sections of a listing's pieces
@@ -428,7 +446,8 @@ pub listing_from : (text : List ℕ) (l : ListingTree) (end : ℕ) →
     IsTrue (list_all line_is_within (listing_lines l)) → AreDistinct (map (declared_entry text) (declared l)) → 0 < length l.nodes →
     0 < length l.states → IsListing text l
 listing_from text l end s within distinct some_node some_state =
-    let here = in_text text (lines_pieces (listing_lines l)) (record { at = 0; bytes = text }) (record { at = end; bytes = [] }) [] refl refl s in
+    let here = in_text text (lines_pieces (listing_lines l)) (record { at = 0; bytes = text })
+    (record { at = end; bytes = [] }) [] refl refl s in
     let a = parts_stand text (map input l.inputs) (from_cells l) here.stand in
     let b = parts_stand text (map cell l.cells) (from_outputs l) a.1 in
     let c = parts_stand text (map output l.outputs) (from_windows l) b.1 in

@@ -1,5 +1,6 @@
 -- The order of lines: the lines of a listing are those that may stand one after another.
-use Rattle.std.proofs.Common.{◌≡◌, ℕ, suc, ◌+◌, ◌<◌, Bool, true, false, not, ◌&&◌, cond, eqb, List, [], ◌∷◌, ◌++◌, length, map, flat_map, Option, Some, None, refl, sym, ap, subst, ◌∙◌, append_assoc, arith, length-append}
+use Rattle.std.proofs.Common.{◌≡◌, ℕ, suc, ◌+◌, ◌<◌, Bool, true, false, not, ◌&&◌, cond, eqb, List, [], ◌∷◌, ◌++◌, length, map, flat_map}
+use Rattle.std.proofs.Common.{Option, Some, None, refl, sym, ap, subst, ◌∙◌, append_assoc, arith, length-append}
 use Rattle.std.specs.Prelude.{option_and_then}
 use Rattle.std.proofs.lemmas.Bool.{and_parts, and_from, cond-true, eqb-true, eq-eqb, not-true, false≢true}
 use Rattle.std.proofs.lemmas.List.{append-nil, map-append}
@@ -9,8 +10,10 @@ use Rattle.flow_program.specs.ListingTree.{WindowLine, NodeLine, ListingTree, em
 use Rattle.tsl_terms.specs.Name.{Name as NameEntry}
 use Rattle.flow_program.specs.declared.listing_reader.Begun.{Begun}
 use Rattle.flow_program.specs.Listing.{declared, declared_entry}
-use Rattle.flow_program.specs.LineText.{LineTree, head_line, input, cell, output, window, node, state, end_line, node_lines, state_lines, listing_lines}
-use Rattle.flow_program.specs.internal.LineOrder.{may_stand, extended, Progress, fresh, going, done, is_nil, no_node, no_window, no_output, no_cell, when, added, add, add_all, listing_of, declares, names_so_far, progress_of}
+use Rattle.flow_program.specs.LineText.{LineTree, head_line, input, cell, output, window, node, state, end_line, node_lines, state_lines}
+use Rattle.flow_program.specs.LineText.{listing_lines}
+use Rattle.flow_program.specs.internal.LineOrder.{may_stand, extended, Progress, fresh, going, done, is_nil, no_node, no_window, no_output}
+use Rattle.flow_program.specs.internal.LineOrder.{no_cell, when, added, add, add_all, listing_of, declares, names_so_far, progress_of}
 
 -- ---- adding lines
 
@@ -347,12 +350,14 @@ made_more lines (going l) q t m e =
 made_more lines (done l) q t m e = absurd (none-some q e)
 
 -- the names that a line declares come after those before it
-pub extended_names : (l : ListingTree) (t : LineTree) → may_stand l t ≡ true → declared (listing_of (extended l t)) ≡ declared l ++ declares t
+pub extended_names : (l : ListingTree) (t : LineTree) → may_stand l t ≡ true →
+    declared (listing_of (extended l t)) ≡ declared l ++ declares t
 extended_names l t h = (grown l t (extended l t) (cond-true (may_stand l t) (Some (extended l t)) None h)).names
 
 pub progress_listing : (b : Begun) → listing_of (progress_of b) ≡ listing_tree b.listing
 progress_listing b = by_end b.ended where
-  by_end : (ended : Bool) → listing_of (cond ended (done (listing_tree b.listing)) (going (listing_tree b.listing))) ≡ listing_tree b.listing
+  by_end : (ended : Bool) → listing_of (cond ended (done (listing_tree b.listing)) (going (listing_tree b.listing)))
+      ≡ listing_tree b.listing
   by_end true = refl
   by_end false = refl
 

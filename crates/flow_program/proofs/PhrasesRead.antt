@@ -1,17 +1,23 @@
 -- Terms and tests are read exactly.
-use Rattle.std.proofs.Common.{◌≡◌, ℕ, zero, suc, ◌+◌, ◌≤◌, Bool, true, false, not, ◌&&◌, cond, leb, max, List, [], ◌∷◌, ◌++◌, length, drop, flat_map, codes, Option, Some, None, IsTrue, refl, sym, ap, subst, ◌∙◌, arith}
+use Rattle.std.proofs.Common.{◌≡◌, ℕ, zero, suc, ◌+◌, ◌≤◌, Bool, true, false, not, ◌&&◌, cond, leb, max, List, [], ◌∷◌, ◌++◌, length, drop}
+use Rattle.std.proofs.Common.{flat_map, codes, Option, Some, None, IsTrue, refl, sym, ap, subst, ◌∙◌, arith}
 use Rattle.std.specs.Char.{is_ascii_digit}
 use Rattle.std.specs.List.{list_all, prefix_len}
 use Rattle.std.proofs.Math.Seq.{drop-append_seam}
 use Rattle.std.proofs.Math.Nat.{le-max_left, le-max_right, max-le}
-use Rattle.std.proofs.lemmas.Bool.{and_parts, and_from, cond-true, cond-false, leb-true, le-leb, not-true, false_from_ne_true, or_right, ne_eqb, false≢true}
+use Rattle.std.proofs.lemmas.Bool.{and_parts, and_from, cond-true, cond-false, leb-true, le-leb, not-true, false_from_ne_true, or_right}
+use Rattle.std.proofs.lemmas.Bool.{ne_eqb, false≢true}
 use Rattle.std.proofs.lemmas.Option.{none-some, same_Some}
 use Rattle.tsl_text.specs.Names.{is_name_start, is_name_byte, is_name_text, is_reserved, is_usable}
 use Rattle.term_text.proofs.Fronts.{name_first, no_digit_begins, no_bracket_begins}
 use Rattle.flow_program.specs.declared.listing.Name.{Name}
 use Rattle.flow_program.specs.ListingTree.{PhraseTree, bare, applied, PhraseTrees, no_phrases, more_phrases}
-use Rattle.flow_program.specs.LineText.{Piece, word, named, Place, Stand, argument_pieces, phrase_pieces, phrases_pieces, bracketed_phrase, phrase_brackets, phrases_brackets, is_shallow}
-use Rattle.flow_program.specs.internal.LineReading.{after, from, mapped, keep_before, begins, first_name, phrases_of, is_open, number_follows, argument_begins, argument_follows, constant_or, short_after, short, argument, spaced_argument, arguments, phrase_of, phrase_after, phrase_with, has_arguments, only_applied, bracketed, phrase}
+use Rattle.flow_program.specs.LineText.{Piece, word, named, Place, Stand, argument_pieces, phrase_pieces, phrases_pieces, bracketed_phrase}
+use Rattle.flow_program.specs.LineText.{phrase_brackets, phrases_brackets, is_shallow}
+use Rattle.flow_program.specs.internal.LineReading.{after, from, mapped, keep_before, begins, first_name, phrases_of, is_open}
+use Rattle.flow_program.specs.internal.LineReading.{number_follows, argument_begins, argument_follows, constant_or, short_after, short}
+use Rattle.flow_program.specs.internal.LineReading.{argument, spaced_argument, arguments, phrase_of, phrase_after, phrase_with}
+use Rattle.flow_program.specs.internal.LineReading.{has_arguments, only_applied, bracketed, phrase}
 use Rattle.tsl_terms.specs.WellFormed.{deepest}
 use Rattle.flow_program.proofs.BracketLevels.{bracketed_zero, bracketed_more, bracketed_inner}
 use Rattle.flow_program.proofs.Strips.{after_found, after_none, after_sound}
@@ -109,7 +115,8 @@ named_starts name rest bytes e usable letter number =
     ap (λ (k : ℕ). drop k bytes) len ∙ ap (drop (length name)) e ∙ drop-append_seam name rest in (
       or_right (begins is_open bytes) (begins is_name_start bytes && not (number_follows (drop (prefix_len is_name_byte bytes) bytes)))
           (and_from (begins is_name_start bytes) (not (number_follows (drop (prefix_len is_name_byte bytes) bytes)))
-          (ap (begins is_name_start) e ∙ letter_begins name rest usable) (ap (λ (zs : List ℕ). not (number_follows zs)) back ∙ ap not number)),
+          (ap (begins is_name_start) e ∙ letter_begins name rest usable) (ap (λ (zs : List ℕ). not (number_follows zs)) back
+          ∙ ap not number)),
       ap (begins is_ascii_digit) e ∙ letter_no_digit name rest usable,
     )
 
@@ -207,7 +214,8 @@ module _ (room : ℕ) (h : ReadsBrackets room) where
 
   arguments_read : Reads (arguments (bracketed room)) (λ vs. flat_map (λ v. word (codes " ") ∷ own_pieces v) vs)
       (λ vs. list_all (argument_is_within room) vs) EndsPhrase
-  arguments_read = repeat_reads argument_follows spaced_reads spaced_shrinks (λ v p q s good ends. spaced_starts room v p q s good ends) ends_more
+  arguments_read = repeat_reads argument_follows spaced_reads spaced_shrinks
+      (λ v p q s good ends. spaced_starts room v p q s good ends) ends_more
 
 -- ---- lists of arguments
 
@@ -261,7 +269,8 @@ module _ (room : ℕ) (h : ReadsBrackets room) where
 
   pub phrase_with_reads : Reads (phrase_with (bracketed room)) phrase_pieces (is_within room) EndsPhrase
   phrase_with_reads = record { sound = sound; complete = complete } where
-    list_reads : Reads (arguments (bracketed room)) (λ vs. flat_map spaced_pieces vs) (λ vs. list_all (argument_is_within room) vs) EndsPhrase
+    list_reads : Reads (arguments (bracketed room)) (λ vs. flat_map spaced_pieces vs) (λ vs. list_all
+        (argument_is_within room) vs) EndsPhrase
     list_reads = arguments_read room h
 
     sound : (p : Place) (v : PhraseTree) (q : Place) → phrase_with (bracketed room) p ≡ Some (v, q) →
@@ -297,7 +306,8 @@ module _ (room : ℕ) (h : ReadsBrackets room) where
     complete p (bare n) q s good ends =
         let ended : EndsArgument q.bytes = (ends_more q.bytes ends).1 in
         ap (phrase_after (bracketed room)) (name_reads.complete p n q s refl (no_letter q.bytes ended))
-        ∙ ap (λ (o : Option Place). constant_or n o (mapped (phrase_of n) (arguments (bracketed room) q))) (no_constant q (no_open q.bytes ended))
+        ∙ ap (λ (o : Option Place). constant_or n o (mapped (phrase_of n) (arguments (bracketed room) q))) (no_constant q
+        (no_open q.bytes ended))
         ∙ ap (mapped (phrase_of n)) (list_reads.complete q [] q refl refl ends)
     complete p (applied n no_phrases) q s good ends =
         let c = constant_is n p q s in
@@ -326,7 +336,8 @@ in_brackets (applied n (more_phrases v vs)) h = (refl, refl)
 
 pub brackets_read : (room : ℕ) → ReadsBrackets room
 brackets_read zero = record { sound = sound; complete = complete } where
-  sound : (p : Place) (v : PhraseTree) (q : Place) → bracketed 0 p ≡ Some (v, q) → Stand (own_pieces v) p q × IsTrue (argument_is_within 0 v)
+  sound : (p : Place) (v : PhraseTree) (q : Place) → bracketed 0 p ≡ Some (v, q) →
+      Stand (own_pieces v) p q × IsTrue (argument_is_within 0 v)
   sound p v q e = absurd (none-some (v, q) (sym (bracketed_zero 0 refl p) ∙ e))
 
   complete : (p : Place) (v : PhraseTree) (q : Place) → has_arguments v ≡ true → Stand (own_pieces v) p q →

@@ -1,5 +1,7 @@
 -- What is known where so many lines of a text were read.
-use Rattle.std.proofs.Common.{◌≡◌, ℕ, suc, ◌+◌, ◌-◌, ◌*◌, ◌<◌, ◌≤◌, Bool, true, false, ◌&&◌, cond, List, [], ◌∷◌, ◌++◌, length, length-append, take, drop, map, flat_map, codes, Option, Some, None, ◌⊎◌, inl, inr, slice_get, refl, sym, ap, subst, ◌∙◌, arith}
+use Rattle.std.proofs.Common.{◌≡◌, ℕ, suc, ◌+◌, ◌-◌, ◌*◌, ◌<◌, ◌≤◌, Bool, true, false, ◌&&◌, cond, List, [], ◌∷◌, ◌++◌, length}
+use Rattle.std.proofs.Common.{length-append, take, drop, map, flat_map, codes, Option, Some, None, ◌⊎◌, inl, inr, slice_get, refl, sym, ap}
+use Rattle.std.proofs.Common.{subst, ◌∙◌, arith}
 use Rattle.std.specs.Prelude.{is_none}
 use Rattle.std.specs.List.{list_all, AllByRecursion}
 use Rattle.std.proofs.lemmas.Bool.{and_parts, and_from, false≢true}
@@ -33,7 +35,9 @@ use Rattle.flow_program.specs.LineText.{
   line_is_within,
 }
 use Rattle.flow_program.specs.internal.LineReading.{read_line}
-use Rattle.flow_program.specs.internal.LineOrder.{Progress, fresh, going, add, add_all, listing_of, declares, names_so_far, are_new, cut, and_place, with_line, after_cut, next_line, head_at, head_after, after_head, IsWithin, DeclaresWithin}
+use Rattle.flow_program.specs.internal.LineOrder.{Progress, fresh, going, add, add_all, listing_of, declares, names_so_far, are_new, cut}
+use Rattle.flow_program.specs.internal.LineOrder.{and_place, with_line, after_cut, next_line, head_at, head_after, after_head, IsWithin}
+use Rattle.flow_program.specs.internal.LineOrder.{DeclaresWithin}
 use Rattle.flow_program.proofs.LineFeeds.{span, cut_sound, line_before_feed}
 use Rattle.flow_program.proofs.LinesRead.{IsLineAt, line_sound}
 use Rattle.flow_program.proofs.OrderOfLines.{add_all_more, Made, made_fresh, made_more}

@@ -1,5 +1,6 @@
 -- A reader that is repeated as often as its test holds.
-use Rattle.std.proofs.Common.{◌≡◌, ℕ, zero, suc, ◌<◌, Bool, true, false, cond, List, [], ◌∷◌, ◌++◌, length, Option, Some, None, refl, ap, ◌∙◌, append_assoc, arith}
+use Rattle.std.proofs.Common.{◌≡◌, ℕ, zero, suc, ◌<◌, Bool, true, false, cond, List, [], ◌∷◌, ◌++◌, length, Option, Some, None, refl, ap}
+use Rattle.std.proofs.Common.{◌∙◌, append_assoc, arith}
 use Rattle.std.proofs.lemmas.List.{append-nil}
 use Rattle.flow_program.specs.LineText.{Place}
 use Rattle.flow_program.specs.internal.LineReading.{Reader, with_first, go_on, repeat_most, repeat}
@@ -16,7 +17,10 @@ module _ {A : Type 0} where
     unfolding repeat_most
     enough zero n p h k = absurd (omega arith)
     enough (suc m) zero p h k = absurd (omega arith)
-    enough (suc m) (suc n) p h k = by_test (test p.bytes) (reader p) refl (λ q less. enough m n q (omega (arith, less)) (omega (arith, less)))
+    enough (suc m) (suc n) p h k = by_test (test p.bytes) (reader p) refl (λ q less. enough m n q (omega (arith, less)) (omega (
+      arith,
+      less,
+    )))
       where
         by_test : (t : Bool) (o : Option (A × Place)) → reader p ≡ o →
             ((q : Place) → length q.bytes < length p.bytes → repeat_most m test reader q ≡ repeat_most n test reader q) →

@@ -1,5 +1,6 @@
 -- Bytes at the front of what is left.
-use Rattle.std.proofs.Common.{◌≡◌, ℕ, ◌+◌, Bool, true, false, List, [], ◌∷◌, ◌++◌, length, Option, Some, None, option_map, eqb, refl, sym, ap, ◌∙◌}
+use Rattle.std.proofs.Common.{◌≡◌, ℕ, ◌+◌, Bool, true, false, List, [], ◌∷◌, ◌++◌, length, Option, Some, None, option_map, eqb, refl, sym}
+use Rattle.std.proofs.Common.{ap, ◌∙◌}
 use Rattle.std.proofs.lemmas.Bool.{cond-true, cond-false, eqb-true, eq-eqb}
 use Rattle.std.proofs.lemmas.Option.{none-some, same_Some}
 use Rattle.std.specs.Bool.{Decides}
@@ -51,7 +52,8 @@ after_sound w p q e = by_answer (strip w p.bytes) refl
 
     by_answer : (o : Option (List ℕ)) → strip w p.bytes ≡ o →
         (rest : List ℕ) × (p.bytes ≡ w ++ rest) × (q ≡ record { at = p.at + length w; bytes = rest })
-    by_answer None h = absurd (none-some q (sym (ap (option_map (λ (bytes : List ℕ). record { at = p.at + length w; bytes = bytes })) h) ∙ e))
+    by_answer None h = absurd (none-some q (sym (ap (option_map (λ
+        (bytes : List ℕ). record { at = p.at + length w; bytes = bytes })) h) ∙ e))
     by_answer (Some rest) h = (
       rest,
       strip_sound w p.bytes rest h,

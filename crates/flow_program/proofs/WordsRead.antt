@@ -1,5 +1,6 @@
 -- Names and numbers are read exactly.
-use Rattle.std.proofs.Common.{◌≡◌, ℕ, ◌+◌, ◌-◌, ◌*◌, ◌^◌, ◌<◌, Bool, true, false, not, ◌&&◌, cond, leb, List, [], ◌∷◌, ◌++◌, length, take, drop, take-append-drop, decimal, Option, Some, None, option_map, IsTrue, refl, sym, ap, subst, ◌∙◌, arith}
+use Rattle.std.proofs.Common.{◌≡◌, ℕ, ◌+◌, ◌-◌, ◌*◌, ◌^◌, ◌<◌, Bool, true, false, not, ◌&&◌, cond, leb, List, [], ◌∷◌, ◌++◌, length, take}
+use Rattle.std.proofs.Common.{drop, take-append-drop, decimal, Option, Some, None, option_map, IsTrue, refl, sym, ap, subst, ◌∙◌, arith}
 use Rattle.std.specs.Prelude.{fold}
 use Rattle.std.specs.Char.{is_ascii_digit}
 use Rattle.std.specs.List.{list_all, prefix_len}
@@ -142,7 +143,8 @@ number_reads = record { sound = sound; complete = complete } where
     len : ℕ
     len = prefix_len is_ascii_digit p.bytes
 
-    by_number : (o : Option ℕ) → plain_number_in (take len p.bytes) ≡ o → option_map {U = ℕ × Place} (λ (k : ℕ). (k, skipped len p)) o ≡ Some (n, q) →
+    by_number : (o : Option ℕ) → plain_number_in (take len p.bytes) ≡ o →
+        option_map {U = ℕ × Place} (λ (k : ℕ). (k, skipped len p)) o ≡ Some (n, q) →
         Stand (number_pieces n) p q × IsTrue (is_short n)
     by_number None h f = absurd (none-some (n, q) f)
     by_number (Some k) h f =

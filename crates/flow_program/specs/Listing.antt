@@ -1,5 +1,6 @@
 -- What the listing of a program text is, and which line of a text is the first at fault.
-use Rattle.std.specs.Prelude.{◌≡◌, ℕ, suc, ◌-◌, ◌<◌, Bool, true, ◌&&◌, nat_le, List, [], ◌∷◌, ◌++◌, length, map, take, drop, flat_map, codes, decimal, IsTrue}
+use Rattle.std.specs.Prelude.{◌≡◌, ℕ, suc, ◌-◌, ◌<◌, Bool, true, ◌&&◌, nat_le, List, [], ◌∷◌, ◌++◌, length, map, take, drop, flat_map}
+use Rattle.std.specs.Prelude.{codes, decimal, IsTrue}
 use Rattle.std.specs.List.{list_all}
 use Rattle.tsl_text.specs.Names.{is_usable}
 use Rattle.tsl_text.specs.Written.{is_line, text_of_lines}

@@ -21,6 +21,7 @@ mod left;
 mod limits;
 mod line;
 mod listing;
+mod listing_laws;
 mod listing_reader;
 mod naming;
 mod node;
@@ -36,10 +37,13 @@ mod writing;
 pub use laws::{one_program, one_program_cause, one_reading, spelled_programs_are_read};
 pub use limits::{LONGEST_WINDOW, MOST_NODES, MOST_STATES, MOST_WINDOWS};
 pub use listing::Name;
+pub use listing_laws::one_listing;
 pub use node::Node;
 pub use program::Program;
 pub use reading::{ProgramError, read_program};
 pub use writing::write_program;
 
+#[cfg(test)]
+mod listing_tests;
 #[cfg(test)]
 mod tests;

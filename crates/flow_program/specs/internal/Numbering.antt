@@ -1,6 +1,6 @@
 -- Internal: only private functions of this crate use these words.
 -- Lines with numbers in the place of names.
-use Rattle.std.specs.Prelude.{◌≡◌, ℕ, ◌^◌, nat_lt, cond, List, [], ◌++◌, map, Option, Some, None, option_map, option_and_then}
+use Rattle.std.specs.Prelude.{◌≡◌, ℕ, ◌^◌, nat_lt, cond, List, ◌++◌, map, Option, Some, None, option_map, option_and_then}
 use Rattle.sequence.specs.Options.{all_there}
 use Rattle.tsl_terms.specs.Name.{number_of, question, Name as NameEntry}
 use Rattle.tsl_terms.specs.TermTree.{TermTree, signal, apply, TermTrees, no_terms, more_terms, ProbeTree}
@@ -9,7 +9,7 @@ use Rattle.flow_program.specs.declared.listing.Name.{Name}
 use Rattle.flow_program.specs.NodeTree.{NodeTree, branch, assign}
 use Rattle.flow_program.specs.ProgramTree.{ProgramTree}
 use Rattle.flow_program.specs.Listing.{PhraseTree, bare, applied, PhraseTrees, no_phrases, more_phrases, name_bytes}
-use Rattle.flow_program.specs.Listing.{UpdateLine, ListedLine, WindowLine, NodeLine, branch_line, assignment_line, ListingTree}
+use Rattle.flow_program.specs.Listing.{ListedLine, WindowLine, NodeLine, branch_line, assignment_line, ListingTree}
 
 abbrev pub probe_of : ℕ → TermTrees → ProbeTree
 probe_of predicate arguments = record { predicate = predicate; arguments = arguments }

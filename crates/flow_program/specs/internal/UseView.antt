@@ -1,10 +1,7 @@
 -- Internal: only private functions of this crate use these words.
 -- A use of a name, without where its bytes lie in memory.
-use Rattle.std.specs.Prelude.{Bool, ◌&&◌, List}
-use Rattle.std.specs.List.{list_all}
 use Rattle.tsl_terms.specs.Clashes.{name_use}
 use Rattle.flow_program.specs.declared.uses.SpelledUse.{SpelledUse}
-use Rattle.flow_program.specs.Listing.{ListingTree, declared, name_stands, window_line_stands, node_line_stands}
 use Rattle.flow_program.specs.Uses.{ProgramUse}
 
 abbrev pub use_view : SpelledUse → ProgramUse

@@ -22,7 +22,8 @@ returns-in_err-update-clause-wrong c =
 
 pub loop-alloc-smaller : goal.loop-alloc-smaller
 loop-alloc-smaller c =
-    listed_shrinks (place_of c.loop-alloc.rest) (listed_line c.in_ok-update.update) (place_of c.in_ok-update.later) c.in_ok-update.ensures.ok
+    listed_shrinks (place_of c.loop-alloc.rest) (listed_line c.in_ok-update.update)
+    (place_of c.in_ok-update.later) c.in_ok-update.ensures.ok
 
 pub loop-alloc-preserved : goal.loop-alloc-preserved
 loop-alloc-preserved c =
@@ -34,7 +35,8 @@ loop-alloc-preserved c =
     ap (λ (front : List ListedLine). joined front later) grown
     ∙ joined_more so_far (listed_line c.in_ok-update.update) later
     ∙ ap (joined so_far)
-    (sym (repeat_more has_bytes listed listed_shrinks (place_of c.loop-alloc.rest) (listed_line c.in_ok-update.update) (place_of c.in_ok-update.later)
+    (sym (repeat_more has_bytes listed listed_shrinks (place_of c.loop-alloc.rest) (listed_line c.in_ok-update.update)
+    (place_of c.in_ok-update.later)
     (sym c.has_bytes.ensures ∙ c.loop-alloc-test.true) c.in_ok-update.ensures.ok))
     ∙ c.loop-alloc.invariant
 

@@ -33,7 +33,8 @@ loop-alloc-preserved c =
     ap (λ (front : List UpdateLine). joined front later) grown
     ∙ joined_more so_far (update_line c.in_ok-update.update) later
     ∙ ap (joined so_far)
-    (sym (repeat_more update_follows set_update set_shrinks (place_of c.loop-alloc.rest) (update_line c.in_ok-update.update) (place_of c.in_ok-update.later)
+    (sym (repeat_more update_follows set_update set_shrinks (place_of c.loop-alloc.rest) (update_line c.in_ok-update.update)
+    (place_of c.in_ok-update.later)
     (sym c.update_follows.ensures ∙ c.loop-alloc-test.true) c.in_ok-update.ensures.ok))
     ∙ c.loop-alloc.invariant
 

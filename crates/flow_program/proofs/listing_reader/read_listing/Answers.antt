@@ -17,7 +17,8 @@ returns-in-Err-clause-fault c =
     let P : ListingError → Type 0 = HasListingFault c.args.text.now in
     subst P (sym c.at_line.ensures)
     (told c.args.text.now fresh 1 start (reached_start c.args.text.now) c.in-Err.fault
-    (misread_on (after_head start) (next_line c.args.text.now fresh start) c.in-Err.fault (no_head c.args.text.now start) c.in-Err.ensures.wrong)
+    (misread_on (after_head start) (next_line c.args.text.now fresh start) c.in-Err.fault
+    (no_head c.args.text.now start) c.in-Err.ensures.wrong)
     (λ nil m e. fresh_not_done m e))
 
 pub loop-left-init : goal.loop-left-init

@@ -40,7 +40,8 @@ in_brackets-returns-in-None-clause-wrong t c =
 pub arguments-returns-in_err-argument-clause-wrong : goal.arguments-returns-in_err-argument-clause-wrong
 arguments-returns-in_err-argument-clause-wrong t c =
     handed_on _ _ _ c.from_residual.ensures.1
-    (misread_on (spaced_argument (bracketed c.args.room) (place_of c.loop-alloc.rest)) (arguments (bracketed c.args.room) (place_of c.args.left)) _
+    (misread_on (spaced_argument (bracketed c.args.room) (place_of c.loop-alloc.rest)) (arguments (bracketed c.args.room)
+    (place_of c.args.left)) _
     (λ e. sym c.loop-alloc.invariant
     ∙ ap (joined (map phrase_tree c.loop-alloc.found.items))
     (repeat_wrong argument_follows (spaced_argument (bracketed c.args.room)) (place_of c.loop-alloc.rest)
