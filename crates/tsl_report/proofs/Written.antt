@@ -14,20 +14,29 @@ use Rattle.tsl_terms.proofs.WholeAtoms.{whole_is_made_of, is_made_of_then, binar
 use Rattle.term_text.proofs.Held.{name_held, term_held, probe_held}
 use Rattle.tsl_report.specs.FormulaText.{atom_is_held, can_be_written}
 
-pub left_written : (names : List Name) (op : BinaryOperator) (a b : FormulaTree) → IsTrue (can_be_written names (binary op a b)) → IsTrue (can_be_written names a)
-left_written names op a b h = (and_parts (can_be_written names a) (can_be_written names b) (sym (binary_is_made_of (atom_is_held names) op a b) ∙ h)).0
+pub left_written : (names : List Name) (op : BinaryOperator) (a b : FormulaTree) → IsTrue (can_be_written names (binary op a b)) →
+    IsTrue (can_be_written names a)
+left_written names op a b h = (and_parts (can_be_written names a) (can_be_written names b) (sym (binary_is_made_of
+    (atom_is_held names) op a b) ∙ h)).0
 
-pub right_written : (names : List Name) (op : BinaryOperator) (a b : FormulaTree) → IsTrue (can_be_written names (binary op a b)) → IsTrue (can_be_written names b)
-right_written names op a b h = (and_parts (can_be_written names a) (can_be_written names b) (sym (binary_is_made_of (atom_is_held names) op a b) ∙ h)).1
+pub right_written : (names : List Name) (op : BinaryOperator) (a b : FormulaTree) → IsTrue (can_be_written names (binary op a b)) →
+    IsTrue (can_be_written names b)
+right_written names op a b h = (and_parts (can_be_written names a) (can_be_written names b) (sym (binary_is_made_of
+    (atom_is_held names) op a b) ∙ h)).1
 
-pub members_written : (names : List Name) (op : ManyOperator) (fs : FormulaTrees) → IsTrue (can_be_written names (many op fs)) → IsTrue (members_are_made_of (atom_is_held names) fs)
+pub members_written : (names : List Name) (op : ManyOperator) (fs : FormulaTrees) → IsTrue (can_be_written names (many op fs)) →
+    IsTrue (members_are_made_of (atom_is_held names) fs)
 members_written names op fs h = many_is_made_of (atom_is_held names) op fs h
 
-pub first_written : (names : List Name) (f : FormulaTree) (fs : FormulaTrees) → IsTrue (members_are_made_of (atom_is_held names) (more_formulas f fs)) → IsTrue (can_be_written names f)
-first_written names f fs h = (and_parts (can_be_written names f) (members_are_made_of (atom_is_held names) fs) (sym (more_are_made_of (atom_is_held names) f fs) ∙ h)).0
+pub first_written : (names : List Name) (f : FormulaTree) (fs : FormulaTrees) →
+    IsTrue (members_are_made_of (atom_is_held names) (more_formulas f fs)) → IsTrue (can_be_written names f)
+first_written names f fs h = (and_parts (can_be_written names f) (members_are_made_of (atom_is_held names) fs) (sym (more_are_made_of
+    (atom_is_held names) f fs) ∙ h)).0
 
-pub rest_written : (names : List Name) (f : FormulaTree) (fs : FormulaTrees) → IsTrue (members_are_made_of (atom_is_held names) (more_formulas f fs)) → IsTrue (members_are_made_of (atom_is_held names) fs)
-rest_written names f fs h = (and_parts (can_be_written names f) (members_are_made_of (atom_is_held names) fs) (sym (more_are_made_of (atom_is_held names) f fs) ∙ h)).1
+pub rest_written : (names : List Name) (f : FormulaTree) (fs : FormulaTrees) →
+    IsTrue (members_are_made_of (atom_is_held names) (more_formulas f fs)) → IsTrue (members_are_made_of (atom_is_held names) fs)
+rest_written names f fs h = (and_parts (can_be_written names f) (members_are_made_of (atom_is_held names) fs) (sym (more_are_made_of
+    (atom_is_held names) f fs) ∙ h)).1
 
 -- an atom that fits is held
 atom_held : (names : List Name) (a : Atom) → atom_fits names a ≡ true → atom_is_held names a ≡ true

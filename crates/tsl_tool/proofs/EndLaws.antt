@@ -18,7 +18,8 @@ use Rattle.tsl_tool.specs.Outcome.{CommandOutcome, usage, source_failed, too_lon
 use Rattle.tsl_tool.specs.Promise.{Promise}
 use Rattle.tsl_tool.specs.Replies.{fault_reply}
 use Rattle.tsl_tool.specs.Statuses.{is_answer}
-use Rattle.tsl_tool.proofs.OutcomeLaws.{comes_of_bytes, command_comes, usage_of_words, words_to_usage, no_write_fault, no_memory}
+use Rattle.tsl_tool.proofs.Statuses.{comes_of_bytes}
+use Rattle.tsl_tool.proofs.OutcomeLaws.{command_comes, usage_of_words, words_to_usage, no_write_fault, no_memory}
 use Rattle.tsl_tool.proofs.OutcomeLaws.{outcome_says, keeps_promise}
 
 if_ok : {A E : Type 0} {P Q : A → Type 0} (r : Result A E) → ((a : A) → P a → Q a) → IfOk r P → IfOk r Q

@@ -49,7 +49,8 @@ terms_in s (f ∷ fs) = flat_map-append (term_for s) (atoms f) (flat_map atoms f
 term_passes : (passes : Atom → Bool) (listed : List Atom) → list_all passes listed ≡ true → (s : ℕ) (t : TermTree) →
     Contains (flat_map (term_for s) listed) t → passes (update s t) ≡ true
 term_passes passes [] all s t stands = absurd (omega (arith, stands.1))
-term_passes passes (test p ∷ listed) all s t stands = term_passes passes listed (and_parts (passes (test p)) (list_all passes listed) all).1 s t stands
+term_passes passes (test p ∷ listed) all s t stands = term_passes passes listed (and_parts (passes (test p))
+    (list_all passes listed) all).1 s t stands
 term_passes passes (update r u ∷ listed) all s t stands =
     let parts = and_parts (passes (update r u)) (list_all passes listed) all in
     elim (eqb_tells r s) [
@@ -65,7 +66,8 @@ term_passes passes (update r u ∷ listed) all s t stands =
     first here same later (suc k, within, is) = later (k, omega arith, is)
 
 -- an updated signal has a term
-some_term : (s : ℕ) (listed : List Atom) → list_any (atom_updates s) listed ≡ true → (t : TermTree) × Contains (flat_map (term_for s) listed) t
+some_term : (s : ℕ) (listed : List Atom) → list_any (atom_updates s) listed ≡ true →
+    (t : TermTree) × Contains (flat_map (term_for s) listed) t
 some_term s [] updates = absurd (false≢true updates)
 some_term s (test p ∷ listed) updates = some_term s listed updates
 some_term s (update r u ∷ listed) updates = elim (eqb_tells r s) [

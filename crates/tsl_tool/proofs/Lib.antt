@@ -6,10 +6,17 @@ pub mod FixedLaws
 pub mod FixedSteps
 pub mod OutcomeLaws
 pub mod PlainUpdates
+pub mod ProgramFaultLaws
 pub mod RecheckExamples
 pub mod RecheckLaws
 pub mod RefusalExamples
 pub mod RefusalLaws
+pub mod RunFaultLaws
+pub mod RunLaws
+pub mod RunNames
+pub mod RunParting
+pub mod RunReplies
 pub mod SignalNames
+pub mod Statuses
 pub mod SynthLaws
 pub mod WholeTexts

@@ -1,61 +1,31 @@
 -- Which status and which text the reply of an outcome has, and what it promises.
-use Rattle.std.proofs.Common.{◌≡◌, ◌≢◌, ℕ, Bool, true, false, List, [], ◌∷◌, ◌++◌, refl, ap, sym, ◌∙◌, subst}
+use Rattle.std.proofs.Common.{◌≡◌, ◌≢◌, ℕ, true, false, List, [], refl, ap, sym, ◌∙◌, subst}
 use Rattle.std.specs.Prelude.{Option, Some, None}
 use Rattle.refutation_check.specs.Checking.{Refusal, at_line, at_hint, unfinished, log_refusal}
 use Rattle.refutation_check.specs.CnfText.{CnfAnswer, is_cnf, form_at as cnf_form_at, too_many_variables, too_many_clauses, cnf_answer}
 use Rattle.refutation_check.specs.LogText.{LogAnswer, is_log, form_at as log_form_at, log_answer}
-use Rattle.tsl_reader.specs.declared.SpecError.{SpecError}
-use Rattle.tsl_reader.specs.declared.SpecError.TheVariants.{Byte, OpenComment, Form, Deep, Kind, Arity, Nodes, NoMemory}
 use Rattle.tsl_report.specs.declared.fault.Fault.{Fault}
 use Rattle.tsl_report.specs.declared.fault.Fault.TheVariants.{Usage as WrongWords, Read, Parts, CnfForm, LogForm, Large as PastLimit}
 use Rattle.tsl_report.specs.declared.fault.Fault.TheVariants.{Unbuilt}
 use Rattle.tsl_report.specs.declared.fault.Head.TheVariants.{Lrat}
 use Rattle.tsl_report.specs.declared.fault.LimitName.TheVariants.{Text, Variables, Clauses}
-use Rattle.tsl_report.specs.FaultText.{fault_line, fault_text}
 use Rattle.flow_program.specs.ProgramText.{program_text}
 use Rattle.tsl_tool.specs.declared.status.Status.{Status}
-use Rattle.tsl_tool.specs.declared.status.Status.TheVariants.{Done, No, Usage, Reading, Large, Spent, ReadFault, WriteFault, Memory}
+use Rattle.tsl_tool.specs.declared.status.Status.TheVariants.{Done, No, Usage, Large, ReadFault, WriteFault, Memory}
 use Rattle.tsl_tool.specs.declared.words.Command.{Command}
-use Rattle.tsl_tool.specs.declared.words.Command.TheVariants.{Synth, Recheck}
+use Rattle.tsl_tool.specs.declared.words.Command.TheVariants.{Synth, Run, Recheck}
 use Rattle.tsl_tool.specs.declared.reply.Reply.{Reply}
 use Rattle.tsl_tool.specs.Commands.{command_of, most_bytes}
-use Rattle.tsl_tool.specs.Refusals.{IsFaultOf}
 use Rattle.tsl_tool.specs.Replies.{fault_status, fault_reply}
 use Rattle.tsl_tool.specs.Synth.{written, unbuilt, refused}
-use Rattle.tsl_tool.specs.Recheck.{without_log, of_parts, IsFirstLineAt, head_line, verdict, parts_reply}
+use Rattle.tsl_tool.specs.HeadLines.{IsFirstLineAt}
+use Rattle.tsl_tool.specs.Recheck.{without_log, of_parts, head_line, verdict, parts_reply}
 use Rattle.tsl_tool.specs.Recheck.{recheck_reply, cnf_part, log_part}
 use Rattle.tsl_tool.specs.Outcome.{CommandOutcome, Outcome, usage, source_failed, too_long, on_bytes}
 use Rattle.tsl_tool.specs.Promise.{Promise}
 use Rattle.tsl_tool.proofs.RecheckLaws.{yes_refutes, no_exactly}
-
-status_of : {a b : Reply} → a ≡ b → a.status ≡ b.status
-status_of h = ap (λ (r : Reply). r.status) h
-
-text_of : {a b : Reply} → a ≡ b → a.text ≡ b.text
-text_of h = ap (λ (r : Reply). r.text) h
-
--- whether a command may reply so to bytes
-abbrev pub comes_of_bytes : Status → Bool
-comes_of_bytes Done = true
-comes_of_bytes No = true
-comes_of_bytes Reading = true
-comes_of_bytes Large = true
-comes_of_bytes Spent = true
-comes_of_bytes Usage = false
-comes_of_bytes ReadFault = false
-comes_of_bytes WriteFault = false
-comes_of_bytes Memory = false
-
-refusal_comes : (bytes : List ℕ) (error : SpecError) (fault : Fault) → IsFaultOf bytes error fault →
-    comes_of_bytes (fault_status fault) ≡ true
-refusal_comes bytes (Byte at) fault h = ap (λ f. comes_of_bytes (fault_status f)) h.2
-refusal_comes bytes (OpenComment at) fault h = ap (λ f. comes_of_bytes (fault_status f)) h.2
-refusal_comes bytes (Form at) fault h = ap (λ f. comes_of_bytes (fault_status f)) h.2
-refusal_comes bytes (Deep at) fault h = ap (λ f. comes_of_bytes (fault_status f)) h.2
-refusal_comes bytes (Kind start end) fault h = ap (λ f. comes_of_bytes (fault_status f)) h.2
-refusal_comes bytes (Arity start end) fault h = ap (λ f. comes_of_bytes (fault_status f)) h.2
-refusal_comes bytes Nodes fault h = ap (λ f. comes_of_bytes (fault_status f)) h
-refusal_comes bytes NoMemory fault h = absurd h
+use Rattle.tsl_tool.proofs.RunReplies.{run_comes, run_says, run_keeps}
+use Rattle.tsl_tool.proofs.Statuses.{comes_of_bytes, status_of, text_of, refusal_comes, line_says, fault_says}
 
 verdict_comes : (refusal : Option Refusal) → comes_of_bytes (verdict refusal).status ≡ true
 verdict_comes None = refl
@@ -74,6 +44,7 @@ command_comes (Synth sizes) bytes reply (written done h) = ap comes_of_bytes don
 command_comes (Synth sizes) bytes reply (unbuilt h is) = ap comes_of_bytes (status_of is)
 command_comes (Synth sizes) bytes reply (refused fault h is) = ap comes_of_bytes (status_of is)
     ∙ refusal_comes bytes h.error fault h.is_fault
+command_comes Run bytes reply outcome = run_comes bytes reply outcome
 command_comes Recheck bytes reply (without_log h is) = ap comes_of_bytes (status_of is)
 command_comes Recheck bytes reply (of_parts at h is) =
     ap comes_of_bytes (status_of is) ∙ parts_come (cnf_answer (cnf_part bytes at)) (log_answer (log_part bytes at))
@@ -111,16 +82,6 @@ no_memory words bytes reply (on_bytes command known few outcome) h =
     let e : false ≡ true = sym (ap comes_of_bytes h) ∙ command_comes command bytes reply outcome in cc
 
 -- each reply has a text
-some_byte : (xs : List ℕ) (y : ℕ) → xs ++ y ∷ [] ≢ []
-some_byte [] y e = cc
-some_byte (x ∷ xs) y e = cc
-
-line_says : (fault : Fault) → fault_text fault ≢ []
-line_says fault = some_byte (fault_line fault) 10
-
-fault_says : (fault : Fault) (reply : Reply) → reply ≡ fault_reply fault → reply.text ≢ []
-fault_says fault reply is e = line_says fault (sym (text_of is) ∙ e)
-
 verdict_says : (refusal : Option Refusal) → (verdict refusal).text ≢ []
 verdict_says None e = cc
 verdict_says (Some (at_line number)) e = cc
@@ -139,6 +100,7 @@ command_says (Synth sizes) bytes reply (written done h) e =
     let program : program_text h.spec.names h.program ≡ [] = sym h.spelled.text ∙ e in cc
 command_says (Synth sizes) bytes reply (unbuilt h is) e = fault_says Unbuilt reply is e
 command_says (Synth sizes) bytes reply (refused fault h is) e = fault_says fault reply is e
+command_says Run bytes reply outcome e = run_says bytes reply outcome e
 command_says Recheck bytes reply (without_log h is) e = fault_says (Parts Lrat) reply is e
 command_says Recheck bytes reply (of_parts at h is) e =
     parts_say (cnf_answer (cnf_part bytes at)) (log_answer (log_part bytes at)) (sym (text_of is) ∙ e)
@@ -156,6 +118,10 @@ fault_promises (Some (Synth sizes)) WrongWords bytes text = tt
 fault_promises (Some (Synth sizes)) Read bytes text = tt
 fault_promises (Some (Synth sizes)) (PastLimit name limit) bytes text = tt
 fault_promises (Some (Synth sizes)) _ bytes text = tt
+fault_promises (Some Run) WrongWords bytes text = tt
+fault_promises (Some Run) Read bytes text = tt
+fault_promises (Some Run) (PastLimit name limit) bytes text = tt
+fault_promises (Some Run) _ bytes text = tt
 fault_promises (Some Recheck) WrongWords bytes text = tt
 fault_promises (Some Recheck) Read bytes text = tt
 fault_promises (Some Recheck) (PastLimit name limit) bytes text = tt
@@ -179,6 +145,7 @@ command_keeps (Synth sizes) bytes reply (written done h) =
     subst (λ (s : Status). Promise (Some (Synth sizes)) s bytes reply.text) (sym done) h
 command_keeps (Synth sizes) bytes reply (unbuilt h is) = fault_keeps (Some (Synth sizes)) Unbuilt bytes reply is
 command_keeps (Synth sizes) bytes reply (refused fault h is) = fault_keeps (Some (Synth sizes)) fault bytes reply is
+command_keeps Run bytes reply outcome = run_keeps bytes reply outcome
 command_keeps Recheck bytes reply (without_log h is) = fault_keeps (Some Recheck) (Parts Lrat) bytes reply is
 command_keeps Recheck bytes reply (of_parts at first is) =
     subst (λ (r : Reply). Promise (Some Recheck) r.status bytes r.text) (sym is)

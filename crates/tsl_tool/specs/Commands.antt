@@ -3,8 +3,8 @@ use Rattle.std.specs.Prelude.{ℕ, ◌≤◌, Bool, true, false, cond, ◌&&◌,
 use Rattle.std.specs.Str.{bytes_eq}
 use Rattle.tsl_tool.specs.declared.words.Sizes.{Sizes}
 use Rattle.tsl_tool.specs.declared.words.Command.{Command}
-use Rattle.tsl_tool.specs.declared.words.Command.TheVariants.{Synth, Recheck}
-use Rattle.tsl_tool.specs.declared.words.TheConstants.{DEFAULT_STATES, MOST_STATES, MOST_SPECIFICATION_BYTES, MOST_LOG_BYTES}
+use Rattle.tsl_tool.specs.declared.words.Command.TheVariants.{Synth, Run, Recheck}
+use Rattle.tsl_tool.specs.declared.words.TheConstants.{DEFAULT_STATES, MOST_STATES, MOST_SPECIFICATION_BYTES, MOST_RUN_BYTES, MOST_LOG_BYTES}
 
 -- the sizes that these words ask for after `synth`: none, or `--states 1`
 abbrev pub sizes_of : List (List ℕ) → Option Sizes
@@ -13,21 +13,23 @@ sizes_of (option ∷ value ∷ []) =
     cond (bytes_eq option (codes "--states") && bytes_eq value (codes "1")) (Some (record { states = 1 })) None
 sizes_of _ = None
 
--- `recheck` has no options
-abbrev pub recheck_of : List (List ℕ) → Option Command
-recheck_of [] = Some Recheck
-recheck_of _ = None
+-- a command that has no options
+abbrev pub without_options : Command → List (List ℕ) → Option Command
+without_options command [] = Some command
+without_options command _ = None
 
 -- The command of the words, with its options. There is none where the words are no command's.
 abbrev pub command_of : List (List ℕ) → Option Command
 command_of [] = None
 command_of (first ∷ options) =
     cond (bytes_eq first (codes "synth")) (option_map Synth (sizes_of options))
-    (cond (bytes_eq first (codes "recheck")) (recheck_of options) None)
+    (cond (bytes_eq first (codes "run")) (without_options Run options)
+    (cond (bytes_eq first (codes "recheck")) (without_options Recheck options) None))
 
 -- each option is in its range
 abbrev pub IsInRange : Command → Type 0
 IsInRange (Synth sizes) = (1 ≤ sizes.states) × (sizes.states ≤ MOST_STATES)
+IsInRange Run = Unit {0}
 IsInRange Recheck = Unit {0}
 
 -- whether a run with this command reads its source
@@ -38,4 +40,5 @@ reads None = false
 -- the most bytes that a command reads
 abbrev pub most_bytes : Command → ℕ
 most_bytes (Synth sizes) = MOST_SPECIFICATION_BYTES
+most_bytes Run = MOST_RUN_BYTES
 most_bytes Recheck = MOST_LOG_BYTES

@@ -5,11 +5,15 @@ pub mod Ends
 pub mod Fixed
 pub mod internal
 pub mod Form
+pub mod HeadLines
 pub mod Outcome
 pub mod Promise
 pub mod Recheck
 pub mod Refusals
 pub mod Replies
+pub mod Run
+pub mod RunFaults
+pub mod RunParts
 pub mod Statuses
 pub mod Synth
 pub mod Limits

@@ -1,6 +1,5 @@
 -- What the command `recheck` replies.
-use Rattle.std.specs.Prelude.{◌≡◌, ℕ, ◌+◌, ◌≤◌, List, ◌++◌, take, drop, codes, decimal, Option, Some, None}
-use Rattle.tsl_text.specs.Places.{IsBetweenFeeds}
+use Rattle.std.specs.Prelude.{◌≡◌, ℕ, ◌+◌, List, ◌++◌, take, drop, codes, decimal, Option, Some, None}
 use Rattle.clause_core.specs.Literals.{Lit}
 use Rattle.clause_core.specs.Clauses.{AreUnsatisfiable}
 use Rattle.refutation_check.specs.declared.steps.Step.{Step}
@@ -13,20 +12,12 @@ use Rattle.tsl_report.specs.declared.fault.Fault.TheVariants.{Parts, CnfForm, Lo
 use Rattle.tsl_tool.specs.declared.recheck.TheConstants.{MOST_VARIABLES, MOST_CLAUSES}
 use Rattle.tsl_tool.specs.declared.status.Status.TheVariants.{Done, No}
 use Rattle.tsl_tool.specs.declared.reply.Reply.{Reply}
+use Rattle.tsl_tool.specs.HeadLines.{IsFirstLineAt, HasNoLine}
 use Rattle.tsl_tool.specs.Replies.{fault_reply}
 
 -- the line between a formula and its log
 abbrev pub head_line : List ℕ
 head_line = codes "lrat"
-
--- the first line of the text that equals this one begins at this offset
-pub record IsFirstLineAt (text line : List ℕ) (at : ℕ) : Type 0 where
-  pub is_line : IsBetweenFeeds text line at
-  pub first : (other : ℕ) → IsBetweenFeeds text line other → at ≤ other
-
--- no line of the text equals this one
-abbrev pub HasNoLine : List ℕ → List ℕ → Type 0
-HasNoLine text line = (at : ℕ) → IsBetweenFeeds text line at → ⊥
 
 -- All before the line `lrat` that begins at this offset, and all after that line.
 abbrev pub cnf_part : List ℕ → ℕ → List ℕ

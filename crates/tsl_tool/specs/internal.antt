@@ -1,3 +1,5 @@
 pub mod FixedSlots
 pub mod RefusalPlaces
+pub mod RunFaultPlaces
+pub mod RunView
 pub mod Sending

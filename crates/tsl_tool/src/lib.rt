@@ -10,8 +10,8 @@
 //!    (`specs/Commands.antt`).
 //! 3. `Reply` (`src/reply.rt`): a status and one text. `fault_reply` is that of a fault.
 //! 4. `Outcome words bytes reply` (`specs/Outcome.antt`): what the words and the bytes of the
-//!    source may lead to. For each command it goes on to `SynthOutcome` (`specs/Synth.antt`) or
-//!    `RecheckOutcome` (`specs/Recheck.antt`).
+//!    source may lead to. For each command it goes on to `SynthOutcome` (`specs/Synth.antt`),
+//!    `RunOutcome` (`specs/Run.antt`) or `RecheckOutcome` (`specs/Recheck.antt`).
 //! 5. `Effect` (`specs/Effects.antt`): the bytes and the count of faults of a source or a sink,
 //!    before the run and after it, and what can be said of them: untouched, written whole, cut off
 //!    by a fault.
@@ -22,8 +22,11 @@
 //! 7. `Promise` (`specs/Promise.antt`): what the answer of each command promises. For `synth`, at
 //!    `Done` the text spells a program over the names of the specification that the bytes spell,
 //!    and every closed run of that program, under every finite interpretation and every input loop,
-//!    meets the specification's whole formula. For `recheck`, at `Done` no assignment meets all
-//!    clauses of the formula that the bytes spell.
+//!    meets the specification's whole formula. For `run`, at `Done` the text is the closed run of the
+//!    program over the tables and the inputs that the bytes spell, and the formula of each window and
+//!    that of the specification hold in it; at `No` one of them fails, or the program has other
+//!    signals than the specification. For `recheck`, at `Done` no assignment meets all clauses of the
+//!    formula that the bytes spell.
 //!
 //! The clauses of `tsl` say: the status and what stands in the sinks are those of an
 //! `Ends`; an answer keeps the `Promise` of its command; words that read nothing leave the source
@@ -36,7 +39,10 @@
 //! where the log is accepted and no exactly where it is refused. Definitions cite the limits of
 //! texts as the constants of the code; `limits_are_these` says which numbers they are.
 //!
-//! What is built: `recheck`, and `synth` or `synth --states 1`. `synth` reads every specification
+//! `run` finds the parts of its input by lines alone (`specs/RunParts.antt`), and each refusal of a
+//! part has the line of its fault (`specs/RunFaults.antt`).
+//!
+//! What is built: `run`, `recheck`, and `synth` or `synth --states 1`. `synth` reads every specification
 //! of the grammar, and each refusal has the line of its fault (`specs/Refusals.antt`); it writes a
 //! program for specifications of fixed updates (`specs/Fixed.antt`), and every other one is
 //! `Reading`, with the line `fault unbuilt`. A new command adds a variant, its words, a line of
@@ -48,9 +54,12 @@ mod laws;
 mod recheck;
 mod refusal;
 mod reply;
+mod run;
+mod run_faults;
 mod status;
 mod synth;
 mod top;
+mod verdicts;
 mod words;
 
 pub use laws::{
@@ -60,5 +69,7 @@ pub use laws::{
 pub use status::Status;
 pub use top::tsl;
 
+#[cfg(test)]
+mod run_tests;
 #[cfg(test)]
 mod tests;

@@ -35,7 +35,7 @@ pub(crate) fn fault_of(alloc: Global, text: &[u8], error: &SpecError) -> Result<
 }
 
 /// The place of an offset of the text.
-fn place_in(text: &[u8], offset: u32) -> Place
+pub(crate) fn place_in(text: &[u8], offset: u32) -> Place
     requires inside { offset ≤ length text.now }
     requires short { length text.now < 2 ^ 32 - 1 }
     ensures { IsPlaceOf text.now offset result }
@@ -44,7 +44,12 @@ fn place_in(text: &[u8], offset: u32) -> Place
 }
 
 /// A copy of the name between two offsets of the text.
-fn name_between(alloc: Global, text: &[u8], start: u32, end: u32) -> Result<Sequence<u8>, NoMemory>
+pub(crate) fn name_between(
+    alloc: Global,
+    text: &[u8],
+    start: u32,
+    end: u32,
+) -> Result<Sequence<u8>, NoMemory>
     requires in_order { start ≤ end }
     requires inside { end ≤ length text.now }
     ensures { IfOk result (λ name. name ≡ name_between text.now start end) }

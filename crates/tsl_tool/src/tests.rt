@@ -27,11 +27,12 @@ const UNBUILT: &[u8] = b"fault unbuilt\n";
 const SQUARE: &[u8] = b"p cnf 2 4\n1 2 0\n1 -2 0\n-1 2 0\n-1 -2 0\nlrat\n";
 
 /// Words that are no command's.
-static OTHER_WORDS: [&[&str]; 6] = [
+static OTHER_WORDS: [&[&str]; 7] = [
     &[],
     &["frob"],
     &["synth", "--states", "9"],
     &["synth", "--states"],
+    &["run", "x"],
     &["recheck", "x"],
     &["recheck", "--states", "1"],
 ];
@@ -167,8 +168,8 @@ static REPEATED: [(&[u8], u32, &[u8], &[u8]); 7] = [
 
 /// What a run left.
 #[derive(Drop)]
-struct Ran {
-    status: Status,
+pub(crate) struct Ran {
+    pub(crate) status: Status,
     out: Vec<u8>,
     err: Vec<u8>,
 }
@@ -176,13 +177,13 @@ struct Ran {
 /// How a device behaves: the most bytes of a call, at least 1, and the ordinal of the call that
 /// fails.
 #[derive(Clone, Copy)]
-struct Device {
+pub(crate) struct Device {
     piece: usize,
     fails_at: u64,
 }
 
 /// Takes or gives all bytes at once, and never fails.
-const PLAIN: Device = Device {
+pub(crate) const PLAIN: Device = Device {
     piece: 4_000_000,
     fails_at: 0,
 };
@@ -192,7 +193,7 @@ fn sink(alloc: Global, device: Device) -> Result<MemorySink, AllocError> {
     MemorySink::new(alloc, 100_000, device.piece.max(1), fails)
 }
 
-fn run(
+pub(crate) fn run(
     alloc: Global,
     words: &[&str],
     text: &[u8],
@@ -230,7 +231,7 @@ fn status_of(says: &[u8]) -> Status {
 
 /// Asserts that a run ended with this status and this text in its sink, and with nothing in the
 /// other.
-fn assert_says(rt: &impl Abort, ran: &Ran, status: Status, text: &[u8]) {
+pub(crate) fn assert_says(rt: &impl Abort, ran: &Ran, status: Status, text: &[u8]) {
     let (out, err): (&[u8], &[u8]) = match status {
         Status::Done | Status::No => (text, b""),
         _ => (b"", text),

@@ -12,6 +12,7 @@ ghost use Rattle.tsl_tool.specs.internal.Sending.{IsSent};
 
 use crate::recheck::recheck;
 use crate::reply::Reply;
+use crate::run::run;
 use crate::status::Status;
 use crate::synth::synth;
 use crate::words::{Command, command_of};
@@ -48,16 +49,18 @@ fn reply_to_bytes(alloc: Global, command: Command, bytes: &[u8]) -> Result<Reply
 {
     match command {
         Command::Synth(sizes) => synth(alloc, sizes, bytes),
+        Command::Run => run(alloc, bytes),
         Command::Recheck => recheck(alloc, bytes),
     }
 }
 
 /// Runs `tsl` on the words after the program's name.
 ///
-/// The words are `synth`, `synth --states 1` or `recheck`. For `synth` the source holds a
-/// specification of at most 1,048,576 bytes; for `recheck` a formula in conjunctive normal form,
-/// the line `lrat` and a log, of at most 268,435,456 bytes together. Each text is built whole
-/// before its first byte is written. At `Done` and `No` a program or a verdict went to `out`. At
+/// The words are `synth`, `synth --states 1`, `run` or `recheck`. For `synth` the source holds a
+/// specification of at most 1,048,576 bytes; for `run` a specification or nothing, a program, tables
+/// and inputs, of at most 16,777,216 bytes together; for `recheck` a formula in conjunctive normal
+/// form, the line `lrat` and a log, of at most 268,435,456 bytes together. Each text is built whole
+/// before its first byte is written. At `Done` and `No` a program, a run or a verdict went to `out`. At
 /// `Usage`, `Reading`, `Large` and `ReadFault` one line went to `err`. At `WriteFault` some first
 /// bytes of the one text went to its sink, and at `Memory` nothing was written.
 pub fn tsl<S: Source, O: Sink, E: Sink>(

@@ -2,7 +2,7 @@
 
 ghost use Rattle.std.specs.Prelude.{◌≡◌, map, string_bytes, Some, option_map, IfSome};
 ghost use Rattle.std.specs.Str.{bytes_eq};
-ghost use Rattle.tsl_tool.specs.Commands.{sizes_of, recheck_of, command_of, IsInRange, most_bytes};
+ghost use Rattle.tsl_tool.specs.Commands.{sizes_of, without_options, command_of, IsInRange, most_bytes};
 
 /// The states of a program, where the words ask for no number.
 const DEFAULT_STATES: u32 = 2;
@@ -12,6 +12,9 @@ const MOST_STATES: u32 = 8;
 
 /// The most bytes of a specification.
 const MOST_SPECIFICATION_BYTES: u32 = 1_048_576;
+
+/// The most bytes of a specification, a program, tables and inputs together.
+const MOST_RUN_BYTES: u32 = 16_777_216;
 
 /// The most bytes of a formula and a log together.
 const MOST_LOG_BYTES: u32 = 268_435_456;
@@ -28,6 +31,8 @@ pub(crate) struct Sizes {
 pub(crate) enum Command {
     /// A program for a specification.
     Synth(Sizes),
+    /// The run of a program over tables and inputs, and the verdicts on it.
+    Run,
     /// A verdict on a formula and a log that is to refute it.
     Recheck,
 }
@@ -39,6 +44,7 @@ impl Command {
     {
         match self {
             Command::Synth(_) => MOST_SPECIFICATION_BYTES,
+            Command::Run => MOST_RUN_BYTES,
             Command::Recheck => MOST_LOG_BYTES,
         }
     }
@@ -55,8 +61,11 @@ pub(crate) fn command_of(words: &[String]) -> Option<Command>
     if is_word(first, b"synth") {
         return synth_of(options);
     }
+    if is_word(first, b"run") {
+        return without_options(Command::Run, options);
+    }
     if is_word(first, b"recheck") {
-        return recheck_of(options);
+        return without_options(Command::Recheck, options);
     }
     None
 }
@@ -77,13 +86,14 @@ fn synth_of(options: &[String]) -> Option<Command>
     }
 }
 
-/// `recheck`, where no word comes after it.
-fn recheck_of(options: &[String]) -> Option<Command>
-    ensures found { result ≡ recheck_of (map string_bytes options.now) }
+/// A command that has no options, where no word comes after it.
+fn without_options(command: Command, options: &[String]) -> Option<Command>
+    requires in_range { IsInRange command }
+    ensures found { result ≡ without_options command (map string_bytes options.now) }
     ensures in_range { IfSome result IsInRange }
 {
     if options.is_empty() {
-        Some(Command::Recheck)
+        Some(command)
     } else {
         None
     }

@@ -9,6 +9,7 @@ use Rattle.tsl_report.proofs.+formulas.Given as goal
 abbrev pub invariant-put_others-loop-rest : goal.invariant-put_others-loop-rest
 invariant-put_others-loop-rest l = record {
   can : IsTrue (members_are_made_of (atom_is_held l.names) (formula_trees l.rest));
-  written : l.out.items ++ others_text l.names l.connective (formula_trees l.rest) ≡ l.fn.out.items ++ others_text l.names l.connective (formula_trees l.fn.members);
+  written : l.out.items ++ others_text l.names l.connective (formula_trees l.rest) ≡ l.fn.out.items
+      ++ others_text l.names l.connective (formula_trees l.fn.members);
   size : size-FormulaList l.rest ≤ size-FormulaList l.fn.members;
 }

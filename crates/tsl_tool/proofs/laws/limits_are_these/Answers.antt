@@ -4,6 +4,7 @@ use Rattle.tsl_tool.proofs.laws.limits_are_these.Goals as goal
 pub returns : goal.returns
 returns c = record {
   specification_bytes = λ sizes. refl;
+  run_bytes = refl;
   log_bytes = refl;
   levels = refl;
   formula_nodes = refl;
@@ -12,6 +13,10 @@ returns c = record {
   windows = refl;
   program_nodes = refl;
   program_states = refl;
+  values = refl;
+  entries = refl;
+  rows = refl;
+  configurations = refl;
   digits = refl;
   variables = refl;
   clauses = refl;

@@ -1,8 +1,20 @@
 use Rattle.std.proofs.Common.{refl, sym, ◌∙◌, map, Global}
 use Rattle.std.specs.Prelude.{string_bytes}
 use Rattle.tsl_tool.specs.Effects.{effect}
-use Rattle.tsl_tool.proofs.EndLaws.{out_ends, err_ends, out_promises}
+use Rattle.tsl_tool.proofs.EndLaws.{reply_says, out_ends, err_ends, out_promises}
 use Rattle.tsl_tool.proofs.top.tsl.Goals as goal
+
+pub send-requires : goal.send-requires
+send-requires g c = record {
+  says = reply_says (map (string_bytes {Z = Global}) c.args.words.now)
+      (effect g.S.Source.left g.S.Source.faults c.args.source.now c.reply_to.new.source) c.in-Ok.reply c.in-Ok.ensures.replies;
+}
+
+pub send-requires-in-Ok-2 : goal.send-requires-in-Ok-2
+send-requires-in-Ok-2 g c = record {
+  says = reply_says (map (string_bytes {Z = Global}) c.args.words.now)
+      (effect g.S.Source.left g.S.Source.faults c.args.source.now c.reply_to.new.source) c.in-Ok.reply c.in-Ok.ensures.replies;
+}
 
 pub returns-in-Ok-clause-answers : goal.returns-in-Ok-clause-answers
 returns-in-Ok-clause-answers g c =

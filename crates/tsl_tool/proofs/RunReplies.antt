@@ -1,0 +1,220 @@
+-- Which status and which text the replies of `run` have, and what they promise.
+use Rattle.std.proofs.Common.{◌≡◌, ◌≢◌, ℕ, Bool, true, false, List, [], ◌∷◌, ◌++◌, map, refl, ap, sym, ◌∙◌, subst, Contains, suc}
+use Rattle.std.specs.Prelude.{Some, is_some, slice_get, if◌then◌else◌}
+use Rattle.std.specs.List.{list_all, AllByRecursion}
+use Rattle.std.proofs.lemmas.Bool.{and_parts}
+use Rattle.sequence.proofs.Places.{contains_at}
+use Rattle.tsl_terms.specs.Name.{Name}
+use Rattle.tsl_terms.specs.FormulaTree.{FormulaTree}
+use Rattle.tsl_meaning.specs.Lasso.{meets}
+use Rattle.tsl_meaning.specs.RunTree.{RunTree}
+use Rattle.tsl_meaning.specs.RunLasso.{shape_of}
+use Rattle.flow_program.specs.declared.reading.ProgramError.{ProgramError}
+use Rattle.flow_program.specs.declared.reading.ProgramError.TheVariants.{Form, Order, Target, Updates, Window, Unknown, Kind, Arity}
+use Rattle.flow_program.specs.declared.reading.ProgramError.TheVariants.{Windows, Nodes, States, NoMemory}
+use Rattle.table_interp.specs.declared.TableError.{TableError}
+use Rattle.table_interp.specs.declared.TableError.TheVariants.{Byte as TableByte, OpenComment as TableComment, Form as TableForm, Domain}
+use Rattle.table_interp.specs.declared.TableError.TheVariants.{Unknown as UnknownEntry, Twice as SecondEntry, Missing as MissingEntry}
+use Rattle.table_interp.specs.declared.TableError.TheVariants.{Entries, Count as EntryCount, Range as EntryRange, NoMemory as NoTableMemory}
+use Rattle.table_interp.specs.declared.InputError.{InputError}
+use Rattle.table_interp.specs.declared.InputError.TheVariants.{Byte as InputByte, OpenComment as InputComment, Form as InputForm}
+use Rattle.table_interp.specs.declared.InputError.TheVariants.{Unknown as UnknownInput, Twice as SecondInput, Missing as MissingInput}
+use Rattle.table_interp.specs.declared.InputError.TheVariants.{Rows, Count as RowWidth, Range as RowValue, NoMemory as NoInputMemory}
+use Rattle.tsl_report.specs.declared.fault.Fault.{Fault}
+use Rattle.tsl_report.specs.declared.fault.Fault.TheVariants.{Usage, Read, Parts, Large}
+use Rattle.tsl_report.specs.declared.fault.LimitName.TheVariants.{Run as RunLimit}
+use Rattle.tsl_report.specs.TraceText.{positions_text, loop_text, verdicts_text, trace_text}
+use Rattle.tsl_tool.specs.declared.words.Command.TheVariants.{Run}
+use Rattle.tsl_tool.specs.declared.status.Status.{Status}
+use Rattle.tsl_tool.specs.declared.status.Status.TheVariants.{Done, No}
+use Rattle.tsl_tool.specs.declared.reply.Reply.{Reply}
+use Rattle.tsl_tool.specs.Promise.{Promise}
+use Rattle.tsl_tool.specs.Replies.{fault_status, fault_reply}
+use Rattle.tsl_tool.specs.RunFaults.{IsProgramFault, IsTableFault, IsInputFault}
+use Rattle.tsl_tool.specs.RunParts.{RunParts, AreParts}
+use Rattle.tsl_tool.specs.Run.{RunInput, SpellRunInput, HasGivenSignals, IsTrace, one_fails, signals_differ, formulas_of, verdicts_of}
+use Rattle.tsl_tool.specs.Run.{verdict_status, run_reply, lasso_of, signals_reply, most_configurations, Closes, HasPartFault, in_spec}
+use Rattle.tsl_tool.specs.Run.{in_program, in_tables, in_inputs, InputOutcome, too_long, other_signals, traced, refused, spelled}
+use Rattle.tsl_tool.specs.Run.{RunOutcome, missing, of_parts}
+use Rattle.tsl_tool.proofs.Statuses.{comes_of_bytes, status_of, text_of, refusal_comes, fault_says}
+
+-- ---- statuses
+
+program_fault_comes : (text : List ℕ) (error : ProgramError) (fault : Fault) → IsProgramFault text error fault →
+    comes_of_bytes (fault_status fault) ≡ true
+program_fault_comes text (Form line) fault h = ap (λ f. comes_of_bytes (fault_status f)) h
+program_fault_comes text (Order line) fault h = ap (λ f. comes_of_bytes (fault_status f)) h
+program_fault_comes text (Target line) fault h = ap (λ f. comes_of_bytes (fault_status f)) h
+program_fault_comes text (Updates line) fault h = ap (λ f. comes_of_bytes (fault_status f)) h
+program_fault_comes text (Window line) fault h = ap (λ f. comes_of_bytes (fault_status f)) h
+program_fault_comes text (Unknown line name) fault h = ap (λ f. comes_of_bytes (fault_status f)) h
+program_fault_comes text (Kind line name) fault h = ap (λ f. comes_of_bytes (fault_status f)) h
+program_fault_comes text (Arity line name) fault h = ap (λ f. comes_of_bytes (fault_status f)) h
+program_fault_comes text Windows fault h = ap (λ f. comes_of_bytes (fault_status f)) h
+program_fault_comes text Nodes fault h = ap (λ f. comes_of_bytes (fault_status f)) h
+program_fault_comes text States fault h = ap (λ f. comes_of_bytes (fault_status f)) h
+program_fault_comes text NoMemory fault h = absurd h
+
+table_fault_comes : (text : List ℕ) (names : List Name) (error : TableError) (fault : Fault) → IsTableFault text names error fault →
+    comes_of_bytes (fault_status fault) ≡ true
+table_fault_comes text names (TableByte at) fault h = ap (λ f. comes_of_bytes (fault_status f)) h.2
+table_fault_comes text names (TableComment at) fault h = ap (λ f. comes_of_bytes (fault_status f)) h.2
+table_fault_comes text names (TableForm at) fault h = ap (λ f. comes_of_bytes (fault_status f)) h.2
+table_fault_comes text names Domain fault h = ap (λ f. comes_of_bytes (fault_status f)) h
+table_fault_comes text names (UnknownEntry start end) fault h = ap (λ f. comes_of_bytes (fault_status f)) h.2
+table_fault_comes text names (SecondEntry start end) fault h = ap (λ f. comes_of_bytes (fault_status f)) h.2
+table_fault_comes text names (MissingEntry id) fault h = ap (λ f. comes_of_bytes (fault_status f)) h
+table_fault_comes text names (Entries id) fault h = ap (λ f. comes_of_bytes (fault_status f)) h
+table_fault_comes text names (EntryCount id) fault h = ap (λ f. comes_of_bytes (fault_status f)) h
+table_fault_comes text names (EntryRange id value) fault h = ap (λ f. comes_of_bytes (fault_status f)) h
+table_fault_comes text names NoTableMemory fault h = absurd h
+
+input_fault_comes : (text : List ℕ) (names : List Name) (error : InputError) (fault : Fault) → IsInputFault text names error fault →
+    comes_of_bytes (fault_status fault) ≡ true
+input_fault_comes text names (InputByte at) fault h = ap (λ f. comes_of_bytes (fault_status f)) h.2
+input_fault_comes text names (InputComment at) fault h = ap (λ f. comes_of_bytes (fault_status f)) h.2
+input_fault_comes text names (InputForm at) fault h = ap (λ f. comes_of_bytes (fault_status f)) h.2
+input_fault_comes text names (UnknownInput start end) fault h = ap (λ f. comes_of_bytes (fault_status f)) h.2
+input_fault_comes text names (SecondInput start end) fault h = ap (λ f. comes_of_bytes (fault_status f)) h.2
+input_fault_comes text names (MissingInput id) fault h = ap (λ f. comes_of_bytes (fault_status f)) h
+input_fault_comes text names Rows fault h = ap (λ f. comes_of_bytes (fault_status f)) h
+input_fault_comes text names (RowWidth row) fault h = ap (λ f. comes_of_bytes (fault_status f)) h
+input_fault_comes text names (RowValue row value) fault h = ap (λ f. comes_of_bytes (fault_status f)) h
+input_fault_comes text names NoInputMemory fault h = absurd h
+
+part_fault_comes : (parts : RunParts) (fault : Fault) → HasPartFault parts fault → comes_of_bytes (fault_status fault) ≡ true
+part_fault_comes parts fault (in_spec some h) = refusal_comes parts.spec h.error fault h.is_fault
+part_fault_comes parts fault (in_program given error spec cause is_fault) = program_fault_comes parts.program error fault is_fault
+part_fault_comes parts fault (in_tables given names program error spec read cause none is_fault) =
+    table_fault_comes parts.tables names error fault is_fault
+part_fault_comes parts fault (in_inputs given names program interpretation error spec read tables cause none is_fault) =
+    input_fault_comes parts.inputs names error fault is_fault
+
+verdicts_come : (verdicts : List Bool) → comes_of_bytes (verdict_status verdicts) ≡ true
+verdicts_come verdicts = by (list_all (λ holds. holds) verdicts)
+  where
+    by : (all : Bool) → comes_of_bytes (if all then Done else No) ≡ true
+    by true = refl
+    by false = refl
+
+input_comes : (input : RunInput) (reply : Reply) → InputOutcome input reply → comes_of_bytes reply.status ≡ true
+input_comes input reply (too_long different is) = ap comes_of_bytes (status_of is)
+input_comes input reply (other_signals run closes other is) = ap comes_of_bytes (status_of is)
+input_comes input reply (traced run closes same is) =
+    ap comes_of_bytes (status_of is) ∙ verdicts_come (verdicts_of input (shape_of run))
+
+pub run_comes : (bytes : List ℕ) (reply : Reply) → RunOutcome bytes reply → comes_of_bytes reply.status ≡ true
+run_comes bytes reply (missing head lacks is) = ap comes_of_bytes (status_of is)
+run_comes bytes reply (of_parts parts are (refused fault h is)) = ap comes_of_bytes (status_of is) ∙ part_fault_comes parts fault h
+run_comes bytes reply (of_parts parts are (spelled input h outcome)) = input_comes input reply outcome
+
+-- ---- texts
+
+some_before : (xs ys : List ℕ) → xs ≢ [] → xs ++ ys ≢ []
+some_before [] ys some e = some refl
+some_before (x ∷ xs) ys some e = cc
+
+some_after : (xs ys : List ℕ) → ys ≢ [] → xs ++ ys ≢ []
+some_after [] ys some e = some e
+some_after (x ∷ xs) ys some e = cc
+
+trace_says : (names : List Name) (run : RunTree ℕ) (has_formula : Bool) (verdicts : List Bool) →
+    trace_text names run has_formula verdicts ≢ []
+trace_says names run has_formula verdicts =
+    some_before (positions_text names run 0 run.positions ++ loop_text run.start run.length) (verdicts_text has_formula 0 verdicts)
+    (some_after (positions_text names run 0 run.positions) (loop_text run.start run.length) (λ e. cc))
+
+input_says : (input : RunInput) (reply : Reply) → InputOutcome input reply → reply.text ≢ []
+input_says input reply (too_long different is) e = fault_says (Large RunLimit most_configurations) reply is e
+input_says input reply (other_signals run closes other is) e = let clash : signals_reply.text ≡ [] = sym (text_of is) ∙ e in cc
+input_says input reply (traced run closes same is) e =
+    trace_says input.names run (is_some input.given) (verdicts_of input (shape_of run)) (sym (text_of is) ∙ e)
+
+pub run_says : (bytes : List ℕ) (reply : Reply) → RunOutcome bytes reply → reply.text ≢ []
+run_says bytes reply (missing head lacks is) e = fault_says (Parts head) reply is e
+run_says bytes reply (of_parts parts are (refused fault h is)) e = fault_says fault reply is e
+run_says bytes reply (of_parts parts are (spelled input h outcome)) e = input_says input reply outcome e
+
+-- ---- promises
+
+-- where the status says yes, each formula holds
+each_holds : (formulas : List FormulaTree) (holds : FormulaTree → Bool) → list_all (λ b. b) (map holds formulas) ≡ true →
+    AllByRecursion (λ f. holds f ≡ true) formulas
+each_holds [] holds all = tt
+each_holds (f ∷ fs) holds all =
+    let parts = and_parts (holds f) (list_all (λ b. b) (map holds fs)) all in (parts.0, each_holds fs holds parts.1)
+
+-- and where it says no, a verdict is no
+no_at : (verdicts : List Bool) → list_all (λ b. b) verdicts ≡ false → (i : ℕ) × (slice_get verdicts i ≡ Some false)
+no_at [] all = cc
+no_at (false ∷ verdicts) all = (0, refl)
+no_at (true ∷ verdicts) all = let rest = no_at verdicts all in (suc rest.0, rest.1)
+
+some_no : (verdicts : List Bool) → list_all (λ b. b) verdicts ≡ false → Contains verdicts false
+some_no verdicts all = let found = no_at verdicts all in contains_at verdicts found.0 false found.1
+
+all_of_done : (verdicts : List Bool) → verdict_status verdicts ≡ Done → list_all (λ b. b) verdicts ≡ true
+all_of_done verdicts is = by (list_all (λ b. b) verdicts) is
+  where
+    by : (all : Bool) → (if all then Done else No) ≡ Done → all ≡ true
+    by true e = refl
+    by false e = cc
+
+not_all_of_no : (verdicts : List Bool) → verdict_status verdicts ≡ No → list_all (λ b. b) verdicts ≡ false
+not_all_of_no verdicts is = by (list_all (λ b. b) verdicts) is
+  where
+    by : (all : Bool) → (if all then Done else No) ≡ No → all ≡ false
+    by true e = cc
+    by false e = refl
+
+-- no fault promises anything
+fault_promises : (fault : Fault) (bytes text : List ℕ) → Promise (Some Run) (fault_status fault) bytes text
+fault_promises Usage bytes text = tt
+fault_promises Read bytes text = tt
+fault_promises (Large name limit) bytes text = tt
+fault_promises _ bytes text = tt
+
+run_fault_keeps : (bytes : List ℕ) (fault : Fault) (reply : Reply) → reply ≡ fault_reply fault →
+    Promise (Some Run) reply.status bytes reply.text
+run_fault_keeps bytes fault reply is =
+    subst (λ (s : Status). Promise (Some Run) s bytes reply.text) (sym (status_of is)) (fault_promises fault bytes reply.text)
+
+module _ (bytes : List ℕ) (parts : RunParts) (are : AreParts bytes parts) (input : RunInput) (spells : SpellRunInput parts input) where
+  abbrev is_trace : (run : RunTree ℕ) → Closes input run → HasGivenSignals input.given input.program →
+      IsTrace bytes (run_reply input run).text
+  is_trace run closes same = record {
+    parts = parts;
+    are_parts = are;
+    input = input;
+    spelled = spells;
+    run = run;
+    is_first = closes.is_first;
+    signals = same;
+    text_is = refl;
+  }
+
+  traced_keeps : (run : RunTree ℕ) (status : Status) → Closes input run → HasGivenSignals input.given input.program →
+      (run_reply input run).status ≡ status → Promise (Some Run) status bytes (run_reply input run).text
+  traced_keeps run Done closes same is = record {
+    trace = is_trace run closes same;
+    all_hold = each_holds (formulas_of input) (λ f. meets (lasso_of input (shape_of run)) f 0)
+        (all_of_done (verdicts_of input (shape_of run)) is);
+  }
+  traced_keeps run No closes same is =
+      one_fails (is_trace run closes same) (some_no (verdicts_of input (shape_of run)) (not_all_of_no (verdicts_of input
+      (shape_of run)) is))
+  traced_keeps run _ closes same is = tt
+
+  input_keeps : (reply : Reply) → InputOutcome input reply → Promise (Some Run) reply.status bytes reply.text
+  input_keeps reply (too_long different is) = run_fault_keeps bytes (Large RunLimit most_configurations) reply is
+  input_keeps reply (other_signals run closes other is) =
+      subst (λ (r : Reply). Promise (Some Run) r.status bytes r.text) (sym is)
+      (signals_differ parts are input spells other refl)
+  input_keeps reply (traced run closes same is) =
+      subst (λ (r : Reply). Promise (Some Run) r.status bytes r.text) (sym is)
+      (traced_keeps run (run_reply input run).status closes same refl)
+
+pub run_keeps : (bytes : List ℕ) (reply : Reply) → RunOutcome bytes reply → Promise (Some Run) reply.status bytes reply.text
+run_keeps bytes reply (missing head lacks is) = run_fault_keeps bytes (Parts head) reply is
+run_keeps bytes reply (of_parts parts are (refused fault h is)) = run_fault_keeps bytes fault reply is
+run_keeps bytes reply (of_parts parts are (spelled input h outcome)) = input_keeps bytes parts are input h reply outcome

@@ -1,0 +1,51 @@
+-- The statuses and texts of replies.
+use Rattle.std.proofs.Common.{◌≡◌, ◌≢◌, ℕ, Bool, true, false, List, [], ◌∷◌, ◌++◌, ap, sym, ◌∙◌}
+use Rattle.tsl_reader.specs.declared.SpecError.{SpecError}
+use Rattle.tsl_reader.specs.declared.SpecError.TheVariants.{Byte, OpenComment, Form, Deep, Kind, Arity, Nodes, NoMemory}
+use Rattle.tsl_report.specs.declared.fault.Fault.{Fault}
+use Rattle.tsl_report.specs.FaultText.{fault_line, fault_text}
+use Rattle.tsl_tool.specs.declared.status.Status.{Status}
+use Rattle.tsl_tool.specs.declared.status.Status.TheVariants.{Done, No, Usage, Reading, Large, Spent, ReadFault, WriteFault, Memory}
+use Rattle.tsl_tool.specs.declared.reply.Reply.{Reply}
+use Rattle.tsl_tool.specs.Refusals.{IsFaultOf}
+use Rattle.tsl_tool.specs.Replies.{fault_status, fault_reply}
+
+pub status_of : {a b : Reply} → a ≡ b → a.status ≡ b.status
+status_of h = ap (λ (r : Reply). r.status) h
+
+pub text_of : {a b : Reply} → a ≡ b → a.text ≡ b.text
+text_of h = ap (λ (r : Reply). r.text) h
+
+-- whether a command may reply so to bytes
+abbrev pub comes_of_bytes : Status → Bool
+comes_of_bytes Done = true
+comes_of_bytes No = true
+comes_of_bytes Reading = true
+comes_of_bytes Large = true
+comes_of_bytes Spent = true
+comes_of_bytes Usage = false
+comes_of_bytes ReadFault = false
+comes_of_bytes WriteFault = false
+comes_of_bytes Memory = false
+
+pub refusal_comes : (bytes : List ℕ) (error : SpecError) (fault : Fault) → IsFaultOf bytes error fault →
+    comes_of_bytes (fault_status fault) ≡ true
+refusal_comes bytes (Byte at) fault h = ap (λ f. comes_of_bytes (fault_status f)) h.2
+refusal_comes bytes (OpenComment at) fault h = ap (λ f. comes_of_bytes (fault_status f)) h.2
+refusal_comes bytes (Form at) fault h = ap (λ f. comes_of_bytes (fault_status f)) h.2
+refusal_comes bytes (Deep at) fault h = ap (λ f. comes_of_bytes (fault_status f)) h.2
+refusal_comes bytes (Kind start end) fault h = ap (λ f. comes_of_bytes (fault_status f)) h.2
+refusal_comes bytes (Arity start end) fault h = ap (λ f. comes_of_bytes (fault_status f)) h.2
+refusal_comes bytes Nodes fault h = ap (λ f. comes_of_bytes (fault_status f)) h
+refusal_comes bytes NoMemory fault h = absurd h
+
+-- each reply has a text
+some_byte : (xs : List ℕ) (y : ℕ) → xs ++ y ∷ [] ≢ []
+some_byte [] y e = cc
+some_byte (x ∷ xs) y e = cc
+
+pub line_says : (fault : Fault) → fault_text fault ≢ []
+line_says fault = some_byte (fault_line fault) 10
+
+pub fault_says : (fault : Fault) (reply : Reply) → reply ≡ fault_reply fault → reply.text ≢ []
+fault_says fault reply is e = line_says fault (sym (text_of is) ∙ e)
