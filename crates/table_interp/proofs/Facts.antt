@@ -25,7 +25,7 @@ use Rattle.table_interp.specs.internal.Located.{HasSmallTable, HasOneSmall}
 use Rattle.table_interp.proofs.Finds.{each_all, all_each}
 
 -- what a search without an answer says of each member
-find_each : {X : Type 0} (test : X → Bool) (xs : List X) → find test xs ≡ None → AllByRecursion (λ x. test x ≡ false) xs
+pub find_each : {X : Type 0} (test : X → Bool) (xs : List X) → find test xs ≡ None → AllByRecursion (λ x. test x ≡ false) xs
 find_each test [] h = tt
 find_each test (x ∷ xs) h = by (test x) refl (find_each test xs) h where
   by : (b : Bool) → test x ≡ b → (find test xs ≡ None → AllByRecursion (λ x. test x ≡ false) xs) → cond b (Some x) (find test xs) ≡ None →
@@ -87,7 +87,7 @@ is_some_is : {X : Type 0} (o : Option X) → is_some o ≡ true → (x : X) × (
 is_some_is (Some x) e = (x, refl)
 is_some_is None e = cc
 
-is_none_is : {X : Type 0} (o : Option X) → is_some o ≡ false → o ≡ None
+pub is_none_is : {X : Type 0} (o : Option X) → is_some o ≡ false → o ≡ None
 is_none_is (Some x) e = cc
 is_none_is None e = refl
 
@@ -95,7 +95,7 @@ not_false : (b : Bool) → not b ≡ false → b ≡ true
 not_false true e = refl
 not_false false e = cc
 
-below_each : (limit : ℕ) (xs : List ℕ) → find (λ v. not (nat_lt v limit)) xs ≡ None → AllByRecursion (λ v. v < limit) xs
+pub below_each : (limit : ℕ) (xs : List ℕ) → find (λ v. not (nat_lt v limit)) xs ≡ None → AllByRecursion (λ v. v < limit) xs
 below_each limit xs h = by xs (find_each (λ v. not (nat_lt v limit)) xs h) where
   by : (ys : List ℕ) → AllByRecursion (λ v. not (nat_lt v limit) ≡ false) ys → AllByRecursion (λ v. v < limit) ys
   by [] each = tt

@@ -9,3 +9,4 @@ mod Gather
 mod Located
 mod Facts
 mod Refusals
+mod Columns

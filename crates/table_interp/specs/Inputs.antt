@@ -1,7 +1,7 @@
 -- Which rows of inputs a text spells, and the cause of each refusal. A refusal has the first of these causes that the
 -- text has: each speaks of texts that have none of those before it.
 use Rattle.std.specs.Prelude.{◌≡◌, ℕ, ◌==◌, ◌<◌, ◌≤◌, Bool, not, List, ◌++◌, length, map, nat_lt}
-use Rattle.std.specs.Prelude.{Option, Some, None, slice_get, position}
+use Rattle.std.specs.Prelude.{Option, Some, None, slice_get, is_some}
 use Rattle.std.specs.List.{find, list_any}
 use Rattle.sequence.specs.Numbers.{is_among}
 use Rattle.sequence.specs.Options.{all_there, passes}
@@ -26,7 +26,7 @@ use Rattle.table_interp.specs.declared.InputError.TheVariants.{
 use Rattle.table_interp.specs.Syntax.{Terminal, InputsSyntax}
 use Rattle.table_interp.specs.Grammar.{IsInputs}
 use Rattle.table_interp.specs.Forms.{IsRead, HasFormFault}
-use Rattle.table_interp.specs.Needed.{number_for, is_for, IsFirstRepeat, HasNoRepeat}
+use Rattle.table_interp.specs.Needed.{number_for, is_for, IsFirstRepeat, HasNoRepeat, IsFirstAt}
 
 -- ---- what columns and rows give
 
@@ -79,7 +79,7 @@ module _ (names : List Name) (inputs : List ℕ) (given : InputsSyntax) where
   -- and each number is a value
   pub record AreInRange (domain : ℕ) : Type 0 where
     pub so_far : AreCounted
-    pub in_range : find (list_any (is_no_value domain)) (all_rows given) ≡ None
+    pub in_range : find (λ r. is_some (find (is_no_value domain) r)) (all_rows given) ≡ None
 
 -- a row in the order of the inputs, where the columns are for the signals with these numbers
 abbrev pub by_inputs : List ℕ → List ℕ → List ℕ → Option (List ℕ)
@@ -136,15 +136,13 @@ module _ (names : List Name) (inputs : List ℕ) (given : InputsSyntax) where
   -- the first row that has not one number for each input
   pub record HasOtherWidth (row : ℕ) : Type 0 where
     pub so_far : HasFewRows names inputs given
-    pub first : position (has_other_width inputs) (all_rows given) ≡ Some row
+    pub first : IsFirstAt (has_other_width inputs) (all_rows given) row
 
   -- the first row with a number that is no value, and the first such number of it
   pub record HasNoValue (domain row value : ℕ) : Type 0 where
     pub so_far : AreCounted names inputs given
-    pub first : position (list_any (is_no_value domain)) (all_rows given) ≡ Some row
-    pub numbers : List ℕ
-    pub there : slice_get (all_rows given) row ≡ Some numbers
-    pub number : find (is_no_value domain) numbers ≡ Some value
+    pub first : IsFirstAt (λ r. is_some (find (is_no_value domain) r)) (all_rows given) row
+    pub number : find (is_no_value domain) first.member ≡ Some value
 
 -- what a refusal says of the columns and rows
 abbrev pub HasRowCause : List Name → List ℕ → InputsSyntax → ℕ → InputError → Type 0

@@ -48,3 +48,10 @@ pub record IsFirstRepeat {A : Type 0} (xs : List A) (at : ℕ) : Type 0 where
 
 abbrev pub HasNoRepeat : {A : Type 0} → List A → Type 0
 HasNoRepeat xs = (at : ℕ) → IsRepeat xs at → ⊥
+
+-- the first member that passes a test stands at this place
+pub record IsFirstAt {A : Type 0} (test : A → Bool) (xs : List A) (at : ℕ) : Type 0 where
+  pub member : A
+  pub there : slice_get xs at ≡ Some member
+  pub passed : test member ≡ true
+  pub none_before : (i : ℕ) (x : A) → i < at → slice_get xs i ≡ Some x → test x ≡ false

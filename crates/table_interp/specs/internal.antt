@@ -3,3 +3,4 @@ pub mod View
 pub mod Resolving
 pub mod Texts
 pub mod Located
+pub mod Ordered

@@ -30,6 +30,7 @@ use tsl_terms::Names;
 
 mod entries;
 mod forms;
+mod inputs;
 mod naming;
 mod reading;
 mod resolving;

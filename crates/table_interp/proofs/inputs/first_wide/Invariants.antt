@@ -1,0 +1,8 @@
+use Rattle.std.specs.Prelude.{is_some}
+use Rattle.std.specs.List.{find}
+use Rattle.table_interp.specs.Inputs.{has_other_width}
+use Rattle.table_interp.proofs.Columns.{NoneSoFar}
+use Rattle.table_interp.proofs.inputs.first_wide.Given as goal
+
+abbrev pub invariant-loop-place : goal.invariant-loop-place
+invariant-loop-place l = NoneSoFar (has_other_width l.inputs) l.rows l.place
