@@ -10,3 +10,4 @@ mod Located
 mod Facts
 mod Refusals
 mod Columns
+mod Loops

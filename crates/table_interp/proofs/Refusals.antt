@@ -1,5 +1,5 @@
 -- A text gives one thing by a grammar, and each cause of refusal leaves none.
-use Rattle.std.proofs.Common.{◌≡◌, ◌∙◌, ℕ, ◌<◌, ◌≤◌, List, [], ◌∷◌, ◌++◌, Option, Some, None, refl, sym, ap, subst, inl, inr, append_assoc, arith}
+use Rattle.std.proofs.Common.{length, Bool, true, false, ◌≡◌, ◌∙◌, ℕ, ◌<◌, ◌≤◌, List, [], ◌∷◌, ◌++◌, Option, Some, None, refl, sym, ap, subst, inl, inr, append_assoc, arith}
 use Rattle.std.specs.Prelude.{Result, Err, Ok, IfErr}
 use Rattle.std.specs.Result.{IsErrAnd}
 use Rattle.std.proofs.lemmas.Result.{err_from_is_err_and}
@@ -25,8 +25,18 @@ use Rattle.table_interp.specs.Forms.{IsRead, HasFormFault}
 use Rattle.table_interp.specs.Tables.{HasEntryCause, HasFewValues, HasTableCause, IsRefusedAsTables, SpellsTables, Gives}
 use Rattle.table_interp.specs.Tables.{HasUnknownEntry, HasSecondEntry, HasMissingEntry, HasManyEntries, HasOtherLength, HasLargeNumber}
 use Rattle.tsl_meaning.specs.Interpretation.{Interpretation}
-use Rattle.table_interp.specs.internal.Texts.{HasTextFault, table_error}
-use Rattle.table_interp.proofs.Exactness.{Never, tables_exact}
+use Rattle.table_interp.specs.internal.Texts.{HasTextFault, table_error, input_error}
+use Rattle.table_interp.specs.declared.InputError.{InputError}
+use Rattle.table_interp.specs.declared.InputError.TheVariants as input
+use Rattle.table_interp.specs.Syntax.{InputsSyntax}
+use Rattle.table_interp.specs.Grammar.{IsInputs, inputs}
+use Rattle.table_interp.specs.Needed.{IsFirstAt}
+use Rattle.table_interp.specs.Inputs.{GivesRows, HasRowCause, HasInputCause, IsRefusedAsInputs, SpellsInputs}
+use Rattle.tsl_meaning.specs.Interpretation.{InputRows}
+use Rattle.sequence.proofs.Each.{each_at}
+use Rattle.std.specs.List.{find}
+use Rattle.table_interp.proofs.Facts.{find_each}
+use Rattle.table_interp.proofs.Exactness.{Never, tables_exact, inputs_exact}
 
 one_list : (text : List ℕ) (a b : List Token) → AreTokens text a → AreTokens text b → a ≡ b
 one_list text a b h k =
@@ -152,3 +162,80 @@ pub form_passed : {T : Type 0} (text : List ℕ) (names : List Name) (cells : Li
 form_passed text names cells r fault h k =
     let p = err_from_is_err_and r h in
     rw (p.1, p.2) (tables_refused text names cells (table_error fault) (form_cause text names cells fault k))
+
+-- ---- inputs
+
+none_at : (test : List ℕ → Bool) (rows : List (List ℕ)) (at : ℕ) → IsFirstAt test rows at → find test rows ≡ None → ⊥
+none_at test rows at h none =
+    let fails : test h.member ≡ false = each_at (λ r. test r ≡ false) rows at h.member (find_each test rows none) h.there in
+    let never : true ≡ false = sym h.passed ∙ fails in
+    cc
+
+module _ (text : List ℕ) (names : List Name) (inputs : List ℕ) (domain : ℕ) where
+  same_rows : (given : InputsSyntax) (rows : InputRows ℕ) → IsRead IsInputs text given → SpellsInputs text names inputs domain rows →
+      GivesRows names inputs given domain rows
+  same_rows given rows h spelled =
+      subst (λ g. GivesRows names inputs g domain rows) (one_given (inputs_exact 0) text spelled.given given spelled.read h) spelled.gives
+
+  row_cause_refuses : (given : InputsSyntax) (rows : InputRows ℕ) → GivesRows names inputs given domain rows → (error : InputError) →
+      HasRowCause names inputs given domain error → (error ≡ input.NoMemory → ⊥) → ⊥
+  row_cause_refuses given rows g (input.Byte at) h other = h
+  row_cause_refuses given rows g (input.OpenComment at) h other = h
+  row_cause_refuses given rows g (input.Form at) h other = h
+  row_cause_refuses given rows g (input.Unknown start end) h other =
+      none_first _ h.column g.in_range.so_far.so_far.so_far.so_far.known h.first
+  row_cause_refuses given rows g (input.Twice start end) h other = g.in_range.so_far.so_far.so_far.so_far.once h.at h.first.repeat
+  row_cause_refuses given rows g (input.Missing id) h other = none_first _ id g.in_range.so_far.so_far.so_far.whole h.first
+  row_cause_refuses given rows g input.Rows h other = omega (arith, g.in_range.so_far.so_far.few_rows, h.many_rows)
+  row_cause_refuses given rows g (input.Count row) h other = none_at _ _ row h.first g.in_range.so_far.counted
+  row_cause_refuses given rows g (input.Range row value) h other = none_at _ _ row h.first g.in_range.in_range
+  row_cause_refuses given rows g input.NoMemory h other = other refl
+
+  -- where a cause is there the text spells no rows
+  pub inputs_refused : (error : InputError) → HasInputCause text names inputs domain error → IsRefusedAsInputs text names inputs domain error
+  inputs_refused (input.Byte at) h = λ rows s. no_tokens text (bytes.Byte at) h s.read.tokens s.read.tokens_are
+  inputs_refused (input.OpenComment at) h = λ rows s. no_tokens text (bytes.OpenComment at) h s.read.tokens s.read.tokens_are
+  inputs_refused (input.Form at) h = λ rows s. form_refuses IsInputs text at h s.given s.read
+  inputs_refused (input.Unknown start end) h = λ rows s.
+      row_cause_refuses h.given rows (same_rows h.given rows h.read s) (input.Unknown start end) h.cause (λ e. cc)
+  inputs_refused (input.Twice start end) h = λ rows s.
+      row_cause_refuses h.given rows (same_rows h.given rows h.read s) (input.Twice start end) h.cause (λ e. cc)
+  inputs_refused (input.Missing id) h = λ rows s.
+      row_cause_refuses h.given rows (same_rows h.given rows h.read s) (input.Missing id) h.cause (λ e. cc)
+  inputs_refused input.Rows h = λ rows s. row_cause_refuses h.given rows (same_rows h.given rows h.read s) input.Rows h.cause (λ e. cc)
+  inputs_refused (input.Count row) h = λ rows s.
+      row_cause_refuses h.given rows (same_rows h.given rows h.read s) (input.Count row) h.cause (λ e. cc)
+  inputs_refused (input.Range row value) h = λ rows s.
+      row_cause_refuses h.given rows (same_rows h.given rows h.read s) (input.Range row value) h.cause (λ e. cc)
+  inputs_refused input.NoMemory h = tt
+
+  pub input_form_cause : (fault : TextFault) → HasTextFault IsInputs text fault → HasInputCause text names inputs domain (input_error fault)
+  input_form_cause (text_fault.Byte at) h = h
+  input_form_cause (text_fault.OpenComment at) h = h
+  input_form_cause (text_fault.Form at) h = h
+  input_form_cause text_fault.NoMemory h = tt
+
+  pub row_cause : (given : InputsSyntax) → IsRead IsInputs text given → (error : InputError) → HasRowCause names inputs given domain error →
+      HasInputCause text names inputs domain error
+  row_cause given h (input.Byte at) k = absurd k
+  row_cause given h (input.OpenComment at) k = absurd k
+  row_cause given h (input.Form at) k = absurd k
+  row_cause given h input.NoMemory k = tt
+  row_cause given h (input.Unknown start end) k = record { given = given; read = h; cause = k }
+  row_cause given h (input.Twice start end) k = record { given = given; read = h; cause = k }
+  row_cause given h (input.Missing id) k = record { given = given; read = h; cause = k }
+  row_cause given h input.Rows k = record { given = given; read = h; cause = k }
+  row_cause given h (input.Count row) k = record { given = given; read = h; cause = k }
+  row_cause given h (input.Range row value) k = record { given = given; read = h; cause = k }
+
+  pub input_form_passed : {T : Type 0} (r : Result T InputError) (fault : TextFault) → IsErrAnd r (λ e. e ≡ input_error fault) →
+      HasTextFault IsInputs text fault → IfErr r (IsRefusedAsInputs text names inputs domain)
+  input_form_passed r fault h k =
+      let p = err_from_is_err_and r h in
+      rw (p.1, p.2) (inputs_refused (input_error fault) (input_form_cause fault k))
+
+-- the cycle of a text of inputs has a row
+pub has_cycle : (text : List ℕ) (given : InputsSyntax) → IsRead IsInputs text given → 0 < length given.cycle
+has_cycle text given h = by (terminals text h.tokens) given h.derived where
+  by : (xs : List Terminal) (t : InputsSyntax) → IsInputs xs t → 0 < length t.cycle
+  by xs t (inputs a b s c head one columns stem_word stem cycle_word cycle) = omega arith

@@ -10,7 +10,16 @@ ghost use Rattle.tsl_terms.specs.Name.{is_name};
 ghost use Rattle.table_interp.specs.Meaning.{rows_of};
 ghost use Rattle.table_interp.specs.Needed.{is_for, IsFirstAt};
 ghost use Rattle.table_interp.specs.Inputs.{
-    has_no_column, has_other_width, is_no_value, all_rows, by_inputs, AreOnce, AreCounted, AreInRange, GivesRows, HasRowCause
+  has_no_column,
+  has_other_width,
+  is_no_value,
+  all_rows,
+  by_inputs,
+  AreOnce,
+  AreCounted,
+  AreInRange,
+  GivesRows,
+  HasRowCause,
 };
 ghost use Rattle.table_interp.specs.internal.View.{inputs_view, numbers_view, terminals_view};
 ghost use Rattle.table_interp.specs.internal.Ordered.{AreColumnsOf, AreOrdered, HasColumns};
@@ -261,7 +270,11 @@ fn ordered(alloc: Global, order: &[usize], row: &[u64]) -> Result<Vec<u32>, NoMe
 }
 
 /// Rows in the order of the inputs. An `Err` says that memory ran out.
-fn all_ordered(alloc: Global, order: &[usize], rows: &[Vec<u64>]) -> Result<Vec<Sequence<u32>>, NoMemory>
+fn all_ordered(
+    alloc: Global,
+    order: &[usize],
+    rows: &[Vec<u64>],
+) -> Result<Vec<Sequence<u32>>, NoMemory>
     requires { All (λ r. All (λ v. v < 2 ^ 32) r) (numbers_view rows.now) }
     ensures { IfOk result (λ all. map (λ r. map (λ v. Some v) r) all.items ≡ map (λ r. map (slice_get r) order.now) (numbers_view rows.now)) }
 {

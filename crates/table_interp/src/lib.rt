@@ -21,7 +21,8 @@ ghost use Rattle.table_interp.specs.Tables.{SpellsTables, HasTableCause, IsRefus
 ghost use Rattle.table_interp.specs.Inputs.{SpellsInputs, HasInputCause, IsRefusedAsInputs};
 
 use entries::tables_from;
-use forms::tables_of;
+use forms::{inputs_of, tables_of};
+use inputs::rows_from;
 use sequence::NoMemory;
 use std::alloc::{AllocFailed, Global};
 use thiserror::Error;
@@ -214,5 +215,6 @@ pub fn read_inputs(
     ensures cause { IfErr result (HasInputCause text.now names.now inputs.now domain) }
     ensures refused { IfErr result (IsRefusedAsInputs text.now names.now inputs.now domain) }
 {
-    Err(InputError::NoMemory)
+    let given = inputs_of(alloc, text)?;
+    rows_from(alloc, names, inputs, domain, &given)
 }

@@ -1,0 +1,34 @@
+use Rattle.std.proofs.Common.{◌≡◌, ◌<◌, length, arith}
+use Rattle.std.proofs.lemmas.List.{length-map}
+use Rattle.std.proofs.lemmas.Result.{IfOk-weaker}
+use Rattle.table_interp.specs.Meaning.{rows_of}
+use Rattle.table_interp.specs.internal.View.{inputs_view}
+use Rattle.table_interp.proofs.Loops.{are_loop}
+use Rattle.table_interp.proofs.Refusals.{inputs_refused, input_form_passed, row_cause, has_cycle, err_weaker}
+use Rattle.table_interp.proofs.read_inputs.Goals as goal
+
+pub rows_from-requires-clause-some : goal.rows_from-requires-clause-some
+rows_from-requires-clause-some c =
+    omega (
+      arith,
+      has_cycle c.args.text.now (inputs_view c.in_ok-given.given) c.in_ok-given.ensures.read,
+      length-map c.in_ok-given.given.cycle.items (λ row. row.items),
+    )
+
+pub returns-in_err-given-clause-refused : goal.returns-in_err-given-clause-refused
+returns-in_err-given-clause-refused c =
+    input_form_passed c.args.text.now c.args.names.now c.args.inputs.now c.args.domain _ _ c.from_residual.ensures.1
+    c.in_err-given.ensures.fault
+
+pub returns-clause-rows : goal.returns-clause-rows
+returns-clause-rows c =
+    IfOk-weaker c.rows_from.result _ _ (λ rows gives.
+    are_loop c.args.names.now c.args.inputs.now (inputs_view c.in_ok-given.given) c.args.domain (rows_of rows)
+    (has_cycle c.args.text.now (inputs_view c.in_ok-given.given) c.in_ok-given.ensures.read) gives) c.rows_from.ensures.gives
+
+pub returns-clause-refused : goal.returns-clause-refused
+returns-clause-refused c =
+    err_weaker c.rows_from.result _ _ (λ e cause.
+    inputs_refused c.args.text.now c.args.names.now c.args.inputs.now c.args.domain e
+    (row_cause c.args.text.now c.args.names.now c.args.inputs.now c.args.domain (inputs_view c.in_ok-given.given)
+    c.in_ok-given.ensures.read e cause)) c.rows_from.ensures.cause
