@@ -1,5 +1,5 @@
 -- Columns by their places, and the first row that passes a test.
-use Rattle.std.proofs.Common.{◌≡◌, ◌∙◌, ℕ, zero, suc, ◌+◌, ◌-◌, ◌<◌, ◌≤◌, ◌==◌, ◌^◌, Bool, true, false, not, cond, List, [], ◌∷◌, ◌++◌, length, map, take, drop, get_or}
+use Rattle.std.proofs.Common.{◌≡◌, ◌∙◌, ℕ, zero, suc, ◌+◌, ◌<◌, ◌≤◌, ◌==◌, ◌^◌, Bool, true, false, not, cond, List, [], ◌∷◌, ◌++◌, length, map, take, drop, get_or}
 use Rattle.std.proofs.Common.{Vec, Option, Some, None, refl, sym, ap, subst, arith, inl, inr}
 use Rattle.std.specs.Prelude.{slice_get, option_map, is_some, All, IsSomeAnd, ◌⊎◌, Result, IfErr}
 use Rattle.std.specs.Result.{IsErrAnd}
@@ -14,7 +14,6 @@ use Rattle.std.proofs.lemmas.List.{length-map, map-append, take_more}
 use Rattle.sequence.proofs.Each.{each_at}
 use Rattle.std.proofs.lemmas.Option.{none-some, same_Some, slice_get-get_or, slice_get-map, slice_get_within}
 use Rattle.sequence.specs.Numbers.{is_among}
-use Rattle.sequence.specs.Options.{passes}
 use Rattle.sequence.proofs.Booleans.{not_not, eqb_self}
 use Rattle.sequence.proofs.Numbers.{among_at}
 use Rattle.tsl_text.specs.declared.Token.{Token}
@@ -24,7 +23,7 @@ use Rattle.table_interp.specs.Syntax.{Terminal, InputsSyntax}
 use Rattle.table_interp.specs.Needed.{number_for, is_for, IsFirstAt, IsFirstRepeat, HasNoRepeat}
 use Rattle.sequence.proofs.Places.{slice_get-front}
 use Rattle.table_interp.specs.Inputs.{is_input_name, AreOnce, HasSecondColumn}
-use Rattle.table_interp.specs.internal.Resolving.{IsPlace, ArePlaces}
+use Rattle.table_interp.specs.internal.Resolving.{IsPlace}
 use Rattle.table_interp.specs.internal.Ordered.{HasColumns}
 use Rattle.table_interp.specs.internal.View.{terminal_view, terminals_view, numbers_view}
 use Rattle.table_interp.proofs.Finds.{item_pass, find_end, all_each, each_all}

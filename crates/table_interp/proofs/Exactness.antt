@@ -1,7 +1,7 @@
 -- The reading functions read exactly the grammars.
-use Rattle.std.proofs.Common.{◌≡◌, ℕ, zero, suc, ◌≤◌, Bool, true, false, List, [], ◌∷◌, ◌++◌, refl, ap, sym, ◌∙◌, append_assoc, arith}
+use Rattle.std.proofs.Common.{◌≡◌, ℕ, zero, suc, ◌≤◌, Bool, true, false, List, [], ◌∷◌, ◌++◌, refl, ap, sym, ◌∙◌, arith}
 use Rattle.std.proofs.lemmas.List.{append-nil}
-use Rattle.std.specs.Prelude.{Option, Some, None, option_map, option_and_then, is_some, codes, Ok, if◌then◌else◌}
+use Rattle.std.specs.Prelude.{Option, Some, None, option_map, option_and_then, is_some, codes, if◌then◌else◌}
 use Rattle.tsl_terms.specs.declared.names.NameKind.{NameKind}
 use Rattle.tsl_terms.specs.declared.names.NameKind.TheVariants.{Signal, Function, Predicate}
 use Rattle.tsl_text.specs.declared.TokenKind.{TokenKind}
@@ -10,7 +10,7 @@ use Rattle.tsl_text.specs.Numbers.{number_in}
 use Rattle.std.specs.Str.{bytes_eq}
 use Rattle.std.proofs.lemmas.Bool.{and_parts}
 use Rattle.sequence.proofs.Bytes.{same_bytes}
-use Rattle.token_readers.specs.Readers.{Answer, Reader, form_at, and_then, map_read, after, push, members}
+use Rattle.token_readers.specs.Readers.{Reader, and_then, map_read, after, push}
 use Rattle.token_readers.specs.Exact.{Grammar, Before, Begins, Exact}
 use Rattle.token_readers.proofs.Runs.{exact_map, exact_as}
 use Rattle.token_readers.proofs.Then.{Any, IsThen, exact_then}

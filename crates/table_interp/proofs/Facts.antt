@@ -1,24 +1,23 @@
 -- What entries without a cause of refusal say of each needed name, and that they give an interpretation.
-use Rattle.std.proofs.Common.{◌≡◌, ◌∙◌, ℕ, zero, suc, ◌+◌, ◌<◌, ◌≤◌, ◌==◌, ◌^◌, Bool, true, false, not, ◌&&◌, ◌||◌, cond, List, [], ◌∷◌, ◌++◌}
+use Rattle.std.proofs.Common.{◌≡◌, ◌∙◌, ℕ, zero, suc, ◌+◌, ◌<◌, ◌≤◌, ◌==◌, ◌^◌, Bool, true, false, not, ◌&&◌, cond, List, [], ◌∷◌, ◌++◌}
 use Rattle.std.proofs.Common.{length, map, Option, Some, None, refl, sym, ap, subst, arith}
-use Rattle.std.specs.Prelude.{option_map, option_and_then, slice_get, is_some, filter, nat_lt, All, IsTrue, IsSomeAnd}
+use Rattle.std.specs.Prelude.{option_map, option_and_then, slice_get, is_some, filter, nat_lt, All, IsTrue}
 use Rattle.std.specs.Option.{option_map_or}
 use Rattle.std.specs.List.{find, list_all, AllByRecursion}
 use Rattle.std.proofs.lemmas.Bool.{and_parts, ltb-true, eqb-true}
 use Rattle.std.proofs.lemmas.Option.{none-some, same_Some, slice_get-map, slice_get_within}
 use Rattle.std.proofs.lemmas.List.{length-map}
 use Rattle.std.proofs.Math.Nat.{pow-zero}
-use Rattle.sequence.specs.Numbers.{is_among, numbers_from}
+use Rattle.sequence.specs.Numbers.{numbers_from}
 use Rattle.sequence.specs.Options.{all_there, passes}
-use Rattle.sequence.proofs.Booleans.{not_not}
-use Rattle.sequence.proofs.Each.{each_left, each_right, each_at, each_from_places}
-use Rattle.sequence.proofs.Passes.{filter_has, filter_at, each_from_list_all, within_from_test}
+use Rattle.sequence.proofs.Each.{each_left, each_right, each_at}
+use Rattle.sequence.proofs.Passes.{filter_has, each_from_list_all, within_from_test}
 use Rattle.tsl_terms.specs.declared.names.NameKind.{NameKind}
 use Rattle.tsl_terms.specs.declared.names.NameKind.TheVariants.{Signal, Function, Predicate}
 use Rattle.tsl_terms.specs.Name.{Name, is_name, same_kind}
 use Rattle.tsl_meaning.specs.Interpretation.{Interpretation, IsInterpretation, IsTable}
 use Rattle.table_interp.specs.declared.TheConstants.{MOST_VALUES}
-use Rattle.table_interp.specs.Syntax.{Entry, TablesSyntax}
+use Rattle.table_interp.specs.Syntax.{TablesSyntax}
 use Rattle.table_interp.specs.Needed.{has_table, is_symbol_number, needed}
 use Rattle.table_interp.specs.Tables.{numbers_for, has_no_entry, size_of, has_other_length, limit_of, too_large, table_of, IsInRange, Gives}
 use Rattle.table_interp.specs.internal.Located.{HasSmallTable, HasOneSmall}

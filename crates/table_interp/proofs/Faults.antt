@@ -1,5 +1,5 @@
 -- What the answers of the reading functions say of a text with these tokens.
-use Rattle.std.proofs.Common.{◌≡◌, ℕ, zero, suc, ◌-◌, ◌+◌, ◌<◌, ◌≤◌, List, [], ◌∷◌, ◌++◌, length, map, take, drop, refl, ap, sym, ◌∙◌}
+use Rattle.std.proofs.Common.{◌≡◌, ℕ, zero, suc, ◌-◌, ◌<◌, ◌≤◌, List, [], ◌∷◌, ◌++◌, length, take, drop, refl, ap, sym, ◌∙◌}
 use Rattle.std.proofs.Common.{subst, inl, inr, append_assoc, length-append, arith}
 use Rattle.std.proofs.lemmas.List.{map-append, append-nil, length-map, length-drop}
 use Rattle.std.proofs.lemmas.Option.{slice_get_past}
@@ -13,7 +13,7 @@ use Rattle.token_readers.proofs.Runs.{same_first, same_read}
 use Rattle.token_readers.proofs.Iterates.{taken}
 use Rattle.token_readers.proofs.Whole.{FirstForm, first_form}
 use Rattle.table_interp.specs.Syntax.{Terminal, terminal_at, terminals}
-use Rattle.table_interp.specs.Forms.{IsRead, SomeTextBegins, NoTextBegins, HasWrongToken, EndsTooEarly, HasFormFault}
+use Rattle.table_interp.specs.Forms.{IsRead, SomeTextBegins, NoTextBegins, HasWrongToken, HasFormFault}
 use Rattle.table_interp.specs.declared.terminals.Terminal.{Terminal as LentTerminal}
 use Rattle.table_interp.specs.internal.Reading.{taking, word_at, numeral_at, positive_at, at_end, entries, tables_made, tables_text}
 use Rattle.table_interp.specs.internal.Reading.{columns, rows, some_rows, inputs_made, inputs_text}

@@ -1,7 +1,7 @@
 -- The first member that passes a test, and the numbers of names, over plain variables.
 use Rattle.std.proofs.Common.{◌≡◌, ◌∙◌, ℕ, zero, suc, ◌+◌, ◌<◌, ◌≤◌, Bool, true, false, not, cond, List, [], ◌∷◌, ◌++◌, length, map, take, drop}
 use Rattle.std.proofs.Common.{get_or, Option, Some, None, refl, sym, ap, arith}
-use Rattle.std.specs.Prelude.{is_some, slice_get, All}
+use Rattle.std.specs.Prelude.{is_some, All}
 use Rattle.std.specs.List.{find, AllByRecursion}
 use Rattle.std.proofs.lemmas.List.{take_more, drop_more, drop_all, map-append}
 

@@ -1,20 +1,19 @@
 -- The numbers that are given for a name, by the place of its entry.
-use Rattle.std.proofs.Common.{◌≡◌, ◌∙◌, ℕ, zero, suc, ◌+◌, ◌<◌, ◌≤◌, ◌==◌, Bool, true, false, not, cond, List, [], ◌∷◌, ◌++◌, length, map, take}
+use Rattle.std.proofs.Common.{◌≡◌, ◌∙◌, ℕ, zero, suc, ◌+◌, ◌<◌, ◌≤◌, ◌==◌, Bool, true, false, cond, List, [], ◌∷◌, length, map}
 use Rattle.std.proofs.Common.{drop, get_or, Option, Some, None, refl, sym, ap, arith}
 use Rattle.std.specs.Prelude.{option_map, slice_get}
 use Rattle.std.specs.List.{find}
-use Rattle.std.proofs.lemmas.Bool.{eq-eqb, eqb-true}
+use Rattle.std.proofs.lemmas.Bool.{eqb-true}
 use Rattle.std.proofs.lemmas.List.{drop_more, drop_all, length-map}
 use Rattle.std.proofs.lemmas.Option.{none-some, same_Some, slice_get-get_or, slice_get-map, slice_get_within}
 use Rattle.sequence.specs.Numbers.{is_among}
 use Rattle.sequence.specs.Options.{passes}
 use Rattle.sequence.proofs.Booleans.{eqb_self}
-use Rattle.sequence.proofs.Places.{slice_get_some}
 use Rattle.tsl_terms.specs.Name.{Name}
 use Rattle.table_interp.specs.Syntax.{Entry}
-use Rattle.table_interp.specs.Needed.{number_for, is_for, IsRepeat, HasNoRepeat}
+use Rattle.table_interp.specs.Needed.{number_for}
 use Rattle.table_interp.specs.Tables.{numbers_for}
-use Rattle.table_interp.specs.internal.Resolving.{IsPlace, ArePlaces}
+use Rattle.table_interp.specs.internal.Resolving.{IsPlace}
 use Rattle.table_interp.specs.declared.reading.Entry.{Entry as LentEntry}
 use Rattle.table_interp.specs.internal.View.{entry_view, entries_view}
 use Rattle.table_interp.specs.internal.Located.{AreLocated}

@@ -1,8 +1,8 @@
 -- Loops that read members, over plain variables.
-use Rattle.std.proofs.Common.{◌≡◌, ℕ, ◌<◌, List, [], ◌∷◌, ◌++◌, map, refl, ap, sym, ◌∙◌}
+use Rattle.std.proofs.Common.{◌≡◌, List, [], ◌∷◌, ◌++◌, map, ap, sym, ◌∙◌}
 use Rattle.std.proofs.lemmas.List.{map-append}
 use Rattle.std.proofs.lemmas.Result.{err_from_is_err_and}
-use Rattle.std.specs.Prelude.{Option, Some, None, Result, Ok, Err, IfErr}
+use Rattle.std.specs.Prelude.{Option, Some, None, Result, Ok, IfErr}
 use Rattle.std.specs.Result.{IsErrAnd}
 use Rattle.token_readers.specs.Readers.{Answer, form, push, push_read, iterate}
 use Rattle.token_readers.proofs.Iterates.{Shrinks, next_step, no_step, wrong_step}

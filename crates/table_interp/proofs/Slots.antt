@@ -2,7 +2,6 @@
 use Rattle.std.proofs.Common.{◌≡◌, ◌∙◌, ℕ, zero, suc, ◌+◌, ◌<◌, ◌==◌, Bool, true, false, ◌||◌, List, [], ◌∷◌, ◌++◌, length, take, get_or}
 use Rattle.std.proofs.Common.{set, replicate, Option, Some, None, refl, sym, ap, inl, inr, arith}
 use Rattle.std.specs.Prelude.{slice_get, IsSomeAnd, ◌⊎◌}
-use Rattle.std.specs.List.{list_any}
 use Rattle.std.proofs.lemmas.Bool.{eqb-true, eq-eqb}
 use Rattle.std.proofs.lemmas.List.{take_more, length-replicate, length-set}
 use Rattle.std.proofs.lemmas.List.Folds.{list_any-append}
@@ -15,7 +14,7 @@ use Rattle.sequence.proofs.Places.{slice_get_grown, slice_get_push, slice_get-ta
 use Rattle.sequence.specs.Options.{passes}
 use Rattle.tsl_terms.specs.declared.names.NameKind.{NameKind}
 use Rattle.tsl_terms.specs.Name.{Name}
-use Rattle.table_interp.specs.Needed.{has_table, IsRepeat, IsFirstRepeat, HasNoRepeat}
+use Rattle.table_interp.specs.Needed.{has_table, IsFirstRepeat, HasNoRepeat}
 use Rattle.table_interp.specs.internal.Resolving.{AreMarks, IsPlace, ArePlaces}
 
 at_replicate : {X : Type 0} (count n : ℕ) (x : X) → n < count → slice_get (replicate count x) n ≡ Some x

@@ -1,5 +1,5 @@
 -- What texts of tables and of inputs are made of.
-use Rattle.std.specs.Prelude.{ℕ, Bool, true, false, ◌&&◌, ◌||◌, List, map, codes, Option, None, if◌then◌else◌}
+use Rattle.std.specs.Prelude.{ℕ, Bool, true, false, ◌&&◌, ◌||◌, List, map, Option, None, if◌then◌else◌}
 use Rattle.std.specs.Str.{bytes_eq}
 use Rattle.tsl_text.specs.declared.Token.{Token}
 use Rattle.tsl_text.specs.declared.TokenKind.{TokenKind}

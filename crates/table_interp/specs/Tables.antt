@@ -1,6 +1,6 @@
 -- Which interpretation a text of tables spells, and the cause of each refusal. A refusal has the first of these causes
 -- that the text has: each speaks of texts that have none of those before it.
-use Rattle.std.specs.Prelude.{◌≡◌, ℕ, ◌==◌, ◌<◌, ◌≤◌, ◌^◌, Bool, true, false, not, List, [], ◌∷◌, length, map, is_some, nat_lt}
+use Rattle.std.specs.Prelude.{◌≡◌, ℕ, ◌==◌, ◌<◌, ◌≤◌, ◌^◌, Bool, not, List, [], ◌∷◌, length, map, is_some, nat_lt}
 use Rattle.std.specs.Prelude.{Option, Some, None, option_map, option_and_then, slice_get, if◌then◌else◌}
 use Rattle.std.specs.List.{find}
 use Rattle.sequence.specs.Numbers.{numbers_from}

@@ -1,7 +1,6 @@
-use Rattle.std.proofs.Common.{◌≡◌, ◌<◌, ◌≤◌, arith}
+use Rattle.std.proofs.Common.{arith}
 use Rattle.std.proofs.lemmas.Result.{IfOk-weaker}
 use Rattle.table_interp.specs.declared.TableError.TheVariants.{Domain}
-use Rattle.table_interp.specs.declared.TheConstants.{MOST_VALUES}
 use Rattle.table_interp.specs.internal.View.{tables_view}
 use Rattle.table_interp.proofs.Facts.{cells_within, interprets}
 use Rattle.table_interp.proofs.Refusals.{tables_refused, form_passed, entry_cause, has_value, err_weaker}

@@ -1,6 +1,6 @@
 -- Internal: only private functions of this crate use these words.
 -- The columns of a text with the place of the column for each name, and the place of each input's column.
-use Rattle.std.specs.Prelude.{◌≡◌, ℕ, ◌<◌, List, length, map, Option, Some, slice_get}
+use Rattle.std.specs.Prelude.{◌≡◌, ℕ, List, length, map, Option, Some, slice_get}
 use Rattle.tsl_terms.specs.Name.{Name}
 use Rattle.table_interp.specs.declared.inputs.Columns.{Columns}
 use Rattle.table_interp.specs.Syntax.{Terminal}

@@ -1,4 +1,4 @@
-use Rattle.std.proofs.Common.{◌≡◌, ◌<◌, length, sym, ◌∙◌, arith}
+use Rattle.std.proofs.Common.{sym, ◌∙◌, arith}
 use Rattle.table_interp.specs.Tables.{has_other_length}
 use Rattle.table_interp.specs.internal.Located.{located_tables}
 use Rattle.table_interp.proofs.Locate.{plain_pass, plain_stop, plain_end}

@@ -1,6 +1,4 @@
-use Rattle.std.proofs.Common.{◌≡◌, ◌<◌, length, map, ap, sym, ◌∙◌, arith}
-use Rattle.std.proofs.lemmas.List.{take_all}
-use Rattle.sequence.specs.Options.{all_there}
+use Rattle.std.proofs.Common.{arith}
 use Rattle.table_interp.specs.Tables.{numbers_for}
 use Rattle.table_interp.specs.internal.Located.{located_tables}
 use Rattle.table_interp.proofs.Gather.{gather_single}

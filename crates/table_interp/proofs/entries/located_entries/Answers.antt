@@ -1,4 +1,3 @@
-use Rattle.std.proofs.Common.{◌≡◌, ◌<◌, length, sym, ap, ◌∙◌, arith, subst}
 use Rattle.table_interp.proofs.Located.{is_once, repeat_within, second_entry}
 use Rattle.table_interp.proofs.entries.located_entries.Goals as goal
 

@@ -1,4 +1,4 @@
-use Rattle.std.proofs.Common.{◌≡◌, ◌<◌, ◌≤◌, length, Some, sym, ap, ◌∙◌, arith}
+use Rattle.std.proofs.Common.{Some, sym, ap, ◌∙◌, arith}
 use Rattle.table_interp.proofs.Locate.{none_given, entry_there, lent_numbers}
 use Rattle.table_interp.proofs.entries.numbers_for.Goals as goal
 

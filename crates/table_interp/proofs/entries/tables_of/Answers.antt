@@ -1,4 +1,4 @@
-use Rattle.std.proofs.Common.{◌≡◌, Some, ap, sym, ◌∙◌}
+use Rattle.std.proofs.Common.{Some, ap, sym, ◌∙◌}
 use Rattle.table_interp.specs.Tables.{table_of}
 use Rattle.table_interp.specs.internal.Located.{located_tables}
 use Rattle.table_interp.proofs.Gather.{gather_number}

@@ -1,5 +1,5 @@
-use Rattle.std.proofs.Common.{◌≡◌, ◌<◌, ◌^◌, length, map, Some, sym, ap, ◌∙◌, arith}
-use Rattle.std.specs.Prelude.{All, slice_get}
+use Rattle.std.proofs.Common.{◌<◌, ◌^◌, map, Some, ap, ◌∙◌, arith}
+use Rattle.std.specs.Prelude.{All}
 use Rattle.table_interp.proofs.Columns.{of_row, row_pushed}
 use Rattle.table_interp.proofs.inputs.all_ordered.Goals as goal
 

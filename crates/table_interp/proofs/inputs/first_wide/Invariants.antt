@@ -1,5 +1,3 @@
-use Rattle.std.specs.Prelude.{is_some}
-use Rattle.std.specs.List.{find}
 use Rattle.table_interp.specs.Inputs.{has_other_width}
 use Rattle.table_interp.proofs.Columns.{NoneSoFar}
 use Rattle.table_interp.proofs.inputs.first_wide.Given as goal

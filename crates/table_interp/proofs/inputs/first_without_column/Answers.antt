@@ -1,4 +1,4 @@
-use Rattle.std.proofs.Common.{◌≡◌, not, sym, ◌∙◌, arith}
+use Rattle.std.proofs.Common.{not, sym, ◌∙◌, arith}
 use Rattle.std.specs.List.{list_any}
 use Rattle.table_interp.specs.Needed.{is_for}
 use Rattle.table_interp.specs.internal.View.{terminals_view}

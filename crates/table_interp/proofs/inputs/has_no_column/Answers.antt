@@ -1,4 +1,3 @@
-use Rattle.std.proofs.Common.{◌≡◌, ap, ◌∙◌}
 use Rattle.table_interp.specs.internal.View.{terminals_view}
 use Rattle.table_interp.proofs.Columns.{no_column}
 use Rattle.table_interp.proofs.inputs.has_no_column.Goals as goal

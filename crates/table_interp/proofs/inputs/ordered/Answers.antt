@@ -1,4 +1,4 @@
-use Rattle.std.proofs.Common.{◌≡◌, arith}
+use Rattle.std.proofs.Common.{arith}
 use Rattle.std.specs.Prelude.{slice_get}
 use Rattle.table_interp.proofs.Columns.{mapped_push}
 use Rattle.table_interp.proofs.inputs.ordered.Goals as goal

@@ -1,5 +1,4 @@
-use Rattle.std.proofs.Common.{◌≡◌, ◌++◌, ◌<◌, List, ℕ, sym, ap, ◌∙◌, subst, arith}
-use Rattle.std.specs.Prelude.{All}
+use Rattle.std.proofs.Common.{◌<◌}
 use Rattle.sequence.proofs.Each.{each_left, each_right}
 use Rattle.std.specs.List.{AllByRecursion}
 use Rattle.table_interp.specs.Inputs.{HasRowCause, all_rows}

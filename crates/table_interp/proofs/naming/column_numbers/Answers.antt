@@ -1,11 +1,10 @@
-use Rattle.std.proofs.Common.{◌≡◌, ◌<◌, ◌∷◌, [], not, length, map, take, get_or, Some, sym, ap, ◌∙◌, subst, arith, refl}
-use Rattle.std.specs.Prelude.{option_map}
+use Rattle.std.proofs.Common.{◌<◌, ◌∷◌, [], not, length, map, sym, ap, ◌∙◌, arith, refl}
 use Rattle.std.proofs.lemmas.List.{take_all}
 use Rattle.sequence.proofs.Each.{each_joined}
 use Rattle.table_interp.specs.Needed.{number_for}
 use Rattle.table_interp.specs.Inputs.{is_input_name}
 use Rattle.table_interp.specs.internal.View.{terminal_view}
-use Rattle.table_interp.proofs.Finds.{find_pass, find_stop, find_end, is_there, is_absent, numbers_more, each_all}
+use Rattle.table_interp.proofs.Finds.{find_pass, find_stop, find_end, is_there, numbers_more, each_all}
 use Rattle.table_interp.proofs.naming.column_numbers.Goals as goal
 
 pub loop-column-preserved : goal.loop-column-preserved

@@ -1,11 +1,11 @@
-use Rattle.std.proofs.Common.{◌≡◌, ℕ, ◌<◌, ◌∷◌, [], not, length, map, take, get_or, Some, sym, ap, ◌∙◌, subst, arith, refl}
+use Rattle.std.proofs.Common.{◌<◌, ◌∷◌, [], not, length, map, sym, ap, ◌∙◌, arith, refl}
 use Rattle.std.specs.Prelude.{option_map}
 use Rattle.std.proofs.lemmas.List.{take_all}
 use Rattle.sequence.proofs.Each.{each_joined}
 use Rattle.table_interp.specs.Needed.{number_for}
 use Rattle.table_interp.specs.Tables.{is_known}
 use Rattle.table_interp.specs.internal.View.{entry_view}
-use Rattle.table_interp.proofs.Finds.{item_pass, item_stop, find_end, is_there, is_absent, item_numbers, each_all}
+use Rattle.table_interp.proofs.Finds.{item_pass, item_stop, find_end, is_there, item_numbers, each_all}
 use Rattle.table_interp.proofs.naming.entry_numbers.Goals as goal
 
 pub loop-entry-preserved : goal.loop-entry-preserved

@@ -1,4 +1,4 @@
-use Rattle.std.proofs.Common.{◌≡◌, ap, sym, ◌∙◌}
+use Rattle.std.proofs.Common.{ap, sym, ◌∙◌}
 use Rattle.std.specs.Prelude.{Some, option_map}
 use Rattle.table_interp.specs.internal.Reading.{taking, name_at, column_member, columns}
 use Rattle.table_interp.specs.internal.View.{terminal_view, terminals_view}

@@ -1,4 +1,4 @@
-use Rattle.std.proofs.Common.{◌≡◌, ◌≤◌, length}
+use Rattle.std.proofs.Common.{◌≡◌, length}
 use Rattle.token_readers.specs.Readers.{iterate, push, members}
 use Rattle.table_interp.specs.internal.Reading.{column_member}
 use Rattle.table_interp.specs.internal.View.{terminals_view}

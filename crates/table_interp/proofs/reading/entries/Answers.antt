@@ -1,4 +1,4 @@
-use Rattle.std.proofs.Common.{◌≡◌, ap, sym, ◌∙◌}
+use Rattle.std.proofs.Common.{ap, sym, ◌∙◌}
 use Rattle.std.specs.Prelude.{Some}
 use Rattle.table_interp.specs.internal.Reading.{entry_member, entries}
 use Rattle.table_interp.specs.internal.View.{terminals_view, entry_view, entries_view}

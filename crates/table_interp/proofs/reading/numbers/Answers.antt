@@ -1,5 +1,4 @@
-use Rattle.std.proofs.Common.{◌≡◌, sym, ◌∙◌, arith}
-use Rattle.token_readers.specs.Readers.{members}
+use Rattle.std.proofs.Common.{sym, ◌∙◌, arith}
 use Rattle.table_interp.specs.internal.Reading.{number_member, numbers}
 use Rattle.table_interp.specs.internal.View.{terminals_view}
 use Rattle.table_interp.proofs.Exactness.{numbers_shrink}

@@ -1,6 +1,5 @@
-use Rattle.std.proofs.Common.{◌≡◌, ap, sym, ◌∙◌}
-use Rattle.std.specs.Prelude.{Some, option_map, Vec}
-use Rattle.std.specs.declared.alloc.Global.{Global}
+use Rattle.std.proofs.Common.{ap, sym, ◌∙◌}
+use Rattle.std.specs.Prelude.{Some, option_map}
 use Rattle.table_interp.specs.internal.Reading.{numbers, row_member, rows}
 use Rattle.table_interp.specs.internal.View.{terminals_view, numbers_view}
 use Rattle.table_interp.proofs.Exactness.{rows_shrink}

@@ -1,4 +1,3 @@
-use Rattle.std.proofs.Common.{◌≡◌}
 use Rattle.std.specs.Prelude.{slice_get}
 use Rattle.sequence.proofs.Numbers.{numbers_passed_more}
 use Rattle.table_interp.specs.Needed.{is_symbol_number}

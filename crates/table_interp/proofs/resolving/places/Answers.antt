@@ -1,4 +1,4 @@
-use Rattle.std.proofs.Common.{◌<◌, ◌≡◌, ◌≤◌, List, ℕ, length, take, arith, subst}
+use Rattle.std.proofs.Common.{◌<◌, List, ℕ, length, arith, subst}
 use Rattle.std.proofs.lemmas.List.{take_all}
 use Rattle.std.proofs.lemmas.List.Elements.{All-get_or}
 use Rattle.table_interp.specs.Needed.{HasNoRepeat}

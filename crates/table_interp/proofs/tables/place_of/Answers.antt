@@ -1,5 +1,5 @@
-use Rattle.std.proofs.Common.{◌<◌, ◌≤◌, ◌+◌, ◌*◌, ◌^◌, length, get_or, arith}
-use Rattle.table_interp.proofs.Lookups.{step_within, step_bound, placed_step, no_values}
+use Rattle.std.proofs.Common.{◌<◌, length, get_or, arith}
+use Rattle.table_interp.proofs.Lookups.{step_within, step_bound}
 use Rattle.table_interp.proofs.tables.place_of.Goals as goal
 
 pub overflow_mul-place : goal.overflow_mul-place

@@ -1,4 +1,4 @@
-use Rattle.std.proofs.Common.{◌≡◌, ◌<◌, length, sym, ap, ◌∙◌, subst, nat_eq, get_or, arith, false}
+use Rattle.std.proofs.Common.{◌<◌, length, ap, ◌∙◌, nat_eq, get_or, arith}
 use Rattle.sequence.specs.Numbers.{is_among}
 use Rattle.indexmap.proofs.CallerLemmas.{insert_entry-new}
 use Rattle.table_interp.proofs.Gather.{lookup_none, new_at, cell_added}
