@@ -27,7 +27,7 @@ positions_left : (names : List Name) (run : RunTree ℕ) (positions : List (Posi
 positions_left names run positions i p within is =
     ap (λ (ps : List (Position ℕ)). positions_text names run i (map (position_tree (λ v. v)) ps)) (left_at positions i p within is)
     ∙ ap (λ (k : ℕ). position_text names run i (position_tree (λ v. v) p)
-        ++ positions_text names run k (map (position_tree (λ v. v)) (drop (i + 1) positions)))
+    ++ positions_text names run k (map (position_tree (λ v. v)) (drop (i + 1) positions)))
     (sym (add-one i))
 
 positions_at : (names : List Name) (run : RunTree ℕ) (items positions : List (Position ℕ)) (i : ℕ) (p : Position ℕ) → items ≡ positions →

@@ -7,5 +7,5 @@ use Rattle.tsl_report.proofs.trace.put_positions.Given as goal
 abbrev pub invariant-loop-number : goal.invariant-loop-number
 invariant-loop-number l =
     l.out.items ++ positions_text l.names (run_tree (λ v. v) l.run) l.number (map (position_tree (λ v. v))
-        (drop l.number l.run.positions)) ≡ l.fn.out.items
+    (drop l.number l.run.positions)) ≡ l.fn.out.items
     ++ positions_text l.names (run_tree (λ v. v) l.run) 0 (map (position_tree (λ v. v)) l.run.positions)
