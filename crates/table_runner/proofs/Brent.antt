@@ -22,7 +22,7 @@ module _ {X : Type 0} (at : ℕ → X) (steady : (i j : ℕ) → at i ≡ at j �
   later k i j m n same first second = sym (ap at first) ∙ together k i j same ∙ ap at second
 
   -- two equal values before a step that does not come back so soon
-  pub none_within : (t reach i j : ℕ) → IsAway at t reach → i < j → j ≤ t → j ≤ reach → at i ≢ at j
+  pub none_within : (t reach i j : ℕ) → IsAway at t reach → i < j → i ≤ t → j ≤ reach → at i ≢ at j
   none_within t reach i j away before within far same =
       away (j - i) (omega (arith, before)) (omega (arith, before, far))
       (sym (later (t - i) i j t (t + (j - i)) same (omega (arith, before, within)) (omega (arith, before, within))))

@@ -83,7 +83,7 @@ fn some_return<J: Judge>(
         if let Some(length) = return_within(alloc, judge, program, inputs, &mut standing, reach)? {
             return Ok(Return { step, length });
         }
-        if reach > u64::from(limit) {
+        if reach >= u64::from(limit) {
             return Err(RunError::NoLoop);
         }
         step += reach;

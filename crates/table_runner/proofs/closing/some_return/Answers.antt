@@ -1,4 +1,4 @@
-use Rattle.std.proofs.Common.{◌<◌, arith}
+use Rattle.std.proofs.Common.{◌<◌, ◌≤◌, arith}
 use Rattle.flow_program.specs.ProgramView.{program_tree}
 use Rattle.tsl_meaning.specs.Run.{configuration_at}
 use Rattle.table_runner.specs.Running.{rows_seen}
@@ -18,7 +18,7 @@ returns-in-Some-clause-bounds g c =
 pub returns-then-reach-from-clause-no_loop : goal.returns-then-reach-from-clause-no_loop
 returns-then-reach-from-clause-no_loop g c refused i j before below =
     let away = rw c.in_default.is at (c.in_ok-length.ensures.found c.loop-standing.step c.loop-standing.invariant.0) in
-    let far : c.args.limit < c.loop-standing.reach = omega (arith, c.if-reach-from.true, c.from.ensures) in
+    let far : c.args.limit ≤ c.loop-standing.reach = omega (arith, c.if-reach-from.true, c.from.ensures) in
     none_within (configuration_at (g.J.Algebra.meanings c.args.judge.now) (program_tree c.args.program.now)
     (rows_seen g.J.Algebra.seen c.args.inputs.now))
     (steady g.J.Algebra.seen (g.J.Algebra.meanings c.args.judge.now) (program_tree c.args.program.now)
