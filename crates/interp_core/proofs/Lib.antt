@@ -1,2 +1,3 @@
 pub mod Besides
 mod Evaluating
+pub mod Total

@@ -1,1 +1,2 @@
 pub mod LeafValue
+pub mod internal

@@ -15,3 +15,6 @@ mod leaves;
 pub use algebra::{Algebra, Judge};
 pub use evaluation::{evaluate, test_term};
 pub use leaves::Leaves;
+
+#[cfg(test)]
+mod tests;

@@ -5,3 +5,4 @@ mod Brent
 mod Comparing
 mod Meeting
 mod Recorded
+mod TotalRuns

@@ -29,7 +29,7 @@ use Rattle.table_runner.specs.Standings.{shown, StandsAt}
 use Rattle.table_runner.proofs.Walking.{some_before}
 
 -- what stands beside a signal in two lists that are joined
-beside_joined : {S : Type 0} (s : ℕ) (rs qs : List ℕ) (us ws : List S) → length us ≡ length rs →
+pub beside_joined : {S : Type 0} (s : ℕ) (rs qs : List ℕ) (us ws : List S) → length us ≡ length rs →
     beside s (rs ++ qs) (us ++ ws) ≡ option_or (beside s rs us) (beside s qs ws)
 beside_joined s [] qs [] ws long = refl
 beside_joined s [] qs (u ∷ us) ws long = absurd (omega (arith, long))
@@ -41,7 +41,7 @@ beside_joined s (r ∷ rs) qs (u ∷ us) ws long = by (beside_joined s rs qs us 
     by rest true = refl
     by rest false = rest
 
-mapped_some : {X Y : Type 0} (f : X → Y) (o : Option X) (y : Y) → option_map f o ≡ Some y → (x : X) × (o ≡ Some x) × (f x ≡ y)
+pub mapped_some : {X Y : Type 0} (f : X → Y) (o : Option X) (y : Y) → option_map f o ≡ Some y → (x : X) × (o ≡ Some x) × (f x ≡ y)
 mapped_some f None y is = absurd cc
 mapped_some f (Some x) y is = (x, refl, same_Some (f x) y is)
 
@@ -49,7 +49,7 @@ mapped_there : {X Y : Type 0} (f : X → Y) (o : Option X) → IsSome (option_ma
 mapped_there f None some = some
 mapped_there f (Some x) some = refl
 
-length-all_there : {S : Type 0} (os : List (Option S)) (xs : List S) → all_there os ≡ Some xs → length xs ≡ length os
+pub length-all_there : {S : Type 0} (os : List (Option S)) (xs : List S) → all_there os ≡ Some xs → length xs ≡ length os
 length-all_there [] xs is = sym (ap length (same_Some [] xs is))
 length-all_there (None ∷ os) xs is = absurd cc
 length-all_there (Some x ∷ os) xs is =

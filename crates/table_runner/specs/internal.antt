@@ -1,4 +1,3 @@
 -- What private functions say.
 pub mod Returns
 pub mod Copied
-pub mod Wheel

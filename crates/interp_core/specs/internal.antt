@@ -1,0 +1,2 @@
+-- What the tests' algebra means.
+pub mod Wheel

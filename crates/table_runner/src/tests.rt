@@ -1,0 +1,145 @@
+ghost use Rattle.std.specs.Prelude.{◌≡◌, ◌<◌, ◌^◌, ◌==◌, ◌++◌, ◌∷◌, [], ℕ, IsTrue, IfOk, length};
+ghost use Rattle.std.specs.List.{list_all};
+ghost use Rattle.interp_core.specs.internal.Wheel.{digits_of, wheel};
+
+use crate::{RunError, run_closed};
+use flow_program::{Node, Program};
+use interp_core::{Algebra, Judge};
+use sequence::{NoMemory, Sequence};
+use std::alloc::{AllocError, Global};
+use std::test::Fail;
+use tsl_meaning::{InputLoop, LoopRun};
+use tsl_terms::{Probe, Term, TermList};
+
+/// Values below a size. Each symbol has a value, or a truth, on all arguments.
+#[derive(Drop)]
+struct Wheel {
+    size: u32,
+    ghost some: { 0 < size },
+}
+
+fn digits(size: u32, arguments: &[u32]) -> u32
+    requires { 0 < size }
+    ensures { result ≡ digits_of size arguments.now }
+{
+    let mut number = 0u64;
+    for argument in arguments {
+        number = (3 * number + u64::from(*argument)) % u64::from(size);
+    }
+    number as u32
+}
+
+impl Algebra for Wheel {
+    type Value = u32;
+
+    ghost Seen = { ℕ };
+
+    ghost seen = { λ v. v };
+
+    ghost meanings = { λ judge. wheel judge.size };
+
+    fn apply(&self, _alloc: Global, function: u32, arguments: &[u32]) -> Result<u32, NoMemory> {
+        let number = u64::from(function) + u64::from(digits(self.size, arguments));
+        Ok((number % u64::from(self.size)) as u32)
+    }
+
+    fn initial(&self, _alloc: Global, _cell: u32) -> Result<u32, NoMemory> {
+        Ok(0)
+    }
+
+    fn copy(&self, _alloc: Global, value: &u32) -> Result<u32, NoMemory> {
+        Ok(*value)
+    }
+
+    fn same(&self, a: &u32, b: &u32) -> bool {
+        *a == *b
+    }
+}
+
+impl Judge for Wheel {
+    fn test(&self, predicate: u32, arguments: &[u32]) -> bool {
+        predicate <= digits(self.size, arguments)
+    }
+}
+
+/// The run over a wheel of this size, or none within the limit.
+fn closed(
+    alloc: Global,
+    size: u32,
+    program: &Program,
+    inputs: &InputLoop<u32>,
+    limit: u32,
+) -> Result<Option<LoopRun<u32>>, NoMemory>
+    requires size { 0 < size }
+    requires fits { IsTrue (list_all (λ row. length row == length program.now.inputs) (inputs.now.stem ++ inputs.now.cycle)) }
+    requires few { length (inputs.now.stem ++ inputs.now.cycle) < 2 ^ 32 }
+{
+    let wheel = Wheel { size };
+    match run_closed(alloc, &wheel, program, inputs, limit) {
+        Ok(run) => Ok(Some(run)),
+        Err(RunError::NoLoop) => Ok(None),
+        Err(RunError::NoMemory) => Err(AllocError),
+    }
+}
+
+/// One row of no values, again and again.
+fn no_inputs(alloc: Global) -> Result<InputLoop<u32>, NoMemory>
+    ensures stem { IfOk result (λ inputs. inputs.stem ≡ []) }
+    ensures cycle { IfOk result (λ inputs. inputs.cycle ≡ [] ∷ []) }
+{
+    Ok(InputLoop {
+        stem: Sequence::new(alloc),
+        cycle: Sequence::from_vec(vec![in alloc; Sequence::new(alloc)]?),
+    })
+}
+
+/// One cell, which goes on by 1 in each step.
+fn counter(alloc: Global) -> Result<Program, NoMemory>
+    ensures { IfOk result (λ program. program.inputs ≡ []) }
+{
+    let cell = TermList::from_vec(alloc, vec![in alloc; Term::Signal(7)]?)?;
+    let node = Node::Set {
+        updates: Sequence::from_vec(vec![in alloc; Term::Apply(1, cell)]?),
+        go: 0,
+    };
+    Ok(Program {
+        inputs: Sequence::new(alloc),
+        cells: Sequence::from_vec(vec![in alloc; 7]?),
+        outputs: Sequence::new(alloc),
+        windows: Sequence::new(alloc),
+        nodes: Sequence::from_vec(vec![in alloc; node]?),
+        states: Sequence::from_vec(vec![in alloc; 0]?),
+    })
+}
+
+#[test]
+fn a_counter_closes_after_its_whole_round(rt: HostRuntime) -> Result<(), Fail> {
+    let alloc = rt.alloc();
+    let program = counter(alloc)?;
+    let inputs = no_inputs(alloc)?;
+    for size in 1..70 {
+        let run = closed(alloc, size, &program, &inputs, size)?;
+        let run = run.expect(&rt, "the run closes");
+        assert_eq!(rt; run.start, 0);
+        assert_eq!(rt; run.length, size);
+        let earlier = closed(alloc, size, &program, &inputs, size - 1)?;
+        assert!(rt; earlier.is_none());
+    }
+    Ok(())
+}
+
+#[test]
+fn a_run_of_65536_configurations_is_answered_and_a_longer_one_is_not(
+    rt: HostRuntime,
+) -> Result<(), Fail> {
+    let alloc = rt.alloc();
+    let program = counter(alloc)?;
+    let inputs = no_inputs(alloc)?;
+    let run = closed(alloc, 65_536, &program, &inputs, 65_536)?;
+    let run = run.expect(&rt, "the run closes");
+    assert_eq!(rt; run.start, 0);
+    assert_eq!(rt; run.length, 65_536);
+    let longer = closed(alloc, 65_537, &program, &inputs, 65_536)?;
+    assert!(rt; longer.is_none());
+    Ok(())
+}
