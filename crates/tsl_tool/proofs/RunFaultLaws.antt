@@ -129,18 +129,20 @@ table_cause_stands text names cells (TableComment at) named h = omega (arith, h.
 table_cause_stands text names cells (TableForm at) named h = form_stands IsTables text at h
 table_cause_stands text names cells Domain named h = tt
 table_cause_stands text names cells (UnknownEntry start end) named h =
-    between text h.entry.name start end
-    (found_is (λ e. LiesIn text e.name) _ h.given.entries h.entry (entries_lie text h.given h.so_far.read) h.first) h.starts h.ends
+    between text h.cause.entry.name start end
+    (found_is (λ e. LiesIn text e.name) _ h.given.entries h.cause.entry (entries_lie text h.given h.read.read) h.cause.first)
+    h.cause.starts h.cause.ends
 table_cause_stands text names cells (SecondEntry start end) named h =
-    between text h.entry.name start end
-    (each_at (λ e. LiesIn text e.name) h.given.entries h.at h.entry (entries_lie text h.given h.so_far.so_far.read) h.there) h.starts h.ends
+    between text h.cause.entry.name start end
+    (each_at (λ e. LiesIn text e.name) h.given.entries h.cause.at h.cause.entry (entries_lie text h.given h.read.read) h.cause.there)
+    h.cause.starts h.cause.ends
 table_cause_stands text names cells (MissingEntry id) named h =
-    found_is (λ i. i < length names) _ (needed names cells) id (needed_below names cells named) h.first
+    found_is (λ i. i < length names) _ (needed names cells) id (needed_below names cells named) h.cause.first
 table_cause_stands text names cells (Entries id) named h = tt
 table_cause_stands text names cells (EntryCount id) named h =
-    found_is (λ i. i < length names) _ (needed names cells) id (needed_below names cells named) h.first
+    found_is (λ i. i < length names) _ (needed names cells) id (needed_below names cells named) h.cause.first
 table_cause_stands text names cells (EntryRange id value) named h =
-    found_is (λ i. i < length names) _ (needed names cells) id (needed_below names cells named) h.first
+    found_is (λ i. i < length names) _ (needed names cells) id (needed_below names cells named) h.cause.first
 table_cause_stands text names cells NoTableMemory named h = tt
 
 pub input_cause_stands : (text : List ℕ) (names : List Name) (signals : List ℕ) (domain : ℕ) (error : InputError) →
@@ -149,13 +151,15 @@ input_cause_stands text names signals domain (InputByte at) named h = omega (ari
 input_cause_stands text names signals domain (InputComment at) named h = omega (arith, h.place)
 input_cause_stands text names signals domain (InputForm at) named h = form_stands IsInputs text at h
 input_cause_stands text names signals domain (UnknownInput start end) named h =
-    between text h.column start end
-    (found_is (LiesIn text) _ h.given.names h.column (columns_lie text h.given h.read) h.first) h.starts h.ends
+    between text h.cause.column start end
+    (found_is (LiesIn text) _ h.given.names h.cause.column (columns_lie text h.given h.read) h.cause.first)
+    h.cause.starts h.cause.ends
 input_cause_stands text names signals domain (SecondInput start end) named h =
-    between text h.column start end
-    (each_at (LiesIn text) h.given.names h.at h.column (columns_lie text h.given h.so_far.read) h.there) h.starts h.ends
+    between text h.cause.column start end
+    (each_at (LiesIn text) h.given.names h.cause.at h.cause.column (columns_lie text h.given h.read) h.cause.there)
+    h.cause.starts h.cause.ends
 input_cause_stands text names signals domain (MissingInput id) named h =
-    found_is (λ i. i < length names) _ signals id (signals_below names signals named) h.first
+    found_is (λ i. i < length names) _ signals id (signals_below names signals named) h.cause.first
 input_cause_stands text names signals domain Rows named h = tt
 input_cause_stands text names signals domain (RowWidth row) named h = tt
 input_cause_stands text names signals domain (RowValue row value) named h = tt

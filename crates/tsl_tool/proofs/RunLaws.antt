@@ -42,8 +42,8 @@ use Rattle.tsl_report.specs.declared.fault.LimitName.TheVariants.{Run as RunLimi
 use Rattle.tsl_report.specs.declared.fault.Fault.TheVariants.{Large}
 use Rattle.tsl_tool.specs.declared.reply.Reply.{Reply}
 use Rattle.tsl_tool.specs.Replies.{fault_reply}
-use Rattle.tsl_tool.specs.Run.{RunInput, SpellRunInput, IsFirstRun, HasGivenSignals, given_formulas, given_names, formulas_of, lasso_of}
-use Rattle.tsl_tool.specs.Run.{meanings_of_input, trace_reply, InputOutcome, Closes, traced, too_long, other_signals, formulas_on}
+use Rattle.tsl_tool.specs.Run.{RunInput, SpellRunInput, IsFirstRun, HasGivenSignals, given_formulas, given_names, judged_formulas, lasso_of}
+use Rattle.tsl_tool.specs.Run.{meanings_of_input, trace_reply, InputOutcome, Closes, traced, runs_on, other_signals, formulas_to_judge}
 use Rattle.tsl_tool.specs.Run.{most_configurations, signals_reply}
 use Rattle.tsl_tool.specs.RunParts.{RunParts}
 use Rattle.tsl_tool.specs.internal.RunView.{GivenFits, IsReady, verdict_in, verdicts_in}
@@ -74,11 +74,11 @@ few_rows text names inputs domain rows h =
       arith,
       length-append rows.stem rows.cycle,
       length-append h.given.stem h.given.cycle,
-      length-all_there (map (by_inputs h.columns inputs) h.given.stem) rows.stem h.stem,
-      length-all_there (map (by_inputs h.columns inputs) h.given.cycle) rows.cycle h.cycle,
-      length-map h.given.stem (by_inputs h.columns inputs),
-      length-map h.given.cycle (by_inputs h.columns inputs),
-      h.in_range.so_far.so_far.few_rows,
+      length-all_there (map (by_inputs h.gives.columns inputs) h.given.stem) rows.stem h.gives.stem,
+      length-all_there (map (by_inputs h.gives.columns inputs) h.given.cycle) rows.cycle h.gives.cycle,
+      length-map h.given.stem (by_inputs h.gives.columns inputs),
+      length-map h.given.cycle (by_inputs h.gives.columns inputs),
+      h.gives.in_range.so_far.so_far.few_rows,
     )
 
 pub is_ready : (parts : RunParts) (input : RunInput) → SpellRunInput parts input → GivenFits input.given →
@@ -175,7 +175,7 @@ module _ (input : RunInput) (ready : IsReady input) where
         (speaks_judged (whole_formula spec) (whole_speaks spec fits more names_are same), tt)
 
     pub run_judged : HasGivenSignals input.given input.program →
-        AllByRecursion (IsJudged (meanings_of_input input) run) (formulas_of input)
+        AllByRecursion (IsJudged (meanings_of_input input) run) (judged_formulas input)
     run_judged same =
         each_joined (IsJudged (meanings_of_input input) run) (map window_formula_of input.program.windows) (given_formulas input.given)
         (each_map (IsJudged (meanings_of_input input) run) window_formula_of input.program.windows
@@ -200,11 +200,11 @@ module _ (input : RunInput) (ready : IsReady input) where
 pub traced_outcome : {E : Type 0} (input : RunInput) (ready : IsReady input) (run : RunTree ℕ) (r : Result Reply E) →
     Closes input run → HasGivenSignals input.given input.program →
     IfOk r (λ reply. reply ≡ trace_reply input.names run (is_some input.given) (verdicts_in (meanings_of_input input) run
-    (formulas_of input))) →
+    (judged_formulas input))) →
     IfOk r (InputOutcome input)
 traced_outcome input ready run (Ok reply) closes same is =
     traced run closes same
-    (is ∙ ap (trace_reply input.names run (is_some input.given)) (verdicts_same input ready run closes.is_first (formulas_of input)))
+    (is ∙ ap (trace_reply input.names run (is_some input.given)) (verdicts_same input ready run closes.is_first (judged_formulas input)))
 traced_outcome input ready run (Err e) closes same is = tt
 
 -- ---- in the words of the code: over tables as they are seen, and rows as they are seen
@@ -247,23 +247,24 @@ module _ (given : Option SpecTree) (names : List Name) (program : ProgramTree) (
       AreDifferent (meanings_of tables) program (rows_seen (λ v. v) inputs) (most_configurations + 1) →
       IfOk r (λ reply. reply ≡ fault_reply (Large RunLimit most_configurations)) → IfOk r (InputOutcome input_of)
   too_long_seen (Ok reply) different is =
-      too_long (from_seen (λ m rows. AreDifferent m program rows (most_configurations + 1)) different) is
+      runs_on (from_seen (λ m rows. AreDifferent m program rows (most_configurations + 1)) different) is
   too_long_seen (Err e) different is = tt
 
   pub judged_seen : IsReady input_of → (run : RunTree ℕ) → IsFirstRun input_of run → HasGivenSignals given program →
-      AllByRecursion (IsJudged (meanings_of tables) run) (formulas_on program given)
+      AllByRecursion (IsJudged (meanings_of tables) run) (formulas_to_judge program given)
   judged_seen ready run first signals =
-      subst (λ (m : Meanings ℕ). AllByRecursion (IsJudged m run) (formulas_on program given))
+      subst (λ (m : Meanings ℕ). AllByRecursion (IsJudged m run) (formulas_to_judge program given))
       (sym (same_meanings tables names program same)) (run_judged input_of ready run first signals)
 
   pub traced_seen : {E : Type 0} (r : Result Reply E) → IsReady input_of → (run : RunTree ℕ) → Closes input_of run →
       HasGivenSignals given program →
-      IfOk r (λ reply. reply ≡ trace_reply names run (is_some given) (verdicts_in (meanings_of tables) run (formulas_on program given))) →
+      IfOk r (λ reply. reply ≡ trace_reply names run (is_some given) (verdicts_in (meanings_of tables) run
+      (formulas_to_judge program given))) →
       IfOk r (InputOutcome input_of)
   traced_seen r ready run closes signals is =
       traced_outcome input_of ready run r closes signals
       (subst (λ (m : Meanings ℕ). IfOk r (λ reply. reply ≡
-      trace_reply names run (is_some given) (verdicts_in m run (formulas_on program given))))
+      trace_reply names run (is_some given) (verdicts_in m run (formulas_to_judge program given))))
       (same_meanings tables names program same) is)
 
   pub other_seen : {E : Type 0} (r : Result Reply E) (run : RunTree ℕ) → Closes input_of run → (HasGivenSignals given program → ⊥) →

@@ -7,7 +7,8 @@ use Rattle.tsl_report.specs.declared.fault.Fault.TheVariants.{Parts}
 use Rattle.tsl_tool.specs.declared.reply.Reply.{Reply}
 use Rattle.tsl_tool.specs.Replies.{fault_reply}
 use Rattle.tsl_tool.specs.RunParts.{RunParts, AreParts, LacksPart}
-use Rattle.tsl_tool.specs.Run.{HasPartFault, RunInput, SpellRunInput, InputOutcome, PartsOutcome, refused, spelled, RunOutcome, missing, of_parts}
+use Rattle.tsl_tool.specs.Run.{HasPartFault, RunInput, SpellRunInput, InputOutcome, PartsOutcome, part_refused, spelled, RunOutcome}
+use Rattle.tsl_tool.specs.Run.{missing, of_all_parts}
 
 -- what a test of a text without bytes says
 pub not_empty : (xs : List ℕ) (empty : Bool) → empty ≡ (length xs == 0) → empty ≡ false → xs ≡ [] → ⊥
@@ -17,7 +18,7 @@ not_empty (x ∷ xs) empty is some none = cc
 -- the line of the fault of a part is an outcome
 pub refused_outcome : {E : Type 0} (parts : RunParts) (fault : Fault) (r : Result Reply E) → HasPartFault parts fault →
     IfOk r (λ reply. reply ≡ fault_reply fault) → IfOk r (PartsOutcome parts)
-refused_outcome parts fault (Ok reply) h is = refused fault h is
+refused_outcome parts fault (Ok reply) h is = part_refused fault h is
 refused_outcome parts fault (Err e) h is = tt
 
 -- and so is the reply to what the parts spell
@@ -29,7 +30,7 @@ spelled_outcome parts input (Err e) h outcome = tt
 -- and the reply to the parts of the bytes
 pub parts_outcome : {E : Type 0} (bytes : List ℕ) (parts : RunParts) (r : Result Reply E) → AreParts bytes parts →
     IfOk r (PartsOutcome parts) → IfOk r (RunOutcome bytes)
-parts_outcome bytes parts (Ok reply) are outcome = of_parts parts are outcome
+parts_outcome bytes parts (Ok reply) are outcome = of_all_parts parts are outcome
 parts_outcome bytes parts (Err e) are outcome = tt
 
 -- and so is the line of a missing part

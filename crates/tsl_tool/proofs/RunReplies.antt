@@ -32,10 +32,11 @@ use Rattle.tsl_tool.specs.Promise.{Promise}
 use Rattle.tsl_tool.specs.Replies.{fault_status, fault_reply}
 use Rattle.tsl_tool.specs.RunFaults.{IsProgramFault, IsTableFault, IsInputFault}
 use Rattle.tsl_tool.specs.RunParts.{RunParts, AreParts}
-use Rattle.tsl_tool.specs.Run.{RunInput, SpellRunInput, HasGivenSignals, IsTrace, one_fails, signals_differ, formulas_of, verdicts_of}
+use Rattle.tsl_tool.specs.Run.{RunInput, SpellRunInput, HasGivenSignals, IsRunTrace, one_fails, signals_differ, judged_formulas}
+use Rattle.tsl_tool.specs.Run.{verdicts_of}
 use Rattle.tsl_tool.specs.Run.{verdict_status, run_reply, lasso_of, signals_reply, most_configurations, Closes, HasPartFault, in_spec}
-use Rattle.tsl_tool.specs.Run.{in_program, in_tables, in_inputs, InputOutcome, too_long, other_signals, traced, refused, spelled}
-use Rattle.tsl_tool.specs.Run.{RunOutcome, missing, of_parts}
+use Rattle.tsl_tool.specs.Run.{in_program, in_tables, in_inputs, InputOutcome, runs_on, other_signals, traced, part_refused, spelled}
+use Rattle.tsl_tool.specs.Run.{RunOutcome, missing, of_all_parts}
 use Rattle.tsl_tool.proofs.Statuses.{comes_of_bytes, status_of, text_of, refusal_comes, fault_says}
 
 -- ---- statuses
@@ -98,15 +99,15 @@ verdicts_come verdicts = by (list_all (λ holds. holds) verdicts)
     by false = refl
 
 input_comes : (input : RunInput) (reply : Reply) → InputOutcome input reply → comes_of_bytes reply.status ≡ true
-input_comes input reply (too_long different is) = ap comes_of_bytes (status_of is)
+input_comes input reply (runs_on different is) = ap comes_of_bytes (status_of is)
 input_comes input reply (other_signals run closes other is) = ap comes_of_bytes (status_of is)
 input_comes input reply (traced run closes same is) =
     ap comes_of_bytes (status_of is) ∙ verdicts_come (verdicts_of input (shape_of run))
 
 pub run_comes : (bytes : List ℕ) (reply : Reply) → RunOutcome bytes reply → comes_of_bytes reply.status ≡ true
 run_comes bytes reply (missing head lacks is) = ap comes_of_bytes (status_of is)
-run_comes bytes reply (of_parts parts are (refused fault h is)) = ap comes_of_bytes (status_of is) ∙ part_fault_comes parts fault h
-run_comes bytes reply (of_parts parts are (spelled input h outcome)) = input_comes input reply outcome
+run_comes bytes reply (of_all_parts parts are (part_refused fault h is)) = ap comes_of_bytes (status_of is) ∙ part_fault_comes parts fault h
+run_comes bytes reply (of_all_parts parts are (spelled input h outcome)) = input_comes input reply outcome
 
 -- ---- texts
 
@@ -125,15 +126,15 @@ trace_says names run has_formula verdicts =
     (some_after (positions_text names run 0 run.positions) (loop_text run.start run.length) (λ e. cc))
 
 input_says : (input : RunInput) (reply : Reply) → InputOutcome input reply → reply.text ≢ []
-input_says input reply (too_long different is) e = fault_says (Large RunLimit most_configurations) reply is e
+input_says input reply (runs_on different is) e = fault_says (Large RunLimit most_configurations) reply is e
 input_says input reply (other_signals run closes other is) e = let clash : signals_reply.text ≡ [] = sym (text_of is) ∙ e in cc
 input_says input reply (traced run closes same is) e =
     trace_says input.names run (is_some input.given) (verdicts_of input (shape_of run)) (sym (text_of is) ∙ e)
 
 pub run_says : (bytes : List ℕ) (reply : Reply) → RunOutcome bytes reply → reply.text ≢ []
 run_says bytes reply (missing head lacks is) e = fault_says (Parts head) reply is e
-run_says bytes reply (of_parts parts are (refused fault h is)) e = fault_says fault reply is e
-run_says bytes reply (of_parts parts are (spelled input h outcome)) e = input_says input reply outcome e
+run_says bytes reply (of_all_parts parts are (part_refused fault h is)) e = fault_says fault reply is e
+run_says bytes reply (of_all_parts parts are (spelled input h outcome)) e = input_says input reply outcome e
 
 -- ---- promises
 
@@ -181,7 +182,7 @@ run_fault_keeps bytes fault reply is =
 
 module _ (bytes : List ℕ) (parts : RunParts) (are : AreParts bytes parts) (input : RunInput) (spells : SpellRunInput parts input) where
   abbrev is_trace : (run : RunTree ℕ) → Closes input run → HasGivenSignals input.given input.program →
-      IsTrace bytes (run_reply input run).text
+      IsRunTrace bytes (run_reply input run).text
   is_trace run closes same = record {
     parts = parts;
     are_parts = are;
@@ -197,7 +198,7 @@ module _ (bytes : List ℕ) (parts : RunParts) (are : AreParts bytes parts) (inp
       (run_reply input run).status ≡ status → Promise (Some Run) status bytes (run_reply input run).text
   traced_keeps run Done closes same is = record {
     trace = is_trace run closes same;
-    all_hold = each_holds (formulas_of input) (λ f. meets (lasso_of input (shape_of run)) f 0)
+    all_hold = each_holds (judged_formulas input) (λ f. meets (lasso_of input (shape_of run)) f 0)
         (all_of_done (verdicts_of input (shape_of run)) is);
   }
   traced_keeps run No closes same is =
@@ -206,7 +207,7 @@ module _ (bytes : List ℕ) (parts : RunParts) (are : AreParts bytes parts) (inp
   traced_keeps run _ closes same is = tt
 
   input_keeps : (reply : Reply) → InputOutcome input reply → Promise (Some Run) reply.status bytes reply.text
-  input_keeps reply (too_long different is) = run_fault_keeps bytes (Large RunLimit most_configurations) reply is
+  input_keeps reply (runs_on different is) = run_fault_keeps bytes (Large RunLimit most_configurations) reply is
   input_keeps reply (other_signals run closes other is) =
       subst (λ (r : Reply). Promise (Some Run) r.status bytes r.text) (sym is)
       (signals_differ parts are input spells other refl)
@@ -216,5 +217,5 @@ module _ (bytes : List ℕ) (parts : RunParts) (are : AreParts bytes parts) (inp
 
 pub run_keeps : (bytes : List ℕ) (reply : Reply) → RunOutcome bytes reply → Promise (Some Run) reply.status bytes reply.text
 run_keeps bytes reply (missing head lacks is) = run_fault_keeps bytes (Parts head) reply is
-run_keeps bytes reply (of_parts parts are (refused fault h is)) = run_fault_keeps bytes fault reply is
-run_keeps bytes reply (of_parts parts are (spelled input h outcome)) = input_keeps bytes parts are input h reply outcome
+run_keeps bytes reply (of_all_parts parts are (part_refused fault h is)) = run_fault_keeps bytes fault reply is
+run_keeps bytes reply (of_all_parts parts are (spelled input h outcome)) = input_keeps bytes parts are input h reply outcome

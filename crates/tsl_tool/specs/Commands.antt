@@ -4,7 +4,8 @@ use Rattle.std.specs.Str.{bytes_eq}
 use Rattle.tsl_tool.specs.declared.words.Sizes.{Sizes}
 use Rattle.tsl_tool.specs.declared.words.Command.{Command}
 use Rattle.tsl_tool.specs.declared.words.Command.TheVariants.{Synth, Run, Recheck}
-use Rattle.tsl_tool.specs.declared.words.TheConstants.{DEFAULT_STATES, MOST_STATES, MOST_SPECIFICATION_BYTES, MOST_RUN_BYTES, MOST_LOG_BYTES}
+use Rattle.tsl_tool.specs.declared.words.TheConstants.{DEFAULT_STATES, MOST_STATES, MOST_SPECIFICATION_BYTES, MOST_RUN_BYTES}
+use Rattle.tsl_tool.specs.declared.words.TheConstants.{MOST_LOG_BYTES}
 
 -- the sizes that these words ask for after `synth`: none, or `--states 1`
 abbrev pub sizes_of : List (List ℕ) → Option Sizes

@@ -1,5 +1,6 @@
 -- What the command `run` replies.
-use Rattle.std.specs.Prelude.{◌≡◌, ℕ, ◌+◌, ◌≤◌, Bool, false, List, [], ◌∷◌, ◌++◌, map, codes, Option, Some, None, is_some, Contains, if◌then◌else◌}
+use Rattle.std.specs.Prelude.{◌≡◌, ℕ, ◌+◌, ◌≤◌, Bool, false, List, [], ◌∷◌, ◌++◌, map, codes, Option, Some, None, is_some, Contains}
+use Rattle.std.specs.Prelude.{if◌then◌else◌}
 use Rattle.std.specs.List.{list_all, AllByRecursion}
 use Rattle.loop_shape.specs.LoopShape.{LoopShape}
 use Rattle.tsl_terms.specs.Name.{Name}
@@ -81,15 +82,15 @@ abbrev pub given_formulas : Option SpecTree → List FormulaTree
 given_formulas None = []
 given_formulas (Some spec) = whole_formula spec ∷ []
 
-abbrev pub formulas_on : ProgramTree → Option SpecTree → List FormulaTree
-formulas_on program given = map window_formula_of program.windows ++ given_formulas given
+abbrev pub formulas_to_judge : ProgramTree → Option SpecTree → List FormulaTree
+formulas_to_judge program given = map window_formula_of program.windows ++ given_formulas given
 
-abbrev pub formulas_of : RunInput → List FormulaTree
-formulas_of input = formulas_on input.program input.given
+abbrev pub judged_formulas : RunInput → List FormulaTree
+judged_formulas input = formulas_to_judge input.program input.given
 
 -- whether each of them holds at the first position of the run
 abbrev pub verdicts_of : RunInput → LoopShape → List Bool
-verdicts_of input shape = map (λ f. meets (lasso_of input shape) f 0) (formulas_of input)
+verdicts_of input shape = map (λ f. meets (lasso_of input shape) f 0) (judged_formulas input)
 
 -- yes where all of them hold
 abbrev pub verdict_status : List Bool → Status
@@ -149,7 +150,7 @@ pub record Closes (input : RunInput) (run : RunTree ℕ) : Type 0 where
 -- The reply to a program with its tables and inputs. Whether the run closes is asked before the signals are compared.
 pub data InputOutcome (input : RunInput) (reply : Reply) : Type 0 where
   -- more configurations than the limit are all different
-  too_long : AreDifferent (meanings_of_input input) input.program input.rows (most_configurations + 1) →
+  runs_on : AreDifferent (meanings_of_input input) input.program input.rows (most_configurations + 1) →
       reply ≡ fault_reply (Large RunLimit most_configurations) → InputOutcome input reply
   -- the program has other signals than the specification
   other_signals : (run : RunTree ℕ) → Closes input run → (HasGivenSignals input.given input.program → ⊥) →
@@ -160,7 +161,7 @@ pub data InputOutcome (input : RunInput) (reply : Reply) : Type 0 where
 
 pub data PartsOutcome (parts : RunParts) (reply : Reply) : Type 0 where
   -- a part is refused at a fault
-  refused : (fault : Fault) → HasPartFault parts fault → reply ≡ fault_reply fault → PartsOutcome parts reply
+  part_refused : (fault : Fault) → HasPartFault parts fault → reply ≡ fault_reply fault → PartsOutcome parts reply
   -- the parts spell a program with its tables and inputs
   spelled : (input : RunInput) → SpellRunInput parts input → InputOutcome input reply → PartsOutcome parts reply
 
@@ -168,12 +169,12 @@ pub data RunOutcome (bytes : List ℕ) (reply : Reply) : Type 0 where
   -- a part is missing
   missing : (head : Head) → LacksPart bytes head → reply ≡ fault_reply (Parts head) → RunOutcome bytes reply
   -- there are all parts
-  of_parts : (parts : RunParts) → AreParts bytes parts → PartsOutcome parts reply → RunOutcome bytes reply
+  of_all_parts : (parts : RunParts) → AreParts bytes parts → PartsOutcome parts reply → RunOutcome bytes reply
 
 -- ---- what the answers promise
 
 -- the text is that of the closed run of what the parts of the bytes spell
-pub record IsTrace (bytes text : List ℕ) : Type 0 where
+pub record IsRunTrace (bytes text : List ℕ) : Type 0 where
   pub parts : RunParts
   pub are_parts : AreParts bytes parts
   pub input : RunInput
@@ -184,17 +185,17 @@ pub record IsTrace (bytes text : List ℕ) : Type 0 where
   pub text_is : text ≡ (run_reply input run).text
 
 -- the formula holds in the run
-abbrev pub MeetsFormula : {bytes text : List ℕ} → IsTrace bytes text → FormulaTree → Type 0
+abbrev pub MeetsFormula : {bytes text : List ℕ} → IsRunTrace bytes text → FormulaTree → Type 0
 MeetsFormula trace formula = Meets (lasso_of trace.input (shape_of trace.run)) formula 0
 
 -- the formula of each window and the whole formula of the specification hold in the run
 pub record AllHold (bytes text : List ℕ) : Type 0 where
-  pub trace : IsTrace bytes text
-  pub all_hold : AllByRecursion (MeetsFormula trace) (formulas_of trace.input)
+  pub trace : IsRunTrace bytes text
+  pub all_hold : AllByRecursion (MeetsFormula trace) (judged_formulas trace.input)
 
 pub data SomeFails (bytes text : List ℕ) : Type 0 where
   -- a verdict is that one of them fails
-  one_fails : (trace : IsTrace bytes text) → Contains (verdicts_of trace.input (shape_of trace.run)) false → SomeFails bytes text
+  one_fails : (trace : IsRunTrace bytes text) → Contains (verdicts_of trace.input (shape_of trace.run)) false → SomeFails bytes text
   -- the signals of the specification are not those of the program
   signals_differ : (parts : RunParts) → AreParts bytes parts → (input : RunInput) → SpellRunInput parts input →
       (HasGivenSignals input.given input.program → ⊥) → text ≡ codes "refused signals\n" → SomeFails bytes text

@@ -26,12 +26,13 @@ use Rattle.tsl_report.specs.declared.fault.LimitName.TheVariants.{Windows as Win
 use Rattle.tsl_report.specs.declared.fault.LimitName.TheVariants.{Domain as DomainLimit, Entries as EntryLimit, Rows as RowLimit}
 use Rattle.tsl_report.specs.declared.fault.Fault.{Fault}
 use Rattle.tsl_report.specs.declared.fault.Fault.TheVariants.{Byte, Comment, Form as FormFault, Unknown as UnknownName, Twice as SecondName}
-use Rattle.tsl_report.specs.declared.fault.Fault.TheVariants.{Missing as MissingName, TableCount, TableRange, RowCount, RowRange, Program, Large}
+use Rattle.tsl_report.specs.declared.fault.Fault.TheVariants.{Missing as MissingName, TableCount, TableRange, RowCount, RowRange, Program}
+use Rattle.tsl_report.specs.declared.fault.Fault.TheVariants.{Large}
 use Rattle.tsl_tool.specs.Refusals.{IsPlaceOf, name_between}
 
 -- the name that stands at a place of the text
-abbrev pub name_at : List ℕ → NamePlace → List ℕ
-name_at text place = name_between text place.start place.end
+abbrev pub name_in_text : List ℕ → NamePlace → List ℕ
+name_in_text text place = name_between text place.start place.end
 
 -- of a program: the line, the rule and the name, or the limit that is passed
 abbrev pub IsProgramFault : List ℕ → ProgramError → Fault → Type 0
@@ -40,9 +41,9 @@ IsProgramFault text (Order line) fault = fault ≡ Program line LineOrder
 IsProgramFault text (Target line) fault = fault ≡ Program line LineTarget
 IsProgramFault text (Updates line) fault = fault ≡ Program line LineUpdates
 IsProgramFault text (Window line) fault = fault ≡ Program line LineWindow
-IsProgramFault text (Unknown line name) fault = fault ≡ Program line (LineUnknown (name_at text name))
-IsProgramFault text (Kind line name) fault = fault ≡ Program line (LineKind (name_at text name))
-IsProgramFault text (Arity line name) fault = fault ≡ Program line (LineArity (name_at text name))
+IsProgramFault text (Unknown line name) fault = fault ≡ Program line (LineUnknown (name_in_text text name))
+IsProgramFault text (Kind line name) fault = fault ≡ Program line (LineKind (name_in_text text name))
+IsProgramFault text (Arity line name) fault = fault ≡ Program line (LineArity (name_in_text text name))
 IsProgramFault text Windows fault = fault ≡ Large WindowLimit most_windows
 IsProgramFault text Nodes fault = fault ≡ Large ProgramNodes most_nodes
 IsProgramFault text States fault = fault ≡ Large ProgramStates most_states

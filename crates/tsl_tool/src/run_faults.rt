@@ -2,7 +2,7 @@
 
 ghost use Rattle.std.specs.Prelude.{◌≡◌, ◌-◌, ◌<◌, ◌≤◌, ◌^◌, length, IfOk};
 ghost use Rattle.term_text.specs.TermText.{name_text};
-ghost use Rattle.tsl_tool.specs.RunFaults.{name_at, IsProgramFault, IsTableFault, IsInputFault};
+ghost use Rattle.tsl_tool.specs.RunFaults.{name_in_text, IsProgramFault, IsTableFault, IsInputFault};
 ghost use Rattle.tsl_tool.specs.internal.RunFaultPlaces.{ProgramStandsIn, TableStandsIn, InputStandsIn};
 
 use crate::refusal::{name_between, place_in};
@@ -52,7 +52,7 @@ pub(crate) fn fault_of_program(
 fn name_at(alloc: Global, text: &[u8], name: Name) -> Result<Sequence<u8>, NoMemory>
     requires in_order { name.start ≤ name.end }
     requires inside { name.end ≤ length text.now }
-    ensures { IfOk result (λ copy. copy ≡ name_at text.now name) }
+    ensures { IfOk result (λ copy. copy ≡ name_in_text text.now name) }
 {
     name_between(alloc, text, name.start, name.end)
 }

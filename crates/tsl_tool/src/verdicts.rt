@@ -11,7 +11,7 @@ ghost use Rattle.tsl_meaning.specs.RunTree.{run_tree};
 ghost use Rattle.tsl_meaning.specs.RunLasso.{run_lasso, IsJudged};
 ghost use Rattle.table_interp.specs.Meaning.{meanings_of};
 ghost use Rattle.tsl_report.specs.TraceText.{RunIsHeld};
-ghost use Rattle.tsl_tool.specs.Run.{HasSignalsOf, HasGivenSignals, formulas_on, given_formulas, signals_reply, trace_reply, verdict_status};
+ghost use Rattle.tsl_tool.specs.Run.{HasSignalsOf, HasGivenSignals, formulas_to_judge, given_formulas, signals_reply, trace_reply, verdict_status};
 ghost use Rattle.tsl_tool.specs.internal.RunView.{given_spec, verdict_in, verdicts_in};
 
 use crate::reply::Reply;
@@ -70,9 +70,9 @@ pub(crate) fn trace_reply(
 ) -> Result<Reply, NoMemory>
     requires held { RunIsHeld names.now (run_tree (λ v. v) run.now) }
     requires judged { AllByRecursion (IsJudged (meanings_of tables.now) (run_tree (λ v. v) run.now))
-        (formulas_on (program_tree program.now) (given_spec spec)) }
+        (formulas_to_judge (program_tree program.now) (given_spec spec)) }
     ensures { IfOk result (λ reply. reply ≡ trace_reply names.now (run_tree (λ v. v) run.now) (is_some (given_spec spec.entry))
-        (verdicts_in (meanings_of tables.now) (run_tree (λ v. v) run.now) (formulas_on (program_tree program.now) (given_spec spec.entry)))) }
+        (verdicts_in (meanings_of tables.now) (run_tree (λ v. v) run.now) (formulas_to_judge (program_tree program.now) (given_spec spec.entry)))) }
 {
     let verdicts = verdicts_on(alloc, spec, program, tables, run)?;
     let text = trace_text(alloc, names, run, &verdicts, spec.is_some())?;
@@ -88,9 +88,9 @@ fn verdicts_on(
     run: &LoopRun<u32>,
 ) -> Result<Vec<bool>, NoMemory>
     requires { AllByRecursion (IsJudged (meanings_of tables.now) (run_tree (λ v. v) run.now))
-        (formulas_on (program_tree program.now) (given_spec spec)) }
+        (formulas_to_judge (program_tree program.now) (given_spec spec)) }
     ensures { IfOk result (λ verdicts. verdicts.items
-        ≡ verdicts_in (meanings_of tables.now) (run_tree (λ v. v) run.now) (formulas_on (program_tree program.now) (given_spec spec.entry))) }
+        ≡ verdicts_in (meanings_of tables.now) (run_tree (λ v. v) run.now) (formulas_to_judge (program_tree program.now) (given_spec spec.entry))) }
 {
     let mut verdicts = window_verdicts(alloc, program.windows.as_slice(), tables, run)?;
     if let Some(spec) = spec {
