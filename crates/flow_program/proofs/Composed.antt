@@ -1,6 +1,6 @@
 -- What the faults of a listing say of its text.
 use Rattle.std.proofs.Common.{◌≡◌, ℕ, Bool, true, false, List, [], ◌∷◌, refl, ap, sym, subst, ◌∙◌, length, cond}
-use Rattle.std.specs.Prelude.{Option, Some, None, option_map, find, flat_map, nat_lt, IsTrue}
+use Rattle.std.specs.Prelude.{Option, Some, None, find, flat_map, nat_lt, IsTrue}
 use Rattle.std.specs.List.{list_all}
 use Rattle.std.specs.Option.{option_map_or}
 use Rattle.tsl_terms.specs.Name.{AreDistinct, Name as NameEntry}
@@ -8,12 +8,15 @@ use Rattle.tsl_terms.specs.Clashes.{alike_in_kind, same_arity}
 use Rattle.tsl_terms.specs.WellFormed.{name_fits}
 use Rattle.flow_program.specs.declared.listing.Name.{Name}
 use Rattle.flow_program.specs.declared.reading.ProgramError.{ProgramError}
-use Rattle.flow_program.specs.declared.reading.ProgramError.TheVariants.{Form, Order, Target, Updates, Window, Unknown, Kind, Arity, Windows, Nodes, States, NoMemory}
+use Rattle.flow_program.specs.declared.reading.ProgramError.TheVariants.{Form, Order, Target, Updates, Window, Unknown, Kind, Arity}
+use Rattle.flow_program.specs.declared.reading.ProgramError.TheVariants.{Windows, Nodes, States, NoMemory}
 use Rattle.flow_program.specs.ProgramTree.{ProgramTree}
 use Rattle.flow_program.specs.ProgramText.{ProgramText, most_windows, most_nodes, most_states}
 use Rattle.flow_program.specs.Listing.{ListingTree, IsListing}
 use Rattle.flow_program.specs.Uses.{ProgramUse, uses_of, names_after, entries_of_use, first_window, first_node, first_state}
-use Rattle.flow_program.specs.Rules.{first_line, breaks_order, goes_nowhere, is_nowhere, breaks_updates, breaks_window, is_unknown, is_unlike, cell_texts, readable_of, controlled_of, at_line, at_use, over, first_there, line_fault, use_fault, limit_fault, fault_of}
+use Rattle.flow_program.specs.Rules.{first_line, breaks_order, goes_nowhere, is_nowhere, breaks_updates, breaks_window, is_unknown}
+use Rattle.flow_program.specs.Rules.{is_unlike, cell_texts, readable_of, controlled_of, at_line, at_use, over, first_there, line_fault}
+use Rattle.flow_program.specs.Rules.{use_fault, limit_fault, fault_of}
 use Rattle.flow_program.specs.Reading.{IsReading, HasProgramCause}
 use Rattle.flow_program.specs.internal.Numbering.{Numbered}
 use Rattle.flow_program.proofs.UsableUses.{uses_usable}
@@ -30,7 +33,8 @@ is_rule _ = true
 abbrev IsRule : Option ProgramError → Type 0
 IsRule fault = option_map_or is_rule fault true ≡ true
 
-first_rule : (f : Option ProgramError) (fs : List (Option ProgramError)) → IsRule f → IsRule (first_there fs) → IsRule (first_there (f ∷ fs))
+first_rule : (f : Option ProgramError) (fs : List (Option ProgramError)) → IsRule f → IsRule (first_there fs) →
+    IsRule (first_there (f ∷ fs))
 first_rule None fs h k = k
 first_rule (Some e) fs h k = h
 
@@ -38,7 +42,8 @@ line_rule : (fault : ℕ → ProgramError) → ((n : ℕ) → is_rule (fault n) 
 line_rule fault each None = refl
 line_rule fault each (Some n) = each n
 
-use_rule : (fault : ℕ → Name → ProgramError) → ((n : ℕ) (at : Name) → is_rule (fault n at) ≡ true) → (usage : Option ProgramUse) → IsRule (at_use fault usage)
+use_rule : (fault : ℕ → Name → ProgramError) → ((n : ℕ) (at : Name) → is_rule (fault n at) ≡ true) → (usage : Option ProgramUse) →
+    IsRule (at_use fault usage)
 use_rule fault each None = refl
 use_rule fault each (Some u) = each u.line u.place
 

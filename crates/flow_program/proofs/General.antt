@@ -1,5 +1,6 @@
 -- The first place of a list at which a test holds, the first member that passes, and lists whose members are all there.
-use Rattle.std.proofs.Common.{◌≡◌, ℕ, zero, suc, ◌+◌, ◌<◌, Bool, true, false, cond, List, [], ◌∷◌, ◌++◌, map, length, get_or, drop, refl, ap, sym, ◌∙◌}
+use Rattle.std.proofs.Common.{◌≡◌, ℕ, zero, suc, ◌+◌, ◌<◌, Bool, true, false, cond, List, [], ◌∷◌, ◌++◌, map, length, get_or, drop, refl}
+use Rattle.std.proofs.Common.{ap, sym, ◌∙◌}
 use Rattle.std.proofs.Common.{append_assoc, arith, add-one}
 use Rattle.std.specs.Prelude.{Option, Some, None, option_map, find, IsTrue}
 use Rattle.std.specs.Option.{is_some}
@@ -72,7 +73,8 @@ after_more front y None = refl
 after_more front y (Some ys) = ap Some (append_assoc front (y ∷ []) ys)
 
 -- one more
-pub gathered_more : {X Y Z W : Type 0} (f : X → Option Y) (v : Z → X) (w : W → Y) (zs : List Z) (i : ℕ) (z : Z) (done more : List W) (new : W)
+pub gathered_more : {X Y Z W : Type 0} (f : X → Option Y) (v : Z → X) (w : W →
+    Y) (zs : List Z) (i : ℕ) (z : Z) (done more : List W) (new : W)
     (whole : Option (List Y)) → i < length zs → z ≡ get_or zs i z → more ≡ done ++ new ∷ [] → f (v z) ≡ Some (w new) →
     after (map w done) (all_there (map f (map v (drop i zs)))) ≡ whole →
     after (map w more) (all_there (map f (map v (drop (i + 1) zs)))) ≡ whole
@@ -88,7 +90,8 @@ pub gathered_all : {X Y Z W : Type 0} (f : X → Option Y) (v : Z → X) (w : W 
     (whole : Option (List Y)) → (i < length zs → ⊥) →
     after (map w done) (all_there (map f (map v (drop i zs)))) ≡ whole → whole ≡ Some (map w done)
 gathered_all f v w zs i done whole out h =
-    sym h ∙ ap (λ ys. after (map w done) (all_there (map f (map v ys)))) (drop_all i zs (omega (arith, out))) ∙ ap Some (append-nil (map w done))
+    sym h ∙ ap (λ ys. after (map w done) (all_there (map f (map v ys)))) (drop_all i zs (omega (arith, out)))
+    ∙ ap Some (append-nil (map w done))
 
 pub gathered_first : {Y : Type 0} (whole : Option (List Y)) → after [] whole ≡ whole
 gathered_first None = refl

@@ -1,7 +1,9 @@
 -- The lines of a text that breaks no rule have their numbers, and are written as before.
-use Rattle.std.proofs.Common.{◌≡◌, ℕ, zero, suc, ◌+◌, ◌*◌, ◌^◌, ◌<◌, ◌≤◌, ◌==◌, Bool, true, false, not, ◌&&◌, ◌||◌, List, [], ◌∷◌, ◌++◌, refl, ap, sym, subst, ◌∙◌}
+use Rattle.std.proofs.Common.{◌≡◌, ℕ, zero, suc, ◌^◌, ◌<◌, ◌≤◌, ◌==◌, Bool, true, false, not, ◌&&◌, ◌||◌, List, [], ◌∷◌, ◌++◌, refl, ap}
+use Rattle.std.proofs.Common.{sym, ◌∙◌}
 use Rattle.std.proofs.Common.{arith, length, map, get_or}
-use Rattle.std.specs.Prelude.{Option, Some, None, option_map, option_and_then, nat_le, nat_lt, codes, cond, decimal, flat_map, slice_get, position, bytes_eq, IsTrue}
+use Rattle.std.specs.Prelude.{Option, Some, None, option_map, option_and_then, nat_le, nat_lt, codes, cond, decimal, flat_map, slice_get}
+use Rattle.std.specs.Prelude.{bytes_eq}
 use Rattle.std.specs.List.{list_all, AllByRecursion}
 use Rattle.std.specs.Option.{is_some}
 use Rattle.std.proofs.lemmas.Bool.{and_from, and_parts, leb-true, ltb-true, lt-ltb}
@@ -9,30 +11,33 @@ use Rattle.std.proofs.lemmas.List.Quantifiers.{position-Some}
 use Rattle.std.proofs.lemmas.Option.{slice_get-get_or}
 use Rattle.sequence.proofs.Bytes.{same_bytes}
 use Rattle.sequence.proofs.Each.{each_left, each_right}
-use Rattle.sequence.proofs.Numbers.{among_at, among_first}
+use Rattle.sequence.proofs.Numbers.{among_at}
 use Rattle.sequence.proofs.Booleans.{eqb_self}
 use Rattle.sequence.specs.Numbers.{is_among, IsDistinct}
 use Rattle.sequence.specs.Options.{all_there}
 use Rattle.tsl_text.specs.Names.{is_usable}
 use Rattle.tsl_terms.specs.declared.names.NameKind.TheVariants.{Signal}
 use Rattle.tsl_terms.specs.Name.{number_of, is_name, AreDistinct, Name as NameEntry}
-use Rattle.tsl_terms.specs.TermTree.{TermTree, ProbeTree}
 use Rattle.tsl_terms.specs.WindowTree.{WindowTree, ListedTree}
 use Rattle.tsl_terms.specs.WellFormed.{is_usable_at}
 use Rattle.tsl_terms.specs.OnlyThese.{reads_only, read_only}
-use Rattle.term_text.specs.TermText.{name_text, term_text, update_text}
+use Rattle.term_text.specs.TermText.{name_text}
 use Rattle.term_text.specs.WindowText.{listed_text, window_text}
 use Rattle.flow_program.specs.declared.listing.Name.{Name}
-use Rattle.flow_program.specs.NodeTree.{NodeTree, branch, assign}
-use Rattle.flow_program.specs.Fits.{longest, rises, comes_before, window_is_shaped, window_reads_only, window_fits, stands_before as stands_among}
-use Rattle.flow_program.specs.ProgramText.{declarations, updates_text, node_text, nodes_text, signal_fits, term_is_writable, probe_is_writable, listed_is_writable, window_is_writable, node_is_writable}
-use Rattle.flow_program.specs.Listing.{PhraseTree, name_bytes, phrase_text, update_spelling, declaration_line_text, listed_line_text, window_line_text, update_line_text, node_line_text, node_lines_text}
-use Rattle.flow_program.specs.Listing.{is_phrase, name_stands, update_line_stands, listed_line_stands, window_line_stands, node_line_stands, declared_entry, UpdateLine, ListedLine, WindowLine, NodeLine, branch_line, assignment_line}
-use Rattle.flow_program.specs.Uses.{ProgramUse, signal_use, term_uses, test_uses, update_uses, listed_uses, window_uses, node_uses, windows_uses, nodes_uses}
-use Rattle.flow_program.specs.Rules.{are_texts, places_rise, place_in, place_of_cell, stands_before, listed_rise, is_cell_within, breaks_window, breaks_order, goes_nowhere, breaks_updates}
-use Rattle.flow_program.specs.internal.Numbering.{small, numbered, numbered_term, numbered_test, numbered_listed, numbered_window, numbered_node, listed_of, window_of}
+use Rattle.flow_program.specs.Fits.{longest, rises, comes_before, window_is_shaped, window_reads_only, window_fits}
+use Rattle.flow_program.specs.Fits.{stands_before as stands_among}
+use Rattle.flow_program.specs.ProgramText.{declarations, signal_fits, term_is_writable, probe_is_writable, listed_is_writable}
+use Rattle.flow_program.specs.ProgramText.{window_is_writable}
+use Rattle.flow_program.specs.Listing.{name_bytes, declaration_line_text, listed_line_text, window_line_text}
+use Rattle.flow_program.specs.Listing.{is_phrase, name_stands, listed_line_stands, window_line_stands, declared_entry, ListedLine}
+use Rattle.flow_program.specs.Listing.{WindowLine}
+use Rattle.flow_program.specs.Uses.{signal_use, test_uses, listed_uses, window_uses, windows_uses}
+use Rattle.flow_program.specs.Rules.{places_rise, place_in, place_of_cell, stands_before, listed_rise, is_cell_within, breaks_window}
+use Rattle.flow_program.specs.internal.Numbering.{small, numbered, numbered_term, numbered_test, numbered_listed, numbered_window}
+use Rattle.flow_program.specs.internal.Numbering.{listed_of, window_of}
 use Rattle.flow_program.proofs.KnownUses.{Known, KnownUse}
-use Rattle.flow_program.proofs.GoodTerms.{is_named, is_named_usable, text_is, TermGood, term_good, term_writable, TestGood, test_good, test_writable}
+use Rattle.flow_program.proofs.GoodTerms.{is_named, is_named_usable, text_is, TermGood, term_good, term_writable, TestGood, test_good}
+use Rattle.flow_program.proofs.GoodTerms.{test_writable}
 
 -- ---- lists whose members are all there
 
@@ -237,7 +242,8 @@ module _ (names : List NameEntry) (readable : List ℕ) (text : List ℕ) (cell_
         record {
           tree = listed_of s.number g.tree u.offset;
           numbered_is =
-              ap (option_and_then (λ n. option_and_then (λ t. option_map (listed_of n t) (small u.offset)) (numbered_term names text u.term)))
+              ap (option_and_then (λ n. option_and_then (λ t. option_map (listed_of n t) (small u.offset))
+              (numbered_term names text u.term)))
               s.numbered
               ∙ ap (option_and_then (λ t. option_map (listed_of s.number t) (small u.offset))) g.numbered_is
               ∙ ap (option_map (listed_of s.number g.tree)) (small_is u.offset fits);
@@ -270,15 +276,18 @@ module _ (names : List NameEntry) (readable : List ℕ) (text : List ℕ) (cell_
         let others = each_right (KnownUse names readable) (listed_uses text line u) (flat_map (listed_uses text line) us) k in
         let stands = and_parts (listed_line_stands text u) (list_all (listed_line_stands text) us) stand in
         let parts = and_parts (is_cell_within text texts_of_cells n u) (list_all (is_cell_within text texts_of_cells n) us) within in
-        let below : u.offset < n = ltb-true u.offset n (and_parts (nat_lt u.offset n) (is_some (place_of_cell text texts_of_cells u)) parts.0).0 in
+        let below : u.offset < n = ltb-true u.offset n (and_parts (nat_lt u.offset n) (is_some
+        (place_of_cell text texts_of_cells u)) parts.0).0 in
         let head : ListedGood u = listed_good u known stands.0 (omega (arith, below, short)) in
         let rest : AllListedGood us = all_listed_good n us short others stands.1 parts.1 in
         record {
           trees = head.tree ∷ rest.trees;
           numbered_are = all_there_next (numbered_listed names text) u us head.tree rest.trees head.numbered_is rest.numbered_are;
-          writable = and_from (listed_is_writable names head.tree) (list_all (listed_is_writable names) rest.trees) head.writable rest.writable;
+          writable = and_from (listed_is_writable names head.tree) (list_all
+              (listed_is_writable names) rest.trees) head.writable rest.writable;
           spelled = λ i. head.spelled i ++ rest.spelled i;
-          reads = and_from (reads_only readable head.tree.term) (list_all (λ t. reads_only readable t.term) rest.trees) head.reads rest.reads;
+          reads = and_from (reads_only readable head.tree.term) (list_all
+              (λ t. reads_only readable t.term) rest.trees) head.reads rest.reads;
           keys = (head.signal_is, (head.offset_is, rest.keys));
         }
 
@@ -323,13 +332,16 @@ module _ (names : List NameEntry) (readable : List ℕ) (text : List ℕ) (cell_
           tree = window_of l.tree r.tree w.left_at w.length us.trees;
           numbered_is =
               ap (option_and_then (λ a. option_and_then (λ b. option_and_then (λ i. option_and_then (λ n.
-              option_map (window_of a b i n) listed_there) (small w.length)) (small w.left_at)) (numbered_test names text w.right))) l.numbered_is
+              option_map (window_of a b i n) listed_there) (small w.length)) (small w.left_at))
+              (numbered_test names text w.right))) l.numbered_is
               ∙ ap (option_and_then (λ b. option_and_then (λ i. option_and_then (λ n.
               option_map (window_of l.tree b i n) listed_there) (small w.length)) (small w.left_at))) r.numbered_is
-              ∙ ap (option_and_then (λ i. option_and_then (λ n. option_map (window_of l.tree r.tree i n) listed_there) (small w.length))) left_is
+              ∙ ap (option_and_then (λ i. option_and_then (λ n. option_map (window_of l.tree r.tree i n) listed_there)
+              (small w.length))) left_is
               ∙ ap (option_and_then (λ n. option_map (window_of l.tree r.tree w.left_at n) listed_there)) length_is
               ∙ ap (option_map (window_of l.tree r.tree w.left_at w.length)) us.numbered_are;
-          writable = and_from (probe_is_writable names l.tree && probe_is_writable names r.tree) (list_all (listed_is_writable names) us.trees)
+          writable = and_from (probe_is_writable names l.tree && probe_is_writable names r.tree) (list_all
+              (listed_is_writable names) us.trees)
               (and_from (probe_is_writable names l.tree) (probe_is_writable names r.tree)
               (test_writable names readable text line w.left l tests.0) (test_writable names readable text line w.right r tests.1))
               us.writable;
@@ -339,7 +351,8 @@ module _ (names : List NameEntry) (readable : List ℕ) (text : List ℕ) (cell_
               (window_reads_only readable (window_of l.tree r.tree w.left_at w.length us.trees))
               (and_from is_short _ parts.0 (and_from _ (rises cells us.trees) (keys_within w.length w.updates us.trees us.keys rising.0)
               (keys_rise w.updates us.trees us.keys rising.1)))
-              (and_from _ _ (and_from (read_only readable l.tree.arguments) (read_only readable r.tree.arguments) l.reads r.reads) us.reads);
+              (and_from _ _ (and_from (read_only readable l.tree.arguments)
+              (read_only readable r.tree.arguments) l.reads r.reads) us.reads);
         }
       where
         not_false : (b : Bool) → not b ≡ false → b ≡ true
@@ -368,7 +381,8 @@ module _ (names : List NameEntry) (readable : List ℕ) (text : List ℕ) (cell_
       record {
         trees = head.tree ∷ rest.trees;
         numbered_are = all_there_next (numbered_window names text) w ws head.tree rest.trees head.numbered_is rest.numbered_are;
-        writable = and_from (window_is_writable names head.tree) (list_all (window_is_writable names) rest.trees) head.writable rest.writable;
+        writable = and_from (window_is_writable names head.tree) (list_all
+            (window_is_writable names) rest.trees) head.writable rest.writable;
         spelled = λ i. head.spelled i ++ rest.spelled i;
         fit = and_from (window_fits readable cells head.tree) (list_all (window_fits readable cells) rest.trees) head.fits rest.fit;
         count = ap suc rest.count;

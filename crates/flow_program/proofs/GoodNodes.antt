@@ -1,23 +1,25 @@
 -- The nodes and states of a text that breaks no rule have their numbers, and are written as before.
-use Rattle.std.proofs.Common.{◌≡◌, ℕ, zero, suc, ◌+◌, ◌^◌, ◌<◌, ◌≤◌, Bool, true, false, not, ◌&&◌, List, [], ◌∷◌, ◌++◌, refl, ap, sym, subst, ◌∙◌}
+use Rattle.std.proofs.Common.{◌≡◌, ℕ, zero, suc, ◌+◌, ◌^◌, ◌<◌, ◌≤◌, Bool, true, false, not, ◌&&◌, List, [], ◌∷◌, ◌++◌, refl, ap, sym}
+use Rattle.std.proofs.Common.{subst, ◌∙◌}
 use Rattle.std.proofs.Common.{arith, length, map}
-use Rattle.std.specs.Prelude.{Option, Some, None, option_map, option_and_then, nat_le, nat_lt, codes, cond, decimal, flat_map, slice_get, bytes_eq, IsTrue}
+use Rattle.std.specs.Prelude.{Some, option_map, option_and_then, nat_lt, codes, decimal, flat_map, slice_get, bytes_eq, IsTrue}
 use Rattle.std.specs.List.{list_all, AllByRecursion}
 use Rattle.std.proofs.lemmas.Bool.{and_from, and_parts, ltb-true}
 use Rattle.sequence.proofs.Bytes.{same_bytes}
 use Rattle.sequence.proofs.Each.{each_left, each_right}
 use Rattle.sequence.specs.Options.{all_there}
 use Rattle.tsl_terms.specs.Name.{Name as NameEntry}
-use Rattle.tsl_terms.specs.TermTree.{TermTree, ProbeTree}
+use Rattle.tsl_terms.specs.TermTree.{TermTree}
 use Rattle.tsl_terms.specs.OnlyThese.{reads_only, read_only}
-use Rattle.term_text.specs.TermText.{name_text, term_text, update_text}
+use Rattle.term_text.specs.TermText.{name_text}
 use Rattle.flow_program.specs.NodeTree.{NodeTree, branch, assign}
-use Rattle.flow_program.specs.ProgramText.{updates_text, node_text, nodes_text, states_text, term_is_writable, probe_is_writable, node_is_writable}
-use Rattle.flow_program.specs.Listing.{name_bytes, phrase_text, update_line_text, node_line_text, node_lines_text, state_lines_text}
-use Rattle.flow_program.specs.Listing.{is_phrase, name_stands, update_line_stands, node_line_stands, UpdateLine, NodeLine, branch_line, assignment_line}
-use Rattle.flow_program.specs.Uses.{test_uses, update_uses, node_uses, nodes_uses}
+use Rattle.flow_program.specs.ProgramText.{updates_text, node_text, nodes_text, states_text, term_is_writable, node_is_writable}
+use Rattle.flow_program.specs.Listing.{name_bytes, update_line_text, node_line_text, node_lines_text, state_lines_text}
+use Rattle.flow_program.specs.Listing.{is_phrase, name_stands, update_line_stands, node_line_stands, UpdateLine, NodeLine, branch_line}
+use Rattle.flow_program.specs.Listing.{assignment_line}
+use Rattle.flow_program.specs.Uses.{update_uses, node_uses, nodes_uses}
 use Rattle.flow_program.specs.Rules.{are_texts, breaks_order, goes_nowhere, is_nowhere, breaks_updates}
-use Rattle.flow_program.specs.internal.Numbering.{small, numbered_term, numbered_test, numbered_node}
+use Rattle.flow_program.specs.internal.Numbering.{small, numbered_term, numbered_node}
 use Rattle.flow_program.proofs.KnownUses.{KnownUse}
 use Rattle.flow_program.proofs.GoodTerms.{TermGood, term_good, term_writable, TestGood, test_good, test_writable}
 use Rattle.flow_program.proofs.GoodLines.{all_there_next, small_is}
@@ -38,7 +40,8 @@ same_texts (x ∷ xs) (y ∷ ys) h =
     λ i. first i ∷ rest i
 
 module _ (names : List NameEntry) (readable : List ℕ) (text : List ℕ) (controlled_texts : List (List ℕ)) (controlled : List ℕ)
-    (controlled_are : map (name_text names) controlled ≡ controlled_texts) (nodes states : ℕ) (few_nodes : nodes ≤ 2 ^ 32) (few_states : states ≤ 2 ^ 32) where
+    (controlled_are : map (name_text names) controlled ≡ controlled_texts) (nodes states : ℕ) (few_nodes : nodes ≤ 2 ^ 32)
+    (few_states : states ≤ 2 ^ 32) where
   -- what a node keeps that stands at this place
   abbrev pub NodeFits : ℕ → NodeTree → Type 0
   NodeFits i (branch t a b) = (a < i) × (b < i) × IsTrue (read_only readable t.arguments)

@@ -1,5 +1,6 @@
 -- A text whose lines break no rule spells a program.
-use Rattle.std.proofs.Common.{◌≡◌, ℕ, zero, suc, ◌+◌, ◌<◌, ◌≤◌, Bool, true, false, not, ◌&&◌, cond, List, [], ◌∷◌, ◌++◌, refl, ap, sym, subst, ◌∙◌, arith, length, map}
+use Rattle.std.proofs.Common.{◌≡◌, ℕ, zero, suc, ◌+◌, ◌<◌, ◌≤◌, Bool, true, false, not, ◌&&◌, cond, List, [], ◌∷◌, ◌++◌, refl, ap, sym}
+use Rattle.std.proofs.Common.{subst, ◌∙◌, arith, length, map}
 use Rattle.std.proofs.Common.{length-append}
 use Rattle.std.specs.Prelude.{Option, Some, None, option_map, slice_get, find, codes, nat_lt, IsTrue}
 use Rattle.std.specs.List.{list_all, AllByRecursion}
@@ -7,28 +8,31 @@ use Rattle.std.specs.Option.{is_some}
 use Rattle.std.proofs.lemmas.Bool.{and_from, and_parts, ltb-false}
 use Rattle.std.proofs.lemmas.List.{map-append}
 use Rattle.std.proofs.lemmas.List.Folds.{list_all-append}
-use Rattle.sequence.proofs.Each.{each_at, each_from_places, each_left, each_right, each_both}
+use Rattle.sequence.proofs.Each.{each_from_places, each_left, each_right}
 use Rattle.sequence.proofs.Numbers.{among_at}
-use Rattle.sequence.specs.Numbers.{is_among, IsDistinct}
+use Rattle.sequence.specs.Numbers.{is_among}
 use Rattle.tsl_text.specs.Names.{is_usable}
-use Rattle.tsl_terms.specs.Name.{number_of, AreDistinct, Name as NameEntry}
+use Rattle.tsl_terms.specs.Name.{AreDistinct, Name as NameEntry}
 use Rattle.tsl_terms.specs.Clashes.{alike_in_kind, same_arity}
-use Rattle.tsl_terms.specs.TermTree.{TermTree, ProbeTree}
 use Rattle.tsl_terms.specs.WellFormed.{name_fits}
 use Rattle.term_text.specs.TermText.{name_text}
 use Rattle.flow_program.specs.declared.listing.Name.{Name}
 use Rattle.flow_program.specs.declared.reading.ProgramError.{ProgramError}
-use Rattle.flow_program.specs.NodeTree.{NodeTree, branch, assign}
+use Rattle.flow_program.specs.NodeTree.{branch, assign}
 use Rattle.flow_program.specs.ProgramTree.{ProgramTree}
 use Rattle.flow_program.specs.ProgramText.{signal_fits, most_windows, most_nodes, most_states, IsWritable, IsProgram, ProgramText}
 use Rattle.flow_program.specs.Listing.{name_bytes, declared_entry, declared, WindowLine, NodeLine, ListingTree, IsListing}
-use Rattle.flow_program.specs.Uses.{ProgramUse, declared_uses, windows_uses, nodes_uses, first_declaration, first_window, first_node, first_state, uses_of, names_after}
-use Rattle.flow_program.specs.Rules.{first_place, first_line, breaks_order, goes_nowhere, is_nowhere, breaks_updates, breaks_window, place_in, cell_texts, readable_of, controlled_of, is_unknown, is_unlike, at_line, at_use, over, first_there, line_fault, use_fault, limit_fault, fault_of}
+use Rattle.flow_program.specs.Uses.{ProgramUse, declared_uses, windows_uses, nodes_uses, first_declaration, first_window, first_node}
+use Rattle.flow_program.specs.Uses.{first_state, uses_of, names_after}
+use Rattle.flow_program.specs.Rules.{first_place, first_line, breaks_order, goes_nowhere, is_nowhere, breaks_updates, breaks_window}
+use Rattle.flow_program.specs.Rules.{place_in, cell_texts, readable_of, controlled_of, is_unknown, is_unlike, at_line, over, first_there}
+use Rattle.flow_program.specs.Rules.{line_fault, use_fault, limit_fault, fault_of}
 use Rattle.flow_program.specs.internal.Numbering.{numbered, Numbered}
 use Rattle.flow_program.proofs.KnownUses.{Known, known_name, known_question, KnownUse, none_found}
 use Rattle.flow_program.proofs.UsableUses.{has_usable, uses_usable}
-use Rattle.flow_program.proofs.GoodLines.{place_at, SignalsGood, signals_good, all_numbered, declared_text, number_at, distinct_ids, WindowsGood, windows_good}
-use Rattle.flow_program.proofs.GoodNodes.{NodeFits, NodesGood, nodes_good, StatesGood, states_good, same_states}
+use Rattle.flow_program.proofs.GoodLines.{place_at, SignalsGood, signals_good, all_numbered, declared_text, number_at, distinct_ids}
+use Rattle.flow_program.proofs.GoodLines.{WindowsGood, windows_good}
+use Rattle.flow_program.proofs.GoodNodes.{NodesGood, nodes_good, StatesGood, states_good, same_states}
 
 -- ---- what no fault says
 
@@ -152,7 +156,8 @@ module _ (text : List ℕ) (given : List NameEntry) (distinct : AreDistinct give
 
   usable_use : (at : ℕ) (u : ProgramUse) → slice_get us at ≡ Some u → is_usable u.name.text ≡ true
   usable_use at u there = usable_at us at u (uses_usable text l h) there where
-    usable_at : (vs : List ProgramUse) (i : ℕ) (v : ProgramUse) → list_all has_usable vs ≡ true → slice_get vs i ≡ Some v → is_usable v.name.text ≡ true
+    usable_at : (vs : List ProgramUse) (i : ℕ) (v : ProgramUse) → list_all has_usable vs ≡ true → slice_get vs i ≡ Some v →
+        is_usable v.name.text ≡ true
     usable_at [] i v all at = absurd (cc)
     usable_at (w ∷ vs) zero v all at =
         let same : w ≡ v = cc in
@@ -189,7 +194,8 @@ module _ (text : List ℕ) (given : List NameEntry) (distinct : AreDistinct give
   readable_numbers : map (numbered names text) (l.inputs ++ l.cells) ≡ map Some readable
   readable_numbers = map_both (numbered names text) Some l.inputs l.cells inputs.ids cells.ids inputs.numbers cells.numbers
 
-  read_use : (at : ℕ) (u : ProgramUse) → slice_get us at ≡ Some u → (k : Known names u.name) → IsTrue u.is_read → is_among readable k.number ≡ true
+  read_use : (at : ℕ) (u : ProgramUse) → slice_get us at ≡ Some u → (k : Known names u.name) → IsTrue u.is_read →
+      is_among readable k.number ≡ true
   read_use at u there k reads =
       by (place_in (readable_of text l) u.name.text) refl
       (none_found (is_unknown (readable_of text l)) us at u keeps.known there)
@@ -219,8 +225,10 @@ module _ (text : List ℕ) (given : List NameEntry) (distinct : AreDistinct give
 
   windows_known : AllByRecursion (KnownUse names readable) (windows_uses text (first_window l) l.windows)
   windows_known =
-      each_right (KnownUse names readable) (declared_uses text first_declaration (declared l)) (windows_uses text (first_window l) l.windows)
-      (each_left (KnownUse names readable) (declared_uses text first_declaration (declared l) ++ windows_uses text (first_window l) l.windows)
+      each_right (KnownUse names readable) (declared_uses text first_declaration (declared l)) (windows_uses text
+      (first_window l) l.windows)
+      (each_left (KnownUse names readable) (declared_uses text first_declaration (declared l)
+      ++ windows_uses text (first_window l) l.windows)
       (nodes_uses text (first_node l) l.nodes) each_known)
 
   nodes_known : AllByRecursion (KnownUse names readable) (nodes_uses text (first_node l) l.nodes)
@@ -282,7 +290,8 @@ module _ (text : List ℕ) (given : List NameEntry) (distinct : AreDistinct give
 
   is_writable : IsWritable names program
   is_writable = record {
-    signals = both (signal_fits names) inputs.ids controlled inputs.fit (both (signal_fits names) cells.ids outputs.ids cells.fit outputs.fit);
+    signals = both (signal_fits names) inputs.ids controlled inputs.fit (both
+        (signal_fits names) cells.ids outputs.ids cells.fit outputs.fit);
     windows = windows.writable;
     nodes = nodes.writable;
     few_windows = subst (λ n. n ≤ most_windows) (sym windows.count) keeps.few_windows;

@@ -1,6 +1,6 @@
 -- Phrases whose uses the names know have their numbers, and are written as before.
-use Rattle.std.proofs.Common.{◌≡◌, ℕ, ◌+◌, ◌==◌, Bool, true, false, ◌&&◌, ◌||◌, List, [], ◌∷◌, ◌++◌, refl, ap, sym, ◌∙◌}
-use Rattle.std.specs.Prelude.{Some, option_map, option_and_then, nat_le, max, codes, cond, IsTrue}
+use Rattle.std.proofs.Common.{◌≡◌, ℕ, ◌+◌, ◌==◌, Bool, true, false, ◌&&◌, ◌||◌, List, [], ◌++◌, refl, ap, sym, ◌∙◌}
+use Rattle.std.specs.Prelude.{Some, option_map, option_and_then, nat_le, max, codes, cond}
 use Rattle.std.specs.List.{AllByRecursion}
 use Rattle.std.specs.Option.{option_map_or}
 use Rattle.std.specs.Str.{bytes_eq}
@@ -12,15 +12,18 @@ use Rattle.tsl_text.specs.Names.{is_usable}
 use Rattle.tsl_terms.specs.declared.names.NameKind.TheVariants.{Signal, Function, Predicate}
 use Rattle.tsl_terms.specs.Name.{number_of, is_name, same_kind, question, Name as NameEntry}
 use Rattle.tsl_terms.specs.TermTree.{TermTree, signal, apply, TermTrees, no_terms, more_terms, count_of_terms, ProbeTree}
-use Rattle.tsl_terms.specs.WellFormed.{is_usable_at, is_question, term_fits, terms_fit, probe_fits, bracketed, brackets, brackets_of_arguments, deepest, are_one_signal}
+use Rattle.tsl_terms.specs.WellFormed.{is_usable_at, is_question, term_fits, terms_fit, probe_fits, bracketed, brackets}
+use Rattle.tsl_terms.specs.WellFormed.{brackets_of_arguments, deepest, are_one_signal}
 use Rattle.tsl_terms.specs.OnlyThese.{reads_only, read_only}
-use Rattle.term_text.specs.TermText.{name_text, argument_text, applied_text, term_text, arguments_text, application_text, question_text, probe_text}
+use Rattle.term_text.specs.TermText.{name_text, argument_text, applied_text, term_text, arguments_text, application_text, question_text}
+use Rattle.term_text.specs.TermText.{probe_text}
 use Rattle.flow_program.specs.declared.listing.Name.{Name}
-use Rattle.flow_program.specs.ProgramText.{signal_fits, term_is_writable, probe_is_writable}
+use Rattle.flow_program.specs.ProgramText.{term_is_writable, probe_is_writable}
 use Rattle.flow_program.specs.Listing.{PhraseTree, bare, applied, PhraseTrees, no_phrases, more_phrases, count_of_phrases, name_bytes}
-use Rattle.flow_program.specs.Listing.{argument_spelling, applied_spelling, phrase_text, phrases_text, bracketed_phrase, phrase_brackets, phrases_brackets, is_phrase, phrase_stands}
+use Rattle.flow_program.specs.Listing.{argument_spelling, applied_spelling, phrase_text, phrases_text, bracketed_phrase, phrase_brackets}
+use Rattle.flow_program.specs.Listing.{phrases_brackets, is_phrase, phrase_stands}
 use Rattle.flow_program.specs.Uses.{read_use, tested_use, applied_use, term_uses, terms_uses, test_uses, question_entry}
-use Rattle.flow_program.specs.internal.Numbering.{numbered, numbered_term, numbered_terms, numbered_test, probe_of}
+use Rattle.flow_program.specs.internal.Numbering.{numbered_term, numbered_terms, numbered_test, probe_of}
 use Rattle.flow_program.proofs.KnownUses.{Known, KnownUse}
 
 -- the number of a use names its kind and number of arguments, and has its text
@@ -121,7 +124,8 @@ module _ (names : List NameEntry) (readable : List ℕ) (text : List ℕ) where
       }
       terms_good (more_phrases p ps) k =
           let head : TermGood p = term_good p (each_left (KnownUse names readable) (term_uses text line p) (terms_uses text line ps) k) in
-          let rest : TermsGood ps = terms_good ps (each_right (KnownUse names readable) (term_uses text line p) (terms_uses text line ps) k) in
+          let rest : TermsGood ps = terms_good ps (each_right (KnownUse names readable) (term_uses text line p)
+          (terms_uses text line ps) k) in
           record {
             trees = more_terms head.tree rest.trees;
             numbered_are = ap (option_and_then (λ tree. option_map (more_terms tree) (numbered_terms names text ps))) head.numbered_is
@@ -168,14 +172,17 @@ module _ (names : List NameEntry) (readable : List ℕ) (text : List ℕ) where
         record {
           tree = probe_of q.number (more_terms (signal s.number) no_terms);
           numbered_is =
-              ap (option_and_then (λ k. option_map (λ n. probe_of n (more_terms (signal k) no_terms)) (number_of names question))) s.numbered
+              ap (option_and_then (λ k. option_map (λ n. probe_of n (more_terms (signal k) no_terms))
+              (number_of names question))) s.numbered
               ∙ ap (option_map (λ n. probe_of n (more_terms (signal s.number) no_terms))) q.numbered;
           fits = and_from (is_name names q.number Predicate 1 && (term_fits names (signal s.number) && true))
               (is_usable_at names q.number || (is_question names q.number && true))
               (and_from (is_name names q.number Predicate 1) (term_fits names (signal s.number) && true) named
               (and_from (term_fits names (signal s.number)) true term refl))
-              (or_right (is_usable_at names q.number) (is_question names q.number && true) (and_from (is_question names q.number) true asks refl));
-          spelled = ap (λ b. cond b (name_text names s.number) (application_text names (probe_of q.number (more_terms (signal s.number) no_terms)))) asks
+              (or_right (is_usable_at names q.number) (is_question names q.number && true) (and_from
+              (is_question names q.number) true asks refl));
+          spelled = ap (λ b. cond b (name_text names s.number) (application_text names (probe_of q.number (more_terms
+              (signal s.number) no_terms)))) asks
               ∙ text_is names (tested_use text line at).name s;
           deep = refl;
           reads = and_from (is_among readable s.number) true (u.read refl) refl;

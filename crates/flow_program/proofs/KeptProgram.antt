@@ -1,6 +1,5 @@
 -- Two programs with the same numbers are one.
 use Rattle.std.proofs.Common.{◌≡◌, ℕ, List, subst, sym, ◌∙◌}
-use Rattle.std.specs.Prelude.{Some}
 use Rattle.std.proofs.lemmas.Option.{same_Some}
 use Rattle.tsl_terms.specs.Name.{Name}
 use Rattle.flow_program.specs.ProgramTree.{ProgramTree}

@@ -1,12 +1,12 @@
 -- The names of a text know each use: its number names what it is used as.
 use Rattle.std.proofs.Common.{◌≡◌, ℕ, zero, suc, ◌==◌, Bool, true, false, not, ◌&&◌, ◌||◌, cond, List, [], ◌∷◌, ◌++◌, refl, ap, sym, ◌∙◌}
 use Rattle.std.specs.Prelude.{Option, Some, None, slice_get, flat_map, find, option_and_then, IsTrue}
-use Rattle.std.specs.List.{list_all, AllByRecursion}
+use Rattle.std.specs.List.{list_all}
 use Rattle.std.specs.Option.{option_map_or}
 use Rattle.std.specs.Str.{bytes_eq}
 use Rattle.std.proofs.lemmas.Bool.{and_from, and_parts}
 use Rattle.std.proofs.lemmas.List.Folds.{list_all-append}
-use Rattle.sequence.proofs.Bytes.{same_bytes, bytes_same}
+use Rattle.sequence.proofs.Bytes.{bytes_same}
 use Rattle.sequence.specs.Numbers.{is_among}
 use Rattle.tsl_text.specs.Names.{is_usable}
 use Rattle.tsl_terms.specs.declared.names.NameKind.TheVariants.{Predicate}
@@ -61,7 +61,8 @@ first_question (v ∷ us) zero u there asks =
     by (bytes_eq question v.name.text) tested
   where
     by : (b : Bool) → v.is_tested ≡ true →
-        (f : Name) × (cond b (Some v.name) (first_of (cond v.is_tested (question_entry ∷ []) [] ++ flat_map entries_of_use us) question) ≡ Some f)
+        (f : Name) × (cond b (Some v.name) (first_of (cond v.is_tested (question_entry ∷ []) []
+        ++ flat_map entries_of_use us) question) ≡ Some f)
     by true e = (v.name, refl)
     by false e = (question_entry, ap (λ t. first_of (cond t (question_entry ∷ []) [] ++ flat_map entries_of_use us) question) e)
 first_question (v ∷ us) (suc at) u there asks =
@@ -81,7 +82,8 @@ first_passes p (n ∷ ns) text f all is =
     by false here rest e = rest e
 
 -- names that get numbers may be written
-pub named_fit : (us : List ProgramUse) → IsTrue (list_all (λ u. is_usable u.name.text) us) → IsTrue (list_all name_fits (flat_map entries_of_use us))
+pub named_fit : (us : List ProgramUse) → IsTrue (list_all (λ u. is_usable u.name.text) us) →
+    IsTrue (list_all name_fits (flat_map entries_of_use us))
 named_fit [] all = refl
 named_fit (u ∷ us) all =
     let parts = and_parts (is_usable u.name.text) (list_all (λ v. is_usable v.name.text) us) all in

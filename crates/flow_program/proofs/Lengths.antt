@@ -1,7 +1,7 @@
 -- A text has at least as many bytes as lines, and two for each use of a name.
-use Rattle.std.proofs.Common.{◌≡◌, ℕ, zero, suc, ◌+◌, ◌*◌, ◌<◌, ◌≤◌, Bool, true, false, not, ◌&&◌, List, [], ◌∷◌, ◌++◌, length, map, refl, ap, sym, subst, ◌∙◌}
+use Rattle.std.proofs.Common.{◌≡◌, ℕ, suc, ◌+◌, ◌*◌, ◌≤◌, Bool, true, false, not, ◌&&◌, List, [], ◌∷◌, ◌++◌, length, ap, sym, ◌∙◌}
 use Rattle.std.proofs.Common.{arith, length-append}
-use Rattle.std.specs.Prelude.{Option, Some, None, nat_le, codes, cond, decimal, flat_map, if◌then◌else◌}
+use Rattle.std.specs.Prelude.{Option, Some, None, nat_le, codes, cond, decimal, flat_map}
 use Rattle.std.specs.List.{list_all}
 use Rattle.std.proofs.lemmas.Bool.{and_parts}
 use Rattle.tsl_text.specs.Names.{is_usable, is_name_text, is_reserved}
@@ -9,10 +9,16 @@ use Rattle.tsl_terms.specs.Name.{number_of, Name as NameEntry}
 use Rattle.tsl_terms.specs.Clashes.{added_unless_found, with_use, with_uses}
 use Rattle.tsl_terms.specs.WellFormed.{deepest}
 use Rattle.flow_program.specs.declared.listing.Name.{Name}
-use Rattle.flow_program.specs.Listing.{PhraseTree, bare, applied, PhraseTrees, no_phrases, more_phrases, UpdateLine, ListedLine, WindowLine, NodeLine, branch_line, assignment_line, ListingTree}
-use Rattle.flow_program.specs.Listing.{name_bytes, argument_spelling, applied_spelling, phrase_text, phrases_text, update_spelling, declaration_line_text, listed_line_text, window_line_text, update_line_text, node_line_text, node_lines_text, state_lines_text, listing_text}
-use Rattle.flow_program.specs.Listing.{name_stands, phrase_stands, phrases_stand, phrase_brackets, is_phrase, update_line_stands, listed_line_stands, window_line_stands, node_line_stands, declared, IsListing}
-use Rattle.flow_program.specs.Uses.{ProgramUse, question_entry, entries_of_use, names_after, term_uses, terms_uses, test_uses, update_uses, listed_uses, window_uses, node_uses, declared_uses, windows_uses, nodes_uses, first_declaration, first_window, first_node, first_state, uses_of}
+use Rattle.flow_program.specs.Listing.{PhraseTree, bare, applied, PhraseTrees, no_phrases, more_phrases, UpdateLine, ListedLine, WindowLine}
+use Rattle.flow_program.specs.Listing.{NodeLine, branch_line, assignment_line, ListingTree}
+use Rattle.flow_program.specs.Listing.{name_bytes, argument_spelling, applied_spelling, phrase_text, phrases_text, update_spelling}
+use Rattle.flow_program.specs.Listing.{declaration_line_text, listed_line_text, window_line_text, update_line_text, node_line_text}
+use Rattle.flow_program.specs.Listing.{node_lines_text, state_lines_text}
+use Rattle.flow_program.specs.Listing.{name_stands, phrase_stands, phrases_stand, phrase_brackets, is_phrase, update_line_stands}
+use Rattle.flow_program.specs.Listing.{listed_line_stands, window_line_stands, node_line_stands, declared, IsListing}
+use Rattle.flow_program.specs.Uses.{ProgramUse, question_entry, entries_of_use, names_after, term_uses, terms_uses, test_uses, update_uses}
+use Rattle.flow_program.specs.Uses.{listed_uses, window_uses, node_uses, declared_uses, windows_uses, nodes_uses, first_declaration}
+use Rattle.flow_program.specs.Uses.{first_window, first_node, first_state, uses_of}
 use Rattle.flow_program.proofs.UsableUses.{usable}
 use Rattle.flow_program.proofs.UseLemmas.{declared_append}
 use Rattle.std.proofs.lemmas.List.Folds.{list_all-append}
@@ -152,7 +158,8 @@ module _ (text : List ℕ) where
         )
 
     -- a line has its line feed besides
-    window_bytes : (w : WindowLine) → window_line_stands text w ≡ true → 2 * length (window_uses text line w) + 1 ≤ length (window_line_text text w)
+    window_bytes : (w : WindowLine) → window_line_stands text w ≡ true →
+        2 * length (window_uses text line w) + 1 ≤ length (window_line_text text w)
     window_bytes w h =
         let parts = and_parts (is_phrase text w.left && is_phrase text w.right) (list_all (listed_line_stands text) w.updates) h in
         let tests = and_parts (is_phrase text w.left) (is_phrase text w.right) parts.0 in
@@ -163,7 +170,8 @@ module _ (text : List ℕ) where
           all_listed_bytes w.updates parts.1,
           length-append (test_uses text line w.left ++ test_uses text line w.right) (flat_map (listed_uses text line) w.updates),
           length-append (test_uses text line w.left) (test_uses text line w.right),
-          nine (codes "window ") (phrase_text text w.left) (codes " at ") (decimal w.left_at) (codes " is ") (phrase_text text w.right) (codes " at ")
+          nine (codes "window ") (phrase_text text w.left) (codes " at ") (decimal w.left_at) (codes " is ") (phrase_text text w.right)
+              (codes " at ")
               (decimal w.length) (flat_map (listed_line_text text) w.updates) (codes "\n"),
         )
       where
@@ -319,11 +327,13 @@ uses_and_lines text l h =
       length-append (declared_uses text line (l.inputs ++ l.cells)) (declared_uses text output_line l.outputs),
       ap length (declared_append text line l.inputs l.cells),
       length-append (declared_uses text line l.inputs) (declared_uses text cell_line l.cells),
-      length-append (declared_uses text line (declared l) ++ windows_uses text (first_window l) l.windows) (nodes_uses text (first_node l) l.nodes),
+      length-append (declared_uses text line (declared l) ++ windows_uses text (first_window l) l.windows) (nodes_uses text
+          (first_node l) l.nodes),
       length-append (declared_uses text line (declared l)) (windows_uses text (first_window l) l.windows),
       length-append (l.inputs ++ l.cells) l.outputs,
       length-append l.inputs l.cells,
       eight (codes "tslprogram 1\n") (flat_map (declaration_line_text text (codes "input ")) l.inputs)
-          (flat_map (declaration_line_text text (codes "cell ")) l.cells) (flat_map (declaration_line_text text (codes "output ")) l.outputs)
+          (flat_map (declaration_line_text text (codes "cell ")) l.cells) (flat_map (declaration_line_text text
+          (codes "output ")) l.outputs)
           (flat_map (window_line_text text) l.windows) (node_lines_text text 0 l.nodes) (state_lines_text 0 l.states) (codes "end\n"),
     )

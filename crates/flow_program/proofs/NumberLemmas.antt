@@ -18,7 +18,8 @@ pub numbered_more : (names : List Name) (text : List ℕ) (front all : List Term
     ≡ numbered_front (map term_tree front) (numbered_terms names text (more_phrases p rest))
 numbered_more names text front all t p rest is h = rw (is, h) (by (numbered_terms names text rest)) where
   by : (found : Option TermTrees) →
-      numbered_front (map term_tree (front ++ t ∷ [])) found ≡ numbered_front (map term_tree front) (option_map (more_terms (term_tree t)) found)
+      numbered_front (map term_tree (front ++ t ∷ [])) found ≡ numbered_front (map term_tree front) (option_map (more_terms
+      (term_tree t)) found)
   by (Some ts) = ap Some (with_front_push front t ts)
   by None = refl
 

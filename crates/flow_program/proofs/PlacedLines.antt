@@ -1,14 +1,15 @@
 -- The lines of a program stand in the text that spells it.
-use Rattle.std.proofs.Common.{◌≡◌, ℕ, zero, suc, ◌+◌, ◌^◌, ◌<◌, ◌≤◌, ◌==◌, Bool, true, false, not, ◌&&◌, ◌||◌, cond, List, [], ◌∷◌, ◌++◌, refl, ap, sym, subst, ◌∙◌, arith, length, map, flat_map}
+use Rattle.std.proofs.Common.{◌≡◌, ℕ, zero, suc, ◌+◌, ◌<◌, ◌≤◌, true, false, not, ◌&&◌, List, [], ◌∷◌, ◌++◌, refl, ap, sym, subst, ◌∙◌}
+use Rattle.std.proofs.Common.{arith, length, map, flat_map}
 use Rattle.std.proofs.Common.{append_assoc}
-use Rattle.std.specs.Prelude.{Option, Some, None, nat_le, nat_lt, codes, decimal, slice_get, bytes_eq, IsTrue}
+use Rattle.std.specs.Prelude.{Some, nat_le, nat_lt, codes, decimal, slice_get, bytes_eq, IsTrue}
 use Rattle.std.specs.List.{list_all, AllByRecursion}
-use Rattle.std.proofs.lemmas.Bool.{and_from, and_parts, leb-true, ltb-true, lt-ltb}
+use Rattle.std.proofs.lemmas.Bool.{and_from, and_parts, lt-ltb}
 use Rattle.sequence.proofs.Bytes.{bytes_same}
 use Rattle.sequence.proofs.Each.{each_joined}
 use Rattle.tsl_terms.specs.declared.names.NameKind.TheVariants.{Signal}
 use Rattle.tsl_terms.specs.Name.{is_name, Name as NameEntry}
-use Rattle.tsl_terms.specs.TermTree.{TermTree, ProbeTree}
+use Rattle.tsl_terms.specs.TermTree.{TermTree}
 use Rattle.tsl_terms.specs.WindowTree.{WindowTree, ListedTree}
 use Rattle.tsl_terms.specs.WellFormed.{is_usable_at, term_fits, probe_fits, brackets, brackets_of_arguments, deepest}
 use Rattle.tsl_terms.specs.OnlyThese.{reads_only, read_only}
@@ -16,10 +17,15 @@ use Rattle.term_text.specs.TermText.{name_text, term_text, probe_text, update_te
 use Rattle.term_text.specs.WindowText.{listed_text, window_text}
 use Rattle.flow_program.specs.declared.listing.Name.{Name}
 use Rattle.flow_program.specs.NodeTree.{NodeTree, branch, assign}
-use Rattle.flow_program.specs.ProgramText.{declarations, updates_text, node_text, nodes_text, states_text, signal_fits, term_is_writable, probe_is_writable, listed_is_writable, window_is_writable, node_is_writable}
-use Rattle.flow_program.specs.LineText.{Piece, word, named, LineTree, window as window_tree_line, node as node_tree_line, state as state_tree_line, phrase_pieces, update_pieces, set_pieces, listed_pieces, placed_pieces, window_pieces, node_pieces, line_pieces, ended_pieces, is_short, is_shallow, listed_is_within, window_is_within, node_is_within, line_is_within, node_lines, state_lines}
-use Rattle.flow_program.specs.Listing.{PhraseTree, name_bytes, phrase_brackets, UpdateLine, ListedLine, WindowLine, NodeLine, branch_line, assignment_line}
-use Rattle.flow_program.specs.Uses.{ProgramUse, signal_use, term_uses, test_uses, update_uses, listed_uses, window_uses, node_uses, declared_uses, windows_uses, nodes_uses}
+use Rattle.flow_program.specs.ProgramText.{declarations, updates_text, node_text, nodes_text, states_text, signal_fits, term_is_writable}
+use Rattle.flow_program.specs.ProgramText.{probe_is_writable, listed_is_writable, window_is_writable, node_is_writable}
+use Rattle.flow_program.specs.LineText.{Piece, word, named, LineTree, window as window_tree_line, node as node_tree_line, phrase_pieces}
+use Rattle.flow_program.specs.LineText.{update_pieces, set_pieces, listed_pieces, placed_pieces, window_pieces, line_pieces, ended_pieces}
+use Rattle.flow_program.specs.LineText.{is_short, is_shallow, listed_is_within, line_is_within, node_lines, state_lines}
+use Rattle.flow_program.specs.Listing.{PhraseTree, name_bytes, phrase_brackets, UpdateLine, ListedLine, WindowLine, NodeLine, branch_line}
+use Rattle.flow_program.specs.Listing.{assignment_line}
+use Rattle.flow_program.specs.Uses.{ProgramUse, signal_use, term_uses, test_uses, update_uses, listed_uses, window_uses, node_uses}
+use Rattle.flow_program.specs.Uses.{declared_uses, windows_uses, nodes_uses}
 use Rattle.flow_program.specs.Rules.{are_texts, breaks_order, goes_nowhere, breaks_updates}
 use Rattle.flow_program.proofs.Runs.{Run, name_at, run_none, run_word, run_name, run_append, Occurs, occurs_left, occurs_right, bytes_at}
 use Rattle.flow_program.proofs.PlacedTerms.{HeldUse, usable_text, signal_held, TermPlaced, term_placed, TestPlaced, test_placed}
@@ -62,11 +68,13 @@ module _ (names : List NameEntry) (readable : List ℕ) (text : List ℕ) where
         signal = name_at start name;
         term = p.phrase;
         runs =
-            run_append (word (codes "[") ∷ named (name_at start name) ∷ word (codes " <- ") ∷ phrase_pieces p.phrase) (word (codes "]") ∷ []) front
+            run_append (word (codes "[") ∷ named (name_at start name) ∷ word (codes " <- ") ∷ phrase_pieces p.phrase) (word
+            (codes "]") ∷ []) front
             (((codes "[" ++ name) ++ codes " <- ") ++ body) (codes "]")
             (run_append (word (codes "[") ∷ named (name_at start name) ∷ word (codes " <- ") ∷ []) (phrase_pieces p.phrase) front
             ((codes "[" ++ name) ++ codes " <- ") body
-            (run_append (word (codes "[") ∷ named (name_at start name) ∷ []) (word (codes " <- ") ∷ []) front (codes "[" ++ name) (codes " <- ")
+            (run_append (word (codes "[") ∷ named (name_at start name) ∷ []) (word (codes " <- ") ∷ []) front (codes "["
+            ++ name) (codes " <- ")
             (run_append (word (codes "[") ∷ []) (named (name_at start name) ∷ []) front (codes "[") name (run_word (codes "[") front)
             (run_name name start (usable_text names s signal.1)))
             (run_word (codes " <- ") (front ++ (codes "[" ++ name))))
@@ -87,7 +95,8 @@ module _ (names : List NameEntry) (readable : List ℕ) (text : List ℕ) where
     pub held : (line : ℕ) → Held (flat_map (update_uses text line) updates)
 
   set_placed : (ids : List ℕ) (ts : List TermTree) (front : List ℕ) → length ts ≡ length ids → list_all (signal_fits names) ids ≡ true →
-      list_all (term_is_writable names) ts ≡ true → list_all (reads_only readable) ts ≡ true → Occurs text front (updates_text names ids ts) →
+      list_all (term_is_writable names) ts ≡ true → list_all (reads_only readable) ts ≡ true →
+      Occurs text front (updates_text names ids ts) →
       SetPlaced ids ts front
   set_placed [] [] front count fits writable reads occurs =
       record { updates = []; runs = run_none front; texts_are = refl; flat = refl; held = λ line. tt }
@@ -101,13 +110,15 @@ module _ (names : List NameEntry) (readable : List ℕ) (text : List ℕ) where
       let read = and_parts (reads_only readable t) (list_all (reads_only readable) ts) reads in
       let here = occurs_right text front (codes " ") one (occurs_left text front (codes " " ++ one) others occurs) in
       let u : UpdatePlaced s t (front ++ codes " ") = update_placed s t (front ++ codes " ") fit.0 write.0 read.0 here in
-      let rest : SetPlaced ids ts (front ++ (codes " " ++ one)) = set_placed ids ts (front ++ (codes " " ++ one)) (omega (arith, count)) fit.1 write.1 read.1
+      let rest : SetPlaced ids ts (front ++ (codes " " ++ one)) = set_placed ids ts (front ++ (codes " "
+      ++ one)) (omega (arith, count)) fit.1 write.1 read.1
       (occurs_right text front (codes " " ++ one) others occurs) in
       let line : UpdateLine = record { signal = u.signal; term = u.term } in
       record {
         updates = line ∷ rest.updates;
         runs = run_append (set_pieces line) (flat_map set_pieces rest.updates) front (codes " " ++ one) others
-            (run_append (word (codes " ") ∷ []) (update_pieces u.signal u.term) front (codes " ") one (run_word (codes " ") front) u.runs) rest.runs;
+            (run_append (word (codes " ") ∷ []) (update_pieces u.signal u.term) front (codes " ") one (run_word
+            (codes " ") front) u.runs) rest.runs;
         texts_are = λ i. u.text_is i ∷ rest.texts_are i;
         flat = and_from (is_shallow u.term) (list_all (λ v. is_shallow v.term) rest.updates) u.flat rest.flat;
         held = λ n. each_joined (HeldUse names readable) (update_uses text n line) (flat_map (update_uses text n) rest.updates) (u.held n)
@@ -147,7 +158,8 @@ module _ (names : List NameEntry) (readable : List ℕ) (text : List ℕ) where
       let here = occurs_right text front (codes " when ") one (occurs_left text front (codes " when " ++ one) (codes " at ") second) in
       let u : UpdatePlaced x.signal x.term (front ++ codes " when ") =
       update_placed x.signal x.term (front ++ codes " when ") parts.0 parts.1 read.0 here in
-      let rest : AllListedPlaced xs (front ++ listed_text names x) = all_listed_placed n few xs (front ++ listed_text names x) write.1 read.1
+      let rest : AllListedPlaced xs (front ++ listed_text names x) = all_listed_placed n few xs (front
+      ++ listed_text names x) write.1 read.1
       (λ i. below (suc i)) (occurs_right text front (listed_text names x) others occurs) in
       let line : ListedLine = record { signal = u.signal; term = u.term; offset = x.offset } in
       record {
@@ -156,9 +168,11 @@ module _ (names : List NameEntry) (readable : List ℕ) (text : List ℕ) where
             (subst (Run (listed_pieces line) front) (sym (append_assoc (codes " when " ++ one) (codes " at ") digits))
             (run_append (word (codes " when ") ∷ update_pieces u.signal u.term) (word (codes " at ") ∷ word digits ∷ []) front
             (codes " when " ++ one) (codes " at " ++ digits)
-            (run_append (word (codes " when ") ∷ []) (update_pieces u.signal u.term) front (codes " when ") one (run_word (codes " when ") front) u.runs)
+            (run_append (word (codes " when ") ∷ []) (update_pieces u.signal u.term) front (codes " when ") one (run_word
+            (codes " when ") front) u.runs)
             (run_append (word (codes " at ") ∷ []) (word digits ∷ []) (front ++ (codes " when " ++ one)) (codes " at ") digits
-            (run_word (codes " at ") (front ++ (codes " when " ++ one))) (run_word digits ((front ++ (codes " when " ++ one)) ++ codes " at ")))))
+            (run_word (codes " at ") (front ++ (codes " when " ++ one))) (run_word digits ((front ++ (codes " when " ++ one))
+            ++ codes " at ")))))
             rest.runs;
         are = (u.text_is, (refl, rest.are));
         within = and_from (is_shallow u.term && is_short x.offset) (list_all listed_is_within rest.updates)
@@ -182,7 +196,8 @@ module _ (names : List NameEntry) (readable : List ℕ) (text : List ℕ) where
       Run (placed_pieces p step) front (bytes ++ (codes " at " ++ decimal step))
   test_run p step front bytes h =
       run_append (phrase_pieces p) (word (codes " at ") ∷ word (decimal step) ∷ []) front bytes (codes " at " ++ decimal step) h
-      (then_word (codes " at ") (front ++ bytes) (decimal step) (word (decimal step) ∷ []) (run_word (decimal step) ((front ++ bytes) ++ codes " at ")))
+      (then_word (codes " at ") (front ++ bytes) (decimal step) (word (decimal step) ∷ []) (run_word (decimal step) ((front ++ bytes)
+      ++ codes " at ")))
 
   pub record WindowPlaced (x : WindowTree) (front : List ℕ) : Type 0 where
     pub line : WindowLine
@@ -205,7 +220,8 @@ module _ (names : List NameEntry) (readable : List ℕ) (text : List ℕ) where
       let e = decimal x.length in
       let apart = window_apart (codes "window ") L (codes " at ") d (codes " is ") R (codes " at ") e U in
       let all = (((((((codes "window " ++ L) ++ codes " at ") ++ d) ++ codes " is ") ++ R) ++ codes " at ") ++ e) ++ U in
-      let write = and_parts (probe_is_writable names x.left && probe_is_writable names x.right) (list_all (listed_is_writable names) x.updates)
+      let write = and_parts (probe_is_writable names x.left && probe_is_writable names x.right) (list_all
+      (listed_is_writable names) x.updates)
       writable in
       let tests = and_parts (probe_is_writable names x.left) (probe_is_writable names x.right) write.0 in
       let left = and_parts (probe_fits names x.left) (nat_le (brackets_of_arguments x.left.arguments) deepest) tests.0 in
@@ -236,7 +252,8 @@ module _ (names : List NameEntry) (readable : List ℕ) (text : List ℕ) where
       let r3 : Run (word (codes " is ") ∷ p4) f2 t3 = then_word (codes " is ") f2 t4 p4 r4 in
       let r2 : Run (window_pieces line) f1 t2 = run_append (placed_pieces l.phrase x.left_at) (word (codes " is ") ∷ p4) f1 left_text t3
       (test_run l.phrase x.left_at f1 L l.runs) r3 in
-      let whole : Run (line_pieces (window_tree_line line)) front (codes "window " ++ t2) = then_word (codes "window ") front t2 (window_pieces line) r2 in
+      let whole : Run (line_pieces (window_tree_line line)) front (codes "window "
+      ++ t2) = then_word (codes "window ") front t2 (window_pieces line) r2 in
       record {
         line = line;
         runs = run_append (line_pieces (window_tree_line line)) (word (codes "\n") ∷ []) front all (codes "\n")
@@ -253,7 +270,8 @@ module _ (names : List NameEntry) (readable : List ℕ) (text : List ℕ) where
             (short_is x.length (omega (arith, length_short)))) us.within);
         held = λ n. each_joined (HeldUse names readable) (test_uses text n l.phrase ++ test_uses text n r.phrase)
             (flat_map (listed_uses text n) us.updates)
-            (each_joined (HeldUse names readable) (test_uses text n l.phrase) (test_uses text n r.phrase) (l.held n) (r.held n)) (us.held n);
+            (each_joined (HeldUse names readable) (test_uses text n l.phrase) (test_uses text n r.phrase) (l.held n) (r.held n))
+            (us.held n);
       }
 
   -- ---- a node
@@ -287,7 +305,8 @@ module _ (names : List NameEntry) (readable : List ℕ) (text : List ℕ) where
       itself [] = refl
       itself (z ∷ zs) = and_from (bytes_eq z z) (are_texts zs zs) (bytes_same z z refl) (itself zs)
 
-    pub node_placed : (number : ℕ) → number ≤ 65536 → (x : NodeTree) (front : List ℕ) → node_is_writable names x ≡ true → KeptNode number x →
+    pub node_placed : (number : ℕ) → number ≤ 65536 → (x : NodeTree) (front : List ℕ) → node_is_writable names x ≡ true →
+        KeptNode number x →
         Occurs text front (node_text names controlled number x) → NodePlaced number x front
     node_placed number few (branch t a b) front writable keeps occurs =
         let T = probe_text names t in
@@ -347,12 +366,14 @@ module _ (names : List NameEntry) (readable : List ℕ) (text : List ℕ) where
         let o2 = occurs_right text f1 i (codes " set" ++ (S ++ tail)) o1 in
         let f3 = f2 ++ codes " set" in
         let o3 = occurs_right text f2 (codes " set") (S ++ tail) o2 in
-        let p : SetPlaced controlled ts f3 = set_placed controlled ts f3 keeps.0 controlled_fit writable keeps.2 (occurs_left text f3 S tail o3) in
+        let p : SetPlaced controlled ts f3 = set_placed controlled ts f3 keeps.0 controlled_fit writable keeps.2
+        (occurs_left text f3 S tail o3) in
         let f4 = f3 ++ S in
         let line = assignment_line p.updates go in
         let words = word (codes " go ") ∷ word (decimal go) ∷ [] in
         let pieces = flat_map set_pieces p.updates in
-        let runs_tail : Run words f4 tail = then_word (codes " go ") f4 (decimal go) (word (decimal go) ∷ []) (run_word (decimal go) (f4 ++ codes " go ")) in
+        let runs_tail : Run words f4 tail = then_word (codes " go ") f4 (decimal go) (word (decimal go) ∷ []) (run_word (decimal go)
+        (f4 ++ codes " go ")) in
         let r3 : Run (pieces ++ words) f3 (S ++ tail) = run_append pieces words f3 S tail p.runs runs_tail in
         let r2 : Run (word (codes " set") ∷ (pieces ++ words)) f2 (codes " set" ++ (S ++ tail)) =
         then_word (codes " set") f2 (S ++ tail) (pieces ++ words) r3 in
@@ -365,7 +386,11 @@ module _ (names : List NameEntry) (readable : List ℕ) (text : List ℕ) where
           runs = run_append (line_pieces (node_tree_line number line)) (word (codes "\n") ∷ []) front all (codes "\n")
               (subst (Run (line_pieces (node_tree_line number line)) front) (sym apart) whole) (run_word (codes "\n") (front ++ all));
           within = and_from (is_short number) (list_all (λ u. is_shallow u.term) p.updates && is_short go) (short_is number few)
-              (and_from (list_all (λ u. is_shallow u.term) p.updates) (is_short go) p.flat (short_is go (omega (arith, few_states, keeps.1))));
+              (and_from (list_all (λ u. is_shallow u.term) p.updates) (is_short go) p.flat (short_is go (omega (
+                arith,
+                few_states,
+                keeps.1,
+              ))));
           order = refl;
           go_is = ap not (lt-ltb go states keeps.1);
           updates_are = ap not (same_texts (map (λ u. name_bytes text u.signal) p.updates) controlled_texts (p.texts_are ∙ controlled_are));
@@ -412,13 +437,17 @@ module _ (names : List NameEntry) (readable : List ℕ) (text : List ℕ) where
         let later = nodes_text names controlled (suc first) xs in
         let write = and_parts (node_is_writable names x) (list_all (node_is_writable names) xs) writable in
         let place : first + 0 ≡ first = omega arith in
-        let head : NodePlaced first x front = node_placed first (omega (arith, few)) x front write.0 (subst (λ k. KeptNode k x) place (keep 0 x refl))
+        let head : NodePlaced first x front = node_placed first (omega (
+          arith,
+          few,
+        )) x front write.0 (subst (λ k. KeptNode k x) place (keep 0 x refl))
         (occurs_left text front here later occurs) in
         let rest : NodesPlaced (suc first) xs (front ++ here) = nodes_placed (suc first) xs (front ++ here) (omega (arith, few)) write.1
         (λ i y is. subst (λ k. KeptNode k y) (next i) (keep (suc i) y is)) (occurs_right text front here later occurs) in
         record {
           lines = head.line ∷ rest.lines;
-          runs = run_append (ended_pieces (node_tree_line first head.line)) (flat_map ended_pieces (node_lines (suc first) rest.lines)) front here later
+          runs = run_append (ended_pieces (node_tree_line first head.line)) (flat_map ended_pieces (node_lines
+              (suc first) rest.lines)) front here later
               head.runs rest.runs;
           within = and_from (line_is_within (node_tree_line first head.line)) (list_all line_is_within (node_lines (suc first) rest.lines))
               head.within rest.within;
@@ -465,7 +494,8 @@ module _ (names : List NameEntry) (readable : List ℕ) (text : List ℕ) where
     pub count : length lines ≡ length xs
     pub held : (line : ℕ) → Held (windows_uses text line lines)
 
-  pub windows_placed : (xs : List WindowTree) (front : List ℕ) → list_all (window_is_writable names) xs ≡ true → AllByRecursion KeptWindow xs →
+  pub windows_placed : (xs : List WindowTree) (front : List ℕ) → list_all (window_is_writable names) xs ≡ true →
+      AllByRecursion KeptWindow xs →
       Occurs text front (flat_map (window_text names) xs) → WindowsPlaced xs front
   windows_placed [] front writable keep occurs =
       record { lines = []; runs = run_none front; are = tt; within = refl; count = refl; held = λ line. tt }
@@ -476,13 +506,16 @@ module _ (names : List NameEntry) (readable : List ℕ) (text : List ℕ) where
       let k = keep.0 in
       let head : WindowPlaced x front = window_placed x front write.0 k.length_short k.left_short k.below k.left_reads k.right_reads k.reads
       (occurs_left text front here later occurs) in
-      let rest : WindowsPlaced xs (front ++ here) = windows_placed xs (front ++ here) write.1 keep.1 (occurs_right text front here later occurs) in
+      let rest : WindowsPlaced xs (front ++ here) = windows_placed xs (front
+      ++ here) write.1 keep.1 (occurs_right text front here later occurs) in
       record {
         lines = head.line ∷ rest.lines;
-        runs = run_append (ended_pieces (window_tree_line head.line)) (flat_map ended_pieces (map window_tree_line rest.lines)) front here later
+        runs = run_append (ended_pieces (window_tree_line head.line)) (flat_map ended_pieces
+            (map window_tree_line rest.lines)) front here later
             head.runs rest.runs;
         are = (record { left_at_is = head.left_at_is; length_is = head.length_is; are = head.are }, rest.are);
-        within = and_from (line_is_within (window_tree_line head.line)) (list_all line_is_within (map window_tree_line rest.lines)) head.within
+        within = and_from (line_is_within (window_tree_line head.line)) (list_all line_is_within
+            (map window_tree_line rest.lines)) head.within
             rest.within;
         count = ap suc rest.count;
         held = λ line. each_joined (HeldUse names readable) (window_uses text line head.line) (windows_uses text (suc line) rest.lines)

@@ -1,10 +1,11 @@
 -- A text that spells a program has a listing, and its lines break no rule.
-use Rattle.std.proofs.Common.{◌≡◌, ℕ, zero, suc, ◌+◌, ◌<◌, ◌≤◌, ◌==◌, Bool, true, false, not, ◌&&◌, ◌||◌, cond, List, [], ◌∷◌, ◌++◌, refl, ap, sym, subst, ◌∙◌, arith, length, map, flat_map}
-use Rattle.std.proofs.Common.{append_assoc, length-append, get_or}
-use Rattle.std.specs.Prelude.{Option, Some, None, option_map, option_and_then, nat_le, nat_lt, codes, slice_get, find, position, bytes_eq, IsTrue}
+use Rattle.std.proofs.Common.{◌≡◌, ℕ, zero, suc, ◌+◌, ◌<◌, ◌≤◌, ◌==◌, Bool, true, false, not, ◌&&◌, ◌||◌, cond, List, [], ◌∷◌, ◌++◌, refl}
+use Rattle.std.proofs.Common.{ap, sym, subst, ◌∙◌, arith, length, map, flat_map}
+use Rattle.std.proofs.Common.{append_assoc, length-append}
+use Rattle.std.specs.Prelude.{Option, Some, None, option_map, option_and_then, nat_le, nat_lt, codes, slice_get, find, bytes_eq, IsTrue}
 use Rattle.std.specs.List.{list_all, AllByRecursion}
 use Rattle.std.specs.Option.{is_some, option_map_or}
-use Rattle.std.proofs.lemmas.Bool.{and_from, and_parts, leb-true, ltb-true, lt-ltb, le-ltb, le-leb}
+use Rattle.std.proofs.lemmas.Bool.{and_from, and_parts, leb-true, ltb-true, lt-ltb, le-ltb}
 use Rattle.std.proofs.lemmas.Grind.{flat_map-append}
 use Rattle.std.proofs.lemmas.List.{map-append, append-nil}
 use Rattle.std.proofs.lemmas.List.Folds.{list_all-append}
@@ -13,24 +14,29 @@ use Rattle.sequence.proofs.Numbers.{among_place}
 use Rattle.sequence.specs.Numbers.{is_among, IsDistinct}
 use Rattle.tsl_terms.specs.Name.{number_of, texts, AreDistinct, Name as NameEntry}
 use Rattle.tsl_terms.specs.Clashes.{with_use, with_uses, added_unless_found, alike_in_kind, same_arity}
-use Rattle.tsl_terms.specs.TermTree.{TermTree, ProbeTree}
 use Rattle.tsl_terms.specs.WindowTree.{WindowTree, ListedTree}
 use Rattle.tsl_terms.specs.OnlyThese.{reads_only, read_only}
 use Rattle.tsl_terms.specs.WellFormed.{is_usable_at}
 use Rattle.tsl_terms.proofs.FirstUses.{first_of, first_some, not_found}
-use Rattle.tsl_terms.specs.internal.FirstUse.{named}
 use Rattle.term_text.specs.TermText.{name_text}
 use Rattle.term_text.specs.WindowText.{window_text}
 use Rattle.flow_program.specs.declared.listing.Name.{Name}
 use Rattle.flow_program.specs.declared.reading.ProgramError.{ProgramError}
 use Rattle.flow_program.specs.NodeTree.{NodeTree, branch, assign}
-use Rattle.flow_program.specs.ProgramTree.{ProgramTree, controlled}
-use Rattle.flow_program.specs.Fits.{longest, rises, comes_before, window_fits, window_is_shaped, window_reads_only, stands_before as stands_among}
-use Rattle.flow_program.specs.ProgramText.{declarations, nodes_text, states_text, program_text, signal_fits, window_is_writable, node_is_writable, most_windows, most_nodes, most_states, IsWritable, IsProgram, ProgramText}
-use Rattle.flow_program.specs.LineText.{Piece, word, LineTree, head_line, end_line, input, cell, output, window as window_tree_line, ended_pieces, line_is_within, node_lines, state_lines, listing_lines, Stand}
-use Rattle.flow_program.specs.Listing.{name_bytes, declared_entry, declared, ListedLine, WindowLine, NodeLine, ListingTree, IsListing}
-use Rattle.flow_program.specs.Uses.{ProgramUse, question_entry, entries_of_use, names_after, declared_uses, windows_uses, nodes_uses, first_declaration, first_window, first_node, first_state, uses_of}
-use Rattle.flow_program.specs.Rules.{first_place, first_line, breaks_order, goes_nowhere, is_nowhere, breaks_updates, places_rise, place_in, place_of_cell, stands_before, listed_rise, is_cell_within, breaks_window, cell_texts, readable_of, controlled_of, is_unknown, is_unlike, at_line, at_use, over, first_there, line_fault, use_fault, limit_fault, fault_of}
+use Rattle.flow_program.specs.ProgramTree.{ProgramTree}
+use Rattle.flow_program.specs.Fits.{longest, rises, comes_before, window_fits, window_is_shaped, window_reads_only}
+use Rattle.flow_program.specs.Fits.{stands_before as stands_among}
+use Rattle.flow_program.specs.ProgramText.{declarations, nodes_text, states_text, program_text, signal_fits, most_windows, most_nodes}
+use Rattle.flow_program.specs.ProgramText.{most_states, ProgramText}
+use Rattle.flow_program.specs.LineText.{Piece, word, head_line, end_line, input, cell, output, window as window_tree_line, ended_pieces}
+use Rattle.flow_program.specs.LineText.{line_is_within, node_lines, state_lines, listing_lines, Stand}
+use Rattle.flow_program.specs.Listing.{name_bytes, declared_entry, declared, ListedLine, WindowLine, ListingTree}
+use Rattle.flow_program.specs.Uses.{ProgramUse, question_entry, entries_of_use, names_after, declared_uses, windows_uses, nodes_uses}
+use Rattle.flow_program.specs.Uses.{first_declaration, first_window, first_node, first_state, uses_of}
+use Rattle.flow_program.specs.Rules.{first_place, first_line, breaks_order, goes_nowhere, is_nowhere, breaks_updates, places_rise, place_in}
+use Rattle.flow_program.specs.Rules.{place_of_cell, stands_before, listed_rise, is_cell_within, breaks_window, cell_texts, readable_of}
+use Rattle.flow_program.specs.Rules.{is_unknown, is_unlike, at_line, at_use, over, first_there, line_fault, use_fault, limit_fault}
+use Rattle.flow_program.specs.Rules.{fault_of}
 use Rattle.std.proofs.lemmas.Bool.{eqb-true}
 use Rattle.std.proofs.lemmas.Option.{same_Some, slice_get-map}
 use Rattle.std.specs.List.{position_or_len}
@@ -45,13 +51,15 @@ use Rattle.flow_program.specs.Reading.{GoOnFrom}
 use Rattle.flow_program.proofs.GoodLines.{place_at}
 use Rattle.flow_program.proofs.PlacedTerms.{entry_of}
 use Rattle.flow_program.proofs.UseLemmas.{declared_append}
-use Rattle.flow_program.proofs.Runs.{Run, at, run_word, run_append, Occurs, occurs_left, occurs_right}
+use Rattle.flow_program.proofs.Runs.{Run, run_word, run_append, Occurs, occurs_left, occurs_right}
 use Rattle.flow_program.proofs.PlacedTerms.{HeldUse}
-use Rattle.flow_program.proofs.PlacedLines.{AreListed, KeptNode, NodesPlaced, nodes_placed, KeptWindow, SameWindow, AreWindows, WindowsPlaced, windows_placed, DeclaredPlaced, declared_placed, states_run, states_within}
+use Rattle.flow_program.proofs.PlacedLines.{AreListed, KeptNode, NodesPlaced, nodes_placed, KeptWindow, SameWindow, AreWindows}
+use Rattle.flow_program.proofs.PlacedLines.{WindowsPlaced, windows_placed, DeclaredPlaced, declared_placed, states_run, states_within}
 
 -- ---- no fault
 
-pub nothing_there : (f : Option ProgramError) (fs : List (Option ProgramError)) → f ≡ None → first_there fs ≡ None → first_there (f ∷ fs) ≡ None
+pub nothing_there : (f : Option ProgramError) (fs : List (Option ProgramError)) → f ≡ None → first_there fs ≡ None →
+    first_there (f ∷ fs) ≡ None
 nothing_there f fs is rest = ap (λ g. first_there (g ∷ fs)) is ∙ rest
 
 none_place : {X : Type 0} (test : ℕ → X → Bool) (k : ℕ) (xs : List X) →
@@ -126,7 +134,8 @@ module _ (names : List NameEntry) where
   module _ (distinct : AreDistinct names) where
     -- a use is like the name of its text
     like : (alike : NameEntry → NameEntry → Bool) → ((n : NameEntry) → alike n n ≡ true) → (kept : List NameEntry) →
-        AllByRecursion (InNames names) kept → (readable : List ℕ) (u : ProgramUse) → HeldUse names readable u → is_unlike alike kept u ≡ false
+        AllByRecursion (InNames names) kept → (readable : List ℕ) (u : ProgramUse) → HeldUse names readable u →
+        is_unlike alike kept u ≡ false
     like alike itself kept each readable u held = by (number_of kept u.name.text) refl where
       by_entry : (i : ℕ) → number_of kept u.name.text ≡ Some i → (found : Option NameEntry) → slice_get kept i ≡ found →
           option_map_or (λ n. not (alike n u.name)) found false ≡ false
@@ -177,7 +186,8 @@ text_before_end (x ∷ ts) (suc i) t is = by (bytes_eq t x) (text_before_end ts 
 placed_some : (ts : List (List ℕ)) (i : ℕ) (t : List ℕ) → slice_get ts i ≡ Some t → (k : ℕ) × (place_in ts t ≡ Some k)
 placed_some ts i t is = (
   position_or_len (bytes_eq t) ts,
-  ap (λ b. cond b (Some (position_or_len (bytes_eq t) ts)) None) (lt-ltb (position_or_len (bytes_eq t) ts) (length ts) (text_before_end ts i t is)),
+  ap (λ b. cond b (Some (position_or_len (bytes_eq t) ts)) None) (lt-ltb (position_or_len (bytes_eq t) ts) (length ts)
+      (text_before_end ts i t is)),
 )
 
 -- what stands at a place of a mapped list
@@ -229,7 +239,8 @@ module _ (names : List NameEntry) (distinct : AreDistinct names) (readable : Lis
       let stands : slice_get (map (name_text names) cells) found.0 ≡ Some (name_text names s) =
       ap (λ ts. slice_get ts found.0) (sym cells_are) ∙ place_at texts_of_cells (name_text names s) found.0 found.1 in
       let other = at_map (name_text names) cells found.0 (name_text names s) stands in
-      let same : other.0 ≡ s = same_id names distinct other.0 s (fits_at cells found.0 other.0 cells_fit other.1) (fits_at cells i s cells_fit is) other.2 in
+      let same : other.0 ≡ s = same_id names distinct other.0 s (fits_at cells found.0 other.0 cells_fit other.1)
+      (fits_at cells i s cells_fit is) other.2 in
       let place : found.0 ≡ i = once found.0 i s (other.1 ∙ ap Some same) is in
       found.1 ∙ ap Some place
 
@@ -239,12 +250,15 @@ module _ (names : List NameEntry) (distinct : AreDistinct names) (readable : Lis
   all_within n [] (u ∷ us) are h = absurd are
   all_within n (x ∷ xs) [] are h = absurd are
   all_within n (x ∷ xs) (u ∷ us) are h =
-      let parts = and_parts (nat_lt x.offset n && is_among cells x.signal) (list_all (λ y. nat_lt y.offset n && is_among cells y.signal) xs) h in
+      let parts = and_parts (nat_lt x.offset n && is_among cells x.signal) (list_all
+      (λ y. nat_lt y.offset n && is_among cells y.signal) xs) h in
       let here = and_parts (nat_lt x.offset n) (is_among cells x.signal) parts.0 in
       let place = among_place cells x.signal here.1 in
-      let found : place_of_cell text texts_of_cells u ≡ Some place.0 = ap (place_in texts_of_cells) are.0 ∙ cell_place place.0 x.signal place.1 in
+      let found : place_of_cell text texts_of_cells u ≡ Some place.0 = ap (place_in texts_of_cells) are.0
+      ∙ cell_place place.0 x.signal place.1 in
       and_from (is_cell_within text texts_of_cells n u) (list_all (is_cell_within text texts_of_cells n) us)
-      (and_from (nat_lt u.offset n) (is_some (place_of_cell text texts_of_cells u)) (ap (λ k. nat_lt k n) are.1.0 ∙ here.0) (ap is_some found))
+      (and_from (nat_lt u.offset n) (is_some (place_of_cell text texts_of_cells u)) (ap (λ k. nat_lt k n) are.1.0
+      ∙ here.0) (ap is_some found))
       (all_within n xs us are.1.1 parts.1)
 
   or_and_weaker : (a b c d : Bool) → (c ≡ true → d ≡ true) → (a || (b && c)) ≡ true → (a || (b && d)) ≡ true
@@ -257,8 +271,10 @@ module _ (names : List NameEntry) (distinct : AreDistinct names) (readable : Lis
       places_rise (place_of_cell text texts_of_cells u) (place_of_cell text texts_of_cells v) ≡ true
   places_in_order x y u v is too h =
       let o : InOrder cells x.signal y.signal = in_order cells x.signal y.signal h in
-      let first : place_of_cell text texts_of_cells u ≡ Some o.first = ap (place_in texts_of_cells) is ∙ cell_place o.first x.signal o.at_first in
-      let second : place_of_cell text texts_of_cells v ≡ Some o.second = ap (place_in texts_of_cells) too ∙ cell_place o.second y.signal o.at_second in
+      let first : place_of_cell text texts_of_cells u ≡ Some o.first = ap (place_in texts_of_cells) is
+      ∙ cell_place o.first x.signal o.at_first in
+      let second : place_of_cell text texts_of_cells v ≡ Some o.second = ap (place_in texts_of_cells) too
+      ∙ cell_place o.second y.signal o.at_second in
       (λ i. places_rise (first i) (second i)) ∙ lt-ltb o.first o.second o.less
 
   all_rise : (xs : List ListedTree) (us : List ListedLine) → AreListed names readable text xs us → rises cells xs ≡ true →
@@ -274,7 +290,8 @@ module _ (names : List NameEntry) (distinct : AreDistinct names) (readable : Lis
       let next = are.1.1 in
       and_from (stands_before text texts_of_cells u v) (listed_rise text texts_of_cells (v ∷ us))
       (rw (are.1.0, next.1.0) (or_and_weaker (nat_lt x.offset y.offset) (x.offset == y.offset) (stands_among cells x.signal y.signal)
-      (places_rise (place_of_cell text texts_of_cells u) (place_of_cell text texts_of_cells v)) (places_in_order x y u v are.0 next.0) parts.0))
+      (places_rise (place_of_cell text texts_of_cells u) (place_of_cell text texts_of_cells v))
+      (places_in_order x y u v are.0 next.0) parts.0))
       (all_rise (y ∷ xs) (v ∷ us) next parts.1)
 
   pub window_keeps : (x : WindowTree) (w : WindowLine) (number : ℕ) → SameWindow names readable text x w →
@@ -283,12 +300,14 @@ module _ (names : List NameEntry) (distinct : AreDistinct names) (readable : Lis
       let shaped = (and_parts (window_is_shaped cells x) (window_reads_only readable x) fits).0 in
       let parts = and_parts (nat_le x.length longest && nat_le x.left_at x.length)
       (list_all (λ u. nat_lt u.offset x.length && is_among cells u.signal) x.updates && rises cells x.updates) shaped in
-      let listed = and_parts (list_all (λ u. nat_lt u.offset x.length && is_among cells u.signal) x.updates) (rises cells x.updates) parts.1 in
+      let listed = and_parts (list_all (λ u. nat_lt u.offset x.length && is_among cells u.signal) x.updates)
+      (rises cells x.updates) parts.1 in
       ap not (and_from (nat_le w.length longest && nat_le w.left_at w.length)
       (list_all (is_cell_within text texts_of_cells w.length) w.updates && listed_rise text texts_of_cells w.updates)
       ((λ i. nat_le (same.length_is i) longest && nat_le (same.left_at_is i) (same.length_is i)) ∙ parts.0)
       (and_from (list_all (is_cell_within text texts_of_cells w.length) w.updates) (listed_rise text texts_of_cells w.updates)
-      (ap (λ n. list_all (is_cell_within text texts_of_cells n) w.updates) same.length_is ∙ all_within x.length x.updates w.updates same.are listed.0)
+      (ap (λ n. list_all (is_cell_within text texts_of_cells n) w.updates) same.length_is
+      ∙ all_within x.length x.updates w.updates same.are listed.0)
       (all_rise x.updates w.updates same.are listed.1)))
 
   pub windows_keep : (xs : List WindowTree) (ws : List WindowLine) → AreWindows names readable text xs ws →
@@ -310,7 +329,8 @@ offsets_below : (n : ℕ) (cells : List ℕ) (xs : List ListedTree) → list_all
 offsets_below n cells [] h i u is = absurd (cc)
 offsets_below n cells (x ∷ xs) h zero u is =
     let same : x ≡ u = cc in
-    let parts = and_parts (nat_lt x.offset n && is_among cells x.signal) (list_all (λ y. nat_lt y.offset n && is_among cells y.signal) xs) h in
+    let parts = and_parts (nat_lt x.offset n && is_among cells x.signal) (list_all
+    (λ y. nat_lt y.offset n && is_among cells y.signal) xs) h in
     subst (λ y. y.offset < n) same (ltb-true x.offset n (and_parts (nat_lt x.offset n) (is_among cells x.signal) parts.0).0)
 offsets_below n cells (x ∷ xs) h (suc i) u is =
     offsets_below n cells xs (and_parts (nat_lt x.offset n && is_among cells x.signal)
@@ -323,7 +343,8 @@ kept_window names readable text cells x fits =
     let parts = and_parts (nat_le x.length longest && nat_le x.left_at x.length)
     (list_all (λ u. nat_lt u.offset x.length && is_among cells u.signal) x.updates && rises cells x.updates) halves.0 in
     let short = and_parts (nat_le x.length longest) (nat_le x.left_at x.length) parts.0 in
-    let listed = and_parts (list_all (λ u. nat_lt u.offset x.length && is_among cells u.signal) x.updates) (rises cells x.updates) parts.1 in
+    let listed = and_parts (list_all (λ u. nat_lt u.offset x.length && is_among cells u.signal) x.updates)
+    (rises cells x.updates) parts.1 in
     let reads = and_parts (read_only readable x.left.arguments && read_only readable x.right.arguments)
     (list_all (λ u. reads_only readable u.term) x.updates) halves.1 in
     let tests = and_parts (read_only readable x.left.arguments) (read_only readable x.right.arguments) reads.0 in
@@ -352,7 +373,8 @@ declared_apart : (names : List NameEntry) (distinct : AreDistinct names) (text :
 declared_apart names distinct text ds ids are fits once i j m n is too same =
     let a = id_at i m is in
     let b = id_at j n too in
-    let one : a.0 ≡ b.0 = same_id names distinct a.0 b.0 (fits_here ids i a.0 fits a.1) (fits_here ids j b.0 fits b.1) (a.2 ∙ same ∙ sym b.2) in
+    let one : a.0 ≡ b.0 = same_id names distinct a.0 b.0 (fits_here ids i a.0 fits a.1) (fits_here ids j b.0 fits b.1) (a.2 ∙ same
+    ∙ sym b.2) in
     once i j b.0 (a.1 ∙ ap Some one) b.1
   where
     id_at : (k : ℕ) (e : NameEntry) → slice_get (map (declared_entry text) ds) k ≡ Some e →
@@ -367,7 +389,8 @@ declared_apart names distinct text ds ids are fits once i j m n is too same =
     fits_here (c ∷ cs) zero s fit there =
         let same : c ≡ s = cc in
         ap (signal_fits names) (sym same) ∙ (and_parts (signal_fits names c) (list_all (signal_fits names) cs) fit).0
-    fits_here (c ∷ cs) (suc k) s fit there = fits_here cs k s (and_parts (signal_fits names c) (list_all (signal_fits names) cs) fit).1 there
+    fits_here (c ∷ cs) (suc k) s fit there = fits_here cs k s (and_parts (signal_fits names c) (list_all
+        (signal_fits names) cs) fit).1 there
 
 all_both : {X : Type 0} (p : X → Bool) (xs ys : List X) → list_all p xs ≡ true → list_all p ys ≡ true → list_all p (xs ++ ys) ≡ true
 all_both p xs ys h k = list_all-append p xs ys ∙ and_from (list_all p xs) (list_all p ys) h k
@@ -410,7 +433,8 @@ within_are l i c o w n s =
     let s' = all_both p (state_lines 0 l.states) (end_line ∷ []) s end in
     let n' = all_both p (node_lines 0 l.nodes) (state_lines 0 l.states ++ end_line ∷ []) n s' in
     let w' = all_both p (map window_tree_line l.windows) (node_lines 0 l.nodes ++ (state_lines 0 l.states ++ end_line ∷ [])) w n' in
-    let o' = all_both p (map output l.outputs) (map window_tree_line l.windows ++ (node_lines 0 l.nodes ++ (state_lines 0 l.states ++ end_line ∷ []))) o w' in
+    let o' = all_both p (map output l.outputs) (map window_tree_line l.windows ++ (node_lines 0 l.nodes ++ (state_lines 0 l.states
+    ++ end_line ∷ []))) o w' in
     let c' = all_both p (map cell l.cells) (map output l.outputs ++ (map window_tree_line l.windows
     ++ (node_lines 0 l.nodes ++ (state_lines 0 l.states ++ end_line ∷ [])))) c o' in
     all_both p (map input l.inputs) (map cell l.cells ++ (map output l.outputs ++ (map window_tree_line l.windows
@@ -513,7 +537,8 @@ module _ (text : List ℕ) (names : List NameEntry) (distinct : AreDistinct name
 
   w : WindowsPlaced names readable text p.windows (((H ++ A) ++ B) ++ C)
   w = windows_placed names readable text p.windows (((H ++ A) ++ B) ++ C) h.is_writable.windows
-      (kept_windows names readable text p.cells p.windows h.is_program.windows_fit) (occurs_right text [] (((H ++ A) ++ B) ++ C) W to_windows)
+      (kept_windows names readable text p.cells p.windows h.is_program.windows_fit) (occurs_right text [] (((H ++ A) ++ B)
+      ++ C) W to_windows)
 
   abbrev controlled_texts : List (List ℕ)
   controlled_texts = map (name_bytes text) (b.ats ++ c.ats)
@@ -537,7 +562,8 @@ module _ (text : List ℕ) (names : List NameEntry) (distinct : AreDistinct name
   n : NodesPlaced names readable text (p.cells ++ p.outputs) controlled_fit controlled_texts controlled_are (length p.states)
       h.is_writable.few_states 0 p.nodes ((((H ++ A) ++ B) ++ C) ++ W)
   n = nodes_placed names readable text (p.cells ++ p.outputs) controlled_fit controlled_texts controlled_are (length p.states)
-      h.is_writable.few_states 0 p.nodes ((((H ++ A) ++ B) ++ C) ++ W) (omega (arith, h.is_writable.few_nodes)) h.is_writable.nodes kept_nodes
+      h.is_writable.few_states 0 p.nodes ((((H ++ A) ++ B) ++ C)
+      ++ W) (omega (arith, h.is_writable.few_nodes)) h.is_writable.nodes kept_nodes
       (occurs_right text [] ((((H ++ A) ++ B) ++ C) ++ W) N to_nodes)
 
   abbrev listing : ListingTree
@@ -559,7 +585,8 @@ module _ (text : List ℕ) (names : List NameEntry) (distinct : AreDistinct name
       run_append (word (codes "end") ∷ []) (word (codes "\n") ∷ []) ((((((H ++ A) ++ B) ++ C) ++ W) ++ N) ++ S) (codes "end") (codes "\n")
       (run_word (codes "end") ((((((H ++ A) ++ B) ++ C) ++ W) ++ N) ++ S))
       (run_word (codes "\n") (((((((H ++ A) ++ B) ++ C) ++ W) ++ N) ++ S) ++ codes "end")) in
-      subst (λ ps. Run ps [] (((((((H ++ A) ++ B) ++ C) ++ W) ++ N) ++ S) ++ E)) (eight_apart PH PA PB PC PW PN PS PE ∙ sym (pieces_are listing))
+      subst (λ ps. Run ps [] (((((((H ++ A) ++ B) ++ C) ++ W) ++ N) ++ S) ++ E)) (eight_apart PH PA PB PC PW PN PS PE
+      ∙ sym (pieces_are listing))
       (run_append ((((((PH ++ PA) ++ PB) ++ PC) ++ PW) ++ PN) ++ PS) PE [] ((((((H ++ A) ++ B) ++ C) ++ W) ++ N) ++ S) E
       (run_append (((((PH ++ PA) ++ PB) ++ PC) ++ PW) ++ PN) PS [] (((((H ++ A) ++ B) ++ C) ++ W) ++ N) S
       (run_append ((((PH ++ PA) ++ PB) ++ PC) ++ PW) PN [] ((((H ++ A) ++ B) ++ C) ++ W) N
@@ -573,14 +600,17 @@ module _ (text : List ℕ) (names : List NameEntry) (distinct : AreDistinct name
 
   held : AllByRecursion (HeldUse names readable) (uses_of text listing)
   held =
-      each_joined (HeldUse names readable) (declared_uses text first_declaration (declared listing) ++ windows_uses text (first_window listing) w.lines)
+      each_joined (HeldUse names readable) (declared_uses text first_declaration (declared listing)
+      ++ windows_uses text (first_window listing) w.lines)
       (nodes_uses text (first_node listing) n.lines)
-      (each_joined (HeldUse names readable) (declared_uses text first_declaration (declared listing)) (windows_uses text (first_window listing) w.lines)
+      (each_joined (HeldUse names readable) (declared_uses text first_declaration (declared listing)) (windows_uses text
+      (first_window listing) w.lines)
       (subst (AllByRecursion (HeldUse names readable)) (sym (declared_append text first_declaration (a.ats ++ b.ats) c.ats))
       (each_joined (HeldUse names readable) (declared_uses text first_declaration (a.ats ++ b.ats))
       (declared_uses text (first_declaration + length (a.ats ++ b.ats)) c.ats)
       (subst (AllByRecursion (HeldUse names readable)) (sym (declared_append text first_declaration a.ats b.ats))
-      (each_joined (HeldUse names readable) (declared_uses text first_declaration a.ats) (declared_uses text (first_declaration + length a.ats) b.ats)
+      (each_joined (HeldUse names readable) (declared_uses text first_declaration a.ats) (declared_uses text
+      (first_declaration + length a.ats) b.ats)
       (a.held first_declaration) (b.held (first_declaration + length a.ats))))
       (c.held (first_declaration + length (a.ats ++ b.ats)))))
       (w.held (first_window listing)))
@@ -619,9 +649,11 @@ module _ (text : List ℕ) (names : List NameEntry) (distinct : AreDistinct name
       (λ i m is. ap not (lt-ltb m (length n.lines) (subst (λ k. m < k) (sym n.count) (starts_below i m is)))))
       (nothing_there (at_line ProgramError.Updates (first_line (breaks_updates text controlled_texts) (first_node listing) n.lines)) _
       (no_fault_line ProgramError.Updates (breaks_updates text controlled_texts) (first_node listing) n.lines n.updates_are)
-      (nothing_there (at_line ProgramError.Window (first_line (breaks_window text (cell_texts text listing)) (first_window listing) w.lines)) []
+      (nothing_there (at_line ProgramError.Window (first_line (breaks_window text (cell_texts text listing))
+      (first_window listing) w.lines)) []
       (no_fault_line ProgramError.Window (breaks_window text (cell_texts text listing)) (first_window listing) w.lines
-      (λ i v is. windows_keep names distinct readable text p.cells cells_fit cells_once (map (name_bytes text) b.ats) b.texts_are p.windows w.lines
+      (λ i v is. windows_keep names distinct readable text p.cells cells_fit cells_once (map
+      (name_bytes text) b.ats) b.texts_are p.windows w.lines
       w.are h.is_program.windows_fit i v is (0 + i))) refl))))
 
   no_use_fault : (given : List NameEntry) → GoOnFrom given names →
@@ -644,7 +676,8 @@ module _ (text : List ℕ) (names : List NameEntry) (distinct : AreDistinct name
   no_limit_fault : limit_fault listing ≡ None
   no_limit_fault =
       nothing_there (over ProgramError.Windows most_windows (length w.lines)) _
-      (within_over ProgramError.Windows most_windows (length w.lines) (subst (λ k. k ≤ most_windows) (sym w.count) h.is_writable.few_windows))
+      (within_over ProgramError.Windows most_windows (length w.lines) (subst (λ k. k ≤ most_windows)
+      (sym w.count) h.is_writable.few_windows))
       (nothing_there (over ProgramError.Nodes most_nodes (length n.lines)) _
       (within_over ProgramError.Nodes most_nodes (length n.lines) (subst (λ k. k ≤ most_nodes) (sym n.count) h.is_writable.few_nodes))
       (nothing_there (over ProgramError.States most_states (length p.states)) []
@@ -666,7 +699,8 @@ module _ (text : List ℕ) (names : List NameEntry) (distinct : AreDistinct name
             (states_within 0 p.states (omega (arith, h.is_writable.few_states))
             (λ i m is. let below = starts_below i m is in omega (arith, below, h.is_writable.few_nodes)));
         once = declared_apart names distinct text (declared listing) ((p.inputs ++ p.cells) ++ p.outputs) declared_are
-            (all_both (signal_fits names) (p.inputs ++ p.cells) p.outputs (all_both (signal_fits names) p.inputs p.cells inputs_fit cells_fit) outputs_fit)
+            (all_both (signal_fits names) (p.inputs ++ p.cells) p.outputs (all_both
+            (signal_fits names) p.inputs p.cells inputs_fit cells_fit) outputs_fit)
             h.is_program.signals_distinct;
         has_node = (let first = slice_get_some p.states 0 h.is_program.states_fit.0 in
             let below = starts_below 0 first.0 first.1 in

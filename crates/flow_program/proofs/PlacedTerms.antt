@@ -1,10 +1,10 @@
 -- Terms and tests of a program stand in the text that spells them, and each name that they use is one of the program's names.
-use Rattle.std.proofs.Common.{◌≡◌, ℕ, ◌+◌, ◌==◌, Bool, true, false, ◌&&◌, ◌||◌, cond, List, [], ◌∷◌, ◌++◌, refl, ap, sym, subst, ◌∙◌, length}
-use Rattle.std.specs.Prelude.{Option, Some, None, nat_le, max, codes, slice_get, IsTrue}
+use Rattle.std.proofs.Common.{◌≡◌, ℕ, ◌+◌, ◌==◌, Bool, true, false, ◌&&◌, ◌||◌, cond, List, [], ◌∷◌, ◌++◌, refl, ap, sym, subst, ◌∙◌}
+use Rattle.std.specs.Prelude.{Some, max, codes, slice_get, IsTrue}
 use Rattle.std.specs.List.{AllByRecursion}
 use Rattle.std.specs.Option.{option_map_or}
 use Rattle.std.specs.Str.{bytes_eq}
-use Rattle.std.proofs.lemmas.Bool.{and_from, and_parts, eqb-true}
+use Rattle.std.proofs.lemmas.Bool.{and_parts, eqb-true}
 use Rattle.sequence.proofs.Bytes.{same_bytes}
 use Rattle.sequence.proofs.Each.{each_joined}
 use Rattle.sequence.specs.Numbers.{is_among}
@@ -13,14 +13,17 @@ use Rattle.tsl_terms.specs.declared.names.NameKind.{NameKind}
 use Rattle.tsl_terms.specs.declared.names.NameKind.TheVariants.{Signal, Function, Predicate}
 use Rattle.tsl_terms.specs.Name.{is_name, same_kind, question, Name as NameEntry}
 use Rattle.tsl_terms.specs.TermTree.{TermTree, signal, apply, TermTrees, no_terms, more_terms, count_of_terms, ProbeTree}
-use Rattle.tsl_terms.specs.WellFormed.{is_usable_at, is_question, term_fits, terms_fit, probe_fits, bracketed, brackets, brackets_of_arguments, are_one_signal}
+use Rattle.tsl_terms.specs.WellFormed.{is_usable_at, is_question, term_fits, terms_fit, probe_fits, bracketed, brackets}
+use Rattle.tsl_terms.specs.WellFormed.{brackets_of_arguments, are_one_signal}
 use Rattle.tsl_terms.specs.OnlyThese.{reads_only, read_only}
-use Rattle.term_text.specs.TermText.{name_text, argument_text, applied_text, term_text, arguments_text, application_text, question_text, probe_text}
+use Rattle.term_text.specs.TermText.{name_text, argument_text, applied_text, term_text, arguments_text, application_text, question_text}
+use Rattle.term_text.specs.TermText.{probe_text}
 use Rattle.term_text.proofs.Spelling.{some_passes}
 use Rattle.flow_program.specs.declared.listing.Name.{Name}
-use Rattle.flow_program.specs.LineText.{Piece, word, named, argument_pieces, applied_pieces, phrase_pieces, phrases_pieces}
-use Rattle.flow_program.specs.Listing.{PhraseTree, bare, applied, PhraseTrees, no_phrases, more_phrases, count_of_phrases, name_bytes, bracketed_phrase, phrase_brackets, phrases_brackets}
-use Rattle.flow_program.specs.Uses.{ProgramUse, read_use, tested_use, applied_use, signal_use, term_uses, terms_uses, test_uses, question_entry}
+use Rattle.flow_program.specs.LineText.{word, named, argument_pieces, applied_pieces, phrase_pieces, phrases_pieces}
+use Rattle.flow_program.specs.Listing.{PhraseTree, bare, applied, PhraseTrees, no_phrases, more_phrases, count_of_phrases, name_bytes}
+use Rattle.flow_program.specs.Listing.{bracketed_phrase, phrase_brackets, phrases_brackets}
+use Rattle.flow_program.specs.Uses.{ProgramUse, read_use, applied_use, signal_use, term_uses, terms_uses, test_uses, question_entry}
 use Rattle.flow_program.proofs.Runs.{Run, name_at, run_none, run_word, run_name, run_append, Occurs, occurs_left, occurs_right, bytes_at}
 
 left_holds : (a : Bool) → (a || false) ≡ true → a ≡ true
@@ -166,7 +169,8 @@ module _ (names : List NameEntry) where
         Run (phrase_pieces (applied (name_at front (name_text names f)) p.phrases)) front
         (name_text names f ++ applied_text ts (arguments_text names ts))
     application_runs f ts front usable p =
-        run_append (named (name_at front (name_text names f)) ∷ []) (applied_pieces p.phrases (phrases_pieces p.phrases)) front (name_text names f)
+        run_append (named (name_at front (name_text names f)) ∷ []) (applied_pieces p.phrases (phrases_pieces p.phrases)) front
+        (name_text names f)
         (applied_text ts (arguments_text names ts)) (run_name (name_text names f) front (usable_text f usable))
         (applied_runs ts (front ++ name_text names f) p)
 
@@ -181,13 +185,16 @@ module _ (names : List NameEntry) where
         Run (argument_pieces (applied at ps) (phrase_pieces (applied at ps))) front (codes "(" ++ bytes ++ codes ")")
     in_brackets at t ts no_phrases front bytes shape r = absurd shape
     in_brackets at t ts (more_phrases p ps) front bytes shape r =
-        run_append (word (codes "(") ∷ phrase_pieces (applied at (more_phrases p ps))) (word (codes ")") ∷ []) front (codes "(" ++ bytes) (codes ")")
-        (run_append (word (codes "(") ∷ []) (phrase_pieces (applied at (more_phrases p ps))) front (codes "(") bytes (run_word (codes "(") front) r)
+        run_append (word (codes "(") ∷ phrase_pieces (applied at (more_phrases p ps))) (word (codes ")") ∷ []) front (codes "("
+        ++ bytes) (codes ")")
+        (run_append (word (codes "(") ∷ []) (phrase_pieces (applied at (more_phrases p ps))) front (codes "(") bytes (run_word
+        (codes "(") front) r)
         (run_word (codes ")") (front ++ (codes "(" ++ bytes)))
 
     deeper : (at : Name) (f : ℕ) (t : TermTree) (ts : TermTrees) (ps : PhraseTrees) → SameShape (more_terms t ts) ps →
         phrases_brackets ps ≡ brackets_of_arguments (more_terms t ts) →
-        bracketed_phrase (applied at ps) (phrases_brackets ps) ≡ bracketed (apply f (more_terms t ts)) (brackets_of_arguments (more_terms t ts))
+        bracketed_phrase (applied at ps) (phrases_brackets ps)
+        ≡ bracketed (apply f (more_terms t ts)) (brackets_of_arguments (more_terms t ts))
     deeper at f t ts no_phrases shape h = absurd shape
     deeper at f t ts (more_phrases p ps) shape h = ap (λ d. 1 + d) h
 
@@ -236,7 +243,8 @@ module _ (names : List NameEntry) where
           let first = occurs_left text front (name_text names f) (codes "()") occurs in
           record {
             phrase = applied (name_at front (name_text names f)) no_phrases;
-            runs = run_append (named (name_at front (name_text names f)) ∷ []) (word (codes "()") ∷ []) front (name_text names f) (codes "()")
+            runs = run_append (named (name_at front (name_text names f)) ∷ []) (word (codes "()") ∷ []) front (name_text names f)
+                (codes "()")
                 (run_name (name_text names f) front (usable_text f name.1)) (run_word (codes "()") (front ++ name_text names f));
             deep = refl;
             held = λ line. (applied_held line Function f 0 front name.0 name.1 first, tt);
@@ -250,10 +258,12 @@ module _ (names : List NameEntry) where
           let inner = occurs_right text front (codes "(") bytes (occurs_left text front (codes "(" ++ bytes) (codes ")") occurs) in
           let first = occurs_left text start (name_text names f) (arguments_text names all) inner in
           let rest = occurs_right text start (name_text names f) (arguments_text names all) inner in
-          let p : TermsPlaced all (start ++ name_text names f) = terms_placed (more_terms t ts) (start ++ name_text names f) parts.1 reads rest in
+          let p : TermsPlaced all (start ++ name_text names f) = terms_placed (more_terms t ts) (start
+          ++ name_text names f) parts.1 reads rest in
           record {
             phrase = applied (name_at start (name_text names f)) p.phrases;
-            runs = in_brackets (name_at start (name_text names f)) t ts p.phrases front bytes p.shape (application_runs f all start name.1 p);
+            runs = in_brackets (name_at start (name_text names f)) t ts p.phrases front bytes p.shape
+                (application_runs f all start name.1 p);
             deep = deeper (name_at start (name_text names f)) f t ts p.phrases p.shape p.deep;
             held = λ line. (
               subst (λ n. HeldUse readable (applied_use text line Function (name_at start (name_text names f)) n)) (sym p.count)
@@ -274,10 +284,12 @@ module _ (names : List NameEntry) where
           let rest = occurs_right text front (codes " " ++ argument) (arguments_text names ts) occurs in
           let head : ArgumentPlaced t (front ++ codes " ") =
           argument_placed t (front ++ codes " ") fit.0 read.0 (occurs_right text front (codes " ") argument first) in
-          let tail : TermsPlaced ts (front ++ (codes " " ++ argument)) = terms_placed ts (front ++ (codes " " ++ argument)) fit.1 read.1 rest in
+          let tail : TermsPlaced ts (front ++ (codes " " ++ argument)) = terms_placed ts (front ++ (codes " "
+          ++ argument)) fit.1 read.1 rest in
           record {
             phrases = more_phrases head.phrase tail.phrases;
-            runs = run_append (word (codes " ") ∷ argument_pieces head.phrase (phrase_pieces head.phrase)) (phrases_pieces tail.phrases) front
+            runs = run_append (word (codes " ") ∷ argument_pieces head.phrase (phrase_pieces head.phrase))
+                (phrases_pieces tail.phrases) front
                 (codes " " ++ argument) (arguments_text names ts)
                 (run_append (word (codes " ") ∷ []) (argument_pieces head.phrase (phrase_pieces head.phrase)) front (codes " ") argument
                 (run_word (codes " ") front) head.runs)
@@ -285,7 +297,8 @@ module _ (names : List NameEntry) where
             deep = λ i. max (head.deep i) (tail.deep i);
             count = ap (λ n. 1 + n) tail.count;
             shape = tt;
-            held = λ line. each_joined (HeldUse readable) (term_uses text line head.phrase) (terms_uses text line tail.phrases) (head.held line)
+            held = λ line. each_joined (HeldUse readable) (term_uses text line head.phrase) (terms_uses text line tail.phrases)
+                (head.held line)
                 (tail.held line);
           }
 
@@ -379,9 +392,11 @@ module _ (names : List NameEntry) where
         by true e fit rest one =
             let either : (is_question names p.predicate && are_one_signal p.arguments) ≡ true =
             sym (ap (λ b. b || (is_question names p.predicate && are_one_signal p.arguments)) (question_unusable p.predicate e)) ∙ one in
-            bare_placed p.predicate p.arguments front fit rest (and_parts (is_question names p.predicate) (are_one_signal p.arguments) either).1 reads e
+            bare_placed p.predicate p.arguments front fit rest (and_parts (is_question names p.predicate)
+            (are_one_signal p.arguments) either).1 reads e
             (subst (Occurs text front) (ap (λ b. cond b (question_text names p p.arguments) (application_text names p)) e) occurs)
         by false e fit rest one =
             application_placed p.predicate p.arguments front fit rest
-            (left_holds (is_usable_at names p.predicate) (sym (ap (λ b. is_usable_at names p.predicate || (b && are_one_signal p.arguments)) e) ∙ one))
+            (left_holds (is_usable_at names p.predicate) (sym (ap (λ b. is_usable_at names p.predicate ||
+            (b && are_one_signal p.arguments)) e) ∙ one))
             reads (subst (Occurs text front) (ap (λ b. cond b (question_text names p p.arguments) (application_text names p)) e) occurs) e

@@ -1,8 +1,9 @@
 -- What follows for texts that are read: a text has one listing and one reading, a text that spells a program is read as it, and a
 -- text has one cause of refusal.
-use Rattle.std.proofs.Common.{◌≡◌, ℕ, zero, suc, ◌+◌, ◌<◌, ◌≤◌, true, List, [], ◌∷◌, ◌++◌, length, take, drop, refl, ap, sym, subst, ◌∙◌, flat_map, arith, inl, inr, ⊎_elim}
-use Rattle.std.proofs.Common.{append_assoc, length-append}
-use Rattle.std.specs.Prelude.{Option, Some, None, IsTrue}
+use Rattle.std.proofs.Common.{◌≡◌, ℕ, zero, suc, ◌<◌, ◌≤◌, true, List, [], ◌∷◌, ◌++◌, length, take, drop, refl, ap, sym, subst, ◌∙◌}
+use Rattle.std.proofs.Common.{flat_map, arith, ⊎_elim}
+use Rattle.std.proofs.Common.{append_assoc}
+use Rattle.std.specs.Prelude.{Some, None}
 use Rattle.std.specs.List.{list_all}
 use Rattle.std.proofs.lemmas.Bool.{and_parts, and_from, cases_lt}
 use Rattle.std.proofs.lemmas.List.{append-nil}
@@ -12,10 +13,11 @@ use Rattle.tsl_terms.specs.Name.{Name, AreDistinct}
 use Rattle.tsl_terms.specs.Clashes.{first_uses}
 use Rattle.tsl_terms.proofs.FirstUses.{first_uses_distinct}
 use Rattle.flow_program.specs.declared.reading.ProgramError.{ProgramError}
-use Rattle.flow_program.specs.declared.reading.ProgramError.TheVariants.{Form, Order, Target, Updates, Window, Unknown, Kind, Arity, Windows, Nodes, States, NoMemory}
+use Rattle.flow_program.specs.declared.reading.ProgramError.TheVariants.{Form, Order, Target, Updates, Window, Unknown, Kind, Arity}
+use Rattle.flow_program.specs.declared.reading.ProgramError.TheVariants.{Windows, Nodes, States, NoMemory}
 use Rattle.flow_program.specs.ProgramTree.{ProgramTree}
 use Rattle.flow_program.specs.ProgramText.{ProgramText}
-use Rattle.flow_program.specs.Listing.{ListingTree, IsListing, BeginAlike, FormFault}
+use Rattle.flow_program.specs.Listing.{IsListing, BeginAlike, FormFault}
 use Rattle.flow_program.specs.Uses.{uses_of, entries_of_use, names_after}
 use Rattle.flow_program.specs.Rules.{fault_of}
 use Rattle.flow_program.specs.Reading.{IsReading, HasRuleFault, HasProgramCause, IsOfText, GoOnFrom}
@@ -71,14 +73,20 @@ refused_spells_none text given names (Form n) p distinct goes is cause h =
     let r : ProgramPlaced text names = program_placed text names distinct p h in
     cause.none r.listing (placed_listing text names r)
 refused_spells_none text given names NoMemory p distinct goes is cause h = absurd is
-refused_spells_none text given names (Order n) p distinct goes is cause h = rule_fault_spells_none text given names (Order n) p distinct goes cause h
-refused_spells_none text given names (Target n) p distinct goes is cause h = rule_fault_spells_none text given names (Target n) p distinct goes cause h
-refused_spells_none text given names (Updates n) p distinct goes is cause h = rule_fault_spells_none text given names (Updates n) p distinct goes cause h
-refused_spells_none text given names (Window n) p distinct goes is cause h = rule_fault_spells_none text given names (Window n) p distinct goes cause h
+refused_spells_none text given names (Order n) p distinct goes is cause h = rule_fault_spells_none text given names
+    (Order n) p distinct goes cause h
+refused_spells_none text given names (Target n) p distinct goes is cause h = rule_fault_spells_none text given names
+    (Target n) p distinct goes cause h
+refused_spells_none text given names (Updates n) p distinct goes is cause h = rule_fault_spells_none text given names
+    (Updates n) p distinct goes cause h
+refused_spells_none text given names (Window n) p distinct goes is cause h = rule_fault_spells_none text given names
+    (Window n) p distinct goes cause h
 refused_spells_none text given names (Unknown n at) p distinct goes is cause h =
     rule_fault_spells_none text given names (Unknown n at) p distinct goes cause h
-refused_spells_none text given names (Kind n at) p distinct goes is cause h = rule_fault_spells_none text given names (Kind n at) p distinct goes cause h
-refused_spells_none text given names (Arity n at) p distinct goes is cause h = rule_fault_spells_none text given names (Arity n at) p distinct goes cause h
+refused_spells_none text given names (Kind n at) p distinct goes is cause h = rule_fault_spells_none text given names
+    (Kind n at) p distinct goes cause h
+refused_spells_none text given names (Arity n at) p distinct goes is cause h = rule_fault_spells_none text given names
+    (Arity n at) p distinct goes cause h
 refused_spells_none text given names Windows p distinct goes is cause h = rule_fault_spells_none text given names Windows p distinct goes cause h
 refused_spells_none text given names Nodes p distinct goes is cause h = rule_fault_spells_none text given names Nodes p distinct goes cause h
 refused_spells_none text given names States p distinct goes is cause h = rule_fault_spells_none text given names States p distinct goes cause h
@@ -125,7 +133,11 @@ not_before text n m h k less =
 one_form : (text : List ℕ) (n m : ℕ) → FormFault text n → FormFault text m → n ≡ m
 one_form text n m h k =
     ⊎_elim (λ (less : n < m). absurd (not_before text n m h k less))
-    (λ (more : m ≤ n). ⊎_elim (λ (less : m < n). absurd (not_before text m n k h less)) (λ (same : n ≤ m). omega (arith, more, same)) (cases_lt m n))
+    (λ (more : m ≤ n). ⊎_elim (λ (less : m < n). absurd (not_before text m n k h less)) (λ (same : n ≤ m). omega (
+      arith,
+      more,
+      same,
+    )) (cases_lt m n))
     (cases_lt n m)
 
 one_rule : (text : List ℕ) (given : List Name) (e f : ProgramError) → HasRuleFault text given e → HasRuleFault text given f → e ≡ f

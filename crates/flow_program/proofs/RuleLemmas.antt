@@ -1,7 +1,8 @@
 -- Lists of updates, step by step, and the names of signals that are declared.
-use Rattle.std.proofs.Common.{◌≡◌, ℕ, zero, suc, ◌+◌, ◌<◌, ◌≤◌, Bool, true, false, not, ◌&&◌, List, [], ◌∷◌, ◌++◌, length, map, get_or, drop, take, refl, ap, sym, subst, ◌∙◌}
-use Rattle.std.proofs.Common.{arith, add-one}
-use Rattle.std.specs.Prelude.{Option, Some, None, slice_get, IsSomeAnd, bytes_eq, option_map, IsTrue}
+use Rattle.std.proofs.Common.{◌≡◌, ℕ, zero, suc, ◌+◌, ◌<◌, ◌≤◌, Bool, true, false, ◌&&◌, List, [], ◌∷◌, ◌++◌, length, map, get_or, drop}
+use Rattle.std.proofs.Common.{take, refl, ap, sym, subst, ◌∙◌}
+use Rattle.std.proofs.Common.{arith}
+use Rattle.std.specs.Prelude.{Some, None, slice_get, IsSomeAnd, bytes_eq, option_map}
 use Rattle.std.specs.List.{list_all}
 use Rattle.std.proofs.lemmas.List.{drop_more, drop_all, map-append}
 use Rattle.std.proofs.lemmas.Option.{slice_get-get_or, slice_get-map}
@@ -12,7 +13,7 @@ use Rattle.tsl_terms.proofs.NameLemmas.{absent_before}
 use Rattle.flow_program.specs.declared.listing.Name.{Name}
 use Rattle.flow_program.specs.declared.listing.SpelledUpdate.{SpelledUpdate}
 use Rattle.flow_program.specs.declared.listing.SpelledListed.{SpelledListed}
-use Rattle.flow_program.specs.Listing.{name_bytes, declared_entry, update_line, listed_line, ListedLine}
+use Rattle.flow_program.specs.Listing.{name_bytes, declared_entry, update_line, listed_line}
 use Rattle.flow_program.specs.Rules.{are_texts, stands_before, listed_rise, is_cell_within}
 
 -- ---- the texts of updates
@@ -53,7 +54,8 @@ module _ (text : List ℕ) (us : List SpelledUpdate) (ns : List Name) (i : ℕ) 
       sym (ap (λ b. b && are_texts (signals (drop (i + 1) us)) (map (name_bytes text) (drop (i + 1) ns))) other)
       ∙ sym (updates_next u d within inside is) ∙ h
 
-  pub updates_all : length us ≤ i → length ns ≤ i → are_texts (signals (drop i us)) (map (name_bytes text) (drop i ns)) ≡ whole → true ≡ whole
+  pub updates_all : length us ≤ i → length ns ≤ i → are_texts (signals (drop i us)) (map (name_bytes text) (drop i ns)) ≡ whole →
+      true ≡ whole
   updates_all out outside h =
       sym (λ k. are_texts (signals (drop_all i us out k)) (map (name_bytes text) (drop_all i ns outside k))) ∙ h
 
@@ -140,18 +142,22 @@ distinct_left xs ys h i j m n at too = h i j m n (slice_get_grown xs ys i m at) 
 
 after_front : (xs ys : List NameEntry) (i : ℕ) → slice_get (xs ++ ys) (length xs + i) ≡ slice_get ys i
 after_front [] ys i = ap (slice_get ys) (let e : 0 + i ≡ i = omega arith in e)
-after_front (x ∷ xs) ys i = ap (slice_get (x ∷ (xs ++ ys))) (let e : suc (length xs) + i ≡ suc (length xs + i) = omega arith in e) ∙ after_front xs ys i
+after_front (x ∷ xs) ys i = ap (slice_get (x ∷ (xs ++ ys))) (let e : suc (length xs) + i ≡ suc (length xs + i) = omega arith in e)
+    ∙ after_front xs ys i
 
 distinct_right : (xs ys : List NameEntry) → AreDistinct (xs ++ ys) → AreDistinct ys
 distinct_right xs ys h i j m n at too same =
     let e = h (length xs + i) (length xs + j) m n (after_front xs ys i ∙ at) (after_front xs ys j ∙ too) same in
     omega (arith, e)
 
-pub first_distinct : (text : List ℕ) (xs ys : List Name) → AreDistinct (map (declared_entry text) (xs ++ ys)) → AreDistinct (map (declared_entry text) xs)
+pub first_distinct : (text : List ℕ) (xs ys : List Name) → AreDistinct (map (declared_entry text) (xs ++ ys)) →
+    AreDistinct (map (declared_entry text) xs)
 first_distinct text xs ys h =
-    distinct_left (map (declared_entry text) xs) (map (declared_entry text) ys) (subst AreDistinct (map-append (declared_entry text) xs ys) h)
+    distinct_left (map (declared_entry text) xs) (map (declared_entry text) ys) (subst AreDistinct (map-append
+    (declared_entry text) xs ys) h)
 
 pub second_distinct : (text : List ℕ) (xs ys : List Name) → AreDistinct (map (declared_entry text) (xs ++ ys)) →
     AreDistinct (map (declared_entry text) ys)
 second_distinct text xs ys h =
-    distinct_right (map (declared_entry text) xs) (map (declared_entry text) ys) (subst AreDistinct (map-append (declared_entry text) xs ys) h)
+    distinct_right (map (declared_entry text) xs) (map (declared_entry text) ys) (subst AreDistinct (map-append
+    (declared_entry text) xs ys) h)

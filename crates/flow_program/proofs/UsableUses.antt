@@ -7,9 +7,12 @@ use Rattle.std.proofs.lemmas.List.Folds.{list_all-append}
 use Rattle.tsl_text.specs.Names.{is_usable}
 use Rattle.tsl_terms.specs.WellFormed.{deepest}
 use Rattle.flow_program.specs.declared.listing.Name.{Name}
-use Rattle.flow_program.specs.Listing.{PhraseTree, bare, applied, PhraseTrees, no_phrases, more_phrases, UpdateLine, ListedLine, WindowLine, NodeLine, branch_line, assignment_line, ListingTree}
-use Rattle.flow_program.specs.Listing.{name_bytes, name_stands, phrase_stands, phrases_stand, phrase_brackets, is_phrase, update_line_stands, listed_line_stands, window_line_stands, node_line_stands, declared, IsListing}
-use Rattle.flow_program.specs.Uses.{ProgramUse, term_uses, terms_uses, test_uses, update_uses, listed_uses, window_uses, node_uses, declared_uses, windows_uses, nodes_uses, first_declaration, first_window, first_node, uses_of}
+use Rattle.flow_program.specs.Listing.{PhraseTree, bare, applied, PhraseTrees, no_phrases, more_phrases, UpdateLine, ListedLine, WindowLine}
+use Rattle.flow_program.specs.Listing.{NodeLine, branch_line, assignment_line, ListingTree}
+use Rattle.flow_program.specs.Listing.{name_bytes, name_stands, phrase_stands, phrases_stand, phrase_brackets, is_phrase}
+use Rattle.flow_program.specs.Listing.{update_line_stands, listed_line_stands, window_line_stands, node_line_stands, declared, IsListing}
+use Rattle.flow_program.specs.Uses.{ProgramUse, term_uses, terms_uses, test_uses, update_uses, listed_uses, window_uses, node_uses}
+use Rattle.flow_program.specs.Uses.{declared_uses, windows_uses, nodes_uses, first_declaration, first_window, first_node, uses_of}
 
 abbrev pub has_usable : ProgramUse → Bool
 has_usable u = is_usable u.name.text
@@ -27,7 +30,8 @@ module _ (text : List ℕ) where
       term_usable (bare at) h = and_from (is_usable (name_bytes text at)) true (usable at h) refl
       term_usable (applied at ps) h =
           let parts = and_parts (name_stands text at) (phrases_stand text ps) h in
-          and_from (is_usable (name_bytes text at)) (list_all has_usable (terms_uses text line ps)) (usable at parts.0) (terms_usable ps parts.1)
+          and_from (is_usable (name_bytes text at)) (list_all has_usable (terms_uses text line ps)) (usable at parts.0)
+          (terms_usable ps parts.1)
 
       terms_usable : (ps : PhraseTrees) → phrases_stand text ps ≡ true → list_all has_usable (terms_uses text line ps) ≡ true
       terms_usable no_phrases h = refl
@@ -41,7 +45,8 @@ module _ (text : List ℕ) where
       by (bare at) k = and_from (is_usable (name_bytes text at)) true (usable at k) refl
       by (applied at ps) k =
           let parts = and_parts (name_stands text at) (phrases_stand text ps) k in
-          and_from (is_usable (name_bytes text at)) (list_all has_usable (terms_uses text line ps)) (usable at parts.0) (terms_usable ps parts.1)
+          and_from (is_usable (name_bytes text at)) (list_all has_usable (terms_uses text line ps)) (usable at parts.0)
+          (terms_usable ps parts.1)
 
     pair_usable : (at : Name) (p : PhraseTree) → (name_stands text at && is_phrase text p) ≡ true →
         (is_usable (name_bytes text at) && list_all has_usable (term_uses text line p)) ≡ true
@@ -55,14 +60,16 @@ module _ (text : List ℕ) where
     updates_usable [] h = refl
     updates_usable (u ∷ us) h =
         let parts = and_parts (update_line_stands text u) (list_all (update_line_stands text) us) h in
-        joined (update_uses text line u) (flat_map (update_uses text line) us) (pair_usable u.signal u.term parts.0) (updates_usable us parts.1)
+        joined (update_uses text line u) (flat_map (update_uses text line) us) (pair_usable u.signal u.term parts.0)
+        (updates_usable us parts.1)
 
     all_listed_usable : (us : List ListedLine) → list_all (listed_line_stands text) us ≡ true →
         list_all has_usable (flat_map (listed_uses text line) us) ≡ true
     all_listed_usable [] h = refl
     all_listed_usable (u ∷ us) h =
         let parts = and_parts (listed_line_stands text u) (list_all (listed_line_stands text) us) h in
-        joined (listed_uses text line u) (flat_map (listed_uses text line) us) (pair_usable u.signal u.term parts.0) (all_listed_usable us parts.1)
+        joined (listed_uses text line u) (flat_map (listed_uses text line) us) (pair_usable u.signal u.term parts.0)
+        (all_listed_usable us parts.1)
 
     window_usable : (w : WindowLine) → window_line_stands text w ≡ true → list_all has_usable (window_uses text line w) ≡ true
     window_usable w h =
@@ -76,7 +83,8 @@ module _ (text : List ℕ) where
     node_usable (branch_line test a b) h = test_usable test h
     node_usable (assignment_line us go) h = updates_usable us h
 
-  declared_usable : (line : ℕ) (ds : List Name) → list_all (name_stands text) ds ≡ true → list_all has_usable (declared_uses text line ds) ≡ true
+  declared_usable : (line : ℕ) (ds : List Name) → list_all (name_stands text) ds ≡ true →
+      list_all has_usable (declared_uses text line ds) ≡ true
   declared_usable line [] h = refl
   declared_usable line (at ∷ ds) h =
       let parts = and_parts (name_stands text at) (list_all (name_stands text) ds) h in
@@ -88,7 +96,8 @@ module _ (text : List ℕ) where
   windows_usable line [] h = refl
   windows_usable line (w ∷ ws) h =
       let parts = and_parts (window_line_stands text w) (list_all (window_line_stands text) ws) h in
-      joined (window_uses text line w) (windows_uses text (suc line) ws) (window_usable line w parts.0) (windows_usable (suc line) ws parts.1)
+      joined (window_uses text line w) (windows_uses text (suc line) ws) (window_usable line w parts.0) (windows_usable
+      (suc line) ws parts.1)
 
   nodes_usable : (line : ℕ) (ns : List NodeLine) → list_all (node_line_stands text) ns ≡ true →
       list_all has_usable (nodes_uses text line ns) ≡ true

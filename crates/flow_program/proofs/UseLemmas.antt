@@ -1,12 +1,15 @@
 -- How many uses phrases have.
-use Rattle.std.proofs.Common.{◌≡◌, ℕ, zero, suc, ◌+◌, ◌<◌, ◌≤◌, List, [], ◌∷◌, ◌++◌, length, get_or, drop, map, refl, ap, sym, ◌∙◌, arith, length-append, append_assoc}
+use Rattle.std.proofs.Common.{◌≡◌, ℕ, zero, suc, ◌+◌, ◌<◌, ◌≤◌, List, [], ◌∷◌, ◌++◌, length, get_or, drop, map, ap, sym, ◌∙◌, arith}
+use Rattle.std.proofs.Common.{length-append}
 use Rattle.std.specs.Prelude.{flat_map}
 use Rattle.sequence.proofs.Lists.{left_at}
 use Rattle.flow_program.specs.declared.listing.Name.{Name}
 use Rattle.flow_program.specs.declared.listing.SpelledWindow.{SpelledWindow}
 use Rattle.flow_program.specs.declared.listing.SpelledNode.{SpelledNode}
-use Rattle.flow_program.specs.Listing.{PhraseTree, bare, applied, PhraseTrees, no_phrases, more_phrases, count_of_phrases, WindowLine, NodeLine, ListingTree, declared, window_line, node_line}
-use Rattle.flow_program.specs.Uses.{ProgramUse, signal_use, uses_of, first_window, first_node, term_uses, terms_uses, window_uses, node_uses, declared_uses, windows_uses, nodes_uses}
+use Rattle.flow_program.specs.Listing.{PhraseTree, bare, applied, PhraseTrees, no_phrases, more_phrases, count_of_phrases, WindowLine}
+use Rattle.flow_program.specs.Listing.{NodeLine, ListingTree, declared, window_line, node_line}
+use Rattle.flow_program.specs.Uses.{ProgramUse, signal_use, uses_of, first_window, first_node, term_uses, terms_uses, window_uses}
+use Rattle.flow_program.specs.Uses.{node_uses, declared_uses, windows_uses, nodes_uses}
 
 module _ (text : List ℕ) (line : ℕ) where
   term_is_one : (p : PhraseTree) → 1 ≤ length (term_uses text line p)
@@ -110,7 +113,8 @@ module _ (text : List ℕ) where
 
 -- the uses of each kind of line, one after another, are all
 pub uses_joined : (text : List ℕ) (l : ListingTree) (ins cs os : List Name) (ws : List WindowLine) (ns : List NodeLine)
-    (second third w n : ℕ) (a b c d e f : List ProgramUse) → ins ≡ l.inputs → cs ≡ l.cells → os ≡ l.outputs → ws ≡ l.windows → ns ≡ l.nodes →
+    (second third w n : ℕ) (a b c d e f : List ProgramUse) → ins ≡ l.inputs → cs ≡ l.cells → os ≡ l.outputs → ws ≡ l.windows →
+    ns ≡ l.nodes →
     second ≡ 2 + length l.inputs → third ≡ second + length l.cells → w ≡ first_window l → n ≡ first_node l →
     a ≡ [] → b ≡ a ++ declared_uses text 2 ins → c ≡ b ++ declared_uses text second cs → d ≡ c ++ declared_uses text third os →
     e ≡ d ++ windows_uses text w ws → f ≡ e ++ nodes_uses text n ns → f ≡ uses_of text l

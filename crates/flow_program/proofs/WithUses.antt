@@ -1,11 +1,11 @@
 -- Names that grow by uses.
-use Rattle.std.proofs.Common.{◌≡◌, ℕ, suc, ◌+◌, ◌≤◌, Bool, true, false, cond, List, [], ◌∷◌, ◌++◌, length, take, refl, ap, sym, subst, ◌∙◌}
+use Rattle.std.proofs.Common.{◌≡◌, ℕ, ◌+◌, ◌≤◌, Bool, true, false, cond, List, [], ◌∷◌, ◌++◌, length, refl, ap, sym, subst, ◌∙◌}
 use Rattle.std.proofs.Common.{append_assoc, arith, length-append, ◌^◌, ◌<◌, get_or, drop, map}
 use Rattle.std.specs.Prelude.{flat_map}
 use Rattle.flow_program.specs.declared.uses.SpelledUse.{SpelledUse}
 use Rattle.flow_program.specs.Uses.{entries_of_use, names_after}
 use Rattle.flow_program.specs.internal.UseView.{use_view}
-use Rattle.std.specs.Prelude.{Option, Some, None, IsSomeAnd, slice_get, IsTrue}
+use Rattle.std.specs.Prelude.{Option, Some, None, IsSomeAnd, IsTrue}
 use Rattle.std.specs.List.{list_all}
 use Rattle.std.specs.Str.{bytes_eq}
 use Rattle.std.proofs.lemmas.Bool.{and_from, and_parts}

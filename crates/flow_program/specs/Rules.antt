@@ -1,5 +1,6 @@
 -- The rules of program texts, and the first that a text breaks.
-use Rattle.std.specs.Prelude.{ℕ, suc, ◌+◌, Bool, true, false, not, cond, ◌&&◌, ◌||◌, ◌==◌, nat_le, nat_lt, List, [], ◌∷◌, ◌++◌, length, map, find}
+use Rattle.std.specs.Prelude.{ℕ, suc, ◌+◌, Bool, true, false, not, cond, ◌&&◌, ◌||◌, ◌==◌, nat_le, nat_lt, List, [], ◌∷◌, ◌++◌, length, map}
+use Rattle.std.specs.Prelude.{find}
 use Rattle.std.specs.Prelude.{Option, Some, None, option_map, option_and_then, slice_get, position, bytes_eq}
 use Rattle.std.specs.List.{list_all}
 use Rattle.std.specs.Option.{option_map_or, is_some}
@@ -7,7 +8,8 @@ use Rattle.tsl_terms.specs.Name.{number_of, Name as NameEntry}
 use Rattle.tsl_terms.specs.Clashes.{alike_in_kind, same_arity}
 use Rattle.flow_program.specs.declared.listing.Name.{Name}
 use Rattle.flow_program.specs.declared.reading.ProgramError.{ProgramError}
-use Rattle.flow_program.specs.declared.reading.ProgramError.TheVariants.{Order, Target, Updates, Window, Unknown, Kind, Arity, Windows, Nodes, States}
+use Rattle.flow_program.specs.declared.reading.ProgramError.TheVariants.{Order, Target, Updates, Window, Unknown, Kind, Arity, Windows}
+use Rattle.flow_program.specs.declared.reading.ProgramError.TheVariants.{Nodes, States}
 use Rattle.flow_program.specs.Fits.{longest}
 use Rattle.flow_program.specs.ProgramText.{most_windows, most_nodes, most_states}
 use Rattle.flow_program.specs.Listing.{ListedLine, WindowLine, NodeLine, branch_line, assignment_line, ListingTree, name_bytes}

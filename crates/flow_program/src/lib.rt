@@ -46,4 +46,6 @@ pub use writing::write_program;
 #[cfg(test)]
 mod listing_tests;
 #[cfg(test)]
+mod read_tests;
+#[cfg(test)]
 mod tests;

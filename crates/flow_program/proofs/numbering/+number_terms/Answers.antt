@@ -29,7 +29,8 @@ numbered_terms-loop-rest-preserved t c = record {
 pub numbered_terms-returns : goal.numbered_terms-returns
 numbered_terms-returns t c =
     IfOk-weaker c.from_vec.result _ _
-    (λ list is. numbered_all (map term_tree c.loop-rest.trees.items) (numbered_terms c.args.names.now c.args.text.now (phrase_trees c.args.terms.now))
+    (λ list is. numbered_all (map term_tree c.loop-rest.trees.items) (numbered_terms c.args.names.now c.args.text.now
+    (phrase_trees c.args.terms.now))
     (term_trees list)
     (rw c.in_default.is at c.loop-rest.invariant.numbered) is)
     c.from_vec.ensures

@@ -8,5 +8,6 @@ use Rattle.flow_program.proofs.numbering.numbered_assignment.Given as goal
 
 abbrev pub invariant-loop-update : goal.invariant-loop-update
 invariant-loop-update l =
-    after (map term_tree l.trees) (all_there (map (λ u. numbered_term l.names l.text u.term) (map update_line (drop l.update-index l.updates))))
+    after (map term_tree l.trees) (all_there (map (λ u. numbered_term l.names l.text u.term) (map update_line
+    (drop l.update-index l.updates))))
     ≡ all_there (map (λ u. numbered_term l.names l.text u.term) (map update_line l.updates))

@@ -1,4 +1,4 @@
-use Rattle.std.proofs.Common.{◌<◌, length, map, ap, sym, subst, ◌∙◌}
+use Rattle.std.proofs.Common.{◌<◌, map, ap, sym, subst, ◌∙◌}
 use Rattle.std.proofs.lemmas.List.{length-map}
 use Rattle.sequence.specs.Options.{all_there}
 use Rattle.tsl_terms.specs.WindowTree.{window_tree}
@@ -28,7 +28,8 @@ invariant_of-result c =
       outputs = ap (λ ds. all_there (map (numbered names text) ds)) (sym c.deref-3.ensures.value) ∙ c.in_ok-outputs.ensures;
       windows = ap (λ ws. all_there (map (numbered_window names text) (map window_line ws))) (sym c.deref-4.ensures.value)
           ∙ c.in_ok-windows.ensures;
-      nodes = ap (λ ns. all_there (map (numbered_node names text) (map node_line ns))) (sym c.deref-5.ensures.value) ∙ c.in_ok-nodes.ensures;
+      nodes = ap (λ ns. all_there (map (numbered_node names text) (map node_line ns))) (sym c.deref-5.ensures.value)
+          ∙ c.in_ok-nodes.ensures;
       states = ap (λ is. all_there (map small is)) (sym c.deref-6.ensures.value) ∙ c.in_ok-states.ensures;
     } in
     let spelled : ProgramText text names p = kept_program names text (listing_tree c.args.listing.now) c.requires.program p numbers in

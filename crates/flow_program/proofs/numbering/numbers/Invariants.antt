@@ -6,4 +6,5 @@ use Rattle.flow_program.proofs.numbering.numbers.Given as goal
 
 abbrev pub invariant-loop-place : goal.invariant-loop-place
 invariant-loop-place l =
-    after l.ids (all_there (map (numbered l.names l.text) (drop l.place-index l.places))) ≡ all_there (map (numbered l.names l.text) l.places)
+    after l.ids (all_there (map (numbered l.names l.text) (drop l.place-index l.places)))
+    ≡ all_there (map (numbered l.names l.text) l.places)

@@ -7,7 +7,7 @@ use Rattle.flow_program.specs.Uses.{uses_of, names_after}
 use Rattle.flow_program.specs.Reading.{HasProgramCause}
 use Rattle.flow_program.specs.internal.UseView.{use_view}
 use Rattle.flow_program.proofs.Lengths.{uses_and_lines, names_within}
-use Rattle.flow_program.proofs.Composed.{at_a_line, at_a_use, at_a_limit, spells, is_reading, names_may_be_written}
+use Rattle.flow_program.proofs.Composed.{at_a_line, at_a_use, at_a_limit, spells, names_may_be_written}
 use Rattle.flow_program.proofs.reading.program_of.Goals as goal
 
 pub declared_signals-requires-clause-lines : goal.declared_signals-requires-clause-lines

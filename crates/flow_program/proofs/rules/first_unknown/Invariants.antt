@@ -8,4 +8,5 @@ use Rattle.flow_program.proofs.rules.first_unknown.Given as goal
 
 abbrev pub invariant-loop-usage : goal.invariant-loop-usage
 invariant-loop-usage l =
-    find (is_unknown (texts l.readable)) (map use_view (drop l.usage-index l.uses)) ≡ find (is_unknown (texts l.readable)) (map use_view l.uses)
+    find (is_unknown (texts l.readable)) (map use_view (drop l.usage-index l.uses))
+    ≡ find (is_unknown (texts l.readable)) (map use_view l.uses)
