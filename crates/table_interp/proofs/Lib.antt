@@ -11,3 +11,4 @@ mod Facts
 mod Refusals
 mod Columns
 mod Loops
+mod OneReading

@@ -8,6 +8,8 @@
 //! - The grammars (`specs/Grammar.antt`) are relations on whole lists of terminals, which are tokens with
 //!   their bytes (`specs/Syntax.antt`). Here every word may be a name, also those that are reserved in
 //!   specifications.
+//! - Laws: a text spells at most one interpretation or input loop; the meanings of tables are those of
+//!   programs with the same cells.
 #![tactic(auto)]
 
 ghost use Rattle.std.specs.Prelude.{◌≡◌, ◌-◌, ◌<◌, ◌^◌, length, IsTrue, IfOk, IfErr};
@@ -32,12 +34,14 @@ use tsl_terms::Names;
 mod entries;
 mod forms;
 mod inputs;
+mod laws;
 mod naming;
 mod reading;
 mod resolving;
 mod tables;
 mod terminals;
 
+pub use laws::{meanings_are_those_of_programs, one_reading};
 pub use tables::Tables;
 
 /// The most values that a domain may have.

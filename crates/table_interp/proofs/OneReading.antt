@@ -1,0 +1,66 @@
+-- A text spells at most one interpretation, and at most one input loop.
+use Rattle.std.proofs.Common.{◌≡◌, ◌∙◌, ℕ, List, [], ◌∷◌, map, Option, Some, None, refl, sym, ap, subst}
+use Rattle.sequence.specs.Options.{all_there}
+use Rattle.sequence.proofs.Options.{one_value}
+use Rattle.tsl_terms.specs.Name.{Name}
+use Rattle.tsl_meaning.specs.Interpretation.{Interpretation, InputRows}
+use Rattle.table_interp.specs.Syntax.{TablesSyntax, InputsSyntax}
+use Rattle.table_interp.specs.Needed.{number_for}
+use Rattle.table_interp.specs.Tables.{Gives, SpellsTables}
+use Rattle.table_interp.specs.Inputs.{by_inputs, GivesRows, SpellsInputs}
+use Rattle.table_interp.proofs.Exactness.{tables_exact, inputs_exact}
+use Rattle.table_interp.proofs.Refusals.{one_given}
+
+first_or_zero : List ℕ → ℕ
+first_or_zero [] = 0
+first_or_zero (v ∷ vs) = v
+
+singles_back : (vs : List ℕ) → map first_or_zero (map (λ v. v ∷ []) vs) ≡ vs
+unfolding first_or_zero
+singles_back [] = refl
+singles_back (v ∷ vs) = ap (λ ws. v ∷ ws) (singles_back vs)
+
+same_singles : (vs ws : List ℕ) → map (λ v. v ∷ []) vs ≡ map (λ w. w ∷ []) ws → vs ≡ ws
+same_singles vs ws e = sym (singles_back vs) ∙ ap (map first_or_zero) e ∙ singles_back ws
+
+value_or_zero : Option ℕ → ℕ
+value_or_zero None = 0
+value_or_zero (Some v) = v
+
+somes_back : (vs : List ℕ) → map value_or_zero (map (λ v. Some v) vs) ≡ vs
+unfolding value_or_zero
+somes_back [] = refl
+somes_back (v ∷ vs) = ap (λ ws. v ∷ ws) (somes_back vs)
+
+same_somes : (vs ws : List ℕ) → map (λ v. Some v) vs ≡ map (λ w. Some w) ws → vs ≡ ws
+same_somes vs ws e = sym (somes_back vs) ∙ ap (map value_or_zero) e ∙ somes_back ws
+
+one_gives : (names : List Name) (cells : List ℕ) (given : TablesSyntax) (a b : Interpretation) → Gives names cells given a →
+    Gives names cells given b → a ≡ b
+one_gives names cells given a b x y =
+    let domain : a.domain ≡ b.domain = x.domain ∙ sym y.domain in
+    let tables : a.tables ≡ b.tables = one_value _ a.tables b.tables x.tables y.tables in
+    let initial : a.initial ≡ b.initial = same_singles a.initial b.initial (one_value _ _ _ x.initial y.initial) in
+    λ i. record { domain = domain i; tables = tables i; initial = initial i }
+
+pub one_tables : (text : List ℕ) (names : List Name) (cells : List ℕ) (a b : Interpretation) → SpellsTables text names cells a →
+    SpellsTables text names cells b → a ≡ b
+one_tables text names cells a b x y =
+    one_gives names cells y.given a b
+    (subst (λ g. Gives names cells g a) (one_given (tables_exact 0) text x.given y.given x.read.read y.read.read) x.gives) y.gives
+
+one_gives_rows : (names : List Name) (inputs : List ℕ) (given : InputsSyntax) (domain : ℕ) (a b : InputRows ℕ) →
+    GivesRows names inputs given domain a → GivesRows names inputs given domain b → a ≡ b
+one_gives_rows names inputs given domain a b x y =
+    let columns : x.columns ≡ y.columns = same_somes x.columns y.columns (sym x.columns_are ∙ y.columns_are) in
+    let stem : a.stem ≡ b.stem = one_value (all_there (map (by_inputs y.columns inputs) given.stem)) a.stem b.stem
+    (ap (λ c. all_there (map (by_inputs c inputs) given.stem)) (sym columns) ∙ x.stem) y.stem in
+    let cycle : a.cycle ≡ b.cycle = one_value (all_there (map (by_inputs y.columns inputs) given.cycle)) a.cycle b.cycle
+    (ap (λ c. all_there (map (by_inputs c inputs) given.cycle)) (sym columns) ∙ x.cycle) y.cycle in
+    λ i. record { stem = stem i; cycle = cycle i }
+
+pub one_inputs : (text : List ℕ) (names : List Name) (inputs : List ℕ) (domain : ℕ) (a b : InputRows ℕ) →
+    SpellsInputs text names inputs domain a → SpellsInputs text names inputs domain b → a ≡ b
+one_inputs text names inputs domain a b x y =
+    one_gives_rows names inputs y.given domain a b
+    (subst (λ g. GivesRows names inputs g domain a) (one_given (inputs_exact 0) text x.given y.given x.read y.read) x.gives) y.gives
