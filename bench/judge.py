@@ -19,7 +19,7 @@ def formula(untils):
 def text_of(formulas, positions):
     one = formula(UNTILS)
     rows = " ".join(f"row {int(i * 7919 % 101 < 40)}" for i in range(positions))
-    lines = ["guarantee {", *[one + ";" for _ in range(formulas)], "}"]
+    lines = ["guarantee { p x || q x;", *[one + ";" for _ in range(formulas)], "}"]
     lines += ["tslprogram 1", "input x", "node 0 set go 0", "state 0 at 0", "end"]
     lines += ["tsltables 1", "domain 2", "pred p 0 1", "pred q 1 0", "tslinputs 1", "input x", "stem", f"cycle {rows}", ""]
     return "\n".join(lines).encode()
