@@ -222,3 +222,6 @@ pub fn read_inputs(
     let given = inputs_of(alloc, text)?;
     rows_from(alloc, names, inputs, domain, &given)
 }
+
+#[cfg(test)]
+mod tests;
