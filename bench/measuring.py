@@ -1,18 +1,21 @@
 """How the benchmarks run the program on a text: the least time of some runs, the peak of memory, and the status."""
 import contextlib
 import pathlib
+import re
+import shutil
 import subprocess
 import tempfile
 
 HERE = pathlib.Path(__file__).resolve().parent
 PROGRAM = HERE.parent / "crates" / "tsl" / "out" / "tsl"
+SOLVER = HERE.parent / "crates" / "solve" / "out" / "solve"
 
 
 @contextlib.contextmanager
-def built():
+def built(program=PROGRAM, builds="./tsl synth < examples/copy.tsl"):
     """A folder to build in, with `measure` built there. The program has to be there."""
-    if not PROGRAM.exists():
-        raise SystemExit("build the program first: ./tsl synth < examples/copy.tsl")
+    if not program.exists():
+        raise SystemExit(f"build the program first: {builds}")
     with tempfile.TemporaryDirectory() as name:
         folder = pathlib.Path(name)
         subprocess.run(["cc", "-O2", "-o", folder / "measure", HERE / "measure.c"], check=True)
@@ -29,3 +32,15 @@ def measured(folder, text, command, statuses=("0",)):
     if status not in statuses:
         raise SystemExit("a run failed")
     return int(nanoseconds) / 1e9, int(peak), status
+
+
+def instructions(text, command):
+    """How many instructions a run takes, as valgrind counts them: a number without noise. None where it is not installed."""
+    if not shutil.which("valgrind"):
+        return None
+    count = ["valgrind", "--tool=cachegrind", "--cache-sim=no", "--cachegrind-out-file=/dev/null"]
+    done = subprocess.run([*count, *command], input=text, capture_output=True)
+    found = re.search(rb"I\s+refs:\s+([\d,]+)", done.stderr)
+    if not found:
+        raise SystemExit("valgrind counted nothing")
+    return int(found.group(1).replace(b",", b""))

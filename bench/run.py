@@ -2,7 +2,7 @@
 """Times `tsl run` on inputs of doubling sizes, each of which puts the work into one part, beside a plain reading and run in Python."""
 import time
 
-from measuring import PROGRAM, built, measured
+from measuring import PROGRAM, built, instructions, measured
 
 SIZES = [2**power for power in range(11, 17)]
 CLEAR = 0.002  # seconds; a shorter time is lost in the noise of starting a process
@@ -77,6 +77,19 @@ FAMILIES = [
 ]
 
 
+def counted():
+    """The growth by instructions, where valgrind is installed: what noise does to seconds it does not do to these."""
+    worst = 0.0
+    for title, family in FAMILIES:
+        counts = [instructions(family(count), [PROGRAM, "run"]) for count in SIZES]
+        if None in counts:
+            return
+        growths = [after / before for before, after in zip(counts, counts[1:])]
+        worst = max(worst, *growths)
+        print(f"{title}: {counts[-1]} instructions for {SIZES[-1]}, growths " + " ".join(f"{g:.2f}" for g in growths))
+    print(f"the largest growth of instructions for a doubling: {worst:.2f}")
+
+
 def main():
     with built() as folder:
         start, _, _ = measured(folder, long_inputs(2), [PROGRAM, "run"])
@@ -96,6 +109,7 @@ def main():
                 print(f"{count:9} {len(text):9} {seconds:9.4f} {growth} {peak:9} {plain_seconds(text):12.4f}")
                 before = seconds
         print(f"the largest growth for a doubling: {worst:.2f}")
+    counted()
 
 
 main()

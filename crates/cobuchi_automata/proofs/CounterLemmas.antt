@@ -21,7 +21,7 @@ count_of test zero = 0
 count_of test (suc n) = count_of test n + cond (test n) 1 0
 
 -- a counter rises, and no further than the room
-rises : (p : ℕ → Bool) (room c : ℕ) → (c ≤ risen p room c) × (risen p room c ≤ c + room)
+pub rises : (p : ℕ → Bool) (room c : ℕ) → (c ≤ risen p room c) × (risen p room c ≤ c + room)
 rises p zero c = (omega arith, omega arith)
 rises p (suc room) c = by (p c) (rises p room (suc c))
   where
@@ -29,6 +29,14 @@ rises p (suc room) c = by (p c) (rises p room (suc c))
         (c ≤ cond b c (risen p room (suc c))) × (cond b c (risen p room (suc c)) ≤ c + suc room)
     by true r = (omega arith, omega arith)
     by false r = (omega arith, omega arith)
+
+-- it rises past an until that is not postponed
+pub rises_on : (p : ℕ → Bool) (untils c : ℕ) → c < untils → p c ≡ false → risen p (untils - (c + 1)) (c + 1) ≡ risen p (untils - c) c
+rises_on p untils c below free =
+    let room : untils - c ≡ suc (untils - (c + 1)) = omega arith in
+    let next : c + 1 ≡ suc c = omega arith in
+    ap (risen p (untils - (c + 1))) next
+    ∙ sym (ap (λ r. risen p r c) room ∙ ap (λ b. cond b c (risen p (untils - (c + 1)) (suc c))) free)
 
 -- with room it rises by one or more where its until is not postponed, and else it stays
 moves : (p : ℕ → Bool) (room c : ℕ) → 0 < room → ((p c ≡ true) × (risen p room c ≡ c)) ⊎ ((p c ≡ false) × (c < risen p room c))

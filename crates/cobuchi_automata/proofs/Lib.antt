@@ -1,4 +1,12 @@
 pub mod Examples
+pub mod AutomatonLemmas
+pub mod BuiltLemmas
 pub mod CounterLemmas
+pub mod ExploredLemmas
+pub mod GrowLemmas
 pub mod LawLemmas
+pub mod OnceLemmas
+pub mod StateLemmas
+pub mod TransitionLemmas
+pub mod TurnLemmas
 pub mod UntilLemmas

@@ -6,8 +6,8 @@ use Rattle.std.proofs.lemmas.Bool.{and_parts, and_from}
 use Rattle.std.proofs.lemmas.Option.{none-some, same_Some}
 use Rattle.flow_program.specs.LineText.{Piece, word, Place, Stand}
 use Rattle.flow_program.specs.internal.LineReading.{
-  Reader,
-  after,
+  LineReader,
+  past,
   from,
   with_second,
   and_second,
@@ -27,14 +27,14 @@ use Rattle.flow_program.proofs.Standing.{stand_append, stand_split}
 use Rattle.flow_program.proofs.Repeats.{Shrinks, repeat_more, repeat_end}
 
 -- What is read stands between the two places and keeps the limits. And what stands there is read, where such bytes follow.
-pub record Reads {V : Type 0} (reader : Reader V) (pieces : V → List Piece) (within : V → Bool) (Ends : List ℕ → Type 0) : Type 0 where
+pub record Reads {V : Type 0} (reader : LineReader V) (pieces : V → List Piece) (within : V → Bool) (Ends : List ℕ → Type 0) : Type 0 where
   pub sound : (p : Place) (v : V) (q : Place) → reader p ≡ Some (v, q) → Stand (pieces v) p q × IsTrue (within v)
   pub complete : (p : Place) (v : V) (q : Place) → Stand (pieces v) p q → IsTrue (within v) → Ends q.bytes → reader p ≡ Some (v, q)
 
 abbrev pub Any : List ℕ → Type 0
 Any bytes = Unit {0}
 
-module _ {A : Type 0} {reader : Reader A} {pieces : A → List Piece} {within : A → Bool} {Ends : List ℕ → Type 0} where
+module _ {A : Type 0} {reader : LineReader A} {pieces : A → List Piece} {within : A → Bool} {Ends : List ℕ → Type 0} where
   -- ---- after a word
 
   pub prefixed_reads : (w : List ℕ) → Reads reader pieces within Ends →
@@ -42,8 +42,8 @@ module _ {A : Type 0} {reader : Reader A} {pieces : A → List Piece} {within : 
   prefixed_reads w h = record { sound = sound; complete = complete } where
     sound : (p : Place) (a : A) (q : Place) → prefixed w reader p ≡ Some (a, q) →
         ((rest : List ℕ) × (p.bytes ≡ w ++ rest) × Stand (pieces a) (record { at = p.at + length w; bytes = rest }) q) × IsTrue (within a)
-    sound p a q e = by_answer (after w p) refl e where
-      by_answer : (o : Option Place) → after w p ≡ o → from o reader ≡ Some (a, q) →
+    sound p a q e = by_answer (past w p) refl e where
+      by_answer : (o : Option Place) → past w p ≡ o → from o reader ≡ Some (a, q) →
           ((rest : List ℕ) × (p.bytes ≡ w ++ rest) × Stand (pieces a) (record { at = p.at + length w; bytes = rest }) q) × IsTrue (within a)
       by_answer None f g = absurd (none-some (a, q) g)
       by_answer (Some m) f g =
@@ -69,8 +69,8 @@ module _ {A : Type 0} {reader : Reader A} {pieces : A → List Piece} {within : 
       by_answer : (o : Option (A × Place)) → reader p ≡ o → and_after w o ≡ Some (a, q) →
           Stand (pieces a ++ word w ∷ []) p q × IsTrue (within a)
       by_answer None f g = absurd (none-some (a, q) g)
-      by_answer (Some (b, m)) f g = by_end (after w m) refl g where
-        by_end : (o : Option Place) → after w m ≡ o → keep_before b o ≡ Some (a, q) →
+      by_answer (Some (b, m)) f g = by_end (past w m) refl g where
+        by_end : (o : Option Place) → past w m ≡ o → keep_before b o ≡ Some (a, q) →
             Stand (pieces a ++ word w ∷ []) p q × IsTrue (within a)
         by_end None x y = absurd (none-some (a, q) y)
         by_end (Some n) x y =
@@ -115,9 +115,8 @@ module _ {A : Type 0} {reader : Reader A} {pieces : A → List Piece} {within : 
 
 -- ---- one after another
 
-module _ {A B : Type 0} {first : Reader A} {second : Reader B} {xs : A → List Piece} {ys : B → List Piece} {good : A → Bool} {fine : B →
-    Bool}
-    {Between Ends : List ℕ → Type 0} where
+module _ {A B : Type 0} {first : LineReader A} {second : LineReader B} {xs : A → List Piece} {ys : B → List Piece}
+    {good : A → Bool} {fine : B → Bool} {Between Ends : List ℕ → Type 0} where
   pub pair_reads :
       ((b : B) (p q : Place) → Stand (ys b) p q → IsTrue (fine b) → Ends q.bytes → Between p.bytes) →
       Reads first xs good Between → Reads second ys fine Ends →
@@ -152,7 +151,8 @@ module _ {A B : Type 0} {first : Reader A} {second : Reader B} {xs : A → List 
 
 -- ---- as often as a test holds
 
-module _ {A : Type 0} {item : Reader A} {pieces : A → List Piece} {within : A → Bool} {After Ends : List ℕ → Type 0} (test : List ℕ → Bool)
+module _ {A : Type 0} {item : LineReader A} {pieces : A → List Piece} {within : A → Bool} {After Ends : List ℕ → Type 0}
+    (test : List ℕ → Bool)
     (h : Reads item pieces within After) (shrinks : Shrinks item)
     (starts : (a : A) (p q : Place) → Stand (pieces a) p q → IsTrue (within a) → After q.bytes → (test p.bytes ≡ true) × After p.bytes)
     (stops : (bytes : List ℕ) → Ends bytes → (test bytes ≡ false) × After bytes) where

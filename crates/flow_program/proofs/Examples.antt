@@ -140,7 +140,11 @@ two_states = record {
 }
 
 two_states_text : program_text more_names two_states
-    ≡ codes "tslprogram 1\ninput a\ncell c\noutput y'\nwindow a at 0 is at (f c (f a none())) c at 2 when [c <- f c (f a none())] at 0 when [c <- a] at 1\nnode 0 set [c <- f c (f a none())] [y' <- a] go 1\nnode 1 set [c <- none()] [y' <- f c (f a none())] go 0\nnode 2 if a then 0 else 1\nnode 3 if at (f c (f a none())) c then 2 else 0\nstate 0 at 3\nstate 1 at 1\nend\n"
+    ≡ codes "tslprogram 1\ninput a\ncell c\noutput y'\n"
+    ++ codes "window a at 0 is at (f c (f a none())) c at 2 when [c <- f c (f a none())] at 0 when [c <- a] at 1\n"
+    ++ codes "node 0 set [c <- f c (f a none())] [y' <- a] go 1\n"
+    ++ codes "node 1 set [c <- none()] [y' <- f c (f a none())] go 0\nnode 2 if a then 0 else 1\n"
+    ++ codes "node 3 if at (f c (f a none())) c then 2 else 0\nstate 0 at 3\nstate 1 at 1\nend\n"
 unfolding digits
 two_states_text = refl
 

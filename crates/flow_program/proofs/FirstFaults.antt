@@ -11,6 +11,8 @@ use Rattle.std.proofs.lemmas.List.Quantifiers.{position-Some}
 use Rattle.std.proofs.lemmas.Option.{none-some, same_Some, slice_get_within}
 use Rattle.sequence.proofs.Lists.{tails}
 use Rattle.sequence.proofs.Places.{slice_get_some, slice_get-front, slice_get-behind}
+use Rattle.sequence.proofs.Lists.{not_empty_behind}
+use Rattle.sequence.proofs.Passes.{list_all_joined}
 use Rattle.tsl_text.specs.Lines.{is_line_byte}
 use Rattle.tsl_text.specs.Written.{is_line, text_of_lines}
 use Rattle.tsl_text.proofs.Fronts.{one_run}
@@ -23,7 +25,7 @@ use Rattle.flow_program.specs.LineText.{Piece, word, named, Place, Stand, LineTr
 use Rattle.flow_program.specs.LineText.{end_line, ended_pieces, line_is_within, listing_lines}
 use Rattle.flow_program.specs.internal.LineReading.{read_line}
 use Rattle.flow_program.specs.internal.LineOrder.{Progress, fresh, going, done, is_nil, add, add_all, listing_of, declares, names_so_far}
-use Rattle.flow_program.specs.internal.LineOrder.{are_new, and_place, checked, with_line, after_cut, next_line, IsWithin, DeclaresWithin}
+use Rattle.flow_program.specs.internal.LineOrder.{are_new, and_place, checked, with_line, after_cut, next_line, LiesWithin, DeclaresWithin}
 use Rattle.flow_program.proofs.ListingFacts.{listing_from}
 use Rattle.flow_program.proofs.LineFeeds.{cut_found, EndedLine, ended_line}
 use Rattle.flow_program.proofs.LinesRead.{IsLineAt, line_complete}
@@ -32,17 +34,7 @@ use Rattle.flow_program.proofs.ReachedLines.{Reached, within_more, bytes_agree, 
 use Rattle.flow_program.proofs.ReachedLines.{same_place}
 use Rattle.flow_program.proofs.Standing.{stand_append, stand_split}
 
-list_all-append : {A : Type 0} (p : A → Bool) (xs ys : List A) → list_all p xs ≡ true → list_all p ys ≡ true → list_all p (xs ++ ys) ≡ true
-list_all-append p [] ys h k = k
-list_all-append p (x ∷ xs) ys h k =
-    let parts = and_parts (p x) (list_all p xs) h in
-    and_from (p x) (list_all p (xs ++ ys)) parts.0 (list_all-append p xs ys parts.1 k)
-
 -- ---- lines of bytes
-
-pub not_nil : (xs : List ℕ) (y : ℕ) (ys : List ℕ) → xs ++ y ∷ ys ≡ [] → ⊥
-not_nil [] y ys e = cc
-not_nil (x ∷ xs) y ys e = cc
 
 -- a text has one first line
 pub same_cut : (a b u v : List ℕ) → is_line a ≡ true → is_line b ≡ true → a ++ 10 ∷ u ≡ b ++ 10 ∷ v → (a ≡ b) × (u ≡ v)
@@ -158,7 +150,7 @@ continues [] all p q end h k nil s w =
 continues (t ∷ lines) [] p q end h k nil s w =
     let parts = stand_split (ended_pieces t) (flat_map ended_pieces lines) p q s in
     let first = ended_line t p parts.0 (and_parts (line_is_within t) (list_all line_is_within lines) h).0 parts.1 in
-    absurd (not_nil first.bytes 10 parts.0.bytes (sym first.split ∙ ap (λ (x : Place). x.bytes) w ∙ nil))
+    absurd (not_empty_behind first.bytes (10 ∷ parts.0.bytes) (λ e. cc) (sym first.split ∙ ap (λ (x : Place). x.bytes) w ∙ nil))
 continues (t ∷ lines) (u ∷ all) p q end h k nil s w =
     let left = stand_split (ended_pieces t) (flat_map ended_pieces lines) p q s in
     let right = stand_split (ended_pieces u) (flat_map ended_pieces all) p end w in
@@ -237,7 +229,7 @@ repeats text names t e = by t refl e where
 
 -- names are declared once in the other text, so that none is declared again here
 twice : (text another front xs ys : List ℕ) → text ≡ front ++ xs → another ≡ front ++ ys → (ds : List Name) →
-    AllByRecursion (IsWithin (length front)) ds → (t : LineTree) → DeclaresWithin (length front) t → (rest : List Name) →
+    AllByRecursion (LiesWithin (length front)) ds → (t : LineTree) → DeclaresWithin (length front) t → (rest : List Name) →
     AreDistinct (map (declared_entry another) (ds ++ (declares t ++ rest))) → Repeats text (map (declared_entry text) ds) t → ⊥
 twice text another front xs ys here other ds within t last rest distinct rep =
     let n : Name = rep.name in
@@ -247,8 +239,8 @@ twice text another front xs ys here other ds within t last rest distinct rep =
     let agree : map (declared_entry another) ds ≡ a =
     ap (λ (zs : List ℕ). map (declared_entry zs) ds) other ∙ named_agree front ys xs ds within
     ∙ ap (λ (zs : List ℕ). map (declared_entry zs) ds) (sym here) in
-    let P : List Name → Type 0 = λ ns. AllByRecursion (IsWithin (length front)) ns in
-    let n_within : IsWithin (length front) n = (subst P rep.declared_is last).0 in
+    let P : List Name → Type 0 = λ ns. AllByRecursion (LiesWithin (length front)) ns in
+    let n_within : LiesWithin (length front) n = (subst P rep.declared_is last).0 in
     let bytes : name_bytes another n ≡ name_bytes text n =
     ap (λ (zs : List ℕ). name_bytes zs n) other ∙ bytes_agree front ys xs n n_within ∙ ap (λ (zs : List ℕ). name_bytes zs n) (sym here) in
     let all : map (declared_entry another) (ds ++ (declares t ++ rest)) ≡ a ++ e ∷ tail =
@@ -288,9 +280,9 @@ no_more text progress number p r fails another l is more t order front line u v 
     ∙ listing_adds l is.has_node is.has_state in
     let ds : List Name = declared (listing_of progress) in
     let both : length (front ++ line) ≡ p.at + length line = length-append front line ∙ ap (λ (n : ℕ). n + length line) len in
-    let P : List Name → Type 0 = λ ns. AllByRecursion (IsWithin (length (front ++ line))) ns in
+    let P : List Name → Type 0 = λ ns. AllByRecursion (LiesWithin (length (front ++ line))) ns in
     let Q : ℕ → Type 0 = λ n. DeclaresWithin n t in
-    let before : AllByRecursion (IsWithin (length (front ++ line))) ds =
+    let before : AllByRecursion (LiesWithin (length (front ++ line))) ds =
     subst P (sym r.made.names_are)
     (within_more p.at (length (front ++ line)) (omega arith) (flat_map declares r.lines)
     (lines_declare_within r.lines (record { at = 0; bytes = text }) p r.stands)) in
@@ -455,8 +447,8 @@ first_fault text progress number p r fails unfinished =
     let Q : List LineTree → Type 0 = λ ts. list_all line_is_within ts ≡ true in
     let ds : List Name = declared (listing_of progress) in
     let R : List NameEntry → Type 0 = AreDistinct in
-    let S : List Name → Type 0 = λ ns. AllByRecursion (IsWithin (length front)) ns in
-    let before : AllByRecursion (IsWithin (length front)) ds =
+    let S : List Name → Type 0 = λ ns. AllByRecursion (LiesWithin (length front)) ns in
+    let before : AllByRecursion (LiesWithin (length front)) ds =
     subst S (sym r.made.names_are)
     (within_more p.at (length front) (omega arith) (flat_map declares r.lines)
     (lines_declare_within r.lines (record { at = 0; bytes = text }) p r.stands)) in
@@ -471,7 +463,7 @@ first_fault text progress number p r fails unfinished =
       is_listing =
           listing_from other c.listing rest.0
           (subst P (sym (flat_map-append ended_pieces r.lines c.more) ∙ ap (flat_map ended_pieces) (sym made.lines_are)) whole)
-          (subst Q (sym made.lines_are) (list_all-append line_is_within r.lines c.more r.within c.within))
+          (subst Q (sym made.lines_are) (list_all_joined line_is_within r.lines c.more r.within c.within))
           (subst R names r.distinct) made.both.0 made.both.1;
       before = record {
         lines = f.texts;
@@ -504,4 +496,4 @@ first_fault text progress number p r fails unfinished =
         (λ line v e lined.
         let same = same_cut m.0 line b.after_other v m.1 lined e in
         (b.after_text, m.3 ∙ ap (λ (zs : List ℕ). zs ++ 10 ∷ b.after_text) same.0))
-        (λ nil e. absurd (not_nil m.0 10 b.after_other nil))
+        (λ nil e. absurd (not_empty_behind m.0 (10 ∷ b.after_other) (λ e. cc) nil))

@@ -15,6 +15,8 @@ use Rattle.sequence.proofs.Numbers.{among_at}
 use Rattle.sequence.proofs.Booleans.{eqb_self}
 use Rattle.sequence.specs.Numbers.{is_among, IsDistinct}
 use Rattle.sequence.specs.Options.{all_there}
+use Rattle.sequence.proofs.Gathered.{all_there_next}
+use Rattle.std.proofs.lemmas.Bool.{not-false}
 use Rattle.tsl_text.specs.Names.{is_usable}
 use Rattle.tsl_terms.specs.declared.names.NameKind.TheVariants.{Signal}
 use Rattle.tsl_terms.specs.Name.{number_of, is_name, AreDistinct, Name as NameEntry}
@@ -40,11 +42,6 @@ use Rattle.flow_program.proofs.GoodTerms.{is_named, is_named_usable, text_is, Te
 use Rattle.flow_program.proofs.GoodTerms.{test_writable}
 
 -- ---- lists whose members are all there
-
-pub all_there_next : {X Y : Type 0} (f : X → Option Y) (x : X) (xs : List X) (y : Y) (ys : List Y) → f x ≡ Some y →
-    all_there (map f xs) ≡ Some ys → all_there (map f (x ∷ xs)) ≡ Some (y ∷ ys)
-all_there_next f x xs y ys is rest =
-    ap (λ first. all_there (first ∷ map f xs)) is ∙ ap (option_map (λ zs. y ∷ zs)) rest
 
 pub small_is : (n : ℕ) → n < 2 ^ 32 → small n ≡ Some n
 small_is n h = ap (λ b. cond b (Some n) None) (lt-ltb n (2 ^ 32) h)
@@ -148,7 +145,7 @@ among_later (c ∷ cs) (suc i) (suc j) r s less at too =
     or_true true = refl
     or_true false = refl
 
-or_and_weaker : (a b c d : Bool) → (c ≡ true → d ≡ true) → (a || (b && c)) ≡ true → (a || (b && d)) ≡ true
+pub or_and_weaker : (a b c d : Bool) → (c ≡ true → d ≡ true) → (a || (b && c)) ≡ true → (a || (b && d)) ≡ true
 or_and_weaker true b c d f h = refl
 or_and_weaker false true c d f h = f h
 or_and_weaker false false c d f h = h
@@ -316,7 +313,7 @@ module _ (names : List NameEntry) (readable : List ℕ) (text : List ℕ) (cell_
         let is_short : Bool = nat_le w.length longest && nat_le w.left_at w.length in
         let within : Bool = list_all (is_cell_within text texts_of_cells w.length) w.updates in
         let shaped : (is_short && (within && listed_rise text texts_of_cells w.updates)) ≡ true =
-        not_false (is_short && (within && listed_rise text texts_of_cells w.updates)) keeps in
+        not-false (is_short && (within && listed_rise text texts_of_cells w.updates)) keeps in
         let parts = and_parts is_short (within && listed_rise text texts_of_cells w.updates) shaped in
         let short = and_parts (nat_le w.length longest) (nat_le w.left_at w.length) parts.0 in
         let rising = and_parts within (listed_rise text texts_of_cells w.updates) parts.1 in
@@ -354,10 +351,6 @@ module _ (names : List NameEntry) (readable : List ℕ) (text : List ℕ) (cell_
               (and_from _ _ (and_from (read_only readable l.tree.arguments)
               (read_only readable r.tree.arguments) l.reads r.reads) us.reads);
         }
-      where
-        not_false : (b : Bool) → not b ≡ false → b ≡ true
-        not_false true h = refl
-        not_false false h = absurd (cc)
 
   pub record WindowsGood (ws : List WindowLine) : Type 0 where
     pub trees : List WindowTree

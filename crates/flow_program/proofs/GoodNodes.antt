@@ -8,6 +8,8 @@ use Rattle.std.proofs.lemmas.Bool.{and_from, and_parts, ltb-true}
 use Rattle.sequence.proofs.Bytes.{same_bytes}
 use Rattle.sequence.proofs.Each.{each_left, each_right}
 use Rattle.sequence.specs.Options.{all_there}
+use Rattle.std.proofs.lemmas.Bool.{not-false}
+use Rattle.sequence.proofs.Gathered.{all_there_next}
 use Rattle.tsl_terms.specs.Name.{Name as NameEntry}
 use Rattle.tsl_terms.specs.TermTree.{TermTree}
 use Rattle.tsl_terms.specs.OnlyThese.{reads_only, read_only}
@@ -22,11 +24,7 @@ use Rattle.flow_program.specs.Rules.{are_texts, breaks_order, goes_nowhere, is_n
 use Rattle.flow_program.specs.internal.Numbering.{small, numbered_term, numbered_node}
 use Rattle.flow_program.proofs.KnownUses.{KnownUse}
 use Rattle.flow_program.proofs.GoodTerms.{TermGood, term_good, term_writable, TestGood, test_good, test_writable}
-use Rattle.flow_program.proofs.GoodLines.{all_there_next, small_is}
-
-not_false : (b : Bool) → not b ≡ false → b ≡ true
-not_false true h = refl
-not_false false h = absurd (cc)
+use Rattle.flow_program.proofs.GoodLines.{small_is}
 
 -- texts that are the same one by one
 same_texts : (xs ys : List (List ℕ)) → are_texts xs ys ≡ true → xs ≡ ys
@@ -93,7 +91,7 @@ module _ (names : List NameEntry) (readable : List ℕ) (text : List ℕ) (contr
       breaks_updates text controlled_texts number n ≡ false → NodeGood number n
   node_good line number (branch_line test a b) k stands below order target same =
       let g : TestGood names readable text test = test_good names readable text line test k in
-      let parts = and_parts (nat_lt a number) (nat_lt b number) (not_false (nat_lt a number && nat_lt b number) order) in
+      let parts = and_parts (nat_lt a number) (nat_lt b number) (not-false (nat_lt a number && nat_lt b number) order) in
       let a_below : a < number = ltb-true a number parts.0 in
       let b_below : b < number = ltb-true b number parts.1 in
       record {
@@ -109,9 +107,9 @@ module _ (names : List NameEntry) (readable : List ℕ) (text : List ℕ) (contr
       }
   node_good line number (assignment_line us go) k stands below order target same =
       let texts = same_texts (map (λ u. name_bytes text u.signal) us) controlled_texts
-      (not_false (are_texts (map (λ u. name_bytes text u.signal) us) controlled_texts) same) in
+      (not-false (are_texts (map (λ u. name_bytes text u.signal) us) controlled_texts) same) in
       let g : UpdatesGood controlled us = updates_good line controlled us (controlled_are ∙ sym texts) k stands in
-      let go_below : go < states = ltb-true go states (not_false (nat_lt go states) target) in
+      let go_below : go < states = ltb-true go states (not-false (nat_lt go states) target) in
       record {
         tree = assign g.trees go;
         numbered_is =
@@ -178,7 +176,7 @@ module _ (names : List NameEntry) (readable : List ℕ) (text : List ℕ) (contr
   pub states_good : (is : List ℕ) → ((s i : ℕ) → slice_get is s ≡ Some i → is_nowhere nodes s i ≡ false) → StatesGood is
   states_good is keep = record { numbered_are = there is below; fit = below } where
     below : (s i : ℕ) → slice_get is s ≡ Some i → i < nodes
-    below s i at = ltb-true i nodes (not_false (nat_lt i nodes) (keep s i at))
+    below s i at = ltb-true i nodes (not-false (nat_lt i nodes) (keep s i at))
 
     there : (js : List ℕ) → ((s i : ℕ) → slice_get js s ≡ Some i → i < nodes) → all_there (map small js) ≡ Some js
     there [] each = refl

@@ -7,10 +7,12 @@ use Rattle.std.specs.List.{list_all, AllByRecursion}
 use Rattle.std.specs.Option.{is_some}
 use Rattle.std.proofs.lemmas.Bool.{and_from, and_parts, ltb-false}
 use Rattle.std.proofs.lemmas.List.{map-append}
-use Rattle.std.proofs.lemmas.List.Folds.{list_all-append}
 use Rattle.sequence.proofs.Each.{each_from_places, each_left, each_right}
 use Rattle.sequence.proofs.Numbers.{among_at}
 use Rattle.sequence.specs.Numbers.{is_among}
+use Rattle.sequence.proofs.Options.{none_mapped}
+use Rattle.sequence.proofs.Finds.{find_none_at}
+use Rattle.sequence.proofs.Passes.{list_all_joined}
 use Rattle.tsl_text.specs.Names.{is_usable}
 use Rattle.tsl_terms.specs.Name.{AreDistinct, Name as NameEntry}
 use Rattle.tsl_terms.specs.Clashes.{alike_in_kind, same_arity}
@@ -28,7 +30,7 @@ use Rattle.flow_program.specs.Rules.{first_place, first_line, breaks_order, goes
 use Rattle.flow_program.specs.Rules.{place_in, cell_texts, readable_of, controlled_of, is_unknown, is_unlike, at_line, over, first_there}
 use Rattle.flow_program.specs.Rules.{line_fault, use_fault, limit_fault, fault_of}
 use Rattle.flow_program.specs.internal.Numbering.{numbered, Numbered}
-use Rattle.flow_program.proofs.KnownUses.{Known, known_name, known_question, KnownUse, none_found}
+use Rattle.flow_program.proofs.KnownUses.{Known, known_name, known_question, KnownUse}
 use Rattle.flow_program.proofs.UsableUses.{has_usable, uses_usable}
 use Rattle.flow_program.proofs.GoodLines.{place_at, SignalsGood, signals_good, all_numbered, declared_text, number_at, distinct_ids}
 use Rattle.flow_program.proofs.GoodLines.{WindowsGood, windows_good}
@@ -40,10 +42,6 @@ pub none_first : (f : Option ProgramError) (fs : List (Option ProgramError)) →
     (f ≡ None) × (first_there fs ≡ None)
 none_first None fs h = (refl, h)
 none_first (Some e) fs h = absurd (cc)
-
-pub none_mapped : {X Y : Type 0} (f : X → Y) (o : Option X) → option_map f o ≡ None → o ≡ None
-none_mapped f None h = refl
-none_mapped f (Some x) h = absurd (cc)
 
 pub none_placed : {X : Type 0} (test : ℕ → X → Bool) (k : ℕ) (xs : List X) → first_place test k xs ≡ None →
     (i : ℕ) (x : X) → slice_get xs i ≡ Some x → test (k + i) x ≡ false
@@ -128,9 +126,6 @@ declared_known : (names : List NameEntry) (text : List ℕ) (line : ℕ) (ds : L
 declared_known names text line [] k = tt
 declared_known names text line (at ∷ ds) k = (k.0, declared_known names text (suc line) ds k.1)
 
-both : (p : ℕ → Bool) (xs ys : List ℕ) → list_all p xs ≡ true → list_all p ys ≡ true → list_all p (xs ++ ys) ≡ true
-both p xs ys h k = list_all-append p xs ys ∙ and_from (list_all p xs) (list_all p ys) h k
-
 map_both : {X Y Z : Type 0} (f : X → Z) (g : Y → Z) (xs xs' : List X) (ys ys' : List Y) → map f xs ≡ map g ys → map f xs' ≡ map g ys' →
     map f (xs ++ xs') ≡ map g (ys ++ ys')
 map_both f g xs xs' ys ys' h k = map-append f xs xs' ∙ (λ i. h i ++ k i) ∙ sym (map-append g ys ys')
@@ -151,8 +146,8 @@ module _ (text : List ℕ) (given : List NameEntry) (distinct : AreDistinct give
 
   named_use : (at : ℕ) (u : ProgramUse) → slice_get us at ≡ Some u → Known names u.name
   named_use at u there =
-      known_name given distinct us at u there (none_found (is_unlike alike_in_kind names) us at u keeps.one_kind there)
-      (none_found (is_unlike same_arity names) us at u keeps.one_arity there)
+      known_name given distinct us at u there (find_none_at (is_unlike alike_in_kind names) us at u keeps.one_kind there)
+      (find_none_at (is_unlike same_arity names) us at u keeps.one_arity there)
 
   usable_use : (at : ℕ) (u : ProgramUse) → slice_get us at ≡ Some u → is_usable u.name.text ≡ true
   usable_use at u there = usable_at us at u (uses_usable text l h) there where
@@ -198,7 +193,7 @@ module _ (text : List ℕ) (given : List NameEntry) (distinct : AreDistinct give
       is_among readable k.number ≡ true
   read_use at u there k reads =
       by (place_in (readable_of text l) u.name.text) refl
-      (none_found (is_unknown (readable_of text l)) us at u keeps.known there)
+      (find_none_at (is_unknown (readable_of text l)) us at u keeps.known there)
     where
       by : (found : Option ℕ) → place_in (readable_of text l) u.name.text ≡ found →
           (u.is_read && not (is_some (place_in (readable_of text l) u.name.text))) ≡ false → is_among readable k.number ≡ true
@@ -290,7 +285,7 @@ module _ (text : List ℕ) (given : List NameEntry) (distinct : AreDistinct give
 
   is_writable : IsWritable names program
   is_writable = record {
-    signals = both (signal_fits names) inputs.ids controlled inputs.fit (both
+    signals = list_all_joined (signal_fits names) inputs.ids controlled inputs.fit (list_all_joined
         (signal_fits names) cells.ids outputs.ids cells.fit outputs.fit);
     windows = windows.writable;
     nodes = nodes.writable;

@@ -23,7 +23,7 @@ use Rattle.flow_program.specs.Listing.{PhraseTree, bare, applied, PhraseTrees, n
 use Rattle.flow_program.specs.Listing.{argument_spelling, applied_spelling, phrase_text, phrases_text, bracketed_phrase, phrase_brackets}
 use Rattle.flow_program.specs.Listing.{phrases_brackets, is_phrase, phrase_stands}
 use Rattle.flow_program.specs.Uses.{read_use, tested_use, applied_use, term_uses, terms_uses, test_uses, question_entry}
-use Rattle.flow_program.specs.internal.Numbering.{numbered_term, numbered_terms, numbered_test, probe_of}
+use Rattle.flow_program.specs.internal.Numbering.{numbered_term, numbered_terms, numbered_test, probe_with}
 use Rattle.flow_program.proofs.KnownUses.{Known, KnownUse}
 
 -- the number of a use names its kind and number of arguments, and has its text
@@ -170,18 +170,18 @@ module _ (names : List NameEntry) (readable : List ℕ) (text : List ℕ) where
         let asks : is_question names q.number ≡ true = ap (λ found. option_map_or (λ n. bytes_eq n.text question) found false) q.there
         ∙ bytes_same q.entry.text question q.text in
         record {
-          tree = probe_of q.number (more_terms (signal s.number) no_terms);
+          tree = probe_with q.number (more_terms (signal s.number) no_terms);
           numbered_is =
-              ap (option_and_then (λ k. option_map (λ n. probe_of n (more_terms (signal k) no_terms))
+              ap (option_and_then (λ k. option_map (λ n. probe_with n (more_terms (signal k) no_terms))
               (number_of names question))) s.numbered
-              ∙ ap (option_map (λ n. probe_of n (more_terms (signal s.number) no_terms))) q.numbered;
+              ∙ ap (option_map (λ n. probe_with n (more_terms (signal s.number) no_terms))) q.numbered;
           fits = and_from (is_name names q.number Predicate 1 && (term_fits names (signal s.number) && true))
               (is_usable_at names q.number || (is_question names q.number && true))
               (and_from (is_name names q.number Predicate 1) (term_fits names (signal s.number) && true) named
               (and_from (term_fits names (signal s.number)) true term refl))
               (or_right (is_usable_at names q.number) (is_question names q.number && true) (and_from
               (is_question names q.number) true asks refl));
-          spelled = ap (λ b. cond b (name_text names s.number) (application_text names (probe_of q.number (more_terms
+          spelled = ap (λ b. cond b (name_text names s.number) (application_text names (probe_with q.number (more_terms
               (signal s.number) no_terms)))) asks
               ∙ text_is names (tested_use text line at).name s;
           deep = refl;
@@ -207,14 +207,14 @@ module _ (names : List NameEntry) (readable : List ℕ) (text : List ℕ) where
         let g : TermsGood ps = terms_good line ps k.1 in
         let u : KnownUse names readable (applied_use text line Predicate at (count_of_phrases ps)) = k.0 in
         let name : NameEntry = (applied_use text line Predicate at (count_of_phrases ps)).name in
-        let tree : ProbeTree = probe_of u.name.number g.trees in
+        let tree : ProbeTree = probe_with u.name.number g.trees in
         let other : is_question names u.name.number ≡ false =
         ap (λ found. option_map_or (λ n. bytes_eq n.text question) found false) u.name.there
         ∙ not_question u.name.entry (ap is_usable u.name.text ∙ u.usable) in
         record {
           tree = tree;
-          numbered_is = ap (option_and_then (λ number. option_map (probe_of number) (numbered_terms names text ps))) u.name.numbered
-              ∙ ap (option_map (probe_of u.name.number)) g.numbered_are;
+          numbered_is = ap (option_and_then (λ number. option_map (probe_with number) (numbered_terms names text ps))) u.name.numbered
+              ∙ ap (option_map (probe_with u.name.number)) g.numbered_are;
           fits = and_from (is_name names u.name.number Predicate (count_of_terms g.trees) && terms_fit names g.trees)
               (is_usable_at names u.name.number || (is_question names u.name.number && are_one_signal g.trees))
               (and_from (is_name names u.name.number Predicate (count_of_terms g.trees)) (terms_fit names g.trees)

@@ -40,13 +40,16 @@ window_parts names w h =
     let probes = and_parts (probe_is_writable names w.left) (probe_is_writable names w.right) parts.0 in
     record { left = probes.0; right = probes.1; updates = parts.1 }
 
-updates_held : (names : List Name) (us : List ListedTree) → IsTrue (list_all (listed_is_writable names) us) → IsTrue (list_all (listed_is_held names) us)
+updates_held : (names : List Name) (us : List ListedTree) → IsTrue (list_all (listed_is_writable names) us) →
+    IsTrue (list_all (listed_is_held names) us)
 updates_held names us h =
-    list_all_weaker (listed_is_writable names) (listed_is_held names) (λ u k. let both = listed_held names u k in and_from _ _ both.0 both.1) us h
+    list_all_weaker (listed_is_writable names) (listed_is_held names)
+    (λ u k. let both = listed_held names u k in and_from _ _ both.0 both.1) us h
 
 pub window_held : (names : List Name) (w : WindowTree) → IsTrue (window_is_writable names w) → IsTrue (window_is_held names w)
 window_held names w h =
     let parts = window_parts names w h in
     and_from (probe_is_held names w.left && probe_is_held names w.right) (list_all (listed_is_held names) w.updates)
-    (and_from (probe_is_held names w.left) (probe_is_held names w.right) (written_probe_held names w.left parts.left) (written_probe_held names w.right parts.right))
+    (and_from (probe_is_held names w.left) (probe_is_held names w.right) (written_probe_held names w.left parts.left)
+    (written_probe_held names w.right parts.right))
     (updates_held names w.updates parts.updates)

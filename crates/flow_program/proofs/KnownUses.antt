@@ -13,7 +13,7 @@ use Rattle.tsl_terms.specs.declared.names.NameKind.TheVariants.{Predicate}
 use Rattle.tsl_terms.specs.Name.{Name, number_of, same_kind, question, AreDistinct}
 use Rattle.tsl_terms.specs.Clashes.{alike_in_kind, same_arity}
 use Rattle.tsl_terms.specs.WellFormed.{name_fits}
-use Rattle.tsl_terms.specs.internal.FirstUse.{named}
+use Rattle.tsl_terms.specs.internal.FirstUse.{name_with}
 use Rattle.tsl_terms.proofs.FirstUses.{first_of, named_first, FirstAt, first_at}
 use Rattle.flow_program.specs.Uses.{ProgramUse, question_entry, entries_of_use, names_after}
 use Rattle.flow_program.specs.Rules.{is_unlike}
@@ -29,7 +29,7 @@ pub record Known (names : List Name) (u : Name) : Type 0 where
   pub kind : same_kind entry.kind u.kind ≡ true
   pub arity : (entry.arity == u.arity) ≡ true
 
-known_of : (names : List Name) (u f : Name) → named names u.text ≡ Some f → f.text ≡ u.text → alike_in_kind f u ≡ true →
+known_of : (names : List Name) (u f : Name) → name_with names u.text ≡ Some f → f.text ≡ u.text → alike_in_kind f u ≡ true →
     same_arity f u ≡ true → Known names u
 known_of names u f found text kind arity = by (number_of names u.text) refl found where
   by : (number : Option ℕ) → number_of names u.text ≡ number → option_and_then (slice_get names) number ≡ Some f → Known names u
@@ -110,10 +110,10 @@ module _ (given : List Name) (distinct : AreDistinct given) (us : List ProgramUs
   abbrev all : List Name
   all = given ++ flat_map entries_of_use us
 
-  named_is_first : (text : List ℕ) → named (names_after given us) text ≡ first_of all text
-  named_is_first text = ap (λ names. named names text) (are_first given (flat_map entries_of_use us) distinct) ∙ named_first all text
+  named_is_first : (text : List ℕ) → name_with (names_after given us) text ≡ first_of all text
+  named_is_first text = ap (λ names. name_with names text) (are_first given (flat_map entries_of_use us) distinct) ∙ named_first all text
 
-  alike_first : (alike : Name → Name → Bool) (u : ProgramUse) (f : Name) → named (names_after given us) u.name.text ≡ Some f →
+  alike_first : (alike : Name → Name → Bool) (u : ProgramUse) (f : Name) → name_with (names_after given us) u.name.text ≡ Some f →
       is_unlike alike (names_after given us) u ≡ false → alike f u.name ≡ true
   alike_first alike u f found like =
       by (alike f u.name) (sym (ap (λ o. option_map_or (λ n. not (alike n u.name)) o false) found) ∙ like)
@@ -128,7 +128,7 @@ module _ (given : List Name) (distinct : AreDistinct given) (us : List ProgramUs
       let use_first = first_use us at u there in
       let first = first_behind given (flat_map entries_of_use us) u.name.text use_first.0 use_first.1 in
       let stands : FirstAt all u.name.text first.0 = first_at all u.name.text first.0 first.1 in
-      let found : named (names_after given us) u.name.text ≡ Some first.0 = named_is_first u.name.text ∙ first.1 in
+      let found : name_with (names_after given us) u.name.text ≡ Some first.0 = named_is_first u.name.text ∙ first.1 in
       known_of (names_after given us) u.name first.0 found (sym stands.same)
       (alike_first alike_in_kind u first.0 found kinds) (alike_first same_arity u first.0 found arities)
 
@@ -149,13 +149,3 @@ pub record KnownUse (names : List Name) (readable : List ℕ) (u : ProgramUse) :
   pub usable : is_usable u.name.text ≡ true
   pub asked : IsTrue u.is_tested → Known names question_entry
   pub read : IsTrue u.is_read → is_among readable name.number ≡ true
-
--- where no member passes, the test fails at each
-pub none_found : {X : Type 0} (p : X → Bool) (xs : List X) (at : ℕ) (x : X) → find p xs ≡ None → slice_get xs at ≡ Some x → p x ≡ false
-none_found p [] at x none there = absurd (cc)
-none_found {X = X} p (y ∷ ys) at x none there = by (p y) refl (λ i. none_found p ys i x) none at there where
-  by : (b : Bool) → p y ≡ b → ((i : ℕ) → find p ys ≡ None → slice_get ys i ≡ Some x → p x ≡ false) → cond b (Some y) (find p ys) ≡ None →
-      (i : ℕ) → slice_get (y ∷ ys) i ≡ Some x → p x ≡ false
-  by true e rest k i is = absurd (cc)
-  by false e rest k zero is = let same : y ≡ x = cc in ap p (sym same) ∙ e
-  by false e rest k (suc i) is = rest i k is

@@ -21,7 +21,7 @@ use Rattle.flow_program.specs.Uses.{listed_uses, window_uses, node_uses, declare
 use Rattle.flow_program.specs.Uses.{first_window, first_node, first_state, uses_of}
 use Rattle.flow_program.proofs.UsableUses.{usable}
 use Rattle.flow_program.proofs.UseLemmas.{declared_append}
-use Rattle.std.proofs.lemmas.List.Folds.{list_all-append}
+use Rattle.sequence.proofs.Passes.{list_all_parts}
 
 -- ---- names
 
@@ -302,15 +302,12 @@ eight a b c d e f g h =
       length-append a b,
     )
 
-all_left : (p : Name → Bool) (xs ys : List Name) → list_all p (xs ++ ys) ≡ true → (list_all p xs ≡ true) × (list_all p ys ≡ true)
-all_left p xs ys h = and_parts (list_all p xs) (list_all p ys) (sym (list_all-append p xs ys) ∙ h)
-
 -- two bytes for each use of a name, and one for each line
 pub uses_and_lines : (text : List ℕ) (l : ListingTree) → IsListing text l →
     2 * length (uses_of text l) + (first_state l + length l.states) ≤ length text
 uses_and_lines text l h =
-    let front = all_left (name_stands text) (l.inputs ++ l.cells) l.outputs h.declared_stand in
-    let both = all_left (name_stands text) l.inputs l.cells front.0 in
+    let front = list_all_parts (name_stands text) (l.inputs ++ l.cells) l.outputs h.declared_stand in
+    let both = list_all_parts (name_stands text) l.inputs l.cells front.0 in
     let line = first_declaration in
     let cell_line = line + length l.inputs in
     let output_line = line + length (l.inputs ++ l.cells) in

@@ -1,7 +1,7 @@
 mod Examples
 pub mod Strips
 pub mod Held
-pub mod General
+pub mod FirstPlaces
 pub mod NumberLemmas
 pub mod Numbers
 pub mod UseLemmas
@@ -39,3 +39,4 @@ pub mod ListingFacts
 pub mod FirstFaults
 pub mod ReadListings
 pub mod OneListing
+pub mod Walking

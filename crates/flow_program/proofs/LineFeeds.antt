@@ -267,9 +267,9 @@ ended_line t p q within s =
     let parts = stand_split (line_pieces t) (word (codes "\n") ∷ []) p q s in
     let m : Place = parts.0 in
     let line = span (line_pieces t) p m parts.1 in
-    let after : q ≡ record { at = m.at + 1; bytes = parts.2.0 } = sym parts.2.2 in
-    let rest : m.bytes ≡ 10 ∷ q.bytes = parts.2.1 ∙ ap (λ (x : Place). 10 ∷ x.bytes) (sym after) in
-    let at : q.at ≡ m.at + 1 = ap (λ (x : Place). x.at) after in
+    let past : q ≡ record { at = m.at + 1; bytes = parts.2.0 } = sym parts.2.2 in
+    let rest : m.bytes ≡ 10 ∷ q.bytes = parts.2.1 ∙ ap (λ (x : Place). 10 ∷ x.bytes) (sym past) in
+    let at : q.at ≡ m.at + 1 = ap (λ (x : Place). x.at) past in
     let stop : m.at ≡ p.at + length line.bytes = line.end in
     record {
       bytes = line.bytes;

@@ -14,7 +14,7 @@ use Rattle.flow_program.specs.LineText.{Piece, word, Place, Stand, phrase_pieces
 use Rattle.flow_program.specs.LineText.{state, end_line, update_pieces, set_pieces, listed_pieces, placed_pieces, window_pieces}
 use Rattle.flow_program.specs.LineText.{node_pieces, line_pieces, is_short, is_shallow, listed_is_within, placed_is_within}
 use Rattle.flow_program.specs.LineText.{window_is_within, node_is_within, line_is_within}
-use Rattle.flow_program.specs.internal.LineReading.{Reader, strip, after, from, pair, mapped, prefixed, repeat, value_at_end, at_end}
+use Rattle.flow_program.specs.internal.LineReading.{LineReader, strip, past, from, pair, mapped, prefixed, repeat, value_at_end, at_end}
 use Rattle.flow_program.specs.internal.LineReading.{begins, first_number, phrase, update, is_square, update_follows, as_update, set_update}
 use Rattle.flow_program.specs.internal.LineReading.{as_listed, listed, placed, as_window, window_rest, as_branch, branch_rest}
 use Rattle.flow_program.specs.internal.LineReading.{as_assignment, assignment_rest, either, node_rest, numbered_node, numbered_state}
@@ -23,24 +23,11 @@ use Rattle.flow_program.proofs.Strips.{after_found, after_sound}
 use Rattle.flow_program.proofs.Standing.{stand_split, stand_shorter}
 use Rattle.flow_program.proofs.Repeats.{Shrinks}
 use Rattle.flow_program.proofs.Exactly.{Reads, Any, prefixed_reads, closed_reads, mapped_reads, pair_reads, repeat_reads}
+use Rattle.flow_program.proofs.Numbers.{FirstDigit, first_digit}
 use Rattle.flow_program.proofs.WordsRead.{NoLetter, NoDigit, number_pieces, short_below, name_reads, number_reads}
 use Rattle.flow_program.proofs.PhrasesRead.{EndsPhrase, ends_phrase, phrase_reads}
 
 -- ---- what follows a test
-
--- a number begins with a digit
-record FirstDigit (ds : List ℕ) : Type 0 where
-  first : ℕ
-  rest : List ℕ
-  is : ds ≡ first ∷ rest
-  digit : is_ascii_digit first ≡ true
-
-first_digit : (n : ℕ) → n < 2 ^ 64 → FirstDigit (decimal n)
-first_digit n h = by_digits (decimal n) (decimal_nonempty n h) (decimal_digits n h) where
-  by_digits : (ds : List ℕ) → 0 < length ds → list_all is_ascii_digit ds ≡ true → FirstDigit ds
-  by_digits [] some all = absurd (omega arith)
-  by_digits (d ∷ ds) some all =
-      record { first = d; rest = ds; is = refl; digit = (and_parts (is_ascii_digit d) (list_all is_ascii_digit ds) all).0 }
 
 -- a word with a space before and after it, and a number
 number_bytes : (w : List ℕ) (n : ℕ) (p q : Place) → Stand (word w ∷ number_pieces n) p q → IsTrue (is_short n) →
@@ -169,7 +156,7 @@ either_some : {V : Type 0} (o : Option Place) (reader : Place → Option V) (oth
 either_some o reader other m e = ap (λ (x : Option Place). either x reader other) e
 
 -- another word stands there
-after_other : (w : List ℕ) (p : Place) (bytes : List ℕ) → p.bytes ≡ bytes → strip w bytes ≡ None → after w p ≡ None
+after_other : (w : List ℕ) (p : Place) (bytes : List ℕ) → p.bytes ≡ bytes → strip w bytes ≡ None → past w p ≡ None
 after_other w p bytes e f =
     ap (option_map (λ (rest : List ℕ). record { at = p.at + length w; bytes = rest })) (ap (strip w) e ∙ f)
 
@@ -204,26 +191,26 @@ node_reads = record { sound = sound; complete = complete } where
             subst P (same_Some (as_assignment a, k) (n, q) y) ((rest, f, subst Q g inner.0), inner.1)
 
   sound : (p : Place) (n : NodeLine) (q : Place) → node_rest p ≡ Some (n, q) → Stand (node_pieces n) p q × IsTrue (node_is_within n)
-  sound p n q e = by_if (after (codes " if ") p) refl e where
-    by_set : (o : Option Place) → after (codes " set") p ≡ o → from o assignment_rest ≡ Some (n, q) →
+  sound p n q e = by_if (past (codes " if ") p) refl e where
+    by_set : (o : Option Place) → past (codes " set") p ≡ o → from o assignment_rest ≡ Some (n, q) →
         Stand (node_pieces n) p q × IsTrue (node_is_within n)
     by_set None f g = absurd (none-some (n, q) g)
     by_set (Some m) f g = let found = after_sound (codes " set") p m f in assignment_sound m n q g p found.0 found.1 found.2
 
-    by_if : (o : Option Place) → after (codes " if ") p ≡ o →
+    by_if : (o : Option Place) → past (codes " if ") p ≡ o →
         either o branch_rest (prefixed (codes " set") assignment_rest p) ≡ Some (n, q) →
         Stand (node_pieces n) p q × IsTrue (node_is_within n)
-    by_if None f g = by_set (after (codes " set") p) refl g
+    by_if None f g = by_set (past (codes " set") p) refl g
     by_if (Some m) f g = let found = after_sound (codes " if ") p m f in branch_sound m n q g p found.0 found.1 found.2
 
   complete : (p : Place) (n : NodeLine) (q : Place) → Stand (node_pieces n) p q → IsTrue (node_is_within n) → NoDigit q.bytes →
       node_rest p ≡ Some (n, q)
   complete p (branch_line test then_node else_node) q s good ends =
-      either_some (after (codes " if ") p) branch_rest (prefixed (codes " set") assignment_rest p) (record { at = p.at + 4; bytes = s.0 })
+      either_some (past (codes " if ") p) branch_rest (prefixed (codes " set") assignment_rest p) (record { at = p.at + 4; bytes = s.0 })
       (after_found (codes " if ") p s.0 s.1)
       ∙ ap (mapped as_branch) (branch_reads.complete (record { at = p.at + 4; bytes = s.0 }) (test, (then_node, else_node)) q s.2 good ends)
   complete p (assignment_line updates go) q s good ends =
-      either_none (after (codes " if ") p) branch_rest (prefixed (codes " set") assignment_rest p)
+      either_none (past (codes " if ") p) branch_rest (prefixed (codes " set") assignment_rest p)
       (after_other (codes " if ") p (codes " set" ++ s.0) s.1 refl)
       ∙ ap (λ (o : Option Place). from o assignment_rest) (after_found (codes " set") p s.0 s.1)
       ∙ ap (mapped as_assignment) (assignment_reads.complete (record { at = p.at + 4; bytes = s.0 }) (updates, go) q s.2 good ends)
@@ -261,14 +248,14 @@ module _ {A : Type 0} where
   at_end_complete o a q e f = ap at_end e ∙ ap (value_at_end a) f
 
   -- one kind of line, by its first word
-  module _ {reader : Reader A} {pieces : A → List Piece} {good : A → Bool} {Ends : List ℕ →
+  module _ {reader : LineReader A} {pieces : A → List Piece} {good : A → Bool} {Ends : List ℕ →
       Type 0} (w : List ℕ) (h : Reads reader pieces good Ends)
       (empty : (bytes : List ℕ) → bytes ≡ [] → Ends bytes) (make : A → LineTree)
       (pieces_are : (a : A) → line_pieces (make a) ≡ word w ∷ pieces a) (within_is : (a : A) → line_is_within (make a) ≡ good a) where
     kind_sound : (p : Place) (t : LineTree) (other : Option LineTree) →
-        either (after w p) (λ q. option_map make (at_end (reader q))) other ≡ Some t → (other ≡ Some t → IsLineAt p t) → IsLineAt p t
-    kind_sound p t other e next = by_word (after w p) refl e where
-      by_value : (m : Place) (o : Option A) → at_end (reader m) ≡ o → option_map make o ≡ Some t → after w p ≡ Some m → IsLineAt p t
+        either (past w p) (λ q. option_map make (at_end (reader q))) other ≡ Some t → (other ≡ Some t → IsLineAt p t) → IsLineAt p t
+    kind_sound p t other e next = by_word (past w p) refl e where
+      by_value : (m : Place) (o : Option A) → at_end (reader m) ≡ o → option_map make o ≡ Some t → past w p ≡ Some m → IsLineAt p t
       by_value m None f g x = absurd (none-some t g)
       by_value m (Some a) f g x =
           let found = after_sound w p m x in
@@ -285,26 +272,26 @@ module _ {A : Type 0} where
             within = within_is a ∙ inner.1;
           })
 
-      by_word : (o : Option Place) → after w p ≡ o → either o (λ q. option_map make (at_end (reader q))) other ≡ Some t → IsLineAt p t
+      by_word : (o : Option Place) → past w p ≡ o → either o (λ q. option_map make (at_end (reader q))) other ≡ Some t → IsLineAt p t
       by_word None f g = next g
       by_word (Some m) f g = by_value m (at_end (reader m)) refl g f
 
     kind_complete : (p : Place) (a : A) (other : Option LineTree) → IsLineAt p (make a) →
-        either (after w p) (λ q. option_map make (at_end (reader q))) other ≡ Some (make a)
+        either (past w p) (λ q. option_map make (at_end (reader q))) other ≡ Some (make a)
     kind_complete p a other l =
         let R : List Piece → Type 0 = λ xs. Stand xs p l.end in
         let s : Stand (word w ∷ pieces a) p l.end = subst R (pieces_are a) l.stands in
         let m : Place = record { at = p.at + length w; bytes = s.0 } in
-        either_some (after w p) (λ q. option_map make (at_end (reader q))) other m (after_found w p s.0 s.1)
+        either_some (past w p) (λ q. option_map make (at_end (reader q))) other m (after_found w p s.0 s.1)
         ∙ ap (option_map make) (at_end_complete (reader m) a l.end
         (h.complete m a l.end s.2 (sym (within_is a) ∙ l.within) (empty l.end.bytes l.ends)) l.ends)
 
 -- a line of one word
 word_sound : (w : List ℕ) (made : LineTree) → line_pieces made ≡ word w ∷ [] → line_is_within made ≡ true → (p : Place) (t : LineTree)
-    (other : Option LineTree) → either (after w p) (λ q. value_at_end made q.bytes) other ≡ Some t → (other ≡ Some t → IsLineAt p t) →
+    (other : Option LineTree) → either (past w p) (λ q. value_at_end made q.bytes) other ≡ Some t → (other ≡ Some t → IsLineAt p t) →
     IsLineAt p t
-word_sound w made pieces_are within_is p t other e next = by_word (after w p) refl e where
-  by_bytes : (m : Place) (bytes : List ℕ) → m.bytes ≡ bytes → value_at_end made bytes ≡ Some t → after w p ≡ Some m → IsLineAt p t
+word_sound w made pieces_are within_is p t other e next = by_word (past w p) refl e where
+  by_bytes : (m : Place) (bytes : List ℕ) → m.bytes ≡ bytes → value_at_end made bytes ≡ Some t → past w p ≡ Some m → IsLineAt p t
   by_bytes m [] f g x =
       let found = after_sound w p m x in
       let P : LineTree → Type 0 = IsLineAt p in
@@ -313,17 +300,17 @@ word_sound w made pieces_are within_is p t other e next = by_word (after w p) re
       (record { end = m; stands = subst R (sym pieces_are) (found.0, found.1, sym found.2); ends = f; within = within_is })
   by_bytes m (c ∷ cs) f g x = absurd (none-some t g)
 
-  by_word : (o : Option Place) → after w p ≡ o → either o (λ q. value_at_end made q.bytes) other ≡ Some t → IsLineAt p t
+  by_word : (o : Option Place) → past w p ≡ o → either o (λ q. value_at_end made q.bytes) other ≡ Some t → IsLineAt p t
   by_word None f g = next g
   by_word (Some m) f g = by_bytes m m.bytes refl g f
 
 word_complete : (w : List ℕ) (made : LineTree) → line_pieces made ≡ word w ∷ [] → (p : Place) (other : Option LineTree) → IsLineAt p made →
-    either (after w p) (λ q. value_at_end made q.bytes) other ≡ Some made
+    either (past w p) (λ q. value_at_end made q.bytes) other ≡ Some made
 word_complete w made pieces_are p other l =
     let R : List Piece → Type 0 = λ xs. Stand xs p l.end in
     let s : Stand (word w ∷ []) p l.end = subst R pieces_are l.stands in
     let nothing : s.0 ≡ [] = ap (λ (x : Place). x.bytes) s.2 ∙ l.ends in
-    either_some (after w p) (λ q. value_at_end made q.bytes) other (record { at = p.at + length w; bytes = s.0 }) (after_found w p s.0 s.1)
+    either_some (past w p) (λ q. value_at_end made q.bytes) other (record { at = p.at + length w; bytes = s.0 }) (after_found w p s.0 s.1)
     ∙ ap (value_at_end made) nothing
 
 letter_at_end : (bytes : List ℕ) → bytes ≡ [] → NoLetter bytes
@@ -344,8 +331,8 @@ line_sound p t e =
 -- a line that begins with this word is none of a kind that begins with another
 module _ (p : Place) (v bytes : List ℕ) (e : p.bytes ≡ v ++ bytes) where
   passed : (w : List ℕ) → strip w (v ++ bytes) ≡ None → (reader : Place → Option LineTree) (other : Option LineTree) →
-      either (after w p) reader other ≡ other
-  passed w f reader other = either_none (after w p) reader other (after_other w p (v ++ bytes) e f)
+      either (past w p) reader other ≡ other
+  passed w f reader other = either_none (past w p) reader other (after_other w p (v ++ bytes) e f)
 
 -- and the line is read
 pub line_complete : (p : Place) (t : LineTree) → IsLineAt p t → read_line p ≡ Some t

@@ -8,18 +8,19 @@ use Rattle.tsl_text.proofs.NumberLaws.{decimal_digits}
 use Rattle.term_text.proofs.Spelling.{Ends, word_ends}
 
 -- the first digit of a number, and the others
-record FirstDigit (ds : List ℕ) : Type 0 where
-  first : ℕ
-  rest : List ℕ
-  is : ds ≡ first ∷ rest
-  digit : IsTrue (is_ascii_digit first)
+pub record FirstDigit (ds : List ℕ) : Type 0 where
+  pub first : ℕ
+  pub rest : List ℕ
+  pub is : ds ≡ first ∷ rest
+  pub digit : IsTrue (is_ascii_digit first)
 
-first_digit : (n : ℕ) → n < 2 ^ 64 → FirstDigit (decimal n)
+pub first_digit : (n : ℕ) → n < 2 ^ 64 → FirstDigit (decimal n)
 first_digit n h = by_digits (decimal n) (decimal_nonempty n h) (decimal_digits n h)
   where
     by_digits : (ds : List ℕ) → 0 < length ds → list_all is_ascii_digit ds ≡ true → FirstDigit ds
     by_digits [] some all = absurd (omega arith)
-    by_digits (d ∷ ds) some all = record { first = d; rest = ds; is = refl; digit = (and_parts (is_ascii_digit d) (list_all is_ascii_digit ds) all).0 }
+    by_digits (d ∷ ds) some all =
+        record { first = d; rest = ds; is = refl; digit = (and_parts (is_ascii_digit d) (list_all is_ascii_digit ds) all).0 }
 
 -- the places that follow a test
 pub at_ends : (n : ℕ) (u : List ℕ) → n < 2 ^ 64 → Ends (codes " at " ++ (decimal n ++ u))

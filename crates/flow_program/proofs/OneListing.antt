@@ -5,12 +5,13 @@ use Rattle.std.specs.List.{list_all}
 use Rattle.std.proofs.lemmas.Bool.{and_parts, and_from, cases_order}
 use Rattle.std.proofs.lemmas.List.{append-nil}
 use Rattle.std.proofs.lemmas.Option.{same_Some}
+use Rattle.sequence.proofs.Lists.{not_empty_behind}
 use Rattle.tsl_text.specs.Written.{is_line, text_of_lines}
 use Rattle.flow_program.specs.Listing.{IsListing, BeginAlike, FormFault}
 use Rattle.flow_program.specs.ListingTree.{ListingTree}
 use Rattle.flow_program.specs.LineText.{Place, Stand, LineTree, ended_pieces, line_is_within, listing_lines}
 use Rattle.flow_program.specs.internal.LineOrder.{fresh, done, add_all}
-use Rattle.flow_program.proofs.FirstFaults.{not_nil, continues}
+use Rattle.flow_program.proofs.FirstFaults.{continues}
 use Rattle.flow_program.proofs.LineFeeds.{ended_line}
 use Rattle.flow_program.proofs.Standing.{stand_split}
 use Rattle.flow_program.proofs.OrderOfLines.{listing_adds}
@@ -25,7 +26,7 @@ no_line_left [] p q nil s h = refl
 no_line_left (t ∷ more) p q nil s h =
     let parts = stand_split (ended_pieces t) (flat_map ended_pieces more) p q s in
     let line = ended_line t p parts.0 (and_parts (line_is_within t) (list_all line_is_within more) h).0 parts.1 in
-    absurd (not_nil line.bytes 10 parts.0.bytes (sym line.split ∙ nil))
+    absurd (not_empty_behind line.bytes (10 ∷ parts.0.bytes) (λ e. cc) (sym line.split ∙ nil))
 
 member_within : (before more : List LineTree) → list_all line_is_within (before ++ more) ≡ true → list_all line_is_within more ≡ true
 member_within [] more h = h

@@ -12,7 +12,7 @@ use Rattle.flow_program.specs.declared.listing_reader.Begun.{Begun}
 use Rattle.flow_program.specs.Listing.{declared, declared_entry}
 use Rattle.flow_program.specs.LineText.{LineTree, head_line, input, cell, output, window, node, state, end_line, node_lines, state_lines}
 use Rattle.flow_program.specs.LineText.{listing_lines}
-use Rattle.flow_program.specs.internal.LineOrder.{may_stand, extended, Progress, fresh, going, done, is_nil, no_node, no_window, no_output}
+use Rattle.flow_program.specs.internal.LineOrder.{may_stand, progress_with, Progress, fresh, going, done, is_nil, no_node, no_window, no_output}
 use Rattle.flow_program.specs.internal.LineOrder.{no_cell, when, added, add, add_all, listing_of, declares, names_so_far, progress_of}
 
 -- ---- adding lines
@@ -351,8 +351,8 @@ made_more lines (done l) q t m e = absurd (none-some q e)
 
 -- the names that a line declares come after those before it
 pub extended_names : (l : ListingTree) (t : LineTree) → may_stand l t ≡ true →
-    declared (listing_of (extended l t)) ≡ declared l ++ declares t
-extended_names l t h = (grown l t (extended l t) (cond-true (may_stand l t) (Some (extended l t)) None h)).names
+    declared (listing_of (progress_with l t)) ≡ declared l ++ declares t
+extended_names l t h = (grown l t (progress_with l t) (cond-true (may_stand l t) (Some (progress_with l t)) None h)).names
 
 pub progress_listing : (b : Begun) → listing_of (progress_of b) ≡ listing_tree b.listing
 progress_listing b = by_end b.ended where
@@ -362,7 +362,7 @@ progress_listing b = by_end b.ended where
   by_end false = refl
 
 pub names_grow : (text : List ℕ) (l : ListingTree) (t : LineTree) (b : Begun) (old new : List NameEntry) → may_stand l t ≡ true →
-    progress_of b ≡ extended l t → old ≡ names_so_far text l → new ≡ old ++ map (declared_entry text) (declares t) →
+    progress_of b ≡ progress_with l t → old ≡ names_so_far text l → new ≡ old ++ map (declared_entry text) (declares t) →
     new ≡ names_so_far text (listing_tree b.listing)
 names_grow text l t b old new h e f g =
     g ∙ ap (λ (ns : List NameEntry). ns ++ map (declared_entry text) (declares t)) f

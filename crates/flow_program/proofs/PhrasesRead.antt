@@ -14,10 +14,10 @@ use Rattle.flow_program.specs.declared.listing.Name.{Name}
 use Rattle.flow_program.specs.ListingTree.{PhraseTree, bare, applied, PhraseTrees, no_phrases, more_phrases}
 use Rattle.flow_program.specs.LineText.{Piece, word, named, Place, Stand, argument_pieces, phrase_pieces, phrases_pieces, bracketed_phrase}
 use Rattle.flow_program.specs.LineText.{phrase_brackets, phrases_brackets, is_shallow}
-use Rattle.flow_program.specs.internal.LineReading.{after, from, mapped, keep_before, begins, first_name, phrases_of, is_open}
+use Rattle.flow_program.specs.internal.LineReading.{past, from, mapped, keep_before, begins, first_name, phrases_of, is_open}
 use Rattle.flow_program.specs.internal.LineReading.{number_follows, argument_begins, argument_follows, constant_or, short_after, short}
-use Rattle.flow_program.specs.internal.LineReading.{argument, spaced_argument, arguments, phrase_of, phrase_after, phrase_with}
-use Rattle.flow_program.specs.internal.LineReading.{has_arguments, only_applied, bracketed, phrase}
+use Rattle.flow_program.specs.internal.LineReading.{argument_phrase, spaced_argument, arguments, phrase_of, phrase_after, phrase_with}
+use Rattle.flow_program.specs.internal.LineReading.{has_arguments, only_applied, in_brackets, phrase}
 use Rattle.tsl_terms.specs.WellFormed.{deepest}
 use Rattle.flow_program.proofs.BracketLevels.{bracketed_zero, bracketed_more, bracketed_inner}
 use Rattle.flow_program.proofs.Strips.{after_found, after_none, after_sound}
@@ -64,7 +64,7 @@ ends_more bytes h =
     let parts = and_parts (ends_argument bytes) (not (argument_follows bytes)) h in
     (not-true (argument_follows bytes) parts.1, parts.0)
 
-no_constant : (p : Place) → begins is_open p.bytes ≡ false → after (codes "()") p ≡ None
+no_constant : (p : Place) → begins is_open p.bytes ≡ false → past (codes "()") p ≡ None
 no_constant p h = after_none (codes "()") p (λ rest e. false≢true (sym h ∙ ap (begins is_open) e))
 
 -- ---- what names begin with
@@ -100,10 +100,10 @@ argument_is_within room v = leb (own_brackets v) room
 
 -- what is read in brackets has arguments, and all that has them is read
 pub record ReadsBrackets (room : ℕ) : Type 0 where
-  pub sound : (p : Place) (v : PhraseTree) (q : Place) → bracketed room p ≡ Some (v, q) →
+  pub sound : (p : Place) (v : PhraseTree) (q : Place) → in_brackets room p ≡ Some (v, q) →
       Stand (own_pieces v) p q × IsTrue (argument_is_within room v)
   pub complete : (p : Place) (v : PhraseTree) (q : Place) → has_arguments v ≡ true → Stand (own_pieces v) p q →
-      IsTrue (argument_is_within room v) → bracketed room p ≡ Some (v, q)
+      IsTrue (argument_is_within room v) → in_brackets room p ≡ Some (v, q)
 
 -- an argument begins with a bracket or with a name that no number follows
 named_starts : (name rest bytes : List ℕ) → bytes ≡ name ++ rest → IsTrue (is_usable name) → NoLetter rest →
@@ -146,8 +146,8 @@ short_sound room p v q e = by_name (first_name p) refl e where
   by_name : (o : Option (Name × Place)) → first_name p ≡ o → short_after o ≡ Some (v, q) →
       Stand (own_pieces v) p q × IsTrue (argument_is_within room v)
   by_name None f g = absurd (none-some (v, q) g)
-  by_name (Some (n, m)) f g = by_constant (after (codes "()") m) refl g where
-    by_constant : (o : Option Place) → after (codes "()") m ≡ o → constant_or n o (Some (bare n, m)) ≡ Some (v, q) →
+  by_name (Some (n, m)) f g = by_constant (past (codes "()") m) refl g where
+    by_constant : (o : Option Place) → past (codes "()") m ≡ o → constant_or n o (Some (bare n, m)) ≡ Some (v, q) →
         Stand (own_pieces v) p q × IsTrue (argument_is_within room v)
     by_constant None x y =
         let P : PhraseTree × Place → Type 0 = λ z. Stand (own_pieces z.0) p z.1 × IsTrue (argument_is_within room z.0) in
@@ -162,7 +162,7 @@ short_sound room p v q e = by_name (first_name p) refl e where
 
 -- a constant that stands is read
 constant_is : (n : Name) (p q : Place) → Stand (named n ∷ word (codes "()") ∷ []) p q →
-    (m : Place) × (first_name p ≡ Some (n, m)) × (after (codes "()") m ≡ Some q)
+    (m : Place) × (first_name p ≡ Some (n, m)) × (past (codes "()") m ≡ Some q)
 constant_is n p q s =
     let parts = stand_split (name_pieces n) (word (codes "()") ∷ []) p q s in
     let m : Place = parts.0 in (
@@ -174,45 +174,45 @@ constant_is n p q s =
 -- ---- an argument
 
 module _ (room : ℕ) (h : ReadsBrackets room) where
-  argument_reads : Reads (argument (bracketed room)) own_pieces (argument_is_within room) EndsArgument
+  argument_reads : Reads (argument_phrase (in_brackets room)) own_pieces (argument_is_within room) EndsArgument
   argument_reads = record { sound = sound; complete = complete } where
-    sound : (p : Place) (v : PhraseTree) (q : Place) → argument (bracketed room) p ≡ Some (v, q) →
+    sound : (p : Place) (v : PhraseTree) (q : Place) → argument_phrase (in_brackets room) p ≡ Some (v, q) →
         Stand (own_pieces v) p q × IsTrue (argument_is_within room v)
     sound p v q e = by_test (begins is_open p.bytes) e where
-      by_test : (t : Bool) → cond t (bracketed room p) (short p) ≡ Some (v, q) →
+      by_test : (t : Bool) → cond t (in_brackets room p) (short p) ≡ Some (v, q) →
           Stand (own_pieces v) p q × IsTrue (argument_is_within room v)
       by_test true f = h.sound p v q f
       by_test false f = short_sound room p v q f
 
     complete : (p : Place) (v : PhraseTree) (q : Place) → Stand (own_pieces v) p q → IsTrue (argument_is_within room v) →
-        EndsArgument q.bytes → argument (bracketed room) p ≡ Some (v, q)
+        EndsArgument q.bytes → argument_phrase (in_brackets room) p ≡ Some (v, q)
     complete p (bare n) q s good ends =
         let shut : begins is_open p.bytes ≡ false = ap (begins is_open) s.2 ∙ letter_no_open s.0 s.1 s.3 in
-        cond-false (begins is_open p.bytes) (bracketed room p) (short p) shut
+        cond-false (begins is_open p.bytes) (in_brackets room p) (short p) shut
         ∙ ap short_after (name_reads.complete p n q s refl (no_letter q.bytes ends))
         ∙ ap (λ (o : Option Place). constant_or n o (Some (bare n, q))) (no_constant q (no_open q.bytes ends))
     complete p (applied n no_phrases) q s good ends =
         let shut : begins is_open p.bytes ≡ false = ap (begins is_open) s.2 ∙ letter_no_open s.0 s.1 s.3 in
         let c = constant_is n p q s in
-        cond-false (begins is_open p.bytes) (bracketed room p) (short p) shut
+        cond-false (begins is_open p.bytes) (in_brackets room p) (short p) shut
         ∙ ap short_after c.1
         ∙ ap (λ (o : Option Place). constant_or n o (Some (bare n, c.0))) c.2
     complete p (applied n (more_phrases v vs)) q s good ends =
-        cond-true (begins is_open p.bytes) (bracketed room p) (short p) (ap (begins is_open) s.1)
+        cond-true (begins is_open p.bytes) (in_brackets room p) (short p) (ap (begins is_open) s.1)
         ∙ h.complete p (applied n (more_phrases v vs)) q refl s good
 
-  spaced_reads : Reads (spaced_argument (bracketed room)) (λ v. word (codes " ") ∷ own_pieces v) (argument_is_within room) EndsArgument
+  spaced_reads : Reads (spaced_argument (in_brackets room)) (λ v. word (codes " ") ∷ own_pieces v) (argument_is_within room) EndsArgument
   spaced_reads = prefixed_reads (codes " ") argument_reads
 
   -- each takes its space at least
-  pub spaced_shrinks : Shrinks (spaced_argument (bracketed room))
+  pub spaced_shrinks : Shrinks (spaced_argument (in_brackets room))
   spaced_shrinks p v q e =
       let s = (spaced_reads.sound p v q e).0 in
       let rest : length q.bytes ≤ length s.0 = stand_shorter (own_pieces v) (record { at = p.at + 1; bytes = s.0 }) q s.2 in
       let whole : length p.bytes ≡ suc (length s.0) = ap length s.1 in
       omega arith
 
-  arguments_read : Reads (arguments (bracketed room)) (λ vs. flat_map (λ v. word (codes " ") ∷ own_pieces v) vs)
+  arguments_read : Reads (arguments (in_brackets room)) (λ vs. flat_map (λ v. word (codes " ") ∷ own_pieces v) vs)
       (λ vs. list_all (argument_is_within room) vs) EndsPhrase
   arguments_read = repeat_reads argument_follows spaced_reads spaced_shrinks
       (λ v p q s good ends. spaced_starts room v p q s good ends) ends_more
@@ -267,20 +267,20 @@ module _ (room : ℕ) (h : ReadsBrackets room) where
         list_within room (v ∷ vs) good,
       )
 
-  pub phrase_with_reads : Reads (phrase_with (bracketed room)) phrase_pieces (is_within room) EndsPhrase
+  pub phrase_with_reads : Reads (phrase_with (in_brackets room)) phrase_pieces (is_within room) EndsPhrase
   phrase_with_reads = record { sound = sound; complete = complete } where
-    list_reads : Reads (arguments (bracketed room)) (λ vs. flat_map spaced_pieces vs) (λ vs. list_all
+    list_reads : Reads (arguments (in_brackets room)) (λ vs. flat_map spaced_pieces vs) (λ vs. list_all
         (argument_is_within room) vs) EndsPhrase
     list_reads = arguments_read room h
 
-    sound : (p : Place) (v : PhraseTree) (q : Place) → phrase_with (bracketed room) p ≡ Some (v, q) →
+    sound : (p : Place) (v : PhraseTree) (q : Place) → phrase_with (in_brackets room) p ≡ Some (v, q) →
         Stand (phrase_pieces v) p q × IsTrue (is_within room v)
     sound p v q e = by_name (first_name p) refl e where
-      by_name : (o : Option (Name × Place)) → first_name p ≡ o → phrase_after (bracketed room) o ≡ Some (v, q) →
+      by_name : (o : Option (Name × Place)) → first_name p ≡ o → phrase_after (in_brackets room) o ≡ Some (v, q) →
           Stand (phrase_pieces v) p q × IsTrue (is_within room v)
       by_name None f g = absurd (none-some (v, q) g)
-      by_name (Some (n, m)) f g = by_constant (after (codes "()") m) refl g where
-        by_list : (o : Option (List PhraseTree × Place)) → arguments (bracketed room) m ≡ o → mapped (phrase_of n) o ≡ Some (v, q) →
+      by_name (Some (n, m)) f g = by_constant (past (codes "()") m) refl g where
+        by_list : (o : Option (List PhraseTree × Place)) → arguments (in_brackets room) m ≡ o → mapped (phrase_of n) o ≡ Some (v, q) →
             Stand (phrase_pieces v) p q × IsTrue (is_within room v)
         by_list None x y = absurd (none-some (v, q) y)
         by_list (Some (vs, k)) x y =
@@ -289,10 +289,10 @@ module _ (room : ℕ) (h : ReadsBrackets room) where
             subst P (same_Some (phrase_of n vs, k) (v, q) y)
             (made_sound p m k n vs (name_reads.sound p n m f).0 inner.0 inner.1)
 
-        by_constant : (o : Option Place) → after (codes "()") m ≡ o →
-            constant_or n o (mapped (phrase_of n) (arguments (bracketed room) m)) ≡ Some (v, q) →
+        by_constant : (o : Option Place) → past (codes "()") m ≡ o →
+            constant_or n o (mapped (phrase_of n) (arguments (in_brackets room) m)) ≡ Some (v, q) →
             Stand (phrase_pieces v) p q × IsTrue (is_within room v)
-        by_constant None x y = by_list (arguments (bracketed room) m) refl y
+        by_constant None x y = by_list (arguments (in_brackets room) m) refl y
         by_constant (Some r) x y =
             let P : PhraseTree × Place → Type 0 = λ z. Stand (phrase_pieces z.0) p z.1 × IsTrue (is_within room z.0) in
             let found = after_sound (codes "()") m r x in
@@ -302,25 +302,25 @@ module _ (room : ℕ) (h : ReadsBrackets room) where
             )
 
     complete : (p : Place) (v : PhraseTree) (q : Place) → Stand (phrase_pieces v) p q → IsTrue (is_within room v) → EndsPhrase q.bytes →
-        phrase_with (bracketed room) p ≡ Some (v, q)
+        phrase_with (in_brackets room) p ≡ Some (v, q)
     complete p (bare n) q s good ends =
         let ended : EndsArgument q.bytes = (ends_more q.bytes ends).1 in
-        ap (phrase_after (bracketed room)) (name_reads.complete p n q s refl (no_letter q.bytes ended))
-        ∙ ap (λ (o : Option Place). constant_or n o (mapped (phrase_of n) (arguments (bracketed room) q))) (no_constant q
+        ap (phrase_after (in_brackets room)) (name_reads.complete p n q s refl (no_letter q.bytes ended))
+        ∙ ap (λ (o : Option Place). constant_or n o (mapped (phrase_of n) (arguments (in_brackets room) q))) (no_constant q
         (no_open q.bytes ended))
         ∙ ap (mapped (phrase_of n)) (list_reads.complete q [] q refl refl ends)
     complete p (applied n no_phrases) q s good ends =
         let c = constant_is n p q s in
-        ap (phrase_after (bracketed room)) c.1
-        ∙ ap (λ (o : Option Place). constant_or n o (mapped (phrase_of n) (arguments (bracketed room) c.0))) c.2
+        ap (phrase_after (in_brackets room)) c.1
+        ∙ ap (λ (o : Option Place). constant_or n o (mapped (phrase_of n) (arguments (in_brackets room) c.0))) c.2
     complete p (applied n (more_phrases v vs)) q s good ends =
         let parts = stand_split (name_pieces n) (phrases_pieces (more_phrases v vs)) p q s in
         let m : Place = parts.0 in
         let P : List Piece → Type 0 = λ xs. Stand xs m q in
         let as_list : flat_map spaced_pieces (v ∷ phrases_in vs) ≡ phrases_pieces (more_phrases v vs) =
         pieces_of_list (v ∷ phrases_in vs) ∙ ap phrases_pieces (ap (more_phrases v) (in_of vs)) in
-        ap (phrase_after (bracketed room)) (name_reads.complete p n m parts.1 refl (ap (begins is_name_byte) parts.2.1))
-        ∙ ap (λ (o : Option Place). constant_or n o (mapped (phrase_of n) (arguments (bracketed room) m)))
+        ap (phrase_after (in_brackets room)) (name_reads.complete p n m parts.1 refl (ap (begins is_name_byte) parts.2.1))
+        ∙ ap (λ (o : Option Place). constant_or n o (mapped (phrase_of n) (arguments (in_brackets room) m)))
         (no_constant m (ap (begins is_open) parts.2.1))
         ∙ ap (mapped (phrase_of n))
         (list_reads.complete m (v ∷ phrases_in vs) q (subst P (sym as_list) parts.2) (within_list room (more_phrases v vs) good) ends)
@@ -328,38 +328,38 @@ module _ (room : ℕ) (h : ReadsBrackets room) where
 
 -- ---- brackets, level by level
 
-in_brackets : (v : PhraseTree) → has_arguments v ≡ true →
+has_brackets : (v : PhraseTree) → has_arguments v ≡ true →
     (own_pieces v ≡ word (codes "(") ∷ (phrase_pieces v ++ word (codes ")") ∷ [])) × (own_brackets v ≡ 1 + phrase_brackets v)
-in_brackets (bare n) h = absurd (false≢true h)
-in_brackets (applied n no_phrases) h = absurd (false≢true h)
-in_brackets (applied n (more_phrases v vs)) h = (refl, refl)
+has_brackets (bare n) h = absurd (false≢true h)
+has_brackets (applied n no_phrases) h = absurd (false≢true h)
+has_brackets (applied n (more_phrases v vs)) h = (refl, refl)
 
 pub brackets_read : (room : ℕ) → ReadsBrackets room
 brackets_read zero = record { sound = sound; complete = complete } where
-  sound : (p : Place) (v : PhraseTree) (q : Place) → bracketed 0 p ≡ Some (v, q) →
+  sound : (p : Place) (v : PhraseTree) (q : Place) → in_brackets 0 p ≡ Some (v, q) →
       Stand (own_pieces v) p q × IsTrue (argument_is_within 0 v)
   sound p v q e = absurd (none-some (v, q) (sym (bracketed_zero 0 refl p) ∙ e))
 
   complete : (p : Place) (v : PhraseTree) (q : Place) → has_arguments v ≡ true → Stand (own_pieces v) p q →
-      IsTrue (argument_is_within 0 v) → bracketed 0 p ≡ Some (v, q)
+      IsTrue (argument_is_within 0 v) → in_brackets 0 p ≡ Some (v, q)
   complete p v q has s good =
       let level : own_brackets v ≤ 0 = leb-true (own_brackets v) 0 good in
-      absurd (omega (arith, level, (in_brackets v has).1))
+      absurd (omega (arith, level, (has_brackets v has).1))
 brackets_read (suc room) = step room (phrase_with_reads room (brackets_read room)) where
-  step : (room : ℕ) → Reads (phrase_with (bracketed room)) phrase_pieces (is_within room) EndsPhrase → ReadsBrackets (suc room)
+  step : (room : ℕ) → Reads (phrase_with (in_brackets room)) phrase_pieces (is_within room) EndsPhrase → ReadsBrackets (suc room)
   step room h = record { sound = sound; complete = complete } where
-    sound : (p : Place) (v : PhraseTree) (q : Place) → bracketed (suc room) p ≡ Some (v, q) →
+    sound : (p : Place) (v : PhraseTree) (q : Place) → in_brackets (suc room) p ≡ Some (v, q) →
         Stand (own_pieces v) p q × IsTrue (argument_is_within (suc room) v)
-    sound p v q e = by_open (after (codes "(") p) refl (sym (bracketed_more (suc room) room refl p (after (codes "(") p) refl) ∙ e) where
-      by_open : (o : Option Place) → after (codes "(") p ≡ o → only_applied (from o (phrase_with (bracketed room))) ≡ Some (v, q) →
+    sound p v q e = by_open (past (codes "(") p) refl (sym (bracketed_more (suc room) room refl p (past (codes "(") p) refl) ∙ e) where
+      by_open : (o : Option Place) → past (codes "(") p ≡ o → only_applied (from o (phrase_with (in_brackets room))) ≡ Some (v, q) →
           Stand (own_pieces v) p q × IsTrue (argument_is_within (suc room) v)
       by_open None f g = absurd (none-some (v, q) g)
-      by_open (Some m) f g = by_phrase (phrase_with (bracketed room) m) refl g where
-        by_phrase : (o : Option (PhraseTree × Place)) → phrase_with (bracketed room) m ≡ o → only_applied o ≡ Some (v, q) →
+      by_open (Some m) f g = by_phrase (phrase_with (in_brackets room) m) refl g where
+        by_phrase : (o : Option (PhraseTree × Place)) → phrase_with (in_brackets room) m ≡ o → only_applied o ≡ Some (v, q) →
             Stand (own_pieces v) p q × IsTrue (argument_is_within (suc room) v)
         by_phrase None x y = absurd (none-some (v, q) y)
         by_phrase (Some (u, k)) x y = by_kind (has_arguments u) refl y where
-          by_close : (o : Option Place) → has_arguments u ≡ true → after (codes ")") k ≡ o → keep_before u o ≡ Some (v, q) →
+          by_close : (o : Option Place) → has_arguments u ≡ true → past (codes ")") k ≡ o → keep_before u o ≡ Some (v, q) →
               Stand (own_pieces v) p q × IsTrue (argument_is_within (suc room) v)
           by_close None has a b = absurd (none-some (v, q) b)
           by_close (Some r) has a b =
@@ -370,7 +370,7 @@ brackets_read (suc room) = step room (phrase_with_reads room (brackets_read room
               let closer = after_sound (codes ")") k r a in
               let inner = h.sound m u k x in
               let deep : phrase_brackets u ≤ room = leb-true (phrase_brackets u) room inner.1 in
-              let forms = in_brackets u has in
+              let forms = has_brackets u has in
               subst P (same_Some (u, r) (v, q) b) (
                 subst Q (sym forms.0) (
                   opener.0,
@@ -381,15 +381,15 @@ brackets_read (suc room) = step room (phrase_with_reads room (brackets_read room
                 le-leb (own_brackets u) (suc room) (omega (arith, deep, forms.1)),
               )
 
-          by_kind : (t : Bool) → has_arguments u ≡ t → cond t (keep_before u (after (codes ")") k)) None ≡ Some (v, q) →
+          by_kind : (t : Bool) → has_arguments u ≡ t → cond t (keep_before u (past (codes ")") k)) None ≡ Some (v, q) →
               Stand (own_pieces v) p q × IsTrue (argument_is_within (suc room) v)
           by_kind false has b = absurd (none-some (v, q) b)
-          by_kind true has b = by_close (after (codes ")") k) has refl b
+          by_kind true has b = by_close (past (codes ")") k) has refl b
 
     complete : (p : Place) (v : PhraseTree) (q : Place) → has_arguments v ≡ true → Stand (own_pieces v) p q →
-        IsTrue (argument_is_within (suc room) v) → bracketed (suc room) p ≡ Some (v, q)
+        IsTrue (argument_is_within (suc room) v) → in_brackets (suc room) p ≡ Some (v, q)
     complete p v q has s good =
-        let forms = in_brackets v has in
+        let forms = has_brackets v has in
         let Q : List Piece → Type 0 = λ xs. Stand xs p q in
         let whole : Stand (word (codes "(") ∷ (phrase_pieces v ++ word (codes ")") ∷ [])) p q = subst Q forms.0 s in
         let m : Place = record { at = p.at + 1; bytes = whole.0 } in
@@ -399,12 +399,12 @@ brackets_read (suc room) = step room (phrase_with_reads room (brackets_read room
         let below : phrase_brackets v ≤ room = omega (arith, deep, forms.1) in
         bracketed_inner (suc room) room refl p m (after_found (codes "(") p whole.0 whole.1) (Some (v, k))
         (h.complete m v k parts.1 (le-leb (phrase_brackets v) room below) (ap ends_phrase parts.2.1))
-        ∙ cond-true (has_arguments v) (keep_before v (after (codes ")") k)) None has
+        ∙ cond-true (has_arguments v) (keep_before v (past (codes ")") k)) None has
         ∙ ap (keep_before v) (after_found (codes ")") k parts.2.0 parts.2.1 ∙ ap Some parts.2.2)
 
 pub phrase_reads : Reads phrase phrase_pieces is_shallow EndsPhrase
 phrase_reads = phrase_with_reads deepest (brackets_read deepest)
 
 -- each argument takes a byte at least
-pub arguments_shrink : (room : ℕ) → Shrinks (spaced_argument (bracketed room))
+pub arguments_shrink : (room : ℕ) → Shrinks (spaced_argument (in_brackets room))
 arguments_shrink room = spaced_shrinks room (brackets_read room)

@@ -8,7 +8,6 @@ use Rattle.std.specs.Option.{is_some, option_map_or}
 use Rattle.std.proofs.lemmas.Bool.{and_from, and_parts, leb-true, ltb-true, lt-ltb, le-ltb}
 use Rattle.std.proofs.lemmas.Grind.{flat_map-append}
 use Rattle.std.proofs.lemmas.List.{map-append, append-nil}
-use Rattle.std.proofs.lemmas.List.Folds.{list_all-append}
 use Rattle.sequence.proofs.Each.{each_joined, each_at, each_from_places, each_weaker}
 use Rattle.sequence.proofs.Numbers.{among_place}
 use Rattle.sequence.specs.Numbers.{is_among, IsDistinct}
@@ -44,11 +43,15 @@ use Rattle.sequence.proofs.Booleans.{eqb_self}
 use Rattle.sequence.proofs.Places.{slice_get_grown, slice_get_some}
 use Rattle.flow_program.proofs.RuleLemmas.{texts_are}
 use Rattle.sequence.proofs.Bytes.{bytes_same}
+use Rattle.sequence.proofs.Finds.{find_none}
+use Rattle.sequence.proofs.Places.{slice_get_mapped}
+use Rattle.sequence.proofs.Passes.{list_all_joined, list_all_parts}
+use Rattle.sequence.proofs.Passes.{passes_at}
 use Rattle.tsl_terms.specs.declared.names.NameKind.{NameKind}
 use Rattle.tsl_terms.specs.declared.names.NameKind.TheVariants.{Signal, Function, Predicate}
 use Rattle.tsl_terms.specs.Name.{same_kind, is_name}
 use Rattle.flow_program.specs.Reading.{GoOnFrom}
-use Rattle.flow_program.proofs.GoodLines.{place_at}
+use Rattle.flow_program.proofs.GoodLines.{place_at, or_and_weaker}
 use Rattle.flow_program.proofs.PlacedTerms.{entry_of}
 use Rattle.flow_program.proofs.UseLemmas.{declared_append}
 use Rattle.flow_program.proofs.Runs.{Run, run_word, run_append, Occurs, occurs_left, occurs_right}
@@ -76,10 +79,6 @@ none_place {X = X} test k (x ∷ xs) h =
 pub no_fault_line : {X : Type 0} (fault : ℕ → ProgramError) (test : ℕ → X → Bool) (line : ℕ) (xs : List X) →
     ((i : ℕ) (x : X) → slice_get xs i ≡ Some x → test (0 + i) x ≡ false) → at_line fault (first_line test line xs) ≡ None
 no_fault_line fault test line xs h = ap (λ o. at_line fault (option_map (λ place. line + place) o)) (none_place test 0 xs h)
-
-find_none : {X : Type 0} (p : X → Bool) (xs : List X) → AllByRecursion (λ x. p x ≡ false) xs → find p xs ≡ None
-find_none p [] h = refl
-find_none p (x ∷ xs) h = ap (λ b. cond b (Some x) (find p xs)) h.0 ∙ find_none p xs h.1
 
 pub within_over : (fault : ProgramError) (most count : ℕ) → count ≤ most → over fault most count ≡ None
 within_over fault most count h = ap (λ b. cond b (Some fault) None) (le-ltb most count h)
@@ -191,12 +190,6 @@ placed_some ts i t is = (
 )
 
 -- what stands at a place of a mapped list
-at_map : {X Y : Type 0} (f : X → Y) (xs : List X) (i : ℕ) (y : Y) → slice_get (map f xs) i ≡ Some y →
-    (x : X) × (slice_get xs i ≡ Some x) × (f x ≡ y)
-at_map f [] i y is = absurd (cc)
-at_map f (x ∷ xs) zero y is = (x, refl, same_Some (f x) y is)
-at_map f (x ∷ xs) (suc i) y is = at_map f xs i y is
-
 -- one place stands before the other
 record InOrder (cs : List ℕ) (r s : ℕ) : Type 0 where
   pub first : ℕ
@@ -223,13 +216,6 @@ in_order (c ∷ cs) r s h = by ((c == r) && is_among cs s) refl h (in_order cs r
 module _ (names : List NameEntry) (distinct : AreDistinct names) (readable : List ℕ) (text : List ℕ) (cells : List ℕ)
     (cells_fit : list_all (signal_fits names) cells ≡ true) (once : IsDistinct cells) (texts_of_cells : List (List ℕ))
     (cells_are : texts_of_cells ≡ map (name_text names) cells) where
-  fits_at : (cs : List ℕ) (i s : ℕ) → list_all (signal_fits names) cs ≡ true → slice_get cs i ≡ Some s → signal_fits names s ≡ true
-  fits_at [] i s fits is = absurd (cc)
-  fits_at (c ∷ cs) zero s fits is =
-      let same : c ≡ s = cc in
-      ap (signal_fits names) (sym same) ∙ (and_parts (signal_fits names c) (list_all (signal_fits names) cs) fits).0
-  fits_at (c ∷ cs) (suc i) s fits is = fits_at cs i s (and_parts (signal_fits names c) (list_all (signal_fits names) cs) fits).1 is
-
   -- the place of a cell among the texts is its place among the numbers
   cell_place : (i s : ℕ) → slice_get cells i ≡ Some s → place_in texts_of_cells (name_text names s) ≡ Some i
   cell_place i s is =
@@ -238,9 +224,9 @@ module _ (names : List NameEntry) (distinct : AreDistinct names) (readable : Lis
       let found = placed_some texts_of_cells i (name_text names s) there in
       let stands : slice_get (map (name_text names) cells) found.0 ≡ Some (name_text names s) =
       ap (λ ts. slice_get ts found.0) (sym cells_are) ∙ place_at texts_of_cells (name_text names s) found.0 found.1 in
-      let other = at_map (name_text names) cells found.0 (name_text names s) stands in
-      let same : other.0 ≡ s = same_id names distinct other.0 s (fits_at cells found.0 other.0 cells_fit other.1)
-      (fits_at cells i s cells_fit is) other.2 in
+      let other = slice_get_mapped (name_text names) cells found.0 (name_text names s) stands in
+      let same : other.0 ≡ s = same_id names distinct other.0 s (passes_at (signal_fits names) cells found.0 other.0 cells_fit other.1)
+      (passes_at (signal_fits names) cells i s cells_fit is) other.2 in
       let place : found.0 ≡ i = once found.0 i s (other.1 ∙ ap Some same) is in
       found.1 ∙ ap Some place
 
@@ -260,11 +246,6 @@ module _ (names : List NameEntry) (distinct : AreDistinct names) (readable : Lis
       (and_from (nat_lt u.offset n) (is_some (place_of_cell text texts_of_cells u)) (ap (λ k. nat_lt k n) are.1.0
       ∙ here.0) (ap is_some found))
       (all_within n xs us are.1.1 parts.1)
-
-  or_and_weaker : (a b c d : Bool) → (c ≡ true → d ≡ true) → (a || (b && c)) ≡ true → (a || (b && d)) ≡ true
-  or_and_weaker true b c d f h = refl
-  or_and_weaker false true c d f h = f h
-  or_and_weaker false false c d f h = h
 
   places_in_order : (x y : ListedTree) (u v : ListedLine) → name_bytes text u.signal ≡ name_text names x.signal →
       name_bytes text v.signal ≡ name_text names y.signal → stands_among cells x.signal y.signal ≡ true →
@@ -373,30 +354,16 @@ declared_apart : (names : List NameEntry) (distinct : AreDistinct names) (text :
 declared_apart names distinct text ds ids are fits once i j m n is too same =
     let a = id_at i m is in
     let b = id_at j n too in
-    let one : a.0 ≡ b.0 = same_id names distinct a.0 b.0 (fits_here ids i a.0 fits a.1) (fits_here ids j b.0 fits b.1) (a.2 ∙ same
+    let one : a.0 ≡ b.0 = same_id names distinct a.0 b.0 (passes_at (signal_fits names) ids i a.0 fits a.1) (passes_at (signal_fits names) ids j b.0 fits b.1) (a.2 ∙ same
     ∙ sym b.2) in
     once i j b.0 (a.1 ∙ ap Some one) b.1
   where
     id_at : (k : ℕ) (e : NameEntry) → slice_get (map (declared_entry text) ds) k ≡ Some e →
         (id : ℕ) × (slice_get ids k ≡ Some id) × (name_text names id ≡ e.text)
     id_at k e there =
-        at_map (name_text names) ids k e.text
+        slice_get_mapped (name_text names) ids k e.text
         (ap (λ ts. slice_get ts k) (sym are) ∙ ap (λ ts. slice_get ts k) (sym (texts_are text ds))
         ∙ slice_get-map (λ f. f.text) (map (declared_entry text) ds) k ∙ ap (option_map (λ f. f.text)) there)
-
-    fits_here : (cs : List ℕ) (k s : ℕ) → list_all (signal_fits names) cs ≡ true → slice_get cs k ≡ Some s → signal_fits names s ≡ true
-    fits_here [] k s fit there = absurd (cc)
-    fits_here (c ∷ cs) zero s fit there =
-        let same : c ≡ s = cc in
-        ap (signal_fits names) (sym same) ∙ (and_parts (signal_fits names c) (list_all (signal_fits names) cs) fit).0
-    fits_here (c ∷ cs) (suc k) s fit there = fits_here cs k s (and_parts (signal_fits names c) (list_all
-        (signal_fits names) cs) fit).1 there
-
-all_both : {X : Type 0} (p : X → Bool) (xs ys : List X) → list_all p xs ≡ true → list_all p ys ≡ true → list_all p (xs ++ ys) ≡ true
-all_both p xs ys h k = list_all-append p xs ys ∙ and_from (list_all p xs) (list_all p ys) h k
-
-all_left : {X : Type 0} (p : X → Bool) (xs ys : List X) → list_all p (xs ++ ys) ≡ true → (list_all p xs ≡ true) × (list_all p ys ≡ true)
-all_left p xs ys h = and_parts (list_all p xs) (list_all p ys) (sym (list_all-append p xs ys) ∙ h)
 
 eight_apart : (a b c d e f g h : List Piece) →
     ((((((a ++ b) ++ c) ++ d) ++ e) ++ f) ++ g) ++ h ≡ a ++ (b ++ (c ++ (d ++ (e ++ (f ++ (g ++ h))))))
@@ -430,14 +397,14 @@ within_are : (l : ListingTree) → list_all line_is_within (map input l.inputs) 
 within_are l i c o w n s =
     let p = line_is_within in
     let end : list_all p (end_line ∷ []) ≡ true = refl in
-    let s' = all_both p (state_lines 0 l.states) (end_line ∷ []) s end in
-    let n' = all_both p (node_lines 0 l.nodes) (state_lines 0 l.states ++ end_line ∷ []) n s' in
-    let w' = all_both p (map window_tree_line l.windows) (node_lines 0 l.nodes ++ (state_lines 0 l.states ++ end_line ∷ [])) w n' in
-    let o' = all_both p (map output l.outputs) (map window_tree_line l.windows ++ (node_lines 0 l.nodes ++ (state_lines 0 l.states
+    let s' = list_all_joined p (state_lines 0 l.states) (end_line ∷ []) s end in
+    let n' = list_all_joined p (node_lines 0 l.nodes) (state_lines 0 l.states ++ end_line ∷ []) n s' in
+    let w' = list_all_joined p (map window_tree_line l.windows) (node_lines 0 l.nodes ++ (state_lines 0 l.states ++ end_line ∷ [])) w n' in
+    let o' = list_all_joined p (map output l.outputs) (map window_tree_line l.windows ++ (node_lines 0 l.nodes ++ (state_lines 0 l.states
     ++ end_line ∷ []))) o w' in
-    let c' = all_both p (map cell l.cells) (map output l.outputs ++ (map window_tree_line l.windows
+    let c' = list_all_joined p (map cell l.cells) (map output l.outputs ++ (map window_tree_line l.windows
     ++ (node_lines 0 l.nodes ++ (state_lines 0 l.states ++ end_line ∷ [])))) c o' in
-    all_both p (map input l.inputs) (map cell l.cells ++ (map output l.outputs ++ (map window_tree_line l.windows
+    list_all_joined p (map input l.inputs) (map cell l.cells ++ (map output l.outputs ++ (map window_tree_line l.windows
     ++ (node_lines 0 l.nodes ++ (state_lines 0 l.states ++ end_line ∷ []))))) i c'
 
 -- the listing of a text that spells a program
@@ -457,16 +424,16 @@ module _ (text : List ℕ) (names : List NameEntry) (distinct : AreDistinct name
   readable = p.inputs ++ p.cells
 
   inputs_fit : list_all (signal_fits names) p.inputs ≡ true
-  inputs_fit = (all_left (signal_fits names) p.inputs (p.cells ++ p.outputs) h.is_writable.signals).0
+  inputs_fit = (list_all_parts (signal_fits names) p.inputs (p.cells ++ p.outputs) h.is_writable.signals).0
 
   controlled_fit : list_all (signal_fits names) (p.cells ++ p.outputs) ≡ true
-  controlled_fit = (all_left (signal_fits names) p.inputs (p.cells ++ p.outputs) h.is_writable.signals).1
+  controlled_fit = (list_all_parts (signal_fits names) p.inputs (p.cells ++ p.outputs) h.is_writable.signals).1
 
   cells_fit : list_all (signal_fits names) p.cells ≡ true
-  cells_fit = (all_left (signal_fits names) p.cells p.outputs controlled_fit).0
+  cells_fit = (list_all_parts (signal_fits names) p.cells p.outputs controlled_fit).0
 
   outputs_fit : list_all (signal_fits names) p.outputs ≡ true
-  outputs_fit = (all_left (signal_fits names) p.cells p.outputs controlled_fit).1
+  outputs_fit = (list_all_parts (signal_fits names) p.cells p.outputs controlled_fit).1
 
   cells_once : IsDistinct p.cells
   cells_once i j n is too =
@@ -699,7 +666,7 @@ module _ (text : List ℕ) (names : List NameEntry) (distinct : AreDistinct name
             (states_within 0 p.states (omega (arith, h.is_writable.few_states))
             (λ i m is. let below = starts_below i m is in omega (arith, below, h.is_writable.few_nodes)));
         once = declared_apart names distinct text (declared listing) ((p.inputs ++ p.cells) ++ p.outputs) declared_are
-            (all_both (signal_fits names) (p.inputs ++ p.cells) p.outputs (all_both
+            (list_all_joined (signal_fits names) (p.inputs ++ p.cells) p.outputs (list_all_joined
             (signal_fits names) p.inputs p.cells inputs_fit cells_fit) outputs_fit)
             h.is_program.signals_distinct;
         has_node = (let first = slice_get_some p.states 0 h.is_program.states_fit.0 in

@@ -9,6 +9,8 @@ use Rattle.std.proofs.lemmas.Grind.{flat_map-append}
 use Rattle.std.proofs.lemmas.List.{append-nil, map-append, drop-append-le, take-append-le, length-drop}
 use Rattle.std.proofs.lemmas.Option.{none-some, same_Some}
 use Rattle.sequence.proofs.Places.{slice_get_push}
+use Rattle.sequence.proofs.Options.{is_none_is}
+use Rattle.sequence.proofs.Passes.{list_all_push}
 use Rattle.tsl_terms.specs.declared.names.NameKind.TheVariants.{Signal}
 use Rattle.tsl_terms.specs.Name.{AreDistinct, number_of, Name as NameEntry}
 use Rattle.tsl_terms.proofs.FirstUses.{first_of, first_some, not_found}
@@ -36,7 +38,7 @@ use Rattle.flow_program.specs.LineText.{
 }
 use Rattle.flow_program.specs.internal.LineReading.{read_line}
 use Rattle.flow_program.specs.internal.LineOrder.{Progress, fresh, going, add, add_all, listing_of, declares, names_so_far, are_new, cut}
-use Rattle.flow_program.specs.internal.LineOrder.{and_place, with_line, after_cut, next_line, head_at, head_after, after_head, IsWithin}
+use Rattle.flow_program.specs.internal.LineOrder.{and_place, with_line, after_cut, next_line, head_at, head_after, after_head, LiesWithin}
 use Rattle.flow_program.specs.internal.LineOrder.{DeclaresWithin}
 use Rattle.flow_program.proofs.LineFeeds.{span, cut_sound, line_before_feed}
 use Rattle.flow_program.proofs.LinesRead.{IsLineAt, line_sound}
@@ -44,12 +46,6 @@ use Rattle.flow_program.proofs.OrderOfLines.{add_all_more, Made, made_fresh, mad
 use Rattle.flow_program.proofs.Standing.{stand_append, stand_split}
 
 -- ---- lists
-
-list_all_push : {A : Type 0} (p : A → Bool) (xs : List A) (x : A) → list_all p xs ≡ true → p x ≡ true → list_all p (xs ++ x ∷ []) ≡ true
-list_all_push p [] x h k = and_from (p x) true k refl
-list_all_push p (y ∷ xs) x h k =
-    let parts = and_parts (p y) (list_all p xs) h in
-    and_from (p y) (list_all p (xs ++ x ∷ [])) parts.0 (list_all_push p xs x parts.1 k)
 
 -- names that are new keep a list distinct
 absent : (names : List NameEntry) (text : List ℕ) → number_of names text ≡ None → (i : ℕ) (m : NameEntry) → slice_get names i ≡ Some m →
@@ -68,17 +64,13 @@ push_distinct names u none h i j m n there here same = by (slice_get_push names 
   by (inr a) (inl b) = absurd (absent names u.text none j n b.1 (sym same ∙ ap (λ (x : NameEntry). x.text) (sym a.1)))
   by (inr a) (inr b) = a.0 ∙ sym b.0
 
-none_is : {A : Type 0} (o : Option A) → is_none o ≡ true → o ≡ None
-none_is None h = refl
-none_is (Some a) h = absurd (false≢true h)
-
 distinct_more : (text : List ℕ) (names : List NameEntry) (t : LineTree) → are_new text names t ≡ true → AreDistinct names →
     AreDistinct (names ++ map (declared_entry text) (declares t))
 distinct_more text names t new h = by t new where
   pushed : (n : Name) → (is_none (number_of names (name_bytes text n)) && true) ≡ true → AreDistinct (names ++ declared_entry text n ∷ [])
   pushed n new =
       push_distinct names (declared_entry text n)
-      (none_is (number_of names (name_bytes text n)) (and_parts (is_none (number_of names (name_bytes text n))) true new).0) h
+      (is_none_is (number_of names (name_bytes text n)) (and_parts (is_none (number_of names (name_bytes text n))) true new).0) h
 
   same : AreDistinct (names ++ [])
   same = subst AreDistinct (sym (append-nil names)) h
@@ -106,7 +98,7 @@ few_declared end_line = omega arith
 -- ---- names that a line declares
 
 -- the name of a line that begins with a word and a name
-name_within : (w : List ℕ) (n : Name) (rest : List Piece) (p q : Place) → Stand (word w ∷ named n ∷ rest) p q → IsWithin q.at n
+name_within : (w : List ℕ) (n : Name) (rest : List Piece) (p q : Place) → Stand (word w ∷ named n ∷ rest) p q → LiesWithin q.at n
 name_within w n rest p q s =
     let tail = span rest (record { at = p.at + length w + length s.2.0; bytes = s.2.1 }) q s.2.5 in
     let stop : q.at ≡ (p.at + length w + length s.2.0) + length tail.bytes = tail.end in
@@ -134,17 +126,17 @@ line_declares_within p t l =
     subst Q (whole.end ∙ ap (λ (n : ℕ). p.at + n) (sym bytes))
     (declares_within t [] p l.end (subst P (sym (append-nil (line_pieces t))) l.stands))
 
-pub within_more : (m n : ℕ) → m ≤ n → (ns : List Name) → AllByRecursion (IsWithin m) ns → AllByRecursion (IsWithin n) ns
+pub within_more : (m n : ℕ) → m ≤ n → (ns : List Name) → AllByRecursion (LiesWithin m) ns → AllByRecursion (LiesWithin n) ns
 within_more m n less [] h = tt
-within_more m n less (k ∷ ns) h = let first : IsWithin m k = h.0 in ((first.0, omega (arith, first.1)), within_more m n less ns h.1)
+within_more m n less (k ∷ ns) h = let first : LiesWithin m k = h.0 in ((first.0, omega (arith, first.1)), within_more m n less ns h.1)
 
-within_append : (m : ℕ) (xs ys : List Name) → AllByRecursion (IsWithin m) xs → AllByRecursion (IsWithin m) ys →
-    AllByRecursion (IsWithin m) (xs ++ ys)
+within_append : (m : ℕ) (xs ys : List Name) → AllByRecursion (LiesWithin m) xs → AllByRecursion (LiesWithin m) ys →
+    AllByRecursion (LiesWithin m) (xs ++ ys)
 within_append m [] ys h k = k
 within_append m (x ∷ xs) ys h k = (h.0, within_append m xs ys h.1 k)
 
 pub lines_declare_within : (lines : List LineTree) (p q : Place) → Stand (flat_map ended_pieces lines) p q →
-    AllByRecursion (IsWithin q.at) (flat_map declares lines)
+    AllByRecursion (LiesWithin q.at) (flat_map declares lines)
 lines_declare_within [] p q s = tt
 lines_declare_within (t ∷ lines) p q s =
     let parts = stand_split (ended_pieces t) (flat_map ended_pieces lines) p q s in
@@ -156,7 +148,7 @@ lines_declare_within (t ∷ lines) p q s =
     (lines_declare_within lines m q parts.2)
 
 -- names within a front of two texts have the same bytes in both
-pub bytes_agree : (front xs ys : List ℕ) (n : Name) → IsWithin (length front) n → name_bytes (front ++ xs) n ≡ name_bytes (front ++ ys) n
+pub bytes_agree : (front xs ys : List ℕ) (n : Name) → LiesWithin (length front) n → name_bytes (front ++ xs) n ≡ name_bytes (front ++ ys) n
 bytes_agree front xs ys n h = in_front xs ∙ sym (in_front ys) where
   in_front : (zs : List ℕ) → name_bytes (front ++ zs) n ≡ name_bytes front n
   in_front zs =
@@ -164,7 +156,7 @@ bytes_agree front xs ys n h = in_front xs ∙ sym (in_front ys) where
       ap (take (n.end - n.start)) (drop-append-le n.start front zs (omega (arith, h.0, h.1)))
       ∙ take-append-le (n.end - n.start) (drop n.start front) zs few
 
-pub named_agree : (front xs ys : List ℕ) (ns : List Name) → AllByRecursion (IsWithin (length front)) ns →
+pub named_agree : (front xs ys : List ℕ) (ns : List Name) → AllByRecursion (LiesWithin (length front)) ns →
     map (declared_entry (front ++ xs)) ns ≡ map (declared_entry (front ++ ys)) ns
 named_agree front xs ys [] h = refl
 named_agree front xs ys (n ∷ ns) h =

@@ -20,8 +20,8 @@ use Rattle.flow_program.specs.ProgramText.{ProgramText}
 use Rattle.flow_program.specs.Listing.{IsListing, BeginAlike, FormFault}
 use Rattle.flow_program.specs.Uses.{uses_of, entries_of_use, names_after}
 use Rattle.flow_program.specs.Rules.{fault_of}
-use Rattle.flow_program.specs.Reading.{IsReading, HasRuleFault, HasProgramCause, IsOfText, GoOnFrom}
-use Rattle.flow_program.proofs.OneListing.{one_listing}
+use Rattle.flow_program.specs.Reading.{IsReading, HasRuleFault, HasProgramCause, IsOfProgramText, GoOnFrom}
+use Rattle.flow_program.proofs.OneListing.{one_listing, one_fault}
 use Rattle.flow_program.proofs.ListingFacts.{listing_from}
 use Rattle.flow_program.proofs.OneProgram.{one_program}
 use Rattle.flow_program.proofs.WithUses.{are_first}
@@ -68,7 +68,7 @@ rule_fault_spells_none text given names e p distinct goes fault h =
     absurd (cc)
 
 pub refused_spells_none : (text : List ℕ) (given names : List Name) (e : ProgramError) (p : ProgramTree) → AreDistinct names →
-    GoOnFrom given names → IsOfText e → HasProgramCause text given e → ProgramText text names p → ⊥
+    GoOnFrom given names → IsOfProgramText e → HasProgramCause text given e → ProgramText text names p → ⊥
 refused_spells_none text given names (Form n) p distinct goes is cause h =
     let r : ProgramPlaced text names = program_placed text names distinct p h in
     cause.none r.listing (placed_listing text names r)
@@ -87,58 +87,14 @@ refused_spells_none text given names (Kind n at) p distinct goes is cause h = ru
     (Kind n at) p distinct goes cause h
 refused_spells_none text given names (Arity n at) p distinct goes is cause h = rule_fault_spells_none text given names
     (Arity n at) p distinct goes cause h
-refused_spells_none text given names Windows p distinct goes is cause h = rule_fault_spells_none text given names Windows p distinct goes cause h
-refused_spells_none text given names Nodes p distinct goes is cause h = rule_fault_spells_none text given names Nodes p distinct goes cause h
-refused_spells_none text given names States p distinct goes is cause h = rule_fault_spells_none text given names States p distinct goes cause h
+refused_spells_none text given names Windows p distinct goes is cause h =
+    rule_fault_spells_none text given names Windows p distinct goes cause h
+refused_spells_none text given names Nodes p distinct goes is cause h =
+    rule_fault_spells_none text given names Nodes p distinct goes cause h
+refused_spells_none text given names States p distinct goes is cause h =
+    rule_fault_spells_none text given names States p distinct goes cause h
 
 -- ---- a text has one cause
-
-lines_taken : (k : ℕ) (ls : List (List ℕ)) → text_of_lines ls ≡ text_of_lines (take k ls) ++ text_of_lines (drop k ls)
-lines_taken zero ls = refl
-lines_taken (suc k) [] = refl
-lines_taken (suc k) (l ∷ ls) =
-    ap (λ rest. (l ++ 10 ∷ []) ++ rest) (lines_taken k ls)
-    ∙ sym (append_assoc (l ++ 10 ∷ []) (text_of_lines (take k ls)) (text_of_lines (drop k ls)))
-
-lines_within : (k : ℕ) (ls : List (List ℕ)) → list_all is_line ls ≡ true → list_all is_line (take k ls) ≡ true
-lines_within zero ls h = refl
-lines_within (suc k) [] h = refl
-lines_within (suc k) (l ∷ ls) h =
-    let parts = and_parts (is_line l) (list_all is_line ls) h in
-    and_from (is_line l) (list_all is_line (take k ls)) parts.0 (lines_within k ls parts.1)
-
-lines_count : (k : ℕ) (ls : List (List ℕ)) → k ≤ length ls → length (take k ls) ≡ k
-lines_count zero ls h = refl
-lines_count (suc k) [] h = absurd (omega (arith, h))
-lines_count (suc k) (l ∷ ls) h = ap suc (lines_count k ls (omega (arith, h)))
-
--- texts that begin alike for many lines do for fewer
-fewer : (k n : ℕ) (text other : List ℕ) → k ≤ n → BeginAlike n text other → BeginAlike k text other
-fewer k n text other less h = record {
-  lines = take k h.lines;
-  are_lines = lines_within k h.lines h.are_lines;
-  number = lines_count k h.lines (omega (arith, less, h.number));
-  after_text = text_of_lines (drop k h.lines) ++ h.after_text;
-  text_is = h.text_is ∙ ap (λ bytes. bytes ++ h.after_text) (lines_taken k h.lines)
-      ∙ append_assoc (text_of_lines (take k h.lines)) (text_of_lines (drop k h.lines)) h.after_text;
-  after_other = text_of_lines (drop k h.lines) ++ h.after_other;
-  other_is = h.other_is ∙ ap (λ bytes. bytes ++ h.after_other) (lines_taken k h.lines)
-      ∙ append_assoc (text_of_lines (take k h.lines)) (text_of_lines (drop k h.lines)) h.after_other;
-}
-
-not_before : (text : List ℕ) (n m : ℕ) → FormFault text n → FormFault text m → n < m → ⊥
-not_before text n m h k less =
-    h.here k.other k.listing k.is_listing (fewer n k.count text k.other (omega (arith, less, k.next)) k.before)
-
-one_form : (text : List ℕ) (n m : ℕ) → FormFault text n → FormFault text m → n ≡ m
-one_form text n m h k =
-    ⊎_elim (λ (less : n < m). absurd (not_before text n m h k less))
-    (λ (more : m ≤ n). ⊎_elim (λ (less : m < n). absurd (not_before text m n k h less)) (λ (same : n ≤ m). omega (
-      arith,
-      more,
-      same,
-    )) (cases_lt m n))
-    (cases_lt n m)
 
 one_rule : (text : List ℕ) (given : List Name) (e f : ProgramError) → HasRuleFault text given e → HasRuleFault text given f → e ≡ f
 one_rule text given e f h k =
@@ -149,7 +105,7 @@ data Cause (text : List ℕ) (given : List Name) (e : ProgramError) : Type 0 whe
   of_form : (n : ℕ) → e ≡ Form n → FormFault text n → Cause text given e
   of_rule : HasRuleFault text given e → Cause text given e
 
-cause_is : (text : List ℕ) (given : List Name) (e : ProgramError) → IsOfText e → HasProgramCause text given e → Cause text given e
+cause_is : (text : List ℕ) (given : List Name) (e : ProgramError) → IsOfProgramText e → HasProgramCause text given e → Cause text given e
 cause_is text given (Form n) is h = of_form n refl h
 cause_is text given NoMemory is h = absurd is
 cause_is text given (Order n) is h = of_rule h
@@ -163,11 +119,12 @@ cause_is text given Windows is h = of_rule h
 cause_is text given Nodes is h = of_rule h
 cause_is text given States is h = of_rule h
 
-pub one_cause : (text : List ℕ) (given : List Name) (e f : ProgramError) → IsOfText e → IsOfText f → HasProgramCause text given e →
+pub one_cause : (text : List ℕ) (given : List Name) (e f : ProgramError) → IsOfProgramText e → IsOfProgramText f →
+    HasProgramCause text given e →
     HasProgramCause text given f → e ≡ f
 one_cause text given e f is too h k = by (cause_is text given e is h) (cause_is text given f too k) where
   by : Cause text given e → Cause text given f → e ≡ f
-  by (of_form n a x) (of_form m b y) = a ∙ ap Form (one_form text n m x y) ∙ sym b
+  by (of_form n a x) (of_form m b y) = a ∙ ap Form (one_fault text n m x y) ∙ sym b
   by (of_form n a x) (of_rule y) = absurd (x.none y.listing y.is_listing)
   by (of_rule x) (of_form m b y) = absurd (y.none x.listing x.is_listing)
   by (of_rule x) (of_rule y) = one_rule text given e f x y

@@ -1,16 +1,16 @@
 -- A reader that is repeated as often as its test holds.
 use Rattle.std.proofs.Common.{◌≡◌, ℕ, zero, suc, ◌<◌, Bool, true, false, cond, List, [], ◌∷◌, ◌++◌, length, Option, Some, None, refl, ap}
-use Rattle.std.proofs.Common.{◌∙◌, append_assoc, arith}
-use Rattle.std.proofs.lemmas.List.{append-nil}
+use Rattle.std.proofs.Common.{◌∙◌, append_assoc, arith, map, sym}
+use Rattle.std.proofs.lemmas.List.{append-nil, map-append}
 use Rattle.flow_program.specs.LineText.{Place}
-use Rattle.flow_program.specs.internal.LineReading.{Reader, with_first, go_on, repeat_most, repeat}
+use Rattle.flow_program.specs.internal.LineReading.{LineReader, with_first, go_on, repeat_most, repeat}
 
 module _ {A : Type 0} where
   -- each value that is read takes a byte at least
-  abbrev pub Shrinks : Reader A → Type 0
+  abbrev pub Shrinks : LineReader A → Type 0
   Shrinks reader = (p : Place) (a : A) (q : Place) → reader p ≡ Some (a, q) → length q.bytes < length p.bytes
 
-  module _ (test : List ℕ → Bool) (reader : Reader A) (shrinks : Shrinks reader) where
+  module _ (test : List ℕ → Bool) (reader : LineReader A) (shrinks : Shrinks reader) where
     -- more steps than bytes are enough
     enough : (m n : ℕ) (p : Place) → length p.bytes < m → length p.bytes < n →
         repeat_most m test reader p ≡ repeat_most n test reader p
@@ -38,7 +38,7 @@ module _ {A : Type 0} where
         ∙ ap (λ (o : Option (A × Place)). go_on p (Some o) (repeat_most (length p.bytes) test reader)) e
         ∙ ap (with_first a) (enough (length p.bytes) (suc (length q.bytes)) q (shrinks p a q e) (omega arith))
 
-  module _ (test : List ℕ → Bool) (reader : Reader A) where
+  module _ (test : List ℕ → Bool) (reader : LineReader A) where
     pub repeat_end : (p : Place) → test p.bytes ≡ false → repeat test reader p ≡ Some ([], p)
     unfolding repeat repeat_most
     repeat_end p fails = ap (λ (t : Bool). go_on p (cond t (Some (reader p)) None) (repeat_most (length p.bytes) test reader)) fails
@@ -65,3 +65,26 @@ module _ {A : Type 0} where
 
   pub joined_end : (front : List A) (p : Place) → joined front (Some ([], p)) ≡ Some (front, p)
   joined_end front p = ap (λ (xs : List A). Some (xs, p)) (append-nil front)
+
+  -- a loop that keeps what it reads
+  module _ {Z : Type 0} (view : Z → A) (test : List ℕ → Bool) (reader : LineReader A) (whole : Option (List A × Place)) where
+    -- one more
+    pub loop_more : Shrinks reader → (found more : List Z) (z : Z) (p q : Place) → more ≡ found ++ z ∷ [] → test p.bytes ≡ true →
+        reader p ≡ Some (view z, q) → joined (map view found) (repeat test reader p) ≡ whole →
+        joined (map view more) (repeat test reader q) ≡ whole
+    loop_more shrinks found more z p q grown holds read so_far =
+        ap (λ (front : List A). joined front (repeat test reader q)) (ap (map view) grown ∙ map-append view found (z ∷ []))
+        ∙ joined_more (map view found) (view z) (repeat test reader q)
+        ∙ ap (joined (map view found)) (sym (repeat_more test reader shrinks p (view z) q holds read))
+        ∙ so_far
+
+    -- its end
+    pub loop_end : (found : List Z) (p : Place) → test p.bytes ≡ false → joined (map view found) (repeat test reader p) ≡ whole →
+        whole ≡ Some (map view found, p)
+    loop_end found p fails so_far =
+        sym so_far ∙ ap (joined (map view found)) (repeat_end test reader p fails) ∙ joined_end (map view found) p
+
+    -- something else stands where one should
+    pub loop_wrong : (found : List Z) (p : Place) → test p.bytes ≡ true → reader p ≡ None →
+        joined (map view found) (repeat test reader p) ≡ whole → whole ≡ None
+    loop_wrong found p holds none so_far = sym so_far ∙ ap (joined (map view found)) (repeat_wrong test reader p holds none)

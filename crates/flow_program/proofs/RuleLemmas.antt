@@ -8,6 +8,7 @@ use Rattle.std.proofs.lemmas.List.{drop_more, drop_all, map-append}
 use Rattle.std.proofs.lemmas.Option.{slice_get-get_or, slice_get-map}
 use Rattle.sequence.proofs.Lists.{left_at}
 use Rattle.sequence.proofs.Places.{slice_get_grown}
+use Rattle.std.specs.List.{take-map}
 use Rattle.tsl_terms.specs.Name.{number_of, texts, AreDistinct, Name as NameEntry}
 use Rattle.tsl_terms.proofs.NameLemmas.{absent_before}
 use Rattle.flow_program.specs.declared.listing.Name.{Name}
@@ -121,16 +122,11 @@ pub texts_are : (text : List ℕ) (ds : List Name) → texts (map (declared_entr
 texts_are text [] = refl
 texts_are text (d ∷ ds) = ap (λ ts. name_bytes text d ∷ ts) (texts_are text ds)
 
-take_map : {X Y : Type 0} (f : X → Y) (i : ℕ) (xs : List X) → take i (map f xs) ≡ map f (take i xs)
-take_map f zero xs = refl
-take_map f (suc i) [] = refl
-take_map f (suc i) (x ∷ xs) = ap (λ ys. f x ∷ ys) (take_map f i xs)
-
 pub declared_absent : (text : List ℕ) (ds : List Name) (i : ℕ) (d : Name) (bytes : List ℕ) (names : List NameEntry) →
     AreDistinct (map (declared_entry text) ds) → i < length ds → bytes ≡ name_bytes text (get_or ds i d) →
     names ≡ map (declared_entry text) (take i ds) → number_of names bytes ≡ None
 declared_absent text ds i d bytes names distinct within is table =
-    ap (λ ns. number_of ns bytes) (table ∙ sym (take_map (declared_entry text) i ds))
+    ap (λ ns. number_of ns bytes) (table ∙ sym (take-map (declared_entry text) i ds))
     ∙ absent_before (map (declared_entry text) ds) i bytes distinct
     (subst (λ found. IsSomeAnd found (λ name. bytes ≡ name.text)) (sym there) is)
   where

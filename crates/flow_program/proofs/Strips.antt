@@ -5,7 +5,7 @@ use Rattle.std.proofs.lemmas.Bool.{cond-true, cond-false, eqb-true, eq-eqb}
 use Rattle.std.proofs.lemmas.Option.{none-some, same_Some}
 use Rattle.std.specs.Bool.{Decides}
 use Rattle.flow_program.specs.LineText.{Place}
-use Rattle.flow_program.specs.internal.LineReading.{strip, after}
+use Rattle.flow_program.specs.internal.LineReading.{strip, past}
 
 pub eqb_decides : (a b : ℕ) → Decides (eqb a b) (a ≡ b)
 eqb_decides a b = (eqb-true a b, eq-eqb a b)
@@ -35,15 +35,15 @@ strip_none w bytes other = by_answer (strip w bytes) refl
     by_answer (Some rest) e = absurd (other rest (strip_sound w bytes rest e))
 
 pub after_found : (w : List ℕ) (p : Place) (rest : List ℕ) → p.bytes ≡ w ++ rest →
-    after w p ≡ Some (record { at = p.at + length w; bytes = rest })
+    past w p ≡ Some (record { at = p.at + length w; bytes = rest })
 after_found w p rest e =
     ap (option_map (λ (bytes : List ℕ). record { at = p.at + length w; bytes = bytes })) (ap (strip w) e ∙ strip_back w rest)
 
-pub after_none : (w : List ℕ) (p : Place) → ((rest : List ℕ) → p.bytes ≡ w ++ rest → ⊥) → after w p ≡ None
+pub after_none : (w : List ℕ) (p : Place) → ((rest : List ℕ) → p.bytes ≡ w ++ rest → ⊥) → past w p ≡ None
 after_none w p other =
     ap (option_map (λ (bytes : List ℕ). record { at = p.at + length w; bytes = bytes })) (strip_none w p.bytes other)
 
-pub after_sound : (w : List ℕ) (p q : Place) → after w p ≡ Some q →
+pub after_sound : (w : List ℕ) (p q : Place) → past w p ≡ Some q →
     (rest : List ℕ) × (p.bytes ≡ w ++ rest) × (q ≡ record { at = p.at + length w; bytes = rest })
 after_sound w p q e = by_answer (strip w p.bytes) refl
   where

@@ -3,7 +3,7 @@ use Rattle.std.proofs.Common.{◌≡◌, ℕ, suc, true, ◌&&◌, List, [], ◌
 use Rattle.std.specs.Prelude.{nat_le, flat_map, Bool}
 use Rattle.std.specs.List.{list_all}
 use Rattle.std.proofs.lemmas.Bool.{and_from, and_parts}
-use Rattle.std.proofs.lemmas.List.Folds.{list_all-append}
+use Rattle.sequence.proofs.Passes.{list_all_joined}
 use Rattle.tsl_text.specs.Names.{is_usable}
 use Rattle.tsl_terms.specs.WellFormed.{deepest}
 use Rattle.flow_program.specs.declared.listing.Name.{Name}
@@ -16,9 +16,6 @@ use Rattle.flow_program.specs.Uses.{declared_uses, windows_uses, nodes_uses, fir
 
 abbrev pub has_usable : ProgramUse → Bool
 has_usable u = is_usable u.name.text
-
-joined : (xs ys : List ProgramUse) → list_all has_usable xs ≡ true → list_all has_usable ys ≡ true → list_all has_usable (xs ++ ys) ≡ true
-joined xs ys h k = list_all-append has_usable xs ys ∙ and_from (list_all has_usable xs) (list_all has_usable ys) h k
 
 module _ (text : List ℕ) where
   pub usable : (at : Name) → name_stands text at ≡ true → is_usable (name_bytes text at) ≡ true
@@ -37,7 +34,7 @@ module _ (text : List ℕ) where
       terms_usable no_phrases h = refl
       terms_usable (more_phrases p ps) h =
           let parts = and_parts (phrase_stands text p) (phrases_stand text ps) h in
-          joined (term_uses text line p) (terms_uses text line ps) (term_usable p parts.0) (terms_usable ps parts.1)
+          list_all_joined has_usable (term_uses text line p) (terms_uses text line ps) (term_usable p parts.0) (terms_usable ps parts.1)
 
     test_usable : (p : PhraseTree) → is_phrase text p ≡ true → list_all has_usable (test_uses text line p) ≡ true
     test_usable p h = by p (and_parts (phrase_stands text p) (nat_le (phrase_brackets p) deepest) h).0 where
@@ -60,7 +57,7 @@ module _ (text : List ℕ) where
     updates_usable [] h = refl
     updates_usable (u ∷ us) h =
         let parts = and_parts (update_line_stands text u) (list_all (update_line_stands text) us) h in
-        joined (update_uses text line u) (flat_map (update_uses text line) us) (pair_usable u.signal u.term parts.0)
+        list_all_joined has_usable (update_uses text line u) (flat_map (update_uses text line) us) (pair_usable u.signal u.term parts.0)
         (updates_usable us parts.1)
 
     all_listed_usable : (us : List ListedLine) → list_all (listed_line_stands text) us ≡ true →
@@ -68,15 +65,16 @@ module _ (text : List ℕ) where
     all_listed_usable [] h = refl
     all_listed_usable (u ∷ us) h =
         let parts = and_parts (listed_line_stands text u) (list_all (listed_line_stands text) us) h in
-        joined (listed_uses text line u) (flat_map (listed_uses text line) us) (pair_usable u.signal u.term parts.0)
+        list_all_joined has_usable (listed_uses text line u) (flat_map (listed_uses text line) us) (pair_usable u.signal u.term parts.0)
         (all_listed_usable us parts.1)
 
     window_usable : (w : WindowLine) → window_line_stands text w ≡ true → list_all has_usable (window_uses text line w) ≡ true
     window_usable w h =
         let parts = and_parts (is_phrase text w.left && is_phrase text w.right) (list_all (listed_line_stands text) w.updates) h in
         let tests = and_parts (is_phrase text w.left) (is_phrase text w.right) parts.0 in
-        joined (test_uses text line w.left ++ test_uses text line w.right) (flat_map (listed_uses text line) w.updates)
-        (joined (test_uses text line w.left) (test_uses text line w.right) (test_usable w.left tests.0) (test_usable w.right tests.1))
+        list_all_joined has_usable (test_uses text line w.left ++ test_uses text line w.right) (flat_map (listed_uses text line) w.updates)
+        (list_all_joined has_usable
+        (test_uses text line w.left) (test_uses text line w.right) (test_usable w.left tests.0) (test_usable w.right tests.1))
         (all_listed_usable w.updates parts.1)
 
     node_usable : (n : NodeLine) → node_line_stands text n ≡ true → list_all has_usable (node_uses text line n) ≡ true
@@ -96,7 +94,7 @@ module _ (text : List ℕ) where
   windows_usable line [] h = refl
   windows_usable line (w ∷ ws) h =
       let parts = and_parts (window_line_stands text w) (list_all (window_line_stands text) ws) h in
-      joined (window_uses text line w) (windows_uses text (suc line) ws) (window_usable line w parts.0) (windows_usable
+      list_all_joined has_usable (window_uses text line w) (windows_uses text (suc line) ws) (window_usable line w parts.0) (windows_usable
       (suc line) ws parts.1)
 
   nodes_usable : (line : ℕ) (ns : List NodeLine) → list_all (node_line_stands text) ns ≡ true →
@@ -104,12 +102,13 @@ module _ (text : List ℕ) where
   nodes_usable line [] h = refl
   nodes_usable line (n ∷ ns) h =
       let parts = and_parts (node_line_stands text n) (list_all (node_line_stands text) ns) h in
-      joined (node_uses text line n) (nodes_uses text (suc line) ns) (node_usable line n parts.0) (nodes_usable (suc line) ns parts.1)
+      list_all_joined has_usable
+      (node_uses text line n) (nodes_uses text (suc line) ns) (node_usable line n parts.0) (nodes_usable (suc line) ns parts.1)
 
   pub uses_usable : (l : ListingTree) → IsListing text l → list_all has_usable (uses_of text l) ≡ true
   uses_usable l h =
-      joined (declared_uses text first_declaration (declared l) ++ windows_uses text (first_window l) l.windows)
+      list_all_joined has_usable (declared_uses text first_declaration (declared l) ++ windows_uses text (first_window l) l.windows)
       (nodes_uses text (first_node l) l.nodes)
-      (joined (declared_uses text first_declaration (declared l)) (windows_uses text (first_window l) l.windows)
+      (list_all_joined has_usable (declared_uses text first_declaration (declared l)) (windows_uses text (first_window l) l.windows)
       (declared_usable first_declaration (declared l) h.declared_stand) (windows_usable (first_window l) l.windows h.windows_stand))
       (nodes_usable (first_node l) l.nodes h.nodes_stand)

@@ -30,9 +30,9 @@ HasProgramCause text given NoMemory = Unit {0}
 HasProgramCause text given fault = HasRuleFault text given fault
 
 -- the refusal says something of the text: it is not that memory ran out
-abbrev pub IsOfText : ProgramError → Type 0
-IsOfText NoMemory = ⊥
-IsOfText _ = Unit {0}
+abbrev pub IsOfProgramText : ProgramError → Type 0
+IsOfProgramText NoMemory = ⊥
+IsOfProgramText _ = Unit {0}
 
 -- names that begin with these
 abbrev pub GoOnFrom : List Name → List Name → Type 0

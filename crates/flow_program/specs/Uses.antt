@@ -18,37 +18,7 @@ pub record ProgramUse : Type 0 where
   pub is_tested : Bool
 
 module _ (text : List ℕ) (line : ℕ) where
-  -- a signal that is declared or updated
-  abbrev pub signal_use : Name → ProgramUse
-  signal_use at = record {
-    name = record { text = name_bytes text at; kind = Signal; arity = 0 };
-    place = at;
-    line = line;
-    is_read = false;
-    is_tested = false;
-  }
-
-  -- a signal in a term
-  abbrev pub read_use : Name → ProgramUse
-  read_use at = record {
-    name = record { text = name_bytes text at; kind = Signal; arity = 0 };
-    place = at;
-    line = line;
-    is_read = true;
-    is_tested = false;
-  }
-
-  -- a signal that is a test
-  abbrev pub tested_use : Name → ProgramUse
-  tested_use at = record {
-    name = record { text = name_bytes text at; kind = Signal; arity = 0 };
-    place = at;
-    line = line;
-    is_read = true;
-    is_tested = true;
-  }
-
-  -- a function or a predicate with its arguments
+  -- a name with so many arguments
   abbrev pub applied_use : NameKind → Name → ℕ → ProgramUse
   applied_use kind at arity = record {
     name = record { text = name_bytes text at; kind = kind; arity = arity };
@@ -57,6 +27,18 @@ module _ (text : List ℕ) (line : ℕ) where
     is_read = false;
     is_tested = false;
   }
+
+  -- a signal that is declared or updated
+  abbrev pub signal_use : Name → ProgramUse
+  signal_use at = applied_use Signal at 0
+
+  -- a signal in a term
+  abbrev pub read_use : Name → ProgramUse
+  read_use at = record (signal_use at) { is_read = true }
+
+  -- a signal that is a test
+  abbrev pub tested_use : Name → ProgramUse
+  tested_use at = record (read_use at) { is_tested = true }
 
   -- the uses of a term, a test, an update, the line of a window and the line of a node
 
@@ -86,19 +68,19 @@ module _ (text : List ℕ) (line : ℕ) where
   node_uses (branch_line test then_node else_node) = test_uses test
   node_uses (assignment_line updates go) = flat_map update_uses updates
 
--- the uses of lines, the first of which has this number
+-- the uses of lines, the first of which has this number, where these are those of one line
+abbrev pub line_uses : {X : Type 0} → (ℕ → X → List ProgramUse) → ℕ → List X → List ProgramUse
+line_uses uses line [] = []
+line_uses uses line (x ∷ xs) = uses line x ++ line_uses uses (suc line) xs
 
 abbrev pub declared_uses : List ℕ → ℕ → List Name → List ProgramUse
-declared_uses text line [] = []
-declared_uses text line (at ∷ ats) = signal_use text line at ∷ declared_uses text (suc line) ats
+declared_uses text = line_uses (λ line at. signal_use text line at ∷ [])
 
 abbrev pub windows_uses : List ℕ → ℕ → List WindowLine → List ProgramUse
-windows_uses text line [] = []
-windows_uses text line (w ∷ ws) = window_uses text line w ++ windows_uses text (suc line) ws
+windows_uses text = line_uses (window_uses text)
 
 abbrev pub nodes_uses : List ℕ → ℕ → List NodeLine → List ProgramUse
-nodes_uses text line [] = []
-nodes_uses text line (n ∷ ns) = node_uses text line n ++ nodes_uses text (suc line) ns
+nodes_uses text = line_uses (node_uses text)
 
 -- the numbers of the first lines of each kind: the head is line 1
 

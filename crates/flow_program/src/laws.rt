@@ -5,7 +5,7 @@ ghost use Rattle.tsl_terms.specs.Name.{Name, AreDistinct};
 ghost use Rattle.flow_program.specs.declared.reading.ProgramError.{ProgramError};
 ghost use Rattle.flow_program.specs.ProgramTree.{ProgramTree};
 ghost use Rattle.flow_program.specs.ProgramText.{ProgramText};
-ghost use Rattle.flow_program.specs.Reading.{IsReading, HasProgramCause, IsOfText, GoOnFrom};
+ghost use Rattle.flow_program.specs.Reading.{IsReading, HasProgramCause, IsOfProgramText, GoOnFrom};
 
 /// A text spells at most one program over a list of names in which no text stands twice.
 pub fn one_program()
@@ -15,22 +15,26 @@ pub fn one_program()
 
 /// A text has at most one reading after given names: one program, and one list of names.
 pub fn one_reading()
-    ensures { (text : List ℕ) (given : List Name) (p q : ProgramTree) (names more : List Name) → AreDistinct given
+    ensures { (text : List ℕ) (given : List Name) (p q : ProgramTree) (names more : List Name)
+        → AreDistinct given
         → IsReading text given p names → IsReading text given q more → (p ≡ q) × (names ≡ more) }
 {}
 
-/// A text that spells a program over some names is read, after the same names, as this program, and no
-/// name is added. So what `write_program` gives is read back.
+/// A text that spells a program over some names is read, after the same names, as this program, and
+/// no name is added. So what `write_program` gives is read back.
 pub fn spelled_programs_are_read()
     ensures { (text : List ℕ) (names : List Name) (p : ProgramTree) → AreDistinct names
         → ProgramText text names p → IsReading text names p names }
 {}
 
-/// A text has at most one cause of refusal after given names, and where it has one, it spells no program
-/// over names that go on from these.
+/// A text has at most one cause of refusal after given names, and where it has one, it spells no
+/// program over names that go on from these.
 pub fn one_program_cause()
-    ensures one { (text : List ℕ) (given : List Name) (e f : ProgramError) → IsOfText e → IsOfText f
+    ensures one { (text : List ℕ) (given : List Name) (e f : ProgramError)
+        → IsOfProgramText e → IsOfProgramText f
         → HasProgramCause text given e → HasProgramCause text given f → e ≡ f }
-    ensures none { (text : List ℕ) (given names : List Name) (e : ProgramError) (p : ProgramTree) → AreDistinct names
-        → GoOnFrom given names → IsOfText e → HasProgramCause text given e → ProgramText text names p → ⊥ }
+    ensures none { (text : List ℕ) (given names : List Name) (e : ProgramError) (p : ProgramTree)
+        → AreDistinct names
+        → GoOnFrom given names
+        → IsOfProgramText e → HasProgramCause text given e → ProgramText text names p → ⊥ }
 {}

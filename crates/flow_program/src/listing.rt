@@ -1,4 +1,5 @@
-//! A program text as it is spelled: names are places in the text, and nothing but the form is asked.
+//! A program text as it is spelled: names are places in the text, and nothing but the form is
+//! asked.
 
 ghost use Rattle.std.specs.Prelude.{◌≡◌, map, IfOk};
 ghost use Rattle.flow_program.specs.ListingTree.{phrase_tree, phrase_trees, listing_tree, empty_listing};
@@ -50,9 +51,10 @@ impl Drop for PhraseList {
 
 impl PhraseList {
     /// The list of these phrases, in their order. An `Err` says that memory ran out.
-    #[tactic(auto, using(crate::proofs::PhraseLists::with_front_none, crate::proofs::PhraseLists::with_front_push))]
+    #[tactic(auto, using(crate::proofs::PhraseLists::phrases_in_front, crate::proofs::PhraseLists::phrase_pushed))]
     pub(crate) fn from_vec(alloc: Global, mut phrases: Vec<Phrase>) -> Result<PhraseList, NoMemory>
-        ensures { IfOk result (λ list. phrase_trees list ≡ phrases_of (map phrase_tree phrases.items)) }
+        ensures { IfOk result (λ list.
+            phrase_trees list ≡ phrases_of (map phrase_tree phrases.items)) }
     {
         let mut list = PhraseList::Empty;
         while let Some(phrase) = phrases.pop() {

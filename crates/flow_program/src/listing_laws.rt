@@ -4,9 +4,12 @@ ghost use Rattle.std.specs.Prelude.{◌≡◌, ℕ, List};
 ghost use Rattle.flow_program.specs.ListingTree.{ListingTree};
 ghost use Rattle.flow_program.specs.Listing.{IsListing, FormFault};
 
-/// A text has at most one listing, places of names included, or one first line at fault, and never both.
+/// A text has at most one listing, places of names included, or one first line at fault, and never
+/// both.
 pub fn one_listing()
-    ensures listing { (text : List ℕ) (l m : ListingTree) → IsListing text l → IsListing text m → l ≡ m }
+    ensures listing { (text : List ℕ) (l m : ListingTree)
+        → IsListing text l → IsListing text m → l ≡ m }
     ensures fault { (text : List ℕ) (m n : ℕ) → FormFault text m → FormFault text n → m ≡ n }
-    ensures never_both { (text : List ℕ) (l : ListingTree) (line : ℕ) → IsListing text l → ¬ FormFault text line }
+    ensures never_both { (text : List ℕ) (l : ListingTree) (line : ℕ)
+        → IsListing text l → ¬ FormFault text line }
 {}

@@ -1,14 +1,17 @@
 //! The lines of a program text are read one after another.
 
-ghost use Rattle.std.specs.Prelude.{◌≡◌, ◌+◌, ◌<◌, ◌≤◌, ◌^◌, ◌++◌, ◌∷◌, [], true, false, is_none, length, map, Some, None, IfOk, IfErr, OnOk, IfSome, IfNone};
+ghost use Rattle.std.specs.Prelude.{◌≡◌, ◌+◌, ◌<◌, ◌≤◌, ◌^◌, ◌++◌, ◌∷◌, [], true, false, is_none, length, map, Some, None, IfOk, IfErr};
+ghost use Rattle.std.specs.Prelude.{OnOk, IfSome, IfNone};
 ghost use Rattle.std.specs.List.{prefix_len};
 ghost use Rattle.tsl_text.specs.Lines.{is_line_byte};
 ghost use Rattle.tsl_terms.specs.Name.{number_of};
 ghost use Rattle.flow_program.specs.ListingTree.{listing_tree};
 ghost use Rattle.flow_program.specs.Listing.{IsListing, declared_entry};
 ghost use Rattle.flow_program.specs.ListingFault.{HasListingFault};
-ghost use Rattle.flow_program.specs.internal.LineReading.{place_of, line_tree, IsMisread};
-ghost use Rattle.flow_program.specs.internal.LineOrder.{no_node, no_window, no_output, no_cell, may_stand, extended, declares, names_so_far, are_new, cut, next_line, progress_of, error_at, DeclaresWithin, IsRepeated, after_head};
+ghost use Rattle.flow_program.specs.internal.LineReading.{left_place, line_tree, IsMisread};
+ghost use Rattle.flow_program.specs.internal.LineOrder.{no_node, no_window, no_output, no_cell, may_stand, progress_with, declares};
+ghost use Rattle.flow_program.specs.internal.LineOrder.{names_so_far, are_new, cut, next_line, progress_of, error_at, DeclaresWithin};
+ghost use Rattle.flow_program.specs.internal.LineOrder.{IsRepeated, after_head};
 
 use crate::left::{Left, Misread};
 use crate::line::{Line, has_bytes, read_line};
@@ -27,11 +30,12 @@ pub(crate) struct Begun {
     pub(crate) ended: bool,
 }
 
-/// The first line that is left, without its line feed, and what is left after it. `None` where no line
-/// feed is left.
+/// The first line that is left, without its line feed, and what is left after it. `None` where no
+/// line feed is left.
 fn cut(left: Left<'_>) -> Option<(Left<'_>, Left<'_>)>
-    ensures some { IfSome result (λ parts. cut (place_of left.entry) ≡ Some (place_of parts.0, place_of parts.1)) }
-    ensures none { IfNone result (cut (place_of left.entry) ≡ None) }
+    ensures some { IfSome result (λ parts.
+        cut (left_place left.entry) ≡ Some (left_place parts.0, left_place parts.1)) }
+    ensures none { IfNone result (cut (left_place left.entry) ≡ None) }
 {
     let len = line_len(left.bytes);
     if len >= left.bytes.len() {
@@ -103,7 +107,8 @@ fn may_stand(listing: &Listing, line: &Line) -> bool
 /// Adds a line. An `Err` says that memory ran out.
 fn insert(begun: &mut Begun, line: Line) -> Result<(), NoMemory>
     requires { begun.old.ended ≡ false }
-    ensures { OnOk result (progress_of begun.new ≡ extended (listing_tree begun.old.listing) (line_tree line)) }
+    ensures { OnOk result
+        (progress_of begun.new ≡ progress_with (listing_tree begun.old.listing) (line_tree line)) }
 {
     match line {
         Line::Head => Ok(()),
@@ -154,7 +159,8 @@ fn declare(names: &mut Names, text: &[u8], line: &Line) -> Result<(), Misread>
     requires within { DeclaresWithin (length text.now) (line_tree line.now) }
     requires room { length names.old + 1 < 2 ^ 32 }
     ensures new { OnOk result (are_new text.now names.old (line_tree line.now) ≡ true) }
-    ensures added { OnOk result (names.new ≡ names.old ++ map (declared_entry text.now) (declares (line_tree line.now))) }
+    ensures added { OnOk result
+        (names.new ≡ names.old ++ map (declared_entry text.now) (declares (line_tree line.now))) }
     ensures again { IfErr result (IsRepeated (are_new text.now names.old (line_tree line.now))) }
 {
     match declared_name(line) {
@@ -167,7 +173,8 @@ fn declare(names: &mut Names, text: &[u8], line: &Line) -> Result<(), Misread>
 fn declare_name(names: &mut Names, text: &[u8]) -> Result<(), Misread>
     requires room { length names.old + 1 < 2 ^ 32 }
     ensures new { OnOk result (is_none (number_of names.old text.now) ≡ true) }
-    ensures added { OnOk result (names.new ≡ names.old ++ (record { text = text.now; kind = NameKind.Signal; arity = 0 }) ∷ []) }
+    ensures added { OnOk result (names.new
+        ≡ names.old ++ (record { text = text.now; kind = NameKind.Signal; arity = 0 }) ∷ []) }
     ensures again { IfErr result (IsRepeated (is_none (number_of names.old text.now))) }
 {
     if names.find(text).is_some() {
@@ -179,8 +186,9 @@ fn declare_name(names: &mut Names, text: &[u8]) -> Result<(), Misread>
 
 /// What is left after the head, where it is the first line.
 fn read_head(alloc: Global, left: Left<'_>) -> Result<Left<'_>, Misread>
-    ensures ok { IfOk result (λ later. after_head (place_of left.entry) ≡ Some (place_of later)) }
-    ensures wrong { IfErr result (IsMisread (after_head (place_of left.entry))) }
+    ensures ok { IfOk result (λ later.
+        after_head (left_place left.entry) ≡ Some (left_place later)) }
+    ensures wrong { IfErr result (IsMisread (after_head (left_place left.entry))) }
 {
     let Some((line, later)) = cut(left) else {
         return Err(Misread::Form);
@@ -203,9 +211,12 @@ fn next_line<'a>(
     requires room { length names.old + 1 < 2 ^ 32 }
     requires within { left.at + length left.bytes.now ≤ length text.now }
     ensures ok { IfOk result (λ later.
-        next_line text.now (progress_of begun.old) (place_of left.entry) ≡ Some (progress_of begun.new, place_of later)) }
-    ensures names { OnOk result (names.new ≡ names_so_far text.now (listing_tree begun.new.listing)) }
-    ensures wrong { IfErr result (IsMisread (next_line text.now (progress_of begun.old) (place_of left.entry))) }
+        next_line text.now (progress_of begun.old) (left_place left.entry)
+        ≡ Some (progress_of begun.new, left_place later)) }
+    ensures names { OnOk result
+        (names.new ≡ names_so_far text.now (listing_tree begun.new.listing)) }
+    ensures wrong { IfErr result
+        (IsMisread (next_line text.now (progress_of begun.old) (left_place left.entry))) }
 {
     let Some((line, later)) = cut(left) else {
         return Err(Misread::Form);

@@ -13,7 +13,8 @@ use tsl_terms::{NameKind, Names};
 /// Adds a name where there is none of its text. An `Err` says that memory ran out.
 fn add_name(names: &mut Names, text: &[u8], kind: NameKind, arity: u32) -> Result<(), NoMemory>
     requires { number_of names.old text.now ≡ None → length names.old + 1 < 2 ^ 32 }
-    ensures { OnOk result (names.new ≡ with_use names.old (record { text = text.now; kind = kind; arity = arity })) }
+    ensures { OnOk result
+        (names.new ≡ with_use names.old (record { text = text.now; kind = kind; arity = arity })) }
 {
     if names.find(text).is_none() {
         names.add(text, kind, arity)?;

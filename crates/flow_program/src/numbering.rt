@@ -1,18 +1,22 @@
 //! The lines of a program text with numbers in the place of names.
 
-ghost use Rattle.std.specs.Prelude.{◌≡◌, Some, map, IfOk, IsTrue};
+ghost use Rattle.std.specs.Prelude.{◌≡◌, ℕ, Bool, List, Option, Some, map, IfOk, IsTrue};
 ghost use Rattle.std.specs.List.{list_all};
 ghost use Rattle.std.specs.Option.{is_some};
 ghost use Rattle.sequence.specs.Options.{all_there};
-ghost use Rattle.tsl_terms.specs.Name.{number_of, question};
-ghost use Rattle.tsl_terms.specs.TermTree.{term_tree, term_trees, probe_tree};
-ghost use Rattle.tsl_terms.specs.WindowTree.{listed_tree, window_tree};
-ghost use Rattle.flow_program.specs.NodeTree.{node_tree};
+ghost use Rattle.tsl_terms.specs.Name.{number_of, question, Name as NameEntry};
+ghost use Rattle.tsl_terms.specs.TermTree.{TermTree, term_tree, term_trees, probe_tree};
+ghost use Rattle.tsl_terms.specs.WindowTree.{ListedTree, WindowTree, listed_tree, window_tree};
+ghost use Rattle.flow_program.specs.NodeTree.{NodeTree, node_tree};
+ghost use Rattle.flow_program.specs.ListingTree.{UpdateLine, ListedLine, WindowLine, NodeLine};
 ghost use Rattle.flow_program.specs.ProgramView.{program_tree};
 ghost use Rattle.flow_program.specs.ProgramTree.{ProgramTree};
 ghost use Rattle.flow_program.specs.ProgramText.{ProgramText};
-ghost use Rattle.flow_program.specs.Listing.{name_stands, phrase_stands, phrases_stand, update_line_stands, listed_line_stands, window_line_stands, node_line_stands, phrase_tree, phrase_trees, update_line, listed_line, window_line, node_line, listing_tree, IsListing};
-ghost use Rattle.flow_program.specs.internal.Numbering.{small, numbered, numbered_term, numbered_terms, numbered_test, numbered_listed, numbered_window, numbered_node, Numbered};
+ghost use Rattle.flow_program.specs.Listing.{name_stands, phrase_stands, phrases_stand, update_line_stands, listed_line_stands};
+ghost use Rattle.flow_program.specs.Listing.{window_line_stands, node_line_stands, phrase_tree, phrase_trees, update_line, listed_line};
+ghost use Rattle.flow_program.specs.Listing.{window_line, node_line, listing_tree, IsListing};
+ghost use Rattle.flow_program.specs.internal.Numbering.{small, numbered, numbered_term, numbered_terms, numbered_test, numbered_listed};
+ghost use Rattle.flow_program.specs.internal.Numbering.{numbered_window, numbered_node, Numbered};
 
 use crate::listing::{
     Listing, Name, Phrase, PhraseList, SpelledListed, SpelledNode, SpelledUpdate, SpelledWindow,
@@ -54,7 +58,8 @@ fn numbered(names: &Names, text: &[u8], name: Name) -> u32
 fn numbered_term(alloc: Global, names: &Names, text: &[u8], term: &Phrase) -> Result<Term, NoMemory>
     requires stands { IsTrue (phrase_stands text.now (phrase_tree term.now)) }
     requires known { IsTrue (is_some (numbered_term names.now text.now (phrase_tree term.now))) }
-    ensures { IfOk result (λ tree. numbered_term names.now text.now (phrase_tree term.now) ≡ Some (term_tree tree)) }
+    ensures { IfOk result (λ tree.
+        numbered_term names.now text.now (phrase_tree term.now) ≡ Some (term_tree tree)) }
 {
     match term {
         Phrase::Bare(name) => Ok(Term::Signal(numbered(names, text, *name))),
@@ -76,7 +81,8 @@ fn numbered_terms(
 ) -> Result<TermList, NoMemory>
     requires stands { IsTrue (phrases_stand text.now (phrase_trees terms.now)) }
     requires known { IsTrue (is_some (numbered_terms names.now text.now (phrase_trees terms.now))) }
-    ensures { IfOk result (λ trees. numbered_terms names.now text.now (phrase_trees terms.now) ≡ Some (term_trees trees)) }
+    ensures { IfOk result (λ trees.
+        numbered_terms names.now text.now (phrase_trees terms.now) ≡ Some (term_trees trees)) }
 {
     let mut trees = Vec::new(alloc);
     let mut rest = terms;
@@ -97,7 +103,8 @@ fn numbered_test(
 ) -> Result<Probe, NoMemory>
     requires stands { IsTrue (phrase_stands text.now (phrase_tree test.now)) }
     requires known { IsTrue (is_some (numbered_test names.now text.now (phrase_tree test.now))) }
-    ensures { IfOk result (λ tree. numbered_test names.now text.now (phrase_tree test.now) ≡ Some (probe_tree tree)) }
+    ensures { IfOk result (λ tree.
+        numbered_test names.now text.now (phrase_tree test.now) ≡ Some (probe_tree tree)) }
 {
     match test {
         Phrase::Bare(name) => {
@@ -128,7 +135,8 @@ fn numbers(
 ) -> Result<Sequence<u32>, NoMemory>
     requires stand { IsTrue (list_all (name_stands text.now) places.now) }
     requires known { IsTrue (is_some (all_there (map (numbered names.now text.now) places.now))) }
-    ensures { IfOk result (λ ids. all_there (map (numbered names.now text.now) places.now) ≡ Some ids) }
+    ensures { IfOk result (λ ids.
+        all_there (map (numbered names.now text.now) places.now) ≡ Some ids) }
 {
     let mut ids = Sequence::new(alloc);
     for place in places {
@@ -137,160 +145,178 @@ fn numbers(
     Ok(ids)
 }
 
-/// An update that a window lists, with numbers. An `Err` says that memory ran out.
-fn numbered_listed(
-    alloc: Global,
-    names: &Names,
-    text: &[u8],
-    update: &SpelledListed,
-) -> Result<Listed, NoMemory>
-    requires stands { IsTrue (listed_line_stands text.now (listed_line update.now)) }
-    requires known { IsTrue (is_some (numbered_listed names.now text.now (listed_line update.now))) }
-    ensures { IfOk result (λ tree. numbered_listed names.now text.now (listed_line update.now) ≡ Some (listed_tree tree)) }
-{
-    let signal = numbered(names, text, update.signal);
-    let term = numbered_term(alloc, names, text, &update.term)?;
-    let offset = small(update.offset);
-    Ok(Listed {
-        signal,
-        term,
-        offset,
-    })
+/// A part of a program text that gets numbers in the place of its names.
+trait GetsNumbers {
+    /// What it is with numbers.
+    type Numbered: Drop;
+
+    /// The part as it is spelled.
+    ghost Tree: { Type 0 };
+
+    ghost tree: { Self → Tree };
+
+    /// What it is with numbers, as it is seen.
+    ghost Made: { Type 0 };
+
+    ghost made: { Self.Numbered → Made };
+
+    /// Whether its names stand in a text.
+    ghost stands: { List ℕ → Tree → Bool };
+
+    /// It with the numbers of its names.
+    ghost numbered: { List NameEntry → List ℕ → Tree → Option Made };
+
+    /// The part with numbers. An `Err` says that memory ran out.
+    fn with_numbers(
+        &self,
+        alloc: Global,
+        names: &Names,
+        text: &[u8],
+    ) -> Result<Self::Numbered, NoMemory>
+        requires stands { IsTrue (stands text.now (tree self.now)) }
+        requires known { IsTrue (is_some (numbered names.now text.now (tree self.now))) }
+        ensures { IfOk result (λ part.
+            numbered names.now text.now (tree self.now) ≡ Some (made part)) };
 }
 
-/// The updates that a window lists, with numbers. An `Err` says that memory ran out.
-fn numbered_updates(
+/// Parts with numbers. An `Err` says that memory ran out.
+fn numbered_all<P: GetsNumbers>(
     alloc: Global,
     names: &Names,
     text: &[u8],
-    updates: &[SpelledListed],
-) -> Result<Sequence<Listed>, NoMemory>
-    requires stand { IsTrue (list_all (listed_line_stands text.now) (map listed_line updates.now)) }
-    requires known { IsTrue (is_some (all_there (map (numbered_listed names.now text.now) (map listed_line updates.now)))) }
-    ensures { IfOk result (λ trees. all_there (map (numbered_listed names.now text.now) (map listed_line updates.now))
-        ≡ Some (map listed_tree trees)) }
+    parts: &[P],
+) -> Result<Sequence<P::Numbered>, NoMemory>
+    requires stand { IsTrue (list_all (P.stands text.now) (map P.tree parts.now)) }
+    requires known { IsTrue
+        (is_some (all_there (map (P.numbered names.now text.now) (map P.tree parts.now)))) }
+    ensures { IfOk result (λ all.
+        all_there (map (P.numbered names.now text.now) (map P.tree parts.now))
+        ≡ Some (map P.made all)) }
 {
-    let mut trees = Sequence::new(alloc);
-    for update in updates {
-        trees.push(numbered_listed(alloc, names, text, update)?)?;
+    let mut all = Sequence::new(alloc);
+    for part in parts {
+        all.push(part.with_numbers(alloc, names, text)?)?;
     }
-    Ok(trees)
+    Ok(all)
 }
 
-/// A window with numbers. An `Err` says that memory ran out.
-fn numbered_window(
-    alloc: Global,
-    names: &Names,
-    text: &[u8],
-    window: &SpelledWindow,
-) -> Result<Window, NoMemory>
-    requires stands { IsTrue (window_line_stands text.now (window_line window.now)) }
-    requires known { IsTrue (is_some (numbered_window names.now text.now (window_line window.now))) }
-    ensures { IfOk result (λ tree. numbered_window names.now text.now (window_line window.now) ≡ Some (window_tree tree)) }
-{
-    let left = numbered_test(alloc, names, text, &window.left)?;
-    let right = numbered_test(alloc, names, text, &window.right)?;
-    let left_at = small(window.left_at);
-    let length = small(window.length);
-    let updates = numbered_updates(alloc, names, text, &window.updates)?;
-    Ok(Window {
-        left,
-        left_at,
-        right,
-        length,
-        updates,
-    })
-}
+/// The term that an assignment takes.
+impl GetsNumbers for SpelledUpdate {
+    type Numbered = Term;
 
-/// The terms of an assignment, with numbers. An `Err` says that memory ran out.
-fn numbered_assignment(
-    alloc: Global,
-    names: &Names,
-    text: &[u8],
-    updates: &[SpelledUpdate],
-) -> Result<Sequence<Term>, NoMemory>
-    requires stand { IsTrue (list_all (update_line_stands text.now) (map update_line updates.now)) }
-    requires known { IsTrue (is_some (all_there (map (λ u. numbered_term names.now text.now u.term) (map update_line updates.now)))) }
-    ensures { IfOk result (λ trees. all_there (map (λ u. numbered_term names.now text.now u.term) (map update_line updates.now))
-        ≡ Some (map term_tree trees)) }
-{
-    let mut trees = Sequence::new(alloc);
-    for update in updates {
-        trees.push(numbered_term(alloc, names, text, &update.term)?)?;
+    ghost Tree = { UpdateLine };
+
+    ghost tree = { update_line };
+
+    ghost Made = { TermTree };
+
+    ghost made = { term_tree };
+
+    ghost stands = { update_line_stands };
+
+    ghost numbered = { λ names text u. numbered_term names text u.term };
+
+    fn with_numbers(&self, alloc: Global, names: &Names, text: &[u8]) -> Result<Term, NoMemory> {
+        numbered_term(alloc, names, text, &self.term)
     }
-    Ok(trees)
 }
 
-/// A node with numbers. An `Err` says that memory ran out.
-fn numbered_node(
-    alloc: Global,
-    names: &Names,
-    text: &[u8],
-    node: &SpelledNode,
-) -> Result<Node, NoMemory>
-    requires stands { IsTrue (node_line_stands text.now (node_line node.now)) }
-    requires known { IsTrue (is_some (numbered_node names.now text.now (node_line node.now))) }
-    ensures { IfOk result (λ tree. numbered_node names.now text.now (node_line node.now) ≡ Some (node_tree tree)) }
-{
-    match node {
-        SpelledNode::Branch {
-            test,
-            then_node,
-            else_node,
-        } => {
-            let test = numbered_test(alloc, names, text, test)?;
-            let then_node = small(*then_node);
-            let else_node = small(*else_node);
-            Ok(Node::If {
+impl GetsNumbers for SpelledListed {
+    type Numbered = Listed;
+
+    ghost Tree = { ListedLine };
+
+    ghost tree = { listed_line };
+
+    ghost Made = { ListedTree };
+
+    ghost made = { listed_tree };
+
+    ghost stands = { listed_line_stands };
+
+    ghost numbered = { numbered_listed };
+
+    fn with_numbers(&self, alloc: Global, names: &Names, text: &[u8]) -> Result<Listed, NoMemory> {
+        let signal = numbered(names, text, self.signal);
+        let term = numbered_term(alloc, names, text, &self.term)?;
+        let offset = small(self.offset);
+        Ok(Listed {
+            signal,
+            term,
+            offset,
+        })
+    }
+}
+
+impl GetsNumbers for SpelledWindow {
+    type Numbered = Window;
+
+    ghost Tree = { WindowLine };
+
+    ghost tree = { window_line };
+
+    ghost Made = { WindowTree };
+
+    ghost made = { window_tree };
+
+    ghost stands = { window_line_stands };
+
+    ghost numbered = { numbered_window };
+
+    fn with_numbers(&self, alloc: Global, names: &Names, text: &[u8]) -> Result<Window, NoMemory> {
+        let left = numbered_test(alloc, names, text, &self.left)?;
+        let right = numbered_test(alloc, names, text, &self.right)?;
+        let left_at = small(self.left_at);
+        let length = small(self.length);
+        let updates = numbered_all(alloc, names, text, &self.updates)?;
+        Ok(Window {
+            left,
+            left_at,
+            right,
+            length,
+            updates,
+        })
+    }
+}
+
+impl GetsNumbers for SpelledNode {
+    type Numbered = Node;
+
+    ghost Tree = { NodeLine };
+
+    ghost tree = { node_line };
+
+    ghost Made = { NodeTree };
+
+    ghost made = { node_tree };
+
+    ghost stands = { node_line_stands };
+
+    ghost numbered = { numbered_node };
+
+    fn with_numbers(&self, alloc: Global, names: &Names, text: &[u8]) -> Result<Node, NoMemory> {
+        match self {
+            SpelledNode::Branch {
                 test,
                 then_node,
                 else_node,
-            })
+            } => {
+                let test = numbered_test(alloc, names, text, test)?;
+                let then_node = small(*then_node);
+                let else_node = small(*else_node);
+                Ok(Node::If {
+                    test,
+                    then_node,
+                    else_node,
+                })
+            }
+            SpelledNode::Assignment { updates, go } => {
+                let updates = numbered_all(alloc, names, text, updates)?;
+                let go = small(*go);
+                Ok(Node::Set { updates, go })
+            }
         }
-        SpelledNode::Assignment { updates, go } => {
-            let updates = numbered_assignment(alloc, names, text, updates)?;
-            let go = small(*go);
-            Ok(Node::Set { updates, go })
-        }
     }
-}
-
-/// Windows with numbers. An `Err` says that memory ran out.
-fn numbered_windows(
-    alloc: Global,
-    names: &Names,
-    text: &[u8],
-    windows: &[SpelledWindow],
-) -> Result<Sequence<Window>, NoMemory>
-    requires stand { IsTrue (list_all (window_line_stands text.now) (map window_line windows.now)) }
-    requires known { IsTrue (is_some (all_there (map (numbered_window names.now text.now) (map window_line windows.now)))) }
-    ensures { IfOk result (λ trees. all_there (map (numbered_window names.now text.now) (map window_line windows.now))
-        ≡ Some (map window_tree trees)) }
-{
-    let mut trees = Sequence::new(alloc);
-    for window in windows {
-        trees.push(numbered_window(alloc, names, text, window)?)?;
-    }
-    Ok(trees)
-}
-
-/// Nodes with numbers. An `Err` says that memory ran out.
-fn numbered_nodes(
-    alloc: Global,
-    names: &Names,
-    text: &[u8],
-    nodes: &[SpelledNode],
-) -> Result<Sequence<Node>, NoMemory>
-    requires stand { IsTrue (list_all (node_line_stands text.now) (map node_line nodes.now)) }
-    requires known { IsTrue (is_some (all_there (map (numbered_node names.now text.now) (map node_line nodes.now)))) }
-    ensures { IfOk result (λ trees. all_there (map (numbered_node names.now text.now) (map node_line nodes.now))
-        ≡ Some (map node_tree trees)) }
-{
-    let mut trees = Sequence::new(alloc);
-    for node in nodes {
-        trees.push(numbered_node(alloc, names, text, node)?)?;
-    }
-    Ok(trees)
 }
 
 /// The first nodes of states. An `Err` says that memory ran out.
@@ -313,14 +339,15 @@ pub(crate) fn numbered_program(
     listing: &Listing,
 ) -> Result<Program, NoMemory>
     requires listing { IsListing text.now (listing_tree listing.now) }
-    requires program { (p : ProgramTree) × Numbered names.now text.now (listing_tree listing.now) p × ProgramText text.now names.now p }
+    requires program { (p : ProgramTree) × Numbered names.now text.now (listing_tree listing.now) p
+        × ProgramText text.now names.now p }
     ensures { IfOk result (λ program. ProgramText text.now names.now (program_tree program)) }
 {
     let inputs = numbers(alloc, names, text, &listing.inputs)?;
     let cells = numbers(alloc, names, text, &listing.cells)?;
     let outputs = numbers(alloc, names, text, &listing.outputs)?;
-    let windows = numbered_windows(alloc, names, text, &listing.windows)?;
-    let nodes = numbered_nodes(alloc, names, text, &listing.nodes)?;
+    let windows = numbered_all(alloc, names, text, &listing.windows)?;
+    let nodes = numbered_all(alloc, names, text, &listing.nodes)?;
     let states = numbered_states(alloc, &listing.states)?;
     Ok(Program {
         inputs,

@@ -1,14 +1,16 @@
 //! Terms and tests as they are spelled.
 
-ghost use Rattle.std.specs.Prelude.{◌≡◌, suc, map, Some, None, IfOk, IfErr, IfSome, IfNone};
+ghost use Rattle.std.specs.Prelude.{◌≡◌, suc, map, Some, IfOk, IfErr, IfSome, IfNone};
 ghost use Rattle.std.specs.Char.{is_ascii_digit};
 ghost use Rattle.tsl_text.specs.Names.{is_name_start};
 ghost use Rattle.flow_program.specs.ListingTree.{phrase_tree};
-ghost use Rattle.flow_program.specs.internal.LineReading.{place_of, IsMisread, begins, is_open, number_follows, argument_begins, argument_follows, short, argument, spaced_argument, arguments, phrase_of, phrase_with, has_arguments, only_applied, bracketed, phrase};
+ghost use Rattle.flow_program.specs.internal.LineReading.{IsReadAs, IsUnread, begins, is_open, number_follows, argument_begins};
+ghost use Rattle.flow_program.specs.internal.LineReading.{argument_follows, short, argument_phrase, spaced_argument, arguments};
+ghost use Rattle.flow_program.specs.internal.LineReading.{phrase_of, phrase_with, has_arguments, only_applied, in_brackets, phrase};
 
 use crate::left::{Left, Misread, Reading};
 use crate::listing::{Name, Phrase, PhraseList};
-use crate::words::{after, first_name, is_name_start, name_len};
+use crate::words::{expect, first_name, is_name_start, name_len, past};
 use sequence::NoMemory;
 use std::alloc::Global;
 use tsl_terms::DEEPEST_BRACKETS;
@@ -50,8 +52,8 @@ fn number_follows(bytes: &[u8]) -> bool
     }
 }
 
-/// Whether the bytes begin as an argument does: with a bracket, or with a name that no number follows. A word before a
-/// number, as in `p x at 1`, is no argument.
+/// Whether the bytes begin as an argument does: with a bracket, or with a name that no number
+/// follows. A word before a number, as in `p x at 1`, is no argument.
 fn argument_begins(bytes: &[u8]) -> bool
     ensures { result ≡ argument_begins bytes.now }
 {
@@ -70,16 +72,14 @@ fn argument_follows(bytes: &[u8]) -> bool
 }
 
 /// An argument without brackets: a name alone, or a constant, which `()` follows.
-fn short(left: Left<'_>) -> Option<(Phrase, Left<'_>)>
-    ensures some { IfSome result (λ read. short (place_of left.entry) ≡ Some (phrase_tree read.0, place_of read.1)) }
-    ensures none { IfNone result (short (place_of left.entry) ≡ None) }
+fn short(left: Left<'_>) -> Reading<'_, Phrase>
+    ensures ok { IfOk result (IsReadAs phrase_tree short left.entry) }
+    ensures wrong { IfErr result (IsUnread short left.entry) }
 {
-    let Some((name, rest)) = first_name(left) else {
-        return None;
-    };
-    match after(rest, b"()") {
-        Some(rest) => Some((Phrase::Applied(name, PhraseList::Empty), rest)),
-        None => Some((Phrase::Bare(name), rest)),
+    let (name, rest) = first_name(left)?;
+    match past(rest, b"()") {
+        Some(rest) => Ok((Phrase::Applied(name, PhraseList::Empty), rest)),
+        None => Ok((Phrase::Bare(name), rest)),
     }
 }
 
@@ -91,18 +91,18 @@ fn room_below(room: u32) -> Option<u32>
     room.checked_sub(1)
 }
 
-/// What is left after the closing bracket of a phrase, where it has arguments.
-fn close(phrase: Phrase, left: Left<'_>) -> Option<(Phrase, Left<'_>)>
-    ensures some { IfSome result (λ read. only_applied (Some (phrase_tree phrase, place_of left.entry)) ≡ Some (phrase_tree read.0, place_of read.1)) }
-    ensures none { IfNone result (only_applied (Some (phrase_tree phrase, place_of left.entry)) ≡ None) }
+/// A phrase that has arguments, with the closing bracket after it.
+fn close(phrase: Phrase, left: Left<'_>) -> Reading<'_, Phrase>
+    ensures ok { IfOk result
+        (IsReadAs phrase_tree (λ p. only_applied (Some (phrase_tree phrase, p))) left.entry) }
+    ensures wrong { IfErr result
+        (IsUnread (λ p. only_applied (Some (phrase_tree phrase, p))) left.entry) }
 {
     if !has_arguments(&phrase) {
-        return None;
+        return Err(Misread::Form);
     }
-    match after(left, b")") {
-        Some(rest) => Some((phrase, rest)),
-        None => None,
-    }
+    let rest = expect(left, b")")?;
+    Ok((phrase, rest))
 }
 
 /// Whether the phrase has arguments.
@@ -115,54 +115,47 @@ fn has_arguments(phrase: &Phrase) -> bool
 /// A phrase with arguments in brackets, where so many levels of brackets are left.
 #[cycle(phrase)]
 fn in_brackets(alloc: Global, room: u32, left: Left<'_>) -> Reading<'_, Phrase>
-    ensures ok { IfOk result (λ read. bracketed room (place_of left.entry) ≡ Some (phrase_tree read.0, place_of read.1)) }
-    ensures wrong { IfErr result (IsMisread (bracketed room (place_of left.entry))) }
+    ensures ok { IfOk result (IsReadAs phrase_tree (in_brackets room) left.entry) }
+    ensures wrong { IfErr result (IsUnread (in_brackets room) left.entry) }
 {
     let Some(below) = room_below(room) else {
         return Err(Misread::Form);
     };
-    let Some(inner) = after(left, b"(") else {
-        return Err(Misread::Form);
-    };
+    let inner = expect(left, b"(")?;
     let (phrase, rest) = phrase_with(alloc, below, inner)?;
-    match close(phrase, rest) {
-        Some(read) => Ok(read),
-        None => Err(Misread::Form),
-    }
+    close(phrase, rest)
 }
 
 /// An argument.
 #[cycle(phrase)]
 fn argument(alloc: Global, room: u32, left: Left<'_>) -> Reading<'_, Phrase>
-    ensures ok { IfOk result (λ read. argument (bracketed room) (place_of left.entry) ≡ Some (phrase_tree read.0, place_of read.1)) }
-    ensures wrong { IfErr result (IsMisread (argument (bracketed room) (place_of left.entry))) }
+    ensures ok { IfOk result
+        (IsReadAs phrase_tree (argument_phrase (in_brackets room)) left.entry) }
+    ensures wrong { IfErr result (IsUnread (argument_phrase (in_brackets room)) left.entry) }
 {
     if begins_with_bracket(left.bytes) {
         return in_brackets(alloc, room, left);
     }
-    match short(left) {
-        Some(read) => Ok(read),
-        None => Err(Misread::Form),
-    }
+    short(left)
 }
 
 /// A space and an argument.
 #[cycle(phrase)]
 fn spaced_argument(alloc: Global, room: u32, left: Left<'_>) -> Reading<'_, Phrase>
-    ensures ok { IfOk result (λ read. spaced_argument (bracketed room) (place_of left.entry) ≡ Some (phrase_tree read.0, place_of read.1)) }
-    ensures wrong { IfErr result (IsMisread (spaced_argument (bracketed room) (place_of left.entry))) }
+    ensures ok { IfOk result
+        (IsReadAs phrase_tree (spaced_argument (in_brackets room)) left.entry) }
+    ensures wrong { IfErr result (IsUnread (spaced_argument (in_brackets room)) left.entry) }
 {
-    match after(left, b" ") {
-        Some(rest) => argument(alloc, room, rest),
-        None => Err(Misread::Form),
-    }
+    let rest = expect(left, b" ")?;
+    argument(alloc, room, rest)
 }
 
 /// Arguments with a space before each, which may be none.
 #[cycle(phrase)]
 fn arguments(alloc: Global, room: u32, left: Left<'_>) -> Reading<'_, Vec<Phrase>>
-    ensures ok { IfOk result (λ read. arguments (bracketed room) (place_of left.entry) ≡ Some (map phrase_tree read.0.items, place_of read.1)) }
-    ensures wrong { IfErr result (IsMisread (arguments (bracketed room) (place_of left.entry))) }
+    ensures ok { IfOk result
+        (IsReadAs (λ ps. map phrase_tree ps.items) (arguments (in_brackets room)) left.entry) }
+    ensures wrong { IfErr result (IsUnread (arguments (in_brackets room)) left.entry) }
 {
     let mut found = Vec::new(alloc);
     let mut rest = left;
@@ -176,7 +169,8 @@ fn arguments(alloc: Global, room: u32, left: Left<'_>) -> Reading<'_, Vec<Phrase
 
 /// A name with its arguments, which may be none. An `Err` says that memory ran out.
 fn phrase_of(alloc: Global, name: Name, arguments: Vec<Phrase>) -> Result<Phrase, NoMemory>
-    ensures { IfOk result (λ phrase. phrase_tree phrase ≡ phrase_of name (map phrase_tree arguments.items)) }
+    ensures { IfOk result (λ phrase.
+        phrase_tree phrase ≡ phrase_of name (map phrase_tree arguments.items)) }
 {
     if arguments.is_empty() {
         return Ok(Phrase::Bare(name));
@@ -187,13 +181,11 @@ fn phrase_of(alloc: Global, name: Name, arguments: Vec<Phrase>) -> Result<Phrase
 /// A term or a test, where so many levels of brackets are left.
 #[cycle(phrase)]
 fn phrase_with(alloc: Global, room: u32, left: Left<'_>) -> Reading<'_, Phrase>
-    ensures ok { IfOk result (λ read. phrase_with (bracketed room) (place_of left.entry) ≡ Some (phrase_tree read.0, place_of read.1)) }
-    ensures wrong { IfErr result (IsMisread (phrase_with (bracketed room) (place_of left.entry))) }
+    ensures ok { IfOk result (IsReadAs phrase_tree (phrase_with (in_brackets room)) left.entry) }
+    ensures wrong { IfErr result (IsUnread (phrase_with (in_brackets room)) left.entry) }
 {
-    let Some((name, rest)) = first_name(left) else {
-        return Err(Misread::Form);
-    };
-    if let Some(rest) = after(rest, b"()") {
+    let (name, rest) = first_name(left)?;
+    if let Some(rest) = past(rest, b"()") {
         return Ok((Phrase::Applied(name, PhraseList::Empty), rest));
     }
     let (arguments, rest) = arguments(alloc, room, rest)?;
@@ -203,8 +195,8 @@ fn phrase_with(alloc: Global, room: u32, left: Left<'_>) -> Reading<'_, Phrase>
 
 /// A term or a test.
 pub(crate) fn phrase(alloc: Global, left: Left<'_>) -> Reading<'_, Phrase>
-    ensures ok { IfOk result (λ read. phrase (place_of left.entry) ≡ Some (phrase_tree read.0, place_of read.1)) }
-    ensures wrong { IfErr result (IsMisread (phrase (place_of left.entry))) }
+    ensures ok { IfOk result (IsReadAs phrase_tree phrase left.entry) }
+    ensures wrong { IfErr result (IsUnread phrase left.entry) }
 {
     phrase_with(alloc, DEEPEST_BRACKETS, left)
 }

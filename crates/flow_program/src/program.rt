@@ -12,7 +12,8 @@ use sequence::Sequence;
 use tsl_terms::Window;
 
 /// A program: a finite machine over terms. It begins in state 0. At each step it walks from its
-/// state's node by tests to a node that assigns a term to each cell and output and names the next state.
+/// state's node by tests to a node that assigns a term to each cell and output and names the next
+/// state.
 #[derive(Debug, Drop)]
 pub struct Program {
     /// The signals that are read and never updated.
@@ -29,7 +30,9 @@ pub struct Program {
     pub states: Sequence<u32>,
     pub ghost signals_distinct: { IsDistinct ((inputs ++ cells) ++ outputs) },
     pub ghost branches_fit: { BranchesFit (inputs ++ cells) (map node_tree nodes) },
-    pub ghost assignments_fit: { AssignmentsFit (inputs ++ cells) (length cells + length outputs) (length states) (map node_tree nodes) },
+    pub ghost assignments_fit: { AssignmentsFit
+        (inputs ++ cells) (length cells + length outputs) (length states) (map node_tree nodes) },
     pub ghost states_fit: { StatesFit states (length nodes) },
-    pub ghost windows_fit: { IsTrue (list_all (window_fits (inputs ++ cells) cells) (map window_tree windows)) },
+    pub ghost windows_fit: { IsTrue
+        (list_all (window_fits (inputs ++ cells) cells) (map window_tree windows)) },
 }

@@ -455,11 +455,12 @@ fn there_are_sixty_four_windows_at_most(rt: HostRuntime) -> Result<(), Fail> {
     Ok(())
 }
 
-/// A text with so many nodes and states.
+/// A text with so many nodes and states: one node assigns, and each other one tests and leads to
+/// the node before it or to the first one.
 fn numbered(alloc: Global, nodes: u32, states: u32) -> Result<Vec<u8>, Fail> {
-    let mut text = Vec::from_slice(alloc, b"tslprogram 1\n")?;
-    for number in 0..nodes {
-        let line = format!(in alloc; "node {number} set go 0\n")?;
+    let mut text = Vec::from_slice(alloc, b"tslprogram 1\ninput x\nnode 0 set go 0\n")?;
+    for number in 1..nodes {
+        let line = format!(in alloc; "node {number} if p x then {} else 0\n", number - 1)?;
         text.extend_from_slice(line.as_bytes())?;
     }
     for number in 0..states {
@@ -475,6 +476,20 @@ fn there_are_sixty_four_states_at_most(rt: HostRuntime) -> Result<(), Fail> {
     for (states, expected) in [(64, "read"), (65, "States")] {
         let text = numbered(rt.alloc(), 2, states)?;
         assert_eq!(rt; outcome(&rt, rt.alloc(), &text)?.as_str(), expected);
+    }
+    Ok(())
+}
+
+#[test]
+fn the_largest_text_is_written_again_as_it_was(rt: HostRuntime) -> Result<(), Fail> {
+    let alloc = rt.alloc();
+    for (nodes, expected) in [
+        (4_096, b"x:Signal0 p:Predicate1 ".as_slice()),
+        (4_096, b"x:Signal0 p:Predicate1 "),
+    ] {
+        let text = numbered(alloc, nodes, 64)?;
+        let names = written_names(&rt, alloc, &text, Names::new(alloc))?;
+        assert_eq!(rt; names.as_slice(), expected);
     }
     Ok(())
 }

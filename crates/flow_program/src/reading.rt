@@ -22,12 +22,12 @@ use std::alloc::{AllocFailed, Global};
 use thiserror::Error;
 use tsl_terms::Names;
 
-/// Why a text is no program text over the given names. Lines are counted from 1. Of two causes the one
-/// that comes first here is answered, and each tells the first line where it applies.
+/// Why a text is no program text over the given names. Lines are counted from 1. Of two causes the
+/// one that comes first here is answered, and each tells the first line where it applies.
 #[derive(Debug, Drop, Error)]
 pub enum ProgramError {
-    /// No form of a line allows this line at its place, or it declares a name again, or its number is
-    /// not the next. Where a line is missing it is the line after the last.
+    /// No form of a line allows this line at its place, or it declares a name again, or its number
+    /// is not the next. Where a line is missing it is the line after the last.
     #[error("line {0} is malformed")]
     Form(u32),
     /// The test of this line leads to a node that has no smaller number.
@@ -39,15 +39,15 @@ pub enum ProgramError {
     /// The updates of this line are not those of the cells and then of the outputs, in order.
     #[error("line {0} does not update the cells and then the outputs")]
     Updates(u32),
-    /// The window of this line is longer than 3, or its left test or an update stands outside it, or
-    /// its updates are not of cells in rising order.
+    /// The window of this line is longer than 3, or its left test or an update stands outside it,
+    /// or its updates are not of cells in rising order.
     #[error("line {0} is no window")]
     Window(u32),
     /// A term or a test of this line reads the name at this place, which is no input and no cell.
     #[error("line {0} reads a name that is no input and no cell")]
     Unknown(u32, Name),
-    /// The name at this place of this line was used before as something else: a signal, a function or a
-    /// predicate.
+    /// The name at this place of this line was used before as something else: a signal, a function
+    /// or a predicate.
     #[error("a name of line {0} was used before as something else")]
     Kind(u32, Name),
     /// The name at this place of this line had another number of arguments at its first use.
@@ -112,11 +112,15 @@ fn joined(alloc: Global, left: &[Name], right: &[Name]) -> Result<Vec<Name>, NoM
 /// The names of the signals that lines declare. An `Err` says that memory ran out.
 fn declared_signals(alloc: Global, text: &[u8], listing: &Listing) -> Result<Signals, NoMemory>
     requires listing { IsListing text.now (listing_tree listing.now) }
-    requires lines { first_state (listing_tree listing.now) + length listing.now.states.items < 2 ^ 32 }
-    ensures cells { IfOk result (λ declared. texts declared.cells ≡ cell_texts text.now (listing_tree listing.now)) }
-    ensures readable { IfOk result (λ declared. texts declared.readable ≡ readable_of text.now (listing_tree listing.now)) }
+    requires lines { first_state (listing_tree listing.now)
+        + length listing.now.states.items < 2 ^ 32 }
+    ensures cells { IfOk result (λ declared.
+        texts declared.cells ≡ cell_texts text.now (listing_tree listing.now)) }
+    ensures readable { IfOk result (λ declared.
+        texts declared.readable ≡ readable_of text.now (listing_tree listing.now)) }
     ensures controlled { IfOk result
-        (λ declared. declared.controlled.items ≡ listing.now.cells.items ++ listing.now.outputs.items) }
+        (λ declared.
+        declared.controlled.items ≡ listing.now.cells.items ++ listing.now.outputs.items) }
 {
     let inputs_and_cells = joined(alloc, &listing.inputs, &listing.cells)?;
     let controlled = joined(alloc, &listing.cells, &listing.outputs)?;
@@ -170,8 +174,9 @@ fn program_of(
 /// The program that a text spells, and its names: the given ones, and then those of the text in the
 /// order of their first uses, where `?` comes directly after the first signal that is a test alone.
 ///
-/// The given names may be written, and they and the bytes of the text are fewer than 2^32. An `Err` has
-/// the cause why the text spells no program, or says that memory ran out; the given names are dropped.
+/// The given names may be written, and they and the bytes of the text are fewer than 2^32. An `Err`
+/// has the cause why the text spells no program, or says that memory ran out; the given names are
+/// dropped.
 pub fn read_program(
     alloc: Global,
     text: &[u8],

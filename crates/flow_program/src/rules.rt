@@ -4,9 +4,13 @@ ghost use Rattle.std.specs.Prelude.{◌≡◌, ℕ, ◌+◌, ◌<◌, ◌^◌, �
 ghost use Rattle.std.specs.List.{list_all};
 ghost use Rattle.tsl_terms.specs.Name.{texts, same_kind, AreDistinct};
 ghost use Rattle.tsl_terms.specs.Clashes.{alike_in};
-ghost use Rattle.flow_program.specs.Listing.{name_bytes, name_stands, update_line_stands, listed_line_stands, window_line_stands, node_line_stands, update_line, listed_line, window_line, node_line, listing_tree, declared_entry, IsListing};
+ghost use Rattle.flow_program.specs.Listing.{name_bytes, name_stands, update_line_stands, listed_line_stands, window_line_stands};
+ghost use Rattle.flow_program.specs.Listing.{node_line_stands, update_line, listed_line, window_line, node_line, listing_tree};
+ghost use Rattle.flow_program.specs.Listing.{declared_entry, IsListing};
 ghost use Rattle.flow_program.specs.Uses.{first_window, first_node, first_state};
-ghost use Rattle.flow_program.specs.Rules.{first_line, breaks_order, goes_nowhere, is_nowhere, are_texts, breaks_updates, places_rise, place_of_cell, stands_before, listed_rise, is_cell_within, breaks_window, is_unknown, is_unlike, line_fault, use_fault, limit_fault, cell_texts, controlled_of};
+ghost use Rattle.flow_program.specs.Rules.{first_line, breaks_order, goes_nowhere, is_nowhere, are_texts, breaks_updates, places_rise};
+ghost use Rattle.flow_program.specs.Rules.{place_of_cell, stands_before, listed_rise, is_cell_within, breaks_window, is_unknown};
+ghost use Rattle.flow_program.specs.Rules.{is_unlike, line_fault, use_fault, limit_fault, cell_texts, controlled_of};
 ghost use Rattle.flow_program.specs.internal.UseView.{use_view};
 
 use crate::limits::{LONGEST_WINDOW, MOST_NODES, MOST_STATES, MOST_WINDOWS};
@@ -117,9 +121,11 @@ fn start_line(nodes: usize, line: u32, states: &[u64]) -> Option<u32>
 
 /// Whether updates are of these names, in their order.
 fn are_updates_of(text: &[u8], updates: &[SpelledUpdate], controlled: &[Name]) -> bool
-    requires updates { IsTrue (list_all (update_line_stands text.now) (map update_line updates.now)) }
+    requires updates { IsTrue
+        (list_all (update_line_stands text.now) (map update_line updates.now)) }
     requires controlled { IsTrue (list_all (name_stands text.now) controlled.now) }
-    ensures { result ≡ are_texts (map (λ u. name_bytes text.now u.signal) (map update_line updates.now)) (map (name_bytes text.now) controlled.now) }
+    ensures { result ≡ are_texts (map (λ u. name_bytes text.now u.signal)
+        (map update_line updates.now)) (map (name_bytes text.now) controlled.now) }
 {
     if updates.len() != controlled.len() {
         return false;
@@ -136,7 +142,8 @@ fn are_updates_of(text: &[u8], updates: &[SpelledUpdate], controlled: &[Name]) -
 fn breaks_updates(text: &[u8], controlled: &[Name], node: &SpelledNode) -> bool
     requires node { IsTrue (node_line_stands text.now (node_line node.now)) }
     requires controlled { IsTrue (list_all (name_stands text.now) controlled.now) }
-    ensures { (number : ℕ) → result ≡ breaks_updates text.now (map (name_bytes text.now) controlled.now) number (node_line node.now) }
+    ensures { (number : ℕ) → result ≡ breaks_updates text.now
+        (map (name_bytes text.now) controlled.now) number (node_line node.now) }
 {
     match node {
         SpelledNode::Branch { .. } => false,
@@ -149,7 +156,8 @@ fn updates_line(text: &[u8], controlled: &[Name], line: u32, nodes: &[SpelledNod
     requires few { line + length nodes.now < 2 ^ 32 }
     requires nodes { IsTrue (list_all (node_line_stands text.now) (map node_line nodes.now)) }
     requires controlled { IsTrue (list_all (name_stands text.now) controlled.now) }
-    ensures { result ≡ first_line (breaks_updates text.now (map (name_bytes text.now) controlled.now)) line (map node_line nodes.now) }
+    ensures { result ≡ first_line (breaks_updates text.now
+        (map (name_bytes text.now) controlled.now)) line (map node_line nodes.now) }
 {
     for (number, node) in nodes.iter().enumerate() {
         if breaks_updates(text, controlled, node) {
@@ -181,7 +189,8 @@ fn places_rise(left: Option<u32>, right: Option<u32>) -> bool
 fn stands_before(text: &[u8], cells: &Names, update: &SpelledListed, next: &SpelledListed) -> bool
     requires update { IsTrue (listed_line_stands text.now (listed_line update.now)) }
     requires next { IsTrue (listed_line_stands text.now (listed_line next.now)) }
-    ensures { result ≡ stands_before text.now (texts cells.now) (listed_line update.now) (listed_line next.now) }
+    ensures { result
+        ≡ stands_before text.now (texts cells.now) (listed_line update.now) (listed_line next.now) }
 {
     if update.offset != next.offset {
         return update.offset < next.offset;
@@ -194,10 +203,12 @@ fn stands_before(text: &[u8], cells: &Names, update: &SpelledListed, next: &Spel
 
 /// Whether the update at a place stands before the one after it, if there is one.
 fn stands_before_next(text: &[u8], cells: &Names, updates: &[SpelledListed], place: usize) -> bool
-    requires updates { IsTrue (list_all (listed_line_stands text.now) (map listed_line updates.now)) }
+    requires updates { IsTrue
+        (list_all (listed_line_stands text.now) (map listed_line updates.now)) }
     requires place { place < length updates.now }
     ensures { listed_rise text.now (texts cells.now) (map listed_line (drop place updates.now))
-        ≡ (result && listed_rise text.now (texts cells.now) (map listed_line (drop (place + 1) updates.now))) }
+        ≡ (result && listed_rise text.now
+        (texts cells.now) (map listed_line (drop (place + 1) updates.now))) }
 {
     if place + 1 == updates.len() {
         return true;
@@ -216,7 +227,8 @@ fn is_cell_within(text: &[u8], cells: &Names, length: u64, update: &SpelledListe
 /// Whether updates are of cells, at offsets below the length, in rising order.
 fn are_listed(text: &[u8], cells: &Names, length: u64, updates: &[SpelledListed]) -> bool
     requires { IsTrue (list_all (listed_line_stands text.now) (map listed_line updates.now)) }
-    ensures { result ≡ (list_all (is_cell_within text.now (texts cells.now) length) (map listed_line updates.now)
+    ensures { result
+        ≡ (list_all (is_cell_within text.now (texts cells.now) length) (map listed_line updates.now)
         && listed_rise text.now (texts cells.now) (map listed_line updates.now)) }
 {
     for (place, update) in updates.iter().enumerate() {
@@ -233,7 +245,8 @@ fn are_listed(text: &[u8], cells: &Names, length: u64, updates: &[SpelledListed]
 /// Whether a window is too long, or its parts stand outside it or do not rise.
 fn breaks_window(text: &[u8], cells: &Names, window: &SpelledWindow) -> bool
     requires { IsTrue (window_line_stands text.now (window_line window.now)) }
-    ensures { (number : ℕ) → result ≡ breaks_window text.now (texts cells.now) number (window_line window.now) }
+    ensures { (number : ℕ)
+        → result ≡ breaks_window text.now (texts cells.now) number (window_line window.now) }
 {
     let is_short = window.length <= u64::from(LONGEST_WINDOW) && window.left_at <= window.length;
     !(is_short && are_listed(text, cells, window.length, &window.updates))
@@ -242,8 +255,10 @@ fn breaks_window(text: &[u8], cells: &Names, window: &SpelledWindow) -> bool
 /// The first line of a window that is too long, or whose parts stand outside it or do not rise.
 fn window_line(text: &[u8], cells: &Names, line: u32, windows: &[SpelledWindow]) -> Option<u32>
     requires few { line + length windows.now < 2 ^ 32 }
-    requires windows { IsTrue (list_all (window_line_stands text.now) (map window_line windows.now)) }
-    ensures { result ≡ first_line (breaks_window text.now (texts cells.now)) line (map window_line windows.now) }
+    requires windows { IsTrue
+        (list_all (window_line_stands text.now) (map window_line windows.now)) }
+    ensures { result
+        ≡ first_line (breaks_window text.now (texts cells.now)) line (map window_line windows.now) }
 {
     for (number, window) in windows.iter().enumerate() {
         if breaks_window(text, cells, window) {
@@ -261,7 +276,8 @@ pub(crate) fn line_fault(
     controlled: &[Name],
 ) -> Option<ProgramError>
     requires listing { IsListing text.now (listing_tree listing.now) }
-    requires lines { first_state (listing_tree listing.now) + length listing.now.states.items < 2 ^ 32 }
+    requires lines { first_state (listing_tree listing.now)
+        + length listing.now.states.items < 2 ^ 32 }
     requires cells { texts cells.now ≡ cell_texts text.now (listing_tree listing.now) }
     requires controlled { controlled.now ≡ listing.now.cells.items ++ listing.now.outputs.items }
     ensures { result ≡ line_fault text.now (listing_tree listing.now) }
@@ -296,7 +312,8 @@ fn is_unknown(readable: &Names, usage: &SpelledUse) -> bool
 
 /// The first use that reads a signal that is none of these.
 fn first_unknown<'a>(readable: &Names, uses: &[SpelledUse<'a>]) -> Option<SpelledUse<'a>>
-    ensures { option_map use_view result ≡ find (is_unknown (texts readable.now)) (map use_view uses.now) }
+    ensures { option_map use_view result
+        ≡ find (is_unknown (texts readable.now)) (map use_view uses.now) }
 {
     for usage in uses {
         if is_unknown(readable, usage) {
@@ -337,7 +354,8 @@ fn first_unlike<'a>(
     uses: &[SpelledUse<'a>],
     quality: Quality,
 ) -> Option<SpelledUse<'a>>
-    ensures { option_map use_view result ≡ find (is_unlike (alike_in quality) names.now) (map use_view uses.now) }
+    ensures { option_map use_view result
+        ≡ find (is_unlike (alike_in quality) names.now) (map use_view uses.now) }
 {
     for usage in uses {
         if is_unlike(names, usage, quality) {

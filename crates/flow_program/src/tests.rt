@@ -1,4 +1,4 @@
-use crate::{Node, Program, write_program};
+use crate::{Node, Program, put_updates, write_program};
 use sequence::Sequence;
 use std::test::Fail;
 use tsl_terms::{NameKind, Names, Term};
@@ -49,5 +49,17 @@ fn cells_come_before_outputs(rt: HostRuntime) -> Result<(), Fail> {
     let lines =
         b"tslprogram 1\ncell c\noutput y\nnode 0 set [c <- c] [y <- c] go 0\nstate 0 at 0\nend\n";
     assert_eq!(rt; text.as_slice(), lines.as_slice());
+    Ok(())
+}
+
+#[test]
+fn a_space_stands_before_an_update(rt: HostRuntime) -> Result<(), Fail> {
+    let alloc = rt.alloc();
+    let mut names = Names::new(alloc);
+    let x = names.add(b"x", NameKind::Signal, 0)?;
+    let y = names.add(b"y", NameKind::Signal, 0)?;
+    let mut out = Vec::from_slice(alloc, b"set")?;
+    put_updates(&mut out, &names, &[y], &[Term::Signal(x)])?;
+    assert_eq!(rt; out.as_slice(), b"set [y <- x]".as_slice());
     Ok(())
 }

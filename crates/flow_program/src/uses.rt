@@ -1,9 +1,14 @@
 //! The uses of names in a program text, in its order.
 
-ghost use Rattle.std.specs.Prelude.{◌≡◌, ◌+◌, ◌<◌, ◌^◌, ◌++◌, length, map, flat_map, IfOk, OnOk, IsTrue};
+ghost use Rattle.std.specs.Prelude.{◌≡◌, ℕ, ◌+◌, ◌<◌, ◌^◌, ◌++◌, List, Bool, length, map, flat_map, IfOk, OnOk, IsTrue};
 ghost use Rattle.std.specs.List.{list_all};
-ghost use Rattle.flow_program.specs.Listing.{name_bytes, name_stands, phrase_stands, phrases_stand, update_line_stands, listed_line_stands, window_line_stands, node_line_stands, count_of_phrases, phrase_tree, phrase_trees, update_line, listed_line, window_line, node_line, listing_tree, IsListing};
-ghost use Rattle.flow_program.specs.Uses.{signal_use, read_use, tested_use, applied_use, term_uses, terms_uses, test_uses, update_uses, listed_uses, window_uses, node_uses, declared_uses, windows_uses, nodes_uses, uses_of, first_state};
+ghost use Rattle.flow_program.specs.Listing.{name_bytes, name_stands, phrase_stands, phrases_stand, update_line_stands};
+ghost use Rattle.flow_program.specs.Listing.{listed_line_stands, window_line_stands, node_line_stands, count_of_phrases};
+ghost use Rattle.flow_program.specs.Listing.{phrase_tree, phrase_trees, update_line, listed_line, window_line, node_line, listing_tree};
+ghost use Rattle.flow_program.specs.Listing.{IsListing};
+ghost use Rattle.flow_program.specs.ListingTree.{UpdateLine, ListedLine, WindowLine, NodeLine};
+ghost use Rattle.flow_program.specs.Uses.{ProgramUse, signal_use, read_use, tested_use, applied_use, term_uses, terms_uses, test_uses};
+ghost use Rattle.flow_program.specs.Uses.{update_uses, listed_uses, window_uses, node_uses, line_uses, declared_uses, uses_of, first_state};
 ghost use Rattle.flow_program.specs.internal.UseView.{use_view};
 
 use crate::listing::{
@@ -37,22 +42,27 @@ pub(crate) fn name_bytes(text: &[u8], name: Name) -> &[u8]
     &text[name.start as usize..name.end as usize]
 }
 
-/// A signal that is declared or updated.
-fn signal_use(text: &[u8], line: u32, place: Name) -> SpelledUse<'_>
+/// A name with so many arguments.
+fn applied_use(text: &[u8], line: u32, kind: NameKind, place: Name, arity: u32) -> SpelledUse<'_>
     requires { IsTrue (name_stands text.now place) }
-    ensures { use_view result ≡ signal_use text.now line place }
+    ensures { use_view result ≡ applied_use text.now line kind place arity }
 {
+    let text = name_bytes(text, place);
     SpelledUse {
-        usage: NameUse {
-            text: name_bytes(text, place),
-            kind: NameKind::Signal,
-            arity: 0,
-        },
+        usage: NameUse { text, kind, arity },
         place,
         line,
         is_read: false,
         is_tested: false,
     }
+}
+
+/// A signal that is declared or updated.
+fn signal_use(text: &[u8], line: u32, place: Name) -> SpelledUse<'_>
+    requires { IsTrue (name_stands text.now place) }
+    ensures { use_view result ≡ signal_use text.now line place }
+{
+    applied_use(text, line, NameKind::Signal, place, 0)
 }
 
 /// A signal in a term.
@@ -61,15 +71,8 @@ fn read_use(text: &[u8], line: u32, place: Name) -> SpelledUse<'_>
     ensures { use_view result ≡ read_use text.now line place }
 {
     SpelledUse {
-        usage: NameUse {
-            text: name_bytes(text, place),
-            kind: NameKind::Signal,
-            arity: 0,
-        },
-        place,
-        line,
         is_read: true,
-        is_tested: false,
+        ..signal_use(text, line, place)
     }
 }
 
@@ -79,33 +82,8 @@ fn tested_use(text: &[u8], line: u32, place: Name) -> SpelledUse<'_>
     ensures { use_view result ≡ tested_use text.now line place }
 {
     SpelledUse {
-        usage: NameUse {
-            text: name_bytes(text, place),
-            kind: NameKind::Signal,
-            arity: 0,
-        },
-        place,
-        line,
-        is_read: true,
         is_tested: true,
-    }
-}
-
-/// A function or a predicate with its arguments.
-fn applied_use(text: &[u8], line: u32, kind: NameKind, place: Name, arity: u32) -> SpelledUse<'_>
-    requires { IsTrue (name_stands text.now place) }
-    ensures { use_view result ≡ applied_use text.now line kind place arity }
-{
-    SpelledUse {
-        usage: NameUse {
-            text: name_bytes(text, place),
-            kind,
-            arity,
-        },
-        place,
-        line,
-        is_read: false,
-        is_tested: false,
+        ..read_use(text, line, place)
     }
 }
 
@@ -197,106 +175,149 @@ fn add_test<'a>(
     }
 }
 
-/// Adds the uses of an update.
-fn add_update<'a>(
-    list: &mut Vec<SpelledUse<'a>>,
-    text: &'a [u8],
-    line: u32,
-    update: &SpelledUpdate,
-) -> Result<(), NoMemory>
-    requires stands { IsTrue (update_line_stands text.now (update_line update.now)) }
-    requires few { length (update_uses text.now line (update_line update.now)) < 2 ^ 32 }
-    ensures { OnOk result (map use_view list.new.items
-        ≡ map use_view list.old.items ++ update_uses text.now line (update_line update.now)) }
-{
-    list.push(signal_use(text, line, update.signal))?;
-    add_term(list, text, line, &update.term)
+/// A part of a program text that uses names.
+trait UsesNames {
+    /// The part as it is spelled.
+    ghost Tree: { Type 0 };
+
+    ghost tree: { Self → Tree };
+
+    /// Whether its names stand in a text.
+    ghost stands: { List ℕ → Tree → Bool };
+
+    /// Its uses in a text, on this line.
+    ghost uses: { List ℕ → ℕ → Tree → List ProgramUse };
+
+    /// Adds its uses. An `Err` says that memory ran out.
+    fn add_uses<'a>(
+        &self,
+        list: &mut Vec<SpelledUse<'a>>,
+        text: &'a [u8],
+        line: u32,
+    ) -> Result<(), NoMemory>
+        requires stands { IsTrue (stands text.now (tree self.now)) }
+        requires few { length (uses text.now line (tree self.now)) < 2 ^ 32 }
+        ensures { OnOk result (map use_view list.new.items
+            ≡ map use_view list.old.items ++ uses text.now line (tree self.now)) };
 }
 
-/// Adds the uses of updates.
-fn add_updates<'a>(
+/// Adds the uses of parts of one line.
+fn add_all<'a, U: UsesNames>(
     list: &mut Vec<SpelledUse<'a>>,
     text: &'a [u8],
     line: u32,
-    updates: &[SpelledUpdate],
+    parts: &[U],
 ) -> Result<(), NoMemory>
-    requires stands { IsTrue (list_all (update_line_stands text.now) (map update_line updates.now)) }
-    requires few { length (flat_map (update_uses text.now line) (map update_line updates.now)) < 2 ^ 32 }
+    requires stand { IsTrue (list_all (U.stands text.now) (map U.tree parts.now)) }
+    requires few { length (flat_map (U.uses text.now line) (map U.tree parts.now)) < 2 ^ 32 }
     ensures { OnOk result (map use_view list.new.items
-        ≡ map use_view list.old.items ++ flat_map (update_uses text.now line) (map update_line updates.now)) }
+        ≡ map use_view list.old.items ++ flat_map (U.uses text.now line) (map U.tree parts.now)) }
 {
-    for update in updates {
-        add_update(list, text, line, update)?;
+    for part in parts {
+        part.add_uses(list, text, line)?;
     }
     Ok(())
 }
 
-/// Adds the uses of an update that a window lists.
-fn add_listed<'a>(
+/// Adds the uses of parts that have a line each, the first of which has this number.
+fn add_lines<'a, U: UsesNames>(
     list: &mut Vec<SpelledUse<'a>>,
     text: &'a [u8],
     line: u32,
-    update: &SpelledListed,
+    parts: &[U],
 ) -> Result<(), NoMemory>
-    requires stands { IsTrue (listed_line_stands text.now (listed_line update.now)) }
-    requires few { length (listed_uses text.now line (listed_line update.now)) < 2 ^ 32 }
+    requires stand { IsTrue (list_all (U.stands text.now) (map U.tree parts.now)) }
+    requires lines { line + length parts.now < 2 ^ 32 }
+    requires few { length (line_uses (U.uses text.now) line (map U.tree parts.now)) < 2 ^ 32 }
     ensures { OnOk result (map use_view list.new.items
-        ≡ map use_view list.old.items ++ listed_uses text.now line (listed_line update.now)) }
+        ≡ map use_view list.old.items ++ line_uses (U.uses text.now) line (map U.tree parts.now)) }
 {
-    list.push(signal_use(text, line, update.signal))?;
-    add_term(list, text, line, &update.term)
-}
-
-/// Adds the uses of the updates that a window lists.
-fn add_all_listed<'a>(
-    list: &mut Vec<SpelledUse<'a>>,
-    text: &'a [u8],
-    line: u32,
-    updates: &[SpelledListed],
-) -> Result<(), NoMemory>
-    requires stands { IsTrue (list_all (listed_line_stands text.now) (map listed_line updates.now)) }
-    requires few { length (flat_map (listed_uses text.now line) (map listed_line updates.now)) < 2 ^ 32 }
-    ensures { OnOk result (map use_view list.new.items
-        ≡ map use_view list.old.items ++ flat_map (listed_uses text.now line) (map listed_line updates.now)) }
-{
-    for update in updates {
-        add_listed(list, text, line, update)?;
+    for (index, part) in parts.iter().enumerate() {
+        part.add_uses(list, text, line + index as u32)?;
     }
     Ok(())
 }
 
-/// Adds the uses of a window.
-fn add_window<'a>(
-    list: &mut Vec<SpelledUse<'a>>,
-    text: &'a [u8],
-    line: u32,
-    window: &SpelledWindow,
-) -> Result<(), NoMemory>
-    requires stands { IsTrue (window_line_stands text.now (window_line window.now)) }
-    requires few { length (window_uses text.now line (window_line window.now)) < 2 ^ 32 }
-    ensures { OnOk result (map use_view list.new.items
-        ≡ map use_view list.old.items ++ window_uses text.now line (window_line window.now)) }
-{
-    add_test(list, text, line, &window.left)?;
-    add_test(list, text, line, &window.right)?;
-    add_all_listed(list, text, line, &window.updates)
+impl UsesNames for SpelledUpdate {
+    ghost Tree = { UpdateLine };
+
+    ghost tree = { update_line };
+
+    ghost stands = { update_line_stands };
+
+    ghost uses = { update_uses };
+
+    fn add_uses<'a>(
+        &self,
+        list: &mut Vec<SpelledUse<'a>>,
+        text: &'a [u8],
+        line: u32,
+    ) -> Result<(), NoMemory> {
+        list.push(signal_use(text, line, self.signal))?;
+        add_term(list, text, line, &self.term)
+    }
 }
 
-/// Adds the uses of a node.
-fn add_node<'a>(
-    list: &mut Vec<SpelledUse<'a>>,
-    text: &'a [u8],
-    line: u32,
-    node: &SpelledNode,
-) -> Result<(), NoMemory>
-    requires stands { IsTrue (node_line_stands text.now (node_line node.now)) }
-    requires few { length (node_uses text.now line (node_line node.now)) < 2 ^ 32 }
-    ensures { OnOk result (map use_view list.new.items
-        ≡ map use_view list.old.items ++ node_uses text.now line (node_line node.now)) }
-{
-    match node {
-        SpelledNode::Branch { test, .. } => add_test(list, text, line, test),
-        SpelledNode::Assignment { updates, .. } => add_updates(list, text, line, updates),
+impl UsesNames for SpelledListed {
+    ghost Tree = { ListedLine };
+
+    ghost tree = { listed_line };
+
+    ghost stands = { listed_line_stands };
+
+    ghost uses = { listed_uses };
+
+    fn add_uses<'a>(
+        &self,
+        list: &mut Vec<SpelledUse<'a>>,
+        text: &'a [u8],
+        line: u32,
+    ) -> Result<(), NoMemory> {
+        list.push(signal_use(text, line, self.signal))?;
+        add_term(list, text, line, &self.term)
+    }
+}
+
+impl UsesNames for SpelledWindow {
+    ghost Tree = { WindowLine };
+
+    ghost tree = { window_line };
+
+    ghost stands = { window_line_stands };
+
+    ghost uses = { window_uses };
+
+    fn add_uses<'a>(
+        &self,
+        list: &mut Vec<SpelledUse<'a>>,
+        text: &'a [u8],
+        line: u32,
+    ) -> Result<(), NoMemory> {
+        add_test(list, text, line, &self.left)?;
+        add_test(list, text, line, &self.right)?;
+        add_all(list, text, line, &self.updates)
+    }
+}
+
+impl UsesNames for SpelledNode {
+    ghost Tree = { NodeLine };
+
+    ghost tree = { node_line };
+
+    ghost stands = { node_line_stands };
+
+    ghost uses = { node_uses };
+
+    fn add_uses<'a>(
+        &self,
+        list: &mut Vec<SpelledUse<'a>>,
+        text: &'a [u8],
+        line: u32,
+    ) -> Result<(), NoMemory> {
+        match self {
+            SpelledNode::Branch { test, .. } => add_test(list, text, line, test),
+            SpelledNode::Assignment { updates, .. } => add_all(list, text, line, updates),
+        }
     }
 }
 
@@ -318,44 +339,6 @@ fn add_declared<'a>(
     Ok(())
 }
 
-/// Adds the uses of windows, the first of which has this line.
-fn add_windows<'a>(
-    list: &mut Vec<SpelledUse<'a>>,
-    text: &'a [u8],
-    line: u32,
-    windows: &[SpelledWindow],
-) -> Result<(), NoMemory>
-    requires stands { IsTrue (list_all (window_line_stands text.now) (map window_line windows.now)) }
-    requires lines { line + length windows.now < 2 ^ 32 }
-    requires few { length (windows_uses text.now line (map window_line windows.now)) < 2 ^ 32 }
-    ensures { OnOk result (map use_view list.new.items
-        ≡ map use_view list.old.items ++ windows_uses text.now line (map window_line windows.now)) }
-{
-    for (index, window) in windows.iter().enumerate() {
-        add_window(list, text, line + index as u32, window)?;
-    }
-    Ok(())
-}
-
-/// Adds the uses of nodes, the first of which has this line.
-fn add_nodes<'a>(
-    list: &mut Vec<SpelledUse<'a>>,
-    text: &'a [u8],
-    line: u32,
-    nodes: &[SpelledNode],
-) -> Result<(), NoMemory>
-    requires stands { IsTrue (list_all (node_line_stands text.now) (map node_line nodes.now)) }
-    requires lines { line + length nodes.now < 2 ^ 32 }
-    requires few { length (nodes_uses text.now line (map node_line nodes.now)) < 2 ^ 32 }
-    ensures { OnOk result (map use_view list.new.items
-        ≡ map use_view list.old.items ++ nodes_uses text.now line (map node_line nodes.now)) }
-{
-    for (index, node) in nodes.iter().enumerate() {
-        add_node(list, text, line + index as u32, node)?;
-    }
-    Ok(())
-}
-
 /// All uses of the lines of a text. An `Err` says that memory ran out.
 pub(crate) fn all_uses<'a>(
     alloc: Global,
@@ -363,9 +346,11 @@ pub(crate) fn all_uses<'a>(
     listing: &Listing,
 ) -> Result<Vec<SpelledUse<'a>>, NoMemory>
     requires listing { IsListing text.now (listing_tree listing.now) }
-    requires lines { first_state (listing_tree listing.now) + length listing.now.states.items < 2 ^ 32 }
+    requires lines { first_state (listing_tree listing.now)
+        + length listing.now.states.items < 2 ^ 32 }
     requires few { length (uses_of text.now (listing_tree listing.now)) < 2 ^ 32 }
-    ensures { IfOk result (λ list. map use_view list.items ≡ uses_of text.now (listing_tree listing.now)) }
+    ensures { IfOk result (λ list.
+        map use_view list.items ≡ uses_of text.now (listing_tree listing.now)) }
 {
     let mut list = Vec::new(alloc);
     let cells = 2 + listing.inputs.len() as u32;
@@ -373,7 +358,7 @@ pub(crate) fn all_uses<'a>(
     add_declared(&mut list, text, 2, &listing.inputs)?;
     add_declared(&mut list, text, cells, &listing.cells)?;
     add_declared(&mut list, text, outputs, &listing.outputs)?;
-    add_windows(&mut list, text, first_window(listing), &listing.windows)?;
-    add_nodes(&mut list, text, first_node(listing), &listing.nodes)?;
+    add_lines(&mut list, text, first_window(listing), &listing.windows)?;
+    add_lines(&mut list, text, first_node(listing), &listing.nodes)?;
     Ok(list)
 }

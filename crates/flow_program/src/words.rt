@@ -1,20 +1,21 @@
 //! The bytes, names and numbers that stand at the front of what is left of a line.
 
-ghost use Rattle.std.specs.Prelude.{◌≡◌, ◌≤◌, length, option_map, Some, None, IfSome, IfNone};
+ghost use Rattle.std.specs.Prelude.{◌≡◌, ◌≤◌, length, option_map, Some, IfOk, IfErr};
 ghost use Rattle.std.specs.List.{prefix_len, list_all, list_any};
 ghost use Rattle.std.specs.Str.{bytes_eq};
 ghost use Rattle.std.specs.Char.{is_ascii_digit};
 ghost use Rattle.tsl_text.specs.Names.{is_name_start, is_name_byte, is_name_text, is_reserved, is_usable};
-ghost use Rattle.flow_program.specs.internal.LineReading.{place_of, skipped, after, first_name, first_number, long_words, letters};
+ghost use Rattle.flow_program.specs.internal.LineReading.{left_place, skipped, past, first_name, first_number};
+ghost use Rattle.flow_program.specs.internal.LineReading.{IsReadAs, IsUnread, IsMisread, long_words, letters};
 
-use crate::left::Left;
+use crate::left::{Left, Misread, Reading};
 use crate::listing::Name;
 use tsl_text::plain_number_in;
 
 /// What is left after so many bytes.
 pub(crate) fn skip(left: Left<'_>, len: usize) -> Left<'_>
     requires { len ≤ length left.bytes.now }
-    ensures { place_of result ≡ skipped len (place_of left.entry) }
+    ensures { left_place result ≡ skipped len (left_place left.entry) }
 {
     Left {
         at: left.at + len as u32,
@@ -22,9 +23,9 @@ pub(crate) fn skip(left: Left<'_>, len: usize) -> Left<'_>
     }
 }
 
-/// What is left after these bytes, where they stand at the front.
-pub(crate) fn after<'a>(left: Left<'a>, word: &[u8]) -> Option<Left<'a>>
-    ensures { option_map place_of result ≡ after word.now (place_of left.entry) }
+/// What is left past these bytes, where they stand at the front.
+pub(crate) fn past<'a>(left: Left<'a>, word: &[u8]) -> Option<Left<'a>>
+    ensures { option_map left_place result ≡ past word.now (left_place left.entry) }
 {
     match left.bytes.strip_prefix(word) {
         Some(bytes) => Some(Left {
@@ -35,31 +36,43 @@ pub(crate) fn after<'a>(left: Left<'a>, word: &[u8]) -> Option<Left<'a>>
     }
 }
 
+/// What is left past these bytes, which have to stand at the front.
+pub(crate) fn expect<'a>(left: Left<'a>, word: &[u8]) -> Result<Left<'a>, Misread>
+    ensures ok { IfOk result (λ later.
+        past word.now (left_place left.entry) ≡ Some (left_place later)) }
+    ensures wrong { IfErr result (IsMisread (past word.now (left_place left.entry))) }
+{
+    match past(left, word) {
+        Some(later) => Ok(later),
+        None => Err(Misread::Form),
+    }
+}
+
 /// The longest name at the front, if it is no reserved word.
-pub(crate) fn first_name(left: Left<'_>) -> Option<(Name, Left<'_>)>
-    ensures some { IfSome result (λ read. first_name (place_of left.entry) ≡ Some (read.0, place_of read.1)) }
-    ensures none { IfNone result (first_name (place_of left.entry) ≡ None) }
+pub(crate) fn first_name(left: Left<'_>) -> Reading<'_, Name>
+    ensures ok { IfOk result (IsReadAs (λ name. name) first_name left.entry) }
+    ensures wrong { IfErr result (IsUnread first_name left.entry) }
 {
     let len = name_len(left.bytes);
     if !is_usable(&left.bytes[..len]) {
-        return None;
+        return Err(Misread::Form);
     }
     let name = Name {
         start: left.at,
         end: left.at + len as u32,
     };
-    Some((name, skip(left, len)))
+    Ok((name, skip(left, len)))
 }
 
 /// The longest number at the front, without leading zeros and with at most 18 digits.
-pub(crate) fn first_number(left: Left<'_>) -> Option<(u64, Left<'_>)>
-    ensures some { IfSome result (λ read. first_number (place_of left.entry) ≡ Some (read.0, place_of read.1)) }
-    ensures none { IfNone result (first_number (place_of left.entry) ≡ None) }
+pub(crate) fn first_number(left: Left<'_>) -> Reading<'_, u64>
+    ensures ok { IfOk result (IsReadAs (λ number. number) first_number left.entry) }
+    ensures wrong { IfErr result (IsUnread first_number left.entry) }
 {
     let len = number_len(left.bytes);
     match plain_number_in(&left.bytes[..len]) {
-        Some(number) => Some((number, skip(left, len))),
-        None => None,
+        Some(number) => Ok((number, skip(left, len))),
+        None => Err(Misread::Form),
     }
 }
 

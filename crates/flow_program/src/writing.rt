@@ -4,11 +4,13 @@ ghost use Rattle.std.specs.Prelude.{◌≡◌, ◌+◌, ◌∷◌, ◌++◌, ◌
 ghost use Rattle.std.specs.List.{list_all};
 ghost use Rattle.tsl_terms.specs.TermTree.{term_tree, probe_tree};
 ghost use Rattle.tsl_terms.specs.WindowTree.{window_tree};
-ghost use Rattle.term_text.specs.TermText.{name_text, probe_text, update_text};
+ghost use Rattle.term_text.specs.TermText.{name_text, probe_text, update_text, is_held, term_is_held};
 ghost use Rattle.term_text.specs.WindowText.{window_text};
 ghost use Rattle.flow_program.specs.NodeTree.{node_tree};
 ghost use Rattle.flow_program.specs.ProgramView.{program_tree};
-ghost use Rattle.flow_program.specs.ProgramText.{declarations, updates_text, node_text, nodes_text, states_text, program_text, signal_fits, term_is_writable, probe_is_writable, window_is_writable, node_is_writable, IsWritable, ProgramText};
+ghost use Rattle.flow_program.specs.ProgramText.{declarations, updates_text, node_text, nodes_text, states_text, program_text};
+ghost use Rattle.flow_program.specs.ProgramText.{signal_fits, term_is_writable, probe_is_writable, window_is_writable, node_is_writable};
+ghost use Rattle.flow_program.specs.ProgramText.{IsWritable, ProgramText};
 
 use crate::node::Node;
 use crate::program::Program;
@@ -47,7 +49,8 @@ fn put_declarations(
     ids: &[u32],
 ) -> Result<(), NoMemory>
     requires { IsTrue (list_all (signal_fits names.now) ids.now) }
-    ensures { OnOk result (out.new.items ≡ out.old.items ++ declarations word.now names.now ids.now) }
+    ensures { OnOk result
+        (out.new.items ≡ out.old.items ++ declarations word.now names.now ids.now) }
 {
     for id in ids {
         put_declaration(out, names, word, *id)?;
@@ -58,7 +61,8 @@ fn put_declarations(
 /// Appends the line of one signal.
 fn put_declaration(out: &mut Vec<u8>, names: &Names, word: &[u8], id: u32) -> Result<(), NoMemory>
     requires { IsTrue (signal_fits names.now id) }
-    ensures { OnOk result (out.new.items ≡ out.old.items ++ (word.now ++ name_text names.now id ++ codes "\n")) }
+    ensures { OnOk result
+        (out.new.items ≡ out.old.items ++ (word.now ++ name_text names.now id ++ codes "\n")) }
 {
     out.extend_from_slice(word)?;
     put_name(out, names, id)?;
@@ -69,7 +73,8 @@ fn put_declaration(out: &mut Vec<u8>, names: &Names, word: &[u8], id: u32) -> Re
 /// Appends a line for each window.
 fn put_windows(out: &mut Vec<u8>, names: &Names, windows: &[Window]) -> Result<(), NoMemory>
     requires { IsTrue (list_all (window_is_writable names.now) (map window_tree windows.now)) }
-    ensures { OnOk result (out.new.items ≡ out.old.items ++ flat_map (window_text names.now) (map window_tree windows.now)) }
+    ensures { OnOk result (out.new.items
+        ≡ out.old.items ++ flat_map (window_text names.now) (map window_tree windows.now)) }
 {
     for window in windows {
         put_window(out, names, window)?;
@@ -87,7 +92,8 @@ fn put_nodes(
     requires signals { IsTrue (list_all (signal_fits names.now) controlled.now) }
     requires nodes { IsTrue (list_all (node_is_writable names.now) (map node_tree nodes.now)) }
     ensures { OnOk result
-        (out.new.items ≡ out.old.items ++ nodes_text names.now controlled.now 0 (map node_tree nodes.now)) }
+        (out.new.items
+        ≡ out.old.items ++ nodes_text names.now controlled.now 0 (map node_tree nodes.now)) }
 {
     for (number, node) in nodes.iter().enumerate() {
         put_node(out, names, controlled, number, node)?;
@@ -106,7 +112,8 @@ fn put_node(
     requires signals { IsTrue (list_all (signal_fits names.now) controlled.now) }
     requires node { IsTrue (node_is_writable names.now (node_tree node.now)) }
     ensures { OnOk result
-        (out.new.items ≡ out.old.items ++ node_text names.now controlled.now number (node_tree node.now)) }
+        (out.new.items
+        ≡ out.old.items ++ node_text names.now controlled.now number (node_tree node.now)) }
 {
     out.extend_from_slice(b"node ")?;
     put_number(out, number as u64)?;
@@ -137,7 +144,8 @@ fn put_branch(
     requires { IsTrue (probe_is_writable names.now (probe_tree test.now)) }
     ensures { OnOk result (out.new.items
         ≡ out.old.items ++ (codes " if " ++ probe_text names.now (probe_tree test.now)
-        ++ codes " then " ++ decimal then_node ++ codes " else " ++ decimal else_node ++ codes "\n")) }
+        ++ codes " then "
+        ++ decimal then_node ++ codes " else " ++ decimal else_node ++ codes "\n")) }
 {
     out.extend_from_slice(b" if ")?;
     put_probe(out, names, test)?;
@@ -160,7 +168,8 @@ fn put_assignment(
     requires signals { IsTrue (list_all (signal_fits names.now) controlled.now) }
     requires terms { IsTrue (list_all (term_is_writable names.now) (map term_tree terms.now)) }
     ensures { OnOk result (out.new.items
-        ≡ out.old.items ++ (codes " set" ++ updates_text names.now controlled.now (map term_tree terms.now)
+        ≡ out.old.items
+        ++ (codes " set" ++ updates_text names.now controlled.now (map term_tree terms.now)
         ++ codes " go " ++ decimal go ++ codes "\n")) }
 {
     out.extend_from_slice(b" set")?;
@@ -171,19 +180,20 @@ fn put_assignment(
     Ok(())
 }
 
-/// Appends each signal's update, a space before it.
-fn put_updates(
+/// Appends each signal's update, a space before it. The names hold the signals and what stands in the
+/// terms.
+pub fn put_updates(
     out: &mut Vec<u8>,
     names: &Names,
-    controlled: &[u32],
+    signals: &[u32],
     terms: &[Term],
 ) -> Result<(), NoMemory>
-    requires signals { IsTrue (list_all (signal_fits names.now) controlled.now) }
-    requires terms { IsTrue (list_all (term_is_writable names.now) (map term_tree terms.now)) }
+    requires signals { IsTrue (list_all (is_held names.now) signals.now) }
+    requires terms { IsTrue (list_all (term_is_held names.now) (map term_tree terms.now)) }
     ensures { OnOk result
-        (out.new.items ≡ out.old.items ++ updates_text names.now controlled.now (map term_tree terms.now)) }
+        (out.new.items ≡ out.old.items ++ updates_text names.now signals.now (map term_tree terms.now)) }
 {
-    for (signal, term) in controlled.iter().zip(terms) {
+    for (signal, term) in signals.iter().zip(terms) {
         put_spaced_update(out, names, *signal, term)?;
     }
     Ok(())
@@ -196,10 +206,10 @@ fn put_spaced_update(
     signal: u32,
     term: &Term,
 ) -> Result<(), NoMemory>
-    requires signal { IsTrue (signal_fits names.now signal) }
-    requires term { IsTrue (term_is_writable names.now (term_tree term.now)) }
-    ensures { OnOk result
-        (out.new.items ≡ out.old.items ++ (codes " " ++ update_text names.now signal (term_tree term.now))) }
+    requires signal { IsTrue (is_held names.now signal) }
+    requires term { IsTrue (term_is_held names.now (term_tree term.now)) }
+    ensures { OnOk result (out.new.items
+        ≡ out.old.items ++ (codes " " ++ update_text names.now signal (term_tree term.now))) }
 {
     out.extend_from_slice(b" ")?;
     put_update(out, names, signal, term)

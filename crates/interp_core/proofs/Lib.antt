@@ -1,3 +1,2 @@
 pub mod Besides
-mod Evaluating
 pub mod Total

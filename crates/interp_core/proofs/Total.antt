@@ -1,15 +1,16 @@
 -- Where meanings give each symbol a value on all arguments, a term has one where its signals do.
-use Rattle.std.proofs.Common.{◌≡◌, ℕ, ◌==◌, ◌||◌, Bool, true, false, cond, List, [], ◌∷◌, length, map, Option, Some, None, refl, sym, subst, arith}
-use Rattle.std.specs.Prelude.{option_map, option_and_then, IsSome}
+use Rattle.std.proofs.Common.{◌≡◌, ℕ, ◌==◌, ◌||◌, Bool, true, false, cond, List, [], ◌∷◌, length, map, Option, Some, refl, sym, subst, arith}
+use Rattle.std.specs.Prelude.{option_map, IsSome}
 use Rattle.std.proofs.lemmas.Bool.{and_parts, false≢true}
 use Rattle.std.proofs.lemmas.List.{length-map}
 use Rattle.sequence.specs.Numbers.{is_among}
+use Rattle.sequence.proofs.Options.{then_there, map_there}
 use Rattle.tsl_terms.specs.TermTree.{TermTree, signal, apply, TermTrees, no_terms, more_terms, ProbeTree}
 use Rattle.tsl_terms.specs.OnlyThese.{reads_only, read_only}
 use Rattle.tsl_terms.specs.Value.{Meanings, value, values, truth, beside}
 use Rattle.interp_core.specs.declared.leaves.Leaves.{Leaves}
 use Rattle.interp_core.specs.LeafValue.{leaf_value}
-use Rattle.interp_core.specs.internal.Wheel.{wheel}
+use Rattle.interp_core.specs.Wheel.{wheel}
 
 -- each symbol has a value, or a truth, on all arguments, and each cell a value at first
 pub record IsTotal {V : Type 0} (meanings : Meanings V) : Type 0 where
@@ -19,14 +20,6 @@ pub record IsTotal {V : Type 0} (meanings : Meanings V) : Type 0 where
 
 pub wheel_is_total : (size : ℕ) → IsTotal (wheel size)
 wheel_is_total size = record { function = λ f vs. refl; predicate = λ p vs. refl; initial = λ s. refl }
-
-pub some_then : {X Y : Type 0} (f : X → Option Y) (o : Option X) → IsSome o → ((x : X) → IsSome (f x)) → IsSome (option_and_then f o)
-some_then f None some each = some
-some_then f (Some x) some each = each x
-
-pub some_map : {X Y : Type 0} (f : X → Y) (o : Option X) → IsSome o → IsSome (option_map f o)
-some_map f None some = some
-some_map f (Some x) some = refl
 
 -- a member of a list has something beside it in one as long
 pub beside_some : {V : Type 0} (s : ℕ) (rs : List ℕ) (vs : List V) → length vs ≡ length rs → is_among rs s ≡ true → IsSome (beside s rs vs)
@@ -52,15 +45,16 @@ module _ {V : Type 0} (meanings : Meanings V) (total : IsTotal meanings) (readab
     pub value_there : (t : TermTree) → reads_only readable t ≡ true → IsSome (value meanings at t)
     value_there (signal s) reads = known s reads
     value_there (apply f arguments) reads =
-        some_then (meanings.function f) (values meanings at arguments) (values_there arguments reads) (total.function f)
+        then_there (meanings.function f) (values meanings at arguments) (values_there arguments reads) (total.function f)
 
     pub values_there : (ts : TermTrees) → read_only readable ts ≡ true → IsSome (values meanings at ts)
     values_there no_terms reads = refl
     values_there (more_terms t ts) reads =
         let parts = and_parts (reads_only readable t) (read_only readable ts) reads in
-        some_then (λ v. option_map (λ vs. v ∷ vs) (values meanings at ts)) (value meanings at t) (value_there t parts.0)
-        (λ v. some_map (λ vs. v ∷ vs) (values meanings at ts) (values_there ts parts.1))
+        then_there (λ v. option_map (λ vs. v ∷ vs) (values meanings at ts)) (value meanings at t) (value_there t parts.0)
+        (λ v. map_there (λ vs. v ∷ vs) (values meanings at ts) (values_there ts parts.1))
 
   pub truth_there : (p : ProbeTree) → read_only readable p.arguments ≡ true → IsSome (truth meanings at p)
   truth_there p reads =
-      some_then (meanings.predicate p.predicate) (values meanings at p.arguments) (values_there p.arguments reads) (total.predicate p.predicate)
+      then_there (meanings.predicate p.predicate) (values meanings at p.arguments) (values_there p.arguments reads)
+      (total.predicate p.predicate)

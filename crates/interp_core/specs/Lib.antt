@@ -1,2 +1,2 @@
 pub mod LeafValue
-pub mod internal
+pub mod Wheel

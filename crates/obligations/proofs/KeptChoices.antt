@@ -9,10 +9,9 @@ use Rattle.sequence.proofs.Booleans.{same_tests}
 use Rattle.sequence.proofs.Each.{each_at}
 use Rattle.sequence.proofs.Places.{contains_at}
 use Rattle.sequence.proofs.Passes.{list_any_place, list_any_contained, filter_has}
-use Rattle.obligations.specs.internal.Named.{IsRisingChoice}
 use Rattle.obligations.specs.Choices.{same_choice, is_within, is_larger, without_repeats, without_larger}
 use Rattle.obligations.specs.Numbers.{ChoiceKey}
-use Rattle.obligations.specs.internal.Rounds.{weight}
+use Rattle.obligations.specs.internal.Rounds.{IsRisingChoice, weight}
 use Rattle.obligations.proofs.WithinLemmas.{Within, within_is, within_itself, within_trans, lighter, same_key_is}
 
 or_absorb : (a t r : Bool) → (t ≡ true → a ≡ true) → (a || r) ≡ (a || (t || r))

@@ -1,5 +1,7 @@
 pub mod CubeJoins
+pub mod ClosureLemmas
 pub mod Examples
+pub mod ExpansionLemmas
 pub mod FormulaNumbers
 pub mod KeepLemmas
 pub mod KeptChoices

@@ -11,7 +11,7 @@ use Rattle.sequence.specs.Kept.{with_new}
 use Rattle.std.proofs.lemmas.Bool.{or_right}
 use Rattle.std.proofs.lemmas.Option.{same_Some}
 use Rattle.sequence.proofs.Each.{each_joined, each_filtered, each_left, each_right, each_weaker}
-use Rattle.obligations.specs.internal.Named.{formula_named, choice_named, IsWell}
+use Rattle.obligations.specs.Named.{formula_named, choice_named, IsWell}
 use Rattle.ltl_formula.specs.LtlTree.{LtlTree, LtlTrees, top, bottom, bit, not_bit, conjunction, disjunction, next, until, release}
 use Rattle.ltl_formula.specs.LtlTree.{no_formulas, more_formulas}
 use Rattle.ltl_formula.specs.LtlOrder.{tree_cmp}

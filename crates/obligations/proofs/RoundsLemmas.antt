@@ -8,10 +8,9 @@ use Rattle.sequence.proofs.Each.{each_at, each_from_places}
 use Rattle.sequence.proofs.Passes.{list_any_place}
 use Rattle.std.proofs.Math.Bool.{and-or_distrib_right}
 use Rattle.std.proofs.lemmas.List.Folds.{list_any-append}
-use Rattle.obligations.specs.internal.Named.{IsRisingChoice}
 use Rattle.obligations.specs.Choices.{same_choice, is_within, is_larger}
 use Rattle.obligations.specs.Numbers.{ChoiceKey}
-use Rattle.obligations.specs.internal.Rounds.{weight, is_kept, rounds, with_flags, flags_after}
+use Rattle.obligations.specs.internal.Rounds.{IsRisingChoice, weight, is_kept, rounds, with_flags, flags_after}
 use Rattle.obligations.proofs.WithinLemmas.{within_is, is_within_key, within_trans, lighter, same_key_is}
 use Rattle.obligations.proofs.KeptChoices.{kept, any_at, any_filtered}
 

@@ -11,7 +11,7 @@ use Rattle.std.proofs.lemmas.Bool.{ltb-false}
 use Rattle.sequence.proofs.Each.{each_left, each_right}
 use Rattle.sequence.proofs.Passes.{list_any-map}
 use Rattle.std.proofs.Math.Bool.{or-false, and-true, and_assoc, or_assoc}
-use Rattle.obligations.specs.internal.Named.{formula_named, choice_named}
+use Rattle.obligations.specs.Named.{formula_named, choice_named}
 use Rattle.loop_shape.specs.LoopShape.{IsPosition, after}
 use Rattle.loop_shape.proofs.Untils.{until_unrolls}
 use Rattle.loop_shape.proofs.Words.{release_unrolls}

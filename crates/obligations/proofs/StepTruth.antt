@@ -14,7 +14,8 @@ use Rattle.sequence.proofs.Booleans.{same_tests}
 use Rattle.sequence.proofs.Each.{each_joined, each_weaker}
 use Rattle.std.proofs.Math.Bool.{and-false, and-or_distrib_left, and-or_distrib_right}
 use Rattle.std.proofs.lemmas.List.Folds.{list_any-append}
-use Rattle.obligations.specs.internal.Named.{formula_named, choice_named, IsWell, IsRisingChoice}
+use Rattle.obligations.specs.Named.{formula_named, choice_named, IsWell}
+use Rattle.obligations.specs.internal.Rounds.{IsRisingChoice}
 use Rattle.ltl_formula.specs.LtlTree.{LtlTree}
 use Rattle.ltl_formula.specs.LtlOrder.{tree_cmp}
 use Rattle.ltl_formula.specs.Increasing.{IsIncreasing}

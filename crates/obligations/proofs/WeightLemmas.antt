@@ -7,11 +7,10 @@ use Rattle.std.specs.Ordering.{nat_cmp}
 use Rattle.std.proofs.lemmas.List.{take_more, map_push}
 use Rattle.std.proofs.lemmas.Bool.{ltb-true, lt-ltb, eqb-true, and_parts}
 use Rattle.sequence.proofs.Each.{each_joined, each_weaker}
-use Rattle.obligations.specs.internal.Named.{IsRisingChoice}
 use Rattle.ltl_formula.specs.Increasing.{IsIncreasing}
 use Rattle.obligations.specs.declared.numbered.NumberedChoice.{NumberedChoice}
 use Rattle.obligations.specs.Numbers.{ChoiceKey, choice_key, choice_keys}
-use Rattle.obligations.specs.internal.Rounds.{weight, rises_after, numbers_rise, is_rising, flagged_members}
+use Rattle.obligations.specs.internal.Rounds.{IsRisingChoice, weight, rises_after, numbers_rise, is_rising, flagged_members}
 
 module _ (cs : List NumberedChoice) (i : ℕ) (c : NumberedChoice) (within : i < length cs) (at : c ≡ get_or cs i c) where
   one_more_key : choice_keys (take (i + 1) cs) ≡ choice_keys (take i cs) ++ choice_key c ∷ []

@@ -12,12 +12,12 @@ use Rattle.std.proofs.lemmas.Bool.{eqb-true, eqb-false, false≢true, and_parts,
 use Rattle.std.proofs.lemmas.Slice.Eq.{bytes_eq-Decides}
 use Rattle.std.proofs.lemmas.Cmp.{ranked}
 use Rattle.sequence.proofs.Booleans.{eqb_self}
-use Rattle.obligations.specs.internal.Named.{IsWell, IsRisingChoice}
+use Rattle.obligations.specs.Named.{IsWell}
 use Rattle.ltl_formula.specs.LtlTree.{LtlTree}
 use Rattle.ltl_formula.specs.Increasing.{IsIncreasing}
 use Rattle.obligations.specs.Choices.{is_subset, same_choice, is_within}
 use Rattle.obligations.specs.Numbers.{ChoiceKey}
-use Rattle.obligations.specs.internal.Rounds.{weight}
+use Rattle.obligations.specs.internal.Rounds.{IsRisingChoice, weight}
 
 -- a number whose bits are among those of another is it, or has fewer
 fewer_within : (d y x : ℕ) → y ≤ d → x ≤ d → bit_and y x ≡ y → (y ≡ x) ⊎ (ones y < ones x)

@@ -2,6 +2,8 @@ pub mod Choices
 pub mod Expansion
 pub mod Numbers
 pub mod Obligations
+pub mod Named
+pub mod Expansions
 pub mod Chosen
 pub mod StepLaw
 pub mod internal

@@ -13,6 +13,7 @@
 #![tactic(auto)]
 
 mod expanding;
+mod expansions;
 mod joining;
 mod laws;
 mod naming;
@@ -28,6 +29,7 @@ mod stepping;
 mod tests;
 
 pub use expanding::{LETTER_BITS, expand, number_of};
+pub use expansions::{choices_of_numbers, no_expansions};
 pub use laws::sets_hold_by_a_choice;
 pub use naming::{names_of, names_of_formula};
 pub use numbered::NumberedChoice;

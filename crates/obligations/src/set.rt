@@ -5,7 +5,7 @@ ghost use Rattle.ltl_formula.specs.LtlTree.{ltl_tree};
 ghost use Rattle.ltl_formula.specs.LtlOrder.{tree_cmp};
 ghost use Rattle.ltl_formula.specs.Increasing.{IsIncreasing};
 ghost use Rattle.obligations.specs.Numbers.{lent_trees};
-ghost use Rattle.obligations.specs.internal.Named.{formula_named};
+ghost use Rattle.obligations.specs.Named.{formula_named};
 
 use ltl_formula::{Ltl, copy_ltl};
 use sequence::NoMemory;

@@ -9,7 +9,7 @@ ghost use Rattle.ltl_formula.specs.Increasing.{IsIncreasing};
 ghost use Rattle.obligations.specs.Choices.{empty_choice};
 ghost use Rattle.obligations.specs.Expansion.{choices, choices_from, ChoiceTree};
 ghost use Rattle.obligations.specs.Numbers.{choice_key, choice_keys, lent_trees, formula_number};
-ghost use Rattle.obligations.specs.internal.Named.{choice_named, formula_named, IsWell};
+ghost use Rattle.obligations.specs.Named.{choice_named, formula_named, IsWell};
 ghost use Rattle.obligations.specs.Obligations.{closure_of};
 ghost use Rattle.obligations.specs.Chosen.{choice_tree, choice_trees};
 

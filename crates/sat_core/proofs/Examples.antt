@@ -1,6 +1,6 @@
 -- Small cases of the definitions, accepted and refused.
 use Rattle.std.proofs.Common.{◌≡◌, ℕ, zero, suc, ◌+◌, ◌^◌, ◌<◌, ◌≤◌, inl, inr, Bool, true, false, List, [], ◌∷◌, length, Some, None}
-use Rattle.std.proofs.Common.{slice_get, pos, negsuc, refl, sym, ap, subst, arith, lit<}
+use Rattle.std.proofs.Common.{slice_get, get_or, All, pos, negsuc, refl, sym, ap, ◌∙◌, subst, arith, lit<}
 use Rattle.std.specs.Prelude.{nat_lt, map}
 use Rattle.std.proofs.lemmas.Bool.{false≢true, or_cases, or_left}
 use Rattle.std.proofs.lemmas.Option.{none-some, same_Some}
@@ -17,11 +17,10 @@ use Rattle.refutation_check.specs.declared.steps.Step.{Step}
 use Rattle.sat_core.proofs.LogNumbers.{is_numbered}
 use Rattle.sat_core.specs.internal.Lessons.{learnt_step}
 use Rattle.sat_core.specs.declared.marks.Marks.{Marks}
-use Rattle.sat_core.specs.internal.ConflictWalks.{is_marked, count_at, is_of_clause, AreMarks, replacement_of}
+use Rattle.sat_core.specs.internal.ConflictWalks.{count_at, is_of_clause, AreMarks, must_go}
 use Rattle.sat_core.specs.Answers.{AreSatisfying, AreRefuting, IsWholeTrace}
 use Rattle.sat_core.proofs.Counting.{word, not_within}
 use Rattle.sat_core.proofs.Searching.{quiet_reaches}
-use Rattle.sat_core.proofs.Walking.{reach_has}
 
 abbrev a : Lit
 a = literal_of (pos 1)
@@ -195,25 +194,32 @@ of_the_clause = refl
 of_no_entry : map (is_of_clause entries (literal_of (pos 4) ∷ [])) (0 ∷ 1 ∷ 2 ∷ []) ≡ false ∷ false ∷ false ∷ []
 of_no_entry = refl
 
--- of the marked places 0 and 2 the last one is 2
-abbrev marks : Marks
-marks = record { places = record { keys = 0 ∷ 2 ∷ [] }; waiting = 1 }
-
-are_marks : AreMarks (record { variables = 3; clauses = []; entries = entries; level = 1; broken = false }) marks
-are_marks = record { within = among; counted = refl }
+-- marks at the places 0 and 2: one is of level 1
+are_marks : (m : Marks) → m.flags.items ≡ true ∷ false ∷ true ∷ [] → m.lowest ≡ 0 → m.waiting ≡ 1 → m.looked.items ≡ 2 ∷ [] →
+    AreMarks (record { variables = 3; clauses = []; entries = entries; level = 1; broken = false }) m
+are_marks m flags lowest waiting looked = record {
+  one_each = ap length flags;
+  within = λ place h. among place (sym (ap (λ (fs : List Bool). get_or fs place false) flags) ∙ h);
+  above = λ place h. omega (arith, lowest);
+  counted = waiting ∙ sym (ap (λ (fs : List Bool). count_at 1 (λ place. get_or fs place false) entries) flags);
+  looked = subst (All (λ variable. variable < 3)) (sym looked) (All-from_recursion (λ variable. variable < 3) (2 ∷ []) (lit< tt, tt));
+}
   where
-    among : (place : ℕ) → is_marked marks place ≡ true → place < 3
-    among place h = omega (arith, reach_has (0 ∷ 2 ∷ []) place h)
+    among : (place : ℕ) → get_or (true ∷ false ∷ true ∷ []) place false ≡ true → place < 3
+    among zero h = lit< tt
+    among (suc zero) h = lit< tt
+    among (suc (suc zero)) h = lit< tt
+    among (suc (suc (suc place))) h = absurd (false≢true h)
 
--- an entry at level 0 gives way to its reason, one at the present level where another is marked
-at_start : replacement_of 1 1 (entry_with a 0 (Some 0)) ≡ Some 0
+-- an entry at level 0 gives way to its reason, and one at the present level where another one is marked
+at_start : must_go 1 1 0 ≡ true
 at_start = refl
 
-crowded : replacement_of 1 2 (entry_with (literal_of (negsuc 2)) 1 (Some 1)) ≡ Some 1
+crowded : must_go 1 2 1 ≡ true
 crowded = refl
 
-alone : replacement_of 1 1 (entry_with (literal_of (negsuc 2)) 1 (Some 1)) ≡ None
+alone : must_go 1 1 1 ≡ false
 alone = refl
 
-lower : replacement_of 2 2 (entry_with b 1 None) ≡ None
+lower : must_go 2 2 1 ≡ false
 lower = refl

@@ -7,3 +7,5 @@ pub mod Searching
 pub mod Closing
 mod Examples
 pub mod LogNumbers
+pub mod HeapPlaces
+pub mod Deciding

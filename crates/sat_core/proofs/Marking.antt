@@ -1,13 +1,12 @@
 -- Marks of entries, and the count of the marked ones of one level.
 use Rattle.std.proofs.Common.{◌≡◌, ℕ, zero, suc, ◌+◌, ◌-◌, ◌<◌, ◌≤◌, ◌^◌, Bool, true, false, not, cond, ◌&&◌, List, [], ◌∷◌, length, Option}
-use Rattle.std.proofs.Common.{Some, None, slice_get, sym, ap, ◌∙◌, refl, arith, eqb, inl, inr, ◌⊎◌}
+use Rattle.std.proofs.Common.{◌||◌, All, set, get_or, min, subst, Some, None, slice_get, sym, ap, ◌∙◌, refl, arith, eqb, inl, inr}
 use mir.Val.{bool_byte}
-use Rattle.std.specs.BTreeSet.{BTreeSet, contains, Updates}
-use Rattle.std.specs.Ordering.{nat_cmp}
 use Rattle.std.proofs.lemmas.Bool.{false≢true, or_cases, or_left, or_right, and_parts, cases_eq, eqb-true, eq-eqb, ne_eqb}
 use Rattle.std.proofs.lemmas.Option.{none-some, same_Some, slice_get_within}
-use Rattle.std.proofs.Math.Bool.{and-true, and-false}
-use Rattle.sequence.proofs.Orders.{apart_at}
+use Rattle.std.proofs.lemmas.List.{length-set, get_or-set_same, get_or-set_other}
+use Rattle.std.proofs.lemmas.List.Elements.{All-nil}
+use Rattle.std.proofs.Math.Bool.{and-true, and-false, or-true, or-false}
 use Rattle.clause_core.specs.Literals.{Lit, same, has}
 use Rattle.clause_core.proofs.Sets.{same_is, same_from}
 use Rattle.sat_trail.specs.declared.entries.Entry.{Entry}
@@ -16,7 +15,7 @@ use Rattle.sat_trail.proofs.Places.{place_found}
 use Rattle.sat_trail.specs.States.{TrailState, IsSound}
 use Rattle.sat_trail.proofs.Soundness.{length_entries}
 use Rattle.sat_core.specs.declared.marks.Marks.{Marks}
-use Rattle.sat_core.specs.internal.ConflictWalks.{is_marked, count_from, count_at, stands_at, is_of_clause, AreMarks}
+use Rattle.sat_core.specs.internal.ConflictWalks.{is_marked, count_from, count_at, stands_at, is_of_clause, AreMarks, AreNoMarks}
 
 -- what one entry counts
 abbrev pub one_at : ℕ → Bool → Entry → ℕ
@@ -263,44 +262,97 @@ counts_more t waiting ms ns k e present byte counted unmarked marked others at i
     summed : (w n c x a b p : ℕ) → w ≡ n → c + a ≡ n + b → p ≡ x → a ≡ 0 → b ≡ x → w + p ≡ c
     summed w n c x a b p h s e f g = omega arith
 
--- a mark is taken away
-pub clears : (t : TrailState) (m : Marks) (places : BTreeSet ℕ) (k : ℕ) (e : Entry) (present : Bool) (byte : ℕ) → AreMarks t m →
-    is_marked m k ≡ true → Updates nat_cmp m.places places k false → slice_get t.entries k ≡ Some e → present ≡ eqb e.level t.level →
-    byte ≡ bool_byte present → (byte ≤ m.waiting) × AreMarks t (record { places = places; waiting = m.waiting - byte })
-clears t m places k e present byte marks marked updates at is read =
-    let less = counts_less t m.waiting (is_marked m) (contains nat_cmp places) k e present byte marks.counted marked updates.1 others at is
-    read in
-    (omega arith, record { within = λ j h. within j h (cases_eq j k); counted = omega arith })
-  where
-    others : (j : ℕ) → (j ≡ k → ⊥) → contains nat_cmp places j ≡ is_marked m j
-    others j n = updates.2 j (apart_at k j n)
+-- a mark is set or taken away, and no other one
+flag_here : (flags : List Bool) (k : ℕ) (b : Bool) → k < length flags → get_or (set flags k b) k false ≡ b
+flag_here flags k b within = get_or-set_same flags k b false within
 
-    within : (j : ℕ) → contains nat_cmp places j ≡ true → (j ≡ k) ⊎ (j ≡ k → ⊥) → j < length t.entries
-    within j h (inl is) = absurd (false≢true (sym updates.1 ∙ (ap (contains nat_cmp places) (sym is) ∙ h)))
-    within j h (inr n) = marks.within j (sym (others j n) ∙ h)
+flag_other : (flags : List Bool) (k : ℕ) (b : Bool) (j : ℕ) → (j ≡ k → ⊥) → get_or (set flags k b) j false ≡ get_or flags j false
+flag_other flags k b j other = get_or-set_other flags k j b false other
 
--- a mark is set
-pub adds : (t : TrailState) (m : Marks) (places : BTreeSet ℕ) (k : ℕ) (e : Entry) (present : Bool) (byte : ℕ) → AreMarks t m →
-    is_marked m k ≡ false → Updates nat_cmp m.places places k true → slice_get t.entries k ≡ Some e → present ≡ eqb e.level t.level →
-    byte ≡ bool_byte present → AreMarks t (record { places = places; waiting = m.waiting + byte })
-adds t m places k e present byte marks unmarked updates at is read =
-    record {
-      within = λ j h. within j h (cases_eq j k);
-      counted = counts_more t m.waiting (is_marked m)
-          (contains nat_cmp places) k e present byte marks.counted unmarked updates.1 others at is read;
+module _ (t : TrailState) (m n : Marks) (k : ℕ) (e : Entry) (present : Bool) (byte : ℕ) (marks : AreMarks t m) (room : k < t.variables)
+    (at : slice_get t.entries k ≡ Some e) (is : present ≡ eqb e.level t.level) (read : byte ≡ bool_byte present) where
+  -- a mark is taken away
+  module _ (marked : is_marked m k ≡ true) (flags : n.flags.items ≡ set m.flags.items k false) where
+    cleared_here : is_marked n k ≡ false
+    cleared_here = ap (λ (fs : List Bool). get_or fs k false) flags ∙ flag_here m.flags.items k false (omega (arith, marks.one_each))
+
+    cleared_other : (j : ℕ) → (j ≡ k → ⊥) → is_marked n j ≡ is_marked m j
+    cleared_other j other = ap (λ (fs : List Bool). get_or fs j false) flags ∙ flag_other m.flags.items k false j other
+
+    pub clears_count : m.waiting ≡ count_at t.level (is_marked n) t.entries + byte
+    clears_count = counts_less t m.waiting (is_marked m) (is_marked n) k e present byte marks.counted marked cleared_here cleared_other at is
+        read
+
+    pub clears_flags : (j : ℕ) → is_marked n j ≡ (is_marked m j && not (eqb j k))
+    clears_flags j = elim (cases_eq j k) [
+      | inl here ↦ ap (is_marked n) here ∙ (cleared_here ∙ sym (ap (λ b. is_marked m j && not b) (eq-eqb j k here) ∙ and-false (is_marked m j)))
+      | inr other ↦ cleared_other j other ∙ sym (ap (λ b. is_marked m j && not b) (ne_eqb j k other) ∙ and-true (is_marked m j))
+    ]
+
+    pub clears : n.lowest ≡ m.lowest → n.looked.items ≡ m.looked.items → n.waiting ≡ m.waiting - byte → AreMarks t n
+    clears lowest looked waiting = record {
+      one_each = ap length flags ∙ (length-set m.flags.items k false ∙ marks.one_each);
+      within = λ j h. marks.within j (before j h);
+      above = λ j h. omega (arith, lowest, marks.above j (before j h));
+      counted = omega (arith, waiting, clears_count);
+      looked = subst (All (λ variable. variable < t.variables)) (sym looked) marks.looked;
     }
-  where
-    others : (j : ℕ) → (j ≡ k → ⊥) → contains nat_cmp places j ≡ is_marked m j
-    others j n = updates.2 j (apart_at k j n)
+      where
+        before : (j : ℕ) → is_marked n j ≡ true → is_marked m j ≡ true
+        before j h = (and_parts (is_marked m j) (not (eqb j k)) (sym (clears_flags j) ∙ h)).0
 
-    within : (j : ℕ) → contains nat_cmp places j ≡ true → (j ≡ k) ⊎ (j ≡ k → ⊥) → j < length t.entries
-    within j h (inl is) = omega (arith, slice_get_within t.entries k e at)
-    within j h (inr n) = marks.within j (sym (others j n) ∙ h)
+  -- a mark is set
+  module _ (unmarked : is_marked m k ≡ false) (flags : n.flags.items ≡ set m.flags.items k true) where
+    added_here : is_marked n k ≡ true
+    added_here = ap (λ (fs : List Bool). get_or fs k false) flags ∙ flag_here m.flags.items k true (omega (arith, marks.one_each))
 
--- marks at the same places are counted alike
-pub marks_same : (t : TrailState) (m n : Marks) → ((k : ℕ) → is_marked n k ≡ is_marked m k) → n.waiting ≡ m.waiting → AreMarks t m →
+    added_other : (j : ℕ) → (j ≡ k → ⊥) → is_marked n j ≡ is_marked m j
+    added_other j other = ap (λ (fs : List Bool). get_or fs j false) flags ∙ flag_other m.flags.items k true j other
+
+    pub adds_count : m.waiting + byte ≡ count_at t.level (is_marked n) t.entries
+    adds_count = counts_more t m.waiting (is_marked m) (is_marked n) k e present byte marks.counted unmarked added_here added_other at is
+        read
+
+    pub adds_flags : (j : ℕ) → is_marked n j ≡ (is_marked m j || eqb j k)
+    adds_flags j = elim (cases_eq j k) [
+      | inl here ↦ ap (is_marked n) here ∙ (added_here ∙ sym (ap (λ b. is_marked m j || b) (eq-eqb j k here) ∙ or-true (is_marked m j)))
+      | inr other ↦ added_other j other ∙ sym (ap (λ b. is_marked m j || b) (ne_eqb j k other) ∙ or-false (is_marked m j))
+    ]
+
+    pub adds : n.lowest ≡ min m.lowest k → All (λ variable. variable < t.variables) n.looked.items → n.waiting ≡ m.waiting + byte → AreMarks t n
+    adds lowest looked waiting = record {
+      one_each = ap length flags ∙ (length-set m.flags.items k true ∙ marks.one_each);
+      within = λ j h. elim (cases_eq j k) [
+        | inl here ↦ omega (arith, slice_get_within t.entries k e at)
+        | inr other ↦ marks.within j (sym (added_other j other) ∙ h)
+      ];
+      above = λ j h. elim (cases_eq j k) [
+        | inl here ↦ omega (arith, lowest)
+        | inr other ↦ omega (arith, lowest, marks.above j (sym (added_other j other) ∙ h))
+      ];
+      counted = waiting ∙ adds_count;
+      looked = looked;
+    }
+
+-- the beginning: no mark is set
+pub marks_begin : (t : TrailState) (m n : Marks) → AreNoMarks t.variables m → n.flags.items ≡ m.flags.items → n.waiting ≡ 0 → n.looked.items ≡ [] →
     AreMarks t n
-marks_same t m n h w marks = record {
-  within = λ k marked. marks.within k (sym (h k) ∙ marked);
-  counted = w ∙ (marks.counted ∙ sym (count_same t.level 0 (is_marked m) (is_marked n) t.entries (λ k above. h k)));
+marks_begin t m n rest flags waiting looked = record {
+  one_each = ap length flags ∙ rest.one_each;
+  within = λ j h. absurd (false≢true (sym (none j) ∙ h));
+  above = λ j h. absurd (false≢true (sym (none j) ∙ h));
+  counted = waiting ∙ sym (count_none t.level (is_marked n) t.entries none);
+  looked = subst (All (λ variable. variable < t.variables)) (sym looked) (All-nil (λ variable. variable < t.variables));
 }
+  where
+    none : (j : ℕ) → is_marked n j ≡ false
+    none j = ap (λ (fs : List Bool). get_or fs j false) flags ∙ rest.none j
+
+-- where the entry of a clause's literal was marked before
+pub marked_already : (es : List Entry) (m : Marks) (index k : ℕ) → place_of es index ≡ Some k → is_marked m k ≡ true → (j : ℕ) →
+    is_marked m j ≡ (is_marked m j || stands_at (place_of es index) j)
+marked_already es m index k at marked j = elim (cases_eq j k) [
+  | inl here ↦ ap (is_marked m) here ∙ (marked ∙ sym (ap (λ b. b || stands_at (place_of es index) j) (ap (is_marked m) here ∙ marked)))
+  | inr other ↦ sym (ap (λ (o : Option ℕ). is_marked m j || stands_at o j) at
+      ∙ (ap (λ b. is_marked m j || b) (ne_eqb j k other) ∙ or-false (is_marked m j)))
+]

@@ -1,16 +1,15 @@
 -- What holds of a search between its steps.
 use Rattle.std.proofs.Common.{◌≡◌, ℕ, zero, suc, ◌+◌, ◌-◌, ◌*◌, ◌<◌, ◌≤◌, ◌^◌, Bool, true, false, not, cond, ◌||◌, List, [], ◌∷◌, ◌++◌}
-use Rattle.std.proofs.Common.{length, map, filter, take, min, Option, Some, None, slice_get, sym, ap, ◌∙◌, subst, refl, arith, eqb, leb}
+use Rattle.std.proofs.Common.{length, map, filter, Option, Some, None, slice_get, sym, ap, ◌∙◌, subst, refl, arith, eqb, leb}
 use Rattle.std.proofs.Common.{inl, inr, Contains, All}
 use Rattle.std.specs.Prelude.{option_map, IsSome, slice_index_or}
 use Rattle.std.specs.List.{AllByRecursion, list_any}
-use Rattle.std.proofs.lemmas.Bool.{true≢false, false≢true, or_left, or_right, cases_Bool, cases_eq, cases_lt, cond-true, cond-false}
+use Rattle.std.proofs.lemmas.Bool.{true≢false, false≢true, or_left, or_right, cases_Bool, cases_lt, cond-true, cond-false}
 use Rattle.std.proofs.lemmas.Bool.{false_from_ne_true, lt-leb, leb-false, and_from}
-use Rattle.std.proofs.lemmas.Option.{none-some, same_Some, slice_get_within}
-use Rattle.std.proofs.lemmas.List.{append_assoc, append-nil, map-append, length-append, length_push, length-map, length-take-le}
+use Rattle.std.proofs.lemmas.Option.{none-some, same_Some}
+use Rattle.std.proofs.lemmas.List.{append_assoc, append-nil, map-append, length-append, length_push, length-map}
 use Rattle.std.proofs.lemmas.List.Elements.{All-push, All-nil, All-from_recursion, recursion_from_All, Contains-append_cases}
 use Rattle.std.proofs.lemmas.List.Elements.{Contains-append_left}
-use Rattle.sequence.proofs.Places.{slice_get_push, slice_get-take}
 use Rattle.sat_core.specs.internal.Ends.{IsEnd}
 use Rattle.sat_core.specs.internal.Hints.{AreHints}
 use Rattle.clause_core.specs.Literals.{Lit, negation, same, has}
@@ -21,9 +20,9 @@ use Rattle.clause_core.proofs.Sets.{one_increasing, IsIncreasing-in_order, has-i
 use Rattle.clause_core.proofs.Sets.{Contains_from_has, any_has}
 use Rattle.clause_core.proofs.Semantics.{reached_within, none_false_within}
 use Rattle.sat_trail.specs.declared.entries.Entry.{Entry}
-use Rattle.sat_trail.specs.Entries.{literals_of, place_of, entry_with}
+use Rattle.sat_trail.specs.Entries.{literals_of, entry_with}
 use Rattle.sat_trail.specs.States.{TrailState, IsSound, started, decided, with_clause, undone, up_to, Propagates}
-use Rattle.sat_trail.proofs.Places.{AreApart, place_from-front, place_from-after, place_here, has_entry, one_entry}
+use Rattle.sat_trail.proofs.Places.{AreApart, has_entry, one_entry}
 use Rattle.sat_trail.proofs.Soundness.{apart_from, level_within}
 use Rattle.sat_trail.proofs.TrailSteps.{up_to_all, up_to-push, unset_from, has_not_false, has_one}
 use Rattle.refutation_check.specs.declared.steps.Step.{Step}
@@ -35,8 +34,7 @@ use Rattle.refutation_check.specs.Checking.Refusal.{at_line, at_hint, unfinished
 use Rattle.sat_core.specs.internal.Levels.{IsSetAt, AreQuietBelow}
 use Rattle.sat_core.specs.LogNumbers.{AreNumbered}
 use Rattle.sat_core.specs.internal.Lessons.{IsAsserting, IsLesson, learnt_step, clauses_of, HasLearnt, IsRefuted}
-use Rattle.sat_core.specs.declared.choices.Decisions.{Decisions}
-use Rattle.sat_core.specs.internal.Decisions.{AreSet, AreDecisions, AreVariableTruths}
+use Rattle.sat_core.specs.internal.Decisions.{AreSet, AreVariableTruths}
 use Rattle.sat_core.specs.declared.answers.Answer.{Answer}
 use Rattle.sat_core.specs.declared.answers.Answer.TheVariants.{Sat, Unsat, Spent}
 use Rattle.sat_core.specs.Answers.{AreSatisfying, AreRefuting, IsWholeTrace, IsRightAnswer}
@@ -368,10 +366,10 @@ search_numbered variables clauses t steps search step is hints =
       length-map steps (λ (s : Step). s.clause),
     )) search.numbered (is_numbered step (length t.clauses) is hints)
 
-pub search_learnt : (variables : ℕ) (clauses : List (List Lit)) (t u : TrailState) (steps more : List Step) →
-    IsSearch variables clauses t steps → HasLearnt t steps u more → IsSound u → 0 < t.level → IsSearch variables clauses u more
-search_learnt variables clauses t u steps more search learnt sound above = subst (λ (s : TrailState). IsSearch variables clauses s more)
-    (sym learnt.trail_is) (subst (λ (ss : List Step). IsSearch variables clauses (with_clause (undone t back) clause) ss)
+pub search_learnt : (variables : ℕ) (clauses : List (List Lit)) (anew : Bool) (t u : TrailState) (steps more : List Step) →
+    IsSearch variables clauses t steps → HasLearnt anew t steps u more → IsSound u → 0 < t.level → IsSearch variables clauses u more
+search_learnt variables clauses anew t u steps more search learnt sound above = subst (λ (s : TrailState). IsSearch variables clauses s more)
+    (sym learnt.trail_is) (subst (λ (ss : List Step). IsSearch variables clauses (with_clause (undone t target) clause) ss)
     (sym learnt.steps_are) (record {
       usable = search.usable;
       sound = subst IsSound learnt.trail_is sound;
@@ -393,9 +391,8 @@ search_learnt variables clauses t u steps more search learnt sound above = subst
           ));
       increasing = subst (AllByRecursion IsIncreasing) (sym (clauses_of_push steps step)) (all_push (clauses_of steps) search.increasing);
       quiet = λ level below. subst (λ (es : List Entry). IsQuiet (t.clauses ++ clause ∷ []) (literals_of es))
-          (sym (up_to-up_to level back t.entries (omega arith))) (lesson_quiet t search.sound clause hints back learnt.lesson search.quiet
-          above
-          level (omega arith));
+          (sym (up_to-up_to level target t.entries (omega arith))) (lesson_quiet t search.sound clause hints back learnt.lesson
+          search.quiet above level (omega (arith, target_low anew)));
     }))
   where
     clause : List Lit
@@ -406,6 +403,13 @@ search_learnt variables clauses t u steps more search learnt sound above = subst
 
     back : ℕ
     back = learnt.back
+
+    target : ℕ
+    target = cond anew 0 back
+
+    target_low : (b : Bool) → cond b 0 back ≤ back
+    target_low true = omega arith
+    target_low false = omega arith
 
     step : Step
     step = learnt_step (length t.clauses + 1) clause hints
@@ -562,80 +566,3 @@ pub less_budget : (b n m v x y : ℕ) → n < b → m ≡ n + 1 → x ≤ v → 
 less_budget b n m v x y below is h =
     let e : b - n ≡ (b - m) + 1 = omega arith in
     omega (arith, ap (λ k. k * (v + 1)) e)
-
--- ---- the variables that are set
-
-still_set : (es added : List Entry) (index : ℕ) → (place_of es index ≡ None → ⊥) → place_of (es ++ added) index ≡ None → ⊥
-still_set es added index set_before none = by_place (place_of es index) refl
-  where
-    by_place : (o : Option ℕ) → place_of es index ≡ o → ⊥
-    by_place None is = set_before is
-    by_place (Some p) is = none-some p (sym none ∙ place_from-front 0 es added index p is)
-
-pub set_propagated : (t u : TrailState) (n : ℕ) → Propagates t u → AreSet t.entries n → AreSet u.entries n
-set_propagated t u n grows all index below = subst (λ (s : TrailState). place_of s.entries index ≡ None → ⊥) (sym grows.rest_stays)
-    (still_set t.entries grows.added index (all index below))
-
-pub set_decided : (u w : TrailState) (l : Lit) (n : ℕ) → w ≡ decided u l → AreSet u.entries l.index → place_of u.entries l.index ≡ None →
-    n ≡ l.index + 1 → AreSet w.entries n
-set_decided u w l n is all unset next index below = subst (λ (s : TrailState). place_of s.entries index ≡ None → ⊥) (sym is)
-    (elim (cases_eq index l.index) [
-      | inl same_index ↦ (λ none. none-some (0 + length u.entries)
-          (sym none ∙ (ap (place_of (u.entries ++ e ∷ [])) same_index ∙
-          (place_from-after 0 u.entries (e ∷ []) l.index unset ∙ place_here (0 + length u.entries) e [] l.index refl))))
-      | inr apart ↦ still_set u.entries (e ∷ []) index (all index (omega arith))
-    ])
-  where
-    e : Entry
-    e = entry_with l (u.level + 1) None
-
--- ---- the decisions
-
-pub decisions_propagated : (t u : TrailState) (d : Decisions) → Propagates t u → AreDecisions t d → AreDecisions u d
-decisions_propagated t u d grows are = record {
-  so_far = set_propagated t u d.first grows are.so_far;
-  one_each = are.one_each ∙ ap (λ (s : TrailState). s.level) (sym grows.rest_stays);
-  each = λ level f at. subst (λ (s : TrailState). AreSet (up_to level s.entries) f) (sym grows.rest_stays)
-      (subst (λ (es : List Entry). AreSet es f) (sym (up_to_added t.level level t.entries grows.added
-      (recursion_from_All (λ (e : Entry). (e.level ≡ t.level) × IsSome e.reason) grows.added grows.forced)
-      (omega (arith, are.one_each, slice_get_within d.by_level.items level f at)))) (are.each level f at));
-}
-
-pub decisions_decided : (t u : TrailState) (d n : Decisions) (l : Lit) → IsSound t → AreDecisions t d → u ≡ decided t l →
-    AreSet t.entries l.index → place_of t.entries l.index ≡ None → n.first ≡ l.index + 1 →
-    n.by_level.items ≡ d.by_level.items ++ l.index ∷ [] → AreDecisions u n
-decisions_decided t u d n l sound are is all unset first more = record {
-  so_far = set_decided t u l n.first is all unset first;
-  one_each = omega (arith, ap length more, length_push d.by_level.items l.index, are.one_each, ap (λ (s : TrailState). s.level) is);
-  each = λ level f at. elim (slice_get_push d.by_level.items l.index level f (sym (ap (λ (fs : List ℕ). slice_get fs level) more) ∙ at)) [
-    | inl old ↦ below level f (omega (arith, are.one_each, old.0)) (are.each level f old.1)
-    | inr new ↦ below level f (omega (arith, are.one_each, new.0))
-        (subst (λ (i : ℕ). AreSet (up_to level t.entries) i) new.1 (subst (λ (es : List Entry). AreSet es l.index)
-        (sym (up_to_all level t.entries (λ k e there. (let h = level_within t.variables t.clauses t.entries sound.stand k e there in omega
-        (arith, sound.level_reached, are.one_each, new.0))))) all))
-  ];
-}
-  where
-    below : (level f : ℕ) → level ≤ t.level → AreSet (up_to level t.entries) f → AreSet (up_to level u.entries) f
-    below level f low set = subst (λ (s : TrailState). AreSet (up_to level s.entries) f) (sym is)
-        (subst (λ (es : List Entry). AreSet es f) (sym (up_to-push level t.entries (entry_with l (t.level + 1) None) (omega arith))) set)
-
-pub decisions_learnt : (t u : TrailState) (d n : Decisions) (back : ℕ) (clause : List Lit) → AreDecisions t d →
-    u ≡ with_clause (undone t back) clause → back < t.level → slice_get d.by_level.items u.level ≡ Some n.first →
-    n.by_level.items ≡ take u.level d.by_level.items → AreDecisions u n
-decisions_learnt t u d n back clause are is below first fewer = record {
-  so_far = subst (λ (es : List Entry). AreSet es n.first) (sym entries)
-      (are.each back n.first (ap (slice_get d.by_level.items) (sym level_is) ∙ first));
-  one_each = ap length fewer ∙ length-take-le u.level d.by_level.items (omega (arith, are.one_each, level_is));
-  each = λ level f at.
-      (let r = slice_get-take u.level d.by_level.items level f (sym (ap (λ (fs : List ℕ). slice_get fs level) fewer) ∙ at) in
-      subst (λ (es : List Entry). AreSet (up_to level es) f) (sym entries)
-      (subst (λ (es : List Entry). AreSet es f) (sym (up_to-up_to level back t.entries (omega (arith, r.0, level_is))))
-      (are.each level f r.1)));
-}
-  where
-    entries : u.entries ≡ up_to back t.entries
-    entries = ap (λ (s : TrailState). s.entries) is
-
-    level_is : u.level ≡ back
-    level_is = let e : u.level ≡ min back t.level = ap (λ (s : TrailState). s.level) is in omega arith

@@ -3,8 +3,8 @@ use Rattle.std.proofs.Common.{◌≡◌, ℕ, suc, ◌+◌, ◌<◌, ◌≤◌, 
 use Rattle.std.proofs.Common.{None, slice_get, sym, ap, ◌∙◌, subst, refl, arith, eqb, ltb, inl, inr, ◌⊎◌, MatchOption, max}
 use Rattle.std.proofs.lemmas.Bool.{false≢true, or_cases, or_left, or_right, cases_Bool, cases_lt, eqb-true, eqb-false, ltb-true, ltb-false}
 use Rattle.std.proofs.lemmas.Bool.{le-ltb, lt-ltb, cond-true, cond-false}
-use Rattle.std.proofs.lemmas.Option.{none-some, same_Some}
-use Rattle.std.specs.Prelude.{nat_lt}
+use Rattle.std.proofs.lemmas.Option.{same_Some}
+use Rattle.std.specs.Prelude.{nat_lt, IfSome}
 use Rattle.sequence.proofs.Places.{slice_get-take}
 use Rattle.clause_core.specs.Literals.{Lit, negation, same, has}
 use Rattle.clause_core.proofs.Sets.{same_from, negation-negation, has-append}
@@ -16,7 +16,8 @@ use Rattle.sat_trail.proofs.Places.{AreApart, place_of_entry, has_entry}
 use Rattle.sat_trail.proofs.Soundness.{apart_from, level_at_next, levels_rise, level_within}
 use Rattle.sat_core.specs.declared.walks.Walk.{Walk}
 use Rattle.sat_core.specs.internal.Levels.{IsSetAt}
-use Rattle.sat_core.specs.internal.ConflictWalks.{is_marked, is_of_clause, count_at, AreMarks, replacement_of, IsEarly, IsLate}
+use Rattle.sat_core.specs.internal.ConflictWalks.{is_marked, is_of_clause, count_at, AreMarks, must_go, MayStay, IsReplaced, IsEarly}
+use Rattle.sat_core.specs.internal.ConflictWalks.{IsLate}
 use Rattle.sat_core.proofs.Marking.{one_at, count_some, count_has, HasMarked, one_same, one_other, is_of_clause_from, without}
 use Rattle.sat_core.proofs.Marking.{without_other, without_from, count_without}
 
@@ -57,36 +58,48 @@ forced_by t sound k e reason at some =
 
 -- ---- which entries are replaced
 
--- why an entry is replaced
-pub record IsReplaced (level waiting : ℕ) (e : Entry) (reason : ℕ) : Type 0 where
-  pub has_reason : e.reason ≡ Some reason
-  pub why : (e.level ≡ 0) ⊎ ((e.level ≡ level) × (1 < waiting))
-
-pub replaced_is : (level waiting : ℕ) (e : Entry) (reason : ℕ) → Some reason ≡ replacement_of level waiting e →
-    IsReplaced level waiting e reason
-replaced_is level waiting e reason h = by_tests (eqb e.level 0) (eqb e.level level) (ltb 1 waiting) refl refl refl h
+goes : (present waiting level : ℕ) → must_go present waiting level ≡ true → (level ≡ 0) ⊎ ((level ≡ present) × (1 < waiting))
+goes present waiting level h = by_tests (eqb level 0) (eqb level present) (ltb 1 waiting) refl refl refl h
   where
-    by_tests : (a b c : Bool) → eqb e.level 0 ≡ a → eqb e.level level ≡ b → ltb 1 waiting ≡ c →
-        Some reason ≡ cond (a || (b && c)) e.reason None → IsReplaced level waiting e reason
-    by_tests true b c p q r h = record { has_reason = sym h; why = inl (eqb-true e.level 0 p) }
-    by_tests false true true p q r h = record { has_reason = sym h; why = inr (eqb-true e.level level q, ltb-true 1 waiting r) }
-    by_tests false true false p q r h = absurd (none-some reason (sym h))
-    by_tests false false c p q r h = absurd (none-some reason (sym h))
+    by_tests : (a b c : Bool) → eqb level 0 ≡ a → eqb level present ≡ b → ltb 1 waiting ≡ c → (a || (b && c)) ≡ true →
+        (level ≡ 0) ⊎ ((level ≡ present) × (1 < waiting))
+    by_tests true b c p q r h = inl (eqb-true level 0 p)
+    by_tests false true true p q r h = inr (eqb-true level present q, ltb-true 1 waiting r)
+    by_tests false true false p q r h = absurd (false≢true h)
+    by_tests false false c p q r h = absurd (false≢true h)
 
--- an entry that stays was decided, or is above level 0 and either of a lower level or alone at the present one
-pub kept_is : (level waiting : ℕ) (e : Entry) → None ≡ replacement_of level waiting e →
-    (e.reason ≡ None) ⊎ ((0 < e.level) × ((e.level ≡ level → ⊥) ⊎ (waiting ≤ 1)))
-kept_is level waiting e h = by_tests (eqb e.level 0) (eqb e.level level) (ltb 1 waiting) refl refl refl h
+stays : (present waiting level : ℕ) → must_go present waiting level ≡ false →
+    (0 < level) × ((level ≡ present → ⊥) ⊎ (waiting ≤ 1))
+stays present waiting level h = by_tests (eqb level 0) (eqb level present) (ltb 1 waiting) refl refl refl h
   where
-    positive : eqb e.level 0 ≡ false → 0 < e.level
-    positive p = let n : e.level ≡ 0 → ⊥ = eqb-false e.level 0 p in omega arith
+    positive : eqb level 0 ≡ false → 0 < level
+    positive p = let n : level ≡ 0 → ⊥ = eqb-false level 0 p in omega arith
 
-    by_tests : (a b c : Bool) → eqb e.level 0 ≡ a → eqb e.level level ≡ b → ltb 1 waiting ≡ c → None ≡ cond (a || (b && c)) e.reason None →
-        (e.reason ≡ None) ⊎ ((0 < e.level) × ((e.level ≡ level → ⊥) ⊎ (waiting ≤ 1)))
-    by_tests true b c p q r h = inl (sym h)
-    by_tests false true true p q r h = inl (sym h)
-    by_tests false true false p q r h = inr (positive p, inr (ltb-false 1 waiting r))
-    by_tests false false c p q r h = inr (positive p, inl (eqb-false e.level level q))
+    by_tests : (a b c : Bool) → eqb level 0 ≡ a → eqb level present ≡ b → ltb 1 waiting ≡ c → (a || (b && c)) ≡ false →
+        (0 < level) × ((level ≡ present → ⊥) ⊎ (waiting ≤ 1))
+    by_tests true b c p q r h = absurd (false≢true (sym h))
+    by_tests false true true p q r h = absurd (false≢true (sym h))
+    by_tests false true false p q r h = (positive p, inr (ltb-false 1 waiting r))
+    by_tests false false c p q r h = (positive p, inl (eqb-false level present q))
+
+-- the reason of an entry that must go
+pub replaced_there : (present waiting : ℕ) (e : Entry) → must_go present waiting e.level ≡ true → (o : Option ℕ) → e.reason ≡ o →
+    MatchOption o (MayStay present waiting e) (IsReplaced present waiting e)
+replaced_there present waiting e goes_away None is = inl is
+replaced_there present waiting e goes_away (Some reason) is = record {
+  has_reason = is;
+  why = elim (goes present waiting e.level goes_away) [ inl zero_level ↦ inl zero_level | inr crowded ↦ inr (inl crowded) ];
+}
+
+-- the reason of an entry of a lower level, or none
+pub replaced_below : (present waiting : ℕ) (e : Entry) → must_go present waiting e.level ≡ false → e.level < present → (o : Option ℕ) →
+    IfSome o (λ reason. e.reason ≡ Some reason) → MatchOption o (MayStay present waiting e) (IsReplaced present waiting e)
+replaced_below present waiting e left low None h = inr (stays present waiting e.level left)
+replaced_below present waiting e left low (Some reason) h = record { has_reason = h; why = inr (inr low) }
+
+-- an entry that is alone at its level
+pub stays_there : (present waiting : ℕ) (e : Entry) → must_go present waiting e.level ≡ false → MayStay present waiting e
+stays_there present waiting e left = inr (stays present waiting e.level left)
 
 -- ---- one entry is passed
 
@@ -157,7 +170,7 @@ module _ (t : TrailState) (sound : IsSound t) (q : ℕ) (e : Entry) (at : slice_
 pub stage_kept : (t : TrailState) → IsSound t → (q : ℕ) (e : Entry) → slice_get t.entries q ≡ Some e → (w v : Walk) → AreMarks t w.marks →
     is_marked w.marks q ≡ true → ((k : ℕ) → is_marked w.marks k ≡ true → k < q + 1) → AreMarks t v.marks →
     ((k : ℕ) → is_marked v.marks k ≡ without (is_marked w.marks) q k) → v.kept.items ≡ w.kept.items ++ negation e.literal ∷ [] →
-    v.back ≡ cond (nat_lt e.level t.level) (max w.back e.level) w.back → None ≡ replacement_of t.level w.marks.waiting e →
+    v.back ≡ cond (nat_lt e.level t.level) (max w.back e.level) w.back → MayStay t.level w.marks.waiting e →
     IsEarly t w ⊎ IsLate t w → IsLate t v
 stage_kept t sound q e at w v marks marked ahead after cleared kept back stays stage = elim stage
     [ inl early ↦ first early | inr late ↦ next late ]
@@ -186,12 +199,12 @@ stage_kept t sound q e at w v marks marked ahead after cleared kept back stays s
           | inl h ↦ top_level t sound q e at (is_marked w.marks) marked ahead (omega (arith, marks.counted))
           | inr h ↦ (let low = entry_low t sound q e at in omega arith)
         ] in
-        let positive : 0 < e.level = elim (kept_is t.level w.marks.waiting e stays) [
+        let positive : 0 < e.level = elim stays [
           | inl none ↦ decided_positive t sound q e at none
           | inr r ↦ r.0
         ] in
         let few : w.marks.waiting ≤ 1 = elim (cases_lt 1 w.marks.waiting) [
-          | inl many ↦ elim (kept_is t.level w.marks.waiting e stays) [
+          | inl many ↦ elim stays [
             | inl none ↦ absurd (crowded_forced t sound q e at (is_marked w.marks) marked ahead (omega (arith, marks.counted)) none)
             | inr r ↦ elim r.1 [ inl n ↦ absurd (n top) | inr h ↦ h ]
           ]
@@ -276,7 +289,12 @@ stage_replaced t sound q e at w v marks marked ahead after reason forced cleared
               (omega arith))
           | inr h ↦ inr h
         ]
-        | inr crowded ↦ inl (let r = another_waits t sound q e at (is_marked w.marks) marked ahead
+        | inr (inr low) ↦ elim early.waits [
+          | inl h ↦ (let top = top_level t sound q e at (is_marked w.marks) marked ahead (omega (arith, marks.counted)) in
+              absurd (omega arith))
+          | inr h ↦ inr h
+        ]
+        | inr (inl crowded) ↦ inl (let r = another_waits t sound q e at (is_marked w.marks) marked ahead
             (omega (arith, marks.counted, crowded.1)) crowded.0 in
             let o = without_from (is_marked w.marks) q r.place r.is_marked in
             let m = cleared r.place ∙ (without_other (λ j. is_marked w.marks j || is_of_clause t.entries forced.clause j) q r.place o.0
@@ -318,5 +336,6 @@ stage_replaced t sound q e at w v marks marked ahead after reason forced cleared
             let low = entry_levels t sound r.place q r.entry e r.there at (omega arith) in
             elim replaced.why [
               | inl zero_level ↦ omega (arith, low, r.same_level, late.below)
-              | inr crowded ↦ omega (arith, crowded.1, late.alone)
+              | inr (inl crowded) ↦ omega (arith, crowded.1, late.alone)
+              | inr (inr below) ↦ omega (arith, low, r.same_level, below)
             ]

@@ -1,16 +1,12 @@
 -- A walk from its beginning, over one entry after another, to what is learnt.
 use Rattle.std.proofs.Common.{◌≡◌, ℕ, zero, suc, ◌+◌, ◌<◌, ◌≤◌, ◌-◌, Bool, true, false, not, cond, ◌||◌, List, [], ◌∷◌, ◌++◌, length, map}
-use Rattle.std.proofs.Common.{Some, None, slice_get, sym, ap, ◌∙◌, subst, refl, arith, leb, inl, inr, ◌⊎◌, max}
-use Rattle.std.specs.BTreeMap.{is_at}
-use Rattle.std.specs.List.{list_any}
-use Rattle.std.specs.Ordering.{nat_cmp}
+use Rattle.std.proofs.Common.{Some, slice_get, sym, ap, ◌∙◌, subst, refl, arith, leb, inl, inr, ◌⊎◌, max}
 use Rattle.std.specs.Prelude.{nat_lt, reverse}
 use Rattle.std.proofs.lemmas.Bool.{true≢false, false≢true, or_cases, or_left, or_right, cases_lt, le-leb, leb-true}
 use Rattle.std.proofs.lemmas.Option.{none-some, same_Some, slice_get_within}
 use Rattle.std.proofs.lemmas.List.{reverse-append, length-reverse, length_push}
 use Rattle.std.proofs.lemmas.List.Elements.{All-nil}
 use Rattle.sequence.proofs.Places.{contains_at}
-use Rattle.sequence.proofs.Orders.{same_at, at_is}
 use Rattle.sat_core.specs.internal.Hints.{AreHints}
 use Rattle.clause_core.specs.Literals.{Lit, negation, same, has}
 use Rattle.clause_core.specs.Clauses.{in_order}
@@ -24,11 +20,11 @@ use Rattle.sat_trail.proofs.Soundness.{apart_from, length_entries}
 use Rattle.sat_core.specs.declared.walks.Walk.{Walk}
 use Rattle.sat_core.specs.internal.Levels.{IsSetAt, AreQuietBelow}
 use Rattle.sat_core.specs.internal.Lessons.{IsLesson, IsAsserting}
-use Rattle.sat_core.specs.internal.ConflictWalks.{is_marked, is_of_clause, AreMarks, replacement_of, Shows, IsLate, IsWalk}
+use Rattle.sat_core.specs.internal.ConflictWalks.{is_marked, is_of_clause, AreMarks, MayStay, IsReplaced, Shows, IsLate, IsWalk}
 use Rattle.sat_core.proofs.Marking.{count_has, count_some, without, without_other}
 use Rattle.sat_core.proofs.Hints.{false_by, opposites_differ, has-map-negation, shows_start, shows_kept, shows_replaced, has_without}
 use Rattle.sat_core.proofs.LogNumbers.{hints_push, hints_reversed}
-use Rattle.sat_core.proofs.Stages.{forced_by, entry_low, replaced_is, stage_kept, stage_replaced, ahead_cleared, ahead_replaced}
+use Rattle.sat_core.proofs.Stages.{forced_by, entry_low, stage_kept, stage_replaced, ahead_cleared, ahead_replaced}
 
 -- ---- levels of the trail
 
@@ -170,7 +166,7 @@ walk_begins t sound conflict false_at quiet w marks marked kept hints back = rec
 pub walk_kept : (t : TrailState) → IsSound t → (q : ℕ) (e : Entry) → slice_get t.entries q ≡ Some e → (w v : Walk) → IsWalk t (q + 1) w →
     is_marked w.marks q ≡ true → AreMarks t v.marks → ((k : ℕ) → is_marked v.marks k ≡ without (is_marked w.marks) q k) →
     v.kept.items ≡ w.kept.items ++ negation e.literal ∷ [] → v.hints.items ≡ w.hints.items →
-    v.back ≡ cond (nat_lt e.level t.level) (max w.back e.level) w.back → None ≡ replacement_of t.level w.marks.waiting e → IsWalk t q v
+    v.back ≡ cond (nat_lt e.level t.level) (max w.back e.level) w.back → MayStay t.level w.marks.waiting e → IsWalk t q v
 walk_kept t sound q e at w v walk marked after cleared kept hints back stays = record {
   marks = after;
   ahead = λ k h. ahead_cleared t sound q e at (is_marked w.marks) marked walk.ahead k (sym (cleared k) ∙ h);
@@ -193,10 +189,10 @@ pub walk_replaced : (t : TrailState) → IsSound t → (q : ℕ) (e : Entry) →
     IsWalk t (q + 1) w → is_marked w.marks q ≡ true → AreMarks t v.marks →
     ((clause : List Lit) → slice_get t.clauses reason ≡ Some clause → (k : ℕ) →
     is_marked v.marks k ≡ without (λ j. is_marked w.marks j || is_of_clause t.entries clause j) q k) → v.kept.items ≡ w.kept.items →
-    v.hints.items ≡ w.hints.items ++ (reason + 1) ∷ [] → v.back ≡ w.back → Some reason ≡ replacement_of t.level w.marks.waiting e →
+    v.hints.items ≡ w.hints.items ++ (reason + 1) ∷ [] → v.back ≡ w.back → IsReplaced t.level w.marks.waiting e reason →
     IsWalk t q v
 walk_replaced t sound q e at reason w v walk marked after cleared kept hints back chosen =
-    let why = replaced_is t.level w.marks.waiting e reason chosen in
+    let why = chosen in
     let forced = forced_by t sound q e reason at why.has_reason in
     let clear = cleared forced.clause forced.named in
     let turned : reverse v.hints.items ≡ (reason + 1) ∷ reverse w.hints.items =
@@ -225,27 +221,23 @@ walk_replaced t sound q e at reason w v walk marked after cleared kept hints bac
     apart : AreApart t.entries
     apart = apart_from t.variables t.clauses t.entries sound.stand
 
--- ---- how far the marks reach
-
--- one place past the last of these; 0 where there are none
-abbrev pub reach : List ℕ → ℕ
-reach [] = 0
-reach (k ∷ ks) = max (suc k) (reach ks)
-
-pub reach_within : (ks : List ℕ) (n : ℕ) → ((k : ℕ) → list_any (is_at (nat_cmp k)) ks ≡ true → k < n) → reach ks ≤ n
-reach_within [] n h = omega arith
-reach_within (x ∷ ks) n h = omega (
-  arith,
-  h x (or_left (is_at (nat_cmp x) x) (list_any (is_at (nat_cmp x)) ks) (same_at x)),
-  reach_within ks n (λ k m. h k (or_right (is_at (nat_cmp k) x) (list_any (is_at (nat_cmp k)) ks) m)),
-)
-
-pub reach_has : (ks : List ℕ) (k : ℕ) → list_any (is_at (nat_cmp k)) ks ≡ true → k < reach ks
-reach_has [] k h = absurd (false≢true h)
-reach_has (x ∷ ks) k h = elim (or_cases (is_at (nat_cmp k) x) (list_any (is_at (nat_cmp k)) ks) h) [
-  | inl t ↦ (let e : x ≡ k = at_is k x t in omega arith)
-  | inr t ↦ omega (arith, reach_has ks k t)
-]
+-- an entry that is not marked
+pub walk_skipped : (t : TrailState) (q : ℕ) (w : Walk) → IsWalk t (q + 1) w → is_marked w.marks q ≡ false → IsWalk t q w
+walk_skipped t q w walk unmarked = record {
+  marks = walk.marks;
+  ahead = λ k h. (let b = walk.ahead k h in
+      let n : k ≡ q → ⊥ = λ is. false≢true (sym unmarked ∙ (ap (is_marked w.marks) (sym is) ∙ h)) in
+      omega arith);
+  fresh = λ k e at below. walk.fresh k e at (omega arith);
+  few = (let f = walk.few in omega arith);
+  named = walk.named;
+  shows = λ trues carries position. walk.shows trues (record {
+    set_true = carries.set_true;
+    marked = carries.marked;
+    passed = λ k e at below. carries.passed k e at (omega arith);
+  }) position;
+  stage = walk.stage;
+}
 
 -- ---- the end
 

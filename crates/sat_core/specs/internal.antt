@@ -4,3 +4,4 @@ pub mod Lessons
 pub mod Ends
 pub mod Decisions
 pub mod ConflictWalks
+pub mod Heaps

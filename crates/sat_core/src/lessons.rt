@@ -1,10 +1,13 @@
 //! What is learnt from a conflict.
 
-ghost use Rattle.std.specs.Prelude.{◌≡◌, ◌+◌, ◌<◌, ◌^◌, false, length, IfOk, OnOk};
+ghost use Rattle.std.specs.Prelude.{◌≡◌, ◌+◌, ◌<◌, ◌^◌, false, cond, All, length, IfOk, OnOk};
 ghost use Rattle.sat_trail.specs.States.{IsSound, IsFalseAt};
 ghost use Rattle.sat_core.specs.internal.Levels.{AreQuietBelow};
 ghost use Rattle.sat_core.specs.internal.Lessons.{IsLesson, HasLearnt, IsRefuted};
+ghost use Rattle.sat_core.specs.internal.ConflictWalks.{AreNoMarks};
+ghost use Rattle.sat_core.specs.internal.Decisions.{AreDecisions};
 
+use crate::choices::Decisions;
 use crate::walks::Walk;
 use clause_core::{Clause, clause_of};
 use refutation_check::{Log, Step};
@@ -20,12 +23,16 @@ struct Lesson {
     back: u32,
 }
 
-/// Learns a clause from a conflict above level 0. An `Err` says that memory ran out.
+/// Learns a clause from a conflict above level 0, and goes back to the level that it teaches, or to
+/// level 0 where the search begins anew. An `Err` says that memory ran out.
 pub fn learn(
     alloc: Global,
     trail: &mut Trail,
     steps: &mut Vec<Step>,
+    walk: &mut Walk,
+    decisions: &mut Decisions,
     conflict: u32,
+    anew: bool,
 ) -> Result<(), NoMemory>
     requires usable { trail.old.broken ≡ false }
     requires sound { IsSound trail.old }
@@ -33,11 +40,18 @@ pub fn learn(
     requires quiet { AreQuietBelow trail.old trail.old.level }
     requires above { 0 < trail.old.level }
     requires few { length trail.old.clauses + 1 < 2 ^ 32 }
-    ensures learnt { OnOk result (HasLearnt trail.old steps.old.items trail.new steps.new.items) }
+    requires marks { AreNoMarks trail.old.variables walk.old.marks }
+    requires decisions { AreDecisions trail.old.variables trail.old.entries decisions.old }
+    ensures learnt { OnOk result (HasLearnt anew trail.old steps.old.items trail.new steps.new.items) }
     ensures sound { OnOk result (IsSound trail.new) }
+    ensures marks { OnOk result (AreNoMarks trail.new.variables walk.new.marks) }
+    ensures decisions { OnOk result (AreDecisions trail.new.variables trail.new.entries decisions.new) }
 {
-    let lesson = lesson_of(alloc, trail, conflict)?;
-    trail.undo_to(lesson.back);
+    let lesson = lesson_of(alloc, trail, walk, conflict)?;
+    let level = level_after(anew, lesson.back);
+    decisions.bump(walk.marks.looked.as_slice());
+    decisions.take_back(trail, level)?;
+    trail.undo_to(level);
     let number = trail.learn(clause_of(alloc, lesson.clause.literals())?)?;
     steps.push(Step {
         number: u64::from(number) + 1,
@@ -47,12 +61,20 @@ pub fn learn(
     Ok(())
 }
 
+/// The level to go on from: that of what was learnt, or 0 where the search begins anew.
+fn level_after(anew: bool, back: u32) -> u32
+    ensures { result ≡ cond anew 0 back }
+{
+    if anew { 0 } else { back }
+}
+
 /// The log of the steps that is closed by a conflict at level 0; the number is that of the last step.
 /// An `Err` says that memory ran out.
 pub fn refute(
     alloc: Global,
     trail: &Trail,
     mut steps: Vec<Step>,
+    walk: &mut Walk,
     conflict: u32,
     number: u64,
 ) -> Result<Log, NoMemory>
@@ -61,9 +83,10 @@ pub fn refute(
     requires conflict { IsFalseAt trail.now conflict }
     requires start { trail.now.level ≡ 0 }
     requires number { number ≡ length trail.now.clauses + 1 }
+    requires marks { AreNoMarks trail.now.variables walk.old.marks }
     ensures { IfOk result (IsRefuted trail.now.clauses steps.items) }
 {
-    let lesson = lesson_of(alloc, trail, conflict)?;
+    let lesson = lesson_of(alloc, trail, walk, conflict)?;
     steps.push(Step {
         number,
         clause: lesson.clause,
@@ -76,18 +99,23 @@ pub fn refute(
 
 /// What a conflict teaches: the clause of the first unique implication point. An `Err` says that
 /// memory ran out.
-fn lesson_of(alloc: Global, trail: &Trail, conflict: u32) -> Result<Lesson, NoMemory>
+fn lesson_of(
+    alloc: Global,
+    trail: &Trail,
+    walk: &mut Walk,
+    conflict: u32,
+) -> Result<Lesson, NoMemory>
     requires usable { trail.now.broken ≡ false }
     requires sound { IsSound trail.now }
     requires conflict { IsFalseAt trail.now conflict }
     requires quiet { AreQuietBelow trail.now trail.now.level }
-    ensures { IfOk result (λ lesson. IsLesson trail.now lesson.clause lesson.hints.items lesson.back) }
+    requires marks { AreNoMarks trail.now.variables walk.old.marks }
+    ensures lesson { IfOk result (λ lesson. IsLesson trail.now lesson.clause lesson.hints.items lesson.back) }
+    ensures marks { OnOk result (AreNoMarks trail.now.variables walk.new.marks) }
+    ensures looked { OnOk result (All (λ variable. variable < trail.now.variables) walk.new.marks.looked.items) }
 {
-    let mut walk = Walk::new(alloc, trail, conflict)?;
-    while let Some(place) = walk.marks.last() {
-        walk.pass(trail, place)?;
-    }
-    let mut hints = walk.hints;
+    walk.run(trail, conflict)?;
+    let mut hints = walk.hints.as_slice().to_vec(alloc)?;
     hints.reverse();
     Ok(Lesson {
         clause: clause_of(alloc, walk.kept.as_slice())?,

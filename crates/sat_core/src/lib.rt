@@ -5,15 +5,19 @@
 //! shows that each of them told something that unit propagation had not found.
 //!
 //! The search is that of N. Eén and N. Sörensson, An Extensible SAT-solver, 2003. It propagates,
-//! decides the first variable that is not set, and from a conflict learns the clause of the first
-//! unique implication point. The hints of its log are the reasons of the entries that the clause was
-//! found by, in the order in which they were set.
+//! decides the most active of the variables that are not set, to the value that it had last, and from
+//! a conflict learns the clause of the first unique implication point. A variable is active as far as
+//! conflicts were found by it, the later ones the more. At the counts of `Restarts` the search begins
+//! anew at level 0, with what it has learnt. The hints of its log are the reasons of the entries that
+//! the clause was found by, in the order in which they were set.
 #![tactic(auto)]
 
 mod answers;
 mod choices;
+mod heap;
 mod lessons;
 mod marks;
+mod restarts;
 mod solver;
 mod walks;
 

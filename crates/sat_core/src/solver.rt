@@ -5,10 +5,13 @@ ghost use Rattle.clause_core.specs.Clauses.{has_pair};
 ghost use Rattle.sat_core.specs.Answers.{IsRightAnswer};
 ghost use Rattle.sat_core.specs.internal.Ends.{IsEnd};
 ghost use Rattle.sat_core.specs.internal.Lessons.{clauses_of};
+ghost use Rattle.sat_core.specs.internal.ConflictWalks.{AreNoMarks};
 
 use crate::answers::Answer;
 use crate::choices::{Decisions, assignment_of};
 use crate::lessons::{learn, refute};
+use crate::restarts::Restarts;
+use crate::walks::Walk;
 use clause_core::{Clause, Cnf};
 use refutation_check::Step;
 use sat_trail::Trail;
@@ -29,10 +32,12 @@ pub fn solve(alloc: Global, cnf: &Cnf, budget: u64) -> Result<Answer, NoMemory>
         return Err(NoMemory);
     };
     let mut steps = Vec::new(alloc);
-    let mut decisions = Decisions::new(alloc);
+    let mut walk = Walk::new(alloc, cnf.variables)?;
+    let mut decisions = Decisions::new(alloc, cnf.variables)?;
+    let mut restarts = Restarts::new();
     loop {
         let Some(conflict) = trail.propagate()? else {
-            if decisions.decide(&mut trail, cnf.variables)? {
+            if decisions.decide(&mut trail)? {
                 continue;
             }
             let assignment = assignment_of(alloc, &trail, cnf.variables)?;
@@ -40,28 +45,46 @@ pub fn solve(alloc: Global, cnf: &Cnf, budget: u64) -> Result<Answer, NoMemory>
         };
         if trail.level() == 0 {
             let number = cnf.clauses.len() as u64 + steps.len() as u64 + 1;
-            let log = refute(alloc, &trail, steps, conflict, number)?;
+            let log = refute(alloc, &trail, steps, &mut walk, conflict, number)?;
             return Ok(Answer::Unsat(log));
         }
         if steps.len() as u64 == budget {
             let number = cnf.clauses.len() as u64 + budget + 1;
-            return end(alloc, trail, steps, number);
+            return end(alloc, trail, steps, walk, number);
         }
-        learn(alloc, &mut trail, &mut steps, conflict)?;
-        decisions.undo_to(trail.level());
+        let anew = restarts.is_due(steps.len() as u64 + 1);
+        learn(
+            alloc,
+            &mut trail,
+            &mut steps,
+            &mut walk,
+            &mut decisions,
+            conflict,
+            anew,
+        )?;
     }
 }
 
 /// Ends a search that may learn no more: by a refutation where propagation at level 0 finds a clause
 /// that is false, the number being that of its last step. An `Err` says that memory ran out.
-fn end(alloc: Global, mut trail: Trail, steps: Vec<Step>, number: u64) -> Result<Answer, NoMemory>
+fn end(
+    alloc: Global,
+    mut trail: Trail,
+    steps: Vec<Step>,
+    mut walk: Walk,
+    number: u64,
+) -> Result<Answer, NoMemory>
     requires usable { trail.broken ≡ false }
+    requires marks { AreNoMarks trail.variables walk.marks }
     requires number { number ≡ length trail.clauses + 1 }
     ensures { IfOk result (IsEnd trail.clauses steps.items) }
 {
     trail.undo_to(0);
     match trail.propagate()? {
-        Some(conflict) => Ok(Answer::Unsat(refute(alloc, &trail, steps, conflict, number)?)),
+        Some(conflict) => {
+            let log = refute(alloc, &trail, steps, &mut walk, conflict, number)?;
+            Ok(Answer::Unsat(log))
+        }
         None => Ok(Answer::Spent(learnt_clauses(alloc, steps)?)),
     }
 }

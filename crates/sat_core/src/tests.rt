@@ -1,6 +1,9 @@
-ghost use Rattle.std.specs.Prelude.{IfOk};
+ghost use Rattle.std.specs.Prelude.{◌≡◌, ◌<◌, IfOk};
 ghost use Rattle.sat_core.specs.Answers.{IsRightAnswer};
+ghost use Rattle.sat_core.specs.internal.Heaps.{IsHeap, variable_count};
 
+use crate::heap::VariableHeap;
+use crate::restarts::Restarts;
 use crate::traces::is_trace;
 use crate::{Answer, solve};
 use clause_core::{Assignment, Clause, Cnf, Literal, clause_of, is_tautology, meets};
@@ -239,6 +242,126 @@ fn is_refuted_at_once(alloc: Global, lists: &[&[i32]]) -> Result<bool, Fail> {
     }
 }
 
+/// The number after this one of a sequence without a plain pattern.
+fn next_random(state: u64) -> u64 {
+    state
+        .wrapping_mul(6_364_136_223_846_793_005)
+        .wrapping_add(1_442_695_040_888_963_407)
+}
+
+/// A clause of three literals over so many variables. The state goes on.
+fn random_clause(alloc: Global, variables: u64, state: &mut u64) -> Result<Clause, Fail> {
+    let mut literals = Vec::new(alloc);
+    for _ in 0..1000 {
+        *state = next_random(*state);
+        let variable = (*state >> 33).checked_rem(variables).ok_or("none")?;
+        let literal = literal(variable as u32 + 1, *state >> 32 & 1 == 1)?;
+        if !literals.contains(&literal) && !literals.contains(&literal.negated()) {
+            literals.push(literal)?;
+        }
+        if literals.len() == 3 {
+            return Ok(clause_of(alloc, literals.as_slice())?);
+        }
+    }
+    Err("too few variables".into())
+}
+
+/// A formula of 4.3 clauses for each of so many variables.
+fn random_formula(alloc: Global, variables: u32, seed: u64) -> Result<Cnf, Fail> {
+    let mut state = next_random(seed);
+    let mut clauses = Vec::new(alloc);
+    for _ in 0..u64::from(variables) * 43 / 10 {
+        clauses.push(random_clause(alloc, u64::from(variables), &mut state)?)?;
+    }
+    formula(variables, clauses)
+}
+
+/// Makes a variable more active so many times, each time by more.
+fn bump_growing(heap: &mut VariableHeap, variable: u32, times: u32)
+    requires heap { IsHeap heap.old }
+    requires within { variable < variable_count heap.old }
+    ensures count { variable_count heap.new ≡ variable_count heap.old }
+    ensures heap { IsHeap heap.new }
+{
+    for _ in 0..times {
+        heap.bump(variable);
+        heap.grow();
+    }
+}
+
+/// Whether the answer is an assignment that meets all clauses.
+fn has_assignment(alloc: Global, cnf: &Cnf) -> Result<bool, Fail> {
+    match answer(alloc, cnf, 1000)? {
+        Answer::Sat(assignment) => Ok(is_met(&assignment, cnf)),
+        _ => Ok(false),
+    }
+}
+
+#[test]
+fn the_most_active_variable_comes_first_and_of_two_as_active_the_smaller(
+    rt: HostRuntime,
+) -> Result<(), Fail> {
+    let mut heap = VariableHeap::new(rt.alloc(), 6)?;
+    heap.bump(4);
+    heap.bump(2);
+    heap.bump(1);
+    heap.bump(4);
+    assert_eq!(rt; heap.pop(), Some(4));
+    assert_eq!(rt; heap.pop(), Some(1));
+    heap.bump(5);
+    heap.bump(5);
+    assert_eq!(rt; heap.pop(), Some(5));
+    heap.push(4)?;
+    heap.push(4)?;
+    assert_eq!(rt; heap.pop(), Some(4));
+    assert_eq!(rt; heap.pop(), Some(2));
+    assert_eq!(rt; heap.pop(), Some(0));
+    assert_eq!(rt; heap.pop(), Some(3));
+    assert_eq!(rt; heap.pop(), None);
+    Ok(())
+}
+
+#[test]
+fn later_bumps_outweigh_earlier_ones_also_where_activities_are_scaled(
+    rt: HostRuntime,
+) -> Result<(), Fail> {
+    for times in [3, 400, 500, 600, 5000] {
+        let mut heap = VariableHeap::new(rt.alloc(), 4)?;
+        bump_growing(&mut heap, 2, times);
+        bump_growing(&mut heap, 3, 5);
+        bump_growing(&mut heap, 1, 60);
+        assert_eq!(rt; heap.pop(), Some(1));
+        assert_eq!(rt; heap.pop(), Some(if times == 3 { 3 } else { 2 }));
+    }
+    Ok(())
+}
+
+#[test]
+fn the_search_begins_anew_at_the_counts_that_are_said(rt: HostRuntime) -> Result<(), Fail> {
+    let mut restarts = Restarts::new();
+    for count in 1..1000 {
+        let is_one = [64, 96, 144, 216, 324, 486, 729].contains(&count);
+        assert_eq!(rt; restarts.is_due(count), is_one);
+    }
+    Ok(())
+}
+
+#[test]
+fn each_answer_on_random_formulas_is_confirmed(rt: HostRuntime) -> Result<(), Fail> {
+    let alloc = rt.alloc();
+    let mut is_some_met = false;
+    let mut is_some_refuted = false;
+    for seed in 0..100 {
+        let cnf = random_formula(alloc, 20 + seed % 41, u64::from(seed))?;
+        let is_met = has_assignment(alloc, &cnf)?;
+        assert!(rt; is_met != has_accepted_log(alloc, &cnf)?);
+        is_some_met |= is_met;
+        is_some_refuted |= !is_met;
+    }
+    assert!(rt; is_some_met && is_some_refuted);
+    Ok(())
+}
+
 #[test]
 fn the_sets_of_four_clauses_but_for_the_whole_are_satisfiable(rt: HostRuntime) -> Result<(), Fail> {
     let alloc = rt.alloc();
@@ -276,7 +399,7 @@ fn a_clause_that_refutes_by_propagation_ends_a_budget_of_one(rt: HostRuntime) ->
 fn the_log_of_a_refutation_is_accepted(rt: HostRuntime) -> Result<(), Fail> {
     let alloc = rt.alloc();
     assert!(rt; has_accepted_log(alloc, &square(alloc, [true, true, true, true])?)?);
-    for holes in 1..=4 {
+    for holes in 1..=5 {
         assert!(rt; has_accepted_log(alloc, &pigeons(alloc, holes)?)?);
     }
     Ok(())

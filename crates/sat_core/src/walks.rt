@@ -1,11 +1,11 @@
 //! The walk along a trail, from its end, that finds what a conflict teaches.
 
-ghost use Rattle.std.specs.Prelude.{◌≡◌, ◌==◌, ◌&&◌, ◌||◌, ℕ, ◌+◌, ◌<◌, max, cond, nat_lt, false, true, not, List, [], ◌∷◌, ◌++◌, length, Some, slice_get, OnOk, IfOk};
+ghost use Rattle.std.specs.Prelude.{◌≡◌, ◌==◌, ◌&&◌, ◌||◌, ℕ, ◌+◌, ◌<◌, max, cond, nat_lt, false, true, not, List, [], ◌∷◌, ◌++◌, length, Some, slice_get, MatchOption, IfSome, OnOk, IfOk};
 ghost use Rattle.clause_core.specs.Literals.{Lit, negation};
 ghost use Rattle.sat_trail.specs.declared.entries.Entry.{Entry};
 ghost use Rattle.sat_trail.specs.States.{IsSound, IsFalseAt};
 ghost use Rattle.sat_core.specs.internal.Levels.{AreQuietBelow};
-ghost use Rattle.sat_core.specs.internal.ConflictWalks.{is_marked, is_of_clause, AreMarks, IsWalk, replacement_of};
+ghost use Rattle.sat_core.specs.internal.ConflictWalks.{is_marked, is_of_clause, AreMarks, AreNoMarks, IsWalk, HasWalked, must_go, MayStay, IsReplaced};
 
 use crate::marks::Marks;
 use clause_core::Literal;
@@ -27,29 +27,72 @@ pub struct Walk {
 }
 
 impl Walk {
-    /// The walk that begins with a clause that is false. An `Err` says that memory ran out.
-    pub fn new(alloc: Global, trail: &Trail, conflict: u32) -> Result<Walk, NoMemory>
-        requires usable { trail.now.broken ≡ false }
-        requires sound { IsSound trail.now }
-        requires conflict { IsFalseAt trail.now conflict }
-        requires quiet { AreQuietBelow trail.now trail.now.level }
-        ensures { IfOk result (IsWalk trail.now (length trail.now.entries)) }
+    /// No walk has begun. An `Err` says that memory ran out.
+    pub fn new(alloc: Global, variables: u32) -> Result<Walk, NoMemory>
+        ensures { IfOk result (λ walk. AreNoMarks variables walk.marks) }
     {
-        let mut marks = Marks::new(alloc);
-        marks.mark_clause(trail, conflict)?;
-        let mut hints = Vec::new(alloc);
-        hints.push(u64::from(conflict) + 1)?;
         Ok(Walk {
-            marks,
+            marks: Marks::new(alloc, variables)?,
             kept: Vec::new(alloc),
-            hints,
+            hints: Vec::new(alloc),
             back: 0,
         })
     }
 
+    /// Walks from a clause that is false over all entries. An `Err` says that memory ran out.
+    pub fn run(&mut self, trail: &Trail, conflict: u32) -> Result<(), NoMemory>
+        requires usable { trail.now.broken ≡ false }
+        requires sound { IsSound trail.now }
+        requires conflict { IsFalseAt trail.now conflict }
+        requires quiet { AreQuietBelow trail.now trail.now.level }
+        requires marks { AreNoMarks trail.now.variables self.old.marks }
+        ensures { OnOk result (HasWalked trail.now self.new) }
+    {
+        self.begin(trail, conflict)?;
+        let mut place = trail.set_count();
+        while place > self.marks.lowest {
+            place -= 1;
+            self.step(trail, place)?;
+        }
+        Ok(())
+    }
+
+    /// Begins with a clause that is false. An `Err` says that memory ran out.
+    fn begin(&mut self, trail: &Trail, conflict: u32) -> Result<(), NoMemory>
+        requires usable { trail.now.broken ≡ false }
+        requires sound { IsSound trail.now }
+        requires conflict { IsFalseAt trail.now conflict }
+        requires quiet { AreQuietBelow trail.now trail.now.level }
+        requires marks { AreNoMarks trail.now.variables self.old.marks }
+        ensures { OnOk result (IsWalk trail.now (length trail.now.entries) self.new) }
+    {
+        self.kept.clear();
+        self.hints.clear();
+        self.back = 0;
+        self.marks.begin();
+        self.marks.mark_clause(trail, conflict)?;
+        self.hints.push(u64::from(conflict) + 1)?;
+        Ok(())
+    }
+
+    /// Passes an entry. An `Err` says that memory ran out.
+    fn step(&mut self, trail: &Trail, place: u32) -> Result<(), NoMemory>
+        requires usable { trail.now.broken ≡ false }
+        requires sound { IsSound trail.now }
+        requires within { place < length trail.now.entries }
+        requires walk { IsWalk trail.now (place + 1) self.old }
+        ensures { OnOk result (IsWalk trail.now place self.new) }
+    {
+        if self.marks.is_marked(place) {
+            self.pass(trail, place)
+        } else {
+            Ok(())
+        }
+    }
+
     /// Passes a marked entry: its reason takes its place in the clause, or the opposite of its literal
     /// stays. An `Err` says that memory ran out.
-    pub fn pass(&mut self, trail: &Trail, place: u32) -> Result<(), NoMemory>
+    fn pass(&mut self, trail: &Trail, place: u32) -> Result<(), NoMemory>
         requires usable { trail.now.broken ≡ false }
         requires sound { IsSound trail.now }
         requires within { place < length trail.now.entries }
@@ -66,13 +109,42 @@ impl Walk {
     /// The number of the clause that takes an entry's place; none where its literal's opposite stays.
     fn replacement(&self, trail: &Trail, place: u32) -> Option<u32>
         requires usable { trail.now.broken ≡ false }
+        requires sound { IsSound trail.now }
         requires within { place < length trail.now.entries }
-        ensures { (entry : Entry) → slice_get trail.now.entries place ≡ Some entry →
-            result ≡ replacement_of trail.now.level self.now.marks.waiting entry }
+        requires marks { AreMarks trail.now self.now.marks }
+        ensures { (entry : Entry) → slice_get trail.now.entries place ≡ Some entry → MatchOption result
+            (MayStay trail.now.level self.now.marks.waiting entry) (IsReplaced trail.now.level self.now.marks.waiting entry) }
     {
         let level = trail.level_at(place);
-        if level == 0 || (level == trail.level() && self.marks.is_crowded()) {
-            trail.reason_at(place)
+        if self.must_go(trail, level) {
+            return trail.reason_at(place);
+        }
+        if level == trail.level() {
+            return None;
+        }
+        self.covered_reason(trail, place)
+    }
+
+    /// Whether the reason of an entry of this level must take its place.
+    fn must_go(&self, trail: &Trail, level: u32) -> bool
+        requires { trail.now.broken ≡ false }
+        ensures { result ≡ must_go trail.now.level self.now.marks.waiting level }
+    {
+        level == 0 || (level == trail.level() && self.marks.is_crowded())
+    }
+
+    /// The number of an entry's reason, where the entries of its variables are marked or of level 0: the
+    /// clause is shorter then.
+    fn covered_reason(&self, trail: &Trail, place: u32) -> Option<u32>
+        requires usable { trail.now.broken ≡ false }
+        requires sound { IsSound trail.now }
+        requires within { place < length trail.now.entries }
+        requires marks { AreMarks trail.now self.now.marks }
+        ensures { (entry : Entry) → slice_get trail.now.entries place ≡ Some entry → IfSome result (λ reason. entry.reason ≡ Some reason) }
+    {
+        let reason = trail.reason_at(place)?;
+        if self.marks.covers(trail, reason) {
+            Some(reason)
         } else {
             None
         }
@@ -102,6 +174,7 @@ impl Walk {
     /// The opposite of an entry's literal stays in the clause. An `Err` says that memory ran out.
     fn keep(&mut self, trail: &Trail, place: u32) -> Result<(), NoMemory>
         requires usable { trail.now.broken ≡ false }
+        requires sound { IsSound trail.now }
         requires within { place < length trail.now.entries }
         requires marked { is_marked self.old.marks place ≡ true }
         requires marks { AreMarks trail.now self.old.marks }

@@ -87,3 +87,8 @@ pub each_both : {X : Type 0} (P Q R : X → Type 0) → ((x : X) → P x → Q x
     AllByRecursion Q xs → AllByRecursion R xs
 each_both P Q R f [] first second = tt
 each_both P Q R f (x ∷ xs) first second = (f x first.0 second.0, each_both P Q R f xs first.1 second.1)
+
+pub each_unmapped : {X Y : Type 0} (P : Y → Type 0) (f : X → Y) (xs : List X) → AllByRecursion P (map f xs) →
+    AllByRecursion (λ x. P (f x)) xs
+each_unmapped P f [] each = tt
+each_unmapped P f (x ∷ xs) each = (each.0, each_unmapped P f xs each.1)

@@ -7,6 +7,8 @@ pub mod Each
 pub mod Passes
 pub mod Numbers
 pub mod Kept
+pub mod Gathered
+pub mod Finds
 pub mod Bytes
 pub mod Orders
 mod Examples

@@ -19,7 +19,11 @@ use Rattle.std.proofs.Common.{
   ◌∷◌,
   ◌++◌,
   length,
+  map,
+  take,
+  get_or,
   Some,
+  None,
   slice_get,
   refl,
   sym,
@@ -31,14 +35,18 @@ use Rattle.std.proofs.Common.{
   add-one,
   arith,
 }
-use Rattle.std.specs.List.{filter, flat_map}
-use Rattle.std.proofs.lemmas.Bool.{false≢true}
+use Rattle.std.specs.Prelude.{nat_eq}
+use Rattle.std.specs.Map.{lookup}
+use Rattle.std.specs.List.{AllByRecursion, filter, flat_map}
+use Rattle.std.proofs.lemmas.Bool.{false≢true, eq-eqb, eqb-true}
 use Rattle.std.proofs.lemmas.Bool.Decides.{eqb_tells}
 use Rattle.std.proofs.lemmas.List.{length-append}
 use Rattle.std.proofs.lemmas.List.Folds.{list_any-append}
-use Rattle.std.proofs.Math.Bool.{or-true, and-false}
+use Rattle.std.proofs.lemmas.Option.{slice_get-get_or}
+use Rattle.std.proofs.Math.Bool.{or-true, or-false, and-false}
 use Rattle.sequence.specs.Numbers.{is_among, IsDistinct, numbers_from}
 use Rattle.sequence.proofs.Booleans.{eqb_self}
+use Rattle.sequence.proofs.Places.{slice_get_grown, slice_get-append, slice_get-take}
 use Rattle.sequence.proofs.Passes.{filter_push}
 
 -- what stands among others
@@ -159,3 +167,49 @@ length_one_each f (n ∷ ns) one =
     let first = one n (among_first n ns) in
     let rest = length_one_each f ns (λ m stands. one m (among_next n m ns stands)) in
     length-append (f n) (flat_map f ns) ∙ (λ i. first i + rest i) ∙ omega arith
+
+pub numbers_below : (first count limit : ℕ) → first + count ≤ limit → AllByRecursion (λ n. n < limit) (numbers_from first count)
+numbers_below first zero limit within = tt
+numbers_below first (suc count) limit within = (omega arith, numbers_below (suc first) count limit (omega arith))
+
+-- whether a number is the last one, or among those before it
+pub among_push : (ns : List ℕ) (m n : ℕ) → is_among (ns ++ m ∷ []) n ≡ (is_among ns n || (m == n))
+among_push ns m n = list_any-append (λ k. k == n) ns (m ∷ []) ∙ ap (λ b. is_among ns n || b) (or-false (m == n))
+
+-- a key that is not among those of a list is not found there
+pub lookup_not_among : {X : Type 0} (s : ℕ) (es : List (ℕ × X)) → is_among (map (λ e. e.0) es) s ≡ false → lookup (nat_eq s) es ≡ None
+lookup_not_among s [] absent = refl
+lookup_not_among {X = X} s (e ∷ es) absent = by (e.0 == s) refl (lookup_not_among s es) absent
+  where
+    turned : (c : Bool) → (e.0 == s) ≡ false → nat_eq s e.0 ≡ c → lookup (nat_eq s) es ≡ None → lookup (nat_eq s) (e ∷ es) ≡ None
+    turned true h k rest = let yes : (e.0 == s) ≡ true = eq-eqb e.0 s (sym (eqb-true s e.0 k)) in cc
+    turned false h k rest = rw k rest
+
+    by : (b : Bool) → (e.0 == s) ≡ b → (is_among (map (λ f. f.0) es) s ≡ false → lookup (nat_eq s) es ≡ None) →
+        is_among (map (λ f. f.0) (e ∷ es)) s ≡ false → lookup (nat_eq s) (e ∷ es) ≡ None
+    by true h rest gone = let yes : is_among (map (λ f. f.0) (e ∷ es)) s ≡ true = rw h refl in cc
+    by false h rest gone = turned (nat_eq s e.0) h refl (rest (rw h at gone))
+
+-- ---- lists in which no number stands twice
+
+-- a front of such a list is one, and so is what is behind it
+pub distinct_front : (ns ms : List ℕ) → IsDistinct (ns ++ ms) → IsDistinct ns
+distinct_front ns ms distinct i j n at too = distinct i j n (slice_get_grown ns ms i n at) (slice_get_grown ns ms j n too)
+
+pub distinct_behind : (ns ms : List ℕ) → IsDistinct (ns ++ ms) → IsDistinct ms
+distinct_behind ns ms distinct i j n at too =
+    let same : length ns + i ≡ length ns + j = distinct (length ns + i) (length ns + j) n
+    (slice_get-append ns ms i (length ns + i) refl ∙ at) (slice_get-append ns ms j (length ns + j) refl ∙ too) in
+    omega (arith, same)
+
+-- the number at a place stands at no earlier place
+pub distinct_new : (ns : List ℕ) (i d : ℕ) → i < length ns → IsDistinct ns → is_among (take i ns) (get_or ns i d) ≡ false
+distinct_new ns i d within distinct = by (is_among (take i ns) (get_or ns i d)) refl
+  where
+    by : (b : Bool) → is_among (take i ns) (get_or ns i d) ≡ b → b ≡ false
+    by false h = refl
+    by true h =
+        let place = among_place (take i ns) (get_or ns i d) h in
+        let before = slice_get-take i ns place.0 (get_or ns i d) place.1 in
+        let same : place.0 ≡ i = distinct place.0 i (get_or ns i d) before.1 (slice_get-get_or ns i d within) in
+        absurd (omega (arith, same, before.0))

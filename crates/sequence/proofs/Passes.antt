@@ -216,3 +216,25 @@ filter_filter p q (x ∷ xs) = let rest = filter_filter p q xs in by rest (q x) 
 pub filter_true : {X : Type 0} (xs : List X) → filter (λ _. true) xs ≡ xs
 filter_true [] = refl
 filter_true (x ∷ xs) = ap (λ rest. x ∷ rest) (filter_true xs)
+
+-- of lists that are joined
+module _ {X : Type 0} (p : X → Bool) where
+  pub list_all_joined : (xs ys : List X) → list_all p xs ≡ true → list_all p ys ≡ true → list_all p (xs ++ ys) ≡ true
+  list_all_joined xs ys first second = list_all-append p xs ys ∙ and_from (list_all p xs) (list_all p ys) first second
+
+  pub list_all_parts : (xs ys : List X) → list_all p (xs ++ ys) ≡ true → (list_all p xs ≡ true) × (list_all p ys ≡ true)
+  list_all_parts xs ys all = and_parts (list_all p xs) (list_all p ys) (sym (list_all-append p xs ys) ∙ all)
+
+  pub list_all_push : (xs : List X) (x : X) → list_all p xs ≡ true → p x ≡ true → list_all p (xs ++ x ∷ []) ≡ true
+  list_all_push xs x all passes = list_all_joined xs (x ∷ []) all (and_from (p x) true passes refl)
+
+  -- a place where one fails
+  pub not_all_place : (xs : List X) → list_all p xs ≡ false → (i : ℕ) × (x : X) × (slice_get xs i ≡ Some x) × (p x ≡ false)
+  not_all_place [] fails = absurd cc
+  not_all_place (x ∷ xs) fails = by (p x) refl fails (not_all_place xs)
+    where
+      by : (b : Bool) → p x ≡ b → (b && list_all p xs) ≡ false →
+          (list_all p xs ≡ false → (i : ℕ) × (y : X) × (slice_get xs i ≡ Some y) × (p y ≡ false)) →
+          (i : ℕ) × (y : X) × (slice_get (x ∷ xs) i ≡ Some y) × (p y ≡ false)
+      by false here none rest = (0, x, refl, here)
+      by true here later rest = let found = rest later in (suc found.0, found.1, found.2, found.3)

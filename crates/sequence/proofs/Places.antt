@@ -15,6 +15,8 @@ use Rattle.std.proofs.Common.{
   set,
   take,
   drop,
+  map,
+  replicate,
   Some,
   slice_get,
   Contains,
@@ -115,3 +117,21 @@ pub slice_get_set_same : {X : Type 0} (xs : List X) (i : ℕ) (y : X) → i < le
 slice_get_set_same [] i y within = absurd (omega arith)
 slice_get_set_same (x ∷ xs) zero y within = refl
 slice_get_set_same (x ∷ xs) (suc i) y within = slice_get_set_same xs i y (omega arith)
+
+-- behind a front, by a place that counts it too
+pub slice_get-append : {X : Type 0} (xs ys : List X) (k p : ℕ) → p ≡ length xs + k → slice_get (xs ++ ys) p ≡ slice_get ys k
+slice_get-append [] ys k p e = let same : p ≡ k = omega (arith, e) in ap (slice_get ys) same
+slice_get-append (x ∷ xs) ys k zero e = absurd (omega (arith, e))
+slice_get-append (x ∷ xs) ys k (suc p) e = slice_get-append xs ys k p (omega (arith, e))
+
+-- among images, and in a list of one member many times
+pub slice_get_mapped : {X Y : Type 0} (f : X → Y) (xs : List X) (i : ℕ) (y : Y) → slice_get (map f xs) i ≡ Some y →
+    (x : X) × (slice_get xs i ≡ Some x) × (f x ≡ y)
+slice_get_mapped f [] i y at = absurd (none-some y at)
+slice_get_mapped f (x ∷ xs) zero y at = (x, refl, same_Some (f x) y at)
+slice_get_mapped f (x ∷ xs) (suc i) y at = slice_get_mapped f xs i y at
+
+pub slice_get-replicate : {X : Type 0} (count n : ℕ) (x : X) → n < count → slice_get (replicate count x) n ≡ Some x
+slice_get-replicate zero n x within = absurd (omega arith)
+slice_get-replicate (suc count) zero x within = refl
+slice_get-replicate (suc count) (suc n) x within = slice_get-replicate count n x (omega arith)

@@ -1,9 +1,10 @@
 -- Columns by their places, and the first row that passes a test.
 use Rattle.std.proofs.Common.{◌≡◌, ◌∙◌, ℕ, zero, suc, ◌+◌, ◌<◌, ◌≤◌, ◌==◌, ◌^◌, Bool, true, false, not, cond, List, [], ◌∷◌, ◌++◌, length, map, take, drop, get_or}
 use Rattle.std.proofs.Common.{Vec, Option, Some, None, refl, sym, ap, subst, arith, inl, inr}
-use Rattle.std.specs.Prelude.{slice_get, option_map, is_some, All, IsSomeAnd, ◌⊎◌, Result, IfErr}
-use Rattle.std.specs.Result.{IsErrAnd}
-use Rattle.std.proofs.lemmas.Result.{err_from_is_err_and}
+use Rattle.std.specs.Prelude.{slice_get, option_map, is_some, All, IsSomeAnd, ◌⊎◌}
+use Rattle.std.proofs.lemmas.List.Elements.{All-from_recursion, recursion_from_All}
+use Rattle.sequence.proofs.Finds.{find_image_end, find_item_past, each_fails, find_neither}
+use Rattle.sequence.proofs.Options.{none_is}
 use Rattle.tsl_terms.specs.Value.{beside}
 use Rattle.sequence.specs.Options.{all_there}
 use Rattle.table_interp.specs.Inputs.{by_inputs, is_no_value}
@@ -18,17 +19,16 @@ use Rattle.sequence.proofs.Booleans.{not_not, eqb_self}
 use Rattle.sequence.proofs.Numbers.{among_at}
 use Rattle.tsl_text.specs.declared.Token.{Token}
 use Rattle.tsl_terms.specs.Name.{Name}
-use Rattle.table_interp.specs.declared.terminals.Terminal.{Terminal as LentTerminal}
-use Rattle.table_interp.specs.Syntax.{Terminal, InputsSyntax}
+use Rattle.table_interp.specs.declared.text_tokens.TextToken.{TextToken as LentToken}
+use Rattle.table_interp.specs.Syntax.{TextToken, InputsSyntax}
 use Rattle.table_interp.specs.Needed.{number_for, is_for, IsFirstAt, IsFirstRepeat, HasNoRepeat}
 use Rattle.sequence.proofs.Places.{slice_get-front}
 use Rattle.table_interp.specs.Inputs.{is_input_name, AreOnce, HasSecondColumn}
 use Rattle.table_interp.specs.internal.Resolving.{IsPlace}
 use Rattle.table_interp.specs.internal.Ordered.{HasColumns}
-use Rattle.table_interp.specs.internal.View.{terminal_view, terminals_view, numbers_view}
-use Rattle.table_interp.proofs.Finds.{item_pass, find_end, all_each, each_all}
-use Rattle.table_interp.proofs.Facts.{find_each, below_each, is_none_is}
-use Rattle.table_interp.proofs.Gather.{once_some, first_some}
+use Rattle.table_interp.specs.internal.View.{text_token_view, text_tokens_view, numbers_view}
+use Rattle.table_interp.proofs.Facts.{below_each}
+use Rattle.table_interp.proofs.Repeats.{once_some, first_some}
 
 abbrev Row : Type 0
 Row = Vec ℕ Global
@@ -52,7 +52,7 @@ none_at_first test rows = record { first = refl; none = λ k x less at. absurd (
 pub none_more : (test : List ℕ → Bool) (rows : List Row) (i : ℕ) (row : Row) → i < length rows → row ≡ get_or rows i row →
     test row.items ≡ false → NoneSoFar test rows i → NoneSoFar test rows (i + 1)
 none_more test rows i row within is fails h = record {
-  first = h.first ∙ item_pass (λ r. r.items) test rows i row within is fails;
+  first = h.first ∙ find_item_past (λ r. r.items) test rows i row within is fails;
   none = none;
 } where
   none : (k : ℕ) (x : List ℕ) → k < i + 1 → slice_get (numbers_view rows) k ≡ Some x → test x ≡ false
@@ -61,11 +61,13 @@ none_more test rows i row within is fails h = record {
     by (inl before) = h.none k x before at
     by (inr after) =
         let same : k ≡ i = omega (arith, less, after) in
-        let found : row.items ≡ x = same_Some row.items x (sym (there rows i row within is) ∙ ap (slice_get (numbers_view rows)) (sym same) ∙ at) in
+        let found : row.items ≡ x = same_Some row.items x (sym (there rows i row within is)
+        ∙ ap (slice_get (numbers_view rows)) (sym same) ∙ at) in
         ap test (sym found) ∙ fails
 
-pub none_left : (test : List ℕ → Bool) (rows : List Row) (i : ℕ) → length rows ≤ i → NoneSoFar test rows i → find test (numbers_view rows) ≡ None
-none_left test rows i past h = h.first ∙ find_end (λ r. r.items) test rows i past
+pub none_left : (test : List ℕ → Bool) (rows : List Row) (i : ℕ) → length rows ≤ i → NoneSoFar test rows i →
+    find test (numbers_view rows) ≡ None
+none_left test rows i past h = h.first ∙ find_image_end (λ r. r.items) test rows i past
 
 pub first_at : (test : List ℕ → Bool) (rows : List Row) (i : ℕ) (row : Row) → i < length rows → row ≡ get_or rows i row →
     test row.items ≡ true → NoneSoFar test rows i → IsFirstAt test (numbers_view rows) i
@@ -75,35 +77,36 @@ first_at test rows i row within is passed h =
 -- ---- columns
 
 module _ (names : List Name) (inputs : List ℕ) (stem cycle : List (List ℕ)) where
-  abbrev given_of : List LentTerminal → InputsSyntax
-  given_of xs = record { names = terminals_view xs; stem = stem; cycle = cycle }
+  abbrev given_of : List LentToken → InputsSyntax
+  given_of xs = record { names = text_tokens_view xs; stem = stem; cycle = cycle }
 
-  pub are_once : (lent xs : List LentTerminal) (ns ms : List ℕ) → lent ≡ xs → ns ≡ ms →
-      find (λ x. not (is_input_name names inputs x)) (terminals_view lent) ≡ None →
-      map (number_for names) (terminals_view lent) ≡ map (λ n. Some n) ms → HasNoRepeat ns → AreOnce names inputs (given_of xs)
+  pub are_once : (lent xs : List LentToken) (ns ms : List ℕ) → lent ≡ xs → ns ≡ ms →
+      find (λ x. not (is_input_name names inputs x)) (text_tokens_view lent) ≡ None →
+      map (number_for names) (text_tokens_view lent) ≡ map (λ n. Some n) ms → HasNoRepeat ns → AreOnce names inputs (given_of xs)
   are_once lent xs ns ms same alike known aligned once = record {
-    known = ap (λ ys. find (λ x. not (is_input_name names inputs x)) (terminals_view ys)) (sym same) ∙ known;
+    known = ap (λ ys. find (λ x. not (is_input_name names inputs x)) (text_tokens_view ys)) (sym same) ∙ known;
     once =
-        once_some _ ms (ap (λ ys. map (number_for names) (terminals_view ys)) (sym same) ∙ aligned)
+        once_some _ ms (ap (λ ys. map (number_for names) (text_tokens_view ys)) (sym same) ∙ aligned)
         (subst (λ (ks : List ℕ). HasNoRepeat ks) alike once);
   }
 
-  pub second_column : (lent xs last : List LentTerminal) (ns ms : List ℕ) (token : Token) → lent ≡ xs → last ≡ xs → ns ≡ ms →
-      find (λ x. not (is_input_name names inputs x)) (terminals_view lent) ≡ None →
-      map (number_for names) (terminals_view lent) ≡ map (λ n. Some n) ms → (at : ℕ) → IsFirstRepeat ns at →
-      IsSomeAnd (slice_get (terminals_view last) at) (λ x. token ≡ x.token) →
+  pub second_column : (lent xs last : List LentToken) (ns ms : List ℕ) (token : Token) → lent ≡ xs → last ≡ xs → ns ≡ ms →
+      find (λ x. not (is_input_name names inputs x)) (text_tokens_view lent) ≡ None →
+      map (number_for names) (text_tokens_view lent) ≡ map (λ n. Some n) ms → (at : ℕ) → IsFirstRepeat ns at →
+      IsSomeAnd (slice_get (text_tokens_view last) at) (λ x. token ≡ x.token) →
       HasSecondColumn names inputs (given_of xs) token.start token.end
   second_column lent xs last ns ms token same other alike known aligned at first place =
-      by (slice_get (terminals_view xs) at) refl (subst (λ ys. IsSomeAnd (slice_get (terminals_view ys) at) (λ x. token ≡ x.token)) other place)
+      by (slice_get (text_tokens_view xs) at) refl (subst (λ ys. IsSomeAnd (slice_get (text_tokens_view ys) at) (λ x. token ≡ x.token))
+      other place)
     where
-      by : (o : Option Terminal) → slice_get (terminals_view xs) at ≡ o → IsSomeAnd o (λ x. token ≡ x.token) →
+      by : (o : Option TextToken) → slice_get (text_tokens_view xs) at ≡ o → IsSomeAnd o (λ x. token ≡ x.token) →
           HasSecondColumn names inputs (given_of xs) token.start token.end
       by None e h = absurd h
       by (Some x) is h = record {
-        known = ap (λ ys. find (λ x. not (is_input_name names inputs x)) (terminals_view ys)) (sym same) ∙ known;
+        known = ap (λ ys. find (λ x. not (is_input_name names inputs x)) (text_tokens_view ys)) (sym same) ∙ known;
         at = at;
         first =
-            first_some _ ms at (ap (λ ys. map (number_for names) (terminals_view ys)) (sym same) ∙ aligned)
+            first_some _ ms at (ap (λ ys. map (number_for names) (text_tokens_view ys)) (sym same) ∙ aligned)
             (subst (λ (ks : List ℕ). IsFirstRepeat ks at) alike first);
         column = x;
         there = is;
@@ -111,13 +114,13 @@ module _ (names : List Name) (inputs : List ℕ) (stem cycle : List (List ℕ)) 
         ends = ap (λ (t : Token). t.end) h;
       }
 
-pub column_within : (names : List Name) (lent xs last : List LentTerminal) (ns ms : List ℕ) → lent ≡ xs → last ≡ xs → ns ≡ ms →
-    map (number_for names) (terminals_view lent) ≡ map (λ n. Some n) ms → (at : ℕ) → IsFirstRepeat ns at → at < length last
+pub column_within : (names : List Name) (lent xs last : List LentToken) (ns ms : List ℕ) → lent ≡ xs → last ≡ xs → ns ≡ ms →
+    map (number_for names) (text_tokens_view lent) ≡ map (λ n. Some n) ms → (at : ℕ) → IsFirstRepeat ns at → at < length last
 column_within names lent xs last ns ms same other alike aligned at first =
     let inside : at < length ns = slice_get_within ns at first.repeat.member first.repeat.again in
-    let size : length (terminals_view lent) ≡ length ms = sym (length-map (terminals_view lent) (number_for names))
+    let size : length (text_tokens_view lent) ≡ length ms = sym (length-map (text_tokens_view lent) (number_for names))
     ∙ ap length aligned ∙ length-map ms (λ n. Some n) in
-    let lent_size : length (terminals_view lent) ≡ length lent = length-map lent terminal_view in
+    let lent_size : length (text_tokens_view lent) ≡ length lent = length-map lent text_token_view in
     let one : length lent ≡ length xs = ap length same in
     let two : length last ≡ length xs = ap length other in
     let three : length ns ≡ length ms = ap length alike in
@@ -126,7 +129,7 @@ column_within names lent xs last ns ms same other alike aligned at first =
 -- ---- whether an input has a column
 
 module _ (names : List Name) (id : ℕ) where
-  any_among : (xs : List Terminal) (ns : List ℕ) → map (number_for names) xs ≡ map (λ n. Some n) ns →
+  any_among : (xs : List TextToken) (ns : List ℕ) → map (number_for names) xs ≡ map (λ n. Some n) ns →
       list_any (is_for names id) xs ≡ is_among ns id
   any_among [] [] e = refl
   any_among [] (n ∷ ns) e = absurd cc
@@ -136,7 +139,7 @@ module _ (names : List Name) (id : ℕ) where
       let others : map (number_for names) xs ≡ map (λ k. Some k) ns = cc in
       rw (first, any_among xs ns others) refl
 
-  pub no_column : (xs : List Terminal) (numbers : List ℕ) (places : List (Option ℕ)) (slot : Option ℕ) (none : Bool) →
+  pub no_column : (xs : List TextToken) (numbers : List ℕ) (places : List (Option ℕ)) (slot : Option ℕ) (none : Bool) →
       HasColumns names xs numbers places → id < length names → slice_get places id ≡ Some slot → is_some slot ≡ not none →
       none ≡ not (list_any (is_for names id) xs)
   no_column xs numbers places slot none h within at e =
@@ -163,7 +166,8 @@ module _ (test : List ℕ → Bool) where
         none_before = λ i x less found. h.none_before i x less (sym (slice_get-front xs ys i (omega (arith, less, inside))) ∙ found);
       }
 
-  pub first_right : (xs ys : List (List ℕ)) (at : ℕ) → find test xs ≡ None → IsFirstAt test ys at → IsFirstAt test (xs ++ ys) (length xs + at)
+  pub first_right : (xs ys : List (List ℕ)) (at : ℕ) → find test xs ≡ None → IsFirstAt test ys at →
+      IsFirstAt test (xs ++ ys) (length xs + at)
   first_right [] ys at none h = record {
     member = h.member;
     there = ap (slice_get ys) (omega arith) ∙ h.there;
@@ -183,14 +187,6 @@ module _ (test : List ℕ → Bool) where
           before rest zero x less found = ap test (sym (same_Some r x found)) ∙ e
           before rest (suc i) x less found = rest.none_before i x (omega (arith, less)) found
 
-  pub find_neither : (xs ys : List (List ℕ)) → find test xs ≡ None → find test ys ≡ None → find test (xs ++ ys) ≡ None
-  find_neither [] ys a b = b
-  find_neither (r ∷ xs) ys a b = by (test r) (find_neither xs ys) a where
-    by : (c : Bool) → (find test xs ≡ None → find test ys ≡ None → find test (xs ++ ys) ≡ None) → cond c (Some r) (find test xs) ≡ None →
-        cond c (Some r) (find test (xs ++ ys)) ≡ None
-    by true further k = absurd cc
-    by false further k = further k b
-
   pub rows_right : (ls lc stem cycle : List Row) (at n : ℕ) → ls ≡ stem → lc ≡ cycle → n ≡ length ls → find test (numbers_view ls) ≡ None →
       IsFirstAt test (numbers_view lc) at → IsFirstAt test (numbers_view stem ++ numbers_view cycle) (n + at)
   rows_right ls lc stem cycle at n a b size none h =
@@ -203,7 +199,7 @@ module _ (test : List ℕ → Bool) where
       find test (numbers_view lc) ≡ None → find test (numbers_view stem ++ numbers_view cycle) ≡ None
   rows_neither ls lc stem cycle a b none also =
       ap (λ ss. find test (numbers_view ss ++ numbers_view cycle)) (sym a)
-      ∙ ap (λ cs. find test (numbers_view ls ++ numbers_view cs)) (sym b) ∙ find_neither (numbers_view ls) (numbers_view lc) none also
+      ∙ ap (λ cs. find test (numbers_view ls ++ numbers_view cs)) (sym b) ∙ find_neither test (numbers_view ls) (numbers_view lc) none also
 
 -- the first number that is no value stands in the row that was found
 pub same_row : {B : Type 0} (f : List ℕ → B) (test : List ℕ → Bool) (rows : List (List ℕ)) (at : ℕ) (h : IsFirstAt test rows at)
@@ -212,26 +208,14 @@ same_row f test rows at h r found = ap f (same_Some h.member r (sym h.there ∙ 
 
 -- ---- rows in the order of the inputs
 
-pub mapped_push : {A B : Type 0} (f : A → Option B) (xs : List A) (i : ℕ) (d : A) (vs : List B) (v : B) → i < length xs →
-    f (get_or xs i d) ≡ Some v → map (λ w. Some w) vs ≡ map f (take i xs) → map (λ w. Some w) (vs ++ v ∷ []) ≡ map f (take (i + 1) xs)
-mapped_push f xs i d vs v within is h =
-    map-append (λ w. Some w) vs (v ∷ []) ∙ ap (λ ys. ys ++ Some v ∷ []) h ∙ ap (λ o. map f (take i xs) ++ o ∷ []) (sym is)
-    ∙ sym (map-append f (take i xs) (get_or xs i d ∷ [])) ∙ ap (map f) (sym (take_more xs i d within))
-
-pub place_pushed : (f : ℕ → Option ℕ) (xs : List ℕ) (i d : ℕ) (ps : List ℕ) (p : ℕ) → i < length xs → f p ≡ Some (get_or xs i d) →
-    map f ps ≡ map (λ s. Some s) (take i xs) → map f (ps ++ p ∷ []) ≡ map (λ s. Some s) (take (i + 1) xs)
-place_pushed f xs i d ps p within is h =
-    map-append f ps (p ∷ []) ∙ ap (λ ys. ys ++ f p ∷ []) h ∙ ap (λ o. map (λ s. Some s) (take i xs) ++ o ∷ []) is
-    ∙ sym (map-append (λ s. Some s) (take i xs) (get_or xs i d ∷ [])) ∙ ap (map (λ s. Some s)) (sym (take_more xs i d within))
-
 module _ (names : List Name) (id : ℕ) where
-  pub place_stands : (xs : List Terminal) (numbers : List ℕ) (places : List (Option ℕ)) (slot : Option ℕ) →
+  pub place_stands : (xs : List TextToken) (numbers : List ℕ) (places : List (Option ℕ)) (slot : Option ℕ) →
       HasColumns names xs numbers places → id < length names → slice_get places id ≡ Some slot → IsPlace numbers id slot
   place_stands xs numbers places slot h within at =
       let found = h.placed.each id within in
       subst (IsPlace numbers id) (same_Some found.0 slot (sym found.1 ∙ at)) found.2
 
-  pub place_there : (xs : List Terminal) (numbers : List ℕ) (places : List (Option ℕ)) (slot : Option ℕ) →
+  pub place_there : (xs : List TextToken) (numbers : List ℕ) (places : List (Option ℕ)) (slot : Option ℕ) →
       HasColumns names xs numbers places → id < length names → slice_get places id ≡ Some slot → list_any (is_for names id) xs ≡ true →
       is_some slot ≡ true
   place_there xs numbers places slot h within at any = by slot (place_stands xs numbers places slot h within at) where
@@ -242,7 +226,8 @@ module _ (names : List Name) (id : ℕ) where
 -- what holds of each row
 pub of_row : (P : List ℕ → Type 0) (rows : List Row) (i : ℕ) (row : Row) → i < length rows → row ≡ get_or rows i row →
     All P (numbers_view rows) → P row.items
-of_row P rows i row within is all = each_at P (numbers_view rows) i row.items (all_each P (numbers_view rows) all) (there rows i row within is)
+of_row P rows i row within is all = each_at P (numbers_view rows) i row.items (recursion_from_All P (numbers_view rows) all)
+    (there rows i row within is)
 
 pub row_pushed : (order : List ℕ) (rows : List Row) (i : ℕ) (row : Row) (all : List (List ℕ)) (vs : List ℕ) → i < length rows →
     row ≡ get_or rows i row → map (λ v. Some v) vs ≡ map (slice_get row.items) order →
@@ -288,7 +273,8 @@ module _ (numbers : List ℕ) (once : HasNoRepeat numbers) where
   there_some (v ∷ vs) = ap (option_map (λ xs. v ∷ xs)) (there_some vs)
 
   pub rows_given : (order inputs : List ℕ) → map (slice_get numbers) order ≡ map (λ s. Some s) inputs → (rows all : List (List ℕ)) →
-      map (λ r. map (λ v. Some v) r) all ≡ map (λ r. map (slice_get r) order) rows → all_there (map (by_inputs numbers inputs) rows) ≡ Some all
+      map (λ r. map (λ v. Some v) r) all ≡ map (λ r. map (slice_get r) order) rows → all_there (map (by_inputs numbers inputs) rows)
+      ≡ Some all
   rows_given order inputs stands [] [] e = refl
   rows_given order inputs stands [] (vs ∷ all) e = absurd cc
   rows_given order inputs stands (r ∷ rows) [] e = absurd cc
@@ -301,7 +287,7 @@ module _ (numbers : List ℕ) (once : HasNoRepeat numbers) where
 
 -- what the checks say of each input and each row
 
-whole_each : (names : List Name) (xs : List Terminal) (inputs : List ℕ) → find (λ id. not (list_any (is_for names id) xs)) inputs ≡ None →
+whole_each : (names : List Name) (xs : List TextToken) (inputs : List ℕ) → find (λ id. not (list_any (is_for names id) xs)) inputs ≡ None →
     AllByRecursion (λ id. list_any (is_for names id) xs ≡ true) inputs
 whole_each names xs [] h = tt
 whole_each names xs (s ∷ inputs) h = by (list_any (is_for names s) xs) refl (whole_each names xs inputs) h where
@@ -312,28 +298,26 @@ whole_each names xs (s ∷ inputs) h = by (list_any (is_for names s) xs) refl (w
   by true e further k = (e, further k)
   by false e further k = absurd cc
 
-pub all_whole : (names : List Name) (xs : List Terminal) (inputs : List ℕ) → find (λ id. not (list_any (is_for names id) xs)) inputs ≡ None →
+pub all_whole : (names : List Name) (xs : List TextToken) (inputs : List ℕ) → find (λ id. not (list_any (is_for names id) xs)) inputs
+    ≡ None →
     All (λ id. list_any (is_for names id) xs ≡ true) inputs
-all_whole names xs inputs h = each_all (λ id. list_any (is_for names id) xs ≡ true) inputs (whole_each names xs inputs h)
+all_whole names xs inputs h = All-from_recursion (λ id. list_any (is_for names id) xs ≡ true) inputs (whole_each names xs inputs h)
 
 pub rows_below : (domain : ℕ) (rows : List (List ℕ)) → find (λ r. is_some (find (is_no_value domain) r)) rows ≡ None →
     AllByRecursion (λ r. AllByRecursion (λ v. v < domain) r) rows
-rows_below domain rows h = by rows (find_each (λ r. is_some (find (is_no_value domain) r)) rows h) where
+rows_below domain rows h = by rows (each_fails (λ r. is_some (find (is_no_value domain) r)) rows h) where
   by : (rs : List (List ℕ)) → AllByRecursion (λ r. is_some (find (is_no_value domain) r) ≡ false) rs →
       AllByRecursion (λ r. AllByRecursion (λ v. v < domain) r) rs
   by [] each = tt
-  by (r ∷ rs) each = (below_each domain r (is_none_is (find (is_no_value domain) r) each.0), by rs each.1)
+  by (r ∷ rs) each = (below_each domain r (none_is (find (is_no_value domain) r) each.0), by rs each.1)
 
 pub rows_small : (domain : ℕ) → domain < 2 ^ 32 → (rows : List (List ℕ)) → AllByRecursion (λ r. AllByRecursion (λ v. v < domain) r) rows →
     All (λ r. All (λ v. v < 2 ^ 32) r) rows
-rows_small domain low rows h = each_all (λ r. All (λ v. v < 2 ^ 32) r) rows (by rows h) where
+rows_small domain low rows h = All-from_recursion (λ r. All (λ v. v < 2 ^ 32) r) rows (by rows h) where
   less : (r : List ℕ) → AllByRecursion (λ v. v < domain) r → AllByRecursion (λ v. v < 2 ^ 32) r
   less [] each = tt
   less (v ∷ r) each = (omega (arith, low, each.0), less r each.1)
 
   by : (rs : List (List ℕ)) → AllByRecursion (λ r. AllByRecursion (λ v. v < domain) r) rs → AllByRecursion (λ r. All (λ v. v < 2 ^ 32) r) rs
   by [] each = tt
-  by (r ∷ rs) each = (each_all (λ v. v < 2 ^ 32) r (less r each.0), by rs each.1)
-
-pub passed : {T E : Type 0} (r : Result T E) (fault : E) (P : E → Type 0) → IsErrAnd r (λ e. e ≡ fault) → P fault → IfErr r P
-passed r fault P h k = let p = err_from_is_err_and r h in rw (p.1, p.2) k
+  by (r ∷ rs) each = (All-from_recursion (λ v. v < 2 ^ 32) r (less r each.0), by rs each.1)

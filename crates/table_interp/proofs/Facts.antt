@@ -1,5 +1,5 @@
 -- What entries without a cause of refusal say of each needed name, and that they give an interpretation.
-use Rattle.std.proofs.Common.{◌≡◌, ◌∙◌, ℕ, zero, suc, ◌+◌, ◌<◌, ◌≤◌, ◌==◌, ◌^◌, Bool, true, false, not, ◌&&◌, cond, List, [], ◌∷◌, ◌++◌}
+use Rattle.std.proofs.Common.{◌≡◌, ◌∙◌, ℕ, zero, suc, ◌<◌, ◌≤◌, ◌==◌, ◌^◌, true, false, not, ◌&&◌, cond, List, [], ◌∷◌}
 use Rattle.std.proofs.Common.{length, map, Option, Some, None, refl, sym, ap, subst, arith}
 use Rattle.std.specs.Prelude.{option_map, option_and_then, slice_get, is_some, filter, nat_lt, All, IsTrue}
 use Rattle.std.specs.Option.{option_map_or}
@@ -8,6 +8,13 @@ use Rattle.std.proofs.lemmas.Bool.{and_parts, ltb-true, eqb-true}
 use Rattle.std.proofs.lemmas.Option.{none-some, same_Some, slice_get-map, slice_get_within}
 use Rattle.std.proofs.lemmas.List.{length-map}
 use Rattle.std.proofs.Math.Nat.{pow-zero}
+use Rattle.std.proofs.lemmas.Bool.{not-false}
+use Rattle.std.proofs.lemmas.List.Elements.{All-from_recursion, recursion_from_All}
+use Rattle.sequence.proofs.Each.{each_filtered, each_joined}
+use Rattle.sequence.proofs.Finds.{each_fails}
+use Rattle.sequence.proofs.Gathered.{length-all_there}
+use Rattle.sequence.proofs.Numbers.{numbers_at, numbers_below}
+use Rattle.sequence.proofs.Options.{some_is, none_is}
 use Rattle.sequence.specs.Numbers.{numbers_from}
 use Rattle.sequence.specs.Options.{all_there, passes}
 use Rattle.sequence.proofs.Each.{each_left, each_right, each_at}
@@ -21,55 +28,24 @@ use Rattle.table_interp.specs.Syntax.{TablesSyntax}
 use Rattle.table_interp.specs.Needed.{has_table, is_symbol_number, needed}
 use Rattle.table_interp.specs.Tables.{numbers_for, has_no_entry, size_of, has_other_length, limit_of, too_large, table_of, IsInRange, Gives}
 use Rattle.table_interp.specs.internal.Located.{HasSmallTable, HasOneSmall}
-use Rattle.table_interp.proofs.Finds.{each_all, all_each}
-
--- what a search without an answer says of each member
-pub find_each : {X : Type 0} (test : X → Bool) (xs : List X) → find test xs ≡ None → AllByRecursion (λ x. test x ≡ false) xs
-find_each test [] h = tt
-find_each test (x ∷ xs) h = by (test x) refl (find_each test xs) h where
-  by : (b : Bool) → test x ≡ b → (find test xs ≡ None → AllByRecursion (λ x. test x ≡ false) xs) → cond b (Some x) (find test xs) ≡ None →
-      AllByRecursion (λ x. test x ≡ false) (x ∷ xs)
-  by true e further k = absurd cc
-  by false e further k = (e, further k)
-
--- ---- numbers of names
-
-at_number : (first count i : ℕ) → i < count → slice_get (numbers_from first count) i ≡ Some (first + i)
-at_number first zero i within = absurd (omega (arith, within))
-at_number first (suc count) zero within = ap (λ n. Some n) (omega arith)
-at_number first (suc count) (suc i) within = at_number (suc first) count i (omega (arith, within)) ∙ ap (λ n. Some n) (omega arith)
-
-numbers_within : (first count last : ℕ) → first + count ≡ last → AllByRecursion (λ n. n < last) (numbers_from first count)
-numbers_within first zero last e = tt
-numbers_within first (suc count) last e = (omega (arith, e), numbers_within (suc first) count last (omega (arith, e)))
-
-each_filter : {X : Type 0} (P : X → Type 0) (test : X → Bool) (xs : List X) → AllByRecursion P xs → AllByRecursion P (filter test xs)
-each_filter P test [] each = tt
-each_filter P test (x ∷ xs) each = by (test x) (each_filter P test xs each.1) where
-  by : (b : Bool) → AllByRecursion P (filter test xs) → AllByRecursion P (cond b (x ∷ filter test xs) (filter test xs))
-  by true rest = (each.0, rest)
-  by false rest = rest
-
-each_join : {X : Type 0} (P : X → Type 0) (xs ys : List X) → AllByRecursion P xs → AllByRecursion P ys → AllByRecursion P (xs ++ ys)
-each_join P [] ys first second = second
-each_join P (x ∷ xs) ys first second = (first.0, each_join P xs ys first.1 second)
 
 -- the cells are names
 pub cells_within : (names : List Name) (cells : List ℕ) → IsTrue (list_all (λ s. is_name names s Signal 0) cells) →
     All (λ s. s < length names) cells
-cells_within names cells h = each_all (λ s. s < length names) cells (by cells (each_from_list_all (λ s. is_name names s Signal 0) cells h)) where
-  by : (xs : List ℕ) → AllByRecursion (λ s. is_name names s Signal 0 ≡ true) xs → AllByRecursion (λ s. s < length names) xs
-  by [] each = tt
-  by (x ∷ xs) each = (within_from_test names x (λ n. same_kind n.kind Signal && (n.arity == 0)) each.0, by xs each.1)
+cells_within names cells h = All-from_recursion (λ s. s < length names) cells
+    (by cells (each_from_list_all (λ s. is_name names s Signal 0) cells h)) where
+      by : (xs : List ℕ) → AllByRecursion (λ s. is_name names s Signal 0 ≡ true) xs → AllByRecursion (λ s. s < length names) xs
+      by [] each = tt
+      by (x ∷ xs) each = (within_from_test names x (λ n. same_kind n.kind Signal && (n.arity == 0)) each.0, by xs each.1)
 
 pub needed_within : (names : List Name) (cells : List ℕ) → All (λ s. s < length names) cells →
     All (λ id. id < length names) (needed names cells)
 needed_within names cells h =
-    each_all (λ id. id < length names) (needed names cells)
-    (each_join (λ id. id < length names) (filter (is_symbol_number names) (numbers_from 0 (length names))) cells
-    (each_filter (λ id. id < length names) (is_symbol_number names) (numbers_from 0 (length names))
-    (numbers_within 0 (length names) (length names) (omega arith)))
-    (all_each (λ s. s < length names) cells h))
+    All-from_recursion (λ id. id < length names) (needed names cells)
+    (each_joined (λ id. id < length names) (filter (is_symbol_number names) (numbers_from 0 (length names))) cells
+    (each_filtered (λ id. id < length names) (is_symbol_number names) (numbers_from 0 (length names))
+    (numbers_below 0 (length names) (length names) (omega arith)))
+    (recursion_from_All (λ s. s < length names) cells h))
 
 -- ---- what is known of a needed name
 
@@ -82,30 +58,18 @@ pub record IsGiven (names : List Name) (given : TablesSyntax) (id : ℕ) : Type 
   pub many : length numbers ≡ given.domain ^ name.arity
   pub small : AllByRecursion (λ v. v < limit_of given.domain name.kind) numbers
 
-is_some_is : {X : Type 0} (o : Option X) → is_some o ≡ true → (x : X) × (o ≡ Some x)
-is_some_is (Some x) e = (x, refl)
-is_some_is None e = cc
-
-pub is_none_is : {X : Type 0} (o : Option X) → is_some o ≡ false → o ≡ None
-is_none_is (Some x) e = cc
-is_none_is None e = refl
-
-not_false : (b : Bool) → not b ≡ false → b ≡ true
-not_false true e = refl
-not_false false e = cc
-
 pub below_each : (limit : ℕ) (xs : List ℕ) → find (λ v. not (nat_lt v limit)) xs ≡ None → AllByRecursion (λ v. v < limit) xs
-below_each limit xs h = by xs (find_each (λ v. not (nat_lt v limit)) xs h) where
+below_each limit xs h = by xs (each_fails (λ v. not (nat_lt v limit)) xs h) where
   by : (ys : List ℕ) → AllByRecursion (λ v. not (nat_lt v limit) ≡ false) ys → AllByRecursion (λ v. v < limit) ys
   by [] each = tt
-  by (y ∷ ys) each = (ltb-true y limit (not_false (nat_lt y limit) each.0), by ys each.1)
+  by (y ∷ ys) each = (ltb-true y limit (not-false (nat_lt y limit) each.0), by ys each.1)
 
 is_given : (names : List Name) (given : TablesSyntax) (id : ℕ) → id < length names → has_no_entry names given id ≡ false →
     has_other_length names given id ≡ false → is_some (too_large names given id) ≡ false → IsGiven names given id
 is_given names given id within entry length_is small =
     named (slice_get names id) refl where
       found : (ns : List ℕ) × (numbers_for names given.entries id ≡ Some ns)
-      found = is_some_is (numbers_for names given.entries id) (not_false _ entry)
+      found = some_is (numbers_for names given.entries id) (not-false _ entry)
 
       named : (o : Option Name) → slice_get names id ≡ o → IsGiven names given id
       named None e = absurd (there names id within e) where
@@ -118,8 +82,8 @@ is_given names given id within entry length_is small =
         is = found.1;
         name = n;
         there = e;
-        many = eqb-true (length found.0) (given.domain ^ n.arity) (not_false _ sized);
-        small = below_each (limit_of given.domain n.kind) found.0 (is_none_is _ limited);
+        many = eqb-true (length found.0) (given.domain ^ n.arity) (not-false _ sized);
+        small = below_each (limit_of given.domain n.kind) found.0 (none_is _ limited);
       } where
         sized : not (length found.0 == (given.domain ^ n.arity)) ≡ false
         sized =
@@ -148,28 +112,19 @@ name_kind n e =
     let parts = and_parts (same_kind n.kind Signal) (n.arity == 0) e in
     (kind_signal n.kind Signal parts.0, eqb-true n.arity 0 parts.1)
 
--- as many members as are there
-pub there_length : {X : Type 0} (os : List (Option X)) (xs : List X) → all_there os ≡ Some xs → length os ≡ length xs
-there_length [] xs h = ap length (same_Some [] xs h)
-there_length (None ∷ os) xs h = absurd (none-some xs h)
-there_length {X = X} (Some y ∷ os) xs h = by (all_there os) (λ ys e. there_length os ys e) refl h where
-  by : (found : Option (List X)) → ((ys : List X) → all_there os ≡ Some ys → length os ≡ length ys) → all_there os ≡ found →
-      option_map (λ ys. y ∷ ys) found ≡ Some xs → suc (length os) ≡ length xs
-  by None further e k = absurd (none-some xs k)
-  by (Some ys) further e k = ap suc (further ys e) ∙ ap length (same_Some (y ∷ ys) xs k)
-
 pub paired : (f : ℕ → Option (List ℕ)) (cells initial : List ℕ) → all_there (map f cells) ≡ Some (map (λ v. v ∷ []) initial) →
     length cells ≡ length initial
-paired f cells initial h = sym (length-map cells f) ∙ there_length (map f cells) (map (λ v. v ∷ []) initial) h ∙ length-map initial (λ v. v ∷ [])
+paired f cells initial h = sym (length-map cells f) ∙ sym (length-all_there (map f cells) (map (λ v. v ∷ []) initial) h)
+    ∙ length-map initial (λ v. v ∷ [])
 
 module _ (names : List Name) (cells : List ℕ) (given : TablesSyntax) (within : All (λ s. s < length names) cells)
     (h : IsInRange names cells given) where
   each_given : AllByRecursion (IsGiven names given) (needed names cells)
   each_given =
-      by (needed names cells) (all_each (λ id. id < length names) (needed names cells) (needed_within names cells within))
-      (find_each (has_no_entry names given) (needed names cells) h.so_far.so_far.so_far.whole)
-      (find_each (has_other_length names given) (needed names cells) h.so_far.counted)
-      (find_each (λ id. is_some (too_large names given id)) (needed names cells) h.in_range)
+      by (needed names cells) (recursion_from_All (λ id. id < length names) (needed names cells) (needed_within names cells within))
+      (each_fails (has_no_entry names given) (needed names cells) h.so_far.so_far.so_far.whole)
+      (each_fails (has_other_length names given) (needed names cells) h.so_far.counted)
+      (each_fails (λ id. is_some (too_large names given id)) (needed names cells) h.in_range)
     where
       by : (ids : List ℕ) → AllByRecursion (λ id. id < length names) ids → AllByRecursion (λ id. has_no_entry names given id ≡ false) ids →
           AllByRecursion (λ id. has_other_length names given id ≡ false) ids →
@@ -183,7 +138,7 @@ module _ (names : List Name) (cells : List ℕ) (given : TablesSyntax) (within :
   pub symbol_given : (id : ℕ) → is_symbol_number names id ≡ true → IsGiven names given id
   symbol_given id symbol =
       let inside : id < length names = symbol_within names id symbol in
-      let place = filter_has (is_symbol_number names) (numbers_from 0 (length names)) id id (at_number 0 (length names) id inside
+      let place = filter_has (is_symbol_number names) (numbers_from 0 (length names)) id id (numbers_at 0 (length names) id inside
       ∙ ap (λ n. Some n) (omega arith)) symbol in
       each_at (IsGiven names given) (filter (is_symbol_number names) (numbers_from 0 (length names))) place.0 id
       (each_left (IsGiven names given) (filter (is_symbol_number names) (numbers_from 0 (length names))) cells each_given) place.1
@@ -197,7 +152,8 @@ module _ (names : List Name) (cells : List ℕ) (given : TablesSyntax) (within :
   pub small_table : given.domain ≤ MOST_VALUES → (id : ℕ) → HasSmallTable names given.entries id
   small_table few id symbol =
       let g = symbol_given id symbol in
-      rw g.is (each_all (λ n. n < 2 ^ 32) g.numbers (each_less (limit_of given.domain g.name.kind) (limit_small g.name.kind) g.numbers g.small))
+      rw g.is (All-from_recursion (λ n. n < 2 ^ 32) g.numbers (each_less (limit_of given.domain g.name.kind)
+      (limit_small g.name.kind) g.numbers g.small))
     where
       limit_small : (kind : NameKind) → limit_of given.domain kind ≤ 256
       limit_small Signal = few
@@ -257,7 +213,7 @@ module _ (names : List Name) (cells : List ℕ) (given : TablesSyntax) (within :
         ap (λ b. cond b (numbers_for names given.entries id) (Some [])) symbol ∙ g.is in
         there_at (map (table_of names given.entries) (numbers_from 0 (length names))) interpretation.tables id g.numbers gives.tables
         (slice_get-map (table_of names given.entries) (numbers_from 0 (length names)) id
-        ∙ ap (option_map (table_of names given.entries)) (at_number 0 (length names) id inside ∙ ap (λ n. Some n) (omega arith))
+        ∙ ap (option_map (table_of names given.entries)) (numbers_at 0 (length names) id inside ∙ ap (λ n. Some n) (omega arith))
         ∙ ap (λ t. Some t) table)
 
     is_table : (id : ℕ) (name : Name) (limit : ℕ) → slice_get names id ≡ Some name → has_table name.kind ≡ true →
@@ -270,8 +226,11 @@ module _ (names : List Name) (cells : List ℕ) (given : TablesSyntax) (within :
         let size : length g.numbers ≡ interpretation.domain ^ name.arity =
         g.many ∙ ap (λ (n : Name). given.domain ^ n.arity) same ∙ ap (λ d. d ^ name.arity) (sym gives.domain) in
         let small : AllByRecursion (λ v. v < limit) g.numbers =
-        subst (λ l. AllByRecursion (λ v. v < l) g.numbers) (ap (λ (n : Name). limit_of given.domain n.kind) same ∙ is) g.small in
-        (g.numbers, table_at id g (slice_get_within names id name there) symbol, (size, each_all (λ v. v < limit) g.numbers small))
+        subst (λ l. AllByRecursion (λ v. v < l) g.numbers) (ap (λ (n : Name). limit_of given.domain n.kind) same ∙ is) g.small in (
+          g.numbers,
+          table_at id g (slice_get_within names id name there) symbol,
+          (size, All-from_recursion (λ v. v < limit) g.numbers small),
+        )
 
     pub interprets : 1 ≤ given.domain → given.domain ≤ MOST_VALUES → IsTrue (list_all (λ s. is_name names s Signal 0) cells) →
         IsInterpretation names cells interpretation
@@ -282,14 +241,15 @@ module _ (names : List Name) (cells : List ℕ) (given : TablesSyntax) (within :
       predicates = λ p name there kind. is_table p name 2 there (ap has_table kind) (ap (limit_of given.domain) kind);
       initial = (
         sym (paired (numbers_for names given.entries) cells interpretation.initial gives.initial),
-        each_all (λ v. v < interpretation.domain) interpretation.initial
+        All-from_recursion (λ v. v < interpretation.domain) interpretation.initial
             (values interpretation.initial cells cells_given (each_from_list_all (λ s. is_name names s Signal 0) cells are) gives.initial),
       );
     } where
       single : (s v : ℕ) → IsGiven names given s → is_name names s Signal 0 ≡ true → numbers_for names given.entries s ≡ Some (v ∷ []) →
           v < interpretation.domain
       single s v g is e =
-          let kind = name_kind g.name (sym (ap (λ o. option_map_or (λ n. same_kind n.kind Signal && (n.arity == 0)) o false) g.there) ∙ is) in
+          let kind = name_kind g.name (sym (ap (λ o. option_map_or (λ n. same_kind n.kind Signal && (n.arity == 0)) o false) g.there)
+          ∙ is) in
           let same : g.numbers ≡ v ∷ [] = same_Some g.numbers (v ∷ []) (sym g.is ∙ e) in
           let below : AllByRecursion (λ w. w < given.domain) (v ∷ []) =
           subst (λ (ns : List ℕ). AllByRecursion (λ w. w < given.domain) ns) same
@@ -302,7 +262,8 @@ module _ (names : List Name) (cells : List ℕ) (given : TablesSyntax) (within :
       values [] ids a b h = tt
       values (v ∷ vs) [] a b h = absurd cc
       values (v ∷ vs) (s ∷ ids) a b h =
-          by (numbers_for names given.entries s) refl (all_there (map (numbers_for names given.entries) ids)) (values vs ids a.1 b.1) refl h where
+          by (numbers_for names given.entries s) refl (all_there (map (numbers_for names given.entries) ids))
+          (values vs ids a.1 b.1) refl h where
             by : (o : Option (List ℕ)) → numbers_for names given.entries s ≡ o → (rest : Option (List (List ℕ))) →
                 (all_there (map (numbers_for names given.entries) ids) ≡ Some (map (λ v. v ∷ []) vs) →
                 AllByRecursion (λ v. v < interpretation.domain) vs) → all_there (map (numbers_for names given.entries) ids) ≡ rest →

@@ -1,11 +1,12 @@
 -- The numbers that are given for a name, by the place of its entry.
-use Rattle.std.proofs.Common.{◌≡◌, ◌∙◌, ℕ, zero, suc, ◌+◌, ◌<◌, ◌≤◌, ◌==◌, Bool, true, false, cond, List, [], ◌∷◌, length, map}
-use Rattle.std.proofs.Common.{drop, get_or, Option, Some, None, refl, sym, ap, arith}
+use Rattle.std.proofs.Common.{◌≡◌, ◌∙◌, ℕ, zero, suc, ◌<◌, ◌==◌, Bool, true, false, List, [], ◌∷◌, length, map}
+use Rattle.std.proofs.Common.{get_or, Option, Some, None, refl, sym, ap, arith}
 use Rattle.std.specs.Prelude.{option_map, slice_get}
 use Rattle.std.specs.List.{find}
 use Rattle.std.proofs.lemmas.Bool.{eqb-true}
-use Rattle.std.proofs.lemmas.List.{drop_more, drop_all, length-map}
+use Rattle.std.proofs.lemmas.List.{length-map}
 use Rattle.std.proofs.lemmas.Option.{none-some, same_Some, slice_get-get_or, slice_get-map, slice_get_within}
+use Rattle.sequence.proofs.Lists.{heads, tails}
 use Rattle.sequence.specs.Numbers.{is_among}
 use Rattle.sequence.specs.Options.{passes}
 use Rattle.sequence.proofs.Booleans.{eqb_self}
@@ -18,18 +19,9 @@ use Rattle.table_interp.specs.declared.reading.Entry.{Entry as LentEntry}
 use Rattle.table_interp.specs.internal.View.{entry_view, entries_view}
 use Rattle.table_interp.specs.internal.Located.{AreLocated}
 
-head_of : {A : Type 0} → A → List A → A
-head_of d [] = d
-head_of d (x ∷ xs) = x
-
-tail_of : {A : Type 0} → List A → List A
-tail_of [] = []
-tail_of (x ∷ xs) = xs
-
 -- equal lists have equal heads and equal tails
 cons_parts : {A : Type 0} (x y : A) (xs ys : List A) → x ∷ xs ≡ y ∷ ys → (x ≡ y) × (xs ≡ ys)
-unfolding head_of tail_of
-cons_parts x y xs ys e = (ap (head_of x) e, ap tail_of e)
+cons_parts x y xs ys e = (heads x y xs ys e, tails x y xs ys e)
 
 module _ {E : Type 0} (number : E → Option ℕ) (id : ℕ) where
   abbrev is : E → Bool
@@ -63,8 +55,8 @@ module _ {E : Type 0} (number : E → Option ℕ) (id : ℕ) where
         by true h first further = absurd (new zero (omega arith) (ap (λ k. Some k) (eqb-true n id h)))
         by false h first further = rw (first, h) further
 
-  any_none : (es : List E) (ns : List ℕ) → map number es ≡ map (λ n. Some n) ns → length es ≡ length ns
-  any_none es ns aligned = sym (length-map es number) ∙ ap length aligned ∙ length-map ns (λ n. Some n)
+  as_many : (es : List E) (ns : List ℕ) → map number es ≡ map (λ n. Some n) ns → length es ≡ length ns
+  as_many es ns aligned = sym (length-map es number) ∙ ap length aligned ∙ length-map ns (λ n. Some n)
 
 module _ {names : List Name} {entries : List Entry} {places : List (Option ℕ)} (l : AreLocated names entries places) where
   -- the slot of a name
@@ -87,7 +79,7 @@ module _ {names : List Name} {entries : List Entry} {places : List (Option ℕ)}
       omega (
         arith,
         slice_get_within l.numbers place id stands,
-        any_none (λ (e : Entry). number_for names e.name) id entries l.numbers l.numbers_are,
+        as_many (λ (e : Entry). number_for names e.name) id entries l.numbers l.numbers_are,
       )
 
   pub numbers_given : (id place : ℕ) (e : Entry) → id < length names → slice_get places id ≡ Some (Some place) →
@@ -97,21 +89,6 @@ module _ {names : List Name} {entries : List Entry} {places : List (Option ℕ)}
       ap (option_map (λ e. e.numbers))
       (find_at (λ e. number_for names e.name) id entries l.numbers place e l.numbers_are stands
       (λ k less found. l.once place (record { earlier = k; before = less; member = id; first = found; again = stands })) at)
-
--- ---- loops that find the first
-
-module _ {X : Type 0} (test : X → Bool) where
-  pub plain_pass : (xs : List X) (i : ℕ) (d : X) → i < length xs → test (get_or xs i d) ≡ false →
-      find test (drop i xs) ≡ find test (drop (i + 1) xs)
-  plain_pass xs i d within fails =
-      ap (find test) (drop_more xs i d within) ∙ ap (λ b. cond b (Some (get_or xs i d)) (find test (drop (i + 1) xs))) fails
-
-  pub plain_stop : (xs : List X) (i : ℕ) (d : X) → i < length xs → test (get_or xs i d) ≡ true → find test (drop i xs) ≡ Some (get_or xs i d)
-  plain_stop xs i d within passes =
-      ap (find test) (drop_more xs i d within) ∙ ap (λ b. cond b (Some (get_or xs i d)) (find test (drop (i + 1) xs))) passes
-
-  pub plain_end : (xs : List X) (i : ℕ) → length xs ≤ i → find test (drop i xs) ≡ None
-  plain_end xs i past = ap (find test) (drop_all i xs past)
 
 -- the numbers that are given for a name, by the entry that lies in memory at a place
 module _ {names : List Name} (es : List LentEntry) {places : List (Option ℕ)} (l : AreLocated names (entries_view es) places) where

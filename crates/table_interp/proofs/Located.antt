@@ -11,7 +11,7 @@ use Rattle.table_interp.specs.declared.reading.Entry.{Entry as LentEntry}
 use Rattle.table_interp.specs.Needed.{number_for, IsFirstRepeat, HasNoRepeat}
 use Rattle.table_interp.specs.Tables.{is_known, IsOnce, HasSecondEntry}
 use Rattle.table_interp.specs.internal.View.{entries_view, entry_view}
-use Rattle.table_interp.proofs.Gather.{once_some, first_some}
+use Rattle.table_interp.proofs.Repeats.{once_some, first_some}
 
 abbrev given_of : ℕ → List LentEntry → TablesSyntax
 given_of domain es = record { domain = domain; entries = entries_view es }
@@ -34,7 +34,8 @@ module _ (names : List Name) (cells : List ℕ) (domain : ℕ) where
       IsSomeAnd (slice_get (entries_view last) at) (λ e. token ≡ e.name.token) →
       HasSecondEntry names cells (given_of domain es) token.start token.end
   second_entry lent es last ns ms token same other alike known aligned at first there =
-      by (slice_get (entries_view es) at) refl (subst (λ xs. IsSomeAnd (slice_get (entries_view xs) at) (λ e. token ≡ e.name.token)) other there)
+      by (slice_get (entries_view es) at) refl (subst (λ xs. IsSomeAnd (slice_get (entries_view xs) at) (λ e. token ≡ e.name.token))
+      other there)
     where
       by : (o : Option Entry) → slice_get (entries_view es) at ≡ o → IsSomeAnd o (λ e. token ≡ e.name.token) →
           HasSecondEntry names cells (given_of domain es) token.start token.end

@@ -1,7 +1,7 @@
 -- The entry of a table at arguments, and the value of a cell at first.
 use Rattle.std.proofs.Common.{◌≡◌, ◌∙◌, ℕ, zero, suc, ◌+◌, ◌*◌, ◌^◌, ◌<◌, ◌≤◌, ◌==◌, Bool, true, false, ◌&&◌, List, [], ◌∷◌}
 use Rattle.std.proofs.Common.{length, map, take, get_or, Option, Some, None, Bor, refl, sym, ap, arith}
-use Rattle.std.specs.Prelude.{nat_lt, nat_eq, slice_get, option_map, option_copied, option_and_then, IsSome, if◌then◌else◌}
+use Rattle.std.specs.Prelude.{nat_lt, nat_eq, slice_get, option_copied, option_and_then, IsSome, if◌then◌else◌}
 use Rattle.std.specs.Map.{lookup}
 use Rattle.std.proofs.lemmas.Bool.{lt-ltb, le-ltb, eqb-true, eq-eqb}
 use Rattle.std.proofs.lemmas.List.{take_more}
@@ -93,7 +93,3 @@ beside_lookup s (e ∷ es) =
 pub copied_some : (found : Option (Bor ℕ)) (value : Option ℕ) → option_copied found ≡ value → IsSome value → IsSome found
 copied_some (Some b) value e h = refl
 copied_some None value e h = rw (← e) at h
-
-pub mapped_some : {A B : Type 0} (f : A → B) (found : Option A) → IsSome (option_map f found) → IsSome found
-mapped_some f (Some a) h = refl
-mapped_some f None h = h

@@ -1,11 +1,11 @@
 -- A text spells at most one interpretation, and at most one input loop.
 use Rattle.std.proofs.Common.{◌≡◌, ◌∙◌, ℕ, List, [], ◌∷◌, map, Option, Some, None, refl, sym, ap, subst}
+use Rattle.sequence.proofs.Lists.{map_taken_back}
 use Rattle.sequence.specs.Options.{all_there}
 use Rattle.sequence.proofs.Options.{one_value}
 use Rattle.tsl_terms.specs.Name.{Name}
 use Rattle.tsl_meaning.specs.Interpretation.{Interpretation, InputRows}
 use Rattle.table_interp.specs.Syntax.{TablesSyntax, InputsSyntax}
-use Rattle.table_interp.specs.Needed.{number_for}
 use Rattle.table_interp.specs.Tables.{Gives, SpellsTables}
 use Rattle.table_interp.specs.Inputs.{by_inputs, GivesRows, SpellsInputs}
 use Rattle.table_interp.proofs.Exactness.{tables_exact, inputs_exact}
@@ -15,25 +15,17 @@ first_or_zero : List ℕ → ℕ
 first_or_zero [] = 0
 first_or_zero (v ∷ vs) = v
 
-singles_back : (vs : List ℕ) → map first_or_zero (map (λ v. v ∷ []) vs) ≡ vs
-unfolding first_or_zero
-singles_back [] = refl
-singles_back (v ∷ vs) = ap (λ ws. v ∷ ws) (singles_back vs)
-
 same_singles : (vs ws : List ℕ) → map (λ v. v ∷ []) vs ≡ map (λ w. w ∷ []) ws → vs ≡ ws
-same_singles vs ws e = sym (singles_back vs) ∙ ap (map first_or_zero) e ∙ singles_back ws
+unfolding first_or_zero
+same_singles vs ws = map_taken_back (λ v. v ∷ []) first_or_zero (λ v. refl) vs ws
 
 value_or_zero : Option ℕ → ℕ
 value_or_zero None = 0
 value_or_zero (Some v) = v
 
-somes_back : (vs : List ℕ) → map value_or_zero (map (λ v. Some v) vs) ≡ vs
-unfolding value_or_zero
-somes_back [] = refl
-somes_back (v ∷ vs) = ap (λ ws. v ∷ ws) (somes_back vs)
-
 same_somes : (vs ws : List ℕ) → map (λ v. Some v) vs ≡ map (λ w. Some w) ws → vs ≡ ws
-same_somes vs ws e = sym (somes_back vs) ∙ ap (map value_or_zero) e ∙ somes_back ws
+unfolding value_or_zero
+same_somes vs ws = map_taken_back (λ v. Some v) value_or_zero (λ v. refl) vs ws
 
 one_gives : (names : List Name) (cells : List ℕ) (given : TablesSyntax) (a b : Interpretation) → Gives names cells given a →
     Gives names cells given b → a ≡ b

@@ -1,10 +1,11 @@
 -- A text gives one thing by a grammar, and each cause of refusal leaves none.
-use Rattle.std.proofs.Common.{length, Bool, true, false, ◌≡◌, ◌∙◌, ℕ, ◌<◌, ◌≤◌, List, [], ◌∷◌, ◌++◌, Option, Some, None, refl, sym, ap, subst, inl, inr, append_assoc, arith}
+use Rattle.std.proofs.Common.{length, Bool, true, false, ◌≡◌, ◌∙◌, ℕ, ◌<◌, ◌≤◌, List, [], ◌∷◌, ◌++◌, None, refl, sym, ap, subst, inl, inr, append_assoc, arith}
 use Rattle.std.specs.Prelude.{Result, Err, Ok, IfErr}
 use Rattle.std.specs.Result.{IsErrAnd}
 use Rattle.std.proofs.lemmas.Result.{err_from_is_err_and}
 use Rattle.std.proofs.lemmas.List.{map-append}
-use Rattle.std.proofs.lemmas.Option.{none-some}
+use Rattle.sequence.proofs.Finds.{each_fails}
+use Rattle.sequence.proofs.Options.{none_never_some}
 use Rattle.tsl_text.specs.declared.Token.{Token}
 use Rattle.tsl_text.specs.declared.TextError.{TextError}
 use Rattle.tsl_text.specs.declared.TextError.TheVariants as bytes
@@ -19,7 +20,7 @@ use Rattle.table_interp.specs.declared.TableError.{TableError}
 use Rattle.table_interp.specs.declared.TableError.TheVariants as table
 use Rattle.table_interp.specs.declared.forms.TextFault.{TextFault}
 use Rattle.table_interp.specs.declared.forms.TextFault.TheVariants as text_fault
-use Rattle.table_interp.specs.Syntax.{Terminal, terminal_at, terminals, TablesSyntax}
+use Rattle.table_interp.specs.Syntax.{TextToken, text_token_at, text_tokens, TablesSyntax}
 use Rattle.table_interp.specs.Grammar.{IsTables, tables}
 use Rattle.table_interp.specs.Forms.{IsRead, HasFormFault}
 use Rattle.table_interp.specs.Tables.{HasEntryCause, HasFewValues, HasTableCause, IsRefusedAsTables, SpellsTables, Gives}
@@ -35,10 +36,9 @@ use Rattle.table_interp.specs.Inputs.{GivesRows, HasRowCause, HasInputCause, IsR
 use Rattle.tsl_meaning.specs.Interpretation.{InputRows}
 use Rattle.sequence.proofs.Each.{each_at}
 use Rattle.std.specs.List.{find}
-use Rattle.table_interp.proofs.Facts.{find_each}
 use Rattle.table_interp.proofs.Exactness.{Never, tables_exact, inputs_exact}
 
-one_list : (text : List ℕ) (a b : List Token) → AreTokens text a → AreTokens text b → a ≡ b
+pub one_list : (text : List ℕ) (a b : List Token) → AreTokens text a → AreTokens text b → a ≡ b
 one_list text a b h k =
     let same : Ok a ≡ Ok b = one_answer text (Ok a) (Ok b) h k in
     cc
@@ -48,31 +48,29 @@ no_tokens text fault h tokens are =
     let same : Err fault ≡ Ok tokens = one_answer text (Err fault) (Ok tokens) h are in
     cc
 
-module _ {V : Type 0} {Is : List Terminal → V → Type 0} {reader : Reader Terminal V} (exact : Exact (λ r. Is) Never 0 reader) where
+module _ {V : Type 0} {Is : List TextToken → V → Type 0} {reader : Reader TextToken V} (exact : Exact (λ r. Is) Never 0 reader) where
   -- a text gives one thing
   pub one_given : (text : List ℕ) (a b : V) → IsRead Is text a → IsRead Is text b → a ≡ b
   one_given text a b h k =
       let same : h.tokens ≡ k.tokens = one_list text h.tokens k.tokens h.tokens_are k.tokens_are in
-      one_value exact (terminals text k.tokens) a b (subst (λ tokens. Is (terminals text tokens) a) same h.derived) k.derived
+      one_value exact (text_tokens text k.tokens) a b (subst (λ tokens. Is (text_tokens text tokens) a) same h.derived) k.derived
 
 -- a fault of the form leaves nothing
-pub form_refuses : {V : Type 0} (Is : List Terminal → V → Type 0) (text : List ℕ) (at : ℕ) → HasFormFault Is text at → (v : V) →
+pub form_refuses : {V : Type 0} (Is : List TextToken → V → Type 0) (text : List ℕ) (at : ℕ) → HasFormFault Is text at → (v : V) →
     IsRead Is text v → ⊥
 form_refuses Is text at (inl h) v k =
-    let same : k.tokens ≡ h.before ++ h.token ∷ h.after = one_list text k.tokens (h.before ++ h.token ∷ h.after) k.tokens_are h.tokens_are in
-    let split : h.before ++ h.token ∷ h.after ≡ (h.before ++ h.token ∷ []) ++ h.after = sym (append_assoc h.before (h.token ∷ []) h.after) in
-    let parts : terminals text (h.before ++ h.token ∷ h.after) ≡ terminals text (h.before ++ h.token ∷ []) ++ terminals text h.after =
-    ap (terminals text) split ∙ map-append (terminal_at text) (h.before ++ h.token ∷ []) h.after in
-    h.stops (terminals text h.after) v (subst (λ xs. Is xs v) (ap (terminals text) same ∙ parts) k.derived)
+    let same : k.tokens ≡ h.before ++ h.token ∷ h.after = one_list text k.tokens
+    (h.before ++ h.token ∷ h.after) k.tokens_are h.tokens_are in
+    let split : h.before ++ h.token ∷ h.after ≡ (h.before ++ h.token ∷ []) ++ h.after =
+    sym (append_assoc h.before (h.token ∷ []) h.after) in
+    let parts : text_tokens text (h.before ++ h.token ∷ h.after) ≡ text_tokens text (h.before ++ h.token ∷ []) ++ text_tokens text h.after =
+    ap (text_tokens text) split ∙ map-append (text_token_at text) (h.before ++ h.token ∷ []) h.after in
+    h.stops (text_tokens text h.after) v (subst (λ xs. Is xs v) (ap (text_tokens text) same ∙ parts) k.derived)
 form_refuses Is text at (inr h) v k =
     let same : k.tokens ≡ h.tokens = one_list text k.tokens h.tokens k.tokens_are h.tokens_are in
-    h.no_text v (subst (λ tokens. Is (terminals text tokens) v) same k.derived)
+    h.no_text v (subst (λ tokens. Is (text_tokens text tokens) v) same k.derived)
 
 -- ---- tables
-
--- one that has no first member that passes has none
-none_first : {X : Type 0} (o : Option X) (x : X) → o ≡ None → o ≡ Some x → ⊥
-none_first o x e h = none-some x (sym e ∙ h)
 
 module _ (text : List ℕ) (names : List Name) (cells : List ℕ) where
   -- what is given where a text spells an interpretation and has this cause
@@ -84,7 +82,7 @@ module _ (text : List ℕ) (names : List Name) (cells : List ℕ) where
 
   unknown_refuses : (given : TablesSyntax) (start end : ℕ) → HasUnknownEntry names cells given start end → (i : Interpretation) →
       Gives names cells given i → ⊥
-  unknown_refuses given start end h i g = none_first _ h.entry g.in_range.so_far.so_far.so_far.so_far.known h.first
+  unknown_refuses given start end h i g = none_never_some _ h.entry g.in_range.so_far.so_far.so_far.so_far.known h.first
 
   second_refuses : (given : TablesSyntax) (start end : ℕ) → HasSecondEntry names cells given start end → (i : Interpretation) →
       Gives names cells given i → ⊥
@@ -92,19 +90,19 @@ module _ (text : List ℕ) (names : List Name) (cells : List ℕ) where
 
   missing_refuses : (given : TablesSyntax) (id : ℕ) → HasMissingEntry names cells given id → (i : Interpretation) →
       Gives names cells given i → ⊥
-  missing_refuses given id h i g = none_first _ id g.in_range.so_far.so_far.so_far.whole h.first
+  missing_refuses given id h i g = none_never_some _ id g.in_range.so_far.so_far.so_far.whole h.first
 
   many_refuses : (given : TablesSyntax) (id : ℕ) → HasManyEntries names cells given id → (i : Interpretation) →
       Gives names cells given i → ⊥
-  many_refuses given id h i g = none_first _ id g.in_range.so_far.so_far.few_entries h.first
+  many_refuses given id h i g = none_never_some _ id g.in_range.so_far.so_far.few_entries h.first
 
   length_refuses : (given : TablesSyntax) (id : ℕ) → HasOtherLength names cells given id → (i : Interpretation) →
       Gives names cells given i → ⊥
-  length_refuses given id h i g = none_first _ id g.in_range.so_far.counted h.first
+  length_refuses given id h i g = none_never_some _ id g.in_range.so_far.counted h.first
 
   large_refuses : (given : TablesSyntax) (id value : ℕ) → HasLargeNumber names cells given id value → (i : Interpretation) →
       Gives names cells given i → ⊥
-  large_refuses given id value h i g = none_first _ id g.in_range.in_range h.first
+  large_refuses given id value h i g = none_never_some _ id g.in_range.in_range h.first
 
   -- where a cause is there the text spells no interpretation
   pub tables_refused : (error : TableError) → HasTableCause text names cells error → IsRefusedAsTables text names cells error
@@ -147,14 +145,9 @@ module _ (text : List ℕ) (names : List Name) (cells : List ℕ) where
 
 -- the domain of a text of tables has a value
 pub has_value : (text : List ℕ) (given : TablesSyntax) → IsRead IsTables text given → 1 ≤ given.domain
-has_value text given h = by (terminals text h.tokens) given h.derived where
-  by : (xs : List Terminal) (t : TablesSyntax) → IsTables xs t → 1 ≤ t.domain
+has_value text given h = by (text_tokens text h.tokens) given h.derived where
+  by : (xs : List TextToken) (t : TablesSyntax) → IsTables xs t → 1 ≤ t.domain
   by xs t (tables a b c d n head one word number few entries) = few
-
--- what an error says, and what follows of it
-pub err_weaker : {T E : Type 0} (r : Result T E) (P Q : E → Type 0) → ((e : E) → P e → Q e) → IfErr r P → IfErr r Q
-err_weaker (Ok t) P Q f h = h
-err_weaker (Err e) P Q f h = f e h
 
 -- a fault of the form that is passed on leaves no interpretation
 pub form_passed : {T : Type 0} (text : List ℕ) (names : List Name) (cells : List ℕ) (r : Result T TableError) (fault : TextFault) →
@@ -165,9 +158,9 @@ form_passed text names cells r fault h k =
 
 -- ---- inputs
 
-none_at : (test : List ℕ → Bool) (rows : List (List ℕ)) (at : ℕ) → IsFirstAt test rows at → find test rows ≡ None → ⊥
+pub none_at : (test : List ℕ → Bool) (rows : List (List ℕ)) (at : ℕ) → IsFirstAt test rows at → find test rows ≡ None → ⊥
 none_at test rows at h none =
-    let fails : test h.member ≡ false = each_at (λ r. test r ≡ false) rows at h.member (find_each test rows none) h.there in
+    let fails : test h.member ≡ false = each_at (λ r. test r ≡ false) rows at h.member (each_fails test rows none) h.there in
     let never : true ≡ false = sym h.passed ∙ fails in
     cc
 
@@ -183,16 +176,17 @@ module _ (text : List ℕ) (names : List Name) (inputs : List ℕ) (domain : ℕ
   row_cause_refuses given rows g (input.OpenComment at) h other = h
   row_cause_refuses given rows g (input.Form at) h other = h
   row_cause_refuses given rows g (input.Unknown start end) h other =
-      none_first _ h.column g.in_range.so_far.so_far.so_far.so_far.known h.first
+      none_never_some _ h.column g.in_range.so_far.so_far.so_far.so_far.known h.first
   row_cause_refuses given rows g (input.Twice start end) h other = g.in_range.so_far.so_far.so_far.so_far.once h.at h.first.repeat
-  row_cause_refuses given rows g (input.Missing id) h other = none_first _ id g.in_range.so_far.so_far.so_far.whole h.first
+  row_cause_refuses given rows g (input.Missing id) h other = none_never_some _ id g.in_range.so_far.so_far.so_far.whole h.first
   row_cause_refuses given rows g input.Rows h other = omega (arith, g.in_range.so_far.so_far.few_rows, h.many_rows)
   row_cause_refuses given rows g (input.Count row) h other = none_at _ _ row h.first g.in_range.so_far.counted
   row_cause_refuses given rows g (input.Range row value) h other = none_at _ _ row h.first g.in_range.in_range
   row_cause_refuses given rows g input.NoMemory h other = other refl
 
   -- where a cause is there the text spells no rows
-  pub inputs_refused : (error : InputError) → HasInputCause text names inputs domain error → IsRefusedAsInputs text names inputs domain error
+  pub inputs_refused : (error : InputError) → HasInputCause text names inputs domain error →
+      IsRefusedAsInputs text names inputs domain error
   inputs_refused (input.Byte at) h = λ rows s. no_tokens text (bytes.Byte at) h s.read.tokens s.read.tokens_are
   inputs_refused (input.OpenComment at) h = λ rows s. no_tokens text (bytes.OpenComment at) h s.read.tokens s.read.tokens_are
   inputs_refused (input.Form at) h = λ rows s. form_refuses IsInputs text at h s.given s.read
@@ -236,6 +230,6 @@ module _ (text : List ℕ) (names : List Name) (inputs : List ℕ) (domain : ℕ
 
 -- the cycle of a text of inputs has a row
 pub has_cycle : (text : List ℕ) (given : InputsSyntax) → IsRead IsInputs text given → 0 < length given.cycle
-has_cycle text given h = by (terminals text h.tokens) given h.derived where
-  by : (xs : List Terminal) (t : InputsSyntax) → IsInputs xs t → 0 < length t.cycle
+has_cycle text given h = by (text_tokens text h.tokens) given h.derived where
+  by : (xs : List TextToken) (t : InputsSyntax) → IsInputs xs t → 0 < length t.cycle
   by xs t (inputs a b s c head one columns stem_word stem cycle_word cycle) = omega arith

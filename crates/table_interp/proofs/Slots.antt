@@ -1,12 +1,14 @@
 -- Tables with a slot for each number, filled one by one.
-use Rattle.std.proofs.Common.{◌≡◌, ◌∙◌, ℕ, zero, suc, ◌+◌, ◌<◌, ◌==◌, Bool, true, false, ◌||◌, List, [], ◌∷◌, ◌++◌, length, take, get_or}
+use Rattle.std.proofs.Common.{◌≡◌, ◌∙◌, ℕ, ◌+◌, ◌<◌, ◌==◌, Bool, true, false, ◌||◌, List, [], ◌∷◌, ◌++◌, length, take, get_or}
 use Rattle.std.proofs.Common.{set, replicate, Option, Some, None, refl, sym, ap, inl, inr, arith}
 use Rattle.std.specs.Prelude.{slice_get, IsSomeAnd, ◌⊎◌}
 use Rattle.std.proofs.lemmas.Bool.{eqb-true, eq-eqb}
 use Rattle.std.proofs.lemmas.List.{take_more, length-replicate, length-set}
-use Rattle.std.proofs.lemmas.List.Folds.{list_any-append}
 use Rattle.std.proofs.lemmas.Option.{none-some, same_Some, slice_get-get_or}
 use Rattle.std.proofs.Math.Bool.{or-false, or-true}
+use Rattle.std.proofs.lemmas.List.{length-take-le}
+use Rattle.sequence.proofs.Numbers.{among_push}
+use Rattle.sequence.proofs.Places.{slice_get-replicate}
 use Rattle.sequence.specs.Numbers.{is_among}
 use Rattle.sequence.proofs.Booleans.{eqb_self}
 use Rattle.sequence.proofs.Numbers.{among_at}
@@ -15,16 +17,7 @@ use Rattle.sequence.specs.Options.{passes}
 use Rattle.tsl_terms.specs.declared.names.NameKind.{NameKind}
 use Rattle.tsl_terms.specs.Name.{Name}
 use Rattle.table_interp.specs.Needed.{has_table, IsFirstRepeat, HasNoRepeat}
-use Rattle.table_interp.specs.internal.Resolving.{AreMarks, IsPlace, ArePlaces}
-
-at_replicate : {X : Type 0} (count n : ℕ) (x : X) → n < count → slice_get (replicate count x) n ≡ Some x
-at_replicate zero n x within = absurd (omega (arith, within))
-at_replicate (suc count) zero x within = refl
-at_replicate (suc count) (suc n) x within = at_replicate count n x (omega (arith, within))
-
--- whether a number is the last one, or among those before it
-among_push : (ns : List ℕ) (m n : ℕ) → is_among (ns ++ m ∷ []) n ≡ (is_among ns n || (m == n))
-among_push ns m n = list_any-append (λ k. k == n) ns (m ∷ []) ∙ ap (λ b. is_among ns n || b) (or-false (m == n))
+use Rattle.table_interp.specs.internal.Resolving.{AreMarksOf, IsPlace, ArePlaces}
 
 -- two numbers are the same or not
 data Same (m n : ℕ) : Type 0 where
@@ -39,11 +32,11 @@ same m n = by (m == n) refl where
 
 -- ---- marks
 
-pub no_marks : (count : ℕ) → AreMarks count [] (replicate count false)
-no_marks count = record { many = length-replicate count false; each = λ n within. at_replicate count n false within }
+pub no_marks : (count : ℕ) → AreMarksOf count [] (replicate count false)
+no_marks count = record { many = length-replicate count false; each = λ n within. slice_get-replicate count n false within }
 
 pub mark_more : (count : ℕ) (ns : List ℕ) (i d : ℕ) (marks : List Bool) → i < length ns → get_or ns i d < count →
-    AreMarks count (take i ns) marks → AreMarks count (take (i + 1) ns) (set marks (get_or ns i d) true)
+    AreMarksOf count (take i ns) marks → AreMarksOf count (take (i + 1) ns) (set marks (get_or ns i d) true)
 mark_more count ns i d marks within below h = rw (take_more ns i d within) (record {
   many = length-set marks (get_or ns i d) true ∙ h.many;
   each = λ n inside. by n inside (same (get_or ns i d) n);
@@ -69,7 +62,7 @@ pub no_places : (count : ℕ) → PlacedSoFar count [] (replicate count None)
 no_places count = record {
   placed = record {
     many = length-replicate count None;
-    each = λ n within. (None, at_replicate count n None within, refl);
+    each = λ n within. (None, slice_get-replicate count n None within, refl);
   };
   once = λ at r. none-some r.member r.again;
 }
@@ -102,11 +95,7 @@ place_more count ns i d places within below free h = rw (take_more ns i d within
   new = slot_is count (take i ns) places (get_or ns i d) None h.placed below free
 
   size : length (take i ns) ≡ i
-  size = length_take ns i (omega (arith, within)) where
-    length_take : (xs : List ℕ) (k : ℕ) → k < suc (length xs) → length (take k xs) ≡ k
-    length_take xs zero few = refl
-    length_take [] (suc k) few = absurd (omega (arith, few))
-    length_take (x ∷ xs) (suc k) few = ap suc (length_take xs k (omega (arith, few)))
+  size = length-take-le i ns (omega (arith, within))
 
   by : (n : ℕ) → n < count → Same (get_or ns i d) n →
       (slot : Option ℕ) × (slice_get (set places (get_or ns i d) (Some i)) n ≡ Some slot)
@@ -127,13 +116,15 @@ place_more count ns i d places within below free h = rw (take_more ns i d within
   once : HasNoRepeat (take i ns ++ get_or ns i d ∷ [])
   once at r = last (slice_get_push (take i ns) (get_or ns i d) at r.member r.again)
       (slice_get_push (take i ns) (get_or ns i d) r.earlier r.member r.first) where
-        last : ((at < length (take i ns)) × (slice_get (take i ns) at ≡ Some r.member)) ⊎ ((at ≡ length (take i ns)) × (get_or ns i d ≡ r.member)) →
+        last : ((at < length (take i ns)) × (slice_get (take i ns) at ≡ Some r.member)) ⊎
+            ((at ≡ length (take i ns)) × (get_or ns i d ≡ r.member)) →
             ((r.earlier < length (take i ns)) × (slice_get (take i ns) r.earlier ≡ Some r.member))
             ⊎ ((r.earlier ≡ length (take i ns)) × (get_or ns i d ≡ r.member)) → ⊥
         last (inl a) (inl b) = h.once at (record { earlier = r.earlier; before = r.before; member = r.member; first = b.1; again = a.1 })
         last (inl a) (inr b) = omega (arith, r.before, a.0, b.0)
         last (inr a) (inl b) =
-            let there : is_among (take i ns) (get_or ns i d) ≡ true = among_at (take i ns) r.earlier (get_or ns i d) (b.1 ∙ ap (λ n. Some n) (sym a.1)) in
+            let there : is_among (take i ns) (get_or ns i d) ≡ true =
+            among_at (take i ns) r.earlier (get_or ns i d) (b.1 ∙ ap (λ n. Some n) (sym a.1)) in
             let not : false ≡ true = sym new ∙ there in
             cc
         last (inr a) (inr b) = omega (arith, r.before, a.0, b.0)

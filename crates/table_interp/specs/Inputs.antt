@@ -23,7 +23,7 @@ use Rattle.table_interp.specs.declared.InputError.TheVariants.{
   Range,
   NoMemory,
 }
-use Rattle.table_interp.specs.Syntax.{Terminal, InputsSyntax}
+use Rattle.table_interp.specs.Syntax.{TextToken, InputsSyntax}
 use Rattle.table_interp.specs.Grammar.{IsInputs}
 use Rattle.table_interp.specs.Forms.{IsRead, HasFormFault}
 use Rattle.table_interp.specs.Needed.{number_for, is_for, IsFirstRepeat, HasNoRepeat, IsFirstAt}
@@ -31,7 +31,7 @@ use Rattle.table_interp.specs.Needed.{number_for, is_for, IsFirstRepeat, HasNoRe
 -- ---- what columns and rows give
 
 -- whether a column is for an input
-abbrev pub is_input_name : List Name → List ℕ → Terminal → Bool
+abbrev pub is_input_name : List Name → List ℕ → TextToken → Bool
 is_input_name names inputs x = passes (is_among inputs) (number_for names x)
 
 abbrev pub has_no_column : List Name → InputsSyntax → ℕ → Bool
@@ -108,7 +108,7 @@ SpellsNoInputs text names inputs domain = (rows : InputRows ℕ) → SpellsInput
 module _ (names : List Name) (inputs : List ℕ) (given : InputsSyntax) where
   -- the first column that is not for an input has its name between these offsets
   pub record HasUnknownColumn (start end : ℕ) : Type 0 where
-    pub column : Terminal
+    pub column : TextToken
     pub first : find (λ x. not (is_input_name names inputs x)) given.names ≡ Some column
     pub starts : start ≡ column.token.start
     pub ends : end ≡ column.token.end
@@ -118,7 +118,7 @@ module _ (names : List Name) (inputs : List ℕ) (given : InputsSyntax) where
     pub known : AreKnown names inputs given
     pub at : ℕ
     pub first : IsFirstRepeat (map (number_for names) given.names) at
-    pub column : Terminal
+    pub column : TextToken
     pub there : slice_get given.names at ≡ Some column
     pub starts : start ≡ column.token.start
     pub ends : end ≡ column.token.end

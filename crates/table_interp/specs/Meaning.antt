@@ -1,8 +1,7 @@
--- What tables and input loops stand for.
+-- What tables stand for.
 use Rattle.std.specs.Prelude.{ℕ, ◌==◌, List, option_map}
 use Rattle.tsl_terms.specs.Value.{Meanings, beside}
-use Rattle.tsl_meaning.specs.declared.run.InputLoop.{InputLoop}
-use Rattle.tsl_meaning.specs.Interpretation.{Interpretation, InputRows, entry_at}
+use Rattle.tsl_meaning.specs.Interpretation.{Interpretation, entry_at}
 
 -- an interpretation, and the cells whose values at first it has, in its order
 pub record TablesMeaning : Type 0 where
@@ -16,6 +15,3 @@ meanings_of t = record {
   predicate = λ p arguments. option_map (λ entry. entry == 1) (entry_at t.interpretation p arguments);
   initial = λ s. beside s t.cells t.interpretation.initial;
 }
-
-abbrev pub rows_of : InputLoop ℕ → InputRows ℕ
-rows_of inputs = record { stem = inputs.stem; cycle = inputs.cycle }

@@ -5,7 +5,7 @@ use Rattle.sequence.specs.Options.{passes}
 use Rattle.tsl_terms.specs.declared.names.NameKind.{NameKind}
 use Rattle.tsl_terms.specs.declared.names.NameKind.TheVariants.{Signal}
 use Rattle.tsl_terms.specs.Name.{Name, number_of, same_kind}
-use Rattle.table_interp.specs.Syntax.{Terminal}
+use Rattle.table_interp.specs.Syntax.{TextToken}
 
 -- a function or a predicate
 abbrev pub has_table : NameKind → Bool
@@ -26,11 +26,11 @@ is_needed_as names cells kind id =
     passes (λ n. same_kind n.kind kind) (slice_get names id) && (has_table kind || is_among cells id)
 
 -- the number of the name that a terminal spells
-abbrev pub number_for : List Name → Terminal → Option ℕ
+abbrev pub number_for : List Name → TextToken → Option ℕ
 number_for names x = number_of names x.text
 
 -- whether a terminal spells the name with this number
-abbrev pub is_for : List Name → ℕ → Terminal → Bool
+abbrev pub is_for : List Name → ℕ → TextToken → Bool
 is_for names id x = passes (λ n. n == id) (number_for names x)
 
 -- what stands at this place stands at an earlier one too

@@ -9,16 +9,16 @@ use Rattle.tsl_text.specs.Numbers.{number_in}
 use Rattle.tsl_terms.specs.declared.names.NameKind.{NameKind}
 
 -- A terminal of the grammars: a token with its bytes.
-pub record Terminal : Type 0 where
+pub record TextToken : Type 0 where
   pub token : Token
   pub text : List ℕ
 
-abbrev pub terminal_at : List ℕ → Token → Terminal
-terminal_at text token = record { token = token; text = token_text text token }
+abbrev pub text_token_at : List ℕ → Token → TextToken
+text_token_at text token = record { token = token; text = token_text text token }
 
 -- the terminals of a text with these tokens
-abbrev pub terminals : List ℕ → List Token → List Terminal
-terminals text tokens = map (terminal_at text) tokens
+abbrev pub text_tokens : List ℕ → List Token → List TextToken
+text_tokens text tokens = map (text_token_at text) tokens
 
 abbrev pub is_name_kind : TokenKind → Bool
 is_name_kind Name = true
@@ -33,29 +33,29 @@ is_question_kind Question = true
 is_question_kind _ = false
 
 -- a name; every word may be one
-abbrev pub is_name : Terminal → Bool
-is_name x = is_name_kind x.token.kind
+abbrev pub is_name_token : TextToken → Bool
+is_name_token x = is_name_kind x.token.kind
 
 -- what the entry of a function or a predicate may be for: a name, or `?`
-abbrev pub is_symbol : Terminal → Bool
+abbrev pub is_symbol : TextToken → Bool
 is_symbol x = is_name_kind x.token.kind || is_question_kind x.token.kind
 
 -- the name with these bytes
-abbrev pub is_word : List ℕ → Terminal → Bool
-is_word word x = is_name x && bytes_eq x.text word
+abbrev pub is_word : List ℕ → TextToken → Bool
+is_word word x = is_name_token x && bytes_eq x.text word
 
 -- the number with these digits
-abbrev pub is_numeral : List ℕ → Terminal → Bool
+abbrev pub is_numeral : List ℕ → TextToken → Bool
 is_numeral digits x = is_number_kind x.token.kind && bytes_eq x.text digits
 
 -- what a number means: at most 18 digits, with leading zeros or without
-abbrev pub number_at : Terminal → Option ℕ
+abbrev pub number_at : TextToken → Option ℕ
 number_at x = if is_number_kind x.token.kind then number_in x.text else None
 
 -- An entry: for a function, a predicate or, as a signal, a cell; the name; and the numbers after it.
 pub record Entry : Type 0 where
   pub kind : NameKind
-  pub name : Terminal
+  pub name : TextToken
   pub numbers : List ℕ
 
 -- a text of tables
@@ -65,6 +65,6 @@ pub record TablesSyntax : Type 0 where
 
 -- a text of inputs: the names of the columns, and the rows of the stem and of the cycle
 pub record InputsSyntax : Type 0 where
-  pub names : List Terminal
+  pub names : List TextToken
   pub stem : List (List ℕ)
   pub cycle : List (List ℕ)

@@ -182,7 +182,8 @@ fn first_miscounted(given: &Located, needed: &[u32]) -> Option<u32>
 fn first_too_large(given: &Located, needed: &[u32]) -> Option<(u32, u64)>
     requires located { IsLocated given.now }
     requires within { All (λ id. id < length given.now.names.now) needed.now }
-    ensures name { option_map (λ p. p.0) result ≡ find (λ id. is_some (too_large given.now.names.now (located_tables given.now) id)) needed.now }
+    ensures name { option_map (λ p. p.0) result ≡ find (λ id. is_some (too_large given.now.names.now (located_tables given.now) id))
+        needed.now }
     ensures number { IfSome result (λ p. too_large given.now.names.now (located_tables given.now) p.0 ≡ Some p.1) }
 {
     for id in needed {

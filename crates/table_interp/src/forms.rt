@@ -8,7 +8,7 @@ ghost use Rattle.table_interp.specs.internal.View.{tables_view, inputs_view};
 ghost use Rattle.table_interp.specs.internal.Texts.{HasTextFault, table_error, input_error};
 
 use crate::reading::{InputsText, ReadFault, TablesText, inputs_text, tables_text};
-use crate::terminals::terminals;
+use crate::text_tokens::text_tokens;
 use crate::{InputError, TableError};
 use sequence::NoMemory;
 use std::alloc::Global;
@@ -102,8 +102,8 @@ fn tables_in<'a>(
     ensures read { IfOk result (λ given. IsRead IsTables text.now (tables_view given)) }
     ensures fault { IfErr result (HasTextFault IsTables text.now) }
 {
-    let terminals = terminals(alloc, text, tokens)?;
-    match tables_text(alloc, &terminals) {
+    let text_tokens = text_tokens(alloc, text, tokens)?;
+    match tables_text(alloc, &text_tokens) {
         Ok((given, _)) => Ok(given),
         Err(ReadFault::Form(left)) => Err(TextFault::Form(start_of(text, tokens, left))),
         Err(ReadFault::NoMemory) => Err(TextFault::NoMemory),
@@ -137,8 +137,8 @@ fn inputs_in<'a>(
     ensures read { IfOk result (λ given. IsRead IsInputs text.now (inputs_view given)) }
     ensures fault { IfErr result (HasTextFault IsInputs text.now) }
 {
-    let terminals = terminals(alloc, text, tokens)?;
-    match inputs_text(alloc, &terminals) {
+    let text_tokens = text_tokens(alloc, text, tokens)?;
+    match inputs_text(alloc, &text_tokens) {
         Ok((given, _)) => Ok(given),
         Err(ReadFault::Form(left)) => Err(TextFault::Form(start_of(text, tokens, left))),
         Err(ReadFault::NoMemory) => Err(TextFault::NoMemory),

@@ -7,7 +7,7 @@ ghost use Rattle.sequence.specs.Numbers.{IsDistinct};
 ghost use Rattle.sequence.specs.Options.{all_there};
 ghost use Rattle.tsl_terms.specs.declared.names.NameKind.TheVariants.{Signal};
 ghost use Rattle.tsl_terms.specs.Name.{is_name};
-ghost use Rattle.table_interp.specs.Meaning.{rows_of};
+ghost use Rattle.tsl_meaning.specs.Interpretation.{rows_of};
 ghost use Rattle.table_interp.specs.Needed.{is_for, IsFirstAt};
 ghost use Rattle.table_interp.specs.Inputs.{
   has_no_column,
@@ -21,14 +21,14 @@ ghost use Rattle.table_interp.specs.Inputs.{
   GivesRows,
   HasRowCause,
 };
-ghost use Rattle.table_interp.specs.internal.View.{inputs_view, numbers_view, terminals_view};
+ghost use Rattle.table_interp.specs.internal.View.{inputs_view, numbers_view, text_tokens_view};
 ghost use Rattle.table_interp.specs.internal.Ordered.{AreColumnsOf, AreOrdered, HasColumns};
 
 use crate::entries::first_from;
 use crate::naming::{NameFault, column_numbers};
 use crate::reading::InputsText;
 use crate::resolving::{RepeatFault, marks, place_of, places};
-use crate::terminals::Terminal;
+use crate::text_tokens::TextToken;
 use crate::{InputError, MOST_ROWS};
 use sequence::{NoMemory, Sequence};
 use std::alloc::{AllocError, Global};
@@ -40,7 +40,7 @@ use tsl_text::Token;
 #[derive(Clone, Copy)]
 pub(crate) struct Columns<'a, 'b> {
     names: &'b Names,
-    terminals: &'b [Terminal<'a>],
+    terminals: &'b [TextToken<'a>],
     numbers: &'b [u32],
     places: &'b [Option<usize>],
 }
@@ -53,9 +53,9 @@ struct Numbered {
 }
 
 /// The token of the column at a place.
-fn column_at(columns: &[Terminal], at: usize) -> Token
+fn column_at(columns: &[TextToken], at: usize) -> Token
     requires { at < length columns.now }
-    ensures { IsSomeAnd (slice_get (terminals_view columns.now) at) (λ x. result ≡ x.token) }
+    ensures { IsSomeAnd (slice_get (text_tokens_view columns.now) at) (λ x. result ≡ x.token) }
 {
     columns[at].token
 }
@@ -92,7 +92,7 @@ fn number_columns(
 fn has_no_column(columns: &Columns, id: u32) -> bool
     requires columns { AreColumnsOf columns.now }
     requires within { id < length columns.now.names.now }
-    ensures { result ≡ not (list_any (is_for columns.now.names.now id) (terminals_view columns.now.terminals.now)) }
+    ensures { result ≡ not (list_any (is_for columns.now.names.now id) (text_tokens_view columns.now.terminals.now)) }
 {
     place_of(columns.places, id).is_none()
 }
@@ -101,7 +101,8 @@ fn has_no_column(columns: &Columns, id: u32) -> bool
 fn first_without_column(columns: &Columns, inputs: &[u32]) -> Option<u32>
     requires columns { AreColumnsOf columns.now }
     requires within { All (λ id. id < length columns.now.names.now) inputs.now }
-    ensures { result ≡ find (λ id. not (list_any (is_for columns.now.names.now id) (terminals_view columns.now.terminals.now))) inputs.now }
+    ensures { result ≡ find (λ id. not (list_any (is_for columns.now.names.now id) (text_tokens_view columns.now.terminals.now)))
+        inputs.now }
 {
     for id in inputs {
         if has_no_column(columns, *id) {
@@ -232,7 +233,7 @@ fn check_values(
 fn order_of(alloc: Global, columns: &Columns, inputs: &[u32]) -> Result<Vec<usize>, NoMemory>
     requires columns { AreColumnsOf columns.now }
     requires within { All (λ id. id < length columns.now.names.now) inputs.now }
-    requires whole { All (λ id. list_any (is_for columns.now.names.now id) (terminals_view columns.now.terminals.now) ≡ true) inputs.now }
+    requires whole { All (λ id. list_any (is_for columns.now.names.now id) (text_tokens_view columns.now.terminals.now) ≡ true) inputs.now }
     ensures { IfOk result (λ order. AreOrdered columns.now.numbers.now inputs.now order.items) }
 {
     let mut order = Vec::new(alloc);
@@ -276,7 +277,8 @@ fn all_ordered(
     rows: &[Vec<u64>],
 ) -> Result<Vec<Sequence<u32>>, NoMemory>
     requires { All (λ r. All (λ v. v < 2 ^ 32) r) (numbers_view rows.now) }
-    ensures { IfOk result (λ all. map (λ r. map (λ v. Some v) r) all.items ≡ map (λ r. map (slice_get r) order.now) (numbers_view rows.now)) }
+    ensures { IfOk result (λ all. map (λ r. map (λ v. Some v) r) all.items
+        ≡ map (λ r. map (slice_get r) order.now) (numbers_view rows.now)) }
 {
     let mut all = Vec::new(alloc);
     for row in rows {

@@ -8,8 +8,8 @@
 //! - The grammars (`specs/Grammar.antt`) are relations on whole lists of terminals, which are tokens with
 //!   their bytes (`specs/Syntax.antt`). Here every word may be a name, also those that are reserved in
 //!   specifications.
-//! - Laws: a text spells at most one interpretation or input loop; the meanings of tables are those of
-//!   programs with the same cells.
+//! - Laws: a text spells at most one interpretation or input loop, which has a meaning, and has at most one
+//!   cause of refusal; the meanings of tables are those of programs with the same cells.
 #![tactic(auto)]
 
 ghost use Rattle.std.specs.Prelude.{◌≡◌, ◌-◌, ◌<◌, ◌^◌, length, IsTrue, IfOk, IfErr};
@@ -17,8 +17,7 @@ ghost use Rattle.std.specs.List.{list_all};
 ghost use Rattle.sequence.specs.Numbers.{IsDistinct};
 ghost use Rattle.tsl_terms.specs.declared.names.NameKind.TheVariants.{Signal};
 ghost use Rattle.tsl_terms.specs.Name.{is_name};
-ghost use Rattle.tsl_meaning.specs.Interpretation.{IsInterpretation, IsInputLoop};
-ghost use Rattle.table_interp.specs.Meaning.{rows_of};
+ghost use Rattle.tsl_meaning.specs.Interpretation.{IsInterpretation, IsInputLoop, rows_of};
 ghost use Rattle.table_interp.specs.Tables.{SpellsTables, HasTableCause, IsRefusedAsTables};
 ghost use Rattle.table_interp.specs.Inputs.{SpellsInputs, HasInputCause, IsRefusedAsInputs};
 
@@ -39,9 +38,11 @@ mod naming;
 mod reading;
 mod resolving;
 mod tables;
-mod terminals;
+mod text_tokens;
 
-pub use laws::{meanings_are_those_of_programs, one_reading};
+pub use laws::{
+    meanings_are_those_of_programs, one_cause, one_reading, what_is_spelled_has_a_meaning,
+};
 pub use tables::Tables;
 
 /// The most values that a domain may have.

@@ -5,13 +5,13 @@ ghost use Rattle.std.specs.List.{find};
 ghost use Rattle.table_interp.specs.Needed.{number_for};
 ghost use Rattle.table_interp.specs.Tables.{is_known};
 ghost use Rattle.table_interp.specs.Inputs.{is_input_name};
-ghost use Rattle.table_interp.specs.internal.View.{terminal_view, terminals_view, entry_view, entries_view};
-ghost use Rattle.table_interp.specs.internal.Resolving.{AreMarks};
+ghost use Rattle.table_interp.specs.internal.View.{text_token_view, text_tokens_view, entry_view, entries_view};
+ghost use Rattle.table_interp.specs.internal.Resolving.{AreMarksOf};
 ghost use Rattle.table_interp.specs.internal.Texts.{HasUnknown};
 
 use crate::reading::Entry;
 use crate::resolving::is_needed_as;
-use crate::terminals::Terminal;
+use crate::text_tokens::TextToken;
 use sequence::NoMemory;
 use std::alloc::{AllocFailed, Global};
 use tsl_terms::Names;
@@ -36,8 +36,8 @@ impl<T: Drop> From<AllocFailed<T>> for NameFault {
 
 /// The number of the name of an entry, where tables need it in the entry's kind.
 fn entry_number(names: &Names, cells: &[u32], marks: &[bool], entry: &Entry) -> Option<u32>
-    requires { AreMarks (length names.now) cells.now marks.now }
-    ensures value { IfSome result (λ id. number_for names.now (terminal_view entry.now.name) ≡ Some id) }
+    requires { AreMarksOf (length names.now) cells.now marks.now }
+    ensures value { IfSome result (λ id. number_for names.now (text_token_view entry.now.name) ≡ Some id) }
     ensures some { is_some result ≡ is_known names.now cells.now (entry_view entry.now) }
     ensures within { IfSome result (λ id. id < length names.now) }
 {
@@ -58,11 +58,13 @@ pub(crate) fn entry_numbers(
     marks: &[bool],
     entries: &[Entry],
 ) -> Result<Vec<u32>, NameFault>
-    requires { AreMarks (length names.now) cells.now marks.now }
-    ensures numbers { IfOk result (λ numbers. map (λ e. number_for names.now e.name) (entries_view entries.now) ≡ map (λ n. Some n) numbers.items) }
+    requires { AreMarksOf (length names.now) cells.now marks.now }
+    ensures numbers { IfOk result (λ numbers. map (λ e. number_for names.now e.name) (entries_view entries.now)
+        ≡ map (λ n. Some n) numbers.items) }
     ensures within { IfOk result (λ numbers. All (λ n. n < length names.now) numbers.items) }
     ensures known { IfOk result (λ numbers. find (λ e. not (is_known names.now cells.now e)) (entries_view entries.now) ≡ None) }
-    ensures fault { IfErr result (HasUnknown (option_map (λ e. e.name) (find (λ e. not (is_known names.now cells.now e)) (entries_view entries.now)))) }
+    ensures fault { IfErr result (HasUnknown (option_map (λ e. e.name)
+        (find (λ e. not (is_known names.now cells.now e)) (entries_view entries.now)))) }
 {
     let mut numbers = Vec::new(alloc);
     for entry in entries {
@@ -75,10 +77,10 @@ pub(crate) fn entry_numbers(
 }
 
 /// The number of the name of a column, where it is that of an input.
-fn column_number(names: &Names, inputs: &[u32], marks: &[bool], column: &Terminal) -> Option<u32>
-    requires { AreMarks (length names.now) inputs.now marks.now }
-    ensures value { IfSome result (λ id. number_for names.now (terminal_view column.now) ≡ Some id) }
-    ensures some { is_some result ≡ is_input_name names.now inputs.now (terminal_view column.now) }
+fn column_number(names: &Names, inputs: &[u32], marks: &[bool], column: &TextToken) -> Option<u32>
+    requires { AreMarksOf (length names.now) inputs.now marks.now }
+    ensures value { IfSome result (λ id. number_for names.now (text_token_view column.now) ≡ Some id) }
+    ensures some { is_some result ≡ is_input_name names.now inputs.now (text_token_view column.now) }
     ensures within { IfSome result (λ id. id < length names.now) }
 {
     let id = names.find(column.text)?;
@@ -92,13 +94,13 @@ pub(crate) fn column_numbers(
     names: &Names,
     inputs: &[u32],
     marks: &[bool],
-    columns: &[Terminal],
+    columns: &[TextToken],
 ) -> Result<Vec<u32>, NameFault>
-    requires { AreMarks (length names.now) inputs.now marks.now }
-    ensures numbers { IfOk result (λ numbers. map (number_for names.now) (terminals_view columns.now) ≡ map (λ n. Some n) numbers.items) }
+    requires { AreMarksOf (length names.now) inputs.now marks.now }
+    ensures numbers { IfOk result (λ numbers. map (number_for names.now) (text_tokens_view columns.now) ≡ map (λ n. Some n) numbers.items) }
     ensures within { IfOk result (λ numbers. All (λ n. n < length names.now) numbers.items) }
-    ensures known { IfOk result (λ numbers. find (λ x. not (is_input_name names.now inputs.now x)) (terminals_view columns.now) ≡ None) }
-    ensures fault { IfErr result (HasUnknown (find (λ x. not (is_input_name names.now inputs.now x)) (terminals_view columns.now))) }
+    ensures known { IfOk result (λ numbers. find (λ x. not (is_input_name names.now inputs.now x)) (text_tokens_view columns.now) ≡ None) }
+    ensures fault { IfErr result (HasUnknown (find (λ x. not (is_input_name names.now inputs.now x)) (text_tokens_view columns.now))) }
 {
     let mut numbers = Vec::new(alloc);
     for column in columns {

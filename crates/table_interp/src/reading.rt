@@ -11,7 +11,7 @@ ghost use Rattle.table_interp.specs.internal.Reading.{
   kind_at,
   number_member,
   numbers,
-  entry_of,
+  entry_of_kind,
   entry_member,
   entries,
   at_end,
@@ -27,17 +27,19 @@ ghost use Rattle.tsl_terms.specs.declared.names.NameKind.TheVariants.{Signal};
 ghost use Rattle.table_interp.specs.Syntax.{number_at};
 ghost use Rattle.table_interp.specs.Needed.{has_table};
 ghost use Rattle.table_interp.specs.internal.View.{
-  terminal_view,
-  terminals_view,
+  text_token_view,
+  text_tokens_view,
   entry_view,
   entries_view,
   numbers_view,
   tables_view,
   inputs_view,
-  HasFault,
+  IsReadFaultOf,
 };
 
-use crate::terminals::{Left, Terminal, is_name, is_numeral, is_symbol, is_word, number_at};
+use crate::text_tokens::{
+    Left, TextToken, is_name_token, is_numeral, is_symbol, is_word, number_at,
+};
 use sequence::NoMemory;
 use std::alloc::{AllocFailed, Global};
 use tsl_terms::NameKind;
@@ -72,13 +74,13 @@ impl<T: Drop> From<AllocFailed<T>> for ReadFault {
 }
 
 /// What was read and the terminals after it, or the first fault.
-pub(crate) type Answer<'a, 'b, V> = Result<(V, &'b [Terminal<'a>]), ReadFault>;
+pub(crate) type Answer<'a, 'b, V> = Result<(V, &'b [TextToken<'a>]), ReadFault>;
 
 /// An entry: what it is for (a signal is a cell), the name, and the numbers after it.
 #[derive(Debug, Drop)]
 pub(crate) struct Entry<'a> {
     pub(crate) kind: NameKind,
-    pub(crate) name: Terminal<'a>,
+    pub(crate) name: TextToken<'a>,
     pub(crate) numbers: Vec<u64>,
 }
 
@@ -92,16 +94,16 @@ pub(crate) struct TablesText<'a> {
 /// A text of inputs: the names of the columns, and the rows of the stem and of the cycle.
 #[derive(Debug, Drop)]
 pub(crate) struct InputsText<'a> {
-    pub(crate) names: Vec<Terminal<'a>>,
+    pub(crate) names: Vec<TextToken<'a>>,
     pub(crate) stem: Vec<Vec<u64>>,
     pub(crate) cycle: Vec<Vec<u64>>,
 }
 
 /// The terminals after a name with these bytes.
 #[tactic(auto, unfolding(crate::specs::internal::Reading::taking))]
-fn word<'a, 'b>(word: &[u8], xs: &'b [Terminal<'a>]) -> Answer<'a, 'b, ()>
-    ensures ok { IfOk result (λ read. taking (word_at word.now) (terminals_view xs.now) ≡ Ok (tt, terminals_view read.1.now)) }
-    ensures fault { IfErr result (HasFault (taking (word_at word.now) (terminals_view xs.now))) }
+fn word<'a, 'b>(word: &[u8], xs: &'b [TextToken<'a>]) -> Answer<'a, 'b, ()>
+    ensures ok { IfOk result (λ read. taking (word_at word.now) (text_tokens_view xs.now) ≡ Ok (tt, text_tokens_view read.1.now)) }
+    ensures fault { IfErr result (IsReadFaultOf (taking (word_at word.now) (text_tokens_view xs.now))) }
     ensures shorter { IfOk result (λ read. length read.1.now < length xs.now) }
 {
     match xs {
@@ -118,9 +120,9 @@ fn word<'a, 'b>(word: &[u8], xs: &'b [Terminal<'a>]) -> Answer<'a, 'b, ()>
 
 /// The terminals after a number with these digits.
 #[tactic(auto, unfolding(crate::specs::internal::Reading::taking))]
-fn numeral<'a, 'b>(digits: &[u8], xs: &'b [Terminal<'a>]) -> Answer<'a, 'b, ()>
-    ensures ok { IfOk result (λ read. taking (numeral_at digits.now) (terminals_view xs.now) ≡ Ok (tt, terminals_view read.1.now)) }
-    ensures fault { IfErr result (HasFault (taking (numeral_at digits.now) (terminals_view xs.now))) }
+fn numeral<'a, 'b>(digits: &[u8], xs: &'b [TextToken<'a>]) -> Answer<'a, 'b, ()>
+    ensures ok { IfOk result (λ read. taking (numeral_at digits.now) (text_tokens_view xs.now) ≡ Ok (tt, text_tokens_view read.1.now)) }
+    ensures fault { IfErr result (IsReadFaultOf (taking (numeral_at digits.now) (text_tokens_view xs.now))) }
 {
     match xs {
         [x, rest @ ..] => {
@@ -136,14 +138,14 @@ fn numeral<'a, 'b>(digits: &[u8], xs: &'b [Terminal<'a>]) -> Answer<'a, 'b, ()>
 
 /// A name.
 #[tactic(auto, unfolding(crate::specs::internal::Reading::taking))]
-fn name<'a, 'b>(xs: &'b [Terminal<'a>]) -> Answer<'a, 'b, Terminal<'a>>
-    ensures ok { IfOk result (λ read. taking name_at (terminals_view xs.now) ≡ Ok (terminal_view read.0, terminals_view read.1.now)) }
-    ensures fault { IfErr result (HasFault (taking name_at (terminals_view xs.now))) }
+fn name<'a, 'b>(xs: &'b [TextToken<'a>]) -> Answer<'a, 'b, TextToken<'a>>
+    ensures ok { IfOk result (λ read. taking name_at (text_tokens_view xs.now) ≡ Ok (text_token_view read.0, text_tokens_view read.1.now)) }
+    ensures fault { IfErr result (IsReadFaultOf (taking name_at (text_tokens_view xs.now))) }
     ensures shorter { IfOk result (λ read. length read.1.now < length xs.now) }
 {
     match xs {
         [x, rest @ ..] => {
-            if is_name(*x) {
+            if is_name_token(*x) {
                 Ok((*x, rest))
             } else {
                 Err(ReadFault::Form(xs.len()))
@@ -155,9 +157,10 @@ fn name<'a, 'b>(xs: &'b [Terminal<'a>]) -> Answer<'a, 'b, Terminal<'a>>
 
 /// A name or `?`.
 #[tactic(auto, unfolding(crate::specs::internal::Reading::taking))]
-fn symbol<'a, 'b>(xs: &'b [Terminal<'a>]) -> Answer<'a, 'b, Terminal<'a>>
-    ensures ok { IfOk result (λ read. taking symbol_at (terminals_view xs.now) ≡ Ok (terminal_view read.0, terminals_view read.1.now)) }
-    ensures fault { IfErr result (HasFault (taking symbol_at (terminals_view xs.now))) }
+fn symbol<'a, 'b>(xs: &'b [TextToken<'a>]) -> Answer<'a, 'b, TextToken<'a>>
+    ensures ok { IfOk result (λ read. taking symbol_at (text_tokens_view xs.now)
+        ≡ Ok (text_token_view read.0, text_tokens_view read.1.now)) }
+    ensures fault { IfErr result (IsReadFaultOf (taking symbol_at (text_tokens_view xs.now))) }
     ensures shorter { IfOk result (λ read. length read.1.now < length xs.now) }
 {
     match xs {
@@ -174,9 +177,9 @@ fn symbol<'a, 'b>(xs: &'b [Terminal<'a>]) -> Answer<'a, 'b, Terminal<'a>>
 
 /// A number of at most 18 digits.
 #[tactic(auto, unfolding(crate::specs::internal::Reading::taking))]
-fn number<'a, 'b>(xs: &'b [Terminal<'a>]) -> Answer<'a, 'b, u64>
-    ensures ok { IfOk result (λ read. taking number_at (terminals_view xs.now) ≡ Ok (read.0, terminals_view read.1.now)) }
-    ensures fault { IfErr result (HasFault (taking number_at (terminals_view xs.now))) }
+fn number<'a, 'b>(xs: &'b [TextToken<'a>]) -> Answer<'a, 'b, u64>
+    ensures ok { IfOk result (λ read. taking number_at (text_tokens_view xs.now) ≡ Ok (read.0, text_tokens_view read.1.now)) }
+    ensures fault { IfErr result (IsReadFaultOf (taking number_at (text_tokens_view xs.now))) }
     ensures shorter { IfOk result (λ read. length read.1.now < length xs.now) }
 {
     match xs {
@@ -189,8 +192,8 @@ fn number<'a, 'b>(xs: &'b [Terminal<'a>]) -> Answer<'a, 'b, u64>
 }
 
 /// What a number means, where it is not 0.
-fn positive_at(x: Terminal) -> Option<u64>
-    ensures { result ≡ positive_at (terminal_view x.entry) }
+fn positive_at(x: TextToken) -> Option<u64>
+    ensures { result ≡ positive_at (text_token_view x.entry) }
 {
     match number_at(x) {
         Some(0) => None,
@@ -200,9 +203,9 @@ fn positive_at(x: Terminal) -> Option<u64>
 
 /// A number of at most 18 digits from 1 on.
 #[tactic(auto, unfolding(crate::specs::internal::Reading::taking))]
-fn positive<'a, 'b>(xs: &'b [Terminal<'a>]) -> Answer<'a, 'b, u64>
-    ensures ok { IfOk result (λ read. taking positive_at (terminals_view xs.now) ≡ Ok (read.0, terminals_view read.1.now)) }
-    ensures fault { IfErr result (HasFault (taking positive_at (terminals_view xs.now))) }
+fn positive<'a, 'b>(xs: &'b [TextToken<'a>]) -> Answer<'a, 'b, u64>
+    ensures ok { IfOk result (λ read. taking positive_at (text_tokens_view xs.now) ≡ Ok (read.0, text_tokens_view read.1.now)) }
+    ensures fault { IfErr result (IsReadFaultOf (taking positive_at (text_tokens_view xs.now))) }
 {
     match xs {
         [x, rest @ ..] => match positive_at(*x) {
@@ -214,8 +217,8 @@ fn positive<'a, 'b>(xs: &'b [Terminal<'a>]) -> Answer<'a, 'b, u64>
 }
 
 /// What an entry with this first word is for.
-fn kind_at(x: Terminal) -> Option<NameKind>
-    ensures { result ≡ kind_at (terminal_view x.entry) }
+fn kind_at(x: TextToken) -> Option<NameKind>
+    ensures { result ≡ kind_at (text_token_view x.entry) }
 {
     if is_word(b"func", x) {
         Some(NameKind::Function)
@@ -229,9 +232,10 @@ fn kind_at(x: Terminal) -> Option<NameKind>
 }
 
 /// What the entry at the front is for and the terminals after its first word, where one begins.
-fn first_kind<'a, 'b>(xs: &'b [Terminal<'a>]) -> Option<(NameKind, &'b [Terminal<'a>])>
-    ensures some { IfSome result (λ read. entry_member (terminals_view xs.now) ≡ Some (entry_of read.0 (terminals_view read.1.now))) }
-    ensures none { IfNone result (entry_member (terminals_view xs.now) ≡ None) }
+fn first_kind<'a, 'b>(xs: &'b [TextToken<'a>]) -> Option<(NameKind, &'b [TextToken<'a>])>
+    ensures some { IfSome result (λ read. entry_member (text_tokens_view xs.now)
+        ≡ Some (entry_of_kind read.0 (text_tokens_view read.1.now))) }
+    ensures none { IfNone result (entry_member (text_tokens_view xs.now) ≡ None) }
     ensures shorter { IfSome result (λ read. length read.1.now < length xs.now) }
 {
     match xs {
@@ -244,9 +248,9 @@ fn first_kind<'a, 'b>(xs: &'b [Terminal<'a>]) -> Option<(NameKind, &'b [Terminal
 }
 
 /// The number at the front, where one is.
-fn first_number<'a, 'b>(xs: &'b [Terminal<'a>]) -> Option<(u64, &'b [Terminal<'a>])>
-    ensures some { IfSome result (λ read. number_member (terminals_view xs.now) ≡ Some (Ok (read.0, terminals_view read.1.now))) }
-    ensures none { IfNone result (number_member (terminals_view xs.now) ≡ None) }
+fn first_number<'a, 'b>(xs: &'b [TextToken<'a>]) -> Option<(u64, &'b [TextToken<'a>])>
+    ensures some { IfSome result (λ read. number_member (text_tokens_view xs.now) ≡ Some (Ok (read.0, text_tokens_view read.1.now))) }
+    ensures none { IfNone result (number_member (text_tokens_view xs.now) ≡ None) }
     ensures shorter { IfSome result (λ read. length read.1.now < length xs.now) }
 {
     match xs {
@@ -262,9 +266,9 @@ fn first_number<'a, 'b>(xs: &'b [Terminal<'a>]) -> Option<(u64, &'b [Terminal<'a
 #[tactic(auto, unfolding(crate::specs::internal::Reading::numbers))]
 fn numbers<'a, 'b>(
     alloc: Global,
-    xs: &'b [Terminal<'a>],
-) -> Result<(Vec<u64>, &'b [Terminal<'a>]), NoMemory>
-    ensures ok { IfOk result (λ read. numbers (terminals_view xs.now) ≡ Ok (read.0.items, terminals_view read.1.now)) }
+    xs: &'b [TextToken<'a>],
+) -> Result<(Vec<u64>, &'b [TextToken<'a>]), NoMemory>
+    ensures ok { IfOk result (λ read. numbers (text_tokens_view xs.now) ≡ Ok (read.0.items, text_tokens_view read.1.now)) }
     ensures shorter { IfOk result (λ read. length read.1.now ≤ length xs.now) }
 {
     let mut numbers = Vec::new(alloc);
@@ -277,11 +281,11 @@ fn numbers<'a, 'b>(
 }
 
 /// The entry of a cell after its first word.
-#[tactic(auto, unfolding(crate::specs::internal::Reading::entry_of))]
-fn cell<'a, 'b>(alloc: Global, xs: &'b [Terminal<'a>]) -> Answer<'a, 'b, Entry<'a>>
-    ensures ok { IfOk result (λ read. entry_of Signal (terminals_view xs.now)
-        ≡ Ok (entry_view read.0, terminals_view read.1.now)) }
-    ensures fault { IfErr result (HasFault (entry_of Signal (terminals_view xs.now))) }
+#[tactic(auto, unfolding(crate::specs::internal::Reading::entry_of_kind))]
+fn cell<'a, 'b>(alloc: Global, xs: &'b [TextToken<'a>]) -> Answer<'a, 'b, Entry<'a>>
+    ensures ok { IfOk result (λ read. entry_of_kind Signal (text_tokens_view xs.now)
+        ≡ Ok (entry_view read.0, text_tokens_view read.1.now)) }
+    ensures fault { IfErr result (IsReadFaultOf (entry_of_kind Signal (text_tokens_view xs.now))) }
     ensures shorter { IfOk result (λ read. length read.1.now < length xs.now) }
 {
     let (name, xs) = name(xs)?;
@@ -295,12 +299,16 @@ fn cell<'a, 'b>(alloc: Global, xs: &'b [Terminal<'a>]) -> Answer<'a, 'b, Entry<'
 }
 
 /// The entry of a function or a predicate after its first word.
-#[tactic(auto, unfolding(crate::specs::internal::Reading::entry_of))]
-fn table<'a, 'b>(alloc: Global, kind: NameKind, xs: &'b [Terminal<'a>]) -> Answer<'a, 'b, Entry<'a>>
+#[tactic(auto, unfolding(crate::specs::internal::Reading::entry_of_kind))]
+fn table<'a, 'b>(
+    alloc: Global,
+    kind: NameKind,
+    xs: &'b [TextToken<'a>],
+) -> Answer<'a, 'b, Entry<'a>>
     requires { IsTrue (has_table kind) }
-    ensures ok { IfOk result (λ read. entry_of kind (terminals_view xs.now)
-        ≡ Ok (entry_view read.0, terminals_view read.1.now)) }
-    ensures fault { IfErr result (HasFault (entry_of kind (terminals_view xs.now))) }
+    ensures ok { IfOk result (λ read. entry_of_kind kind (text_tokens_view xs.now)
+        ≡ Ok (entry_view read.0, text_tokens_view read.1.now)) }
+    ensures fault { IfErr result (IsReadFaultOf (entry_of_kind kind (text_tokens_view xs.now))) }
     ensures shorter { IfOk result (λ read. length read.1.now < length xs.now) }
 {
     let (name, xs) = symbol(xs)?;
@@ -314,14 +322,14 @@ fn table<'a, 'b>(alloc: Global, kind: NameKind, xs: &'b [Terminal<'a>]) -> Answe
 }
 
 /// An entry after its first word.
-fn entry_of<'a, 'b>(
+fn entry_of_kind<'a, 'b>(
     alloc: Global,
     kind: NameKind,
-    xs: &'b [Terminal<'a>],
+    xs: &'b [TextToken<'a>],
 ) -> Answer<'a, 'b, Entry<'a>>
-    ensures ok { IfOk result (λ read. entry_of kind (terminals_view xs.now)
-        ≡ Ok (entry_view read.0, terminals_view read.1.now)) }
-    ensures fault { IfErr result (HasFault (entry_of kind (terminals_view xs.now))) }
+    ensures ok { IfOk result (λ read. entry_of_kind kind (text_tokens_view xs.now)
+        ≡ Ok (entry_view read.0, text_tokens_view read.1.now)) }
+    ensures fault { IfErr result (IsReadFaultOf (entry_of_kind kind (text_tokens_view xs.now))) }
     ensures shorter { IfOk result (λ read. length read.1.now < length xs.now) }
 {
     match kind {
@@ -332,14 +340,14 @@ fn entry_of<'a, 'b>(
 
 /// The entries at the front.
 #[tactic(auto, unfolding(crate::specs::internal::Reading::entries))]
-fn entries<'a, 'b>(alloc: Global, xs: &'b [Terminal<'a>]) -> Answer<'a, 'b, Vec<Entry<'a>>>
-    ensures ok { IfOk result (λ read. entries (terminals_view xs.now) ≡ Ok (entries_view read.0.items, terminals_view read.1.now)) }
-    ensures fault { IfErr result (HasFault (entries (terminals_view xs.now))) }
+fn entries<'a, 'b>(alloc: Global, xs: &'b [TextToken<'a>]) -> Answer<'a, 'b, Vec<Entry<'a>>>
+    ensures ok { IfOk result (λ read. entries (text_tokens_view xs.now) ≡ Ok (entries_view read.0.items, text_tokens_view read.1.now)) }
+    ensures fault { IfErr result (IsReadFaultOf (entries (text_tokens_view xs.now))) }
 {
     let mut entries = Vec::new(alloc);
     let mut left = Left { terminals: xs };
     while let Some((kind, rest)) = first_kind(left.terminals) {
-        let (entry, rest) = entry_of(alloc, kind, rest)?;
+        let (entry, rest) = entry_of_kind(alloc, kind, rest)?;
         entries.push(entry)?;
         left = Left { terminals: rest };
     }
@@ -348,9 +356,9 @@ fn entries<'a, 'b>(alloc: Global, xs: &'b [Terminal<'a>]) -> Answer<'a, 'b, Vec<
 
 /// Nothing more.
 #[tactic(auto, unfolding(crate::specs::internal::Reading::at_end))]
-fn at_end<'a, 'b>(xs: &'b [Terminal<'a>]) -> Answer<'a, 'b, ()>
-    ensures ok { IfOk result (λ read. at_end (terminals_view xs.now) ≡ Ok (tt, terminals_view read.1.now)) }
-    ensures fault { IfErr result (HasFault (at_end (terminals_view xs.now))) }
+fn at_end<'a, 'b>(xs: &'b [TextToken<'a>]) -> Answer<'a, 'b, ()>
+    ensures ok { IfOk result (λ read. at_end (text_tokens_view xs.now) ≡ Ok (tt, text_tokens_view read.1.now)) }
+    ensures fault { IfErr result (IsReadFaultOf (at_end (text_tokens_view xs.now))) }
 {
     match xs {
         [] => Ok(((), xs)),
@@ -362,10 +370,10 @@ fn at_end<'a, 'b>(xs: &'b [Terminal<'a>]) -> Answer<'a, 'b, ()>
 #[tactic(auto, unfolding(crate::specs::internal::Reading::tables_text))]
 pub(crate) fn tables_text<'a, 'b>(
     alloc: Global,
-    xs: &'b [Terminal<'a>],
+    xs: &'b [TextToken<'a>],
 ) -> Answer<'a, 'b, TablesText<'a>>
-    ensures ok { IfOk result (λ read. tables_text (terminals_view xs.now) ≡ Ok (tables_view read.0, terminals_view read.1.now)) }
-    ensures fault { IfErr result (HasFault (tables_text (terminals_view xs.now))) }
+    ensures ok { IfOk result (λ read. tables_text (text_tokens_view xs.now) ≡ Ok (tables_view read.0, text_tokens_view read.1.now)) }
+    ensures fault { IfErr result (IsReadFaultOf (tables_text (text_tokens_view xs.now))) }
 {
     let (_, xs) = word(b"tsltables", xs)?;
     let (_, xs) = numeral(b"1", xs)?;
@@ -377,9 +385,9 @@ pub(crate) fn tables_text<'a, 'b>(
 }
 
 /// The terminals after a name with these bytes at the front, where it is there.
-fn after_word<'a, 'b>(word: &[u8], xs: &'b [Terminal<'a>]) -> Option<&'b [Terminal<'a>]>
-    ensures some { IfSome result (λ rest. after_word word.now (terminals_view xs.now) ≡ Some (terminals_view rest.now)) }
-    ensures none { IfNone result (after_word word.now (terminals_view xs.now) ≡ None) }
+fn after_word<'a, 'b>(word: &[u8], xs: &'b [TextToken<'a>]) -> Option<&'b [TextToken<'a>]>
+    ensures some { IfSome result (λ rest. after_word word.now (text_tokens_view xs.now) ≡ Some (text_tokens_view rest.now)) }
+    ensures none { IfNone result (after_word word.now (text_tokens_view xs.now) ≡ None) }
     ensures shorter { IfSome result (λ rest. length rest.now < length xs.now) }
 {
     match xs {
@@ -390,9 +398,9 @@ fn after_word<'a, 'b>(word: &[u8], xs: &'b [Terminal<'a>]) -> Option<&'b [Termin
 
 /// The columns at the front.
 #[tactic(auto, unfolding(crate::specs::internal::Reading::columns))]
-fn columns<'a, 'b>(alloc: Global, xs: &'b [Terminal<'a>]) -> Answer<'a, 'b, Vec<Terminal<'a>>>
-    ensures ok { IfOk result (λ read. columns (terminals_view xs.now) ≡ Ok (terminals_view read.0.items, terminals_view read.1.now)) }
-    ensures fault { IfErr result (HasFault (columns (terminals_view xs.now))) }
+fn columns<'a, 'b>(alloc: Global, xs: &'b [TextToken<'a>]) -> Answer<'a, 'b, Vec<TextToken<'a>>>
+    ensures ok { IfOk result (λ read. columns (text_tokens_view xs.now) ≡ Ok (text_tokens_view read.0.items, text_tokens_view read.1.now)) }
+    ensures fault { IfErr result (IsReadFaultOf (columns (text_tokens_view xs.now))) }
 {
     let mut columns = Vec::new(alloc);
     let mut left = Left { terminals: xs };
@@ -408,9 +416,9 @@ fn columns<'a, 'b>(alloc: Global, xs: &'b [Terminal<'a>]) -> Answer<'a, 'b, Vec<
 #[tactic(auto, unfolding(crate::specs::internal::Reading::rows))]
 fn rows<'a, 'b>(
     alloc: Global,
-    xs: &'b [Terminal<'a>],
-) -> Result<(Vec<Vec<u64>>, &'b [Terminal<'a>]), NoMemory>
-    ensures { IfOk result (λ read. rows (terminals_view xs.now) ≡ Ok (numbers_view read.0.items, terminals_view read.1.now)) }
+    xs: &'b [TextToken<'a>],
+) -> Result<(Vec<Vec<u64>>, &'b [TextToken<'a>]), NoMemory>
+    ensures { IfOk result (λ read. rows (text_tokens_view xs.now) ≡ Ok (numbers_view read.0.items, text_tokens_view read.1.now)) }
 {
     let mut rows = Vec::new(alloc);
     let mut left = Left { terminals: xs };
@@ -424,9 +432,9 @@ fn rows<'a, 'b>(
 
 /// A row.
 #[tactic(auto, unfolding(crate::specs::internal::Reading::row))]
-fn row<'a, 'b>(alloc: Global, xs: &'b [Terminal<'a>]) -> Answer<'a, 'b, Vec<u64>>
-    ensures ok { IfOk result (λ read. row (terminals_view xs.now) ≡ Ok (read.0.items, terminals_view read.1.now)) }
-    ensures fault { IfErr result (HasFault (row (terminals_view xs.now))) }
+fn row<'a, 'b>(alloc: Global, xs: &'b [TextToken<'a>]) -> Answer<'a, 'b, Vec<u64>>
+    ensures ok { IfOk result (λ read. row (text_tokens_view xs.now) ≡ Ok (read.0.items, text_tokens_view read.1.now)) }
+    ensures fault { IfErr result (IsReadFaultOf (row (text_tokens_view xs.now))) }
     ensures shorter { IfOk result (λ read. length read.1.now < length xs.now) }
 {
     let (_, xs) = word(b"row", xs)?;
@@ -436,10 +444,10 @@ fn row<'a, 'b>(alloc: Global, xs: &'b [Terminal<'a>]) -> Answer<'a, 'b, Vec<u64>
 
 /// A row and further rows.
 #[tactic(auto, unfolding(crate::specs::internal::Reading::some_rows))]
-fn some_rows<'a, 'b>(alloc: Global, xs: &'b [Terminal<'a>]) -> Answer<'a, 'b, Vec<Vec<u64>>>
-    ensures ok { IfOk result (λ read. some_rows (terminals_view xs.now)
-        ≡ Ok (numbers_view read.0.items, terminals_view read.1.now)) }
-    ensures fault { IfErr result (HasFault (some_rows (terminals_view xs.now))) }
+fn some_rows<'a, 'b>(alloc: Global, xs: &'b [TextToken<'a>]) -> Answer<'a, 'b, Vec<Vec<u64>>>
+    ensures ok { IfOk result (λ read. some_rows (text_tokens_view xs.now)
+        ≡ Ok (numbers_view read.0.items, text_tokens_view read.1.now)) }
+    ensures fault { IfErr result (IsReadFaultOf (some_rows (text_tokens_view xs.now))) }
 {
     let (first, xs) = row(alloc, xs)?;
     let (mut rows, xs) = rows(alloc, xs)?;
@@ -451,10 +459,10 @@ fn some_rows<'a, 'b>(alloc: Global, xs: &'b [Terminal<'a>]) -> Answer<'a, 'b, Ve
 #[tactic(auto, unfolding(crate::specs::internal::Reading::inputs_text))]
 pub(crate) fn inputs_text<'a, 'b>(
     alloc: Global,
-    xs: &'b [Terminal<'a>],
+    xs: &'b [TextToken<'a>],
 ) -> Answer<'a, 'b, InputsText<'a>>
-    ensures ok { IfOk result (λ read. inputs_text (terminals_view xs.now) ≡ Ok (inputs_view read.0, terminals_view read.1.now)) }
-    ensures fault { IfErr result (HasFault (inputs_text (terminals_view xs.now))) }
+    ensures ok { IfOk result (λ read. inputs_text (text_tokens_view xs.now) ≡ Ok (inputs_view read.0, text_tokens_view read.1.now)) }
+    ensures fault { IfErr result (IsReadFaultOf (inputs_text (text_tokens_view xs.now))) }
 {
     let (_, xs) = word(b"tslinputs", xs)?;
     let (_, xs) = numeral(b"1", xs)?;

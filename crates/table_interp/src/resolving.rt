@@ -3,7 +3,7 @@
 ghost use Rattle.std.specs.Prelude.{◌≡◌, ◌<◌, ◌&&◌, ◌∷◌, ◌++◌, [], cond, length, slice_get, All, OnOk, IfOk, IfErr};
 ghost use Rattle.tsl_terms.specs.Name.{same_kind};
 ghost use Rattle.table_interp.specs.Needed.{has_table, needed, is_needed_as, HasNoRepeat};
-ghost use Rattle.table_interp.specs.internal.Resolving.{AreMarks, ArePlaces, IsRepeatFault};
+ghost use Rattle.table_interp.specs.internal.Resolving.{AreMarksOf, ArePlaces, IsRepeatFault};
 
 use sequence::NoMemory;
 use std::alloc::Global;
@@ -34,7 +34,7 @@ pub(crate) fn has_table(kind: NameKind) -> bool
 /// For each of so many numbers whether it is among these. An `Err` says that memory ran out.
 pub(crate) fn marks(alloc: Global, count: u32, numbers: &[u32]) -> Result<Vec<bool>, NoMemory>
     requires { All (λ n. n < count) numbers.now }
-    ensures { IfOk result (λ marks. AreMarks count numbers.now marks.items) }
+    ensures { IfOk result (λ marks. AreMarksOf count numbers.now marks.items) }
 {
     let mut marks = vec![in alloc; false; count as usize]?;
     for number in numbers {
@@ -52,7 +52,7 @@ pub(crate) fn is_needed_as(
     id: u32,
 ) -> bool
     requires within { id < length names.now }
-    requires marks { AreMarks (length names.now) cells.now marks.now }
+    requires marks { AreMarksOf (length names.now) cells.now marks.now }
     ensures { result ≡ is_needed_as names.now cells.now kind id }
 {
     same_kind(names.kind(id), kind) && (has_table(kind) || marks[id as usize])

@@ -15,15 +15,20 @@ const TABLES: &[(&[u8], &str)] = &[
     // the first argument is the most significant digit, and the order of the entries is free
     (
         b"tsltables 1 domain 2 func f 0 0 1 0 pred p 0 1 pred ? 1 0 func X 1 cell y 1 cell x 0",
-        "Tables { domain: 2, tables: Sequence { items: [Sequence { items: [] }, Sequence { items: [] }, Sequence { items: [0, 0, 1, 0] }, Sequence { items: [0, 1] }, Sequence { items: [1, 0] }, Sequence { items: [1] }] }, initial: {1: 1, 0: 0} }",
+        "Tables { domain: 2, tables: Sequence { items: [Sequence { items: [] }, Sequence { items: [] }, Sequence { items: [0, 0, 1, 0] }, \
+            Sequence { items: [0, 1] }, Sequence { items: [1, 0] }, Sequence { items: [1] }] }, initial: {1: 1, 0: 0} }",
     ),
     (
-        b"tsltables 1\ndomain 0003 // three\ncell x 2 pred ? 1 0 1 pred p 0 0 0 /* a /* b */ */ cell y 01\nfunc X 2 func f 0 1 2 0 1 2 0 1 2\n",
-        "Tables { domain: 3, tables: Sequence { items: [Sequence { items: [] }, Sequence { items: [] }, Sequence { items: [0, 1, 2, 0, 1, 2, 0, 1, 2] }, Sequence { items: [0, 0, 0] }, Sequence { items: [1, 0, 1] }, Sequence { items: [2] }] }, initial: {1: 1, 0: 2} }",
+        b"tsltables 1\ndomain 0003 // three\ncell x 2 pred ? 1 0 1 pred p 0 0 0 /* a /* b */ */ cell y 01\nfunc X 2 func f 0 1 2 0 1 2 0 \
+            1 2\n",
+        "Tables { domain: 3, tables: Sequence { items: [Sequence { items: [] }, Sequence { items: [] }, \
+            Sequence { items: [0, 1, 2, 0, 1, 2, 0, 1, 2] }, Sequence { items: [0, 0, 0] }, Sequence { items: [1, 0, 1] }, \
+            Sequence { items: [2] }] }, initial: {1: 1, 0: 2} }",
     ),
     (
         b"tsltables 1 domain 1 func f 0 pred p 1 pred ? 0 func X 0 cell y 0 cell x 0",
-        "Tables { domain: 1, tables: Sequence { items: [Sequence { items: [] }, Sequence { items: [] }, Sequence { items: [0] }, Sequence { items: [1] }, Sequence { items: [0] }, Sequence { items: [0] }] }, initial: {1: 0, 0: 0} }",
+        "Tables { domain: 1, tables: Sequence { items: [Sequence { items: [] }, Sequence { items: [] }, Sequence { items: [0] }, \
+            Sequence { items: [1] }, Sequence { items: [0] }, Sequence { items: [0] }] }, initial: {1: 0, 0: 0} }",
     ),
     // bytes and comments
     (b"tsltables 1 domain 2 # func f", "Byte(21)"),

@@ -1,5 +1,4 @@
 mod Gathering
-mod Walking
 mod Stepping
 mod Brent
 mod Comparing

@@ -1,6 +1,6 @@
 -- From one step to the next.
 use Rattle.std.proofs.Common.{◌≡◌, ◌∙◌, ℕ, zero, suc, ◌+◌, ◌<◌, ◌≤◌, ◌==◌, Bool, cond, true, false, List, [], ◌∷◌, ◌++◌, length, map, take}
-use Rattle.std.proofs.Common.{drop, Option, Some, None}
+use Rattle.std.proofs.Common.{drop, Option, Some}
 use Rattle.std.proofs.Common.{slice_get, refl, sym, ap, subst, arith, add-one, inl, inr}
 use Rattle.std.specs.Prelude.{option_map, option_and_then, IsSome}
 use Rattle.std.specs.Option.{option_or}
@@ -10,7 +10,9 @@ use Rattle.std.proofs.lemmas.Simd.{map-map}
 use Rattle.std.proofs.lemmas.Bool.Decides.{eqb_tells}
 use Rattle.sequence.specs.Options.{all_there}
 use Rattle.sequence.specs.Numbers.{IsDistinct}
+use Rattle.sequence.proofs.Options.{some_mapped, there_mapped, there_before}
 use Rattle.sequence.proofs.Places.{slice_get_grown}
+use Rattle.sequence.proofs.Gathered.{length-all_there}
 use Rattle.tsl_terms.specs.declared.term.Term.{Term}
 use Rattle.tsl_terms.specs.TermTree.{TermTree, ProbeTree, term_tree}
 use Rattle.tsl_terms.specs.Value.{Meanings, value, truth, beside}
@@ -20,13 +22,12 @@ use Rattle.flow_program.specs.ProgramView.{program_tree}
 use Rattle.flow_program.specs.declared.program.Program.{Program}
 use Rattle.flow_program.specs.Walk.{Action, done_at, walk_from, walk}
 use Rattle.interp_core.specs.LeafValue.{leaf_value}
-use Rattle.tsl_meaning.specs.Interpretation.{InputRows}
+use Rattle.tsl_meaning.specs.Interpretation.{InputRows, rows_of}
 use Rattle.tsl_meaning.specs.Run.{Configuration, row_at, place_after, signal_value, action_in, configuration_after, configuration_at}
 use Rattle.table_runner.specs.declared.standing.Standing.{Standing}
 use Rattle.tsl_meaning.specs.declared.run.InputLoop.{InputLoop}
-use Rattle.table_runner.specs.Running.{CanRun, rows_of, rows_seen}
+use Rattle.table_runner.specs.Running.{CanRun, rows_seen}
 use Rattle.table_runner.specs.Standings.{shown, StandsAt}
-use Rattle.table_runner.proofs.Walking.{some_before}
 
 -- what stands beside a signal in two lists that are joined
 pub beside_joined : {S : Type 0} (s : ℕ) (rs qs : List ℕ) (us ws : List S) → length us ≡ length rs →
@@ -41,28 +42,13 @@ beside_joined s (r ∷ rs) qs (u ∷ us) ws long = by (beside_joined s rs qs us 
     by rest true = refl
     by rest false = rest
 
-pub mapped_some : {X Y : Type 0} (f : X → Y) (o : Option X) (y : Y) → option_map f o ≡ Some y → (x : X) × (o ≡ Some x) × (f x ≡ y)
-mapped_some f None y is = absurd cc
-mapped_some f (Some x) y is = (x, refl, same_Some (f x) y is)
-
-mapped_there : {X Y : Type 0} (f : X → Y) (o : Option X) → IsSome (option_map f o) → IsSome o
-mapped_there f None some = some
-mapped_there f (Some x) some = refl
-
-pub length-all_there : {S : Type 0} (os : List (Option S)) (xs : List S) → all_there os ≡ Some xs → length xs ≡ length os
-length-all_there [] xs is = sym (ap length (same_Some [] xs is))
-length-all_there (None ∷ os) xs is = absurd cc
-length-all_there (Some x ∷ os) xs is =
-    let rest = mapped_some (λ ys. x ∷ ys) (all_there os) xs is in
-    sym (ap length rest.2) ∙ ap suc (length-all_there os rest.0 rest.1)
-
 -- a walk ends at a node of the program
 walked_to : (nodes : List NodeTree) (truths : ProbeTree → Option Bool) (n i : ℕ) (action : Action) →
     walk_from nodes truths n i ≡ Some action →
     (j : ℕ) × (slice_get nodes j ≡ Some (assign action.updates action.go))
 walked_to nodes truths zero i action is = absurd cc
 walked_to nodes truths (suc n) i action is =
-    let node = some_before (done_at truths (walk_from nodes truths n)) (slice_get nodes i) (rw is refl) in
+    let node = there_before (done_at truths (walk_from nodes truths n)) (slice_get nodes i) (rw is refl) in
     by node.0 node.1 (sym (ap (option_and_then (done_at truths (walk_from nodes truths n))) node.1)
     ∙ is) (λ j. walked_to nodes truths n j action)
   where
@@ -73,14 +59,14 @@ walked_to nodes truths (suc n) i action is =
         let same : record { updates = ts; go = go } ≡ action = same_Some _ _ done in
         (i, there ∙ ap (λ (a : Action). Some (assign a.updates a.go)) same)
     by (branch t a b) there done later =
-        let truth = some_before (λ holds. walk_from nodes truths n (cond holds a b)) (truths t) (rw done refl) in
+        let truth = there_before (λ holds. walk_from nodes truths n (cond holds a b)) (truths t) (rw done refl) in
         later (cond truth.0 a b) (sym (ap (option_and_then (λ holds. walk_from nodes truths n (cond holds a b))) truth.1) ∙ done)
 
 pub acts_at : (program : ProgramTree) (truths : ProbeTree → Option Bool) (state : ℕ) (action : Action) →
     walk program truths state ≡ Some action →
     (j : ℕ) × (slice_get program.nodes j ≡ Some (assign action.updates action.go))
 acts_at program truths state action is =
-    let node = some_before (walk_from program.nodes truths (length program.nodes)) (slice_get program.states state) (rw is refl) in
+    let node = there_before (walk_from program.nodes truths (length program.nodes)) (slice_get program.states state) (rw is refl) in
     walked_to program.nodes truths (length program.nodes) node.0 action
     (sym (ap (option_and_then (walk_from program.nodes truths (length program.nodes))) node.1) ∙ is)
 
@@ -150,7 +136,7 @@ module _ {V S : Type 0} (seen : V → S) (meanings : Meanings S) (program : Prog
         let next = can.goes_on (suc t) in
         let is : configuration_after meanings program rows now action ≡ Some next.now = sym follows ∙ next.is_now in
         subst (λ at. IsSome (all_there (map (value meanings at) (take (length program.cells) action.updates)))) (sym leaves_are)
-        (mapped_there (λ (cs : List S). record { place = place_after rows standing.place; state = action.go; cells = cs })
+        (there_mapped (λ (cs : List S). record { place = place_after rows standing.place; state = action.go; cells = cs })
         (all_there (map (value meanings (signal_value program rows now)) (take (length program.cells) action.updates)))
         (subst IsSome (sym is) refl))
 
@@ -176,7 +162,7 @@ module _ {V S : Type 0} (seen : V → S) (meanings : Meanings S) (program : Prog
         ≡ Some (map seen vs)) where
       abbrev cells : (cs : List S) × (all_there (map (λ u. value meanings leaves_at (term_tree u)) (take n us)) ≡ Some cs)
           × (row ++ cs ≡ map seen vs)
-      cells = mapped_some (λ cs. row ++ cs) _ _ found
+      cells = some_mapped (λ cs. row ++ cs) _ _ found
 
       pub values_paired : n ≤ length us → length standing.leaves.signals ≡ length vs
       values_paired enough =
@@ -209,7 +195,8 @@ module _ {V S : Type 0} (seen : V → S) (meanings : Meanings S) (program : Prog
           (sym count) ∙ cells.1) in
           let is_next : configuration_at meanings program rows (suc t)
           ≡ Some (record { place = place_after rows standing.place; state = action.go; cells = cells.0 }) =
-          follows ∙ ap (option_map (λ (cs : List S). record { place = place_after rows standing.place; state = action.go; cells = cs })) there in
+          follows ∙ ap (option_map (λ (cs : List S). record { place = place_after rows standing.place; state = action.go; cells = cs }))
+          there in
           record {
             is_now = rw (add-one t, place, state, values, ← cells.2, drop_at row cells.0 (length program.inputs) long) is_next;
             signals = signals ∙ stands.signals;
@@ -227,13 +214,13 @@ module _ {V S : Type 0} (seen : V → S) (meanings : Meanings S) (program : Prog
     (can : CanRun meanings program rows) where
   pub first_there : (signals : List ℕ) → signals ≡ program.cells → IsSome (all_there (map meanings.initial signals))
   first_there signals same = subst (λ cs. IsSome (all_there (map meanings.initial cs))) (sym same) (
-      mapped_there (λ (cs : List S). record { place = 0; state = 0; cells = cs }) (all_there (map meanings.initial program.cells))
+      there_mapped (λ (cs : List S). record { place = 0; state = 0; cells = cs }) (all_there (map meanings.initial program.cells))
       (let first = can.goes_on 0 in subst IsSome (sym first.is_now) refl))
 
   module _ (cells : List ℕ) (same : cells ≡ program.cells) (row : List S) (vs : List V) (here : row_at rows 0 ≡ Some row)
       (found : option_map (λ cs. row ++ cs) (all_there (map meanings.initial cells)) ≡ Some (map seen vs)) where
     abbrev first_cells : (cs : List S) × (all_there (map meanings.initial program.cells) ≡ Some cs) × (row ++ cs ≡ map seen vs)
-    first_cells = mapped_some (λ cs. row ++ cs) _ _
+    first_cells = some_mapped (λ cs. row ++ cs) _ _
         (subst (λ cs. option_map (λ ds. row ++ ds) (all_there (map meanings.initial cs)) ≡ Some (map seen vs)) same found)
 
     pub first_paired : length (program.inputs ++ program.cells) ≡ length vs

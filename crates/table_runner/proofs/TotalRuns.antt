@@ -1,47 +1,33 @@
 -- Each step of a program is there, where meanings give each symbol a value on all arguments.
-use Rattle.std.proofs.Common.{◌≡◌, ◌∙◌, ℕ, zero, suc, ◌+◌, ◌<◌, ◌≤◌, ◌==◌, Bool, true, false, cond, List, [], ◌∷◌, ◌++◌, length, map, take}
-use Rattle.std.proofs.Common.{Option, Some, None, slice_get, refl, sym, ap, subst, arith}
+use Rattle.std.proofs.Common.{◌≡◌, ◌∙◌, ℕ, zero, suc, ◌+◌, ◌<◌, ◌==◌, Bool, true, cond, List, ◌++◌, length, map, take}
+use Rattle.std.proofs.Common.{Option, Some, slice_get, refl, sym, ap, subst, arith}
 use Rattle.std.specs.Prelude.{option_map, option_and_then, IsSome, ◌^◌}
 use Rattle.std.specs.List.{list_all}
 use Rattle.std.specs.Option.{option_or}
-use Rattle.std.proofs.lemmas.Bool.{and_parts, false≢true, eqb-true}
+use Rattle.std.proofs.lemmas.Bool.{eqb-true}
 use Rattle.std.proofs.lemmas.List.{length-append, length-map, length-take-le}
 use Rattle.sequence.specs.Numbers.{is_among}
 use Rattle.sequence.specs.Options.{all_there}
-use Rattle.std.proofs.lemmas.Option.{same_Some, slice_get-map}
+use Rattle.std.proofs.lemmas.Option.{slice_get-map}
+use Rattle.sequence.proofs.Options.{some_mapped, then_there, there_before}
 use Rattle.sequence.proofs.Places.{slice_get_some, slice_get-take}
+use Rattle.sequence.proofs.Passes.{passes_at}
+use Rattle.sequence.proofs.Gathered.{length-all_there, all_there_of_each}
 use Rattle.tsl_terms.specs.TermTree.{TermTree, ProbeTree}
 use Rattle.tsl_terms.specs.OnlyThese.{reads_only, read_only}
 use Rattle.tsl_terms.specs.Value.{Meanings, value, truth, beside}
 use Rattle.flow_program.specs.declared.program.Program.{Program}
 use Rattle.flow_program.specs.NodeTree.{NodeTree, branch, assign, node_tree}
-use Rattle.flow_program.specs.ProgramTree.{ProgramTree}
 use Rattle.flow_program.specs.ProgramView.{program_tree}
 use Rattle.flow_program.specs.Walk.{Action, done_at, walk_from, walk}
-use Rattle.interp_core.specs.internal.Wheel.{wheel}
-use Rattle.interp_core.proofs.Total.{IsTotal, wheel_is_total, beside_some, some_then, some_map, value_there, truth_there}
+use Rattle.interp_core.specs.Wheel.{wheel}
+use Rattle.interp_core.proofs.Total.{IsTotal, wheel_is_total, beside_some, value_there, truth_there}
 use Rattle.tsl_meaning.specs.declared.run.InputLoop.{InputLoop}
 use Rattle.tsl_meaning.specs.Interpretation.{InputRows}
-use Rattle.tsl_meaning.specs.Run.{Configuration, HasStep, row_at, place_after, signal_value, action_in, configuration_after, configuration_at}
+use Rattle.tsl_meaning.specs.Run.{Configuration, place_after, signal_value, action_in, configuration_after, configuration_at}
 use Rattle.table_runner.specs.Running.{CanRun, rows_seen}
-use Rattle.table_runner.proofs.Walking.{some_before, cond_below}
-use Rattle.table_runner.proofs.Stepping.{beside_joined, place_stays, length-all_there, mapped_some, joined_rows, rows_length}
-
--- each member is there where each value is
-each_there : {X V : Type 0} (f : X → Option V) (xs : List X) → ((i : ℕ) (x : X) → slice_get xs i ≡ Some x → IsSome (f x)) →
-    IsSome (all_there (map f xs))
-each_there f [] each = refl
-each_there {V = V} f (x ∷ xs) each = by (f x) (each 0 x refl) (each_there f xs (λ i y at. each (suc i) y at))
-  where
-    by : (o : Option V) → IsSome o → IsSome (all_there (map f xs)) → IsSome (all_there (o ∷ map f xs))
-    by None some rest = absurd (false≢true some)
-    by (Some y) some rest = some_map (λ ys. y ∷ ys) (all_there (map f xs)) rest
-
-member_passes : {X : Type 0} (test : X → Bool) (xs : List X) (i : ℕ) (x : X) → list_all test xs ≡ true → slice_get xs i ≡ Some x → test x ≡ true
-member_passes test [] i x all at = absurd cc
-member_passes test (y ∷ ys) zero x all at =
-    let parts = and_parts (test y) (list_all test ys) all in subst (λ z. test z ≡ true) (same_Some y x at) parts.0
-member_passes test (y ∷ ys) (suc i) x all at = member_passes test ys i x (and_parts (test y) (list_all test ys) all).1 at
+use Rattle.flow_program.proofs.Walking.{cond_below}
+use Rattle.table_runner.proofs.Stepping.{beside_joined, place_stays, joined_rows, rows_length}
 
 module _ {V : Type 0} (meanings : Meanings V) (total : IsTotal meanings) (program : Program) (rows : InputRows V)
     (fits : (i : ℕ) (row : List V) → slice_get (rows.stem ++ rows.cycle) i ≡ Some row → length row ≡ length program.inputs)
@@ -79,7 +65,8 @@ module _ {V : Type 0} (meanings : Meanings V) (total : IsTotal meanings) (progra
             }
         here (branch t a b) there smaller =
             let known = program.branches_fit i a b t there in
-            let truth = some_before (λ holds. Some holds) (truths t) (some_then (λ holds. Some holds) (truths t) (judged t known.2) (λ holds. refl)) in
+            let truth = there_before (λ holds. Some holds) (truths t)
+            (then_there (λ holds. Some holds) (truths t) (judged t known.2) (λ holds. refl)) in
             let next = cond_below truth.0 a b i known.0 known.1 in
             let rest = smaller (cond truth.0 a b) (omega (arith, next, below)) (omega (arith, next, within)) in
             record {
@@ -99,7 +86,8 @@ module _ {V : Type 0} (meanings : Meanings V) (total : IsTotal meanings) (progra
         let done = done_from (length (map node_tree program.nodes)) node.0 below below in
         record {
           action = done.action;
-          is = ap (option_and_then (walk_from (map node_tree program.nodes) truths (length (map node_tree program.nodes)))) node.1 ∙ done.is;
+          is = ap (option_and_then (walk_from (map node_tree program.nodes) truths (length (map node_tree program.nodes)))) node.1
+              ∙ done.is;
           acts = done.acts;
         }
 
@@ -124,14 +112,16 @@ module _ {V : Type 0} (meanings : Meanings V) (total : IsTotal meanings) (progra
     acts_in = done_in (truth meanings (signal_value (program_tree program) rows c))
         (truth_there meanings total readable (signal_value (program_tree program) rows c) known) c.state stands.state
 
-    follows : (d : Configuration V) × (configuration_after meanings (program_tree program) rows c acts_in.action ≡ Some d) × IsConfiguration d
+    follows : (d : Configuration V) × (configuration_after meanings (program_tree program) rows c acts_in.action ≡ Some d)
+        × IsConfiguration d
     follows =
         let ts : List TermTree = take (length program.cells) acts_in.action.updates in
-        let cells = some_before (λ cs. Some cs) (all_there (map (value meanings (signal_value (program_tree program) rows c)) ts))
-        (some_then (λ cs. Some cs) (all_there (map (value meanings (signal_value (program_tree program) rows c)) ts))
-        (each_there (value meanings (signal_value (program_tree program) rows c)) ts (λ i t at.
+        let cells = there_before (λ cs. Some cs) (all_there (map (value meanings (signal_value (program_tree program) rows c)) ts))
+        (then_there (λ cs. Some cs) (all_there (map (value meanings (signal_value (program_tree program) rows c)) ts))
+        (all_there_of_each (value meanings (signal_value (program_tree program) rows c)) ts (λ i t at.
         value_there meanings total readable (signal_value (program_tree program) rows c) known t
-        (member_passes (reads_only readable) acts_in.action.updates i t acts_in.acts.reads (slice_get-take (length program.cells) acts_in.action.updates i t at).1)))
+        (passes_at (reads_only readable) acts_in.action.updates i t acts_in.acts.reads
+        (slice_get-take (length program.cells) acts_in.action.updates i t at).1)))
         (λ cs. refl)) in
         let few = length-take-le (length program.cells) acts_in.action.updates (omega (arith, acts_in.acts.count)) in (
           record { place = place_after rows c.place; state = acts_in.action.go; cells = cells.0 },
@@ -145,10 +135,12 @@ module _ {V : Type 0} (meanings : Meanings V) (total : IsTotal meanings) (progra
           },
         )
 
-  configuration_there : (t : ℕ) → (c : Configuration V) × (configuration_at meanings (program_tree program) rows t ≡ Some c) × IsConfiguration c
+  configuration_there : (t : ℕ) → (c : Configuration V) × (configuration_at meanings (program_tree program) rows t ≡ Some c)
+      × IsConfiguration c
   configuration_there zero =
-      let cells = some_before (λ cs. Some cs) (all_there (map meanings.initial program.cells))
-      (some_then (λ cs. Some cs) (all_there (map meanings.initial program.cells)) (each_there meanings.initial program.cells (λ i s at. total.initial s)) (λ cs. refl)) in (
+      let cells = there_before (λ cs. Some cs) (all_there (map meanings.initial program.cells))
+      (then_there (λ cs. Some cs) (all_there (map meanings.initial program.cells))
+      (all_there_of_each meanings.initial program.cells (λ i s at. total.initial s)) (λ cs. refl)) in (
         record { place = 0; state = 0; cells = cells.0 },
         ap (option_map (λ (cs : List V). record { place = 0; state = 0; cells = cs })) cells.1,
         record {
@@ -187,9 +179,9 @@ wheel_runs size program inputs long few =
     can_run (wheel size) (wheel_is_total size) program (rows_seen (λ v. v) inputs)
     (λ i row at.
     let rows = inputs.stem ++ inputs.cycle in
-    let seen = mapped_some (map (λ (v : ℕ). v)) (slice_get rows i) row
+    let seen = some_mapped (map (λ (v : ℕ). v)) (slice_get rows i) row
     (sym (slice_get-map (map (λ (v : ℕ). v)) rows i) ∙ sym (ap (λ rs. slice_get rs i) (joined_rows (λ v. v) inputs)) ∙ at) in
-    let passes = member_passes (λ row. length row == length program.inputs) rows i seen.0 long seen.1 in
+    let passes = passes_at (λ row. length row == length program.inputs) rows i seen.0 long seen.1 in
     sym (ap length seen.2) ∙ length-map seen.0 (λ v. v) ∙ eqb-true (length seen.0) (length program.inputs) passes)
     (omega (arith, length-map inputs.cycle (map (λ (v : ℕ). v)), inputs.repeats))
     (omega (arith, rows_length (λ v. v) inputs, few))

@@ -6,10 +6,7 @@ use Rattle.tsl_meaning.specs.declared.run.InputLoop.{InputLoop}
 use Rattle.tsl_meaning.specs.Interpretation.{InputRows}
 use Rattle.tsl_meaning.specs.Run.{HasStep}
 
--- the rows of an input loop, and what is seen of them
-abbrev pub rows_of : {V : Type 0} → InputLoop V → InputRows V
-rows_of inputs = record { stem = inputs.stem; cycle = inputs.cycle }
-
+-- what is seen of the rows of an input loop
 abbrev pub rows_seen : {V S : Type 0} → (V → S) → InputLoop V → InputRows S
 rows_seen seen inputs = record { stem = map (map seen) inputs.stem; cycle = map (map seen) inputs.cycle }
 

@@ -86,7 +86,8 @@ pub(crate) fn first_values<A: Algebra>(
 ) -> Result<Vec<A::Value>, NoMemory>
     requires had { IsSome (all_there (map (A.meanings algebra.now).initial cells.now)) }
     ensures { IfOk result (λ vs.
-        option_map (λ cs. map A.seen row.now ++ cs) (all_there (map (A.meanings algebra.now).initial cells.now)) ≡ Some (map A.seen vs.items)) }
+        option_map (λ cs. map A.seen row.now ++ cs) (all_there (map (A.meanings algebra.now).initial cells.now))
+        ≡ Some (map A.seen vs.items)) }
 {
     let mut values = copies(alloc, algebra, row)?;
     for cell in cells {

@@ -39,10 +39,13 @@ pub fn run_closed<J: Judge>(
     limit: u32,
 ) -> Result<LoopRun<J::Value>, RunError>
     requires can { CanRun (J.meanings judge.now) (program_tree program.now) (rows_seen J.seen inputs.now) }
-    ensures run { IfOk result (λ run. IsRunOf (J.meanings judge.now) (program_tree program.now) (rows_seen J.seen inputs.now) (run_tree J.seen run)) }
-    ensures first { IfOk result (λ run. IsFirstRepetition (J.meanings judge.now) (program_tree program.now) (rows_seen J.seen inputs.now) (shape_of (run_tree J.seen run))) }
+    ensures run { IfOk result (λ run. IsRunOf (J.meanings judge.now) (program_tree program.now) (rows_seen J.seen inputs.now)
+        (run_tree J.seen run)) }
+    ensures first { IfOk result (λ run. IsFirstRepetition (J.meanings judge.now) (program_tree program.now) (rows_seen J.seen inputs.now)
+        (shape_of (run_tree J.seen run))) }
     ensures within { IfOk result (λ run. run.start + run.length ≤ limit) }
-    ensures no_loop { IfErr result (λ e. e ≡ RunError.NoLoop → AreDifferent (J.meanings judge.now) (program_tree program.now) (rows_seen J.seen inputs.now) (limit + 1)) }
+    ensures no_loop { IfErr result (λ e. e ≡ RunError.NoLoop → AreDifferent (J.meanings judge.now) (program_tree program.now)
+        (rows_seen J.seen inputs.now) (limit + 1)) }
 {
     let found = match some_return(alloc, judge, program, inputs, limit) {
         Ok(found) => found,
@@ -72,9 +75,11 @@ fn some_return<J: Judge>(
     limit: u32,
 ) -> Result<Return, RunError>
     requires can { CanRun (J.meanings judge.now) (program_tree program.now) (rows_seen J.seen inputs.now) }
-    ensures found { IfOk result (λ r. Returns (configuration_at (J.meanings judge.now) (program_tree program.now) (rows_seen J.seen inputs.now)) r.step r.length) }
+    ensures found { IfOk result (λ r. Returns (configuration_at (J.meanings judge.now) (program_tree program.now)
+        (rows_seen J.seen inputs.now)) r.step r.length) }
     ensures bounds { IfOk result (λ r. (r.step < 2 ^ 33) × (r.length ≤ 2 ^ 33)) }
-    ensures no_loop { IfErr result (λ e. e ≡ RunError.NoLoop → AreDifferent (J.meanings judge.now) (program_tree program.now) (rows_seen J.seen inputs.now) (limit + 1)) }
+    ensures no_loop { IfErr result (λ e. e ≡ RunError.NoLoop → AreDifferent (J.meanings judge.now) (program_tree program.now)
+        (rows_seen J.seen inputs.now) (limit + 1)) }
 {
     let mut standing = first_standing(alloc, judge, program, inputs)?;
     let mut step = 0;
@@ -101,10 +106,13 @@ fn return_within<J: Judge>(
     reach: u64,
 ) -> Result<Option<u64>, NoMemory>
     requires can { CanRun (J.meanings judge.now) (program_tree program.now) (rows_seen J.seen inputs.now) }
-    requires stands { (t : ℕ) × StandsAt J.seen (J.meanings judge.now) (program_tree program.now) (rows_seen J.seen inputs.now) t standing.old }
-    ensures found { IfOk result (λ found. (t : ℕ) → StandsAt J.seen (J.meanings judge.now) (program_tree program.now) (rows_seen J.seen inputs.now) t standing.old
+    requires stands { (t : ℕ) × StandsAt J.seen (J.meanings judge.now) (program_tree program.now)
+        (rows_seen J.seen inputs.now) t standing.old }
+    ensures found { IfOk result (λ found. (t : ℕ) → StandsAt J.seen (J.meanings judge.now) (program_tree program.now)
+        (rows_seen J.seen inputs.now) t standing.old
         → IsReturnWithin (configuration_at (J.meanings judge.now) (program_tree program.now) (rows_seen J.seen inputs.now)) t reach found) }
-    ensures goes_on { IfOk result (λ found. found ≡ None → (t : ℕ) → StandsAt J.seen (J.meanings judge.now) (program_tree program.now) (rows_seen J.seen inputs.now) t standing.old
+    ensures goes_on { IfOk result (λ found. found ≡ None → (t : ℕ) →
+        StandsAt J.seen (J.meanings judge.now) (program_tree program.now) (rows_seen J.seen inputs.now) t standing.old
         → StandsAt J.seen (J.meanings judge.now) (program_tree program.now) (rows_seen J.seen inputs.now) (t + reach) standing.new) }
 {
     let kept = copy_standing(alloc, judge, standing)?;
@@ -126,8 +134,10 @@ fn first_start<J: Judge>(
     found: Return,
 ) -> Result<u64, NoMemory>
     requires can { CanRun (J.meanings judge.now) (program_tree program.now) (rows_seen J.seen inputs.now) }
-    requires found { Returns (configuration_at (J.meanings judge.now) (program_tree program.now) (rows_seen J.seen inputs.now)) found.step found.length }
-    ensures first { IfOk result (IsFirstStart (configuration_at (J.meanings judge.now) (program_tree program.now) (rows_seen J.seen inputs.now)) found.length) }
+    requires found { Returns (configuration_at (J.meanings judge.now) (program_tree program.now) (rows_seen J.seen inputs.now))
+        found.step found.length }
+    ensures first { IfOk result (IsFirstStart (configuration_at (J.meanings judge.now) (program_tree program.now)
+        (rows_seen J.seen inputs.now)) found.length) }
     ensures within { IfOk result (λ start. start ≤ found.step) }
 {
     let mut later = first_standing(alloc, judge, program, inputs)?;

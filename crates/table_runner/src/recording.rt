@@ -29,8 +29,10 @@ pub(crate) fn first_positions<J: Judge>(
 ) -> Result<Sequence<Position<J::Value>>, NoMemory>
     requires can { CanRun (J.meanings judge.now) (program_tree program.now) (rows_seen J.seen inputs.now) }
     ensures count { IfOk result (λ positions. length positions ≡ count) }
-    ensures fit { IfOk result (PositionsFit (length program.now.inputs) (length program.now.cells) (length program.now.cells + length program.now.outputs)) }
-    ensures steps { IfOk result (λ positions. (t : ℕ) (p : PositionTree J.Seen) → slice_get (map (position_tree J.seen) positions) t ≡ Some p
+    ensures fit { IfOk result (PositionsFit (length program.now.inputs) (length program.now.cells)
+        (length program.now.cells + length program.now.outputs)) }
+    ensures steps { IfOk result (λ positions. (t : ℕ) (p : PositionTree J.Seen) → slice_get (map (position_tree J.seen) positions) t
+        ≡ Some p
         → IsStepOf (J.meanings judge.now) (program_tree program.now) (rows_seen J.seen inputs.now) t p) }
 {
     let mut standing = first_standing(alloc, judge, program, inputs)?;

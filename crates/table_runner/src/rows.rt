@@ -2,7 +2,7 @@
 
 ghost use Rattle.std.specs.Prelude.{◌≡◌, ◌^◌, ◌<◌, ◌++◌, Some, length, slice_get};
 ghost use Rattle.tsl_meaning.specs.Run.{place_after};
-ghost use Rattle.table_runner.specs.Running.{rows_of};
+ghost use Rattle.tsl_meaning.specs.Interpretation.{rows_of};
 
 use tsl_meaning::InputLoop;
 

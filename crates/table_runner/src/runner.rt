@@ -31,8 +31,10 @@ impl<'a, J: Judge> Runner<'a, J> {
         inputs: &'a InputLoop<J::Value>,
     ) -> Result<Runner<'a, J>, NoMemory>
         requires can { CanRun (J.meanings judge.now) (program_tree program.now) (rows_seen J.seen inputs.now) }
-        ensures stands { IfOk result (λ runner. StandsAt J.seen (J.meanings judge.now) (program_tree program.now) (rows_seen J.seen inputs.now) 0 runner.standing) }
-        ensures runs { IfOk result (λ runner. (runner.judge.now ≡ judge.now) × (runner.program.now ≡ program.now) × (runner.inputs.now ≡ inputs.now)) }
+        ensures stands { IfOk result (λ runner. StandsAt J.seen (J.meanings judge.now) (program_tree program.now)
+            (rows_seen J.seen inputs.now) 0 runner.standing) }
+        ensures runs { IfOk result (λ runner. (runner.judge.now ≡ judge.now) × (runner.program.now ≡ program.now)
+            × (runner.inputs.now ≡ inputs.now)) }
     {
         let standing = first_standing(alloc, judge, program, inputs)?;
         Ok(Runner {
@@ -47,11 +49,15 @@ impl<'a, J: Judge> Runner<'a, J> {
     /// Goes to the next step. An `Err` says that memory ran out, and then the runner stands where it stood.
     pub fn advance(&mut self) -> Result<(), NoMemory>
         requires can { CanRun (J.meanings self.old.judge.now) (program_tree self.old.program.now) (rows_seen J.seen self.old.inputs.now) }
-        requires stands { (t : ℕ) × StandsAt J.seen (J.meanings self.old.judge.now) (program_tree self.old.program.now) (rows_seen J.seen self.old.inputs.now) t self.old.standing }
-        ensures ok { OnOk result ((t : ℕ) → StandsAt J.seen (J.meanings self.old.judge.now) (program_tree self.old.program.now) (rows_seen J.seen self.old.inputs.now) t self.old.standing
-            → StandsAt J.seen (J.meanings self.old.judge.now) (program_tree self.old.program.now) (rows_seen J.seen self.old.inputs.now) (t + 1) self.new.standing) }
+        requires stands { (t : ℕ) × StandsAt J.seen (J.meanings self.old.judge.now) (program_tree self.old.program.now)
+            (rows_seen J.seen self.old.inputs.now) t self.old.standing }
+        ensures ok { OnOk result ((t : ℕ) → StandsAt J.seen (J.meanings self.old.judge.now) (program_tree self.old.program.now)
+            (rows_seen J.seen self.old.inputs.now) t self.old.standing
+            → StandsAt J.seen (J.meanings self.old.judge.now) (program_tree self.old.program.now) (rows_seen J.seen self.old.inputs.now)
+            (t + 1) self.new.standing) }
         ensures err { OnErr result (self.new.standing ≡ self.old.standing) }
-        ensures runs { (self.new.judge.now ≡ self.old.judge.now) × (self.new.program.now ≡ self.old.program.now) × (self.new.inputs.now ≡ self.old.inputs.now) }
+        ensures runs { (self.new.judge.now ≡ self.old.judge.now) × (self.new.program.now ≡ self.old.program.now)
+            × (self.new.inputs.now ≡ self.old.inputs.now) }
     {
         advance(
             self.alloc,

@@ -56,10 +56,13 @@ pub(crate) fn act<J: Judge>(
     action: Action,
 ) -> Result<(), NoMemory>
     requires can { CanRun (J.meanings judge.now) (program_tree program.now) (rows_seen J.seen inputs.now) }
-    requires stands { (t : ℕ) × StandsAt J.seen (J.meanings judge.now) (program_tree program.now) (rows_seen J.seen inputs.now) t standing.old }
-    requires does { action_of (J.meanings judge.now) (program_tree program.now) (rows_seen J.seen inputs.now) (shown J.seen (length program.now.inputs) standing.old)
+    requires stands { (t : ℕ) × StandsAt J.seen (J.meanings judge.now) (program_tree program.now)
+        (rows_seen J.seen inputs.now) t standing.old }
+    requires does { action_of (J.meanings judge.now) (program_tree program.now) (rows_seen J.seen inputs.now)
+        (shown J.seen (length program.now.inputs) standing.old)
         ≡ Some (record { updates = map term_tree action.updates.now; go = action.go }) }
-    ensures ok { OnOk result ((t : ℕ) → StandsAt J.seen (J.meanings judge.now) (program_tree program.now) (rows_seen J.seen inputs.now) t standing.old
+    ensures ok { OnOk result ((t : ℕ) → StandsAt J.seen (J.meanings judge.now) (program_tree program.now)
+        (rows_seen J.seen inputs.now) t standing.old
         → StandsAt J.seen (J.meanings judge.now) (program_tree program.now) (rows_seen J.seen inputs.now) (t + 1) standing.new) }
     ensures err { OnErr result (standing.new ≡ standing.old) }
 {
@@ -81,8 +84,10 @@ pub(crate) fn advance<J: Judge>(
     standing: &mut Standing<J::Value>,
 ) -> Result<(), NoMemory>
     requires can { CanRun (J.meanings judge.now) (program_tree program.now) (rows_seen J.seen inputs.now) }
-    requires stands { (t : ℕ) × StandsAt J.seen (J.meanings judge.now) (program_tree program.now) (rows_seen J.seen inputs.now) t standing.old }
-    ensures ok { OnOk result ((t : ℕ) → StandsAt J.seen (J.meanings judge.now) (program_tree program.now) (rows_seen J.seen inputs.now) t standing.old
+    requires stands { (t : ℕ) × StandsAt J.seen (J.meanings judge.now) (program_tree program.now)
+        (rows_seen J.seen inputs.now) t standing.old }
+    ensures ok { OnOk result ((t : ℕ) → StandsAt J.seen (J.meanings judge.now) (program_tree program.now)
+        (rows_seen J.seen inputs.now) t standing.old
         → StandsAt J.seen (J.meanings judge.now) (program_tree program.now) (rows_seen J.seen inputs.now) (t + 1) standing.new) }
     ensures err { OnErr result (standing.new ≡ standing.old) }
 {

@@ -1,66 +1,14 @@
 ghost use Rattle.std.specs.Prelude.{◌≡◌, ◌<◌, ◌^◌, ◌==◌, ◌++◌, ◌∷◌, [], ℕ, IsTrue, IfOk, length};
 ghost use Rattle.std.specs.List.{list_all};
-ghost use Rattle.interp_core.specs.internal.Wheel.{digits_of, wheel};
 
 use crate::{RunError, run_closed};
 use flow_program::{Node, Program};
-use interp_core::{Algebra, Judge};
+use interp_core::Wheel;
 use sequence::{NoMemory, Sequence};
 use std::alloc::{AllocError, Global};
 use std::test::Fail;
 use tsl_meaning::{InputLoop, LoopRun};
 use tsl_terms::{Probe, Term, TermList};
-
-/// Values below a size. Each symbol has a value, or a truth, on all arguments.
-#[derive(Drop)]
-struct Wheel {
-    size: u32,
-    ghost some: { 0 < size },
-}
-
-fn digits(size: u32, arguments: &[u32]) -> u32
-    requires { 0 < size }
-    ensures { result ≡ digits_of size arguments.now }
-{
-    let mut number = 0u64;
-    for argument in arguments {
-        number = (3 * number + u64::from(*argument)) % u64::from(size);
-    }
-    number as u32
-}
-
-impl Algebra for Wheel {
-    type Value = u32;
-
-    ghost Seen = { ℕ };
-
-    ghost seen = { λ v. v };
-
-    ghost meanings = { λ judge. wheel judge.size };
-
-    fn apply(&self, _alloc: Global, function: u32, arguments: &[u32]) -> Result<u32, NoMemory> {
-        let number = u64::from(function) + u64::from(digits(self.size, arguments));
-        Ok((number % u64::from(self.size)) as u32)
-    }
-
-    fn initial(&self, _alloc: Global, _cell: u32) -> Result<u32, NoMemory> {
-        Ok(0)
-    }
-
-    fn copy(&self, _alloc: Global, value: &u32) -> Result<u32, NoMemory> {
-        Ok(*value)
-    }
-
-    fn same(&self, a: &u32, b: &u32) -> bool {
-        *a == *b
-    }
-}
-
-impl Judge for Wheel {
-    fn test(&self, predicate: u32, arguments: &[u32]) -> bool {
-        predicate <= digits(self.size, arguments)
-    }
-}
 
 /// The run over a wheel of this size, or none within the limit.
 fn closed(

@@ -29,7 +29,7 @@ use Rattle.token_readers.specs.Exact.{
   both_end,
   both_begin,
   Before,
-  Outcome,
+  Ending,
   gives,
   wrong,
   too_deep,
@@ -50,7 +50,7 @@ module _ {T V : Type 0} where
       (front : List T) × (xs ≡ front ++ rest) × Is room front v
   taken {Is = Is} {room = room} {reader = reader} xs k v rest h =
       by k.outcome (ap reader k.split ∙ k.reads k.rest (same_first k.rest)) k.says where
-        by : (outcome : Outcome V) → reader xs ≡ ends_with outcome k.rest → Says Is room outcome k.front k.rest →
+        by : (outcome : Ending V) → reader xs ≡ ends_with outcome k.rest → Says Is room outcome k.front k.rest →
             (front : List T) × (xs ≡ front ++ rest) × Is room front v
         by (gives u) e says =
             let same = same_read (reader xs) u v k.rest rest e h in

@@ -2,7 +2,7 @@
 use Rattle.std.proofs.Common.{◌≡◌, ℕ, zero, suc, ◌<◌, Bool, true, false, List, [], ◌∷◌, ◌++◌, refl, arith}
 use Rattle.std.specs.Prelude.{Option, Some, None, Ok, Err}
 use Rattle.token_readers.specs.Readers.{form, deep, Answer, Reader, map_read, below}
-use Rattle.token_readers.specs.Exact.{Grammar, Before, Outcome, gives, wrong, too_deep, Begins, Says, Run, Agrees, Exact}
+use Rattle.token_readers.specs.Exact.{Grammar, Before, Ending, gives, wrong, too_deep, Begins, Says, Run, Agrees, Exact}
 use Rattle.token_readers.proofs.Terminals.{Turn, turn_deep, turn_takes, turn_gives, by_first, end_gives}
 
 -- there is a level below exactly where there is room for it, and then this holds of it
@@ -23,7 +23,7 @@ module _ {T V : Type 0} where
   lift_up Is lift zero xs v h = absurd h
   lift_up Is lift (suc r) xs v h = lift r xs v h
 
-  says_up : (Is : Grammar T V) (room : ℕ) (outcome : Outcome V) (front rest : List T) → Says Is room outcome front rest →
+  says_up : (Is : Grammar T V) (room : ℕ) (outcome : Ending V) (front rest : List T) → Says Is room outcome front rest →
       Says (Up Is) (suc room) outcome front rest
   says_up Is room (gives v) front rest h = h
   says_up Is room wrong front rest h = record { ending = h.ending; value = h.value; derives = h.derives }

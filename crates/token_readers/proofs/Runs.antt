@@ -8,7 +8,7 @@ use Rattle.token_readers.specs.Exact.{
   both_end,
   both_begin,
   Before,
-  Outcome,
+  Ending,
   gives,
   wrong,
   too_deep,
@@ -59,13 +59,13 @@ module _ {T V : Type 0} where
   map_same (Ok (v, rest)) = refl
   map_same (Err fault) = refl
 
-abbrev pub map_outcome : {V W : Type 0} → (V → W) → Outcome V → Outcome W
+abbrev pub map_outcome : {V W : Type 0} → (V → W) → Ending V → Ending W
 map_outcome make (gives v) = gives (make v)
 map_outcome make wrong = wrong
 map_outcome make too_deep = too_deep
 
 module _ {T V W : Type 0} where
-  map_ends : (make : V → W) (outcome : Outcome V) (xs : List T) →
+  map_ends : (make : V → W) (outcome : Ending V) (xs : List T) →
       map_read make (ends_with outcome xs) ≡ ends_with (map_outcome make outcome) xs
   map_ends make (gives v) xs = refl
   map_ends make wrong xs = refl
@@ -78,7 +78,7 @@ module _ {T V W : Type 0} where
       record { ending = b.ending; value = make b.value; derives = rw append_assoc derived }
 
   says_after : (Is : Grammar T V) (Made : Grammar T W) (make : V → W) (first : List T) →
-      ((r : ℕ) (ys : List T) (v : V) → Is r ys v → Made r (first ++ ys) (make v)) → (room : ℕ) (outcome : Outcome V) (front rest : List T) →
+      ((r : ℕ) (ys : List T) (v : V) → Is r ys v → Made r (first ++ ys) (make v)) → (room : ℕ) (outcome : Ending V) (front rest : List T) →
       Says Is room outcome front rest → Says Made room (map_outcome make outcome) (first ++ front) rest
   says_after Is Made make first to room (gives v) front rest h = to room front v h
   says_after Is Made make first to room wrong front rest h = begins_after (Is room) (Made room) make first (to room) front h

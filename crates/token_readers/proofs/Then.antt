@@ -8,7 +8,7 @@ use Rattle.token_readers.specs.Exact.{
   both_end,
   both_begin,
   Before,
-  Outcome,
+  Ending,
   gives,
   wrong,
   too_deep,
@@ -84,7 +84,7 @@ module _ {T V W : Type 0} where
   }
 
   says_then : (Is : Grammar T V) (Next : V → Grammar T W) → Fits Is Next → (room : ℕ) (f : List T) (v : V) → Is room f v →
-      (outcome : Outcome W) (front rest : List T) →
+      (outcome : Ending W) (front rest : List T) →
       Says (Next v) room outcome front rest → Says (IsThen Is Next) room outcome (f ++ front) rest
   says_then Is Next fits room f v h (gives w) front rest k =
       record { value = v; front = f; tail = front; split = refl; first = h; second = k }
@@ -118,7 +118,7 @@ module _ {T V W : Type 0} where
       ((v : V) (rest : List T) → reader xs ≡ Ok (v, rest) → Run (Next v) room (next v) rest) →
       Run (IsThen Is Next) room (λ ys. and_then (reader ys) next) xs
   run_then Is Next fits room reader next xs k second = by k.front k.rest k.outcome k.split k.reads k.says where
-    by : (front rest : List T) (outcome : Outcome V) → xs ≡ front ++ rest →
+    by : (front rest : List T) (outcome : Ending V) → xs ≡ front ++ rest →
         ((other : List T) → SameFirst rest other → reader (front ++ other) ≡ ends_with outcome other) →
         Says Is room outcome front rest → Run (IsThen Is Next) room (λ ys. and_then (reader ys) next) xs
     by front rest (gives v) split reads says =

@@ -7,7 +7,7 @@ use Rattle.token_readers.specs.Exact.{
   Grammar,
   SameFirst,
   both_begin,
-  Outcome,
+  Ending,
   gives,
   wrong,
   too_deep,
@@ -74,7 +74,7 @@ module _ {T V : Type 0} where
       run : Run Is room reader xs
       run = k.run xs
 
-      by : (outcome : Outcome V) → reader xs ≡ ends_with outcome run.rest →
+      by : (outcome : Ending V) → reader xs ≡ ends_with outcome run.rest →
           ((other : List T) → SameFirst run.rest other → reader (run.front ++ other) ≡ ends_with outcome other) →
           Says Is room outcome run.front run.rest → FirstForm Is room xs left
       by (gives v) e reads says = cc
@@ -96,7 +96,7 @@ module _ {T V : Type 0} where
           run : Run Is room reader xs
           run = k.run xs
 
-          by : (outcome : Outcome V) (rest : List T) → reader xs ≡ ends_with outcome rest → xs ≡ run.front ++ rest →
+          by : (outcome : Ending V) (rest : List T) → reader xs ≡ ends_with outcome rest → xs ≡ run.front ++ rest →
               ((other : List T) → SameFirst rest other → reader (run.front ++ other) ≡ ends_with outcome other) →
               Says Is room outcome run.front rest → FirstDeep Is room xs left
           by (gives v) rest e split reads says = cc

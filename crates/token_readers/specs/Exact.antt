@@ -19,14 +19,14 @@ module _ {T : Type 0} where
   Before Holds (x ∷ rest) = Holds x
 
 -- how reading ends
-pub data Outcome (V : Type 0) : Type 0 where
-  gives : V → Outcome V
-  wrong : Outcome V
-  too_deep : Outcome V
+pub data Ending (V : Type 0) : Type 0 where
+  gives : V → Ending V
+  wrong : Ending V
+  too_deep : Ending V
 
 module _ {T V : Type 0} where
   -- the answer of reading that ends so before these terminals
-  abbrev pub ends_with : Outcome V → Reader T V
+  abbrev pub ends_with : Ending V → Reader T V
   ends_with (gives v) rest = Ok (v, rest)
   ends_with wrong rest = form_at rest
   ends_with too_deep rest = deep_at rest
@@ -40,7 +40,7 @@ module _ {T V : Type 0} where
   -- What the grammar says where reading ends: the value derives from what was taken. Before a wrong terminal, something
   -- derives from terminals that begin so. Before a level too many too, and with two levels more from those up to and
   -- with it.
-  abbrev pub Says : Grammar T V → ℕ → Outcome V → List T → List T → Type 0
+  abbrev pub Says : Grammar T V → ℕ → Ending V → List T → List T → Type 0
   Says Is room (gives v) front rest = Is room front v
   Says Is room wrong front rest = Begins (Is room) front
   Says Is room too_deep front [] = ⊥
@@ -51,7 +51,7 @@ module _ {T V : Type 0} where
   pub record Run (Is : Grammar T V) (room : ℕ) (reader : Reader T V) (xs : List T) : Type 0 where
     pub front : List T
     pub rest : List T
-    pub outcome : Outcome V
+    pub outcome : Ending V
     pub split : xs ≡ front ++ rest
     pub reads : (other : List T) → SameFirst rest other → reader (front ++ other) ≡ ends_with outcome other
     pub says : Says Is room outcome front rest

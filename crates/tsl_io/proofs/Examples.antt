@@ -1,15 +1,15 @@
 -- The definitions on examples, accepted and refused.
 use Rattle.std.proofs.Common.{◌≡◌, ℕ, ◌^◌, ◌-◌, [], ◌∷◌, Some, None, ◌++◌, length, length-append, suc, zero, ap, refl, inl, inr, arith}
 use Rattle.std.proofs.Common.{lit<}
-use Rattle.tsl_io.specs.Told.{before, after, TakesPrefix, TakesFirst, AddsPrefix}
+use Rattle.tsl_io.specs.Told.{before, with_added, TakesPrefix, TakesFirst, AddsPrefix}
 use Rattle.tsl_io.specs.Faults.{next_count, Faulted}
 use Rattle.tsl_io.specs.Memory.{FailsNext, no_calls, with_success, with_fault}
 
 before-told : before (1 ∷ 2 ∷ []) (Some (3 ∷ [])) ≡ Some (1 ∷ 2 ∷ 3 ∷ [])
 before-told = refl
 
-after-told : after (1 ∷ 2 ∷ []) (Some (3 ∷ [])) ≡ Some (3 ∷ 1 ∷ 2 ∷ [])
-after-told = refl
+with_added-told : with_added (1 ∷ 2 ∷ []) (Some (3 ∷ [])) ≡ Some (3 ∷ 1 ∷ 2 ∷ [])
+with_added-told = refl
 
 before-untold : before (1 ∷ []) None ≡ None
 before-untold = refl

@@ -3,7 +3,7 @@ use Rattle.std.proofs.Common.{◌≡◌, ℕ, ◌+◌, ◌-◌, List, ◌++◌, 
 use Rattle.std.proofs.Common.{append-nil, length-append, ◌≤◌, arith}
 use Rattle.std.proofs.lemmas.List.{take_rest}
 use Rattle.std.proofs.Math.Seq.{take-add}
-use Rattle.tsl_io.specs.Told.{before, after, WhereTold, TakesPrefix}
+use Rattle.tsl_io.specs.Told.{before, with_added, WhereTold, TakesPrefix}
 
 -- two takes are one
 pub before-before : (xs ys : List ℕ) (told : Option (List ℕ)) → before xs (before ys told) ≡ before (xs ++ ys) told
@@ -11,9 +11,9 @@ before-before xs ys None = refl
 before-before xs ys (Some rest) = ap Some (sym (append_assoc xs ys rest))
 
 -- two writes are one
-pub after-after : (xs ys : List ℕ) (told : Option (List ℕ)) → after ys (after xs told) ≡ after (xs ++ ys) told
-after-after xs ys None = refl
-after-after xs ys (Some had) = ap Some (append_assoc had xs ys)
+pub with_added-twice : (xs ys : List ℕ) (told : Option (List ℕ)) → with_added ys (with_added xs told) ≡ with_added (xs ++ ys) told
+with_added-twice xs ys None = refl
+with_added-twice xs ys (Some had) = ap Some (append_assoc had xs ys)
 
 -- a piece leaves what was left for the text
 pub piece_taken : (text piece : List ℕ) (told rest : Option (List ℕ)) → told ≡ before piece rest →
@@ -26,12 +26,12 @@ pub takes_more : (text : List ℕ) (first told rest : Option (List ℕ)) → bef
 takes_more text first told rest so_far more = (text ++ more.0, sym so_far ∙ ap (before text) more.1 ∙ before-before text more.0 rest)
 
 -- bytes that were written so far, and the first of those that are left
-pub after_more : (bytes : List ℕ) (done count : ℕ) (first told new : Option (List ℕ)) → told ≡ after (take done bytes) first →
-    new ≡ after (take count (take (length bytes - done) (drop done bytes))) told → new ≡ after (take (done + count) bytes) first
-after_more bytes done count first told new so_far more =
-    more ∙ ap (λ rest. after (take count rest) told) (take_rest bytes done) ∙ ap (after (take count (drop done bytes))) so_far
-    ∙ after-after (take done bytes) (take count (drop done bytes)) first
-    ∙ ap (λ front. after front first) (sym (take-add done count bytes))
+pub added_more : (bytes : List ℕ) (done count : ℕ) (first told new : Option (List ℕ)) → told ≡ with_added (take done bytes) first →
+    new ≡ with_added (take count (take (length bytes - done) (drop done bytes))) told → new ≡ with_added (take (done + count) bytes) first
+added_more bytes done count first told new so_far more =
+    more ∙ ap (λ rest. with_added (take count rest) told) (take_rest bytes done) ∙ ap (with_added (take count (drop done bytes))) so_far
+    ∙ with_added-twice (take done bytes) (take count (drop done bytes)) first
+    ∙ ap (λ front. with_added front first) (sym (take-add done count bytes))
 
 -- a text that was taken so far is the whole, where no byte is left
 pub finished : (text bytes : List ℕ) (first told : Option (List ℕ)) → before text told ≡ first → WhereTold told (λ rest. rest ≡ []) →

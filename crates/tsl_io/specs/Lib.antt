@@ -2,3 +2,4 @@ pub mod Told
 pub mod Faults
 pub mod Memory
 pub mod Standard
+pub mod Effects

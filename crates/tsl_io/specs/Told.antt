@@ -7,9 +7,9 @@ before bytes None = None
 before bytes (Some rest) = Some (bytes ++ rest)
 
 -- the bytes that are told, and then these
-abbrev pub after : List ℕ → Option (List ℕ) → Option (List ℕ)
-after bytes None = None
-after bytes (Some had) = Some (had ++ bytes)
+abbrev pub with_added : List ℕ → Option (List ℕ) → Option (List ℕ)
+with_added bytes None = None
+with_added bytes (Some had) = Some (had ++ bytes)
 
 -- a fact of the bytes, where they are told
 abbrev pub WhereTold : Option (List ℕ) → (List ℕ → Type 0) → Type 0
@@ -25,4 +25,4 @@ TakesFirst n old new = (bytes : List ℕ) × (length bytes ≡ n) × (old ≡ be
 
 -- some first bytes of these were added
 abbrev pub AddsPrefix : List ℕ → Option (List ℕ) → Option (List ℕ) → Type 0
-AddsPrefix bytes old new = (n : ℕ) × (new ≡ after (take n bytes) old)
+AddsPrefix bytes old new = (n : ℕ) × (new ≡ with_added (take n bytes) old)

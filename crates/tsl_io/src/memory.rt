@@ -1,6 +1,6 @@
 //! A source and a sink in memory, whose calls fail where a caller asks for it.
 ghost use Rattle.std.specs.Prelude.{◌≡◌, ℕ, ◌+◌, ◌-◌, ◌<◌, ◌≤◌, ◌↔◌, ◌⊎◌, ◌++◌, [], List, length, take, drop, min, Option, Some, ⊤, IfOk, IsErr, IsTrue, OnOk, OnErr, Contains};
-ghost use Rattle.tsl_io.specs.Told.{before, after, WhereTold};
+ghost use Rattle.tsl_io.specs.Told.{before, with_added, WhereTold};
 ghost use Rattle.tsl_io.specs.Faults.{next_count, Faulted};
 ghost use Rattle.tsl_io.specs.Memory.{no_calls, FailsNext, with_success, with_fault, room_left};
 

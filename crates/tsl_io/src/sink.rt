@@ -1,6 +1,6 @@
 //! Where bytes go.
 ghost use Rattle.std.specs.Prelude.{◌≡◌, ◌≢◌, ℕ, ◌+◌, ◌<◌, ◌≤◌, [], List, length, take, Option, Some, IfOk, IsOk, OnOk, OnErr};
-ghost use Rattle.tsl_io.specs.Told.{after, AddsPrefix};
+ghost use Rattle.tsl_io.specs.Told.{with_added, AddsPrefix};
 ghost use Rattle.tsl_io.specs.Faults.{Faulted};
 
 use crate::Failed;
@@ -23,7 +23,7 @@ pub trait Sink {
         ensures fits { IfOk result (λ count. count ≤ length piece.now) }
         ensures progress { IfOk result (λ count. 0 < length piece.now → 0 < count) }
         ensures added { IfOk result (λ count.
-            written self.new ≡ after (take count piece.now) (written self.old)) }
+            written self.new ≡ with_added (take count piece.now) (written self.old)) }
         ensures ok_count { OnOk result (faults self.new ≡ faults self.old) }
         ensures err { OnErr result (written self.new ≡ written self.old) }
         ensures cause { OnErr result (Faulted (faults self.old) (faults self.new)) };
@@ -40,9 +40,9 @@ pub trait Sink {
 ///
 /// `Failed` comes only where a write or the flush failed. Some first bytes were added then, and
 /// nothing is tried again. It takes no memory.
-#[tactic(auto, using(crate::proofs::Told::after_more))]
+#[tactic(auto, using(crate::proofs::Told::added_more))]
 pub fn write_all_of<K: Sink>(sink: &mut K, bytes: &[u8]) -> Result<(), Failed>
-    ensures ok { OnOk result (K.written sink.new ≡ after bytes.now (K.written sink.old)) }
+    ensures ok { OnOk result (K.written sink.new ≡ with_added bytes.now (K.written sink.old)) }
     ensures flushed { OnOk result (bytes.now ≢ [] → K.flushed sink.new) }
     ensures ok_count { OnOk result (K.faults sink.new ≡ K.faults sink.old) }
     ensures err { OnErr result (AddsPrefix bytes.now (K.written sink.old) (K.written sink.new)) }

@@ -17,7 +17,7 @@ use Rattle.tsl_terms.specs.declared.operator.BinaryOperator.{BinaryOperator}
 use Rattle.tsl_terms.specs.declared.operator.BinaryOperator.TheVariants.{Implication, Equivalence, Until, WeakUntil, Release}
 use Rattle.tsl_meaning.specs.Lasso.{agree, unary_at, binary_at}
 use Rattle.tsl_meaning.specs.internal.TruthLists.{along, pairwise, next_in, first_or, comes_in, unrolled, until_in, finally_in, release_in}
-use Rattle.tsl_meaning.specs.internal.TruthLists.{unary_in, binary_in}
+use Rattle.tsl_meaning.specs.internal.TruthLists.{unary_list, binary_list}
 
 -- along any places
 map_along : (f : Bool → Bool) (a : ℕ → Bool) (places : List ℕ) → map f (map a places) ≡ map (λ i. f (a i)) places
@@ -193,7 +193,7 @@ module _ (shape : LoopShape) (goes_on : 1 ≤ shape.length) where
       by (suc m) k end =
           (λ i. a (onward shape k (omega (arith, end)) i) ∷ by m (suc k) (omega (arith, end)) i)
 
-  pub unary_along : (op : UnaryOperator) (a : ℕ → Bool) → unary_in shape.start op (along shape a) ≡ along shape (unary_at shape op a)
+  pub unary_along : (op : UnaryOperator) (a : ℕ → Bool) → unary_list shape.start op (along shape a) ≡ along shape (unary_at shape op a)
   unary_along Negation a = map_along not a (numbers_from 0 (shape.start + shape.length))
   unary_along Next a = next_along a
   unary_along Finally a = finally_along a
@@ -206,7 +206,7 @@ module _ (shape : LoopShape) (goes_on : 1 ≤ shape.length) where
       ∙ ap (λ t. map t places) (λ k i. (not_finally shape never i ∙ (λ l. globally_at shape (λ j. not_not (a j) l) i)) k)
 
   pub binary_along : (op : BinaryOperator) (a b : ℕ → Bool) →
-      binary_in shape.start op (along shape a) (along shape b) ≡ along shape (binary_at shape op a b)
+      binary_list shape.start op (along shape a) (along shape b) ≡ along shape (binary_at shape op a b)
   binary_along Implication a b = pairwise_along (λ c d. not c || d) a b (numbers_from 0 (shape.start + shape.length))
   binary_along Equivalence a b = pairwise_along agree a b (numbers_from 0 (shape.start + shape.length))
   binary_along Until a b = until_along a b

@@ -1,6 +1,5 @@
 pub mod Examples
 mod WholeExample
-pub mod General
 pub mod LeafValues
 pub mod Agree
 pub mod TruthLists
@@ -16,4 +15,5 @@ pub mod Runs
 pub mod Repeats
 pub mod Closing
 pub mod Naming
+pub mod MoreNames
 pub mod PromisedFormulas

@@ -13,6 +13,7 @@ use Rattle.tsl_terms.specs.Atoms.{atoms}
 use Rattle.tsl_terms.specs.OnlyThese.{read_only, atom_reads_only, atom_updates_only}
 use Rattle.tsl_terms.specs.SpecTree.{SpecTree, whole_formula, conjunction_of}
 use Rattle.tsl_terms.specs.WellFormed.{SpecFits, atom_fits}
+use Rattle.tsl_terms.specs.Signals.{inputs_of, cells_of, outputs_of}
 use Rattle.tsl_terms.specs.WindowTree.{WindowTree, ListedTree, later, listed_formula, window_formula_of}
 use Rattle.tsl_terms.proofs.SignalFacts.{whole_reads, whole_updates}
 use Rattle.tsl_terms.proofs.WholeAtoms.{whole_is_made_of, conjunction_atoms}
@@ -20,8 +21,8 @@ use Rattle.flow_program.specs.ProgramTree.{ProgramTree, controlled}
 use Rattle.sequence.specs.Numbers.{is_among}
 use Rattle.flow_program.specs.Fits.{window_is_shaped, window_reads_only, window_fits, longest}
 use Rattle.tsl_meaning.specs.OverNames.{probe_is_over, listed_is_over, window_is_over, atom_is_over, IsProgramOver, IsFormulaOver}
-use Rattle.tsl_meaning.specs.Promise.{Realizes}
 use Rattle.tsl_meaning.proofs.Naming.{atom_over}
+use Rattle.tsl_meaning.proofs.MoreNames.{atom_still}
 
 -- the whole formula of a specification
 module _ (spec : SpecTree) (fits : SpecFits spec) where
@@ -31,16 +32,31 @@ module _ (spec : SpecTree) (fits : SpecFits spec) where
       (and_parts (list_all (atom_fits spec.names) (atoms (whole_formula spec))) _
       (whole_is_made_of (atom_fits spec.names) spec fits.formulas)).0
 
-  pub whole_speaks : (program : ProgramTree) → Realizes spec program → IsFormulaOver spec.names program (whole_formula spec)
-  whole_speaks program realizes = record {
-    names_fit = atoms_over;
+  -- over any names that its atoms are over
+  over_any : (names : List Name) (program : ProgramTree) → list_all (atom_is_over names) (atoms (whole_formula spec)) ≡ true →
+      program.inputs ≡ inputs_of spec → program.cells ≡ cells_of spec → program.outputs ≡ outputs_of spec →
+      IsFormulaOver names program (whole_formula spec)
+  over_any names program over inputs cells outputs = record {
+    names_fit = over;
     reads =
-        (λ i. list_all (atom_reads_only (realizes.inputs i ++ realizes.cells i)) (atoms (whole_formula spec)))
+        (λ i. list_all (atom_reads_only (inputs i ++ cells i)) (atoms (whole_formula spec)))
         ∙ whole_reads spec fits.formulas;
     updates =
-        (λ i. list_all (atom_updates_only (realizes.cells i ++ realizes.outputs i)) (atoms (whole_formula spec)))
+        (λ i. list_all (atom_updates_only (cells i ++ outputs i)) (atoms (whole_formula spec)))
         ∙ whole_updates spec fits.formulas;
   }
+
+  pub whole_speaks : (program : ProgramTree) → program.inputs ≡ inputs_of spec → program.cells ≡ cells_of spec →
+      program.outputs ≡ outputs_of spec → IsFormulaOver spec.names program (whole_formula spec)
+  whole_speaks program inputs cells outputs = over_any spec.names program atoms_over inputs cells outputs
+
+  pub whole_still_speaks : (more : List Name) (program : ProgramTree) → program.inputs ≡ inputs_of spec →
+      program.cells ≡ cells_of spec → program.outputs ≡ outputs_of spec →
+      IsFormulaOver (spec.names ++ more) program (whole_formula spec)
+  whole_still_speaks more program inputs cells outputs =
+      over_any (spec.names ++ more) program
+      (list_all_weaker (atom_is_over spec.names) (atom_is_over (spec.names ++ more)) (atom_still spec.names more)
+      (atoms (whole_formula spec)) atoms_over) inputs cells outputs
 
 -- the formula of a window
 later_atoms : (n : ℕ) (f : FormulaTree) → atoms (later n f) ≡ atoms f

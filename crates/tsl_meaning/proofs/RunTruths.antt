@@ -9,7 +9,8 @@ use Rattle.std.proofs.lemmas.List.{length-map}
 use Rattle.std.proofs.lemmas.Result.{IfOk-weaker}
 use Rattle.sequence.specs.Numbers.{numbers_from}
 use Rattle.sequence.proofs.Numbers.{length-numbers}
-use Rattle.sequence.proofs.Each.{each_map}
+use Rattle.sequence.proofs.Each.{each_map, each_unmapped}
+use Rattle.sequence.proofs.Lists.{map_map}
 use Rattle.loop_shape.specs.LoopShape.{LoopShape}
 use Rattle.interp_core.specs.declared.leaves.Leaves.{Leaves}
 use Rattle.interp_core.specs.LeafValue.{leaf_value}
@@ -26,8 +27,7 @@ use Rattle.tsl_meaning.specs.declared.run.LoopRun.{LoopRun}
 use Rattle.tsl_meaning.specs.Lasso.{Lasso, meets, meet_each, many_at}
 use Rattle.tsl_meaning.specs.RunTree.{PositionTree, RunTree, position_tree, run_tree}
 use Rattle.tsl_meaning.specs.RunLasso.{shape_of, value_at, atom_holds, run_lasso}
-use Rattle.tsl_meaning.specs.internal.TruthLists.{along, pairwise, unary_in, binary_in, joined, of_none}
-use Rattle.tsl_meaning.proofs.General.{map_twice}
+use Rattle.tsl_meaning.specs.internal.TruthLists.{along, pairwise, unary_list, binary_list, joined, of_none}
 use Rattle.tsl_meaning.proofs.AlongLists.{pairwise_along, unary_along, binary_along}
 
 shifted : (h : ℕ → Bool) (k n : ℕ) → map (λ i. h (suc i)) (numbers_from k n) ≡ map h (numbers_from (suc k) n)
@@ -107,8 +107,8 @@ module _ {V S : Type 0} (seen : V → S) (meanings : Meanings S) (run : LoopRun 
     test_made leaves probe whole is fit =
         let holds : (ℕ → Option S) → Bool = λ at. option_map_or (λ (b : Bool). b) (truth meanings at probe) false in
         IfOk-weaker result _ _ (λ made are. renamed (atom (test probe)) whole is made.items (
-        are ∙ sym (map_twice holds (leaf_value seen) leaves) ∙ ap (map holds) fit
-        ∙ map_twice holds (value_at (run_tree seen run)) (map (position_tree seen) run.positions)
+        are ∙ sym (map_map holds (leaf_value seen) leaves) ∙ ap (map holds) fit
+        ∙ map_map holds (value_at (run_tree seen run)) (map (position_tree seen) run.positions)
         ∙ positions_along (λ p. atom_holds meanings (run_tree seen run) p (test probe))
         ))
 
@@ -119,26 +119,23 @@ module _ {V S : Type 0} (seen : V → S) (meanings : Meanings S) (run : LoopRun 
     update_made s tree whole is =
         let holds : PositionTree S → Bool = λ p. atom_holds meanings (run_tree seen run) p (update s tree) in
         IfOk-weaker result _ _ (λ made are. renamed (atom (update s tree)) whole is made.items (
-        are ∙ sym (map_twice holds (position_tree seen) run.positions) ∙ positions_along holds
+        are ∙ sym (map_map holds (position_tree seen) run.positions) ∙ positions_along holds
         ))
 
     pub unary_made : (op : UnaryOperator) (f whole : FormulaTree) (truths : List Bool) → whole ≡ unary op f → AreTruths f truths →
-        IfOk result (λ made. made.items ≡ unary_in run.start op truths) → IfOk result (λ made. AreTruths whole made.items)
+        IfOk result (λ made. made.items ≡ unary_list run.start op truths) → IfOk result (λ made. AreTruths whole made.items)
     unary_made op f whole truths is are = IfOk-weaker result _ _ (λ made made_is. renamed (unary op f) whole is made.items
-        (made_is ∙ ap (unary_in run.start op) are ∙ unary_along shape goes_on op (meets lasso f)))
+        (made_is ∙ ap (unary_list run.start op) are ∙ unary_along shape goes_on op (meets lasso f)))
 
     pub binary_made : (op : BinaryOperator) (f g whole : FormulaTree) (left right : List Bool) → whole ≡ binary op f g →
-        AreTruths f left → AreTruths g right → IfOk result (λ made. made.items ≡ binary_in run.start op left right) →
+        AreTruths f left → AreTruths g right → IfOk result (λ made. made.items ≡ binary_list run.start op left right) →
         IfOk result (λ made. AreTruths whole made.items)
     binary_made op f g whole left right is first second =
         IfOk-weaker result _ _ (λ made made_is. renamed (binary op f g) whole is made.items
-        (made_is ∙ (λ i. binary_in run.start op (first i) (second i)) ∙ binary_along shape goes_on op (meets lasso f) (meets lasso g)))
+        (made_is ∙ (λ i. binary_list run.start op (first i) (second i)) ∙ binary_along shape goes_on op (meets lasso f) (meets lasso g)))
 
 -- what is had at each position is had of the leaves there
-each_unmapped : {X Y : Type 0} (P : Y → Type 0) (f : X → Y) (xs : List X) → AllByRecursion P (map f xs) → AllByRecursion (λ x. P (f x)) xs
-each_unmapped P f [] each = tt
-each_unmapped P f (x ∷ xs) each = (each.0, each_unmapped P f xs each.1)
-
+-- what is had at each position is had of the leaves there
 pub leaves_had : {V S : Type 0} (seen : V → S) (meanings : Meanings S) (run : RunTree S) (leaves : List (Leaves V)) (probe : ProbeTree) →
     map (leaf_value seen) leaves ≡ map (value_at run) run.positions →
     AllByRecursion (λ p. IsSome (truth meanings (value_at run p) probe)) run.positions →

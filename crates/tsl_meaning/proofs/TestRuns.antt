@@ -12,7 +12,7 @@ use Rattle.tsl_terms.specs.AtomView.{atom_tree}
 use Rattle.tsl_terms.specs.FormulaTree.{Atom}
 use Rattle.tsl_meaning.specs.declared.run.Position.{Position}
 use Rattle.tsl_meaning.specs.LoopFits.{PositionsFit}
-use Rattle.tsl_meaning.proofs.General.{map_push}
+use Rattle.std.proofs.lemmas.List.{map_push}
 
 pub fit_push : {V : Type 0} (inputs cells slots : ℕ) (old new : List (Position V)) (p : Position V) →
     PositionsFit inputs cells slots old → (length p.row ≡ inputs) × (length p.cells ≡ cells) × (length p.updates ≡ slots) →

@@ -8,6 +8,7 @@ use Rattle.tsl_terms.specs.declared.names.NameKind.TheVariants.{Function, Predic
 use Rattle.tsl_terms.specs.Name.{Name}
 use Rattle.tsl_terms.specs.Value.{Meanings, beside}
 use Rattle.flow_program.specs.ProgramTree.{ProgramTree}
+use Rattle.tsl_meaning.specs.declared.run.InputLoop.{InputLoop}
 
 -- how many values there are, the table of each function and predicate at the place of its number among
 -- the names, and the value of each cell at first, in the order of the cells
@@ -63,10 +64,13 @@ pub record IsInterpretation (names : List Name) (cells : List ℕ) (interpretati
   pub initial : (length interpretation.initial ≡ length cells)
       × All (λ v. v < interpretation.domain) interpretation.initial
 
--- rows of values: those of a stem, and then those of a cycle again and again
+-- rows of values: those of a stem, and then those of a cycle again and again; and those of an input loop
 pub record InputRows (V : Type 0) : Type 0 where
   pub stem : List (List V)
   pub cycle : List (List V)
+
+abbrev pub rows_of : {V : Type 0} → InputLoop V → InputRows V
+rows_of inputs = record { stem = inputs.stem; cycle = inputs.cycle }
 
 abbrev pub IsRow : ℕ → List ℕ → List ℕ → Type 0
 IsRow domain inputs row = (length row ≡ length inputs) × All (λ v. v < domain) row

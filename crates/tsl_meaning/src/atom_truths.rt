@@ -24,7 +24,8 @@ pub(crate) fn test_truths<J: Judge>(
     requires had { AllByRecursion
         (λ l. IsSome (truth (J.meanings judge.now) (leaf_value J.seen l) (probe_tree probe.now))) leaves.now }
     ensures { IfOk result (λ truths. truths.items
-        ≡ map (λ l. option_map_or (λ holds. holds) (truth (J.meanings judge.now) (leaf_value J.seen l) (probe_tree probe.now)) false) leaves.now) }
+        ≡ map (λ l. option_map_or (λ holds. holds) (truth (J.meanings judge.now) (leaf_value J.seen l) (probe_tree probe.now)) false)
+        leaves.now) }
 {
     let mut truths = Vec::new(alloc);
     for values in leaves {

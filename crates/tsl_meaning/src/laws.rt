@@ -1,6 +1,6 @@
 //! Laws of the meaning.
 
-ghost use Rattle.std.specs.Prelude.{◌≡◌, ℕ, ◌+◌, ◌<◌, ◌≤◌, List};
+ghost use Rattle.std.specs.Prelude.{◌≡◌, ℕ, ◌+◌, ◌<◌, ◌≤◌, ◌++◌, List};
 ghost use Rattle.std.specs.List.{AllByRecursion};
 ghost use Rattle.loop_shape.specs.LoopShape.{LoopShape};
 ghost use Rattle.tsl_terms.specs.Name.{Name};
@@ -8,6 +8,7 @@ ghost use Rattle.tsl_terms.specs.FormulaTree.{FormulaTree};
 ghost use Rattle.tsl_terms.specs.Atoms.{atoms};
 ghost use Rattle.tsl_terms.specs.SpecTree.{SpecTree, whole_formula};
 ghost use Rattle.tsl_terms.specs.WellFormed.{SpecFits};
+ghost use Rattle.tsl_terms.specs.Signals.{inputs_of, cells_of, outputs_of};
 ghost use Rattle.tsl_terms.specs.WindowTree.{window_formula_of};
 ghost use Rattle.flow_program.specs.ProgramTree.{ProgramTree};
 ghost use Rattle.flow_program.specs.ProgramText.{IsProgram, IsWritable};
@@ -59,12 +60,19 @@ pub fn atoms_are_decided()
 {}
 
 /// The formulas of a promise are such formulas: that of each window of a program over names, and the
-/// whole formula of a specification that fits its names, for a program that realizes it.
+/// whole formula of a specification that fits its names, for a program that realizes it, and for one that has its
+/// signals, also over more names.
 pub fn promised_formulas_speak_of_the_program()
     ensures windows { (names : List Name) (program : ProgramTree) → IsProgramOver names program →
         AllByRecursion (λ w. IsFormulaOver names program (window_formula_of w)) program.windows }
     ensures whole { (spec : SpecTree) (program : ProgramTree) → SpecFits spec → Realizes spec program →
         IsFormulaOver spec.names program (whole_formula spec) }
+    ensures signals { (spec : SpecTree) (program : ProgramTree) → SpecFits spec →
+        program.inputs ≡ inputs_of spec → program.cells ≡ cells_of spec → program.outputs ≡ outputs_of spec →
+        IsFormulaOver spec.names program (whole_formula spec) }
+    ensures more_names { (spec : SpecTree) (more : List Name) (program : ProgramTree) → SpecFits spec →
+        program.inputs ≡ inputs_of spec → program.cells ≡ cells_of spec → program.outputs ≡ outputs_of spec →
+        IsFormulaOver (spec.names ++ more) program (whole_formula spec) }
 {}
 
 /// A run of a program that is written down means what the program's closed run means: the same

@@ -3,7 +3,7 @@
 
 ghost use Rattle.std.specs.Prelude.{◌≡◌, ◌<◌, true, not, ◌&&◌, ◌||◌, map, length, IfOk};
 ghost use Rattle.tsl_meaning.specs.Lasso.{agree};
-ghost use Rattle.tsl_meaning.specs.internal.TruthLists.{pairwise, next_in, comes_in, unrolled, until_in, finally_in, release_in, unary_in, binary_in, joined};
+ghost use Rattle.tsl_meaning.specs.internal.TruthLists.{pairwise, next_in, comes_in, unrolled, until_in, finally_in, release_in, unary_list, binary_list, joined};
 
 use sequence::NoMemory;
 use std::alloc::Global;
@@ -17,7 +17,7 @@ pub(crate) fn unary_truths(
     truths: &[bool],
 ) -> Result<Vec<bool>, NoMemory>
     requires { start < length truths.now }
-    ensures { IfOk result (λ made. made.items ≡ unary_in start operator truths.now) }
+    ensures { IfOk result (λ made. made.items ≡ unary_list start operator truths.now) }
 {
     match operator {
         UnaryOperator::Negation => negated(alloc, truths),
@@ -41,7 +41,7 @@ pub(crate) fn binary_truths(
 ) -> Result<Vec<bool>, NoMemory>
     requires within { start < length left.items }
     requires paired { length left.items ≡ length right.now }
-    ensures { IfOk result (λ made. made.items ≡ binary_in start operator left.items right.now) }
+    ensures { IfOk result (λ made. made.items ≡ binary_list start operator left.items right.now) }
 {
     match operator {
         BinaryOperator::Implication => implied(alloc, &left, right),

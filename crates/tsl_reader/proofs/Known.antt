@@ -10,7 +10,7 @@ use Rattle.tsl_text.specs.declared.Token.{Token}
 use Rattle.tsl_text.specs.Names.{is_usable}
 use Rattle.tsl_terms.specs.Name.{Name, number_of, same_kind, question}
 use Rattle.tsl_terms.specs.Clashes.{alike_in_kind, same_arity, HasNoClash}
-use Rattle.tsl_terms.specs.internal.FirstUse.{named}
+use Rattle.tsl_terms.specs.internal.FirstUse.{name_with}
 use Rattle.tsl_terms.proofs.FirstUses.{first_of, named_first, first_some, FirstAt, first_at, clash_of}
 use Rattle.tsl_reader.specs.Syntax.{SectionSyntax}
 use Rattle.tsl_reader.specs.Naming.{Use, all_uses, written_uses, question_use, named_by, names_of}
@@ -28,7 +28,7 @@ pub record Known (names : List Name) (u : Name) : Type 0 where
   pub kind : same_kind entry.kind u.kind ≡ true
   pub arity : (entry.arity == u.arity) ≡ true
 
-known_of : (names : List Name) (u f : Name) → named names u.text ≡ Some f → f.text ≡ u.text → alike_in_kind f u ≡ true →
+known_of : (names : List Name) (u f : Name) → name_with names u.text ≡ Some f → f.text ≡ u.text → alike_in_kind f u ≡ true →
     same_arity f u ≡ true → Known names u
 known_of names u f found text kind arity = by (number_of names u.text) refl found where
   by : (number : Option ℕ) → number_of names u.text ≡ number → option_and_then (slice_get names) number ≡ Some f → Known names u

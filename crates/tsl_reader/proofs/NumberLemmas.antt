@@ -5,13 +5,13 @@ use Rattle.std.specs.Prelude.{option_and_then, if◌then◌else◌}
 use Rattle.std.proofs.Common.{append_assoc}
 use Rattle.std.proofs.lemmas.List.{append-nil, drop_more, drop_all}
 use Rattle.std.specs.Option.{is_some}
+use Rattle.sequence.proofs.Lists.{with_front, with_front_push}
 use Rattle.tsl_terms.specs.declared.term.Term.{Term}
 use Rattle.tsl_terms.specs.declared.formula.Formula.{Formula}
 use Rattle.tsl_terms.specs.FormulaTree.{FormulaTree, FormulaTrees, no_formulas, more_formulas, formulas_in as members_in, formulas_of}
 use Rattle.tsl_terms.specs.FormulaTree.{formula_tree}
-use Rattle.tsl_terms.proofs.TermLemmas.{with_front as terms_front, with_front_none as terms_front_none, with_front_push as terms_front_push}
-use Rattle.tsl_terms.proofs.FormulaLemmas.{with_front as formulas_front, with_front_none as formulas_front_none}
-use Rattle.tsl_terms.proofs.FormulaLemmas.{with_front_push as formulas_front_push}
+use Rattle.tsl_terms.proofs.TermLemmas.{with_front_none as terms_front_none}
+use Rattle.tsl_terms.proofs.FormulaLemmas.{with_front_none as formulas_front_none}
 use Rattle.tsl_reader.specs.declared.syntax.Part.{Part}
 use Rattle.tsl_reader.specs.declared.trees.ReadSection.{ReadSection}
 use Rattle.tsl_terms.specs.Name.{Name}
@@ -24,7 +24,7 @@ use Rattle.tsl_reader.specs.Naming.{numbered_term, numbered_terms, numbered_form
 use Rattle.tsl_reader.specs.Naming.{formulas_of_part}
 
 abbrev pub numbered_front : List TermTree → Option TermTrees → Option TermTrees
-numbered_front front rest = option_map (terms_front front) rest
+numbered_front front rest = option_map (with_front more_terms front) rest
 
 -- one term more
 pub numbered_more : (names : List Name) (front all : List Term) (t : Term) (syntax : TermSyntax) (rest : TermsSyntax) →
@@ -36,7 +36,7 @@ numbered_more names front all t syntax rest is h = rw (is, h) (by (numbered_term
   by : (found : Option TermTrees) →
       numbered_front (map term_tree (front ++ t ∷ [])) found
       ≡ numbered_front (map term_tree front) (option_map (more_terms (term_tree t)) found)
-  by (Some ts) = ap Some (terms_front_push front t ts)
+  by (Some ts) = ap Some (with_front_push more_terms term_tree front t ts)
   by None = refl
 
 -- the terms are all
@@ -47,7 +47,7 @@ numbered_all front all list h is = sym h ∙ ap Some (terms_front_none front ∙
 -- the same for formulas
 
 abbrev pub members_front : List FormulaTree → Option FormulaTrees → Option FormulaTrees
-members_front front rest = option_map (formulas_front front) rest
+members_front front rest = option_map (with_front more_formulas front) rest
 
 pub members_more : (names : List Name) (front all : List Formula) (f : Formula) (syntax : FormulaSyntax) (rest : FormulasSyntax) →
     all ≡ front ++ f ∷ [] →
@@ -58,7 +58,7 @@ members_more names front all f syntax rest is h = rw (is, h) (by (numbered_membe
   by : (found : Option FormulaTrees) →
       members_front (map formula_tree (front ++ f ∷ [])) found
       ≡ members_front (map formula_tree front) (option_map (more_formulas (formula_tree f)) found)
-  by (Some fs) = ap Some (formulas_front_push front f fs)
+  by (Some fs) = ap Some (with_front_push more_formulas formula_tree front f fs)
   by None = refl
 
 pub members_all : (front : List FormulaTree) (all : Option FormulaTrees) (list : FormulaTrees) →

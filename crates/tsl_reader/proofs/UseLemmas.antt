@@ -1,5 +1,5 @@
 -- How many uses a term has, and first uses among the names that get numbers.
-use Rattle.std.proofs.Common.{◌≡◌, ℕ, zero, suc, ◌<◌, ◌≤◌, Bool, true, false, cond, List, [], ◌∷◌, ◌++◌, map, length, get_or, refl, ap, ◌∙◌}
+use Rattle.std.proofs.Common.{◌≡◌, ℕ, ◌≤◌, Bool, true, false, cond, List, [], ◌∷◌, ◌++◌, map, length, refl, ap, ◌∙◌}
 use Rattle.std.proofs.Common.{arith, length-append}
 use Rattle.std.specs.Prelude.{Some, flat_map}
 use Rattle.std.specs.Str.{bytes_eq}
@@ -16,19 +16,6 @@ term_is_one (applied f ts) = omega arith
 pub count_within : (ts : TermsSyntax) → count_of_arguments ts ≤ length (terms_uses ts)
 count_within no_terms = omega arith
 count_within (more_terms t ts) = omega (arith, term_is_one t, count_within ts, length-append (term_uses t) (terms_uses ts))
-
-part_within : {X Y Z : Type 0} (f : Y → List Z) (v : X → Y) (xs : List X) (i : ℕ) (d : X) → i < length xs →
-    length (f (v (get_or xs i d))) ≤ length (flat_map f (map v xs))
-part_within f v [] i d h = absurd (omega (arith, h))
-part_within f v (x ∷ xs) zero d h = omega (arith, length-append (f (v x)) (flat_map f (map v xs)))
-part_within f v (x ∷ xs) (suc i) d h =
-    omega (arith, part_within f v xs i d (omega (arith, h)), length-append (f (v x)) (flat_map f (map v xs)))
-
--- where lists are few together, each is
-pub part_is_few : {X Y Z : Type 0} (f : Y → List Z) (v : X → Y) (xs : List X) (i : ℕ) (d : X) (most : ℕ) →
-    length (flat_map f (map v xs)) < most → i < length xs →
-    length (f (v (get_or xs i d))) < most
-part_is_few f v xs i d most few within = omega (arith, few, part_within f v xs i d within)
 
 -- a text that is not `?` has its first use among those in the text
 pub first_other : (us : List Use) (text : List ℕ) → bytes_eq text question ≡ false →

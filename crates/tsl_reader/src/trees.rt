@@ -44,7 +44,7 @@ impl<'a> Drop for ReadTerms<'a> {
 
 impl<'a> ReadTerms<'a> {
     /// The list of these terms, in their order. An `Err` says that memory ran out.
-    #[tactic(auto, using(crate::proofs::TreeLemmas::with_front_none, crate::proofs::TreeLemmas::with_front_push))]
+    #[tactic(auto, using(crate::proofs::TreeLemmas::terms_front_none, crate::proofs::TreeLemmas::with_front_push))]
     pub(crate) fn from_vec(
         alloc: Global,
         mut terms: Vec<ReadTerm<'a>>,
@@ -106,7 +106,7 @@ impl<'a> Drop for ReadFormulas<'a> {
 
 impl<'a> ReadFormulas<'a> {
     /// The list of these formulas, in their order. An `Err` says that memory ran out.
-    #[tactic(auto, using(crate::proofs::TreeLemmas::formulas_none, crate::proofs::TreeLemmas::formulas_push))]
+    #[tactic(auto, using(crate::proofs::TreeLemmas::formulas_front_none, crate::proofs::TreeLemmas::with_front_push))]
     pub(crate) fn from_vec(
         alloc: Global,
         mut formulas: Vec<ReadFormula<'a>>,

@@ -13,6 +13,7 @@ use Rattle.tsl_report.specs.declared.fault.ProgramRule.TheVariants.{Unknown as U
 use Rattle.tsl_report.specs.declared.fault.LimitName.{LimitName}
 use Rattle.tsl_report.specs.declared.fault.LimitName.TheVariants.{Text, Nodes, Clauses, Run, Domain, Entries, Rows}
 use Rattle.tsl_report.specs.declared.fault.LimitName.TheVariants.{Windows, ProgramNodes, ProgramStates, Variables}
+use Rattle.tsl_report.specs.declared.fault.LimitName.TheVariants.{Predicates, Bits, Choices, States, Edges}
 use Rattle.tsl_report.specs.declared.fault.Fault.{Fault}
 use Rattle.tsl_report.specs.declared.fault.Fault.TheVariants.{Usage, Read, Parts, Byte, Comment, Form, Deep, Kind, Arity, Unknown, Twice}
 use Rattle.tsl_report.specs.declared.fault.Fault.TheVariants.{Missing, TableCount, TableRange, RowCount, RowRange, Program}
@@ -63,14 +64,23 @@ limit_text Windows = codes "windows"
 limit_text ProgramNodes = codes "program-nodes"
 limit_text ProgramStates = codes "program-states"
 limit_text Variables = codes "variables"
+limit_text Predicates = codes "predicates"
+limit_text Bits = codes "bits"
+limit_text Choices = codes "choices"
+limit_text States = codes "states"
+limit_text Edges = codes "edges"
 
--- a part that is read by tokens, a place in it, and the word for what is wrong there
+-- a part of this name, a place in it, and what is wrong there
+abbrev pub place_fault : List ℕ → Place → List ℕ → List ℕ
+place_fault part place word = codes "fault " ++ part ++ codes " " ++ place_text place ++ codes " " ++ word
+
+-- of a part that is read by tokens
 abbrev pub token_fault : TokenPart → Place → List ℕ → List ℕ
-token_fault part place word = codes "fault " ++ part_text part ++ codes " " ++ place_text place ++ codes " " ++ word
+token_fault part = place_fault (part_text part)
 
--- a part that gives values to names, a place in it, and what is wrong with the name that stands there
+-- of a part that gives values to names
 abbrev pub name_fault : DataPart → Place → List ℕ → List ℕ
-name_fault part place word = codes "fault " ++ data_text part ++ codes " " ++ place_text place ++ codes " " ++ word
+name_fault part = place_fault (data_text part)
 
 -- the line without its line feed
 abbrev pub fault_line : Fault → List ℕ

@@ -1,7 +1,8 @@
 //! The line that says why a text or the words were refused.
 
 ghost use Rattle.std.specs.Prelude.{◌≡◌, ◌++◌, OnOk, IfOk, codes, decimal};
-ghost use Rattle.tsl_report.specs.FaultText.{fault_text, fault_line, place_text, token_fault, name_fault, part_text, data_text, head_text, rule_text, limit_text};
+ghost use Rattle.tsl_report.specs.FaultText.{fault_text, fault_line, place_text, place_fault, token_fault, name_fault, part_text};
+ghost use Rattle.tsl_report.specs.FaultText.{data_text, head_text, rule_text, limit_text};
 
 use sequence::{NoMemory, Sequence};
 use std::alloc::Global;
@@ -86,6 +87,16 @@ pub enum LimitName {
     ProgramStates,
     /// The variables of a formula in conjunctive normal form.
     Variables,
+    /// The predicates of a specification that are tested.
+    Predicates,
+    /// The bits of a letter.
+    Bits,
+    /// The vectors of one choice for each signal.
+    Choices,
+    /// The states of an automaton.
+    States,
+    /// The edges of an automaton.
+    Edges,
 }
 
 /// Why a text or the words were refused.
@@ -184,7 +195,8 @@ fn put_fault(out: &mut Vec<u8>, fault: &Fault) -> Result<(), NoMemory>
 
 /// Appends that a line is missing which parts an input.
 fn put_missing(out: &mut Vec<u8>, head: Head) -> Result<(), NoMemory>
-    ensures { OnOk result (out.new.items ≡ out.old.items ++ codes "fault parts " ++ head_text head) }
+    ensures { OnOk result
+        (out.new.items ≡ out.old.items ++ codes "fault parts " ++ head_text head) }
 {
     put_bytes(out, b"fault parts ")?;
     put_bytes(out, head_text(head))
@@ -198,15 +210,10 @@ fn put_token_fault(
     word: &[u8],
     name: &[u8],
 ) -> Result<(), NoMemory>
-    ensures { OnOk result (out.new.items ≡ out.old.items ++ token_fault part place (word.now ++ name.now)) }
+    ensures { OnOk result
+        (out.new.items ≡ out.old.items ++ token_fault part place (word.now ++ name.now)) }
 {
-    put_bytes(out, b"fault ")?;
-    put_bytes(out, part_text(part))?;
-    put_bytes(out, b" ")?;
-    put_place(out, place)?;
-    put_bytes(out, b" ")?;
-    put_bytes(out, word)?;
-    put_bytes(out, name)
+    put_place_fault(out, part_text(part), place, word, name)
 }
 
 /// Appends a fault of a part that gives values to names: a place, a word, and the name.
@@ -217,10 +224,25 @@ fn put_name_fault(
     word: &[u8],
     name: &[u8],
 ) -> Result<(), NoMemory>
-    ensures { OnOk result (out.new.items ≡ out.old.items ++ name_fault part place (word.now ++ name.now)) }
+    ensures { OnOk result
+        (out.new.items ≡ out.old.items ++ name_fault part place (word.now ++ name.now)) }
+{
+    put_place_fault(out, data_text(part), place, word, name)
+}
+
+/// Appends a fault at a place of a part: a word, and what follows the word.
+fn put_place_fault(
+    out: &mut Vec<u8>,
+    part: &[u8],
+    place: Place,
+    word: &[u8],
+    name: &[u8],
+) -> Result<(), NoMemory>
+    ensures { OnOk result
+        (out.new.items ≡ out.old.items ++ place_fault part.now place (word.now ++ name.now)) }
 {
     put_bytes(out, b"fault ")?;
-    put_bytes(out, data_text(part))?;
+    put_bytes(out, part)?;
     put_bytes(out, b" ")?;
     put_place(out, place)?;
     put_bytes(out, b" ")?;
@@ -230,7 +252,8 @@ fn put_name_fault(
 
 /// Appends that a name is missing in a part that gives values to names.
 fn put_missing_name(out: &mut Vec<u8>, part: DataPart, name: &[u8]) -> Result<(), NoMemory>
-    ensures { OnOk result (out.new.items ≡ out.old.items ++ codes "fault " ++ data_text part ++ codes " missing " ++ name.now) }
+    ensures { OnOk result (out.new.items
+        ≡ out.old.items ++ codes "fault " ++ data_text part ++ codes " missing " ++ name.now) }
 {
     put_bytes(out, b"fault ")?;
     put_bytes(out, data_text(part))?;
@@ -240,7 +263,8 @@ fn put_missing_name(out: &mut Vec<u8>, part: DataPart, name: &[u8]) -> Result<()
 
 /// Appends that a table has not as many entries as its arguments have values.
 fn put_table_count(out: &mut Vec<u8>, name: &[u8]) -> Result<(), NoMemory>
-    ensures { OnOk result (out.new.items ≡ out.old.items ++ codes "fault tables count " ++ name.now) }
+    ensures { OnOk result
+        (out.new.items ≡ out.old.items ++ codes "fault tables count " ++ name.now) }
 {
     put_bytes(out, b"fault tables count ")?;
     put_bytes(out, name)
@@ -248,7 +272,8 @@ fn put_table_count(out: &mut Vec<u8>, name: &[u8]) -> Result<(), NoMemory>
 
 /// Appends that an entry of a table is too large.
 fn put_table_range(out: &mut Vec<u8>, name: &[u8], value: u64) -> Result<(), NoMemory>
-    ensures { OnOk result (out.new.items ≡ out.old.items ++ codes "fault tables range " ++ name.now ++ codes " " ++ decimal value) }
+    ensures { OnOk result (out.new.items
+        ≡ out.old.items ++ codes "fault tables range " ++ name.now ++ codes " " ++ decimal value) }
 {
     put_bytes(out, b"fault tables range ")?;
     put_bytes(out, name)?;
@@ -258,7 +283,8 @@ fn put_table_range(out: &mut Vec<u8>, name: &[u8], value: u64) -> Result<(), NoM
 
 /// Appends that a row has not one value for each input.
 fn put_row_count(out: &mut Vec<u8>, row: u32) -> Result<(), NoMemory>
-    ensures { OnOk result (out.new.items ≡ out.old.items ++ codes "fault inputs count " ++ decimal row) }
+    ensures { OnOk result
+        (out.new.items ≡ out.old.items ++ codes "fault inputs count " ++ decimal row) }
 {
     put_bytes(out, b"fault inputs count ")?;
     put_number(out, row as u64)
@@ -266,7 +292,8 @@ fn put_row_count(out: &mut Vec<u8>, row: u32) -> Result<(), NoMemory>
 
 /// Appends that a value of a row is too large.
 fn put_row_range(out: &mut Vec<u8>, row: u32, value: u64) -> Result<(), NoMemory>
-    ensures { OnOk result (out.new.items ≡ out.old.items ++ codes "fault inputs range " ++ decimal row ++ codes " " ++ decimal value) }
+    ensures { OnOk result (out.new.items ≡ out.old.items
+        ++ codes "fault inputs range " ++ decimal row ++ codes " " ++ decimal value) }
 {
     put_bytes(out, b"fault inputs range ")?;
     put_number(out, row as u64)?;
@@ -276,7 +303,8 @@ fn put_row_range(out: &mut Vec<u8>, row: u32, value: u64) -> Result<(), NoMemory
 
 /// Appends that a line of a program breaks a rule.
 fn put_program_fault(out: &mut Vec<u8>, line: u32, rule: &ProgramRule) -> Result<(), NoMemory>
-    ensures { OnOk result (out.new.items ≡ out.old.items ++ codes "fault program " ++ decimal line ++ codes " " ++ rule_text rule.now) }
+    ensures { OnOk result (out.new.items ≡ out.old.items
+        ++ codes "fault program " ++ decimal line ++ codes " " ++ rule_text rule.now) }
 {
     put_bytes(out, b"fault program ")?;
     put_number(out, line as u64)?;
@@ -310,7 +338,8 @@ fn put_named(out: &mut Vec<u8>, words: &[u8], name: &[u8]) -> Result<(), NoMemor
 
 /// Appends that more is counted than a limit.
 fn put_large(out: &mut Vec<u8>, name: LimitName, limit: u32) -> Result<(), NoMemory>
-    ensures { OnOk result (out.new.items ≡ out.old.items ++ codes "large " ++ limit_text name ++ codes " " ++ decimal limit) }
+    ensures { OnOk result (out.new.items
+        ≡ out.old.items ++ codes "large " ++ limit_text name ++ codes " " ++ decimal limit) }
 {
     put_bytes(out, b"large ")?;
     put_bytes(out, limit_text(name))?;
@@ -329,7 +358,8 @@ fn put_place(out: &mut Vec<u8>, place: Place) -> Result<(), NoMemory>
 
 /// Appends a fault of form at a line, behind these words.
 fn put_line_fault(out: &mut Vec<u8>, words: &[u8], line: u32) -> Result<(), NoMemory>
-    ensures { OnOk result (out.new.items ≡ out.old.items ++ words.now ++ decimal line ++ codes " form") }
+    ensures { OnOk result
+        (out.new.items ≡ out.old.items ++ words.now ++ decimal line ++ codes " form") }
 {
     put_bytes(out, words)?;
     put_number(out, line as u64)?;
@@ -385,5 +415,10 @@ fn limit_text(name: LimitName) -> &'static [u8]
         LimitName::ProgramNodes => b"program-nodes",
         LimitName::ProgramStates => b"program-states",
         LimitName::Variables => b"variables",
+        LimitName::Predicates => b"predicates",
+        LimitName::Bits => b"bits",
+        LimitName::Choices => b"choices",
+        LimitName::States => b"states",
+        LimitName::Edges => b"edges",
     }
 }

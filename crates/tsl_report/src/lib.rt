@@ -1,16 +1,17 @@
 //! The texts of reports.
 //!
-//! `fault_text` gives the line that says why a text or the words were refused: at Ok exactly the bytes
-//! that the definition of the same name gives for the fault, which is a table of its cases.
+//! `fault_text` gives the line that says why a text or the words were refused: at Ok exactly the
+//! bytes that the definition of the same name gives for the fault, which is a table of its cases.
 //!
-//! `trace_text` gives the text of a run that closes and of the verdicts on it: at Ok exactly the bytes
-//! that the definition of the same name gives. The one condition is that the names hold each number.
+//! `trace_text` gives the text of a run that closes and of the verdicts on it: at Ok exactly the
+//! bytes that the definition of the same name gives. The one condition is that the names hold each
+//! number.
 //!
-//! `formula_text` gives the text of a formula: at Ok exactly the bytes that the definition of the same
-//! name gives. The one condition is that the names hold each number and that each conjunction and
-//! disjunction has two members at least, which holds of the whole formula of every specification that is
-//! read. An `Err` says that memory ran out. The time is linear in the
-//! text; formulas in formulas are written by recursion, lists of members are gone along by a loop.
+//! `formula_text` gives the text of a formula: at Ok exactly the bytes that the definition of the
+//! same name gives. The one condition is that the names hold each number and that each conjunction
+//! and disjunction has two members at least, which holds of the whole formula of every
+//! specification that is read. An `Err` says that memory ran out. The time is linear in the text;
+//! formulas in formulas are written by recursion, lists of members are gone along by a loop.
 #![tactic(auto)]
 
 ghost use Rattle.std.specs.Prelude.{◌≡◌, ◌++◌, IsTrue, OnOk, IfOk, codes};
@@ -45,7 +46,8 @@ pub fn formula_text(alloc: Global, names: &Names, formula: &Formula) -> Result<V
 #[cycle(formulas)]
 fn put_formula(out: &mut Vec<u8>, names: &Names, formula: &Formula) -> Result<(), NoMemory>
     requires { IsTrue (can_be_written names.now (formula_tree formula.now)) }
-    ensures { OnOk result (out.new.items ≡ out.old.items ++ formula_text names.now (formula_tree formula.now)) }
+    ensures { OnOk result
+        (out.new.items ≡ out.old.items ++ formula_text names.now (formula_tree formula.now)) }
 {
     match formula {
         Formula::True => out.extend_from_slice(b"true"),
@@ -95,7 +97,8 @@ fn put_under(
     formula: &Formula,
 ) -> Result<(), NoMemory>
     requires { IsTrue (can_be_written names.now (formula_tree formula.now)) }
-    ensures { OnOk result (out.new.items ≡ out.old.items ++ operator.now ++ formula_text names.now (formula_tree formula.now)) }
+    ensures { OnOk result (out.new.items
+        ≡ out.old.items ++ operator.now ++ formula_text names.now (formula_tree formula.now)) }
 {
     out.extend_from_slice(operator)?;
     put_formula(out, names, formula)
@@ -112,7 +115,8 @@ fn put_members(
 ) -> Result<(), NoMemory>
     requires { IsTrue (members_are_made_of (atom_is_held names.now) (formula_trees members.now)) }
     ensures { OnOk result (out.new.items ≡ out.old.items
-        ++ (codes "(" ++ members_text names.now connective.now (formula_trees members.now) ++ codes ")")) }
+        ++ (codes "("
+        ++ members_text names.now connective.now (formula_trees members.now) ++ codes ")")) }
 {
     out.extend_from_slice(b"(")?;
     if let FormulaList::More(first, others) = members {
@@ -132,7 +136,8 @@ fn put_others(
     members: &FormulaList,
 ) -> Result<(), NoMemory>
     requires { IsTrue (members_are_made_of (atom_is_held names.now) (formula_trees members.now)) }
-    ensures { OnOk result (out.new.items ≡ out.old.items ++ others_text names.now connective.now (formula_trees members.now)) }
+    ensures { OnOk result (out.new.items
+        ≡ out.old.items ++ others_text names.now connective.now (formula_trees members.now)) }
 {
     let mut rest = members;
     while let FormulaList::More(first, others) = rest {

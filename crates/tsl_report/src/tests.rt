@@ -24,7 +24,8 @@ fn three_names(alloc: Global) -> Result<Names, NoMemory>
 }
 
 fn text_of(alloc: Global, formula: &Formula) -> Result<Vec<u8>, NoMemory>
-    requires { (names : List Name) → length names ≡ 3 → IsTrue (can_be_written names (formula_tree formula.now)) }
+    requires { (names : List Name)
+        → length names ≡ 3 → IsTrue (can_be_written names (formula_tree formula.now)) }
 {
     formula_text(alloc, &three_names(alloc)?, formula)
 }

@@ -2,17 +2,17 @@
 
 ghost use Rattle.std.specs.Prelude.{◌≡◌, ℕ, ◌++◌, map, codes, decimal, IsTrue, IfOk, OnOk};
 ghost use Rattle.std.specs.List.{list_all};
-ghost use Rattle.tsl_terms.specs.TermTree.{term_tree};
-ghost use Rattle.term_text.specs.TermText.{name_text, is_held, term_is_held, update_text};
-ghost use Rattle.flow_program.specs.ProgramText.{updates_text};
+ghost use Rattle.term_text.specs.TermText.{name_text, is_held};
 ghost use Rattle.tsl_meaning.specs.RunTree.{position_tree, run_tree};
-ghost use Rattle.tsl_report.specs.TraceText.{place_line, values_text, position_text, positions_text, loop_text, verdict_word, subject_text, verdict_text, verdicts_text, trace_text, position_is_held, RunIsHeld};
+ghost use Rattle.tsl_report.specs.TraceText.{place_line, values_text, position_text, positions_text, loop_text, verdict_word};
+ghost use Rattle.tsl_report.specs.TraceText.{subject_text, verdict_text, verdicts_text, trace_text, position_is_held, RunIsHeld};
 
+use flow_program::put_updates;
 use sequence::NoMemory;
 use std::alloc::Global;
-use term_text::{put_name, put_update};
+use term_text::put_name;
 use tsl_meaning::{LoopRun, Position};
-use tsl_terms::{Names, Term};
+use tsl_terms::Names;
 use tsl_text::{put_bytes, put_number};
 
 /// The text of a run: a line for each position, the line of its loop, and a line for each verdict.
@@ -28,7 +28,8 @@ pub fn trace_text(
     has_formula: bool,
 ) -> Result<Vec<u8>, NoMemory>
     requires { RunIsHeld names.now (run_tree (λ v. v) run.now) }
-    ensures { IfOk result (λ text. text.items ≡ trace_text names.now (run_tree (λ v. v) run.now) has_formula verdicts.now) }
+    ensures { IfOk result (λ text.
+        text.items ≡ trace_text names.now (run_tree (λ v. v) run.now) has_formula verdicts.now) }
 {
     let mut controlled = Vec::from_slice(alloc, run.cells.as_slice())?;
     controlled.extend_from_slice(run.outputs.as_slice())?;
@@ -49,7 +50,8 @@ fn put_positions(
     requires controlled { controlled.now ≡ run.now.cells ++ run.now.outputs }
     requires held { RunIsHeld names.now (run_tree (λ v. v) run.now) }
     ensures { OnOk result
-        (out.new.items ≡ out.old.items ++ positions_text names.now (run_tree (λ v. v) run.now) 0 (map (position_tree (λ v. v)) run.now.positions)) }
+        (out.new.items ≡ out.old.items ++ positions_text names.now
+        (run_tree (λ v. v) run.now) 0 (map (position_tree (λ v. v)) run.now.positions)) }
 {
     for (number, position) in run.positions.as_slice().iter().enumerate() {
         put_position(out, names, run, controlled, number, position)?;
@@ -70,7 +72,8 @@ fn put_position(
     requires held { RunIsHeld names.now (run_tree (λ v. v) run.now) }
     requires terms { IsTrue (position_is_held names.now (position_tree (λ v. v) position.now)) }
     ensures { OnOk result
-        (out.new.items ≡ out.old.items ++ position_text names.now (run_tree (λ v. v) run.now) number (position_tree (λ v. v) position.now)) }
+        (out.new.items ≡ out.old.items ++ position_text names.now
+        (run_tree (λ v. v) run.now) number (position_tree (λ v. v) position.now)) }
 {
     put_place(out, number, position.place, position.state)?;
     put_values(out, names, run.inputs.as_slice(), position.row.as_slice())?;
@@ -100,7 +103,8 @@ fn put_values(
     values: &[u32],
 ) -> Result<(), NoMemory>
     requires { IsTrue (list_all (is_held names.now) signals.now) }
-    ensures { OnOk result (out.new.items ≡ out.old.items ++ values_text names.now signals.now values.now) }
+    ensures { OnOk result
+        (out.new.items ≡ out.old.items ++ values_text names.now signals.now values.now) }
 {
     for (signal, value) in signals.iter().zip(values) {
         put_value(out, names, *signal, *value)?;
@@ -112,46 +116,13 @@ fn put_values(
 fn put_value(out: &mut Vec<u8>, names: &Names, signal: u32, value: u32) -> Result<(), NoMemory>
     requires { IsTrue (is_held names.now signal) }
     ensures { OnOk result
-        (out.new.items ≡ out.old.items ++ (codes " " ++ name_text names.now signal ++ codes " " ++ decimal value)) }
+        (out.new.items ≡ out.old.items
+        ++ (codes " " ++ name_text names.now signal ++ codes " " ++ decimal value)) }
 {
     put_bytes(out, b" ")?;
     put_name(out, names, signal)?;
     put_bytes(out, b" ")?;
     put_number(out, u64::from(value))
-}
-
-/// Appends each signal's update, a space before it.
-fn put_updates(
-    out: &mut Vec<u8>,
-    names: &Names,
-    controlled: &[u32],
-    terms: &[Term],
-) -> Result<(), NoMemory>
-    requires signals { IsTrue (list_all (is_held names.now) controlled.now) }
-    requires terms { IsTrue (list_all (term_is_held names.now) (map term_tree terms.now)) }
-    ensures { OnOk result
-        (out.new.items ≡ out.old.items ++ updates_text names.now controlled.now (map term_tree terms.now)) }
-{
-    for (signal, term) in controlled.iter().zip(terms) {
-        put_spaced_update(out, names, *signal, term)?;
-    }
-    Ok(())
-}
-
-/// Appends a space and an update.
-fn put_spaced_update(
-    out: &mut Vec<u8>,
-    names: &Names,
-    signal: u32,
-    term: &Term,
-) -> Result<(), NoMemory>
-    requires signal { IsTrue (is_held names.now signal) }
-    requires term { IsTrue (term_is_held names.now (term_tree term.now)) }
-    ensures { OnOk result
-        (out.new.items ≡ out.old.items ++ (codes " " ++ update_text names.now signal (term_tree term.now))) }
-{
-    put_bytes(out, b" ")?;
-    put_update(out, names, signal, term)
 }
 
 /// Appends where the loop begins and how many positions it has.
@@ -167,7 +138,8 @@ fn put_loop(out: &mut Vec<u8>, start: u32, length: u32) -> Result<(), NoMemory>
 
 /// Appends a line for each verdict.
 fn put_verdicts(out: &mut Vec<u8>, verdicts: &[bool], has_formula: bool) -> Result<(), NoMemory>
-    ensures { OnOk result (out.new.items ≡ out.old.items ++ verdicts_text has_formula 0 verdicts.now) }
+    ensures { OnOk result
+        (out.new.items ≡ out.old.items ++ verdicts_text has_formula 0 verdicts.now) }
 {
     for (number, holds) in verdicts.iter().enumerate() {
         let is_formula = has_formula && number + 1 == verdicts.len();

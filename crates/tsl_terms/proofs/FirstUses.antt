@@ -45,7 +45,7 @@ use Rattle.sequence.proofs.Places.{slice_get_one, slice_get_push}
 use Rattle.tsl_terms.specs.declared.clash.NameUse.{NameUse}
 use Rattle.tsl_terms.specs.Name.{Name, number_of, texts, AreDistinct}
 use Rattle.tsl_terms.specs.Clashes.{name_use, added_unless_found, with_use, with_uses, first_uses, IsClash}
-use Rattle.tsl_terms.specs.internal.FirstUse.{named, differs_from}
+use Rattle.tsl_terms.specs.internal.FirstUse.{name_with, differs_from}
 
 -- the first place that passes
 abbrev place : {X : Type 0} → (X → Bool) → List X → Option ℕ
@@ -84,7 +84,7 @@ at_place [] text = refl
 at_place (n ∷ ns) text = at_number n ns text (bytes_eq text n.text) (place (bytes_eq text) (texts ns)) (at_place ns text)
 
 -- the name at the number of a text is the first one with it
-pub named_is : (names : List Name) (text : List ℕ) → named names text ≡ first_of names text
+pub named_is : (names : List Name) (text : List ℕ) → name_with names text ≡ first_of names text
 named_is names text = ap (option_and_then (slice_get names)) (position_is (bytes_eq text) (texts names)) ∙ at_place names text
 
 -- a text that has no number has no name
@@ -153,7 +153,7 @@ first_with_uses (u ∷ us) names text =
     ∙ ap (option_or (first_of names text)) (sym (first_append (u ∷ []) us text))
 
 -- the name with a text is its first use
-pub named_first : (us : List Name) (text : List ℕ) → named (first_uses us) text ≡ first_of us text
+pub named_first : (us : List Name) (text : List ℕ) → name_with (first_uses us) text ≡ first_of us text
 named_first us text = named_is (first_uses us) text ∙ first_with_uses us [] text
 
 -- no text stands twice

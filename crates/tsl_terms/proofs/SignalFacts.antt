@@ -53,7 +53,7 @@ use Rattle.tsl_terms.specs.Signals.{
   is_cell,
   is_output,
   is_input,
-  numbers,
+  name_numbers,
   inputs_of,
   cells_of,
   outputs_of,
@@ -123,24 +123,26 @@ module _ (spec : SpecTree) where
 
   input_is_kept : (s : ℕ) → is_among (inputs_of spec) s ≡ true → formula_updates s (whole_formula spec) ≡ false
   input_is_kept s among =
-      let passes = and_parts (is_among (numbers spec) s) (is_input spec s) (sym (among_filter (is_input spec) s (numbers spec)) ∙ among) in
+      let passes = and_parts (is_among (name_numbers spec) s) (is_input spec s)
+      (sym (among_filter (is_input spec) s (name_numbers spec)) ∙ among) in
       not-true (formula_updates s (whole_formula spec)) (and_parts (is_name spec.names s Signal 0) _ passes.1).1
 
   cell_is_read : (s : ℕ) → is_among (cells_of spec) s ≡ true → formula_reads s (whole_formula spec) ≡ true
   cell_is_read s among =
-      let passes = and_parts (is_among (numbers spec) s) (is_cell spec s) (sym (among_filter (is_cell spec) s (numbers spec)) ∙ among) in
+      let passes = and_parts (is_among (name_numbers spec) s) (is_cell spec s)
+      (sym (among_filter (is_cell spec) s (name_numbers spec)) ∙ among) in
       (and_parts (formula_updates s (whole_formula spec)) (formula_reads s (whole_formula spec)) passes.1).1
 
   input_is_no_cell : (s : ℕ) → is_among (inputs_of spec) s ≡ true → is_among (cells_of spec) s ≡ false
   input_is_no_cell s among =
-      among_filter (is_cell spec) s (numbers spec)
-      ∙ ap (λ b. is_among (numbers spec) s && (b && formula_reads s (whole_formula spec))) (input_is_kept s among)
-      ∙ and-false (is_among (numbers spec) s)
+      among_filter (is_cell spec) s (name_numbers spec)
+      ∙ ap (λ b. is_among (name_numbers spec) s && (b && formula_reads s (whole_formula spec))) (input_is_kept s among)
+      ∙ and-false (is_among (name_numbers spec) s)
 
   read_is_no_output : (s : ℕ) → is_among (inputs_of spec ++ cells_of spec) s ≡ true → is_among (outputs_of spec) s ≡ false
   read_is_no_output s among =
-      among_filter (is_output spec) s (numbers spec)
-      ∙ ap (λ b. is_among (numbers spec) s && b)
+      among_filter (is_output spec) s (name_numbers spec)
+      ∙ ap (λ b. is_among (name_numbers spec) s && b)
       (elim (or_cases (is_among (inputs_of spec) s) (is_among (cells_of spec) s)
       (sym (list_any-append (λ r. r == s) (inputs_of spec) (cells_of spec)) ∙ among)) [
         | inl input ↦ ap (λ b. b && not (formula_reads s (whole_formula spec))) (input_is_kept s input)
@@ -148,7 +150,7 @@ module _ (spec : SpecTree) where
             ap (λ b. formula_updates s (whole_formula spec) && not b) (cell_is_read s cell)
             ∙ and-false (formula_updates s (whole_formula spec))
       ])
-      ∙ and-false (is_among (numbers spec) s)
+      ∙ and-false (is_among (name_numbers spec) s)
 
   pub distinct_signals : IsDistinct ((inputs_of spec ++ cells_of spec) ++ outputs_of spec)
   distinct_signals =
@@ -156,12 +158,12 @@ module _ (spec : SpecTree) where
       distinct_from_apart ((inputs_of spec ++ cells_of spec) ++ outputs_of spec)
       (apart_append (inputs_of spec ++ cells_of spec) (outputs_of spec)
       (apart_append (inputs_of spec) (cells_of spec)
-      (apart_filter (is_input spec) (numbers spec) apart) (apart_filter (is_cell spec) (numbers spec) apart) input_is_no_cell)
-      (apart_filter (is_output spec) (numbers spec) apart) read_is_no_output)
+      (apart_filter (is_input spec) (name_numbers spec) apart) (apart_filter (is_cell spec) (name_numbers spec) apart) input_is_no_cell)
+      (apart_filter (is_output spec) (name_numbers spec) apart) read_is_no_output)
 
   -- what is read or updated is in the lists
 
-  named_number : (s : ℕ) → is_name spec.names s Signal 0 ≡ true → is_among (numbers spec) s ≡ true
+  named_number : (s : ℕ) → is_name spec.names s Signal 0 ≡ true → is_among (name_numbers spec) s ≡ true
   named_number s named = among_numbers 0 (length spec.names) s (omega arith) (omega (arith, within_from_test spec.names s _ named))
 
   pub read_is_input_or_cell : (s : ℕ) → is_name spec.names s Signal 0 ≡ true → formula_reads s (whole_formula spec) ≡ true →
@@ -171,13 +173,13 @@ module _ (spec : SpecTree) where
       ∙ elim (cases_Bool (formula_updates s (whole_formula spec))) [
         | inl updates ↦
             or_right (is_among (inputs_of spec) s) (is_among (cells_of spec) s)
-            (among_filter (is_cell spec) s (numbers spec)
-            ∙ and_from (is_among (numbers spec) s) (is_cell spec s) (named_number s named)
+            (among_filter (is_cell spec) s (name_numbers spec)
+            ∙ and_from (is_among (name_numbers spec) s) (is_cell spec s) (named_number s named)
             (and_from (formula_updates s (whole_formula spec)) _ updates reads))
         | inr kept ↦
             or_left (is_among (inputs_of spec) s) (is_among (cells_of spec) s)
-            (among_filter (is_input spec) s (numbers spec)
-            ∙ and_from (is_among (numbers spec) s) (is_input spec s) (named_number s named)
+            (among_filter (is_input spec) s (name_numbers spec)
+            ∙ and_from (is_among (name_numbers spec) s) (is_input spec s) (named_number s named)
             (and_from (is_name spec.names s Signal 0) _ named (ap not kept)))
       ]
 
@@ -188,13 +190,13 @@ module _ (spec : SpecTree) where
       ∙ elim (cases_Bool (formula_reads s (whole_formula spec))) [
         | inl reads ↦
             or_left (is_among (cells_of spec) s) (is_among (outputs_of spec) s)
-            (among_filter (is_cell spec) s (numbers spec)
-            ∙ and_from (is_among (numbers spec) s) (is_cell spec s) (named_number s named)
+            (among_filter (is_cell spec) s (name_numbers spec)
+            ∙ and_from (is_among (name_numbers spec) s) (is_cell spec s) (named_number s named)
             (and_from (formula_updates s (whole_formula spec)) _ updates reads))
         | inr unread ↦
             or_right (is_among (cells_of spec) s) (is_among (outputs_of spec) s)
-            (among_filter (is_output spec) s (numbers spec)
-            ∙ and_from (is_among (numbers spec) s) (is_output spec s) (named_number s named)
+            (among_filter (is_output spec) s (name_numbers spec)
+            ∙ and_from (is_among (name_numbers spec) s) (is_output spec s) (named_number s named)
             (and_from (formula_updates s (whole_formula spec)) _ updates (ap not unread)))
       ]
 

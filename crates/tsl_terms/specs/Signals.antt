@@ -62,17 +62,17 @@ abbrev pub is_input : SpecTree → ℕ → Bool
 is_input spec s = is_name spec.names s Signal 0 && not (formula_updates s (whole_formula spec))
 
 -- the numbers of the names, in order
-abbrev pub numbers : SpecTree → List ℕ
-numbers spec = numbers_from 0 (length spec.names)
+abbrev pub name_numbers : SpecTree → List ℕ
+name_numbers spec = numbers_from 0 (length spec.names)
 
 abbrev pub inputs_of : SpecTree → List ℕ
-inputs_of spec = filter (is_input spec) (numbers spec)
+inputs_of spec = filter (is_input spec) (name_numbers spec)
 
 abbrev pub cells_of : SpecTree → List ℕ
-cells_of spec = filter (is_cell spec) (numbers spec)
+cells_of spec = filter (is_cell spec) (name_numbers spec)
 
 abbrev pub outputs_of : SpecTree → List ℕ
-outputs_of spec = filter (is_output spec) (numbers spec)
+outputs_of spec = filter (is_output spec) (name_numbers spec)
 
 -- the choices of a cell or an output: the terms that its updates name, and for a cell the cell itself
 abbrev pub choices_of : SpecTree → ℕ → List TermTree

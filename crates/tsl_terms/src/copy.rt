@@ -105,7 +105,7 @@ pub(crate) fn copy_part(alloc: Global, part: &Formula) -> Result<Box<Formula>, N
 
 /// Copies of the members of a list, in order.
 #[cycle(copy_formulas)]
-#[tactic(auto, using(crate::proofs::FormulaLemmas::copies_push, crate::proofs::FormulaLemmas::copies_end))]
+#[tactic(auto, using(crate::proofs::FormulaLemmas::map_push_front, crate::proofs::FormulaLemmas::copies_end))]
 pub(crate) fn copy_members(alloc: Global, formulas: &FormulaList) -> Result<Vec<Formula>, NoMemory>
     ensures { IfOk result
         (λ copies. map formula_tree copies.items ≡ member_trees formulas.now) }

@@ -35,7 +35,7 @@ use Rattle.std.proofs.Common.{
 use Rattle.std.proofs.lemmas.Bool.{and_parts, and_from, eqb-true, eq-eqb, ne_eqb, cases_Bool, cond-false, false_from_ne_true}
 use Rattle.std.proofs.lemmas.List.{drop_more}
 use Rattle.tsl_text.specs.Division.{ClosesComment, close, skip, nest, IsNoMark}
-use Rattle.tsl_text.specs.internal.Front.{opens, closes, after_comment}
+use Rattle.tsl_text.specs.internal.Front.{begins_comment, ends_comment, after_comment}
 
 -- the rest from a place with two bytes on
 drop_two : (text : List ℕ) (at : ℕ) → at + 1 < length text → drop at text ≡ get_or text at 0 ∷ get_or text (at + 1) 0 ∷ drop (at + 2) text
@@ -46,31 +46,33 @@ drop_two text at two =
 
 module _ (depth first second : ℕ) (rest : List ℕ) where
   -- one step of the scan, by the two bytes at the front
-  at_close : true ≡ closes first second →
+  at_close : true ≡ ends_comment first second →
       after_comment depth (first ∷ second ∷ rest) ≡ cond (eqb depth 0) (Some rest) (after_comment (depth - 1) rest)
   at_close closing = rw (← closing) refl
 
-  at_open : false ≡ closes first second → true ≡ opens first second →
+  at_open : false ≡ ends_comment first second → true ≡ begins_comment first second →
       after_comment depth (first ∷ second ∷ rest) ≡ after_comment (depth + 1) rest
   at_open other opening = rw (← other, ← opening) refl
 
-  at_other : false ≡ closes first second → false ≡ opens first second →
+  at_other : false ≡ ends_comment first second → false ≡ begins_comment first second →
       after_comment depth (first ∷ second ∷ rest) ≡ after_comment depth (second ∷ rest)
   at_other other another = rw (← other, ← another) refl
 
 module _ (text : List ℕ) (depth at : ℕ) (two : at + 1 < length text) where
   -- the same at a place of the text
-  pub step_close : true ≡ closes (get_or text at 0) (get_or text (at + 1) 0) →
+  pub step_close : true ≡ ends_comment (get_or text at 0) (get_or text (at + 1) 0) →
       after_comment depth (drop at text) ≡ cond (eqb depth 0) (Some (drop (at + 2) text)) (after_comment (depth - 1) (drop (at + 2) text))
   step_close closing = ap (after_comment depth) (drop_two text at two)
       ∙ at_close depth (get_or text at 0) (get_or text (at + 1) 0) (drop (at + 2) text) closing
 
-  pub step_open : false ≡ closes (get_or text at 0) (get_or text (at + 1) 0) → true ≡ opens (get_or text at 0) (get_or text (at + 1) 0) →
+  pub step_open : false ≡ ends_comment (get_or text at 0) (get_or text (at + 1) 0) →
+      true ≡ begins_comment (get_or text at 0) (get_or text (at + 1) 0) →
       after_comment depth (drop at text) ≡ after_comment (depth + 1) (drop (at + 2) text)
   step_open other opening = ap (after_comment depth) (drop_two text at two)
       ∙ at_open depth (get_or text at 0) (get_or text (at + 1) 0) (drop (at + 2) text) other opening
 
-  pub step_other : false ≡ closes (get_or text at 0) (get_or text (at + 1) 0) → false ≡ opens (get_or text at 0) (get_or text (at + 1) 0) →
+  pub step_other : false ≡ ends_comment (get_or text at 0) (get_or text (at + 1) 0) →
+      false ≡ begins_comment (get_or text at 0) (get_or text (at + 1) 0) →
       after_comment depth (drop at text) ≡ after_comment depth (drop (at + 1) text)
   step_other other another =
       let second : drop (at + 1) text ≡ get_or text (at + 1) 0 ∷ drop (at + 1 + 1) text = drop_more text (at + 1) 0 (omega arith) in
@@ -86,17 +88,17 @@ after_comment-short (byte ∷ []) depth short = refl
 after_comment-short (first ∷ second ∷ rest) depth short = absurd (omega arith)
 
 -- two bytes that are no mark, as the tests say it
-no_open : (first second : ℕ) → IsNoMark first second → false ≡ opens first second
+no_open : (first second : ℕ) → IsNoMark first second → false ≡ begins_comment first second
 no_open first second mark = sym (false_from_ne_true _ (λ h.
     let parts = and_parts (eqb first 47) (eqb second 42) h in
     mark.0 (λ i. eqb-true first 47 parts.0 i ∷ eqb-true second 42 parts.1 i ∷ [])))
 
-no_close : (first second : ℕ) → IsNoMark first second → false ≡ closes first second
+no_close : (first second : ℕ) → IsNoMark first second → false ≡ ends_comment first second
 no_close first second mark = sym (false_from_ne_true _ (λ h.
     let parts = and_parts (eqb first 42) (eqb second 47) h in
     mark.1 (λ i. eqb-true first 42 parts.0 i ∷ eqb-true second 47 parts.1 i ∷ [])))
 
-no_mark : (first second : ℕ) → closes first second ≡ false → opens first second ≡ false → IsNoMark first second
+no_mark : (first second : ℕ) → ends_comment first second ≡ false → begins_comment first second ≡ false → IsNoMark first second
 no_mark first second other another = (
   λ e. let a : first ≡ 47 = cc in let b : second ≡ 42 = cc in let h =
       and_from (eqb first 47) (eqb second 42) (eq-eqb first 47 a) (eq-eqb second 42 b) in absurd cc,
@@ -147,7 +149,7 @@ closing_not_empty (skip first second tail mark closing e) h = absurd cc
 closing_not_empty (nest inner tail closing outer e) h = absurd cc
 
 -- at a `*/`
-passed-close : (first second depth : ℕ) (rest after : List ℕ) → closes first second ≡ true →
+passed-close : (first second depth : ℕ) (rest after : List ℕ) → ends_comment first second ≡ true →
     cond (eqb depth 0) (Some rest) (after_comment (depth - 1) rest) ≡ Some after →
     ((d : ℕ) → after_comment d rest ≡ Some after → Passed rest d after) → Passed (first ∷ second ∷ rest) depth after
 passed-close first second zero rest after h found next =
@@ -176,7 +178,7 @@ passed-close first second (suc depth) rest after h found next =
     }
 
 -- at a `/*`
-passed-open : (first second depth : ℕ) (rest after : List ℕ) → opens first second ≡ true → Passed rest (depth + 1) after →
+passed-open : (first second depth : ℕ) (rest after : List ℕ) → begins_comment first second ≡ true → Passed rest (depth + 1) after →
     Passed (first ∷ second ∷ rest) depth after
 passed-open first second depth rest after h inner =
     let parts = and_parts (eqb first 47) (eqb second 42) h in
@@ -196,7 +198,8 @@ passed-open first second depth rest after h inner =
     }
 
 -- at another byte
-passed-other_at : (first second depth : ℕ) (rest after text t r : List ℕ) → closes first second ≡ false → opens first second ≡ false →
+passed-other_at : (first second depth : ℕ) (rest after text t r : List ℕ) → ends_comment first second ≡ false →
+    begins_comment first second ≡ false →
     second ∷ rest ≡ text ++ after → text ≡ t ++ r → ClosesComment t → Closings depth r → Passed (first ∷ second ∷ rest) depth after
 passed-other_at first second depth rest after text [] r h k split front closing others = absurd (closing_not_empty closing refl)
 passed-other_at first second depth rest after text (b ∷ t) r h k split front closing others =
@@ -214,7 +217,7 @@ passed-other_at first second depth rest after text (b ∷ t) r h k split front c
       );
     }
 
-passed-other : (first second depth : ℕ) (rest after : List ℕ) → closes first second ≡ false → opens first second ≡ false →
+passed-other : (first second depth : ℕ) (rest after : List ℕ) → ends_comment first second ≡ false → begins_comment first second ≡ false →
     Passed (second ∷ rest) depth after → Passed (first ∷ second ∷ rest) depth after
 passed-other first second depth rest after h k inner =
     let one = inner.closings in
@@ -233,8 +236,8 @@ passed (first ∷ second ∷ rest) depth after e =
     ∙ e)))
     (λ k. passed-other first second depth rest after h k
     (passed (second ∷ rest) depth after (sym (at_other depth first second rest (sym h) (sym k)) ∙ e)))
-    (cases_Bool (opens first second)))
-    (cases_Bool (closes first second))
+    (cases_Bool (begins_comment first second)))
+    (cases_Bool (ends_comment first second))
 
 -- the front that closes one comment
 pub closing_front : (bytes after : List ℕ) → after_comment 0 bytes ≡ Some after →

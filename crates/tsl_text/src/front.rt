@@ -3,7 +3,7 @@
 ghost use Rattle.std.specs.Prelude.{◌≡◌, ◌≤◌, length, drop, IfSome, IfNone};
 ghost use Rattle.std.specs.Char.{is_ascii_digit};
 ghost use Rattle.std.specs.List.{prefix_len};
-ghost use Rattle.tsl_text.specs.internal.Front.{symbol_of, opens, closes, after_comment, piece_of};
+ghost use Rattle.tsl_text.specs.internal.Front.{symbol_of, begins_comment, ends_comment, after_comment, piece_of};
 ghost use Rattle.tsl_text.specs.Names.{is_name_start, is_name_byte};
 ghost use Rattle.tsl_text.specs.Lines.{is_line_byte};
 
@@ -119,13 +119,13 @@ fn closing_len(text: &[u8]) -> Option<usize>
     while at + 1 < text.len() {
         let first = text[at];
         let second = text[at + 1];
-        if closes(first, second) {
+        if ends_comment(first, second) {
             if depth == 0 {
                 return Some(at + 2);
             }
             depth -= 1;
             at += 2;
-        } else if opens(first, second) {
+        } else if begins_comment(first, second) {
             depth += 1;
             at += 2;
         } else {
@@ -136,15 +136,15 @@ fn closing_len(text: &[u8]) -> Option<usize>
 }
 
 /// Whether the bytes are `/*`.
-fn opens(first: u8, second: u8) -> bool
-    ensures { result ≡ opens first second }
+fn begins_comment(first: u8, second: u8) -> bool
+    ensures { result ≡ begins_comment first second }
 {
     first == b'/' && second == b'*'
 }
 
 /// Whether the bytes are `*/`.
-fn closes(first: u8, second: u8) -> bool
-    ensures { result ≡ closes first second }
+fn ends_comment(first: u8, second: u8) -> bool
+    ensures { result ≡ ends_comment first second }
 {
     first == b'*' && second == b'/'
 }

@@ -6,7 +6,7 @@ use Rattle.tsl_report.specs.FaultText.{fault_text}
 use Rattle.tsl_tool.specs.declared.words.Command.TheVariants.{Synth, Recheck}
 use Rattle.tsl_tool.specs.declared.status.Status.TheVariants.{Usage, WriteFault}
 use Rattle.tsl_tool.specs.Commands.{command_of, most_bytes}
-use Rattle.tsl_tool.specs.Effects.{Effect}
+use Rattle.tsl_io.specs.Effects.{Effect}
 use Rattle.tsl_tool.specs.Ends.{IsReplyTo, Ends, answered, cut_off}
 use Rattle.tsl_tool.specs.Outcome.{usage}
 use Rattle.tsl_tool.specs.Replies.{fault_reply}

@@ -2,7 +2,9 @@
 use Rattle.std.proofs.Common.{◌≡◌, ◌≢◌, ℕ, ◌+◌, ◌<◌, ◌≤◌, ◌⊎◌, Bool, true, false, List, [], ◌++◌, length, refl, ap, sym, ◌∙◌, subst, inl}
 use Rattle.std.proofs.Common.{inr, arith, length-append}
 use Rattle.std.specs.Prelude.{Option, Some, None, Result, Ok, Err, IfOk, cond}
-use Rattle.tsl_io.specs.Told.{after, TakesFirst, WhereTold}
+use Rattle.std.proofs.lemmas.Result.{IfOk-weaker}
+use Rattle.tsl_io.specs.Told.{with_added, TakesFirst, WhereTold}
+use Rattle.tsl_io.proofs.Effects.{some_bytes, more_bytes}
 use Rattle.tsl_report.specs.declared.fault.LimitName.TheVariants.{Text}
 use Rattle.tsl_report.specs.declared.fault.Fault.TheVariants.{Usage as WrongWords, Read, Large as PastLimit}
 use Rattle.tsl_tool.specs.declared.status.Status.{Status}
@@ -11,9 +13,10 @@ use Rattle.tsl_tool.specs.declared.words.Command.{Command}
 use Rattle.tsl_tool.specs.declared.reply.Reply.{Reply}
 use Rattle.tsl_tool.specs.Causes.{Causes, Rises}
 use Rattle.tsl_tool.specs.Commands.{command_of, most_bytes}
-use Rattle.tsl_tool.specs.Effects.{Effect, HasFailed, NeverFailed, IsUntouched, IsWhole, IsCutOff, sink_of, other_sink, AreTold}
+use Rattle.tsl_io.specs.Effects.{Effect, HasFailed, NeverFailed, IsUntouched, IsWhole, IsCutOff, AreTold}
 use Rattle.tsl_tool.specs.internal.Sending.{IsSent, sent_whole, sent_in_part}
-use Rattle.tsl_tool.specs.Ends.{CountsReads, IsReplyTo, Ends, answered, cut_off, out_of_memory}
+use Rattle.tsl_tool.specs.Ends.{sink_of, other_sink}
+use Rattle.tsl_tool.specs.Ends.{CountsReads, IsReplyTo, Ends, answered, cut_off, out_of_memory, HandedOn}
 use Rattle.tsl_tool.specs.Outcome.{CommandOutcome, usage, source_failed, too_long, on_bytes}
 use Rattle.tsl_tool.specs.Promise.{Promise}
 use Rattle.tsl_tool.specs.Replies.{fault_reply}
@@ -22,31 +25,11 @@ use Rattle.tsl_tool.proofs.Statuses.{comes_of_bytes}
 use Rattle.tsl_tool.proofs.OutcomeLaws.{command_comes, usage_of_words, words_to_usage, no_write_fault, no_memory}
 use Rattle.tsl_tool.proofs.OutcomeLaws.{outcome_says, keeps_promise}
 
-if_ok : {A E : Type 0} {P Q : A → Type 0} (r : Result A E) → ((a : A) → P a → Q a) → IfOk r P → IfOk r Q
-if_ok (Ok a) f h = f a h
-if_ok (Err e) f h = tt
-
--- Some bytes that a source may have.
-some_bytes : (told : Option (List ℕ)) → (bytes : List ℕ) × AreTold told bytes
-some_bytes None = ([], λ known is. cc)
-some_bytes (Some bytes) = (bytes, λ known is. cc)
-
--- where so many bytes and one more were taken, the source has more than so many
-more_bytes : (limit : ℕ) (old new : Option (List ℕ)) → TakesFirst (limit + 1) old new →
-    (bytes : List ℕ) × AreTold old bytes × (limit < length bytes)
-more_bytes limit old None (taken, count, is) =
-    (taken, λ known told. (let e : Some known ≡ None = sym told ∙ is in cc), omega (arith, count))
-more_bytes limit old (Some rest) (taken, count, is) = (
-  taken ++ rest,
-  λ known told. (let e : Some known ≡ Some (taken ++ rest) = sym told ∙ is in cc),
-  omega (arith, count, length-append taken rest),
-)
-
 module _ {E : Type 0} (words : List (List ℕ)) (source : Effect) (r : Result Reply E) where
   -- the reply to the words of no command
   pub usage_reply : command_of words ≡ None → NeverFailed source → IfOk r (λ reply. reply ≡ fault_reply WrongWords) →
       IfOk r (IsReplyTo words source)
-  usage_reply none count = if_ok r (λ reply is.
+  usage_reply none count = IfOk-weaker r _ _ (λ reply is.
       let bytes = some_bytes source.old in record {
         bytes = bytes.0;
         told = bytes.1;
@@ -58,7 +41,7 @@ module _ {E : Type 0} (words : List (List ℕ)) (source : Effect) (r : Result Re
   pub fault_reply_to : (command : Command) → command_of words ≡ Some command → HasFailed source →
       IfOk r (λ reply. reply ≡ fault_reply Read) →
       IfOk r (IsReplyTo words source)
-  fault_reply_to command known fault = if_ok r (λ reply is.
+  fault_reply_to command known fault = IfOk-weaker r _ _ (λ reply is.
       let bytes = some_bytes source.old in record {
         bytes = bytes.0;
         told = bytes.1;
@@ -71,7 +54,7 @@ module _ {E : Type 0} (words : List (List ℕ)) (source : Effect) (r : Result Re
       TakesFirst (most_bytes command + 1) source.old source.new →
       IfOk r (λ reply. reply ≡ fault_reply (PastLimit Text (most_bytes command))) →
       IfOk r (IsReplyTo words source)
-  large_reply command known count takes = if_ok r (λ reply is.
+  large_reply command known count takes = IfOk-weaker r _ _ (λ reply is.
       let bytes = more_bytes (most_bytes command) source.old source.new takes in record {
         bytes = bytes.0;
         told = bytes.1;
@@ -94,7 +77,7 @@ counted Memory source comes count = count
 pub bytes_reply : {E : Type 0} (words : List (List ℕ)) (source : Effect) (r : Result Reply E) (command : Command) (text lent : List ℕ) →
     command_of words ≡ Some command → NeverFailed source → WhereTold source.old (λ bytes. text ≡ bytes) → length text ≤ most_bytes command →
     lent ≡ text → IfOk r (CommandOutcome command lent) → IfOk r (IsReplyTo words source)
-bytes_reply words source r command text lent known count told few same = if_ok r (λ reply outcome.
+bytes_reply words source r command text lent known count told few same = IfOk-weaker r _ _ (λ reply outcome.
     let on_text : CommandOutcome command text reply = subst (λ (b : List ℕ). CommandOutcome command b reply) same outcome in record {
       bytes = text;
       told = λ bytes is. sym (told bytes is);
@@ -130,7 +113,7 @@ module _ (words : List (List ℕ)) (source out err : Effect) (reply : Reply) (re
   -- and what it promises
   pub out_promises : IsReplyTo words source reply → IsSent reply out result → is_answer result ≡ true →
       (bytes : List ℕ) × (text : List ℕ) × AreTold source.old bytes × Promise (command_of words) result bytes text ×
-      (out.new ≡ after text out.old)
+      (out.new ≡ with_added text out.old)
   out_promises h (sent_whole is whole) answer = (
     h.bytes,
     reply.text,
@@ -204,3 +187,21 @@ causes words source out err result (out_of_memory is same_out same_err) = record
   err_rise = λ rises. absurd (never_rises err same_err.count rises);
   memory = λ e. (same_out, same_err);
 }
+
+-- what went to the second sink was handed on
+pub err_handed_on : (reply : Reply) (sink : Effect) (result : Status) (out err : Type 0) → is_answer reply.status ≡ false →
+    IsSent reply sink result → (result ≢ WriteFault → err) → HandedOn result out err
+err_handed_on reply sink result out err other (sent_whole is whole) flushed = by result (ap is_answer is ∙ other) flushed
+  where
+    by : (status : Status) → is_answer status ≡ false → (status ≢ WriteFault → err) → HandedOn status out err
+    by Done h f = cc
+    by No h f = cc
+    by Spent h f = cc
+    by Usage h f = f (λ e. cc)
+    by Reading h f = f (λ e. cc)
+    by Large h f = f (λ e. cc)
+    by ReadFault h f = f (λ e. cc)
+    by WriteFault h f = tt
+    by Memory h f = tt
+err_handed_on reply sink result out err other (sent_in_part is part) flushed =
+    subst (λ (status : Status). HandedOn status out err) (sym is) tt

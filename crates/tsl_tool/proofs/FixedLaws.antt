@@ -20,7 +20,7 @@ use Rattle.tsl_terms.specs.FormulaTree.{Atom, test, update, FormulaTree, atom, u
 use Rattle.tsl_terms.specs.Atoms.{atoms}
 use Rattle.tsl_terms.specs.SpecTree.{SpecTree, conjunction_of, all_formulas, whole_formula}
 use Rattle.tsl_terms.specs.WellFormed.{atom_fits, formula_fits, SpecFits}
-use Rattle.tsl_terms.specs.Signals.{term_for, terms_for, atom_updates, formula_updates, is_cell, is_output, is_input, numbers, inputs_of}
+use Rattle.tsl_terms.specs.Signals.{term_for, terms_for, atom_updates, formula_updates, is_cell, is_output, is_input, name_numbers, inputs_of}
 use Rattle.tsl_terms.specs.Signals.{cells_of, outputs_of}
 use Rattle.tsl_terms.specs.OnlyThese.{reads_only, read_only, atom_reads_only, atom_updates_only}
 use Rattle.tsl_terms.specs.Value.{beside}
@@ -154,11 +154,12 @@ module _ (spec : SpecTree) (fixed : IsFixed spec) where
       elim (or_cases (is_among (cells_of spec) s) (is_among (outputs_of spec) s)
       (sym (list_any-append (λ r. r == s) (cells_of spec) (outputs_of spec)) ∙ among)) [
         | inl cell ↦
-            let passes = and_parts (is_among (numbers spec) s) (is_cell spec s) (sym (among_filter (is_cell spec) s (numbers spec))
+            let passes = and_parts (is_among (name_numbers spec) s) (is_cell spec s) (sym (among_filter (is_cell spec) s (name_numbers spec))
             ∙ cell) in
             (and_parts (formula_updates s (whole_formula spec)) _ passes.1).0
         | inr output ↦
-            let passes = and_parts (is_among (numbers spec) s) (is_output spec s) (sym (among_filter (is_output spec) s (numbers spec))
+            let passes = and_parts (is_among (name_numbers spec) s) (is_output spec s)
+            (sym (among_filter (is_output spec) s (name_numbers spec))
             ∙ output) in
             (and_parts (formula_updates s (whole_formula spec)) _ passes.1).0
       ]
@@ -221,11 +222,11 @@ module _ (spec : SpecTree) (fixed : IsFixed spec) where
       signals =
           list_all-append (signal_fits spec.names) (inputs_of spec) (cells_of spec ++ outputs_of spec)
           ∙ and_from (list_all (signal_fits spec.names) (inputs_of spec)) _
-          (list_all_filter (is_input spec) (signal_fits spec.names) input_fits (numbers spec))
+          (list_all_filter (is_input spec) (signal_fits spec.names) input_fits (name_numbers spec))
           (list_all-append (signal_fits spec.names) (cells_of spec) (outputs_of spec)
           ∙ and_from (list_all (signal_fits spec.names) (cells_of spec)) _
-          (list_all_filter (is_cell spec) (signal_fits spec.names) cell_fits (numbers spec))
-          (list_all_filter (is_output spec) (signal_fits spec.names) output_fits (numbers spec)));
+          (list_all_filter (is_cell spec) (signal_fits spec.names) cell_fits (name_numbers spec))
+          (list_all_filter (is_output spec) (signal_fits spec.names) output_fits (name_numbers spec)));
       windows = refl;
       nodes = and_from (list_all (term_is_writable spec.names) (flat_map (first_term spec) (cells_of spec ++ outputs_of spec))) true
           (assigned_pass (term_is_writable spec.names) (atom_fits spec.names)

@@ -1,5 +1,8 @@
+pub mod CheckReplies
+pub mod CheckStages
 pub mod CommandExamples
 pub mod EndLaws
+pub mod FaultPromises
 pub mod FixedCode
 pub mod FixedExamples
 pub mod FixedLaws
@@ -16,6 +19,7 @@ pub mod RunLaws
 pub mod RunNames
 pub mod RunParting
 pub mod RunReplies
+pub mod RunVerdicts
 pub mod SignalNames
 pub mod Statuses
 pub mod SynthLaws

@@ -13,7 +13,7 @@ use Rattle.flow_program.specs.ProgramText.{program_text}
 use Rattle.tsl_tool.specs.declared.status.Status.{Status}
 use Rattle.tsl_tool.specs.declared.status.Status.TheVariants.{Done, No, Usage, Large, ReadFault, WriteFault, Memory}
 use Rattle.tsl_tool.specs.declared.words.Command.{Command}
-use Rattle.tsl_tool.specs.declared.words.Command.TheVariants.{Synth, Run, Recheck}
+use Rattle.tsl_tool.specs.declared.words.Command.TheVariants.{Synth, Check, Run, Recheck}
 use Rattle.tsl_tool.specs.declared.reply.Reply.{Reply}
 use Rattle.tsl_tool.specs.Commands.{command_of, most_bytes}
 use Rattle.tsl_tool.specs.Replies.{fault_status, fault_reply}
@@ -23,6 +23,8 @@ use Rattle.tsl_tool.specs.Recheck.{without_log, of_parts, head_line, verdict, pa
 use Rattle.tsl_tool.specs.Recheck.{recheck_reply, cnf_part, log_part}
 use Rattle.tsl_tool.specs.Outcome.{CommandOutcome, Outcome, usage, source_failed, too_long, on_bytes}
 use Rattle.tsl_tool.specs.Promise.{Promise}
+use Rattle.tsl_tool.proofs.CheckReplies.{check_comes, check_says, check_keeps}
+use Rattle.tsl_tool.proofs.FaultPromises.{fault_keeps}
 use Rattle.tsl_tool.proofs.RecheckLaws.{yes_refutes, no_exactly}
 use Rattle.tsl_tool.proofs.RunReplies.{run_comes, run_says, run_keeps}
 use Rattle.tsl_tool.proofs.Statuses.{comes_of_bytes, status_of, text_of, refusal_comes, line_says, fault_says}
@@ -44,6 +46,7 @@ command_comes (Synth sizes) bytes reply (written done h) = ap comes_of_bytes don
 command_comes (Synth sizes) bytes reply (unbuilt h is) = ap comes_of_bytes (status_of is)
 command_comes (Synth sizes) bytes reply (refused fault h is) = ap comes_of_bytes (status_of is)
     ∙ refusal_comes bytes h.error fault h.is_fault
+command_comes (Check bound) bytes reply outcome = check_comes bound bytes reply outcome
 command_comes Run bytes reply outcome = run_comes bytes reply outcome
 command_comes Recheck bytes reply (without_log h is) = ap comes_of_bytes (status_of is)
 command_comes Recheck bytes reply (of_parts at h is) =
@@ -100,6 +103,7 @@ command_says (Synth sizes) bytes reply (written done h) e =
     let program : program_text h.spec.names h.program ≡ [] = sym h.spelled.text ∙ e in cc
 command_says (Synth sizes) bytes reply (unbuilt h is) e = fault_says Unbuilt reply is e
 command_says (Synth sizes) bytes reply (refused fault h is) e = fault_says fault reply is e
+command_says (Check bound) bytes reply outcome e = check_says bound bytes reply outcome e
 command_says Run bytes reply outcome e = run_says bytes reply outcome e
 command_says Recheck bytes reply (without_log h is) e = fault_says (Parts Lrat) reply is e
 command_says Recheck bytes reply (of_parts at h is) e =
@@ -110,27 +114,6 @@ outcome_says words bytes reply (usage none is) = fault_says WrongWords reply is
 outcome_says words bytes reply (source_failed command known is) = fault_says Read reply is
 outcome_says words bytes reply (too_long command known many is) = fault_says (PastLimit Text (most_bytes command)) reply is
 outcome_says words bytes reply (on_bytes command known few outcome) = command_says command bytes reply outcome
-
--- no fault promises anything
-fault_promises : (command : Option Command) (fault : Fault) (bytes text : List ℕ) → Promise command (fault_status fault) bytes text
-fault_promises None fault bytes text = tt
-fault_promises (Some (Synth sizes)) WrongWords bytes text = tt
-fault_promises (Some (Synth sizes)) Read bytes text = tt
-fault_promises (Some (Synth sizes)) (PastLimit name limit) bytes text = tt
-fault_promises (Some (Synth sizes)) _ bytes text = tt
-fault_promises (Some Run) WrongWords bytes text = tt
-fault_promises (Some Run) Read bytes text = tt
-fault_promises (Some Run) (PastLimit name limit) bytes text = tt
-fault_promises (Some Run) _ bytes text = tt
-fault_promises (Some Recheck) WrongWords bytes text = tt
-fault_promises (Some Recheck) Read bytes text = tt
-fault_promises (Some Recheck) (PastLimit name limit) bytes text = tt
-fault_promises (Some Recheck) _ bytes text = tt
-
-fault_keeps : (command : Option Command) (fault : Fault) (bytes : List ℕ) (reply : Reply) → reply ≡ fault_reply fault →
-    Promise command reply.status bytes reply.text
-fault_keeps command fault bytes reply is =
-    subst (λ (s : Status). Promise command s bytes reply.text) (sym (status_of is)) (fault_promises command fault bytes reply.text)
 
 recheck_keeps : (bytes : List ℕ) (at : ℕ) (status : Status) → IsFirstLineAt bytes head_line at → (recheck_reply bytes at).status ≡ status →
     Promise (Some Recheck) status bytes (recheck_reply bytes at).text
@@ -145,6 +128,7 @@ command_keeps (Synth sizes) bytes reply (written done h) =
     subst (λ (s : Status). Promise (Some (Synth sizes)) s bytes reply.text) (sym done) h
 command_keeps (Synth sizes) bytes reply (unbuilt h is) = fault_keeps (Some (Synth sizes)) Unbuilt bytes reply is
 command_keeps (Synth sizes) bytes reply (refused fault h is) = fault_keeps (Some (Synth sizes)) fault bytes reply is
+command_keeps (Check bound) bytes reply outcome = check_keeps bound bytes reply outcome
 command_keeps Run bytes reply outcome = run_keeps bytes reply outcome
 command_keeps Recheck bytes reply (without_log h is) = fault_keeps (Some Recheck) (Parts Lrat) bytes reply is
 command_keeps Recheck bytes reply (of_parts at first is) =

@@ -5,6 +5,7 @@ use Rattle.std.specs.List.{list_all, flat_map, find, AllByRecursion}
 use Rattle.std.proofs.lemmas.Bool.{and_parts, leb-true}
 use Rattle.sequence.proofs.Each.{each_joined, each_flat_map, each_weaker}
 use Rattle.sequence.proofs.Passes.{each_from_list_all}
+use Rattle.sequence.proofs.Finds.{found_has}
 use Rattle.tsl_terms.specs.Name.{Name as NameEntry}
 use Rattle.tsl_terms.specs.Clashes.{alike_in_kind, same_arity}
 use Rattle.tsl_text.specs.Names.{is_usable}
@@ -29,7 +30,6 @@ use Rattle.flow_program.specs.Rules.{breaks_updates, breaks_window, is_unknown, 
 use Rattle.flow_program.specs.Reading.{HasProgramCause}
 use Rattle.tsl_terms.specs.WellFormed.{deepest}
 use Rattle.tsl_tool.specs.internal.RunFaultPlaces.{ProgramStandsIn}
-use Rattle.tsl_tool.proofs.RunFaultLaws.{found_is}
 
 module _ (text : List ℕ) where
   -- the name lies in the text
@@ -153,7 +153,7 @@ module _ (text : List ℕ) where
       by None at is = cc
       by (Some u) at is =
           let same : fault u.line u.place ≡ e = cc in
-          subst (ProgramStandsIn text) same (stands u.line u.place (found_is UseLies test uses u each at))
+          subst (ProgramStandsIn text) same (stands u.line u.place (found_has test UseLies uses u each at))
 
   first_lies : (faults : List (Option ProgramError)) → AllByRecursion FaultLies faults → FaultLies (first_there faults)
   first_lies [] each e is = cc

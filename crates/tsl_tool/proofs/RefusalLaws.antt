@@ -13,10 +13,10 @@ use Rattle.tsl_reader.specs.Spells.{Derives, HasClashAt, HasCause, name_tokens}
 use Rattle.tsl_tool.specs.internal.RefusalPlaces.{StandsIn}
 use Rattle.sequence.proofs.Each.{each_at, each_between, each_filtered}
 
-each_of : (text : List ℕ) (tokens : List Token) → AreTokens text tokens → AllByRecursion (IsTokenOf text) tokens
+pub each_of : (text : List ℕ) (tokens : List Token) → AreTokens text tokens → AllByRecursion (IsTokenOf text) tokens
 each_of text tokens are = recursion_from_All (IsTokenOf text) tokens (each_token text tokens are)
 
-token_stands : (text : List ℕ) (before : List Token) (t : Token) (after : List Token) (at : ℕ) →
+pub token_stands : (text : List ℕ) (before : List Token) (t : Token) (after : List Token) (at : ℕ) →
     AreTokens text (before ++ t ∷ after) → at ≡ t.start → at ≤ length text
 token_stands text before t after at are place =
     let token : IsTokenOf text t = each_between (IsTokenOf text) before t after (each_of text (before ++ t ∷ after) are) in

@@ -7,6 +7,8 @@ use Rattle.std.proofs.lemmas.List.Elements.{recursion_from_All}
 use Rattle.sequence.specs.Numbers.{numbers_from}
 use Rattle.sequence.proofs.Each.{each_at, each_between, each_joined, each_left, each_right, each_filtered, each_map, each_weaker}
 use Rattle.sequence.proofs.Passes.{each_from_list_all, within_from_test}
+use Rattle.sequence.proofs.Finds.{found_has}
+use Rattle.sequence.proofs.Numbers.{numbers_below}
 use Rattle.tsl_text.specs.declared.Token.{Token}
 use Rattle.tsl_text.specs.Division.{AreTokens, IsTokenOf}
 use Rattle.tsl_text.proofs.Parts.{each_token}
@@ -20,7 +22,7 @@ use Rattle.table_interp.specs.declared.InputError.{InputError}
 use Rattle.table_interp.specs.declared.InputError.TheVariants.{Byte as InputByte, OpenComment as InputComment, Form as InputForm}
 use Rattle.table_interp.specs.declared.InputError.TheVariants.{Unknown as UnknownInput, Twice as SecondInput, Missing as MissingInput}
 use Rattle.table_interp.specs.declared.InputError.TheVariants.{Rows, Count as RowWidth, Range as RowValue, NoMemory as NoInputMemory}
-use Rattle.table_interp.specs.Syntax.{Terminal, terminal_at, terminals, Entry, TablesSyntax, InputsSyntax}
+use Rattle.table_interp.specs.Syntax.{TextToken, text_token_at, text_tokens, Entry, TablesSyntax, InputsSyntax}
 use Rattle.table_interp.specs.Grammar.{IsEntry, function, predicate, cell, AreEntries, no_entry, more_entries, IsTables, tables}
 use Rattle.table_interp.specs.Grammar.{AreColumns, no_column, more_columns, IsInputs, inputs}
 use Rattle.table_interp.specs.Forms.{IsRead, HasFormFault}
@@ -28,83 +30,62 @@ use Rattle.table_interp.specs.Needed.{is_symbol_number, needed}
 use Rattle.table_interp.specs.Tables.{HasTableCause}
 use Rattle.table_interp.specs.Inputs.{HasInputCause}
 use Rattle.tsl_tool.specs.internal.RunFaultPlaces.{TableStandsIn, InputStandsIn}
+use Rattle.tsl_tool.proofs.RefusalLaws.{each_of, token_stands}
 
-each_of : (text : List ℕ) (tokens : List Token) → AreTokens text tokens → AllByRecursion (IsTokenOf text) tokens
-each_of text tokens are = recursion_from_All (IsTokenOf text) tokens (each_token text tokens are)
-
-token_stands : (text : List ℕ) (before : List Token) (t : Token) (after : List Token) (at : ℕ) →
-    AreTokens text (before ++ t ∷ after) → at ≡ t.start → at ≤ length text
-token_stands text before t after at are place =
-    let token : IsTokenOf text t = each_between (IsTokenOf text) before t after (each_of text (before ++ t ∷ after) are) in
-    omega (arith, place, token.not_empty, token.inside)
-
-form_stands : {V : Type 0} (Is : List Terminal → V → Type 0) (text : List ℕ) (at : ℕ) → HasFormFault Is text at → at ≤ length text
+form_stands : {V : Type 0} (Is : List TextToken → V → Type 0) (text : List ℕ) (at : ℕ) → HasFormFault Is text at → at ≤ length text
 form_stands Is text at h = ⊎_elim
     (λ wrong. token_stands text wrong.before wrong.token wrong.after at wrong.tokens_are wrong.place) (λ ends. omega (arith, ends.place)) h
 
 -- ---- tokens
 
 -- the token lies in the text
-abbrev LiesIn : List ℕ → Terminal → Type 0
+abbrev LiesIn : List ℕ → TextToken → Type 0
 LiesIn text x = (x.token.start ≤ x.token.end) × (x.token.end ≤ length text)
 
-each_lies : (text : List ℕ) (tokens : List Token) → AreTokens text tokens → AllByRecursion (LiesIn text) (terminals text tokens)
+each_lies : (text : List ℕ) (tokens : List Token) → AreTokens text tokens → AllByRecursion (LiesIn text) (text_tokens text tokens)
 each_lies text tokens are =
-    each_map (LiesIn text) (terminal_at text) tokens
-    (each_weaker (IsTokenOf text) (λ t. LiesIn text (terminal_at text t)) (λ t token. (omega (arith, token.not_empty), token.inside)) tokens
+    each_map (LiesIn text) (text_token_at text) tokens
+    (each_weaker (IsTokenOf text) (λ t. LiesIn text (text_token_at text t)) (λ t token. (omega (arith, token.not_empty), token.inside)) tokens
     (each_of text tokens are))
-
--- what is found in a list is as each member is
-pub found_is : {X : Type 0} (P : X → Type 0) (test : X → Bool) (xs : List X) (x : X) → AllByRecursion P xs → find test xs ≡ Some x → P x
-found_is P test [] x each is = cc
-found_is {X} P test (y ∷ ys) x each is = by (test y) refl (λ rest. found_is P test ys x each.1 rest)
-  where
-    by : (here : Bool) → test y ≡ here → (find test ys ≡ Some x → P x) → P x
-    by true e later = let same : y ≡ x = cc in subst P same each.0
-    by false e later = let rest : find test ys ≡ Some x = cc in later rest
 
 -- ---- entries and columns
 
-module _ (P : Terminal → Type 0) where
-  entry_name : (xs : List Terminal) (e : Entry) → IsEntry xs e → AllByRecursion P xs → P e.name
+module _ (P : TextToken → Type 0) where
+  entry_name : (xs : List TextToken) (e : Entry) → IsEntry xs e → AllByRecursion P xs → P e.name
   entry_name _ _ (function x y word symbol numbers) each = each.1.0
   entry_name _ _ (predicate x y word symbol numbers) each = each.1.0
   entry_name _ _ (cell x y z n word name number) each = each.1.0
 
-  entry_names : (xs : List Terminal) (es : List Entry) → AreEntries xs es → AllByRecursion P xs → AllByRecursion (λ e. P e.name) es
+  entry_names : (xs : List TextToken) (es : List Entry) → AreEntries xs es → AllByRecursion P xs → AllByRecursion (λ e. P e.name) es
   entry_names _ _ no_entry each = tt
   entry_names _ _ (more_entries {xs} {ys} {e} {es} first rest) each =
       (entry_name xs e first (each_left P xs ys each), entry_names ys es rest (each_right P xs ys each))
 
-  table_names : (xs : List Terminal) (given : TablesSyntax) → IsTables xs given → AllByRecursion P xs →
+  table_names : (xs : List TextToken) (given : TablesSyntax) → IsTables xs given → AllByRecursion P xs →
       AllByRecursion (λ e. P e.name) given.entries
   table_names _ _ (tables {xs} {es} a b c d n is_a is_b is_c is_d some entries) each = entry_names xs es entries each.1.1.1.1
 
-  column_names : (xs names : List Terminal) → AreColumns xs names → AllByRecursion P xs → AllByRecursion P names
+  column_names : (xs names : List TextToken) → AreColumns xs names → AllByRecursion P xs → AllByRecursion P names
   column_names _ _ no_column each = tt
   column_names _ _ (more_columns {xs} {ns} x y word name rest) each = (each.1.0, column_names xs ns rest each.1.1)
 
-  input_names : (xs : List Terminal) (given : InputsSyntax) → IsInputs xs given → AllByRecursion P xs → AllByRecursion P given.names
+  input_names : (xs : List TextToken) (given : InputsSyntax) → IsInputs xs given → AllByRecursion P xs → AllByRecursion P given.names
   input_names _ _ (inputs {xs} {ys} {zs} {ns} a b s c is_a is_b columns is_s stem is_c cycle) each =
       column_names xs ns columns (each_left P xs (s ∷ (ys ++ c ∷ zs)) each.1.1)
 
 entries_lie : (text : List ℕ) (given : TablesSyntax) → IsRead IsTables text given → AllByRecursion (λ e. LiesIn text e.name) given.entries
 entries_lie text given read =
-    table_names (LiesIn text) (terminals text read.tokens) given read.derived (each_lies text read.tokens read.tokens_are)
+    table_names (LiesIn text) (text_tokens text read.tokens) given read.derived (each_lies text read.tokens read.tokens_are)
 
 columns_lie : (text : List ℕ) (given : InputsSyntax) → IsRead IsInputs text given → AllByRecursion (LiesIn text) given.names
 columns_lie text given read =
-    input_names (LiesIn text) (terminals text read.tokens) given read.derived (each_lies text read.tokens read.tokens_are)
+    input_names (LiesIn text) (text_tokens text read.tokens) given read.derived (each_lies text read.tokens read.tokens_are)
 
-between : (text : List ℕ) (x : Terminal) (start end : ℕ) → LiesIn text x → start ≡ x.token.start → end ≡ x.token.end →
+between : (text : List ℕ) (x : TextToken) (start end : ℕ) → LiesIn text x → start ≡ x.token.start → end ≡ x.token.end →
     (start ≤ end) × (end ≤ length text)
 between text x start end lies starts ends = (omega (arith, lies.0, starts, ends), omega (arith, lies.1, ends))
 
 -- ---- numbers of names
-
-numbers_below : (first count limit : ℕ) → first + count ≤ limit → AllByRecursion (λ n. n < limit) (numbers_from first count)
-numbers_below first zero limit within = tt
-numbers_below first (suc count) limit within = (omega (arith, within), numbers_below (suc first) count limit (omega (arith, within)))
 
 signals_below : (names : List Name) (signals : List ℕ) → list_all (λ s. is_name names s Signal 0) signals ≡ true →
     AllByRecursion (λ s. s < length names) signals
@@ -130,19 +111,19 @@ table_cause_stands text names cells (TableForm at) named h = form_stands IsTable
 table_cause_stands text names cells Domain named h = tt
 table_cause_stands text names cells (UnknownEntry start end) named h =
     between text h.cause.entry.name start end
-    (found_is (λ e. LiesIn text e.name) _ h.given.entries h.cause.entry (entries_lie text h.given h.read.read) h.cause.first)
+    (found_has _ (λ e. LiesIn text e.name) h.given.entries h.cause.entry (entries_lie text h.given h.read.read) h.cause.first)
     h.cause.starts h.cause.ends
 table_cause_stands text names cells (SecondEntry start end) named h =
     between text h.cause.entry.name start end
     (each_at (λ e. LiesIn text e.name) h.given.entries h.cause.at h.cause.entry (entries_lie text h.given h.read.read) h.cause.there)
     h.cause.starts h.cause.ends
 table_cause_stands text names cells (MissingEntry id) named h =
-    found_is (λ i. i < length names) _ (needed names cells) id (needed_below names cells named) h.cause.first
+    found_has _ (λ i. i < length names) (needed names cells) id (needed_below names cells named) h.cause.first
 table_cause_stands text names cells (Entries id) named h = tt
 table_cause_stands text names cells (EntryCount id) named h =
-    found_is (λ i. i < length names) _ (needed names cells) id (needed_below names cells named) h.cause.first
+    found_has _ (λ i. i < length names) (needed names cells) id (needed_below names cells named) h.cause.first
 table_cause_stands text names cells (EntryRange id value) named h =
-    found_is (λ i. i < length names) _ (needed names cells) id (needed_below names cells named) h.cause.first
+    found_has _ (λ i. i < length names) (needed names cells) id (needed_below names cells named) h.cause.first
 table_cause_stands text names cells NoTableMemory named h = tt
 
 pub input_cause_stands : (text : List ℕ) (names : List Name) (signals : List ℕ) (domain : ℕ) (error : InputError) →
@@ -152,14 +133,14 @@ input_cause_stands text names signals domain (InputComment at) named h = omega (
 input_cause_stands text names signals domain (InputForm at) named h = form_stands IsInputs text at h
 input_cause_stands text names signals domain (UnknownInput start end) named h =
     between text h.cause.column start end
-    (found_is (LiesIn text) _ h.given.names h.cause.column (columns_lie text h.given h.read) h.cause.first)
+    (found_has _ (LiesIn text) h.given.names h.cause.column (columns_lie text h.given h.read) h.cause.first)
     h.cause.starts h.cause.ends
 input_cause_stands text names signals domain (SecondInput start end) named h =
     between text h.cause.column start end
     (each_at (LiesIn text) h.given.names h.cause.at h.cause.column (columns_lie text h.given h.read) h.cause.there)
     h.cause.starts h.cause.ends
 input_cause_stands text names signals domain (MissingInput id) named h =
-    found_is (λ i. i < length names) _ signals id (signals_below names signals named) h.cause.first
+    found_has _ (λ i. i < length names) signals id (signals_below names signals named) h.cause.first
 input_cause_stands text names signals domain Rows named h = tt
 input_cause_stands text names signals domain (RowWidth row) named h = tt
 input_cause_stands text names signals domain (RowValue row value) named h = tt

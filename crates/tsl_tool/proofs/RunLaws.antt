@@ -9,6 +9,8 @@ use Rattle.std.proofs.lemmas.List.Elements.{recursion_from_All}
 use Rattle.sequence.proofs.Each.{each_at, each_joined, each_map, each_weaker}
 use Rattle.sequence.proofs.Options.{one_value}
 use Rattle.sequence.proofs.Passes.{list_all_weaker, list_all_from_places}
+use Rattle.sequence.proofs.Gathered.{length-all_there}
+use Rattle.tsl_meaning.proofs.PromisedFormulas.{whole_still_speaks}
 use Rattle.tsl_terms.specs.Name.{Name}
 use Rattle.tsl_terms.specs.FormulaTree.{FormulaTree}
 use Rattle.tsl_terms.specs.Atoms.{atoms}
@@ -23,7 +25,7 @@ use Rattle.term_text.specs.TermText.{term_is_held}
 use Rattle.flow_program.specs.ProgramTree.{ProgramTree}
 use Rattle.flow_program.specs.Uses.{uses_of, entries_of_use}
 use Rattle.tsl_meaning.specs.declared.run.InputLoop.{InputLoop}
-use Rattle.tsl_meaning.specs.Interpretation.{InputRows, IsInterpretation, IsInputLoop, IsRow, meanings_in}
+use Rattle.tsl_meaning.specs.Interpretation.{InputRows, IsInterpretation, IsInputLoop, IsRow, meanings_in, rows_of}
 use Rattle.tsl_meaning.specs.Lasso.{meets}
 use Rattle.tsl_meaning.specs.OverNames.{term_is_over, atom_is_over, IsFormulaOver}
 use Rattle.tsl_meaning.specs.Run.{configuration_at, action_in}
@@ -35,7 +37,7 @@ use Rattle.tsl_meaning.proofs.PromisedFormulas.{windows_speak}
 use Rattle.tsl_meaning.proofs.Runs.{step_there, atoms_decided, configuration_there, action_there, IsConfiguration}
 use Rattle.tsl_meaning.proofs.RunsOf.{run_means, decided_judged}
 use Rattle.table_interp.specs.Inputs.{SpellsInputs, by_inputs}
-use Rattle.table_interp.specs.Meaning.{TablesMeaning, meanings_of, rows_of}
+use Rattle.table_interp.specs.Meaning.{TablesMeaning, meanings_of}
 use Rattle.table_runner.specs.Running.{rows_seen, CanRun}
 use Rattle.tsl_report.specs.TraceText.{position_is_held, RunIsHeld}
 use Rattle.tsl_report.specs.declared.fault.LimitName.TheVariants.{Run as RunLimit}
@@ -47,7 +49,7 @@ use Rattle.tsl_tool.specs.Run.{meanings_of_input, trace_reply, InputOutcome, Clo
 use Rattle.tsl_tool.specs.Run.{most_configurations, signals_reply}
 use Rattle.tsl_tool.specs.RunParts.{RunParts}
 use Rattle.tsl_tool.specs.internal.RunView.{GivenFits, IsReady, verdict_in, verdicts_in}
-use Rattle.tsl_tool.proofs.RunNames.{with_uses_begin, atom_still, inputs_held, cells_held, outputs_held, over_held, length-all_there}
+use Rattle.tsl_tool.proofs.RunNames.{with_uses_begin, inputs_held, cells_held, outputs_held, over_held}
 
 -- ---- what is lent and what it means
 
@@ -153,20 +155,9 @@ module _ (input : RunInput) (ready : IsReady input) where
 
     whole_speaks : (spec : SpecTree) → SpecFits spec → (more : List Name) → input.names ≡ spec.names ++ more →
         HasGivenSignals (Some spec) input.program → IsFormulaOver input.names input.program (whole_formula spec)
-    whole_speaks spec fits more names_are same = record {
-      names_fit =
-          ap (λ (names : List Name). list_all (atom_is_over names) (atoms (whole_formula spec))) names_are
-          ∙ list_all_weaker (atom_fits spec.names) (atom_is_over (spec.names ++ more))
-          (λ a k. atom_still spec.names more a (atom_over spec.names a k)) (atoms (whole_formula spec))
-          (and_parts (list_all (atom_fits spec.names) (atoms (whole_formula spec))) _
-          (whole_is_made_of (atom_fits spec.names) spec fits.formulas)).0;
-      reads =
-          (λ i. list_all (atom_reads_only (same.inputs i ++ same.cells i)) (atoms (whole_formula spec)))
-          ∙ whole_reads spec fits.formulas;
-      updates =
-          (λ i. list_all (atom_updates_only (same.cells i ++ same.outputs i)) (atoms (whole_formula spec)))
-          ∙ whole_updates spec fits.formulas;
-    }
+    whole_speaks spec fits more names_are same =
+        subst (λ (names : List Name). IsFormulaOver names input.program (whole_formula spec)) (sym names_are)
+        (whole_still_speaks spec fits more input.program same.inputs same.cells same.outputs)
 
     given_judged : (given : Option SpecTree) → GivenFits given → (more : List Name) → input.names ≡ given_names given ++ more →
         HasGivenSignals given input.program → AllByRecursion (IsJudged (meanings_of_input input) run) (given_formulas given)

@@ -11,6 +11,7 @@ use Rattle.sequence.specs.Numbers.{IsDistinct}
 use Rattle.sequence.specs.Options.{all_there}
 use Rattle.sequence.proofs.Passes.{list_all_weaker, within_from_test}
 use Rattle.sequence.proofs.Places.{slice_get-front, slice_get_grown}
+use Rattle.sequence.proofs.Numbers.{distinct_front, distinct_behind}
 use Rattle.tsl_terms.specs.declared.names.NameKind.{NameKind}
 use Rattle.tsl_terms.specs.declared.names.NameKind.TheVariants.{Signal, Function, Predicate}
 use Rattle.tsl_terms.specs.Name.{Name, is_name, same_kind, number_of}
@@ -58,39 +59,6 @@ with_uses_begin (u ∷ us) names = by (number_of names u.text) refl (λ more. wi
         let rest = begins (names ++ u ∷ []) in
         (u ∷ rest.0, ap (λ f. with_uses (added_unless_found names u f) us) is ∙ rest.1 ∙ append_assoc names (u ∷ []) rest.0)
 
-module _ (names more : List Name) where
-  name_still : (id : ℕ) (kind : NameKind) (arity : ℕ) → is_name names id kind arity ≡ true → is_name (names ++ more) id kind arity ≡ true
-  name_still id kind arity h =
-      ap (λ found. option_map_or (λ n. same_kind n.kind kind && (n.arity == arity)) found false)
-      (slice_get-front names more id (within_from_test names id (λ n. same_kind n.kind kind && (n.arity == arity)) h)) ∙ h
-
-  mutual
-    term_still : (t : TermTree) → term_is_over names t ≡ true → term_is_over (names ++ more) t ≡ true
-    term_still (signal s) h = name_still s Signal 0 h
-    term_still (apply f ts) h =
-        let parts = and_parts (is_name names f Function (count_of_terms ts)) (terms_are_over names ts) h in
-        and_from (is_name (names ++ more) f Function (count_of_terms ts)) (terms_are_over (names ++ more) ts)
-        (name_still f Function (count_of_terms ts) parts.0) (terms_still ts parts.1)
-
-    terms_still : (ts : TermTrees) → terms_are_over names ts ≡ true → terms_are_over (names ++ more) ts ≡ true
-    terms_still no_terms h = h
-    terms_still (more_terms t ts) h =
-        let parts = and_parts (term_is_over names t) (terms_are_over names ts) h in
-        and_from (term_is_over (names ++ more) t) (terms_are_over (names ++ more) ts) (term_still t parts.0) (terms_still ts parts.1)
-
-  probe_still : (p : ProbeTree) → probe_is_over names p ≡ true → probe_is_over (names ++ more) p ≡ true
-  probe_still p h =
-      let parts = and_parts (is_name names p.predicate Predicate (count_of_terms p.arguments)) (terms_are_over names p.arguments) h in
-      and_from (is_name (names ++ more) p.predicate Predicate (count_of_terms p.arguments)) (terms_are_over (names ++ more) p.arguments)
-      (name_still p.predicate Predicate (count_of_terms p.arguments) parts.0) (terms_still p.arguments parts.1)
-
-  -- an atom over names is over more names
-  pub atom_still : (a : Atom) → atom_is_over names a ≡ true → atom_is_over (names ++ more) a ≡ true
-  atom_still (test p) h = probe_still p h
-  atom_still (update s t) h =
-      let parts = and_parts (is_name names s Signal 0) (term_is_over names t) h in
-      and_from (is_name (names ++ more) s Signal 0) (term_is_over (names ++ more) t) (name_still s Signal 0 parts.0) (term_still t parts.1)
-
 -- ---- the signals of a program
 
 module _ (names : List Name) (program : ProgramTree) (is_program : IsProgram program) (writable : IsWritable names program) where
@@ -126,20 +94,6 @@ module _ (names : List Name) (program : ProgramTree) (is_program : IsProgram pro
   outputs_held = held program.outputs controlled_parts.1
 
 -- a part of a list without repeats has none
-behind : {X : Type 0} (xs ys : List X) (k p : ℕ) → p ≡ length xs + k → slice_get (xs ++ ys) p ≡ slice_get ys k
-behind [] ys k p e = let same : p ≡ k = omega (arith, e) in ap (slice_get ys) same
-behind (x ∷ xs) ys k zero e = absurd (omega (arith, e))
-behind (x ∷ xs) ys k (suc p) e = behind xs ys k p (omega (arith, e))
-
-distinct_front : (xs ys : List ℕ) → IsDistinct (xs ++ ys) → IsDistinct xs
-distinct_front xs ys h i j n first second = h i j n (slice_get_grown xs ys i n first) (slice_get_grown xs ys j n second)
-
-distinct_behind : (xs ys : List ℕ) → IsDistinct (xs ++ ys) → IsDistinct ys
-distinct_behind xs ys h i j n first second =
-    let same : length xs + i ≡ length xs + j =
-    h (length xs + i) (length xs + j) n (behind xs ys i (length xs + i) refl ∙ first) (behind xs ys j (length xs + j) refl ∙ second) in
-    omega (arith, same)
-
 pub inputs_distinct : (program : ProgramTree) → IsProgram program → IsDistinct program.inputs
 inputs_distinct program h =
     distinct_front program.inputs program.cells (distinct_front (program.inputs ++ program.cells) program.outputs h.signals_distinct)
@@ -162,16 +116,3 @@ mutual
   over_all_held names (more_terms t ts) h =
       let parts = and_parts (term_is_over names t) (terms_are_over names ts) h in
       and_from (term_is_held names t) (terms_are_held names ts) (over_held names t parts.0) (over_all_held names ts parts.1)
-
--- a list whose members are all there is as long as before
-pub length-all_there : {X : Type 0} (members : List (Option X)) (xs : List X) → all_there members ≡ Some xs → length xs ≡ length members
-length-all_there [] xs is = let e : [] ≡ xs = cc in ap length (sym e)
-length-all_there (None ∷ members) xs is = cc
-length-all_there {X} (Some x ∷ members) xs is = by (all_there members) refl is (λ ys. length-all_there members ys)
-  where
-    by : (rest : Option (List X)) → all_there members ≡ rest → option_map (λ ys. x ∷ ys) rest ≡ Some xs →
-        ((ys : List X) → all_there members ≡ Some ys → length ys ≡ length members) → length xs ≡ suc (length members)
-    by None e made later = cc
-    by (Some ys) e made later =
-        let same : x ∷ ys ≡ xs = cc in
-        ap length (sym same) ∙ ap suc (later ys e)

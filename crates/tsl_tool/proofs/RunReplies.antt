@@ -4,6 +4,7 @@ use Rattle.std.specs.Prelude.{Some, is_some, slice_get, if◌then◌else◌}
 use Rattle.std.specs.List.{list_all, AllByRecursion}
 use Rattle.std.proofs.lemmas.Bool.{and_parts}
 use Rattle.sequence.proofs.Places.{contains_at}
+use Rattle.sequence.proofs.Lists.{not_empty_before, not_empty_behind}
 use Rattle.tsl_terms.specs.Name.{Name}
 use Rattle.tsl_terms.specs.FormulaTree.{FormulaTree}
 use Rattle.tsl_meaning.specs.Lasso.{meets}
@@ -37,11 +38,13 @@ use Rattle.tsl_tool.specs.Run.{verdicts_of}
 use Rattle.tsl_tool.specs.Run.{verdict_status, run_reply, lasso_of, signals_reply, most_configurations, Closes, HasPartFault, in_spec}
 use Rattle.tsl_tool.specs.Run.{in_program, in_tables, in_inputs, InputOutcome, runs_on, other_signals, traced, part_refused, spelled}
 use Rattle.tsl_tool.specs.Run.{RunOutcome, missing, of_all_parts}
+use Rattle.tsl_tool.proofs.RunVerdicts.{each_holds, some_no, all_of_done, not_all_of_no}
+use Rattle.tsl_tool.proofs.FaultPromises.{fault_keeps}
 use Rattle.tsl_tool.proofs.Statuses.{comes_of_bytes, status_of, text_of, refusal_comes, fault_says}
 
 -- ---- statuses
 
-program_fault_comes : (text : List ℕ) (error : ProgramError) (fault : Fault) → IsProgramFault text error fault →
+pub program_fault_comes : (text : List ℕ) (error : ProgramError) (fault : Fault) → IsProgramFault text error fault →
     comes_of_bytes (fault_status fault) ≡ true
 program_fault_comes text (Form line) fault h = ap (λ f. comes_of_bytes (fault_status f)) h
 program_fault_comes text (Order line) fault h = ap (λ f. comes_of_bytes (fault_status f)) h
@@ -111,19 +114,11 @@ run_comes bytes reply (of_all_parts parts are (spelled input h outcome)) = input
 
 -- ---- texts
 
-some_before : (xs ys : List ℕ) → xs ≢ [] → xs ++ ys ≢ []
-some_before [] ys some e = some refl
-some_before (x ∷ xs) ys some e = cc
-
-some_after : (xs ys : List ℕ) → ys ≢ [] → xs ++ ys ≢ []
-some_after [] ys some e = some e
-some_after (x ∷ xs) ys some e = cc
-
 trace_says : (names : List Name) (run : RunTree ℕ) (has_formula : Bool) (verdicts : List Bool) →
     trace_text names run has_formula verdicts ≢ []
 trace_says names run has_formula verdicts =
-    some_before (positions_text names run 0 run.positions ++ loop_text run.start run.length) (verdicts_text has_formula 0 verdicts)
-    (some_after (positions_text names run 0 run.positions) (loop_text run.start run.length) (λ e. cc))
+    not_empty_before (positions_text names run 0 run.positions ++ loop_text run.start run.length) (verdicts_text has_formula 0 verdicts)
+    (not_empty_behind (positions_text names run 0 run.positions) (loop_text run.start run.length) (λ e. cc))
 
 input_says : (input : RunInput) (reply : Reply) → InputOutcome input reply → reply.text ≢ []
 input_says input reply (runs_on different is) e = fault_says (Large RunLimit most_configurations) reply is e
@@ -137,48 +132,6 @@ run_says bytes reply (of_all_parts parts are (part_refused fault h is)) e = faul
 run_says bytes reply (of_all_parts parts are (spelled input h outcome)) e = input_says input reply outcome e
 
 -- ---- promises
-
--- where the status says yes, each formula holds
-each_holds : (formulas : List FormulaTree) (holds : FormulaTree → Bool) → list_all (λ b. b) (map holds formulas) ≡ true →
-    AllByRecursion (λ f. holds f ≡ true) formulas
-each_holds [] holds all = tt
-each_holds (f ∷ fs) holds all =
-    let parts = and_parts (holds f) (list_all (λ b. b) (map holds fs)) all in (parts.0, each_holds fs holds parts.1)
-
--- and where it says no, a verdict is no
-no_at : (verdicts : List Bool) → list_all (λ b. b) verdicts ≡ false → (i : ℕ) × (slice_get verdicts i ≡ Some false)
-no_at [] all = cc
-no_at (false ∷ verdicts) all = (0, refl)
-no_at (true ∷ verdicts) all = let rest = no_at verdicts all in (suc rest.0, rest.1)
-
-some_no : (verdicts : List Bool) → list_all (λ b. b) verdicts ≡ false → Contains verdicts false
-some_no verdicts all = let found = no_at verdicts all in contains_at verdicts found.0 false found.1
-
-all_of_done : (verdicts : List Bool) → verdict_status verdicts ≡ Done → list_all (λ b. b) verdicts ≡ true
-all_of_done verdicts is = by (list_all (λ b. b) verdicts) is
-  where
-    by : (all : Bool) → (if all then Done else No) ≡ Done → all ≡ true
-    by true e = refl
-    by false e = cc
-
-not_all_of_no : (verdicts : List Bool) → verdict_status verdicts ≡ No → list_all (λ b. b) verdicts ≡ false
-not_all_of_no verdicts is = by (list_all (λ b. b) verdicts) is
-  where
-    by : (all : Bool) → (if all then Done else No) ≡ No → all ≡ false
-    by true e = cc
-    by false e = refl
-
--- no fault promises anything
-fault_promises : (fault : Fault) (bytes text : List ℕ) → Promise (Some Run) (fault_status fault) bytes text
-fault_promises Usage bytes text = tt
-fault_promises Read bytes text = tt
-fault_promises (Large name limit) bytes text = tt
-fault_promises _ bytes text = tt
-
-run_fault_keeps : (bytes : List ℕ) (fault : Fault) (reply : Reply) → reply ≡ fault_reply fault →
-    Promise (Some Run) reply.status bytes reply.text
-run_fault_keeps bytes fault reply is =
-    subst (λ (s : Status). Promise (Some Run) s bytes reply.text) (sym (status_of is)) (fault_promises fault bytes reply.text)
 
 module _ (bytes : List ℕ) (parts : RunParts) (are : AreParts bytes parts) (input : RunInput) (spells : SpellRunInput parts input) where
   abbrev is_trace : (run : RunTree ℕ) → Closes input run → HasGivenSignals input.given input.program →
@@ -207,7 +160,7 @@ module _ (bytes : List ℕ) (parts : RunParts) (are : AreParts bytes parts) (inp
   traced_keeps run _ closes same is = tt
 
   input_keeps : (reply : Reply) → InputOutcome input reply → Promise (Some Run) reply.status bytes reply.text
-  input_keeps reply (runs_on different is) = run_fault_keeps bytes (Large RunLimit most_configurations) reply is
+  input_keeps reply (runs_on different is) = fault_keeps (Some Run) (Large RunLimit most_configurations) bytes reply is
   input_keeps reply (other_signals run closes other is) =
       subst (λ (r : Reply). Promise (Some Run) r.status bytes r.text) (sym is)
       (signals_differ parts are input spells other refl)
@@ -216,6 +169,6 @@ module _ (bytes : List ℕ) (parts : RunParts) (are : AreParts bytes parts) (inp
       (traced_keeps run (run_reply input run).status closes same refl)
 
 pub run_keeps : (bytes : List ℕ) (reply : Reply) → RunOutcome bytes reply → Promise (Some Run) reply.status bytes reply.text
-run_keeps bytes reply (missing head lacks is) = run_fault_keeps bytes (Parts head) reply is
-run_keeps bytes reply (of_all_parts parts are (part_refused fault h is)) = run_fault_keeps bytes fault reply is
+run_keeps bytes reply (missing head lacks is) = fault_keeps (Some Run) (Parts head) bytes reply is
+run_keeps bytes reply (of_all_parts parts are (part_refused fault h is)) = fault_keeps (Some Run) fault bytes reply is
 run_keeps bytes reply (of_all_parts parts are (spelled input h outcome)) = input_keeps bytes parts are input h reply outcome

@@ -3,7 +3,7 @@ use Rattle.std.specs.Prelude.{◌≡◌, ℕ, ◌<◌, ◌⊎◌, List, None}
 use Rattle.tsl_tool.specs.declared.status.Status.{Status}
 use Rattle.tsl_tool.specs.declared.status.Status.TheVariants.{Usage, ReadFault, WriteFault, Memory}
 use Rattle.tsl_tool.specs.Commands.{command_of}
-use Rattle.tsl_tool.specs.Effects.{Effect, HasFailed, IsUntouched}
+use Rattle.tsl_io.specs.Effects.{Effect, HasFailed, IsUntouched}
 
 -- a fault was counted
 abbrev pub Rises : Effect → Type 0

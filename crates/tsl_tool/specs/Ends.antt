@@ -1,10 +1,18 @@
 -- How a run ends: its status, whether the source failed, and what stands in the sinks.
-use Rattle.std.specs.Prelude.{◌≡◌, ℕ, List}
+use Rattle.std.specs.Prelude.{◌≡◌, ℕ, List, cond}
+use Rattle.tsl_io.specs.Effects.{Effect, HasFailed, NeverFailed, IsUntouched, IsWhole, IsCutOff, AreTold}
 use Rattle.tsl_tool.specs.declared.status.Status.{Status}
 use Rattle.tsl_tool.specs.declared.status.Status.TheVariants.{Done, No, Usage, Reading, Large, Spent, ReadFault, WriteFault, Memory}
 use Rattle.tsl_tool.specs.declared.reply.Reply.{Reply}
-use Rattle.tsl_tool.specs.Effects.{Effect, HasFailed, NeverFailed, IsUntouched, IsWhole, IsCutOff, sink_of, other_sink, AreTold}
+use Rattle.tsl_tool.specs.Statuses.{is_answer}
 use Rattle.tsl_tool.specs.Outcome.{Outcome}
+
+-- the sink that the text of a status goes to, and the other one
+abbrev pub sink_of : Status → Effect → Effect → Effect
+sink_of status out err = cond (is_answer status) out err
+
+abbrev pub other_sink : Status → Effect → Effect → Effect
+other_sink status out err = cond (is_answer status) err out
 
 -- the source failed where the reply says so, and nowhere else
 abbrev pub CountsReads : Status → Effect → Type 0

@@ -1,6 +1,6 @@
 pub mod Causes
+pub mod Check
 pub mod Commands
-pub mod Effects
 pub mod Ends
 pub mod Fixed
 pub mod internal

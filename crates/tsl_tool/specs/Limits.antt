@@ -1,22 +1,30 @@
--- The limits of texts, in numbers. The definitions cite them as constants of the code, and here each constant has its number.
-use Rattle.std.specs.Prelude.{◌≡◌}
+-- The limits of texts and of the work, in numbers. The definitions cite them as constants of the code, and here each constant has its number.
+use Rattle.std.specs.Prelude.{◌≡◌, ℕ}
 use Rattle.tsl_text.specs.declared.numbers.TheConstants.{MOST_DIGITS}
 use Rattle.tsl_terms.specs.WellFormed.{deepest as deepest_brackets}
 use Rattle.tsl_reader.specs.Spells.{deepest_level, most_formula_nodes}
 use Rattle.flow_program.specs.Fits.{longest as longest_window}
 use Rattle.flow_program.specs.ProgramText.{most_windows, most_nodes as most_program_nodes, most_states as most_program_states}
 use Rattle.table_interp.specs.declared.TheConstants.{MOST_VALUES, MOST_ENTRIES, MOST_ROWS}
-use Rattle.tsl_tool.specs.declared.recheck.TheConstants.{MOST_VARIABLES, MOST_CLAUSES}
+use Rattle.refutation_check.specs.declared.dimacs.TheConstants.{MOST_VARIABLES, MOST_CLAUSES}
+use Rattle.letter_space.specs.declared.limits.TheConstants.{MOST_PREDICATES, MOST_BITS}
+use Rattle.obligations.specs.Choices.{most_choices, letter_bits}
+use Rattle.cobuchi_automata.specs.Refusals.{most_automaton_states, most_automaton_edges}
+use Rattle.tsl_tool.specs.declared.words.TheConstants.{DEFAULT_STATES, MOST_STATES, DEFAULT_BOUND, MOST_BOUND}
 use Rattle.tsl_tool.specs.declared.run.TheConstants.{MOST_CONFIGURATIONS}
 use Rattle.tsl_tool.specs.declared.words.Sizes.{Sizes}
-use Rattle.tsl_tool.specs.declared.words.Command.TheVariants.{Synth, Run, Recheck}
+use Rattle.tsl_tool.specs.declared.words.Command.TheVariants.{Synth, Check, Run, Recheck}
 use Rattle.tsl_tool.specs.Commands.{most_bytes}
 
 pub record LimitsAreThese : Type 0 where
   -- bytes of what a command reads
   pub specification_bytes : (sizes : Sizes) → most_bytes (Synth sizes) ≡ 1048576
+  pub check_bytes : (bound : ℕ) → most_bytes (Check bound) ≡ 16777216
   pub run_bytes : most_bytes Run ≡ 16777216
   pub log_bytes : most_bytes Recheck ≡ 268435456
+  -- states of a written program
+  pub usual_states : DEFAULT_STATES ≡ 2
+  pub most_states : MOST_STATES ≡ 8
   -- a specification: levels, nodes of the whole formula, brackets of a term
   pub levels : deepest_level ≡ 200
   pub formula_nodes : most_formula_nodes ≡ 10000
@@ -26,6 +34,15 @@ pub record LimitsAreThese : Type 0 where
   pub windows : most_windows ≡ 64
   pub program_nodes : most_program_nodes ≡ 65536
   pub program_states : most_program_states ≡ 64
+  -- the letters of a specification, its automaton, and the bound of an annotation
+  pub predicates : MOST_PREDICATES ≡ 10
+  pub bits : MOST_BITS ≡ 64
+  pub bits_of_letters : letter_bits ≡ 64
+  pub choices : most_choices ≡ 65536
+  pub automaton_states : most_automaton_states ≡ 4096
+  pub automaton_edges : most_automaton_edges ≡ 200000
+  pub usual_bound : DEFAULT_BOUND ≡ 2
+  pub largest_bound : MOST_BOUND ≡ 15
   -- tables, inputs, and the configurations of a run
   pub values : MOST_VALUES ≡ 256
   pub entries : MOST_ENTRIES ≡ 65536

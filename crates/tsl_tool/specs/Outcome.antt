@@ -3,17 +3,19 @@ use Rattle.std.specs.Prelude.{◌≡◌, ℕ, ◌<◌, ◌≤◌, List, length, 
 use Rattle.tsl_report.specs.declared.fault.LimitName.TheVariants.{Text}
 use Rattle.tsl_report.specs.declared.fault.Fault.TheVariants.{Usage, Read, Large}
 use Rattle.tsl_tool.specs.declared.words.Command.{Command}
-use Rattle.tsl_tool.specs.declared.words.Command.TheVariants.{Synth, Run, Recheck}
+use Rattle.tsl_tool.specs.declared.words.Command.TheVariants.{Synth, Check, Run, Recheck}
 use Rattle.tsl_tool.specs.declared.reply.Reply.{Reply}
 use Rattle.tsl_tool.specs.Commands.{command_of, most_bytes}
 use Rattle.tsl_tool.specs.Replies.{fault_reply}
 use Rattle.tsl_tool.specs.Synth.{SynthOutcome}
+use Rattle.tsl_tool.specs.Check.{CheckOutcome}
 use Rattle.tsl_tool.specs.Run.{RunOutcome}
 use Rattle.tsl_tool.specs.Recheck.{RecheckOutcome}
 
 -- what a command replies to bytes that are not too many
 abbrev pub CommandOutcome : Command → List ℕ → Reply → Type 0
 CommandOutcome (Synth sizes) bytes reply = SynthOutcome sizes bytes reply
+CommandOutcome (Check bound) bytes reply = CheckOutcome bound bytes reply
 CommandOutcome Run bytes reply = RunOutcome bytes reply
 CommandOutcome Recheck bytes reply = RecheckOutcome bytes reply
 

@@ -3,18 +3,22 @@ use Rattle.std.specs.Prelude.{◌≡◌, ℕ, List, codes, Option, Some}
 use Rattle.tsl_tool.specs.declared.status.Status.{Status}
 use Rattle.tsl_tool.specs.declared.status.Status.TheVariants.{Done, No}
 use Rattle.tsl_tool.specs.declared.words.Command.{Command}
-use Rattle.tsl_tool.specs.declared.words.Command.TheVariants.{Synth, Run, Recheck}
+use Rattle.tsl_tool.specs.declared.words.Command.TheVariants.{Synth, Check, Run, Recheck}
 use Rattle.tsl_tool.specs.Synth.{IsWritten}
+use Rattle.tsl_tool.specs.Check.{IsAcceptedProgram, IsRefusedProgram}
 use Rattle.tsl_tool.specs.Run.{AllHold, SomeFails}
 use Rattle.tsl_tool.specs.Recheck.{IsRefutation, IsRefused, OfParts}
 
 -- What a command promises of the bytes and of the text that is written, by the status. Where `synth` is done, the text spells a program,
--- which realizes the specification that the bytes spell. Where `run` is done, the text is that of the closed run of the program, tables and
+-- which realizes the specification that the bytes spell. Where `check` is done, the bytes spell a specification and a program that realizes
+-- it; where it answers no, the text is that of a verdict that refuses the program. Where `run` is done, the text is that of the closed run of the program, tables and
 -- inputs that the bytes spell, and the formula of each window and that of the specification hold in it; where it answers no, one of them
 -- fails, or the program has other signals than the specification. Where `recheck` is done, no assignment meets all clauses of the formula
 -- that the bytes spell. Where it answers no, the bytes spell a formula and a log that is refused.
 abbrev pub Promise : Option Command → Status → List ℕ → List ℕ → Type 0
 Promise (Some (Synth sizes)) Done bytes text = IsWritten sizes bytes text
+Promise (Some (Check bound)) Done bytes text = IsAcceptedProgram bytes text
+Promise (Some (Check bound)) No bytes text = IsRefusedProgram bound bytes text
 Promise (Some Run) Done bytes text = AllHold bytes text
 Promise (Some Run) No bytes text = SomeFails bytes text
 Promise (Some Recheck) Done bytes text = OfParts bytes IsRefutation × (text ≡ codes "verified\n")

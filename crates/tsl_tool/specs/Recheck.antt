@@ -9,7 +9,7 @@ use Rattle.refutation_check.specs.LogText.{LogAnswer, is_log, form_at as log_for
 use Rattle.tsl_report.specs.declared.fault.Head.TheVariants.{Lrat}
 use Rattle.tsl_report.specs.declared.fault.LimitName.TheVariants.{Variables, Clauses}
 use Rattle.tsl_report.specs.declared.fault.Fault.TheVariants.{Parts, CnfForm, LogForm, Large}
-use Rattle.tsl_tool.specs.declared.recheck.TheConstants.{MOST_VARIABLES, MOST_CLAUSES}
+use Rattle.refutation_check.specs.declared.dimacs.TheConstants.{MOST_VARIABLES, MOST_CLAUSES}
 use Rattle.tsl_tool.specs.declared.status.Status.TheVariants.{Done, No}
 use Rattle.tsl_tool.specs.declared.reply.Reply.{Reply}
 use Rattle.tsl_tool.specs.HeadLines.{IsFirstLineAt, HasNoLine}

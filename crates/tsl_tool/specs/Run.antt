@@ -6,7 +6,6 @@ use Rattle.loop_shape.specs.LoopShape.{LoopShape}
 use Rattle.tsl_terms.specs.Name.{Name}
 use Rattle.tsl_terms.specs.FormulaTree.{FormulaTree}
 use Rattle.tsl_terms.specs.SpecTree.{SpecTree, whole_formula}
-use Rattle.tsl_terms.specs.Signals.{inputs_of, cells_of, outputs_of}
 use Rattle.tsl_terms.specs.Value.{Meanings}
 use Rattle.tsl_terms.specs.WindowTree.{window_formula_of}
 use Rattle.tsl_reader.specs.Spells.{Spells}
@@ -18,6 +17,7 @@ use Rattle.tsl_meaning.specs.Lasso.{meets, Meets, Lasso, closed_run}
 use Rattle.tsl_meaning.specs.RunTree.{RunTree}
 use Rattle.tsl_meaning.specs.RunLasso.{shape_of}
 use Rattle.tsl_meaning.specs.RunOf.{IsRunOf, IsFirstRepetition, AreDifferent}
+use Rattle.program_check.specs.Verdicts.{HasSignals}
 use Rattle.table_interp.specs.declared.TableError.{TableError}
 use Rattle.table_interp.specs.declared.InputError.{InputError}
 use Rattle.table_interp.specs.Tables.{SpellsTables, HasTableCause, IsRefusedAsTables}
@@ -106,16 +106,10 @@ run_reply input run = trace_reply input.names run (is_some input.given) (verdict
 
 -- ---- the signals of the specification
 
--- the program has exactly the inputs, cells and outputs of the specification
-pub record HasSignalsOf (spec : SpecTree) (program : ProgramTree) : Type 0 where
-  pub inputs : program.inputs ≡ inputs_of spec
-  pub cells : program.cells ≡ cells_of spec
-  pub outputs : program.outputs ≡ outputs_of spec
-
--- so it has, where there is a specification
+-- the program has exactly the inputs, cells and outputs of the specification, where there is one
 abbrev pub HasGivenSignals : Option SpecTree → ProgramTree → Type 0
 HasGivenSignals None program = Unit {0}
-HasGivenSignals (Some spec) program = HasSignalsOf spec program
+HasGivenSignals (Some spec) program = HasSignals spec program
 
 abbrev pub signals_reply : Reply
 signals_reply = record { status = No; text = codes "refused signals\n" }

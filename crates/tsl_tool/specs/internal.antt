@@ -1,3 +1,4 @@
+pub mod CheckView
 pub mod FixedSlots
 pub mod RefusalPlaces
 pub mod RunFaultPlaces

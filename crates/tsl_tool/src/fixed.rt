@@ -1,6 +1,7 @@
 //! The program of one node that a specification of fixed updates has.
 
-ghost use Rattle.std.specs.Prelude.{◌≡◌, ◌↔◌, ℕ, ◌++◌, length, map, flat_map, replicate, Some, None, option_map, if◌then◌else◌, IsTrue, IfOk, IfSome, IfNone, OnOk, OnSome, option_to_list};
+ghost use Rattle.std.specs.Prelude.{◌≡◌, ◌↔◌, ℕ, ◌++◌, length, map, flat_map, replicate, Some, None, option_map, if◌then◌else◌, IsTrue};
+ghost use Rattle.std.specs.Prelude.{IfOk, IfSome, IfNone, OnOk, OnSome, option_to_list};
 ghost use Rattle.tsl_terms.specs.TermTree.{term_tree};
 ghost use Rattle.tsl_terms.specs.FormulaTree.{member_trees};
 ghost use Rattle.tsl_terms.specs.SpecView.{spec_tree};
@@ -76,7 +77,8 @@ fn add_terms(
     slots: &[Option<&Term>],
 ) -> Result<(), NoMemory>
     ensures { OnOk result (map term_tree terms.new.items
-        ≡ map term_tree terms.old.items ++ flat_map (noted_term (map lent_tree slots.now)) signals.now) }
+        ≡ map term_tree terms.old.items
+        ++ flat_map (noted_term (map lent_tree slots.now)) signals.now) }
 {
     for signal in signals {
         if let Some(term) = term_at(slots, *signal) {

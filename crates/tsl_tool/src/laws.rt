@@ -1,21 +1,26 @@
 //! Laws of the definitions that the contracts cite.
 
-ghost use Rattle.std.specs.Prelude.{◌≡◌, ◌↔◌, ℕ, List};
+ghost use Rattle.std.specs.Prelude.{◌≡◌, ◌↔◌, ℕ, List, Contains, false};
+ghost use Rattle.std.specs.List.{AllByRecursion};
 ghost use Rattle.refutation_check.specs.CnfText.{cnf_answer};
 ghost use Rattle.refutation_check.specs.LogText.{log_answer};
 ghost use Rattle.tsl_terms.specs.SpecTree.{SpecTree};
 ghost use Rattle.tsl_reader.specs.Spells.{Spells};
+ghost use Rattle.tsl_meaning.specs.Lasso.{Meets};
+ghost use Rattle.tsl_meaning.specs.RunLasso.{shape_of};
+ghost use Rattle.tsl_meaning.specs.RunTree.{RunTree};
 ghost use Rattle.tsl_tool.specs.declared.reply.Reply.{Reply};
 ghost use Rattle.tsl_tool.specs.declared.status.Status.{Status};
 ghost use Rattle.tsl_tool.specs.Causes.{Causes};
 ghost use Rattle.tsl_tool.specs.Commands.{command_of};
-ghost use Rattle.tsl_tool.specs.Effects.{Effect};
+ghost use Rattle.tsl_io.specs.Effects.{Effect};
 ghost use Rattle.tsl_tool.specs.Ends.{Ends};
 ghost use Rattle.tsl_tool.specs.Form.{SpellsUpdates};
 ghost use Rattle.tsl_tool.specs.Limits.{LimitsAreThese};
 ghost use Rattle.tsl_tool.specs.Outcome.{Outcome};
 ghost use Rattle.tsl_tool.specs.Promise.{Promise};
 ghost use Rattle.tsl_tool.specs.Recheck.{IsAccepted, IsRefused, parts_reply};
+ghost use Rattle.tsl_tool.specs.Run.{RunInput, lasso_of, judged_formulas, verdicts_of, run_reply};
 
 use crate::status::Status;
 
@@ -44,11 +49,24 @@ pub fn outcomes_keep_their_promise()
 /// `recheck` says yes exactly where its parts are a formula and a log that is accepted, and no
 /// exactly where they are a formula and a log that is refused.
 pub fn verdicts_are_those_of_logs()
-    ensures yes { (cnf log : List ℕ) → ((parts_reply (cnf_answer cnf) (log_answer log)).status ≡ Status.Done) ↔ IsAccepted cnf log }
-    ensures no { (cnf log : List ℕ) → ((parts_reply (cnf_answer cnf) (log_answer log)).status ≡ Status.No) ↔ IsRefused cnf log }
+    ensures yes { (cnf log : List ℕ) → ((parts_reply (cnf_answer cnf) (log_answer log)).status
+        ≡ Status.Done) ↔ IsAccepted cnf log }
+    ensures no { (cnf log : List ℕ)
+        → ((parts_reply (cnf_answer cnf) (log_answer log)).status ≡ Status.No) ↔ IsRefused cnf log }
 {}
 
-/// The limits of texts and of what they spell are these numbers.
+/// Where a run closes and its program has the signals of the specification, the status says yes
+/// exactly where each formula that is judged holds in it, and no exactly where one of its verdicts
+/// is that a formula fails.
+pub fn verdicts_are_those_of_runs()
+    ensures yes { (input : RunInput) (run : RunTree ℕ)
+        → ((run_reply input run).status ≡ Status.Done)
+        ↔ AllByRecursion (λ f. Meets (lasso_of input (shape_of run)) f 0) (judged_formulas input) }
+    ensures no { (input : RunInput) (run : RunTree ℕ) → ((run_reply input run).status ≡ Status.No)
+        ↔ Contains (verdicts_of input (shape_of run)) false }
+{}
+
+/// The limits of texts, of what they spell, and of the work on it are these numbers.
 pub fn limits_are_these()
     ensures { LimitsAreThese }
 {}

@@ -11,45 +11,53 @@
 //! 3. `Reply` (`src/reply.rt`): a status and one text. `fault_reply` is that of a fault.
 //! 4. `Outcome words bytes reply` (`specs/Outcome.antt`): what the words and the bytes of the
 //!    source may lead to. For each command it goes on to `SynthOutcome` (`specs/Synth.antt`),
-//!    `RunOutcome` (`specs/Run.antt`) or `RecheckOutcome` (`specs/Recheck.antt`).
-//! 5. `Effect` (`specs/Effects.antt`): the bytes and the count of faults of a source or a sink,
-//!    before the run and after it, and what can be said of them: untouched, written whole, cut off
-//!    by a fault.
+//!    `CheckOutcome` (`specs/Check.antt`), `RunOutcome` (`specs/Run.antt`) or `RecheckOutcome`
+//!    (`specs/Recheck.antt`).
+//! 5. `Effect` (`specs/Effects.antt` of `tsl_io`): the bytes and the count of faults of a source
+//!    or a sink, before the run and after it, and what can be said of them: untouched, written
+//!    whole, cut off by a fault.
 //! 6. `Ends` (`specs/Ends.antt`): the three ways in which a run ends. The text of a reply was
 //!    written whole, or it was cut off, or memory ran out. The reply is an outcome on the bytes of
 //!    the source: on those that the source tells, and on some bytes where it tells none, as
 //!    standard input does.
 //! 7. `Promise` (`specs/Promise.antt`): what the answer of each command promises. For `synth`, at
 //!    `Done` the text spells a program over the names of the specification that the bytes spell,
-//!    and every closed run of that program, under every finite interpretation and every input loop,
-//!    meets the specification's whole formula. For `run`, at `Done` the text is the closed run of the
-//!    program over the tables and the inputs that the bytes spell, and the formula of each window and
-//!    that of the specification hold in it; at `No` one of them fails, or the program has other
-//!    signals than the specification. For `recheck`, at `Done` no assignment meets all clauses of the
-//!    formula that the bytes spell.
+//!    and every closed run of that program, under every finite interpretation and every input
+//!    loop, meets the specification's whole formula. For `check`, at `Done` the bytes spell a
+//!    specification and a program of which the same holds; at `No` the verdict that is written
+//!    applies. For `run`, at `Done` the text is the closed run of the program over the tables and
+//!    the inputs that the bytes spell, and the formula of each window and that of the
+//!    specification hold in it; at `No` one of them fails, or the program has other signals than
+//!    the specification. For `recheck`, at `Done` no assignment meets all clauses of the formula
+//!    that the bytes spell.
 //!
-//! The clauses of `tsl` say: the status and what stands in the sinks are those of an
-//! `Ends`; an answer keeps the `Promise` of its command; words that read nothing leave the source
-//! as it was; what was written was handed on. What follows from them is said by laws:
-//! `ends_have_causes` gives each status its cause and each counted fault its answer, and
-//! `outcomes_keep_their_promise` says the promise of the outcomes alone. `one_specification` says
-//! that a text spells at most one specification, `plain_updates_are_spelled` that a text of plain
-//! updates (`specs/Form.antt`), whose definition does not use the grammar, spells the same
-//! specification by the grammar, and `verdicts_are_those_of_logs` that `recheck` says yes exactly
-//! where the log is accepted and no exactly where it is refused. Definitions cite the limits of
-//! texts as the constants of the code; `limits_are_these` says which numbers they are.
+//! The clauses of `tsl` say: the status and what stands in the sinks are those of an `Ends`; an
+//! answer keeps the `Promise` of its command; words that read nothing leave the source as it was;
+//! what was written was handed on. What follows from them is said by laws: `ends_have_causes` gives
+//! each status its cause and each counted fault its answer, and `outcomes_keep_their_promise` says
+//! the promise of the outcomes alone. `one_specification` says that a text spells at most one
+//! specification, `plain_updates_are_spelled` that a text of plain updates (`specs/Form.antt`),
+//! whose definition does not use the grammar, spells the same specification by the grammar, and
+//! `verdicts_are_those_of_logs` that `recheck` says yes exactly where the log is accepted and no
+//! exactly where it is refused. `verdicts_are_those_of_runs` says the same of `run` and the
+//! formulas that it judges. Definitions cite the limits of texts as the constants of the code;
+//! `limits_are_these` says which numbers they are.
 //!
-//! `run` finds the parts of its input by lines alone (`specs/RunParts.antt`), and each refusal of a
-//! part has the line of its fault (`specs/RunFaults.antt`).
+//! `check` and `run` find the parts of their input by lines alone (`specs/Check.antt`,
+//! `specs/RunParts.antt`), and each refusal of a part has the line of its fault
+//! (`specs/RunFaults.antt`).
 //!
-//! What is built: `run`, `recheck`, and `synth` or `synth --states 1`. `synth` reads every specification
-//! of the grammar, and each refusal has the line of its fault (`specs/Refusals.antt`); it writes a
-//! program for specifications of fixed updates (`specs/Fixed.antt`), and every other one is
-//! `Reading`, with the line `fault unbuilt`. A new command adds a variant, its words, a line of
-//! `CommandOutcome` with a relation of its own, and its lines of `Promise`.
+//! What is built: `check`, `run`, `recheck`, and `synth` or `synth --states 1`. `synth` reads every
+//! specification of the grammar, and each refusal has the line of its fault
+//! (`specs/Refusals.antt`); it writes a program for specifications of fixed updates
+//! (`specs/Fixed.antt`), and every other one is `Reading`, with the line `fault unbuilt`. `check`
+//! answers the same line for programs with windows. A new command adds a variant, its words, a line
+//! of `CommandOutcome` with a relation of its own, and its lines of `Promise`.
 #![tactic(auto)]
 
+mod check;
 mod fixed;
+mod head_lines;
 mod laws;
 mod recheck;
 mod refusal;
@@ -64,11 +72,13 @@ mod words;
 
 pub use laws::{
     ends_have_causes, limits_are_these, one_specification, outcomes_keep_their_promise,
-    plain_updates_are_spelled, verdicts_are_those_of_logs,
+    plain_updates_are_spelled, verdicts_are_those_of_logs, verdicts_are_those_of_runs,
 };
 pub use status::Status;
 pub use top::tsl;
 
+#[cfg(test)]
+mod check_tests;
 #[cfg(test)]
 mod run_tests;
 #[cfg(test)]

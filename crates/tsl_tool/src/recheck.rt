@@ -9,7 +9,10 @@ ghost use Rattle.tsl_tool.specs.Recheck.{RecheckOutcome, parts_reply, log_reply,
 use crate::reply::Reply;
 use crate::status::Status;
 use clause_core::Cnf;
-use refutation_check::{CnfError, Log, LogError, LogTextError, check, read_dimacs, read_lrat};
+use refutation_check::{
+    CnfError, Log, LogError, LogTextError, MOST_CLAUSES, MOST_VARIABLES, check, read_dimacs,
+    read_lrat,
+};
 use sequence::NoMemory;
 use std::alloc::Global;
 use tsl_report::{Fault, Head, LimitName};
@@ -17,12 +20,6 @@ use tsl_text::{line_at, put_bytes, put_number};
 
 /// The line between a formula and its log.
 const HEAD_LINE: &[u8] = b"lrat";
-
-/// The most variables of a formula.
-const MOST_VARIABLES: u32 = 1_048_576;
-
-/// The most clauses of a formula.
-const MOST_CLAUSES: u32 = 2_000_000;
 
 /// What `recheck` replies to these bytes: whether the log after their first line `lrat` refutes the
 /// formula before it.
@@ -49,16 +46,23 @@ fn after_head(bytes: &[u8], at: u32) -> &[u8]
 fn reply_to_parts(alloc: Global, cnf_text: &[u8], log_text: &[u8]) -> Result<Reply, NoMemory>
     requires cnf { length cnf_text.now < 2 ^ 31 }
     requires log { length log_text.now < 2 ^ 31 }
-    ensures { IfOk result (λ reply. reply ≡ parts_reply (cnf_answer cnf_text.now) (log_answer log_text.now)) }
+    ensures { IfOk result (λ reply.
+        reply ≡ parts_reply (cnf_answer cnf_text.now) (log_answer log_text.now)) }
 {
     match read_dimacs(alloc, cnf_text) {
         Ok(cnf) => reply_to_log(alloc, &cnf, log_text),
         Err(CnfError::Form(line)) => Reply::at_fault(alloc, &Fault::CnfForm(line)),
         Err(CnfError::Variables) => {
-            Reply::at_fault(alloc, &Fault::Large(LimitName::Variables, MOST_VARIABLES))
+            Reply::at_fault(
+                alloc,
+                &Fault::Large(LimitName::Variables, MOST_VARIABLES as u32),
+            )
         }
         Err(CnfError::Clauses) => {
-            Reply::at_fault(alloc, &Fault::Large(LimitName::Clauses, MOST_CLAUSES))
+            Reply::at_fault(
+                alloc,
+                &Fault::Large(LimitName::Clauses, MOST_CLAUSES as u32),
+            )
         }
         Err(CnfError::NoMemory) => Err(NoMemory),
     }
@@ -67,7 +71,8 @@ fn reply_to_parts(alloc: Global, cnf_text: &[u8], log_text: &[u8]) -> Result<Rep
 /// What is replied to a formula and the text of a log.
 fn reply_to_log(alloc: Global, cnf: &Cnf, log_text: &[u8]) -> Result<Reply, NoMemory>
     requires { length log_text.now < 2 ^ 31 }
-    ensures { IfOk result (λ reply. reply ≡ log_reply cnf.now.variables cnf.now.clauses (log_answer log_text.now)) }
+    ensures { IfOk result (λ reply.
+        reply ≡ log_reply cnf.now.variables cnf.now.clauses (log_answer log_text.now)) }
 {
     match read_lrat(alloc, log_text) {
         Ok(log) => verdict_on(alloc, cnf, &log),
@@ -79,7 +84,8 @@ fn reply_to_log(alloc: Global, cnf: &Cnf, log_text: &[u8]) -> Result<Reply, NoMe
 /// The verdict on a formula and a log.
 fn verdict_on(alloc: Global, cnf: &Cnf, log: &Log) -> Result<Reply, NoMemory>
     requires { HaveFewHints log.now.steps }
-    ensures { IfOk result (λ reply. reply ≡ verdict (log_refusal cnf.now.variables cnf.now.clauses log.now.steps)) }
+    ensures { IfOk result (λ reply.
+        reply ≡ verdict (log_refusal cnf.now.variables cnf.now.clauses log.now.steps)) }
 {
     match check(alloc, cnf, log) {
         Ok(()) => verified(alloc),

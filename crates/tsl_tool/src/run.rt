@@ -1,17 +1,16 @@
 //! The command `run`.
 
-ghost use Rattle.std.specs.Prelude.{◌≡◌, ◌+◌, ◌<◌, ◌≤◌, ◌^◌, length, IfOk, IfErr, IfSome, IfNone};
+ghost use Rattle.std.specs.Prelude.{◌≡◌, ◌+◌, ◌<◌, ◌≤◌, ◌^◌, length, IfOk, IfErr};
 ghost use Rattle.tsl_terms.specs.SpecView.{spec_tree};
 ghost use Rattle.flow_program.specs.ProgramView.{program_tree};
 ghost use Rattle.flow_program.specs.Reading.{IsReading};
-ghost use Rattle.tsl_meaning.specs.Interpretation.{IsInterpretation};
-ghost use Rattle.table_interp.specs.Meaning.{rows_of};
+ghost use Rattle.tsl_meaning.specs.Interpretation.{IsInterpretation, rows_of};
 ghost use Rattle.table_interp.specs.Tables.{SpellsTables};
-ghost use Rattle.tsl_tool.specs.HeadLines.{HasNoLine, IsCutBefore};
 ghost use Rattle.tsl_tool.specs.Run.{SpellsGiven, given_names, PartsOutcome, InputOutcome, RunOutcome};
 ghost use Rattle.tsl_tool.specs.RunParts.{AreParts, LacksPart};
 ghost use Rattle.tsl_tool.specs.internal.RunView.{run_parts, given_spec, GivenFits, AreShort, IsReady};
 
+use crate::head_lines::{PROGRAM_LINE, cut_before};
 use crate::refusal::fault_of;
 use crate::reply::Reply;
 use crate::run_faults::{fault_of_inputs, fault_of_program, fault_of_tables};
@@ -25,10 +24,6 @@ use tsl_meaning::InputLoop;
 use tsl_reader::read_spec;
 use tsl_report::{Fault, Head, LimitName};
 use tsl_terms::{Names, Spec};
-use tsl_text::line_at;
-
-/// The first line of a program.
-const PROGRAM_LINE: &[u8] = b"tslprogram 1";
 
 /// The first line of tables.
 const TABLES_LINE: &[u8] = b"tsltables 1";
@@ -84,17 +79,6 @@ fn parts_of(bytes: &[u8]) -> Result<Parts<'_>, Head>
     })
 }
 
-/// All before the first line of the text that equals this one, and all from that line on.
-fn cut_before<'a>(text: &'a [u8], line: &[u8]) -> Option<(&'a [u8], &'a [u8])>
-    requires { length text.now ≤ 2 ^ 24 }
-    ensures found { IfSome result (λ cut. IsCutBefore text.now line.now cut.0.now cut.1.now) }
-    ensures short { IfSome result (λ cut. (length cut.0.now ≤ 2 ^ 24) × (length cut.1.now ≤ 2 ^ 24)) }
-    ensures none { IfNone result (HasNoLine text.now line.now) }
-{
-    let at = line_at(text, line)? as usize;
-    Some((&text[..at], &text[at..]))
-}
-
 /// What is replied to the parts: first the specification is read, if there is one.
 fn reply_to_spec(alloc: Global, parts: &Parts<'_>) -> Result<Reply, NoMemory>
     requires short { AreShort (run_parts parts.now) }
@@ -148,7 +132,8 @@ fn reply_to_tables(
     requires short { AreShort (run_parts parts.now) }
     requires spec { SpellsGiven (run_parts parts.now).spec (given_spec spec) }
     requires fits { GivenFits (given_spec spec) }
-    requires program { IsReading (run_parts parts.now).program (given_names (given_spec spec)) (program_tree program.now) names.now }
+    requires program { IsReading (run_parts parts.now).program
+        (given_names (given_spec spec)) (program_tree program.now) names.now }
     ensures { IfOk result (PartsOutcome (run_parts parts.now)) }
 {
     match read_tables(alloc, parts.tables, names, program.cells.as_slice()) {
@@ -172,8 +157,10 @@ fn reply_to_inputs(
     requires short { AreShort (run_parts parts.now) }
     requires spec { SpellsGiven (run_parts parts.now).spec (given_spec spec) }
     requires fits { GivenFits (given_spec spec) }
-    requires program { IsReading (run_parts parts.now).program (given_names (given_spec spec)) (program_tree program.now) names.now }
-    requires tables { SpellsTables (run_parts parts.now).tables names.now program.now.cells tables.now.interpretation }
+    requires program { IsReading (run_parts parts.now).program
+        (given_names (given_spec spec)) (program_tree program.now) names.now }
+    requires tables { SpellsTables
+        (run_parts parts.now).tables names.now program.now.cells tables.now.interpretation }
     requires meaning { IsInterpretation names.now program.now.cells tables.now.interpretation }
     requires cells { tables.now.cells ≡ program.now.cells }
     ensures { IfOk result (PartsOutcome (run_parts parts.now)) }

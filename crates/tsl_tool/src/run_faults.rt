@@ -13,8 +13,8 @@ use table_interp::{InputError, MOST_ENTRIES, MOST_ROWS, MOST_VALUES, TableError}
 use tsl_report::{DataPart, Fault, LimitName, ProgramRule, TokenPart};
 use tsl_terms::Names;
 
-/// The fault of a refusal of this text as a program. An `Err` says that memory ran out, here or at the
-/// reading.
+/// The fault of a refusal of this text as a program. An `Err` says that memory ran out, here or at
+/// the reading.
 pub(crate) fn fault_of_program(
     alloc: Global,
     text: &[u8],
@@ -57,8 +57,8 @@ fn name_at(alloc: Global, text: &[u8], name: Name) -> Result<Sequence<u8>, NoMem
     name_between(alloc, text, name.start, name.end)
 }
 
-/// The fault of a refusal of this text as tables over these names. An `Err` says that memory ran out,
-/// here or at the reading.
+/// The fault of a refusal of this text as tables over these names. An `Err` says that memory ran
+/// out, here or at the reading.
 pub(crate) fn fault_of_tables(
     alloc: Global,
     text: &[u8],
@@ -106,8 +106,8 @@ fn name_of(alloc: Global, names: &Names, id: u32) -> Result<Sequence<u8>, NoMemo
     Ok(Sequence::from_vec(name))
 }
 
-/// The fault of a refusal of this text as inputs over these names. An `Err` says that memory ran out,
-/// here or at the reading.
+/// The fault of a refusal of this text as inputs over these names. An `Err` says that memory ran
+/// out, here or at the reading.
 pub(crate) fn fault_of_inputs(
     alloc: Global,
     text: &[u8],

@@ -317,3 +317,48 @@ fn a_run_of_too_many_configurations_is_large(rt: HostRuntime) -> Result<(), Fail
     assert_says(&rt, &ran, Status::Large, b"large run 65536\n");
     Ok(())
 }
+
+/// The largest program: state 0 begins at the last node, from which tests lead down to node 0, and
+/// each other state begins at the node of its number. The nodes of the states go from one to the
+/// next.
+fn largest_program(alloc: Global) -> Result<Vec<u8>, AllocError> {
+    let mut text = Vec::from_slice(alloc, b"tslprogram 1\ncell c\n")?;
+    for node in 0..64u32 {
+        let next = if node == 63 { 0 } else { node + 1 };
+        let line = format!(in alloc; "node {} set [c <- c] go {}\n", node, next)?;
+        text.extend_from_slice(line.as_bytes())?;
+    }
+    for node in 64..65_536u32 {
+        let before = if node == 64 { 0 } else { node - 1 };
+        let line = format!(in alloc; "node {} if p c then {} else 63\n", node, before)?;
+        text.extend_from_slice(line.as_bytes())?;
+    }
+    text.extend_from_slice(b"state 0 at 65535\n")?;
+    for state in 1..64u32 {
+        text.extend_from_slice(format!(in alloc; "state {} at {}\n", state, state)?.as_bytes())?;
+    }
+    text.extend_from_slice(b"end\n")?;
+    Ok(text)
+}
+
+/// What is said of its run: a position for each state, and then the first one again.
+fn largest_run(alloc: Global) -> Result<Vec<u8>, AllocError> {
+    let mut text = Vec::new(alloc);
+    for state in 0..64u32 {
+        let line = format!(in alloc; "at {} place 0 state {} c 0 do [c <- c]\n", state, state)?;
+        text.extend_from_slice(line.as_bytes())?;
+    }
+    text.extend_from_slice(b"loop 0 64\n")?;
+    Ok(text)
+}
+
+#[test]
+fn the_largest_program_runs_through_all_its_states(rt: HostRuntime) -> Result<(), Fail> {
+    let alloc = rt.alloc();
+    let mut text = largest_program(alloc)?;
+    text.extend_from_slice(b"tsltables 1\ndomain 2\npred p 1 0\ncell c 0\n")?;
+    text.extend_from_slice(b"tslinputs 1\nstem\ncycle row\n")?;
+    let ran = run(alloc, &["run"], &text, PLAIN, PLAIN, PLAIN)?;
+    assert_says(&rt, &ran, Status::Done, &largest_run(alloc)?);
+    Ok(())
+}

@@ -27,11 +27,15 @@ const UNBUILT: &[u8] = b"fault unbuilt\n";
 const SQUARE: &[u8] = b"p cnf 2 4\n1 2 0\n1 -2 0\n-1 2 0\n-1 -2 0\nlrat\n";
 
 /// Words that are no command's.
-static OTHER_WORDS: [&[&str]; 7] = [
+static OTHER_WORDS: [&[&str]; 11] = [
     &[],
     &["frob"],
     &["synth", "--states", "9"],
     &["synth", "--states"],
+    &["check", "x"],
+    &["check", "--bound"],
+    &["check", "--bound", "16"],
+    &["check", "--bound", "02"],
     &["run", "x"],
     &["recheck", "x"],
     &["recheck", "--states", "1"],

@@ -1,15 +1,16 @@
 //! The top call.
 
 ghost use Rattle.std.specs.Prelude.{◌≡◌, ◌≢◌, ℕ, List, ◌≤◌, [], false, length, map, string_bytes, IsTrue, IfOk, OnOk};
-ghost use Rattle.tsl_io.specs.Told.{after};
+ghost use Rattle.tsl_io.specs.Told.{with_added};
 ghost use Rattle.tsl_tool.specs.Commands.{command_of, reads, IsInRange, most_bytes};
-ghost use Rattle.tsl_tool.specs.Effects.{effect, AreTold};
+ghost use Rattle.tsl_io.specs.Effects.{effect, AreTold};
 ghost use Rattle.tsl_tool.specs.Ends.{IsReplyTo, Ends, HandedOn};
 ghost use Rattle.tsl_tool.specs.Outcome.{CommandOutcome};
 ghost use Rattle.tsl_tool.specs.Promise.{Promise};
 ghost use Rattle.tsl_tool.specs.Statuses.{is_answer};
 ghost use Rattle.tsl_tool.specs.internal.Sending.{IsSent};
 
+use crate::check::check;
 use crate::recheck::recheck;
 use crate::reply::Reply;
 use crate::run::run;
@@ -25,7 +26,8 @@ use tsl_report::{Fault, LimitName};
 fn reply_to<S: Source>(alloc: Global, words: &[String], source: &mut S) -> Result<Reply, NoMemory>
     ensures replies { IfOk result
         (IsReplyTo (map string_bytes words.now) (effect S.left S.faults source.old source.new)) }
-    ensures unread { reads (command_of (map string_bytes words.now)) ≡ false → source.new ≡ source.old }
+    ensures unread { reads (command_of (map string_bytes words.now))
+        ≡ false → source.new ≡ source.old }
 {
     let Some(command) = command_of(words) else {
         return Reply::at_fault(alloc, &Fault::Usage);
@@ -49,6 +51,7 @@ fn reply_to_bytes(alloc: Global, command: Command, bytes: &[u8]) -> Result<Reply
 {
     match command {
         Command::Synth(sizes) => synth(alloc, sizes, bytes),
+        Command::Check(bound) => check(alloc, bound, bytes),
         Command::Run => run(alloc, bytes),
         Command::Recheck => recheck(alloc, bytes),
     }
@@ -56,13 +59,15 @@ fn reply_to_bytes(alloc: Global, command: Command, bytes: &[u8]) -> Result<Reply
 
 /// Runs `tsl` on the words after the program's name.
 ///
-/// The words are `synth`, `synth --states 1`, `run` or `recheck`. For `synth` the source holds a
-/// specification of at most 1,048,576 bytes; for `run` a specification or nothing, a program, tables
-/// and inputs, of at most 16,777,216 bytes together; for `recheck` a formula in conjunctive normal
-/// form, the line `lrat` and a log, of at most 268,435,456 bytes together. Each text is built whole
-/// before its first byte is written. At `Done` and `No` a program, a run or a verdict went to `out`. At
-/// `Usage`, `Reading`, `Large` and `ReadFault` one line went to `err`. At `WriteFault` some first
-/// bytes of the one text went to its sink, and at `Memory` nothing was written.
+/// The words are `synth`, `synth --states 1`, `check`, `check --bound K` with K from 0 to 15, `run`
+/// or `recheck`. For `synth` the source holds a specification of at most 1,048,576 bytes; for
+/// `check` a specification and a program, and for `run` a specification or nothing, a program,
+/// tables and inputs, of at most 16,777,216 bytes together; for `recheck` a formula in conjunctive
+/// normal form, the line `lrat` and a log, of at most 268,435,456 bytes together. Each text is
+/// built whole before its first byte is written. At `Done` and `No` a program, a run or a verdict
+/// went to `out`. At `Usage`, `Reading`, `Large` and `ReadFault` one line went to `err`. At
+/// `WriteFault` some first bytes of the one text went to its sink, and at `Memory` nothing was
+/// written.
 pub fn tsl<S: Source, O: Sink, E: Sink>(
     alloc: Global,
     words: &[String],
@@ -80,10 +85,11 @@ pub fn tsl<S: Source, O: Sink, E: Sink>(
     ensures promises { IsTrue (is_answer result) →
         (bytes : List ℕ) × (text : List ℕ) × AreTold (S.left source.old) bytes
         × Promise (command_of (map string_bytes words.now)) result bytes text
-        × (O.written out.new ≡ after text (O.written out.old)) }
+        × (O.written out.new ≡ with_added text (O.written out.old)) }
 
     // Words that read nothing leave the source as it was.
-    ensures unread { reads (command_of (map string_bytes words.now)) ≡ false → source.new ≡ source.old }
+    ensures unread { reads (command_of (map string_bytes words.now))
+        ≡ false → source.new ≡ source.old }
 
     // What was written was handed on.
     ensures handed_on { HandedOn result (O.flushed out.new) (E.flushed err.new) }

@@ -11,7 +11,9 @@ ghost use Rattle.tsl_meaning.specs.RunTree.{run_tree};
 ghost use Rattle.tsl_meaning.specs.RunLasso.{run_lasso, IsJudged};
 ghost use Rattle.table_interp.specs.Meaning.{meanings_of};
 ghost use Rattle.tsl_report.specs.TraceText.{RunIsHeld};
-ghost use Rattle.tsl_tool.specs.Run.{HasSignalsOf, HasGivenSignals, formulas_to_judge, given_formulas, signals_reply, trace_reply, verdict_status};
+ghost use Rattle.program_check.specs.Verdicts.{HasSignals};
+ghost use Rattle.tsl_tool.specs.Run.{HasGivenSignals, formulas_to_judge, given_formulas, signals_reply, trace_reply};
+ghost use Rattle.tsl_tool.specs.Run.{verdict_status};
 ghost use Rattle.tsl_tool.specs.internal.RunView.{given_spec, verdict_in, verdicts_in};
 
 use crate::reply::Reply;
@@ -24,13 +26,15 @@ use tsl_meaning::{LoopRun, judge};
 use tsl_report::trace_text;
 use tsl_terms::{Names, Spec, Window, signals, whole, window_formula};
 
-/// Whether the program has exactly the inputs, cells and outputs of the specification, if there is one.
+/// Whether the program has exactly the inputs, cells and outputs of the specification, if there is
+/// one.
 pub(crate) fn has_given_signals(
     alloc: Global,
     spec: Option<&Spec>,
     program: &Program,
 ) -> Result<bool, NoMemory>
-    ensures { IfOk result (λ same. IsTrue same ↔ HasGivenSignals (given_spec spec.entry) (program_tree program.now)) }
+    ensures { IfOk result (λ same.
+        IsTrue same ↔ HasGivenSignals (given_spec spec.entry) (program_tree program.now)) }
 {
     match spec {
         Some(spec) => has_signals_of(alloc, spec, program),
@@ -40,7 +44,8 @@ pub(crate) fn has_given_signals(
 
 /// Whether the program has exactly the inputs, cells and outputs of the specification.
 fn has_signals_of(alloc: Global, spec: &Spec, program: &Program) -> Result<bool, NoMemory>
-    ensures { IfOk result (λ same. IsTrue same ↔ HasSignalsOf (spec_tree spec.now) (program_tree program.now)) }
+    ensures { IfOk result (λ same.
+        IsTrue same ↔ HasSignals (spec_tree spec.now) (program_tree program.now)) }
 {
     let lists = signals(alloc, spec)?;
     Ok(
@@ -71,8 +76,10 @@ pub(crate) fn trace_reply(
     requires held { RunIsHeld names.now (run_tree (λ v. v) run.now) }
     requires judged { AllByRecursion (IsJudged (meanings_of tables.now) (run_tree (λ v. v) run.now))
         (formulas_to_judge (program_tree program.now) (given_spec spec)) }
-    ensures { IfOk result (λ reply. reply ≡ trace_reply names.now (run_tree (λ v. v) run.now) (is_some (given_spec spec.entry))
-        (verdicts_in (meanings_of tables.now) (run_tree (λ v. v) run.now) (formulas_to_judge (program_tree program.now) (given_spec spec.entry)))) }
+    ensures { IfOk result (λ reply.
+        reply ≡ trace_reply names.now (run_tree (λ v. v) run.now) (is_some (given_spec spec.entry))
+        (verdicts_in (meanings_of tables.now) (run_tree (λ v. v) run.now)
+        (formulas_to_judge (program_tree program.now) (given_spec spec.entry)))) }
 {
     let verdicts = verdicts_on(alloc, spec, program, tables, run)?;
     let text = trace_text(alloc, names, run, &verdicts, spec.is_some())?;
@@ -90,7 +97,8 @@ fn verdicts_on(
     requires { AllByRecursion (IsJudged (meanings_of tables.now) (run_tree (λ v. v) run.now))
         (formulas_to_judge (program_tree program.now) (given_spec spec)) }
     ensures { IfOk result (λ verdicts. verdicts.items
-        ≡ verdicts_in (meanings_of tables.now) (run_tree (λ v. v) run.now) (formulas_to_judge (program_tree program.now) (given_spec spec.entry))) }
+        ≡ verdicts_in (meanings_of tables.now) (run_tree (λ v. v) run.now)
+        (formulas_to_judge (program_tree program.now) (given_spec spec.entry))) }
 {
     let mut verdicts = window_verdicts(alloc, program.windows.as_slice(), tables, run)?;
     if let Some(spec) = spec {
@@ -109,7 +117,8 @@ fn window_verdicts(
     requires { AllByRecursion (IsJudged (meanings_of tables.now) (run_tree (λ v. v) run.now))
         (map window_formula_of (map window_tree windows.now)) }
     ensures { IfOk result (λ verdicts. verdicts.items
-        ≡ verdicts_in (meanings_of tables.now) (run_tree (λ v. v) run.now) (map window_formula_of (map window_tree windows.now))) }
+        ≡ verdicts_in (meanings_of tables.now)
+        (run_tree (λ v. v) run.now) (map window_formula_of (map window_tree windows.now))) }
 {
     let mut verdicts = Vec::new(alloc);
     for window in windows {
@@ -125,9 +134,11 @@ fn window_verdict(
     tables: &Tables,
     run: &LoopRun<u32>,
 ) -> Result<bool, NoMemory>
-    requires { IsJudged (meanings_of tables.now) (run_tree (λ v. v) run.now) (window_formula_of (window_tree window.now)) }
+    requires { IsJudged (meanings_of tables.now)
+        (run_tree (λ v. v) run.now) (window_formula_of (window_tree window.now)) }
     ensures { IfOk result (λ holds. holds
-        ≡ verdict_in (meanings_of tables.now) (run_tree (λ v. v) run.now) (window_formula_of (window_tree window.now))) }
+        ≡ verdict_in (meanings_of tables.now)
+        (run_tree (λ v. v) run.now) (window_formula_of (window_tree window.now))) }
 {
     let formula = window_formula(alloc, window)?;
     judge(alloc, tables, run, &formula)
@@ -140,9 +151,11 @@ fn spec_verdict(
     tables: &Tables,
     run: &LoopRun<u32>,
 ) -> Result<bool, NoMemory>
-    requires { IsJudged (meanings_of tables.now) (run_tree (λ v. v) run.now) (whole_formula (spec_tree spec.now)) }
+    requires { IsJudged
+        (meanings_of tables.now) (run_tree (λ v. v) run.now) (whole_formula (spec_tree spec.now)) }
     ensures { IfOk result (λ holds. holds
-        ≡ verdict_in (meanings_of tables.now) (run_tree (λ v. v) run.now) (whole_formula (spec_tree spec.now))) }
+        ≡ verdict_in
+        (meanings_of tables.now) (run_tree (λ v. v) run.now) (whole_formula (spec_tree spec.now))) }
 {
     let formula = whole(alloc, spec)?;
     judge(alloc, tables, run, &formula)

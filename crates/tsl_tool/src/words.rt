@@ -1,8 +1,12 @@
 //! The words after the program's name.
 
-ghost use Rattle.std.specs.Prelude.{◌≡◌, map, string_bytes, Some, option_map, IfSome};
+ghost use Rattle.std.specs.Prelude.{◌≡◌, ◌≤◌, map, string_bytes, Some, option_map, option_and_then, IfSome};
 ghost use Rattle.std.specs.Str.{bytes_eq};
-ghost use Rattle.tsl_tool.specs.Commands.{sizes_of, without_options, command_of, IsInRange, most_bytes};
+ghost use Rattle.tsl_text.specs.Numbers.{plain_number_in};
+ghost use Rattle.tsl_tool.specs.declared.words.TheConstants.{MOST_BOUND};
+ghost use Rattle.tsl_tool.specs.Commands.{where_at_most, sizes_of, bound_of, without_options, command_of, IsInRange, most_bytes};
+
+use tsl_text::plain_number_in;
 
 /// The states of a program, where the words ask for no number.
 const DEFAULT_STATES: u32 = 2;
@@ -10,10 +14,16 @@ const DEFAULT_STATES: u32 = 2;
 /// The most states that the words can ask for.
 const MOST_STATES: u32 = 8;
 
+/// The bound of an annotation, where the words ask for no number.
+const DEFAULT_BOUND: u32 = 2;
+
+/// The largest bound that the words can ask for.
+const MOST_BOUND: u32 = 15;
+
 /// The most bytes of a specification.
 const MOST_SPECIFICATION_BYTES: u32 = 1_048_576;
 
-/// The most bytes of a specification, a program, tables and inputs together.
+/// The most bytes of a specification and a program, or of these with tables and inputs, together.
 const MOST_RUN_BYTES: u32 = 16_777_216;
 
 /// The most bytes of a formula and a log together.
@@ -31,6 +41,8 @@ pub(crate) struct Sizes {
 pub(crate) enum Command {
     /// A program for a specification.
     Synth(Sizes),
+    /// A verdict on a program under a specification, by annotations within a bound, from 0 to 15.
+    Check(u32),
     /// The run of a program over tables and inputs, and the verdicts on it.
     Run,
     /// A verdict on a formula and a log that is to refute it.
@@ -44,7 +56,7 @@ impl Command {
     {
         match self {
             Command::Synth(_) => MOST_SPECIFICATION_BYTES,
-            Command::Run => MOST_RUN_BYTES,
+            Command::Check(_) | Command::Run => MOST_RUN_BYTES,
             Command::Recheck => MOST_LOG_BYTES,
         }
     }
@@ -60,6 +72,9 @@ pub(crate) fn command_of(words: &[String]) -> Option<Command>
     };
     if is_word(first, b"synth") {
         return synth_of(options);
+    }
+    if is_word(first, b"check") {
+        return check_of(options);
     }
     if is_word(first, b"run") {
         return without_options(Command::Run, options);
@@ -83,6 +98,31 @@ fn synth_of(options: &[String]) -> Option<Command>
             Some(Command::Synth(Sizes { states: 1 }))
         }
         _ => None,
+    }
+}
+
+/// `check` with the bound that these words ask for.
+fn check_of(options: &[String]) -> Option<Command>
+    ensures found { result ≡ option_map Command.Check (bound_of (map string_bytes options.now)) }
+    ensures in_range { IfSome result IsInRange }
+{
+    match options {
+        [] => Some(Command::Check(DEFAULT_BOUND)),
+        [option, value] if is_word(option, b"--bound") => Some(Command::Check(bound_in(value)?)),
+        _ => None,
+    }
+}
+
+/// The bound that a word means.
+fn bound_in(word: &String) -> Option<u32>
+    ensures found { result ≡ option_and_then (where_at_most MOST_BOUND) (plain_number_in (string_bytes word.now)) }
+    ensures in_range { IfSome result (λ bound. bound ≤ MOST_BOUND) }
+{
+    let number = plain_number_in(word.as_bytes())?;
+    if number <= MOST_BOUND as u64 {
+        Some(number as u32)
+    } else {
+        None
     }
 }
 

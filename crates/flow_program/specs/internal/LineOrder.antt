@@ -50,21 +50,21 @@ may_stand l (state i n) = (i == length l.states) && not (is_nil l.nodes)
 may_stand l end_line = not (is_nil l.nodes) && not (is_nil l.states)
 
 -- the listing with a line more
-abbrev pub extended : ListingTree → LineTree → Progress
-extended l (input n) = going (record l { inputs = l.inputs ++ n ∷ [] })
-extended l (cell n) = going (record l { cells = l.cells ++ n ∷ [] })
-extended l (output n) = going (record l { outputs = l.outputs ++ n ∷ [] })
-extended l (window w) = going (record l { windows = l.windows ++ w ∷ [] })
-extended l (node i n) = going (record l { nodes = l.nodes ++ n ∷ [] })
-extended l (state i n) = going (record l { states = l.states ++ n ∷ [] })
-extended l end_line = done l
-extended l head_line = going l
+abbrev pub progress_with : ListingTree → LineTree → Progress
+progress_with l (input n) = going (record l { inputs = l.inputs ++ n ∷ [] })
+progress_with l (cell n) = going (record l { cells = l.cells ++ n ∷ [] })
+progress_with l (output n) = going (record l { outputs = l.outputs ++ n ∷ [] })
+progress_with l (window w) = going (record l { windows = l.windows ++ w ∷ [] })
+progress_with l (node i n) = going (record l { nodes = l.nodes ++ n ∷ [] })
+progress_with l (state i n) = going (record l { states = l.states ++ n ∷ [] })
+progress_with l end_line = done l
+progress_with l head_line = going l
 
 abbrev pub when : Bool → Progress → Option Progress
 when test p = if test then Some p else None
 
 abbrev pub added : ListingTree → LineTree → Option Progress
-added l line = when (may_stand l line) (extended l line)
+added l line = when (may_stand l line) (progress_with l line)
 
 -- a line after those so far, where it may stand there
 abbrev pub add : Progress → LineTree → Option Progress
@@ -134,11 +134,11 @@ abbrev pub progress_of : Begun → Progress
 progress_of begun = if begun.ended then done (listing_tree begun.listing) else going (listing_tree begun.listing)
 
 -- a name that the line declares lies within so many bytes
-abbrev pub IsWithin : ℕ → Name → Type 0
-IsWithin len n = (n.start ≤ n.end) × (n.end ≤ len)
+abbrev pub LiesWithin : ℕ → Name → Type 0
+LiesWithin len n = (n.start ≤ n.end) × (n.end ≤ len)
 
 abbrev pub DeclaresWithin : ℕ → LineTree → Type 0
-DeclaresWithin len line = AllByRecursion (IsWithin len) (declares line)
+DeclaresWithin len line = AllByRecursion (LiesWithin len) (declares line)
 
 -- a name is declared again, unless memory ran out
 abbrev pub IsRepeated : Bool → Misread → Type 0

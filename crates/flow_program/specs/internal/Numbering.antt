@@ -1,6 +1,6 @@
 -- Internal: only private functions of this crate use these words.
 -- Lines with numbers in the place of names.
-use Rattle.std.specs.Prelude.{◌≡◌, ℕ, ◌^◌, nat_lt, cond, List, ◌++◌, map, Option, Some, None, option_map, option_and_then}
+use Rattle.std.specs.Prelude.{◌≡◌, ℕ, ◌^◌, nat_lt, cond, List, map, Option, Some, None, option_map, option_and_then}
 use Rattle.sequence.specs.Options.{all_there}
 use Rattle.tsl_terms.specs.Name.{number_of, question, Name as NameEntry}
 use Rattle.tsl_terms.specs.TermTree.{TermTree, signal, apply, TermTrees, no_terms, more_terms, ProbeTree}
@@ -11,8 +11,8 @@ use Rattle.flow_program.specs.ProgramTree.{ProgramTree}
 use Rattle.flow_program.specs.Listing.{PhraseTree, bare, applied, PhraseTrees, no_phrases, more_phrases, name_bytes}
 use Rattle.flow_program.specs.Listing.{ListedLine, WindowLine, NodeLine, branch_line, assignment_line, ListingTree}
 
-abbrev pub probe_of : ℕ → TermTrees → ProbeTree
-probe_of predicate arguments = record { predicate = predicate; arguments = arguments }
+abbrev pub probe_with : ℕ → TermTrees → ProbeTree
+probe_with predicate arguments = record { predicate = predicate; arguments = arguments }
 
 abbrev pub listed_of : ℕ → TermTree → ℕ → ListedTree
 listed_of s t offset = record { signal = s; term = t; offset = offset }
@@ -23,10 +23,6 @@ window_of left right left_at length updates = record { left = left; left_at = le
 -- a number of 32 bits
 abbrev pub small : ℕ → Option ℕ
 small n = cond (nat_lt n (2 ^ 32)) (Some n) None
-
--- a front, and then members where they are there
-abbrev pub after : {Y : Type 0} → List Y → Option (List Y) → Option (List Y)
-after front rest = option_map (λ ys. front ++ ys) rest
 
 module _ (names : List NameEntry) (text : List ℕ) where
   abbrev pub numbered : Name → Option ℕ
@@ -45,9 +41,9 @@ module _ (names : List NameEntry) (text : List ℕ) where
 
   abbrev pub numbered_test : PhraseTree → Option ProbeTree
   numbered_test (bare at) =
-      option_and_then (λ s. option_map (λ q. probe_of q (more_terms (signal s) no_terms)) (number_of names question)) (numbered at)
+      option_and_then (λ s. option_map (λ q. probe_with q (more_terms (signal s) no_terms)) (number_of names question)) (numbered at)
   numbered_test (applied at arguments) =
-      option_and_then (λ number. option_map (probe_of number) (numbered_terms arguments)) (numbered at)
+      option_and_then (λ number. option_map (probe_with number) (numbered_terms arguments)) (numbered at)
 
   abbrev pub numbered_listed : ListedLine → Option ListedTree
   numbered_listed u =

@@ -4,6 +4,9 @@ use Rattle.std.specs.Prelude.{ℕ, ◌+◌, zero, suc, Bool, true, cond, not, bi
 use Rattle.std.specs.Prelude.{length, nat_eq, count_ones}
 use Rattle.std.specs.Borrow.{Bor}
 use Rattle.std.specs.List.{list_any}
+use Rattle.std.specs.Ordering.{nat_cmp}
+use Rattle.ltl_formula.specs.Increasing.{IsIncreasing}
+use Rattle.ltl_formula.specs.Cubes.{IsWithin}
 use Rattle.obligations.specs.declared.numbered.NumberedChoice.{NumberedChoice}
 use Rattle.obligations.specs.Choices.{is_within}
 use Rattle.obligations.specs.Numbers.{ChoiceKey, choice_key}
@@ -59,3 +62,9 @@ abbrev pub flagged_members : List ChoiceKey → List Bool → List ChoiceKey
 flagged_members [] flags = []
 flagged_members (c ∷ cs) [] = []
 flagged_members (c ∷ cs) (flag ∷ flags) = cond flag (c ∷ flagged_members cs flags) (flagged_members cs flags)
+
+-- the cube wants no bit that it does not ask for, and both sets rise
+pub record IsRisingChoice (c : ChoiceKey) : Type 0 where
+  pub within : IsWithin c.care c.want
+  pub next_rises : IsIncreasing nat_cmp c.next_set
+  pub postponed_rises : IsIncreasing nat_cmp c.postponed

@@ -2,10 +2,8 @@
 -- The walk along a trail, from its end, that finds what a conflict teaches. An entry is marked while the clause
 -- that is found so far has the opposite of its literal and the walk is yet to pass it.
 use Rattle.std.specs.Prelude.{◌≡◌, ℕ, suc, ◌+◌, ◌<◌, ◌≤◌, ◌==◌, nat_lt, Bool, true, false, cond, ◌&&◌, ◌||◌, ◌⊎◌, List, [], ◌∷◌, length}
-use Rattle.std.specs.Prelude.{reverse, Option, Some, None, slice_get}
-use Rattle.std.specs.BTreeSet.{contains}
-use Rattle.std.specs.List.{list_any}
-use Rattle.std.specs.Ordering.{nat_cmp}
+use Rattle.std.specs.Prelude.{reverse, All, Option, Some, None, slice_get, slice_index_or}
+use Rattle.std.specs.List.{list_any, list_all}
 use Rattle.sat_core.specs.internal.Hints.{AreHints}
 use Rattle.clause_core.specs.Literals.{Lit, negation, has}
 use Rattle.sat_trail.specs.declared.entries.Entry.{Entry}
@@ -18,12 +16,7 @@ use Rattle.sat_core.specs.internal.Levels.{IsSetAt}
 
 -- whether the entry at a place is marked
 abbrev pub is_marked : Marks → ℕ → Bool
-is_marked marks place = contains nat_cmp marks.places place
-
--- the entry at this place is marked, and none behind it is
-pub record IsLastMark (marks : Marks) (place : ℕ) : Type 0 where
-  pub marked : is_marked marks place ≡ true
-  pub last : (other : ℕ) → is_marked marks other ≡ true → other ≤ place
+is_marked marks place = slice_index_or marks.flags.items place false
 
 -- how many entries of this level are marked, where the first entry stands at this place
 abbrev pub count_from : ℕ → ℕ → (ℕ → Bool) → List Entry → ℕ
@@ -43,15 +36,48 @@ stands_at (Some found) place = place == found
 abbrev pub is_of_clause : List Entry → List Lit → ℕ → Bool
 is_of_clause entries clause place = list_any (λ l. stands_at (place_of entries l.index) place) clause
 
--- the marks are those of entries, and the marked entries of the present level are counted
+-- The marks are those of entries, none of which stands before the lowest place, and the marked entries of the present
+-- level are counted. There is a mark for each variable, as many entries as there may be.
 pub record AreMarks (t : TrailState) (marks : Marks) : Type 0 where
+  pub one_each : length marks.flags.items ≡ t.variables
   pub within : (place : ℕ) → is_marked marks place ≡ true → place < length t.entries
+  pub above : (place : ℕ) → is_marked marks place ≡ true → marks.lowest ≤ place
   pub counted : marks.waiting ≡ count_at t.level (is_marked marks) t.entries
+  pub looked : All (λ variable. variable < t.variables) marks.looked.items
 
--- The reason that takes an entry's place in the clause: that of each entry at level 0, and that of an entry at the
--- present level while another one there is marked.
-abbrev pub replacement_of : ℕ → ℕ → Entry → Option ℕ
-replacement_of level waiting e = cond ((e.level == 0) || ((e.level == level) && nat_lt 1 waiting)) e.reason None
+-- there is a mark for each variable, and none is set
+pub record AreNoMarks (variables : ℕ) (marks : Marks) : Type 0 where
+  pub one_each : length marks.flags.items ≡ variables
+  pub none : (place : ℕ) → is_marked marks place ≡ false
+
+-- whether an entry is of level 0
+abbrev pub is_of_start : Option Entry → Bool
+is_of_start None = false
+is_of_start (Some e) = e.level == 0
+
+-- whether the entry at a place is marked, or of level 0
+abbrev pub is_covered_at : List Entry → Marks → Option ℕ → Bool
+is_covered_at entries marks None = false
+is_covered_at entries marks (Some place) = is_marked marks place || is_of_start (slice_get entries place)
+
+-- whether the entry of each variable of a clause is marked, or of level 0
+abbrev pub are_covered : List Entry → Marks → List Lit → Bool
+are_covered entries marks clause = list_all (λ l. is_covered_at entries marks (place_of entries l.index)) clause
+
+-- whether the reason of an entry of this level must take its place: at level 0, and at the present level while another
+-- entry there is marked
+abbrev pub must_go : ℕ → ℕ → ℕ → Bool
+must_go present waiting level = (level == 0) || ((level == present) && nat_lt 1 waiting)
+
+-- this reason takes an entry's place in the clause: at level 0, at the present level while another one there is marked,
+-- or at a lower one
+pub record IsReplaced (present waiting : ℕ) (e : Entry) (reason : ℕ) : Type 0 where
+  pub has_reason : e.reason ≡ Some reason
+  pub why : (e.level ≡ 0) ⊎ (((e.level ≡ present) × (1 < waiting)) ⊎ (e.level < present))
+
+-- an entry that stays was decided, or is above level 0 and either of a lower level or alone at the present one
+abbrev pub MayStay : ℕ → ℕ → Entry → Type 0
+MayStay present waiting e = (e.reason ≡ None) ⊎ ((0 < e.level) × ((e.level ≡ present → ⊥) ⊎ (waiting ≤ 1)))
 
 -- These literals are true on the trail. Those of the marked entries are among them; of the entries passed, those
 -- alone whose opposite is kept.
@@ -95,3 +121,9 @@ pub record IsWalk (t : TrailState) (place : ℕ) (w : Walk) : Type 0 where
   pub named : AreHints (length t.clauses) w.hints.items
   pub shows : Shows t place (is_marked w.marks) w.kept.items (reverse w.hints.items)
   pub stage : IsEarly t w ⊎ IsLate t w
+
+-- a walk that has passed all entries: no mark is left
+pub record HasWalked (t : TrailState) (w : Walk) : Type 0 where
+  pub place : ℕ
+  pub walk : IsWalk t place w
+  pub marks : AreNoMarks t.variables w.marks

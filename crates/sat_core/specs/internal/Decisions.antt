@@ -1,44 +1,41 @@
 -- Internal: only private functions of this crate use these words.
 -- The order of decisions, and the assignment that is read off a trail.
-use Rattle.std.specs.Prelude.{◌≡◌, ◌≢◌, ℕ, ◌+◌, ◌<◌, Bool, true, false, List, [], ◌∷◌, ◌++◌, length, Some, None, slice_get}
+use Rattle.std.specs.Prelude.{◌≡◌, ◌≢◌, ℕ, ◌<◌, Bool, true, false, List, length, Some, None, slice_get}
 use Rattle.clause_core.specs.Literals.{Lit, has}
 use Rattle.sat_trail.specs.declared.entries.Entry.{Entry}
 use Rattle.sat_trail.specs.Entries.{literals_of, place_of}
-use Rattle.sat_trail.specs.States.{TrailState, IsSound, decided, up_to}
+use Rattle.sat_trail.specs.States.{TrailState, IsSound, decided}
 use Rattle.sat_core.specs.declared.choices.Decisions.{Decisions}
+use Rattle.sat_core.specs.internal.Heaps.{IsHeap, variable_count, is_queued}
 
 -- all of the first variables are set
 abbrev pub AreSet : List Entry → ℕ → Type 0
 AreSet entries n = (index : ℕ) → index < n → place_of entries index ≢ None
 
--- the negative literal of the first variable that is not set
-pub record IsNext (entries : List Entry) (variables : ℕ) (l : Lit) : Type 0 where
-  pub over : l.index < variables
-  pub unset : place_of entries l.index ≡ None
-  pub first : AreSet entries l.index
-  pub negative : l.positive ≡ false
+-- one of the first variables, which is not set
+pub record IsUnset (entries : List Entry) (variables index : ℕ) : Type 0 where
+  pub over : index < variables
+  pub unset : place_of entries index ≡ None
 
--- The first variables are set, so many as the decisions say; for each level an index was decided there, and the
--- variables before it are set below that level.
-pub record AreDecisions (t : TrailState) (d : Decisions) : Type 0 where
-  pub so_far : AreSet t.entries d.first
-  pub one_each : length d.by_level.items ≡ t.level
-  pub each : (level first : ℕ) → slice_get d.by_level.items level ≡ Some first → AreSet (up_to level t.entries) first
+-- each of the variables has an activity and a value to be decided to, and is in the heap while it is not set
+pub record AreDecisions (variables : ℕ) (entries : List Entry) (d : Decisions) : Type 0 where
+  pub heap : IsHeap d.heap
+  pub one_activity_each : variable_count d.heap ≡ variables
+  pub one_value_each : length d.phases.items ≡ variables
+  pub queued : (index : ℕ) → index < variables → place_of entries index ≡ None → is_queued d.heap index ≡ true
 
--- The next variable is decided. The search for one goes on behind it, and will go back to it.
-pub record HasDecided (old new : TrailState) (before after : Decisions) : Type 0 where
+-- a variable that was not set is decided
+pub record HasDecided (old new : TrailState) (after : Decisions) : Type 0 where
   pub literal : Lit
-  pub next : IsNext old.entries old.variables literal
+  pub unset : IsUnset old.entries old.variables literal.index
   pub trail_is : new ≡ decided old literal
   pub sound : IsSound new
-  pub behind : after.first ≡ literal.index + 1
-  pub opened : after.by_level.items ≡ before.by_level.items ++ literal.index ∷ []
-  pub decisions : AreDecisions new after
+  pub decisions : AreDecisions new.variables new.entries after
 
 -- what a decision comes to: a variable is decided, or all are set and nothing changes
-abbrev pub Decides : TrailState → TrailState → Decisions → Decisions → Bool → Type 0
-Decides old new before after true = HasDecided old new before after
-Decides old new before after false = AreSet old.entries old.variables × (new ≡ old)
+abbrev pub Decides : TrailState → TrailState → Decisions → Bool → Type 0
+Decides old new after true = HasDecided old new after
+Decides old new after false = AreSet old.entries old.variables × (new ≡ old)
 
 -- one truth for each variable: whether its positive literal is set
 pub record AreVariableTruths (entries : List Entry) (variables : ℕ) (truths : List Bool) : Type 0 where

@@ -1,7 +1,7 @@
 -- Internal: only private functions of this crate use these words.
 -- What is learnt from a conflict. The terms are those of N. Eén and N. Sörensson, An Extensible SAT-solver,
 -- 2003; hints are those of a log.
-use Rattle.std.specs.Prelude.{◌≡◌, ℕ, ◌+◌, ◌^◌, ◌<◌, ◌≤◌, true, List, [], ◌∷◌, ◌++◌, map, length, None}
+use Rattle.std.specs.Prelude.{◌≡◌, ℕ, ◌+◌, ◌^◌, ◌<◌, ◌≤◌, Bool, true, cond, List, [], ◌∷◌, ◌++◌, map, length, None}
 use Rattle.sat_core.specs.internal.Hints.{AreHints}
 use Rattle.clause_core.specs.Literals.{Lit, negation, has}
 use Rattle.clause_core.specs.Clauses.{IsIncreasing}
@@ -40,13 +40,14 @@ learnt_step number clause hints = record { number = number; clause = clause; hin
 abbrev pub clauses_of : List Step → List (List Lit)
 clauses_of steps = map (λ step. step.clause) steps
 
--- a clause is learnt: the trail goes back and takes the clause, and its step stands behind the others
-pub record HasLearnt (old : TrailState) (steps : List Step) (new : TrailState) (more : List Step) : Type 0 where
+-- A clause is learnt: the trail goes back, to level 0 where the search begins anew, and takes the clause, and its step
+-- stands behind the others.
+pub record HasLearnt (anew : Bool) (old : TrailState) (steps : List Step) (new : TrailState) (more : List Step) : Type 0 where
   pub clause : List Lit
   pub hints : List ℕ
   pub back : ℕ
   pub lesson : IsLesson old clause hints back
-  pub trail_is : new ≡ with_clause (undone old back) clause
+  pub trail_is : new ≡ with_clause (undone old (cond anew 0 back)) clause
   pub steps_are : more ≡ steps ++ learnt_step (length old.clauses + 1) clause hints ∷ []
 
 -- a log of these steps and of one more with the empty clause, which hints show behind these clauses

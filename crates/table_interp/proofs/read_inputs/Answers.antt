@@ -1,10 +1,11 @@
 use Rattle.std.proofs.Common.{arith}
 use Rattle.std.proofs.lemmas.List.{length-map}
 use Rattle.std.proofs.lemmas.Result.{IfOk-weaker}
-use Rattle.table_interp.specs.Meaning.{rows_of}
+use Rattle.std.proofs.lemmas.Result.{IfErr-weaker}
+use Rattle.tsl_meaning.specs.Interpretation.{rows_of}
 use Rattle.table_interp.specs.internal.View.{inputs_view}
 use Rattle.table_interp.proofs.Loops.{are_loop}
-use Rattle.table_interp.proofs.Refusals.{inputs_refused, input_form_passed, row_cause, has_cycle, err_weaker}
+use Rattle.table_interp.proofs.Refusals.{inputs_refused, input_form_passed, row_cause, has_cycle}
 use Rattle.table_interp.proofs.read_inputs.Goals as goal
 
 pub rows_from-requires-clause-some : goal.rows_from-requires-clause-some
@@ -28,7 +29,7 @@ returns-clause-rows c =
 
 pub returns-clause-refused : goal.returns-clause-refused
 returns-clause-refused c =
-    err_weaker c.rows_from.result _ _ (λ e cause.
+    IfErr-weaker c.rows_from.result _ _ (λ e cause.
     inputs_refused c.args.text.now c.args.names.now c.args.inputs.now c.args.domain e
     (row_cause c.args.text.now c.args.names.now c.args.inputs.now c.args.domain (inputs_view c.in_ok-given.given)
     c.in_ok-given.ensures.read e cause)) c.rows_from.ensures.cause

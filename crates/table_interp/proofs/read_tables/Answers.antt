@@ -1,9 +1,10 @@
 use Rattle.std.proofs.Common.{arith}
 use Rattle.std.proofs.lemmas.Result.{IfOk-weaker}
+use Rattle.std.proofs.lemmas.Result.{IfErr-weaker}
 use Rattle.table_interp.specs.declared.TableError.TheVariants.{Domain}
 use Rattle.table_interp.specs.internal.View.{tables_view}
 use Rattle.table_interp.proofs.Facts.{cells_within, interprets}
-use Rattle.table_interp.proofs.Refusals.{tables_refused, form_passed, entry_cause, has_value, err_weaker}
+use Rattle.table_interp.proofs.Refusals.{tables_refused, form_passed, entry_cause, has_value}
 use Rattle.table_interp.proofs.read_tables.Goals as goal
 
 pub returns-in_err-given-clause-refused : goal.returns-in_err-given-clause-refused
@@ -29,7 +30,7 @@ returns-clause-meaning c =
 
 pub returns-clause-refused : goal.returns-clause-refused
 returns-clause-refused c =
-    err_weaker c.tables_from.result _ _ (λ e cause.
+    IfErr-weaker c.tables_from.result _ _ (λ e cause.
     tables_refused c.args.text.now c.args.names.now c.args.cells.now e
     (entry_cause c.args.text.now c.args.names.now c.args.cells.now (tables_view c.in_ok-given.given)
     (record {

@@ -7,7 +7,7 @@ use Rattle.table_interp.specs.declared.resolving.RepeatFault.TheVariants.{Repeat
 use Rattle.table_interp.specs.Needed.{IsFirstRepeat}
 
 -- for each of so many numbers whether it is among these
-pub record AreMarks (count : ℕ) (numbers : List ℕ) (marks : List Bool) : Type 0 where
+pub record AreMarksOf (count : ℕ) (numbers : List ℕ) (marks : List Bool) : Type 0 where
   pub many : length marks ≡ count
   pub each : (n : ℕ) → n < count → slice_get marks n ≡ Some (is_among numbers n)
 

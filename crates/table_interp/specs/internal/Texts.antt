@@ -10,11 +10,11 @@ use Rattle.table_interp.specs.declared.TableError.{TableError}
 use Rattle.table_interp.specs.declared.TableError.TheVariants as table
 use Rattle.table_interp.specs.declared.InputError.{InputError}
 use Rattle.table_interp.specs.declared.InputError.TheVariants as input
-use Rattle.table_interp.specs.Syntax.{Terminal}
+use Rattle.table_interp.specs.Syntax.{TextToken}
 use Rattle.table_interp.specs.Forms.{HasFormFault}
 
 -- what a fault says of the text
-abbrev pub HasTextFault : {V : Type 0} → (List Terminal → V → Type 0) → List ℕ → TextFault → Type 0
+abbrev pub HasTextFault : {V : Type 0} → (List TextToken → V → Type 0) → List ℕ → TextFault → Type 0
 HasTextFault Is bytes (text.Byte at) = HasBadByte bytes at
 HasTextFault Is bytes (text.OpenComment at) = HasOpenComment bytes at
 HasTextFault Is bytes (text.Form at) = HasFormFault Is bytes at
@@ -33,6 +33,6 @@ input_error (text.Form at) = input.Form at
 input_error text.NoMemory = input.NoMemory
 
 -- the first name that must not stand in the text has the fault's token
-abbrev pub HasUnknown : Option Terminal → NameFault → Type 0
+abbrev pub HasUnknown : Option TextToken → NameFault → Type 0
 HasUnknown found (naming.Unknown token) = IsSomeAnd found (λ x. x.token ≡ token)
 HasUnknown found naming.NoMemory = Unit {0}

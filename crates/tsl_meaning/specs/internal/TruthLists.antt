@@ -51,18 +51,18 @@ finally_in start truths = until_in start (map (λ _. true) truths) truths
 abbrev pub release_in : ℕ → List Bool → List Bool → List Bool
 release_in start left right = map not (until_in start (map not left) (map not right))
 
-abbrev pub unary_in : ℕ → UnaryOperator → List Bool → List Bool
-unary_in start Negation truths = map not truths
-unary_in start Next truths = next_in start truths
-unary_in start Finally truths = finally_in start truths
-unary_in start Globally truths = map not (finally_in start (map not truths))
+abbrev pub unary_list : ℕ → UnaryOperator → List Bool → List Bool
+unary_list start Negation truths = map not truths
+unary_list start Next truths = next_in start truths
+unary_list start Finally truths = finally_in start truths
+unary_list start Globally truths = map not (finally_in start (map not truths))
 
-abbrev pub binary_in : ℕ → BinaryOperator → List Bool → List Bool → List Bool
-binary_in start Implication left right = pairwise (λ a b. not a || b) left right
-binary_in start Equivalence left right = pairwise agree left right
-binary_in start Until left right = until_in start left right
-binary_in start WeakUntil left right = release_in start right (pairwise (λ a b. a || b) right left)
-binary_in start Release left right = release_in start left right
+abbrev pub binary_list : ℕ → BinaryOperator → List Bool → List Bool → List Bool
+binary_list start Implication left right = pairwise (λ a b. not a || b) left right
+binary_list start Equivalence left right = pairwise agree left right
+binary_list start Until left right = until_in start left right
+binary_list start WeakUntil left right = release_in start right (pairwise (λ a b. a || b) right left)
+binary_list start Release left right = release_in start left right
 
 -- what two members and the members after them make together, and what none makes
 abbrev pub joined : ManyOperator → Bool → Bool → Bool

@@ -59,20 +59,20 @@ symbol_of (first ∷ rest) =
     else Nothing))))))))))))
 
 -- the bytes are `/*`
-abbrev pub opens : ℕ → ℕ → Bool
-opens first second = (first == 47) && (second == 42)
+abbrev pub begins_comment : ℕ → ℕ → Bool
+begins_comment first second = (first == 47) && (second == 42)
 
 -- the bytes are `*/`
-abbrev pub closes : ℕ → ℕ → Bool
-closes first second = (first == 42) && (second == 47)
+abbrev pub ends_comment : ℕ → ℕ → Bool
+ends_comment first second = (first == 42) && (second == 47)
 
 -- what is left after the `*/` of a comment, within which so many others are open
 abbrev pub after_comment : ℕ → List ℕ → Option (List ℕ)
 after_comment depth [] = None
 after_comment depth (byte ∷ []) = None
 after_comment depth (first ∷ second ∷ rest) =
-    if closes first second then (if depth == 0 then Some rest else after_comment (depth - 1) rest)
-    else (if opens first second then after_comment (depth + 1) rest
+    if ends_comment first second then (if depth == 0 then Some rest else after_comment (depth - 1) rest)
+    else (if begins_comment first second then after_comment (depth + 1) rest
     else after_comment depth (second ∷ rest))
 
 -- a comment whose text after its `/*` is this, and what is left after it

@@ -3,7 +3,7 @@ use Rattle.std.specs.Prelude.{◌≡◌}
 use Rattle.tsl_tool.specs.declared.status.Status.{Status}
 use Rattle.tsl_tool.specs.declared.status.Status.TheVariants.{WriteFault}
 use Rattle.tsl_tool.specs.declared.reply.Reply.{Reply}
-use Rattle.tsl_tool.specs.Effects.{Effect, IsWhole, IsCutOff}
+use Rattle.tsl_io.specs.Effects.{Effect, IsWhole, IsCutOff}
 
 -- The status of a reply and its whole text, or a write fault and some first bytes of it.
 pub data IsSent (reply : Reply) (sink : Effect) (result : Status) : Type 0 where

@@ -1,14 +1,14 @@
 use Rattle.std.proofs.Common.{◌≡◌, length, map}
 use Rattle.flow_program.specs.ListingTree.{update_line}
-use Rattle.flow_program.specs.internal.LineReading.{place_of, repeat, set_update, update_follows}
+use Rattle.flow_program.specs.internal.LineReading.{left_place, repeat, set_update, update_follows}
 use Rattle.flow_program.proofs.Repeats.{joined}
 use Rattle.flow_program.proofs.line.set_updates.Given as goal
 
 -- the updates so far, and then those that are left
 abbrev pub invariant-loop-alloc : goal.invariant-loop-alloc
 invariant-loop-alloc l =
-    joined (map update_line l.found.items) (repeat update_follows set_update (place_of l.rest))
-    ≡ repeat update_follows set_update (place_of l.left)
+    joined (map update_line l.found.items) (repeat update_follows set_update (left_place l.rest))
+    ≡ repeat update_follows set_update (left_place l.left)
 
 abbrev pub decreases-loop-alloc : goal.decreases-loop-alloc
 decreases-loop-alloc l = length l.rest.bytes.now

@@ -1,6 +1,6 @@
 use Rattle.std.proofs.Common.{◌≡◌, ◌+◌, length, length-append, ◌∷◌, ap, sym, ◌∙◌, arith}
 use Rattle.flow_program.specs.ListingTree.{listing_tree}
-use Rattle.flow_program.specs.internal.LineReading.{place_of, line_tree}
+use Rattle.flow_program.specs.internal.LineReading.{left_place, line_tree}
 use Rattle.flow_program.specs.internal.LineOrder.{declares}
 use Rattle.flow_program.proofs.LineFeeds.{cut_sound}
 use Rattle.flow_program.proofs.LinesRead.{line_sound}
@@ -10,14 +10,14 @@ use Rattle.flow_program.proofs.listing_reader.next_line.Goals as goal
 
 pub declare-requires-clause-within : goal.declare-requires-clause-within
 declare-requires-clause-within c =
-    let parts = cut_sound (place_of c.args.left) (place_of c.in-Some.line) (place_of c.in-Some.later) c.in-Some.ensures.some in
+    let parts = cut_sound (left_place c.args.left) (left_place c.in-Some.line) (left_place c.in-Some.later) c.in-Some.ensures.some in
     let bytes : length c.args.left.bytes.now ≡ length c.in-Some.line.bytes.now + length (10 ∷ c.in-Some.later.bytes.now) =
     ap length parts.0 ∙ length-append c.in-Some.line.bytes.now (10 ∷ c.in-Some.later.bytes.now) in
     let at : c.in-Some.line.at ≡ c.args.left.at = parts.2 in
     within_more (c.in-Some.line.at + length c.in-Some.line.bytes.now) (length c.args.text.now) (omega (arith, c.requires.within))
     (declares (line_tree c.in_ok-line.line))
-    (line_declares_within (place_of c.in-Some.line) (line_tree c.in_ok-line.line)
-    (line_sound (place_of c.in-Some.line) (line_tree c.in_ok-line.line) c.in_ok-line.ensures.ok))
+    (line_declares_within (left_place c.in-Some.line) (line_tree c.in_ok-line.line)
+    (line_sound (left_place c.in-Some.line) (line_tree c.in_ok-line.line) c.in_ok-line.ensures.ok))
 
 pub returns-clause-names : goal.returns-clause-names
 returns-clause-names c =

@@ -3,7 +3,7 @@ use Rattle.flow_program.specs.declared.listing.ListingError.{ListingError}
 use Rattle.flow_program.specs.ListingFault.{HasListingFault}
 use Rattle.flow_program.specs.ListingTree.{ListingTree, empty_listing, listing_tree}
 use Rattle.flow_program.specs.LineText.{Place}
-use Rattle.flow_program.specs.internal.LineReading.{place_of}
+use Rattle.flow_program.specs.internal.LineReading.{left_place}
 use Rattle.flow_program.specs.internal.LineOrder.{Progress, fresh, going, done, names_so_far, next_line, after_head, progress_of}
 use Rattle.flow_program.proofs.BracketLevels.{misread_on}
 use Rattle.flow_program.proofs.FirstFaults.{first_fault}
@@ -24,7 +24,7 @@ returns-in-Err-clause-fault c =
 pub loop-left-init : goal.loop-left-init
 loop-left-init c =
     let start : Place = record { at = 0; bytes = c.args.text.now } in
-    let later : Place = place_of c.in-Ok.later in
+    let later : Place = left_place c.in-Ok.later in
     let P : ListingTree → Type 0 = λ l. Reached c.args.text.now (going l) 2 later in
     record {
       reached =
@@ -38,25 +38,25 @@ pub returns-in-Err-next_line-clause-fault : goal.returns-in-Err-next_line-clause
 returns-in-Err-next_line-clause-fault c =
     let P : ListingError → Type 0 = HasListingFault c.args.text.now in
     subst P (sym c.at_line-in-Err-next_line.ensures)
-    (told c.args.text.now (progress_of c.loop-left.begun) c.loop-left.number (place_of c.loop-left.left) c.loop-left.invariant.reached
+    (told c.args.text.now (progress_of c.loop-left.begun) c.loop-left.number (left_place c.loop-left.left) c.loop-left.invariant.reached
     c.in-Err-next_line.fault c.in-Err-next_line.ensures.wrong
     (λ nil m e. some_byte c.loop-left.left.bytes.now (sym c.has_bytes.ensures ∙ c.loop-left-test.true) nil))
 
 pub loop-left-smaller : goal.loop-left-smaller
 loop-left-smaller c =
-    step_smaller c.args.text.now (progress_of c.loop-left.begun) (progress_of c.next_line.new.begun) (place_of c.loop-left.left)
-    (place_of c.in-Ok-next_line.later) c.in-Ok-next_line.ensures.ok
+    step_smaller c.args.text.now (progress_of c.loop-left.begun) (progress_of c.next_line.new.begun) (left_place c.loop-left.left)
+    (left_place c.in-Ok-next_line.later) c.in-Ok-next_line.ensures.ok
 
 pub loop-left-preserved : goal.loop-left-preserved
 loop-left-preserved c =
     let next : suc c.loop-left.number ≡ c.loop-left.number + 1 = omega arith in
     let later : Progress = progress_of c.next_line.new.begun in
-    let after : Place = place_of c.in-Ok-next_line.later in
-    let P : ℕ → Type 0 = λ n. Reached c.args.text.now later n after in
+    let past : Place = left_place c.in-Ok-next_line.later in
+    let P : ℕ → Type 0 = λ n. Reached c.args.text.now later n past in
     record {
       reached =
           subst P next
-          (reached_more c.args.text.now (progress_of c.loop-left.begun) later c.loop-left.number (place_of c.loop-left.left) after
+          (reached_more c.args.text.now (progress_of c.loop-left.begun) later c.loop-left.number (left_place c.loop-left.left) past
           c.loop-left.invariant.reached c.in-Ok-next_line.ensures.ok);
       names = c.in-Ok-next_line.ensures.names;
     }
@@ -65,8 +65,8 @@ pub returns-then-begun-clause-ok : goal.returns-then-begun-clause-ok
 returns-then-begun-clause-ok c =
     let l : ListingTree = listing_tree c.loop-left.begun.listing in
     let ended : progress_of c.loop-left.begun ≡ done l = ap (λ (t : Bool). cond t (done l) (going l)) c.if-begun.true in
-    let P : Progress → Type 0 = λ p. Reached c.args.text.now p c.loop-left.number (place_of c.loop-left.left) in
-    listing_read c.args.text.now l c.loop-left.number (place_of c.loop-left.left) (subst P ended c.loop-left.invariant.reached)
+    let P : Progress → Type 0 = λ p. Reached c.args.text.now p c.loop-left.number (left_place c.loop-left.left) in
+    listing_read c.args.text.now l c.loop-left.number (left_place c.loop-left.left) (subst P ended c.loop-left.invariant.reached)
     (no_bytes c.loop-left.left.bytes.now (sym c.has_bytes.ensures ∙ c.loop-left-test.false))
 
 pub returns-else-begun-clause-fault : goal.returns-else-begun-clause-fault
@@ -74,6 +74,7 @@ returns-else-begun-clause-fault c =
     let l : ListingTree = listing_tree c.loop-left.begun.listing in
     let open_still : progress_of c.loop-left.begun ≡ going l = ap (λ (t : Bool). cond t (done l) (going l)) c.if-begun.false in
     let nil = no_bytes c.loop-left.left.bytes.now (sym c.has_bytes.ensures ∙ c.loop-left-test.false) in
-    first_fault c.args.text.now (progress_of c.loop-left.begun) c.loop-left.number (place_of c.loop-left.left) c.loop-left.invariant.reached
-    (no_line c.args.text.now (progress_of c.loop-left.begun) (place_of c.loop-left.left) nil)
+    first_fault c.args.text.now
+    (progress_of c.loop-left.begun) c.loop-left.number (left_place c.loop-left.left) c.loop-left.invariant.reached
+    (no_line c.args.text.now (progress_of c.loop-left.begun) (left_place c.loop-left.left) nil)
     (λ none m e. not_done l m (sym open_still ∙ e))

@@ -1,7 +1,7 @@
 use Rattle.sequence.proofs.Passes.{passes_within}
 use Rattle.flow_program.specs.Listing.{name_stands}
 use Rattle.flow_program.specs.internal.Numbering.{numbered}
-use Rattle.flow_program.proofs.General.{copied_at, copied_more}
+use Rattle.sequence.proofs.Gathered.{each_there_within, copied_more}
 use Rattle.flow_program.proofs.numbering.numbers.Goals as goal
 
 pub numbered-requires-clause-stands : goal.numbered-requires-clause-stands
@@ -10,7 +10,8 @@ numbered-requires-clause-stands c =
 
 pub numbered-requires-clause-known : goal.numbered-requires-clause-known
 numbered-requires-clause-known c =
-    copied_at (numbered c.args.names.now c.args.text.now) c.args.places.now c.loop-place.place-index _ c.requires.known c.loop-place-test.true
+    each_there_within
+    (numbered c.args.names.now c.args.text.now) c.args.places.now c.loop-place.place-index _ c.requires.known c.loop-place-test.true
 
 pub loop-place-preserved : goal.loop-place-preserved
 loop-place-preserved c =

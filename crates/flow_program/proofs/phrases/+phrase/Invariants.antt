@@ -1,6 +1,6 @@
 use Rattle.std.proofs.Common.{◌≡◌, ◌+◌, ◌*◌, length, map}
 use Rattle.flow_program.specs.ListingTree.{phrase_tree}
-use Rattle.flow_program.specs.internal.LineReading.{place_of, arguments, bracketed}
+use Rattle.flow_program.specs.internal.LineReading.{left_place, arguments, in_brackets}
 use Rattle.flow_program.proofs.Repeats.{joined}
 use Rattle.flow_program.proofs.phrases.+phrase.Given as goal
 
@@ -24,8 +24,8 @@ decreases-in_brackets l = l.room * 8
 -- the arguments so far, and then those that are left
 abbrev pub invariant-arguments-loop-alloc : goal.invariant-arguments-loop-alloc
 invariant-arguments-loop-alloc l =
-    joined (map phrase_tree l.found.items) (arguments (bracketed l.room) (place_of l.rest))
-    ≡ arguments (bracketed l.room) (place_of l.left)
+    joined (map phrase_tree l.found.items) (arguments (in_brackets l.room) (left_place l.rest))
+    ≡ arguments (in_brackets l.room) (left_place l.left)
 
 abbrev pub decreases-arguments-loop-alloc : goal.decreases-arguments-loop-alloc
 decreases-arguments-loop-alloc l = length l.rest.bytes.now

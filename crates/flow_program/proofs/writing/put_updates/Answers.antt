@@ -8,25 +8,25 @@ use Rattle.sequence.proofs.Lists.{written_step, left_at}
 use Rattle.tsl_terms.specs.declared.term.Term.{Term}
 use Rattle.tsl_terms.specs.Name.{Name}
 use Rattle.tsl_terms.specs.TermTree.{term_tree}
-use Rattle.term_text.specs.TermText.{update_text}
-use Rattle.flow_program.specs.ProgramText.{updates_text, signal_fits, term_is_writable}
+use Rattle.term_text.specs.TermText.{update_text, is_held, term_is_held}
+use Rattle.flow_program.specs.ProgramText.{updates_text}
 use Rattle.flow_program.proofs.writing.put_updates.Goals as goal
 
 pub put_spaced_update-requires-clause-signal : goal.put_spaced_update-requires-clause-signal
 put_spaced_update-requires-clause-signal c =
-    let turn = (zip_turn c.args.controlled.now c.args.terms.now c.loop-signal.yielded c.into_iter-signal-iterator.result
+    let turn = (zip_turn c.args.signals.now c.args.terms.now c.loop-signal.yielded c.into_iter-signal-iterator.result
     c.loop-signal.signal-iterator c.next.new.self c.next.result (search rules) (search rules) c.loop-signal.yielded_by
     (c.in-Some.signal, c.in-Some.term) c.in-Some.is c.next.ensures.steps) in
-    rw (turn.2 0) (passes_within (signal_fits c.args.names.now) c.args.controlled.now
+    rw (turn.2 0) (passes_within (is_held c.args.names.now) c.args.signals.now
     (length c.loop-signal.yielded) 0 c.requires.signals turn.0)
 
 pub put_spaced_update-requires-clause-term : goal.put_spaced_update-requires-clause-term
 put_spaced_update-requires-clause-term c =
-    let turn = (zip_turn c.args.controlled.now c.args.terms.now c.loop-signal.yielded c.into_iter-signal-iterator.result
+    let turn = (zip_turn c.args.signals.now c.args.terms.now c.loop-signal.yielded c.into_iter-signal-iterator.result
     c.loop-signal.signal-iterator c.next.new.self c.next.result (search rules) (search rules) c.loop-signal.yielded_by
     (c.in-Some.signal, c.in-Some.term) c.in-Some.is c.next.ensures.steps) in
     rw (turn.3 c.in-Some.term.now)
-    (map_passes_within term_tree (term_is_writable c.args.names.now) c.args.terms.now
+    (map_passes_within term_tree (term_is_held c.args.names.now) c.args.terms.now
     (length c.loop-signal.yielded) c.in-Some.term.now c.requires.terms turn.1)
 
 updates_left : (names : List Name) (signals : List ℕ) (terms : List Term) (n s : ℕ) (t : Term) → n < length signals → n < length terms →
@@ -40,7 +40,7 @@ updates_left names signals terms n s t within inside signal term =
 
 pub loop-signal-preserved : goal.loop-signal-preserved
 loop-signal-preserved c =
-    let turn = (zip_turn c.args.controlled.now c.args.terms.now c.loop-signal.yielded c.into_iter-signal-iterator.result
+    let turn = (zip_turn c.args.signals.now c.args.terms.now c.loop-signal.yielded c.into_iter-signal-iterator.result
     c.loop-signal.signal-iterator c.next.new.self c.next.result (search rules) (search rules) c.loop-signal.yielded_by
     (c.in-Some.signal, c.in-Some.term) c.in-Some.is c.next.ensures.steps) in
     record {
@@ -49,7 +49,7 @@ loop-signal-preserved c =
       written =
           rw (length_push c.loop-signal.yielded (c.in-Some.signal, c.in-Some.term))
           (written_step _ _ _ _ _ _ c.loop-signal.invariant.written
-          (updates_left c.args.names.now c.args.controlled.now c.args.terms.now
+          (updates_left c.args.names.now c.args.signals.now c.args.terms.now
           (length c.loop-signal.yielded) c.in-Some.signal.now c.in-Some.term.now turn.0 turn.1 (turn.2 0) (turn.3 c.in-Some.term.now))
           c.in_ok-put_spaced_update.ensures);
     }
@@ -70,10 +70,10 @@ updates_done names signals terms n end =
 
 pub returns : goal.returns
 returns c =
-    let end = zip_end c.args.controlled.now c.args.terms.now c.loop-signal.yielded c.into_iter-signal-iterator.result
+    let end = zip_end c.args.signals.now c.args.terms.now c.loop-signal.yielded c.into_iter-signal-iterator.result
     c.loop-signal.signal-iterator c.next.new.self c.next.result (search rules)
     (search rules) c.loop-signal.yielded_by c.in-None.is c.next.ensures.steps in
     sym (append-nil c.loop-signal.out.items)
     ∙ ap (λ (ys : List ℕ). c.loop-signal.out.items ++ ys)
-    (sym (updates_done c.args.names.now c.args.controlled.now c.args.terms.now (length c.loop-signal.yielded) end))
+    (sym (updates_done c.args.names.now c.args.signals.now c.args.terms.now (length c.loop-signal.yielded) end))
     ∙ c.loop-signal.invariant.written

@@ -8,6 +8,6 @@ abbrev pub invariant-loop-signal : goal.invariant-loop-signal
 invariant-loop-signal l = record {
   can_next : (goal.iterator-loop-signal).can_next l.signal-iterator;
   is_finite : (goal.iterator-loop-signal).is_finite l.signal-iterator;
-  written : l.out.items ++ updates_text l.names (drop (length l.yielded) l.controlled) (map term_tree (drop (length l.yielded) l.terms))
-      ≡ l.fn.out.items ++ updates_text l.names l.controlled (map term_tree l.terms);
+  written : l.out.items ++ updates_text l.names (drop (length l.yielded) l.signals) (map term_tree (drop (length l.yielded) l.terms))
+      ≡ l.fn.out.items ++ updates_text l.names l.signals (map term_tree l.terms);
 }

@@ -1,14 +1,14 @@
 use Rattle.std.proofs.Common.{◌≡◌, Some, sym, ap}
 use Rattle.std.proofs.lemmas.Result.{IfOk-weaker}
+use Rattle.sequence.proofs.Options.{there_mapped}
 use Rattle.interp_core.proofs.Besides.{beside-map}
-use Rattle.interp_core.proofs.Evaluating.{some_mapped}
 use Rattle.interp_core.proofs.evaluation.+evaluation.Goals as goal
 
 pub evaluate-unwrap-requires : goal.evaluate-unwrap-requires
 evaluate-unwrap-requires g t c =
     let e = beside-map g.A.Algebra.seen c.in-Signal.signal c.args.leaves.now.signals c.args.leaves.now.values in
     let had = rw (c.in-Signal.is, e, ← c.value_of.ensures) at c.requires.had in
-    some_mapped _ _ (some_mapped _ _ had)
+    there_mapped _ _ (there_mapped _ _ had)
 
 pub evaluate-returns-in-Signal : goal.evaluate-returns-in-Signal
 evaluate-returns-in-Signal g t c =

@@ -1,7 +1,7 @@
 use Rattle.std.proofs.Common.{[], ◌∷◌}
 use Rattle.tsl_terms.specs.TermTree.{term_tree}
 use Rattle.interp_core.specs.LeafValue.{leaf_value}
-use Rattle.interp_core.specs.internal.Wheel.{wheel}
+use Rattle.interp_core.specs.Wheel.{wheel}
 use Rattle.interp_core.proofs.Total.{wheel_is_total, value_there, leaf_there}
 use Rattle.interp_core.proofs.tests.value_of.Goals as goal
 

@@ -1,5 +1,5 @@
 use Rattle.std.proofs.Common.{◌≡◌, ◌++◌, drop, map}
-use Rattle.obligations.specs.internal.Named.{formula_named}
+use Rattle.obligations.specs.Named.{formula_named}
 use Rattle.ltl_formula.specs.LtlTree.{ltl_tree}
 use Rattle.obligations.specs.Numbers.{lent_trees}
 use Rattle.obligations.proofs.set.set_named.Given as goal

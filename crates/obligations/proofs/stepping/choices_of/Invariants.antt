@@ -1,6 +1,6 @@
 use Rattle.std.proofs.Common.{◌≡◌, ◌++◌, drop, map}
 use Rattle.std.specs.List.{AllByRecursion}
-use Rattle.obligations.specs.internal.Named.{choice_named, IsWell}
+use Rattle.obligations.specs.Named.{choice_named, IsWell}
 use Rattle.obligations.specs.Numbers.{choice_keys, lent_trees}
 use Rattle.obligations.specs.Chosen.{choice_trees}
 use Rattle.obligations.proofs.stepping.choices_of.Given as goal

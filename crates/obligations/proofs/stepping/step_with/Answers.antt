@@ -3,7 +3,7 @@ use Rattle.std.specs.List.{AllByRecursion}
 use Rattle.ltl_formula.specs.LtlTree.{ltl_tree}
 use Rattle.obligations.specs.Numbers.{lent_trees, choice_keys}
 use Rattle.sequence.proofs.Results.{handed_on}
-use Rattle.obligations.specs.internal.Named.{choice_named, IsWell}
+use Rattle.obligations.specs.Named.{choice_named, IsWell}
 use Rattle.obligations.specs.declared.step_error.StepError.TheVariants.{Choices}
 use Rattle.obligations.specs.Expansion.{choices}
 use Rattle.obligations.proofs.StepLemmas.{rising, found, found_well, none}

@@ -1,8 +1,9 @@
-use Rattle.std.proofs.Common.{◌≡◌, ℕ, List, Option, ap, subst, ◌∙◌}
+use Rattle.std.proofs.Common.{◌≡◌, ℕ, List, Option, ap, sym, subst, ◌∙◌}
 use Rattle.clause_core.specs.Literals.{Lit}
 use Rattle.clause_core.specs.Propagation.{IsQuiet}
 use Rattle.sat_trail.specs.Entries.{literals_of}
 use Rattle.sat_trail.specs.States.{TrailState, EndsWith}
+use Rattle.sat_core.specs.internal.ConflictWalks.{AreNoMarks}
 use Rattle.sat_core.proofs.Searching.{quiet_reaches}
 use Rattle.sat_core.proofs.solver.end.Goals as goal
 
@@ -17,3 +18,8 @@ returns c =
       quiet_reaches c.args.trail.clauses (literals_of u.entries)
           (subst (λ (cs : List (List Lit)). IsQuiet cs (literals_of u.entries)) same quiet),
     )
+
+pub refute-requires-clause-marks : goal.refute-requires-clause-marks
+refute-requires-clause-marks c = subst (λ (n : ℕ). AreNoMarks n c.args.walk.marks)
+    (sym (ap (λ (s : TrailState). s.variables) c.in_ok-conflict.ensures.ok.rest_stays
+    ∙ ap (λ (s : TrailState). s.variables) c.undo_to.ensures.value)) c.requires.marks

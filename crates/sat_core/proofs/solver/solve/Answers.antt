@@ -1,4 +1,4 @@
-use Rattle.std.proofs.Common.{◌≡◌, ◌+◌, ◌<◌, ◌≤◌, ℕ, false, List, Option, length, take, slice_get, ap, sym, subst, ◌∙◌, arith}
+use Rattle.std.proofs.Common.{◌≡◌, ◌+◌, ◌<◌, ◌≤◌, ℕ, false, List, [], Option, length, ap, sym, subst, ◌∙◌, arith}
 use Rattle.std.proofs.lemmas.Result.{IfOk-weaker}
 use Rattle.std.proofs.lemmas.List.{length_push}
 use Rattle.sat_core.specs.internal.Ends.{IsEnd}
@@ -8,17 +8,21 @@ use Rattle.sat_trail.specs.Entries.{literals_of}
 use Rattle.sat_trail.specs.States.{TrailState, EndsWith}
 use Rattle.sat_trail.proofs.Soundness.{length_entries}
 use Rattle.sat_core.specs.Answers.{IsRightAnswer}
-use Rattle.sat_core.specs.internal.Decisions.{AreSet, AreVariableTruths, HasDecided, Decides}
+use Rattle.sat_core.specs.internal.Decisions.{AreSet, AreDecisions, AreVariableTruths, HasDecided, Decides}
+use Rattle.sat_core.specs.internal.ConflictWalks.{AreNoMarks}
+use Rattle.sat_core.proofs.Deciding.{decisions_propagated}
 use Rattle.sat_core.specs.internal.Lessons.{learnt_step}
 use Rattle.sat_core.proofs.Searching.{IsSearch, search_begins, search_propagated, search_decided, search_learnt, search_satisfied}
-use Rattle.sat_core.proofs.Searching.{search_refuted, search_ended, decisions_propagated, decisions_learnt, decided_longer, less_unset}
+use Rattle.sat_core.proofs.Searching.{search_refuted, search_ended, decided_longer, less_unset}
 use Rattle.sat_core.proofs.solver.solve.Goals as goal
 
 pub loop-decisions-init : goal.loop-decisions-init
 loop-decisions-init c = record {
   search = subst (IsSearch c.args.cnf.now.variables c.args.cnf.now.clauses c.in-Ok.trail) (sym c.new-steps.ensures.items)
       (search_begins c.args.cnf.now.variables c.args.cnf.now.clauses c.in-Ok.trail c.in-Ok.ensures.ok c.in-Ok.ensures.sound);
-  decisions = c.new-decisions.ensures c.in-Ok.trail (ap (λ (s : TrailState). s.level) c.in-Ok.ensures.ok);
+  decisions = subst (λ (s : TrailState). AreDecisions s.variables s.entries c.in_ok-decisions.decisions) (sym c.in-Ok.ensures.ok)
+      (c.in_ok-decisions.ensures []);
+  marks = subst (λ (s : TrailState). AreNoMarks s.variables c.in_ok-walk.walk.marks) (sym c.in-Ok.ensures.ok) c.in_ok-walk.ensures;
   within = omega (arith, ap length c.new-steps.ensures.items);
 }
 
@@ -35,8 +39,8 @@ returns-in_default-2 c =
     c.loop-decisions.invariant.search c.in_ok-conflict.ensures.ok c.in_ok-conflict.ensures.sound in
     let quiet : IsQuiet u.clauses (literals_of u.entries) = subst
     (λ (o : Option ℕ). EndsWith o u) c.in_default-2.is c.in_ok-conflict.ensures.ends in
-    let all : Decides u w c.loop-decisions.decisions c.decide.new.self false =
-    subst (Decides u w c.loop-decisions.decisions c.decide.new.self) c.if-branch.false c.in_ok-decide.ensures in
+    let all : Decides u w c.decide.new.self false =
+    subst (Decides u w c.decide.new.self) c.if-branch.false c.in_ok-decide.ensures in
     search_satisfied cnf.variables cnf.clauses u c.loop-decisions.steps.items c.in_ok-assignment.assignment.truths search cnf.over quiet
     (subst (AreSet u.entries) search.same_variables all.0) (subst
     (λ (s : TrailState). AreVariableTruths s.entries cnf.variables c.in_ok-assignment.assignment.truths) all.1
@@ -51,12 +55,14 @@ loop-decisions-preserved-then-branch c =
     c.loop-decisions.invariant.search c.in_ok-conflict.ensures.ok c.in_ok-conflict.ensures.sound in
     let quiet : IsQuiet u.clauses (literals_of u.entries) = subst
     (λ (o : Option ℕ). EndsWith o u) c.in_default-2.is c.in_ok-conflict.ensures.ends in
-    let decided : HasDecided u w c.loop-decisions.decisions c.decide.new.self =
-    subst (Decides u w c.loop-decisions.decisions c.decide.new.self) c.if-branch.true c.in_ok-decide.ensures in
+    let decided : HasDecided u w c.decide.new.self =
+    subst (Decides u w c.decide.new.self) c.if-branch.true c.in_ok-decide.ensures in
     record {
       search = search_decided cnf.variables cnf.clauses u w c.loop-decisions.steps.items decided.literal search quiet decided.trail_is
           decided.sound;
       decisions = decided.decisions;
+      marks = subst (λ (n : ℕ). AreNoMarks n c.loop-decisions.walk.marks) (sym (ap (λ (s : TrailState). s.variables) decided.trail_is
+          ∙ ap (λ (s : TrailState). s.variables) c.in_ok-conflict.ensures.ok.rest_stays)) c.loop-decisions.invariant.marks;
       within = c.loop-decisions.invariant.within;
     }
 
@@ -65,8 +71,8 @@ loop-decisions-smaller-then-branch c =
     let cnf = c.args.cnf.now in
     let u = c.propagate.new.self in
     let w = c.decide.new.trail in
-    let decided : HasDecided u w c.loop-decisions.decisions c.decide.new.self =
-    subst (Decides u w c.loop-decisions.decisions c.decide.new.self) c.if-branch.true c.in_ok-decide.ensures in
+    let decided : HasDecided u w c.decide.new.self =
+    subst (Decides u w c.decide.new.self) c.if-branch.true c.in_ok-decide.ensures in
     let longer = decided_longer c.loop-decisions.trail u w decided.literal c.in_ok-conflict.ensures.ok decided.trail_is in
     let same : w.variables ≡ cnf.variables = ap (λ (s : TrailState). s.variables) decided.trail_is
     ∙ (ap (λ (s : TrailState). s.variables) c.in_ok-conflict.ensures.ok.rest_stays
@@ -99,6 +105,22 @@ learn-requires-clause-quiet c =
     (search_propagated cnf.variables cnf.clauses c.loop-decisions.trail c.propagate.new.self c.loop-decisions.steps.items
     c.loop-decisions.invariant.search c.in_ok-conflict.ensures.ok c.in_ok-conflict.ensures.sound).quiet
 
+pub refute-requires-clause-marks : goal.refute-requires-clause-marks
+refute-requires-clause-marks c = subst (λ (n : ℕ). AreNoMarks n c.loop-decisions.walk.marks)
+    (sym (ap (λ (s : TrailState). s.variables) c.in_ok-conflict.ensures.ok.rest_stays)) c.loop-decisions.invariant.marks
+
+pub end-requires-clause-marks : goal.end-requires-clause-marks
+end-requires-clause-marks c = subst (λ (n : ℕ). AreNoMarks n c.loop-decisions.walk.marks)
+    (sym (ap (λ (s : TrailState). s.variables) c.in_ok-conflict.ensures.ok.rest_stays)) c.loop-decisions.invariant.marks
+
+pub learn-requires-clause-marks : goal.learn-requires-clause-marks
+learn-requires-clause-marks c = subst (λ (n : ℕ). AreNoMarks n c.loop-decisions.walk.marks)
+    (sym (ap (λ (s : TrailState). s.variables) c.in_ok-conflict.ensures.ok.rest_stays)) c.loop-decisions.invariant.marks
+
+pub learn-requires-clause-decisions : goal.learn-requires-clause-decisions
+learn-requires-clause-decisions c = decisions_propagated c.loop-decisions.trail c.propagate.new.self c.loop-decisions.decisions
+    c.in_ok-conflict.ensures.ok c.loop-decisions.invariant.decisions
+
 pub loop-decisions-preserved : goal.loop-decisions-preserved
 loop-decisions-preserved c =
     let cnf = c.args.cnf.now in
@@ -106,17 +128,12 @@ loop-decisions-preserved c =
     let search = search_propagated cnf.variables cnf.clauses c.loop-decisions.trail u c.loop-decisions.steps.items
     c.loop-decisions.invariant.search c.in_ok-conflict.ensures.ok c.in_ok-conflict.ensures.sound in
     let learnt = c.in_ok-learn.ensures.learnt in
-    let below : learnt.back < u.level = (learnt.lesson.asserting
-    (let h : 0 < u.level = omega (arith, c.level.ensures.value, c.if-level-eq0.false) in h)).below in
     record {
-      search = search_learnt cnf.variables cnf.clauses u c.learn.new.trail c.loop-decisions.steps.items c.learn.new.steps.items search
-          learnt c.in_ok-learn.ensures.sound (let h : 0 < u.level = omega (arith, c.level.ensures.value, c.if-level-eq0.false) in h);
-      decisions = decisions_learnt u c.learn.new.trail c.loop-decisions.decisions c.undo_to.new.self learnt.back learnt.clause
-          (decisions_propagated c.loop-decisions.trail u c.loop-decisions.decisions c.in_ok-conflict.ensures.ok
-          c.loop-decisions.invariant.decisions) learnt.trail_is below (ap (slice_get c.loop-decisions.decisions.by_level.items)
-          (sym c.level-in-loop-decisions.ensures.value) ∙ c.undo_to.ensures.first)
-          (c.undo_to.ensures.by_level ∙ ap (λ (n : ℕ). take n c.loop-decisions.decisions.by_level.items)
-          c.level-in-loop-decisions.ensures.value);
+      search = search_learnt cnf.variables cnf.clauses c.is_due-anew.result u c.learn.new.trail c.loop-decisions.steps.items
+          c.learn.new.steps.items search learnt c.in_ok-learn.ensures.sound
+          (let h : 0 < u.level = omega (arith, c.level.ensures.value, c.if-level-eq0.false) in h);
+      decisions = c.in_ok-learn.ensures.decisions;
+      marks = c.in_ok-learn.ensures.marks;
       within = omega (
         arith,
         ap (λ (ss : List Step). length ss) learnt.steps_are,

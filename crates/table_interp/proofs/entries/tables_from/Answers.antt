@@ -1,9 +1,9 @@
 use Rattle.std.proofs.Common.{◌<◌, ℕ, List, length, sym, ap, ◌∙◌, subst}
 use Rattle.std.specs.Prelude.{All}
+use Rattle.std.proofs.lemmas.List.Elements.{All-from_recursion}
 use Rattle.table_interp.specs.Tables.{numbers_for}
 use Rattle.table_interp.specs.internal.Located.{HasOneSmall}
 use Rattle.table_interp.specs.internal.View.{entries_view}
-use Rattle.table_interp.proofs.Finds.{each_all}
 use Rattle.table_interp.proofs.Facts.{cells_within, needed_within, small_table, cells_one, paired}
 use Rattle.table_interp.proofs.entries.tables_from.Goals as goal
 
@@ -25,7 +25,7 @@ initial_of-requires-clause-within c = cells_within c.args.names.now c.args.cells
 
 pub initial_of-requires-clause-one : goal.initial_of-requires-clause-one
 initial_of-requires-clause-one c =
-    each_all (HasOneSmall c.args.names.now (entries_view c.deref.result.now)) c.args.cells.now
+    All-from_recursion (HasOneSmall c.args.names.now (entries_view c.deref.result.now)) c.args.cells.now
     (cells_one c.args.names.now c.args.cells.now _ (cells_within c.args.names.now c.args.cells.now c.requires.cells)
     c.in_ok-check_entries.ensures.ok c.requires.few c.requires.cells)
 

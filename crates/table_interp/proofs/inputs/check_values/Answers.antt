@@ -11,7 +11,8 @@ returns-in-Some-first_from-clause-cause c = record {
   so_far = c.requires;
   first = c.in-Some.ensures;
   number =
-      same_row (find (is_no_value c.args.domain)) (λ r. is_some (find (is_no_value c.args.domain) r)) (all_rows (inputs_view c.args.given.now))
+      same_row (find (is_no_value c.args.domain)) (λ r. is_some (find (is_no_value c.args.domain) r))
+      (all_rows (inputs_view c.args.given.now))
       c.in-Some.row c.in-Some.ensures c.row_at.result.now c.row_at.ensures
       ∙ sym (rw c.from.ensures at c.first_from.ensures) ∙ c.in-Some-first_from.is;
 }

@@ -1,10 +1,11 @@
 use Rattle.std.proofs.Common.{◌<◌}
+use Rattle.sequence.proofs.Results.{handed_on}
 use Rattle.sequence.proofs.Each.{each_left, each_right}
 use Rattle.std.specs.List.{AllByRecursion}
 use Rattle.table_interp.specs.Inputs.{HasRowCause, all_rows}
-use Rattle.table_interp.specs.internal.View.{inputs_view, numbers_view, terminals_view}
+use Rattle.table_interp.specs.internal.View.{inputs_view, numbers_view, text_tokens_view}
 use Rattle.table_interp.proofs.Facts.{cells_within}
-use Rattle.table_interp.proofs.Columns.{passed, all_whole, rows_below, rows_small, rows_given}
+use Rattle.table_interp.proofs.Columns.{all_whole, rows_below, rows_small, rows_given}
 use Rattle.table_interp.proofs.inputs.rows_from.Goals as goal
 
 pub number_columns-requires : goal.number_columns-requires
@@ -12,7 +13,7 @@ number_columns-requires c = record { inputs = cells_within c.args.names.now c.ar
 
 pub returns-in_err-found-clause-cause : goal.returns-in_err-found-clause-cause
 returns-in_err-found-clause-cause c =
-    passed _ _ (HasRowCause c.args.names.now c.args.inputs.now (inputs_view c.args.given.now) c.args.domain) c.from_residual.ensures.1
+    handed_on _ _ (HasRowCause c.args.names.now c.args.inputs.now (inputs_view c.args.given.now) c.args.domain) c.from_residual.ensures.1
     (c.in_err-found.ensures.cause c.args.domain)
 
 pub check_widths-requires-clause-within : goal.check_widths-requires-clause-within
@@ -20,7 +21,7 @@ check_widths-requires-clause-within c = cells_within c.args.names.now c.args.inp
 
 pub returns-in_err-check_widths-clause-cause : goal.returns-in_err-check_widths-clause-cause
 returns-in_err-check_widths-clause-cause c =
-    passed _ _ (HasRowCause c.args.names.now c.args.inputs.now (inputs_view c.args.given.now) c.args.domain)
+    handed_on _ _ (HasRowCause c.args.names.now c.args.inputs.now (inputs_view c.args.given.now) c.args.domain)
     c.from_residual-in_err-check_widths.ensures.1 (c.in_err-check_widths.ensures.cause c.args.domain)
 
 pub order_of-requires-clause-within : goal.order_of-requires-clause-within
@@ -29,7 +30,7 @@ order_of-requires-clause-within c = cells_within c.args.names.now c.args.inputs.
 pub order_of-requires-clause-whole : goal.order_of-requires-clause-whole
 order_of-requires-clause-whole c =
     rw c.deref.ensures.value
-    (all_whole c.args.names.now (terminals_view c.args.given.now.names.items) c.args.inputs.now
+    (all_whole c.args.names.now (text_tokens_view c.args.given.now.names.items) c.args.inputs.now
     c.in_ok-check_widths.ensures.ok.so_far.so_far.whole)
 
 pub all_ordered-requires : goal.all_ordered-requires

@@ -1,10 +1,13 @@
 use Rattle.std.proofs.Common.{◌<◌, ◌∷◌, [], not, length, map, sym, ap, ◌∙◌, arith, refl}
 use Rattle.std.proofs.lemmas.List.{take_all}
+use Rattle.std.proofs.lemmas.List.Elements.{All-from_recursion}
+use Rattle.sequence.proofs.Finds.{find_image_past, find_image_here, find_image_end}
+use Rattle.sequence.proofs.Options.{not_false_of_some}
 use Rattle.sequence.proofs.Each.{each_joined}
 use Rattle.table_interp.specs.Needed.{number_for}
 use Rattle.table_interp.specs.Inputs.{is_input_name}
-use Rattle.table_interp.specs.internal.View.{terminal_view}
-use Rattle.table_interp.proofs.Finds.{find_pass, find_stop, find_end, is_there, numbers_more, each_all}
+use Rattle.table_interp.specs.internal.View.{text_token_view}
+use Rattle.table_interp.proofs.Growing.{numbers_more}
 use Rattle.table_interp.proofs.naming.column_numbers.Goals as goal
 
 pub loop-column-preserved : goal.loop-column-preserved
@@ -13,7 +16,8 @@ loop-column-preserved c =
     record {
       numbers =
           rw c.in_ok-push-in-Some.ensures.items
-          (numbers_more terminal_view (number_for c.args.names.now) c.args.columns.now c.loop-column.column-index _ c.loop-column.numbers.items c.in-Some.number within
+          (numbers_more text_token_view (number_for c.args.names.now) c.args.columns.now c.loop-column.column-index _
+          c.loop-column.numbers.items c.in-Some.number within
           c.in-Some.ensures.value c.loop-column.invariant.numbers);
       within =
           rw c.in_ok-push-in-Some.ensures.items
@@ -21,27 +25,30 @@ loop-column-preserved c =
           (c.in-Some.ensures.within, tt));
       first =
           c.loop-column.invariant.first
-          ∙ find_pass terminal_view (λ x. not (is_input_name c.args.names.now c.args.inputs.now x)) c.args.columns.now c.loop-column.column-index _ within
-          (is_there c.column_number.result c.in-Some.number _ c.in-Some.is c.column_number.ensures.some);
+          ∙ find_image_past text_token_view (λ x. not (is_input_name c.args.names.now c.args.inputs.now x)) c.args.columns.now
+          c.loop-column.column-index _ within
+          (not_false_of_some c.column_number.result c.in-Some.number _ c.in-Some.is c.column_number.ensures.some);
     }
 
 pub returns-in-None-clause-fault : goal.returns-in-None-clause-fault
 returns-in-None-clause-fault c =
     let within : c.loop-column.column-index < length c.args.columns.now = omega (arith, c.loop-column-test.true) in
     rw ((c.loop-column.invariant.first
-    ∙ find_stop terminal_view (λ x. not (is_input_name c.args.names.now c.args.inputs.now x)) c.args.columns.now c.loop-column.column-index _ within
+    ∙ find_image_here text_token_view (λ x. not (is_input_name c.args.names.now c.args.inputs.now x)) c.args.columns.now
+    c.loop-column.column-index _ within
     (ap not (sym c.in-None.ensures.some)))) refl
 
 pub returns-clause-numbers : goal.returns-clause-numbers
 returns-clause-numbers c =
-    sym (ap (λ xs. map (number_for c.args.names.now) (map terminal_view xs))
+    sym (ap (λ xs. map (number_for c.args.names.now) (map text_token_view xs))
     (take_all c.loop-column.column-index c.args.columns.now (omega (arith, c.loop-column-test.false))))
     ∙ c.loop-column.invariant.numbers
 
 pub returns-clause-within : goal.returns-clause-within
-returns-clause-within c = each_all (λ n. n < length c.args.names.now) c.loop-column.numbers.items c.loop-column.invariant.within
+returns-clause-within c = All-from_recursion (λ n. n < length c.args.names.now) c.loop-column.numbers.items c.loop-column.invariant.within
 
 pub returns-clause-known : goal.returns-clause-known
 returns-clause-known c =
     c.loop-column.invariant.first
-    ∙ find_end terminal_view (λ x. not (is_input_name c.args.names.now c.args.inputs.now x)) c.args.columns.now c.loop-column.column-index (omega (arith, c.loop-column-test.false))
+    ∙ find_image_end text_token_view (λ x. not (is_input_name c.args.names.now c.args.inputs.now x)) c.args.columns.now
+    c.loop-column.column-index (omega (arith, c.loop-column-test.false))

@@ -10,5 +10,6 @@ abbrev pub invariant-loop-entry : goal.invariant-loop-entry
 invariant-loop-entry l = record {
   numbers : map (λ e. number_for l.names e.name) (map entry_view (take l.entry-index l.entries)) ≡ map (λ n. Some n) l.numbers.items;
   within : AllByRecursion (λ n. n < length l.names) l.numbers.items;
-  first : find (λ e. not (is_known l.names l.cells e)) (map entry_view l.entries) ≡ find (λ e. not (is_known l.names l.cells e)) (map entry_view (drop l.entry-index l.entries));
+  first : find (λ e. not (is_known l.names l.cells e)) (map entry_view l.entries)
+      ≡ find (λ e. not (is_known l.names l.cells e)) (map entry_view (drop l.entry-index l.entries));
 }

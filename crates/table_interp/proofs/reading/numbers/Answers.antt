@@ -1,6 +1,6 @@
 use Rattle.std.proofs.Common.{sym, ◌∙◌, arith}
 use Rattle.table_interp.specs.internal.Reading.{number_member, numbers}
-use Rattle.table_interp.specs.internal.View.{terminals_view}
+use Rattle.table_interp.specs.internal.View.{text_tokens_view}
 use Rattle.table_interp.proofs.Exactness.{numbers_shrink}
 use Rattle.table_interp.proofs.ReadLoops.{member_more, members_end}
 use Rattle.table_interp.proofs.reading.numbers.Goals as goal
@@ -9,7 +9,7 @@ pub loop-number-preserved : goal.loop-number-preserved
 loop-number-preserved c = record {
   rest_is =
       rw c.in_ok-push.ensures.items
-      (member_more number_member numbers_shrink (terminals_view c.loop-number.left.terminals.now) (terminals_view c.in-Some.rest.now)
+      (member_more number_member numbers_shrink (text_tokens_view c.loop-number.left.terminals.now) (text_tokens_view c.in-Some.rest.now)
       c.loop-number.numbers.items c.in-Some.number c.in-Some.ensures.some)
       ∙ c.loop-number.invariant.rest_is;
   shorter = omega (arith, c.loop-number.invariant.shorter, c.in-Some.ensures.shorter);
@@ -19,5 +19,5 @@ pub returns-clause-ok : goal.returns-clause-ok
 unfolding numbers
 returns-clause-ok c =
     sym c.loop-number.invariant.rest_is
-    ∙ members_end number_member numbers_shrink (terminals_view c.loop-number.left.terminals.now) c.loop-number.numbers.items
+    ∙ members_end number_member numbers_shrink (text_tokens_view c.loop-number.left.terminals.now) c.loop-number.numbers.items
     (c.in_default.ensures.none)

@@ -7,7 +7,7 @@ use Rattle.flow_program.specs.Walk.{Action}
 use Rattle.flow_program.specs.NodeTree.{node_tree}
 use Rattle.flow_program.specs.ProgramView.{program_tree}
 use Rattle.interp_core.specs.LeafValue.{leaf_value}
-use Rattle.table_runner.proofs.Walking.{begins, state_read, node_within, node_read, test_there, branch_taken, end_reached, cond_below}
+use Rattle.flow_program.proofs.Walking.{begins, state_read, node_within, node_read, test_there, branch_taken, end_reached, cond_below}
 use Rattle.table_runner.proofs.acting.action_in.Goals as goal
 
 pub loop-node-init : goal.loop-node-init
@@ -31,7 +31,8 @@ test_term-requires g c = record {
 pub loop-node-smaller : goal.loop-node-smaller
 loop-node-smaller g c =
     let within = node_within _ _ _ _ c.requires.acts c.loop-node.invariant in
-    let fits = c.args.program.now.branches_fit _ _ _ _ (node_read _ _ _ _ _ c.as_slice-in-loop-node.ensures within c.index-as_slice-node.is c.in-If.is) in
+    let fits = c.args.program.now.branches_fit _ _ _ _ (node_read _ _ _ _ _ c.as_slice-in-loop-node.ensures within
+    c.index-as_slice-node.is c.in-If.is) in
     rw c.chosen-node.ensures (cond_below _ _ _ _ fits.0 fits.1)
 
 pub loop-node-preserved : goal.loop-node-preserved

@@ -4,7 +4,7 @@ use Rattle.flow_program.specs.NodeTree.{node_tree}
 use Rattle.flow_program.specs.ProgramView.{program_tree}
 use Rattle.flow_program.specs.Walk.{walk}
 use Rattle.interp_core.specs.LeafValue.{leaf_value}
-use Rattle.table_runner.proofs.Walking.{IsOn}
+use Rattle.flow_program.proofs.Walking.{IsOn}
 use Rattle.table_runner.proofs.acting.action_in.Given as goal
 
 abbrev pub invariant-loop-node : goal.invariant-loop-node

@@ -16,7 +16,8 @@ returns-then-end-from-clause-no_loop g c refused i j before below =
     (rows_seen g.J.Algebra.seen c.args.inputs.now))
     (steady g.J.Algebra.seen (g.J.Algebra.meanings c.args.judge.now) (program_tree c.args.program.now)
     (rows_seen g.J.Algebra.seen c.args.inputs.now))
-    c.in-Ok.found.step c.in-Ok.found.length c.in_ok-start.start c.in-Ok.ensures.found c.in_ok-start.ensures.first c.in_ok-start.ensures.within
+    c.in-Ok.found.step c.in-Ok.found.length c.in_ok-start.start c.in-Ok.ensures.found c.in_ok-start.ensures.first
+    c.in_ok-start.ensures.within
     i j before (omega (arith, below, c.if-end-from.true, c.from.ensures))
 
 pub invariant_of-result : goal.invariant_of-result
@@ -39,7 +40,8 @@ returns-clause-run g c = record {
   cells = c.in_ok-copied-2.ensures ∙ c.as_slice-2.ensures;
   outputs = c.in_ok-copied-3.ensures ∙ c.as_slice-3.ensures;
   closes =
-      closes g.J.Algebra.seen _ _ _ c.requires.can c.in_ok-start.start c.in-Ok.found.length c.in-Ok.ensures.found.goes_on c.in_ok-start.ensures.first;
+      closes g.J.Algebra.seen _ _ _ c.requires.can c.in_ok-start.start c.in-Ok.found.length c.in-Ok.ensures.found.goes_on
+      c.in_ok-start.ensures.first;
   count = length-map c.in_ok-first_positions.field-0 (position_tree g.J.Algebra.seen) ∙ c.in_ok-first_positions.ensures.count;
   positions = c.in_ok-first_positions.ensures.steps;
 }
@@ -47,11 +49,13 @@ returns-clause-run g c = record {
 pub returns-clause-first : goal.returns-clause-first
 returns-clause-first g c = record {
   closes =
-      closes g.J.Algebra.seen _ _ _ c.requires.can c.in_ok-start.start c.in-Ok.found.length c.in-Ok.ensures.found.goes_on c.in_ok-start.ensures.first;
+      closes g.J.Algebra.seen _ _ _ c.requires.can c.in_ok-start.start c.in-Ok.found.length c.in-Ok.ensures.found.goes_on
+      c.in_ok-start.ensures.first;
   different =
       all_different (configuration_at (g.J.Algebra.meanings c.args.judge.now) (program_tree c.args.program.now)
       (rows_seen g.J.Algebra.seen c.args.inputs.now))
       (steady g.J.Algebra.seen (g.J.Algebra.meanings c.args.judge.now) (program_tree c.args.program.now)
       (rows_seen g.J.Algebra.seen c.args.inputs.now))
-      c.in-Ok.found.step c.in-Ok.found.length c.in_ok-start.start c.in-Ok.ensures.found c.in_ok-start.ensures.first c.in_ok-start.ensures.within;
+      c.in-Ok.found.step c.in-Ok.found.length c.in_ok-start.start c.in-Ok.ensures.found c.in_ok-start.ensures.first
+      c.in_ok-start.ensures.within;
 }

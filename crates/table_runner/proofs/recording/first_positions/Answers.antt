@@ -23,7 +23,8 @@ loop-preserved g c =
       one_more_fits _ _ _ _ _ c.in_ok-position_of.field-0 c.in_ok-push.ensures.ok c.loop.invariant.2
           (position_fits g.J.Algebra.seen _ c.args.program.now _ c.requires.can c.loop.counter _ c.in_ok-action.action.updates.now _
           c.loop.invariant.0 does c.in_ok-position_of.field-0 c.in_ok-position_of.ensures),
-      one_more_step g.J.Algebra.seen _ _ _ _ _ c.in_ok-position_of.field-0 c.loop.counter c.loop.invariant.1 c.in_ok-push.ensures.ok c.loop.invariant.3
+      one_more_step g.J.Algebra.seen _ _ _ _ _ c.in_ok-position_of.field-0 c.loop.counter c.loop.invariant.1 c.in_ok-push.ensures.ok
+          c.loop.invariant.3
           (recorded g.J.Algebra.seen _ _ _ c.loop.counter _ c.in_ok-action.action.updates.now _ c.loop.invariant.0 does
           c.in_ok-position_of.field-0 c.in_ok-position_of.ensures),
     )

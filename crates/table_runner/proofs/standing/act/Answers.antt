@@ -26,7 +26,8 @@ invariant_of-standing g c = record {
   distinct = c.args.standing.now.leaves.distinct;
   paired =
       let long = updates_long c.args.program.now _ _ _ c.args.action.updates.now c.requires.does in
-      values_paired _ _ _ _ c.requires.can c.requires.stands.0 _ c.requires.stands.1 _ c.requires.does c.args.action.updates.now c.len.result
+      values_paired _ _ _ _ c.requires.can c.requires.stands.0 _ c.requires.stands.1 _ c.requires.does c.args.action.updates.now
+      c.len.result
       (map g.J.Algebra.seen c.row_at.result.now) c.in_ok-values.values.items c.len.ensures refl
       (rw (
         place_same g.J.Algebra.seen c.args.inputs.now c.args.standing.now.place,
@@ -38,7 +39,8 @@ invariant_of-standing g c = record {
 
 pub returns-clause-ok : goal.returns-clause-ok
 returns-clause-ok g c t stands =
-    stands_next _ _ _ _ c.requires.can t _ stands _ c.requires.does c.args.action.updates.now c.len.result _ c.in_ok-values.values.items c.len.ensures
+    stands_next _ _ _ _ c.requires.can t _ stands _ c.requires.does c.args.action.updates.now c.len.result _ c.in_ok-values.values.items
+    c.len.ensures
     refl (rw (
       place_same g.J.Algebra.seen c.args.inputs.now c.args.standing.now.place,
       ← c.next_place-place.ensures,

@@ -4,7 +4,7 @@ use Rattle.std.proofs.lemmas.List.{take_all}
 use Rattle.interp_core.specs.LeafValue.{leaf_value}
 use Rattle.tsl_meaning.specs.RunTree.{position_tree, run_tree}
 use Rattle.tsl_meaning.specs.RunLasso.{value_at}
-use Rattle.tsl_meaning.proofs.General.{alike_more, map_twice}
+use Rattle.sequence.proofs.Lists.{alike_more, map_map}
 use Rattle.tsl_meaning.proofs.leaves.leaves_of.Goals as goal
 
 pub leaves_at-requires-clause-row : goal.leaves_at-requires-clause-row
@@ -30,4 +30,4 @@ returns g c =
     c.loop-position.invariant
     ∙ ap (map (λ p. value_at (run_tree g.J.Algebra.seen c.args.run.now) (position_tree g.J.Algebra.seen p)))
     (take_all c.loop-position.position-index _ c.loop-position-test.false ∙ c.as_slice-position-items.ensures)
-    ∙ sym (map_twice (value_at (run_tree g.J.Algebra.seen c.args.run.now)) (position_tree g.J.Algebra.seen) c.args.run.now.positions)
+    ∙ sym (map_map (value_at (run_tree g.J.Algebra.seen c.args.run.now)) (position_tree g.J.Algebra.seen) c.args.run.now.positions)

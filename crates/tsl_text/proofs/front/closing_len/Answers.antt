@@ -4,9 +4,9 @@ use Rattle.tsl_text.specs.internal.Front.{after_comment}
 use Rattle.tsl_text.proofs.Comments.{step_close, step_open, step_other, after_comment-short}
 use Rattle.tsl_text.proofs.front.closing_len.Goals as goal
 
-pub loop-at-preserved-then-closes : goal.loop-at-preserved-then-closes
-loop-at-preserved-then-closes c =
-    let step = step_close c.args.text.now c.loop-at.depth c.loop-at.at (omega arith) c.if-closes.ensures in
+pub loop-at-preserved-then-ends_comment : goal.loop-at-preserved-then-ends_comment
+loop-at-preserved-then-ends_comment c =
+    let step = step_close c.args.text.now c.loop-at.depth c.loop-at.at (omega arith) c.if-ends_comment.ensures in
     let inner : eqb c.loop-at.depth 0 ≡ false = ne_eqb c.loop-at.depth 0 c.if-depth-eq0.false in
     record {
       same = sym (step ∙ ap
@@ -16,9 +16,9 @@ loop-at-preserved-then-closes c =
       deep = omega arith;
     }
 
-pub loop-at-preserved-then-opens : goal.loop-at-preserved-then-opens
-loop-at-preserved-then-opens c = record {
-  same = sym (step_open c.args.text.now c.loop-at.depth c.loop-at.at (omega arith) c.if-closes.ensures c.if-opens.ensures)
+pub loop-at-preserved-then-begins_comment : goal.loop-at-preserved-then-begins_comment
+loop-at-preserved-then-begins_comment c = record {
+  same = sym (step_open c.args.text.now c.loop-at.depth c.loop-at.at (omega arith) c.if-ends_comment.ensures c.if-begins_comment.ensures)
       ∙ c.loop-at.invariant.same;
   inside = omega arith;
   deep = omega arith;
@@ -26,7 +26,7 @@ loop-at-preserved-then-opens c = record {
 
 pub loop-at-preserved : goal.loop-at-preserved
 loop-at-preserved c = record {
-  same = sym (step_other c.args.text.now c.loop-at.depth c.loop-at.at (omega arith) c.if-closes.ensures c.if-opens.ensures)
+  same = sym (step_other c.args.text.now c.loop-at.depth c.loop-at.at (omega arith) c.if-ends_comment.ensures c.if-begins_comment.ensures)
       ∙ c.loop-at.invariant.same;
   inside = omega arith;
   deep = omega arith;

@@ -4,8 +4,11 @@ use Rattle.tsl_tool.proofs.laws.limits_are_these.Goals as goal
 pub returns : goal.returns
 returns c = record {
   specification_bytes = λ sizes. refl;
+  check_bytes = λ bound. refl;
   run_bytes = refl;
   log_bytes = refl;
+  usual_states = refl;
+  most_states = refl;
   levels = refl;
   formula_nodes = refl;
   brackets = refl;
@@ -13,6 +16,14 @@ returns c = record {
   windows = refl;
   program_nodes = refl;
   program_states = refl;
+  predicates = refl;
+  bits = refl;
+  bits_of_letters = refl;
+  choices = refl;
+  automaton_states = refl;
+  automaton_edges = refl;
+  usual_bound = refl;
+  largest_bound = refl;
   values = refl;
   entries = refl;
   rows = refl;

@@ -1,5 +1,5 @@
 use Rattle.flow_program.specs.ProgramView.{program_tree}
-use Rattle.table_interp.specs.Meaning.{rows_of}
+use Rattle.tsl_meaning.specs.Interpretation.{rows_of}
 use Rattle.tsl_tool.specs.Run.{in_inputs}
 use Rattle.tsl_tool.specs.internal.RunView.{run_parts, given_spec}
 use Rattle.tsl_tool.proofs.RunFaultLaws.{input_cause_stands}

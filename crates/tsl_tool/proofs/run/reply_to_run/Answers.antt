@@ -29,7 +29,8 @@ trace_reply-requires-clause-held c =
     let first = first_run_seen (given_spec c.args.spec) c.args.names.now (program_tree c.args.program.now) c.args.tables.now
     c.args.inputs.now c.requires.cells (run_tree (λ v. v) c.in-Ok.run') c.in-Ok.ensures.run c.in-Ok.ensures.first in
     run_held
-    (input_of (given_spec c.args.spec) c.args.names.now (program_tree c.args.program.now) c.args.tables.now c.args.inputs.now c.requires.cells)
+    (input_of
+    (given_spec c.args.spec) c.args.names.now (program_tree c.args.program.now) c.args.tables.now c.args.inputs.now c.requires.cells)
     c.requires.ready (run_tree (λ v. v) c.in-Ok.run') first
 
 pub trace_reply-requires-clause-judged : goal.trace_reply-requires-clause-judged

@@ -1,6 +1,6 @@
 use Rattle.std.proofs.Common.{sym, ap, ◌∙◌, map, Global, refl}
 use Rattle.std.specs.Prelude.{string_bytes, Err}
-use Rattle.tsl_tool.specs.Effects.{effect}
+use Rattle.tsl_io.specs.Effects.{effect}
 use Rattle.tsl_tool.proofs.EndLaws.{usage_reply, fault_reply_to, large_reply, bytes_reply}
 use Rattle.tsl_tool.proofs.top.reply_to.Goals as goal
 

@@ -1,7 +1,7 @@
 use Rattle.std.proofs.Common.{refl, sym, ◌∙◌, map, Global}
 use Rattle.std.specs.Prelude.{string_bytes}
-use Rattle.tsl_tool.specs.Effects.{effect}
-use Rattle.tsl_tool.proofs.EndLaws.{reply_says, out_ends, err_ends, out_promises}
+use Rattle.tsl_io.specs.Effects.{effect}
+use Rattle.tsl_tool.proofs.EndLaws.{reply_says, out_ends, err_ends, out_promises, err_handed_on}
 use Rattle.tsl_tool.proofs.top.tsl.Goals as goal
 
 pub send-requires : goal.send-requires
@@ -41,3 +41,8 @@ returns-in-Ok-2-clause-answers g c =
     (effect g.E.Sink.written g.E.Sink.faults c.args.err.now c.send-in-Ok-2.new.sink)
     c.in-Ok.reply c.send-in-Ok-2.result c.in-Ok.ensures.replies (sym c.is_answer.ensures ∙ c.if-is_answer.false) c.send-in-Ok-2.ensures.sent
     (record { bytes = refl; count = refl })
+
+pub returns-in-Ok-2-clause-handed_on : goal.returns-in-Ok-2-clause-handed_on
+returns-in-Ok-2-clause-handed_on g c =
+    err_handed_on c.in-Ok.reply (effect g.E.Sink.written g.E.Sink.faults c.args.err.now c.send-in-Ok-2.new.sink) c.send-in-Ok-2.result _ _
+    (sym c.is_answer.ensures ∙ c.if-is_answer.false) c.send-in-Ok-2.ensures.sent c.send-in-Ok-2.ensures.handed_on

@@ -1,13 +1,14 @@
 use Rattle.std.proofs.Common.{◌≡◌, map, vec_len}
-use Rattle.tsl_reader.specs.Syntax.{listed_formulas}
+use Rattle.sequence.proofs.Lists.{with_front}
+use Rattle.tsl_reader.specs.Syntax.{more_formulas, listed_formulas}
 use Rattle.tsl_reader.specs.SyntaxView.{formula_syntax, formulas_syntax}
-use Rattle.tsl_reader.proofs.TreeLemmas.{formulas_front}
 use Rattle.tsl_reader.proofs.trees.ReadFormulas.from_vec.Given as goal
 
 -- the formulas that are left, and then those of the list
 abbrev pub invariant-loop-formula : goal.invariant-loop-formula
 invariant-loop-formula l =
-    formulas_front (map formula_syntax l.formulas.items) (formulas_syntax l.list) ≡ listed_formulas (map formula_syntax l.fn.formulas.items)
+    with_front more_formulas (map formula_syntax l.formulas.items) (formulas_syntax l.list)
+    ≡ listed_formulas (map formula_syntax l.fn.formulas.items)
 
 abbrev pub decreases-loop-formula : goal.decreases-loop-formula
 decreases-loop-formula l = vec_len l.formulas

@@ -1,0 +1,195 @@
+#!/usr/bin/env python3
+"""Times `solve` on pigeons, parities, random formulas and encodings, beside `minisat`, `cadical` and `picosat` where they are
+installed. The first argument is the most seconds of a run, 20 if there is none; families may be named after it."""
+import itertools
+import os
+import random
+import re
+import shutil
+import statistics
+import subprocess
+import sys
+import tempfile
+
+import plain
+from measuring import SOLVER, built
+
+LEAST = 0.005
+
+
+def text_of(variables, clauses):
+    lines = [f"p cnf {variables} {len(clauses)}"] + [f"{' '.join(map(str, clause))} 0" for clause in clauses]
+    return ("\n".join(lines) + "\n").encode()
+
+
+def pigeons(holes):
+    """One pigeon more than there are holes."""
+    seat = lambda pigeon, hole: pigeon * holes + hole + 1
+    clauses = [[seat(p, h) for h in range(holes)] for p in range(holes + 1)]
+    clauses += [[-seat(p, h), -seat(q, h)] for h in range(holes) for p in range(holes + 1) for q in range(p)]
+    return text_of((holes + 1) * holes, clauses)
+
+
+def parity(count):
+    """So many variables, added up modulo 2 along two chains in other orders, whose sums differ."""
+    clauses, fresh = [], count
+
+    def chain(order):
+        nonlocal fresh
+        total = order[0]
+        for x in order[1:]:
+            fresh += 1
+            clauses.extend([[total, x, -fresh], [-total, -x, -fresh], [-total, x, fresh], [total, -x, fresh]])
+            total = fresh
+        return total
+
+    order = list(range(1, count + 1))
+    first = chain(order)
+    random.Random(count).shuffle(order)
+    second = chain(order)
+    clauses += [[first, second], [-first, -second]]
+    return text_of(fresh, clauses)
+
+
+def threshold(count, seed):
+    """Clauses of three different variables, 4.26 for each variable."""
+    chance = random.Random(1000 * count + seed)
+    clauses = [[v * chance.choice((1, -1)) for v in chance.sample(range(1, count + 1), 3)] for _ in range(round(4.26 * count))]
+    return text_of(count, clauses)
+
+
+def controller(text, states, bound):
+    """The clauses whose assignments are the controllers of so many states within the bound, for the negated whole formula."""
+    lists = plain.Reader(text).spec()
+    space = plain.Space(lists)
+    count, edges = plain.automaton(plain.letters(("!", plain.whole_formula(lists)), space))
+    valuations = list(space.valuations())
+    updates = [[space.bits["update", signal, term] for term in space.choices[signal]] for signal in space.controlled]
+    numbers = itertools.count(1)
+    choice = {(s, v, bit): next(numbers) for s in range(states) for v in valuations for group in updates for bit in group}
+    after = {(s, v, t): next(numbers) for s in range(states) for v in valuations for t in range(states)}
+    least = {(s, q, i): next(numbers) for s in range(states) for q in range(count) for i in range(bound + 1)}
+    clauses = []
+
+    def exactly_one(literals):
+        clauses.append(literals)
+        clauses.extend([-a, -b] for a, b in itertools.combinations(literals, 2))
+
+    for s in range(states):
+        for v in valuations:
+            for group in updates:
+                exactly_one([choice[s, v, bit] for bit in group])
+    for s in range(states):
+        for v in valuations:
+            exactly_one([after[s, v, t] for t in range(states)])
+    clauses.append([least[0, 0, 0]])
+    clauses += [[-least[s, q, i], least[s, q, i - 1]] for s in range(states) for q in range(count) for i in range(1, bound + 1)]
+    tests = len(space.tests)
+    for s in range(states):
+        for q, cube, p, rejecting in edges:
+            for v in valuations:
+                if all(bool(v >> bit & 1) == wanted for bit, wanted in cube if bit < tests):
+                    chosen = [-choice[s, v, bit] if wanted else choice[s, v, bit] for bit, wanted in sorted(cube) if bit >= tests]
+                    for t in range(states):
+                        for i in range(bound + 1):
+                            then = [least[t, p, i + rejecting]] if i + rejecting <= bound else []
+                            clause = [-least[s, q, i], -after[s, v, t], *chosen, *then]
+                            if not any(-literal in clause for literal in clause):
+                                clauses.append(clause)
+    return text_of(len(choice) + len(after) + len(least), clauses)
+
+
+def arbiter(count):
+    return "always guarantee {\n" + "".join(f"req r{i} -> F [g <- pick r{i}];\n" for i in range(count)) + "}\n"
+
+
+def families():
+    yield "pigeons", [(f"pigeons {n}", pigeons(n)) for n in range(5, 9)]
+    yield "parity", [(f"parity {n}", parity(n)) for n in range(9, 16)]
+    yield "random", [(f"random {n} {seed}", threshold(n, seed)) for n in (50, 75, 100, 125, 150, 175, 200) for seed in range(3)]
+    yield "encodings", [
+        (f"arbiter {n} {states} {bound}", controller(arbiter(n), states, bound))
+        for n, states, bound in ((2, 1, 2), (2, 2, 2), (3, 2, 3), (3, 3, 3), (4, 3, 4), (4, 4, 4))]
+
+
+def programs():
+    """Each program with its words, and how the number of its conflicts is found in what it writes."""
+    found = {"solve": [str(SOLVER)]}
+    minisat, cadical, picosat = map(shutil.which, ("minisat", "cadical", "picosat"))
+    if minisat:
+        found["minisat -no-pre"] = [minisat, "-no-pre"]
+        found["minisat"] = [minisat]
+    if cadical:
+        found["cadical"] = [cadical, "-"]
+    if picosat:
+        found["picosat"] = [picosat, "-v"]
+    return found
+
+
+def conflicts(name, words, text, status, seconds):
+    """How many conflicts a program had. Of `solve` it is the number of learnt clauses, where it writes a log."""
+    if name == "solve":
+        if status != 20:
+            return None
+        words = words + ["--log"]
+    done = subprocess.run(words, input=text, capture_output=True, timeout=10 * seconds).stdout.decode()
+    if name == "solve":
+        return done.split("\nlrat\n")[1].count("\n") - 1
+    number = re.search(r"conflicts *: *(\d+)|(\d+) conflicts", done)
+    return int(number.group(1) or number.group(2)) if number else None
+
+
+def measured(folder, text, words, seconds):
+    """The least seconds of some runs, the peak KiB and the status, or None where a run takes too long."""
+    with tempfile.NamedTemporaryFile() as file:
+        file.write(text)
+        file.flush()
+        environment = {**os.environ, "MEASURE_SECONDS": str(seconds)}
+        done = subprocess.run([folder / "measure", file.name, *words], capture_output=True, text=True, env=environment)
+    if done.returncode != 0:
+        return None
+    nanoseconds, peak, status = map(int, done.stdout.split())
+    return nanoseconds / 1e9, peak, status
+
+
+def shown(run):
+    if run is None:
+        return f"{'-':>9} {'-':>9} {'-':>8}"
+    seconds, peak, count = run
+    return f"{seconds:9.4f} {'-' if count is None else count:>9} {peak:>8}"
+
+
+def main():
+    seconds = int(sys.argv[1]) if len(sys.argv) > 1 else 20
+    wanted = sys.argv[2:]
+    tools = programs()
+    ratios = {other: ([], [], []) for other in tools if other != "solve"}
+    print(f"{'':20} " + " ".join(f"{name:>28}" for name in tools))
+    print(f"{'formula':20} " + " ".join(f"{'seconds':>9} {'conflicts':>9} {'KiB':>8}" for _ in tools))
+    with built(SOLVER, "./solve < examples/stairs.cnf") as folder:
+        for family, formulas in families():
+            if wanted and family not in wanted:
+                continue
+            for name, text in formulas:
+                runs, answers = {}, set()
+                for tool, words in tools.items():
+                    run = measured(folder, text, words, seconds)
+                    if run:
+                        answers.add(run[2])
+                        runs[tool] = (run[0], run[1], conflicts(tool, words, text, run[2], seconds))
+                if len(answers) > 1:
+                    raise SystemExit(f"{name}: the programs disagree")
+                print(f"{name:20} " + " ".join(shown(runs.get(tool)) for tool in tools), flush=True)
+                for other, (times, counts, peaks) in ratios.items():
+                    if "solve" in runs and other in runs and max(runs["solve"][0], runs[other][0]) > LEAST:
+                        times.append(runs["solve"][0] / runs[other][0])
+                        peaks.append(runs["solve"][1] / runs[other][1])
+                        if runs["solve"][2] and runs[other][2]:
+                            counts.append(runs["solve"][2] / runs[other][2])
+    median = lambda members: f"{statistics.median(members):.2f}" if members else "-"
+    for other, (times, counts, peaks) in ratios.items():
+        print(f"median of {len(times)} ratios to {other}: time {median(times)}, learnt clauses to conflicts {median(counts)}, memory {median(peaks)}")
+
+
+if __name__ == "__main__":
+    main()

@@ -1,0 +1,3 @@
+pub mod ProgramBits
+pub mod ControllerOf
+pub mod RunLetters

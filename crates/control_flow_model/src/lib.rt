@@ -1,0 +1,16 @@
+//! Programs and controllers: a program over the bits of a space as a controller over letters.
+//!
+//! - `controller_of` gives the controller of a program whose tests are predicate terms and whose updates
+//!   are choices of a space: the entry of each state and valuation is what the program's walk gives
+//!   there (`specs/ControllerOf`).
+//! - The law `one_controller`: there is one such controller at most.
+//! - The law `closed_runs_have_letter_loops`: each closed run of the program has a letter loop of that
+//!   controller (`specs/RunLetters`). Its letters have the truths of the predicate terms and the assigned
+//!   terms, so each atom that has a bit holds in the run exactly where the letter has its bit.
+#![tactic(auto)]
+
+mod controlling;
+mod laws;
+
+pub use controlling::controller_of;
+pub use laws::{closed_runs_have_letter_loops, one_controller};

@@ -1,2 +1,0 @@
--- What the tests' algebra means.
-pub mod Wheel

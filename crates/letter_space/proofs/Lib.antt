@@ -1,0 +1,6 @@
+pub mod Bounds
+pub mod LetterBits
+pub mod Once
+pub mod Places
+pub mod SpecSpaces
+mod Examples

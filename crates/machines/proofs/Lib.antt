@@ -1,0 +1,3 @@
+pub mod ControllerTables
+pub mod MovesListed
+mod Examples

@@ -1,0 +1,3 @@
+pub mod MachineTree
+pub mod MachineView
+pub mod Moves

@@ -1,0 +1,19 @@
+//! Machines: controllers and environments as tables over letters.
+//!
+//! Both begin in state 0. A `Controller` has, for each state and each valuation of the tests, an `Entry`:
+//! one choice for each controlled signal, and the state to go to. An `Environment` has for each state
+//! the valuation that holds there, and for each vector of choices the state to go to. Their types keep
+//! that there is a state, that each list has its length, and that every successor names a state;
+//! `specs/MachineTree` says the same of pure tables.
+#![tactic(auto)]
+
+mod controller;
+mod environment;
+mod moves;
+
+pub use controller::{Controller, Entry};
+pub use environment::Environment;
+pub use moves::Move;
+
+#[cfg(test)]
+mod tests;

@@ -1,0 +1,133 @@
+-- An accepted program realizes the specification.
+use Rattle.std.proofs.Common.{◌≡◌, ◌∙◌, ℕ, ◌+◌, ◌≤◌, true, not, List, [], ◌∷◌, ◌++◌, length, map, Option, Some, None, slice_get}
+use Rattle.std.proofs.Common.{refl, sym, ap, subst, inl, inr, arith}
+use Rattle.std.specs.List.{list_all, AllByRecursion, position}
+use Rattle.std.proofs.lemmas.List.{length-map}
+use Rattle.sequence.proofs.Booleans.{not_not}
+use Rattle.sequence.proofs.Finds.{find_none_at}
+use Rattle.sequence.proofs.Options.{none_never_some}
+use Rattle.sequence.proofs.Passes.{list_all_from_places}
+use Rattle.tsl_terms.specs.TermTree.{TermTree}
+use Rattle.tsl_terms.specs.SpecTree.{SpecTree, whole_formula}
+use Rattle.tsl_terms.specs.Signals.{cells_of, outputs_of, choices_of}
+use Rattle.tsl_terms.specs.Predicates.{predicates_of}
+use Rattle.tsl_terms.specs.WindowTree.{window_formula_of}
+use Rattle.tsl_terms.specs.Laws.{FormulasFit}
+use Rattle.flow_program.specs.NodeTree.{NodeTree, branch, assign}
+use Rattle.flow_program.specs.ProgramTree.{ProgramTree}
+use Rattle.flow_program.specs.ProgramText.{IsProgram}
+use Rattle.tsl_meaning.specs.Promise.{EveryRunMeets, Realizes}
+use Rattle.letter_space.specs.SpaceTree.{ControlledTree, SpaceTree}
+use Rattle.letter_space.specs.SpecSpace.{controlled_from, spec_space}
+use Rattle.letter_space.proofs.Places.{position_tells}
+use Rattle.letter_space.proofs.SpecSpaces.{spec_is_space, spec_has_bits}
+use Rattle.cobuchi_automata.specs.declared.automaton.Edge.{Edge}
+use Rattle.cobuchi_automata.specs.Automata.{StateTree, IsAutomaton}
+use Rattle.cobuchi_automata.specs.Edges.{edge_tree, edge_trees}
+use Rattle.cobuchi_automata.specs.Refusals.{most_automaton_states, most_automaton_edges}
+use Rattle.machines.specs.MachineTree.{ControllerTree}
+use Rattle.machines.specs.Moves.{controller_moves}
+use Rattle.annotation_check.specs.Annotations.{edges_from, IsAnnotation}
+use Rattle.control_flow_model.specs.ProgramBits.{node_has_bits, ProgramHasBits}
+use Rattle.control_flow_model.specs.ControllerOf.{IsControllerOf}
+use Rattle.control_flow_model.proofs.OneController.{one_controller}
+use Rattle.program_check.specs.declared.verdict.Verdict.{Verdict}
+use Rattle.program_check.specs.Verdicts.{HasFewBits, HasSignals, IsOverBits, HasAnnotation, HasNoAnnotation, IsQuestion, IsVerdict}
+use Rattle.program_check.specs.Verdicts.{negated_form}
+use Rattle.program_check.specs.internal.NodeVerdicts.{node_verdict, IsNodeVerdict}
+use Rattle.program_check.proofs.AnnotatedRuns.{annotated_program_meets}
+use Rattle.program_check.proofs.OtherNumbers.{annotated_there}
+use Rattle.program_check.proofs.ProgramNames.{program_over}
+
+signals_of : (choices : ℕ → List TermTree) (first : ℕ) (signals : List ℕ) →
+    map (λ (c : ControlledTree). c.signal) (controlled_from choices first signals) ≡ signals
+signals_of choices first [] = refl
+signals_of choices first (s ∷ signals) = ap (λ rest. s ∷ rest) (signals_of choices (first + length (choices s)) signals)
+
+-- where no node is refused, the program has the bits of the specification
+pub over_bits : (spec : SpecTree) (program : ProgramTree) → IsOverBits spec program → ProgramHasBits (spec_space spec) program
+over_bits spec program over = record {
+  signals = signals_of (choices_of spec) (length (predicates_of spec)) (cells_of spec ++ outputs_of spec)
+      ∙ (λ i. sym over.signals.cells i ++ sym over.signals.outputs i);
+  nodes = none_refused program.nodes over.nodes;
+}
+  where
+    none_refused : (nodes : List NodeTree) → position (λ n. not (node_has_bits (spec_space spec) n)) nodes ≡ None →
+        list_all (node_has_bits (spec_space spec)) nodes ≡ true
+    none_refused nodes none = elim (position_tells (λ n. not (node_has_bits (spec_space spec) n)) nodes) [
+      | inl found ↦ absurd (none_never_some _ found.0 none found.2)
+      | inr missing ↦ list_all_from_places (node_has_bits (spec_space spec)) nodes (λ i n at.
+          sym (not_not (node_has_bits (spec_space spec) n))
+          ∙ ap not (find_none_at (λ m. not (node_has_bits (spec_space spec) m)) nodes i n missing.1 at))
+    ]
+
+module _ (spec : SpecTree) (program : ProgramTree) (bound : ℕ) where
+  pub realized : FormulasFit spec → IsProgram program → program.windows ≡ [] → HasFewBits spec → IsOverBits spec program →
+      HasAnnotation spec program bound → Realizes spec program
+  realized fits is_program none few over found =
+      let bits = over_bits spec program over in
+      record {
+        over_names = program_over spec fits program is_program over.signals none bits.nodes;
+        inputs = over.signals.inputs;
+        cells = over.signals.cells;
+        outputs = over.signals.outputs;
+        runs = annotated_program_meets (spec_space spec) program found.controller
+            (whole_formula spec) found.question.states found.edges bound
+            found.number (spec_is_space spec few.few_predicates few.few_bits) bits found.question.controller (spec_has_bits spec fits)
+            found.question.automaton found.annotation spec.names;
+        windows = subst (AllByRecursion (λ w. EveryRunMeets spec.names program (window_formula_of w))) (sym none) tt;
+      }
+
+-- the verdict on a node that lacks bits is that on the program
+pub refused_verdict : (spec : SpecTree) (program : ProgramTree) (bound : ℕ) (verdict : Verdict) → HasSignals spec program →
+    IsNodeVerdict (spec_space spec) program.nodes verdict → IsVerdict spec program bound verdict
+refused_verdict spec program bound verdict same refused =
+    subst (IsVerdict spec program bound) (sym refused.is) (by refused.node refused.there)
+  where
+    by : (node : NodeTree) → slice_get program.nodes refused.place ≡ Some node →
+        IsVerdict spec program bound (node_verdict node refused.place)
+    by (branch t a b) there =
+        (same, record { first = refused.first; test = t; then_node = a; else_node = b; is_test = there })
+    by (assign ts go) there = (same, record { first = refused.first; terms = ts; go = go; are_terms = there })
+
+-- the question that is asked, and its answers
+module _ (spec : SpecTree) (program : ProgramTree) (space : SpaceTree) (same : space ≡ spec_space spec) (controller : ControllerTree)
+    (is_controller : IsControllerOf space program controller) (states : List StateTree) (edges : List Edge) (count : ℕ)
+    (counted : length states ≡ count) (automaton : IsAutomaton (negated_form spec) states (edge_trees edges))
+    (few_states : count ≤ most_automaton_states) (few_edges : length edges ≤ most_automaton_edges) where
+  question : IsQuestion spec program controller (edge_trees edges)
+  question = record {
+    controller = subst (λ s. IsControllerOf s program controller) same is_controller;
+    states = states;
+    automaton = automaton;
+    few_states = omega (arith, counted, few_states);
+    few_edges = omega (arith, few_edges, length-map edges edge_tree);
+  }
+
+  abbrev Annotates : ℕ → (ℕ → ℕ → Option ℕ) → SpaceTree → Type 0
+  Annotates bound number s = IsAnnotation (edges_from (edge_trees edges)) (controller_moves s controller) bound number
+
+  pub annotated : (bound : ℕ) (number : ℕ → ℕ → Option ℕ) → Annotates bound number space → HasAnnotation spec program bound
+  annotated bound number annotation = record {
+    controller = controller;
+    edges = edge_trees edges;
+    question = question;
+    number = number;
+    annotation = subst (Annotates bound number) same annotation;
+  }
+
+  -- an annotation of any controller of the program for any such automaton gives one of this controller for this automaton
+  pub not_annotated : (bound : ℕ) → HasFewBits spec → ((number : ℕ → ℕ → Option ℕ) → Annotates bound number space → ⊥) →
+      HasNoAnnotation spec program bound
+  not_annotated bound few none = record {
+    controller = controller;
+    edges = edge_trees edges;
+    question = question;
+    none = λ found.
+        let one = one_controller (spec_space spec) program found.controller controller
+        (spec_is_space spec few.few_predicates few.few_bits) found.question.controller question.controller in
+        let there = annotated_there (negated_form spec) found.question.states found.edges found.question.automaton states
+        (edge_trees edges) automaton (controller_moves (spec_space spec) found.controller) bound found.number found.annotation in
+        none there.0 (subst (Annotates bound there.0) (sym same)
+        (subst (λ c. IsAnnotation (edges_from (edge_trees edges)) (controller_moves (spec_space spec) c) bound there.0) one there.1));
+  }

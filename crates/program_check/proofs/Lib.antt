@@ -1,0 +1,7 @@
+pub mod AnnotatedRuns
+pub mod ProgramNames
+pub mod OtherNumbers
+pub mod Accepted
+pub mod ChosenTerms
+pub mod OneVerdict
+pub mod PassedLimits

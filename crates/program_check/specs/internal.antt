@@ -1,0 +1,2 @@
+-- Words that only private functions of this crate use.
+pub mod NodeVerdicts

@@ -1,0 +1,109 @@
+//! Whether a program is accepted.
+
+ghost use Rattle.std.specs.Prelude.{◌≡◌, ◌<◌, ◌≤◌, ◌↔◌, ◌^◌, List, [], None, length, IfOk, IfErr, IsTrue};
+ghost use Rattle.tsl_terms.specs.SpecView.{spec_tree};
+ghost use Rattle.flow_program.specs.ProgramView.{program_tree};
+ghost use Rattle.tsl_meaning.specs.Promise.{Realizes};
+ghost use Rattle.letter_space.specs.SpecSpace.{spec_space};
+ghost use Rattle.letter_space.specs.SpaceView.{space_tree};
+ghost use Rattle.cobuchi_automata.specs.Automata.{StateTree, IsAutomaton};
+ghost use Rattle.cobuchi_automata.specs.Edges.{edge_trees};
+ghost use Rattle.cobuchi_automata.specs.Refusals.{most_automaton_states, most_automaton_edges};
+ghost use Rattle.cobuchi_automata.specs.Refusals.{HasTooManyChoices, HasTooManyStates, HasTooManyEdges};
+ghost use Rattle.program_check.specs.Verdicts.{HasFewBits, IsOverBits, negated_form, IsVerdict, HasCheckCause};
+
+use crate::bits::refused_node;
+use crate::verdict::{CheckError, Limit, Verdict};
+use annotation_check::annotate;
+use cobuchi_automata::{Automaton, BuildError, build};
+use control_flow_model::controller_of;
+use flow_program::Program;
+use letter_space::{Space, space_of};
+use sequence::NoMemory;
+use std::alloc::Global;
+use tsl_terms::{Formula, SignalLists, Spec, signals, whole};
+use underapprox::to_letters;
+
+/// The first verdict on a program that applies, for annotations within a bound. At `Yes` the program
+/// realizes the specification. `Unbuilt` comes exactly where the program has a window, asked before all
+/// else, the limits of predicate terms and of bits before every verdict, and those of the automaton before
+/// `NoAnnotation`; `NoMemory` says that memory ran out.
+pub fn accept(
+    alloc: Global,
+    spec: &Spec,
+    program: &Program,
+    bound: u32,
+) -> Result<Verdict, CheckError>
+    requires few_nodes { length program.now.nodes < 2 ^ 32 }
+    requires few_states { length program.now.states < 2 ^ 32 }
+    ensures built { IfOk result (λ _. program.now.windows ≡ []) }
+    ensures few_bits { IfOk result (λ _. HasFewBits (spec_tree spec.now)) }
+    ensures verdict { IfOk result (IsVerdict (spec_tree spec.now) (program_tree program.now) bound) }
+    ensures realized { IfOk result (λ v. v ≡ Verdict.Yes → Realizes (spec_tree spec.now) (program_tree program.now)) }
+    ensures cause { IfErr result (HasCheckCause (spec_tree spec.now) (program_tree program.now)) }
+{
+    if !program.windows.is_empty() {
+        return Err(CheckError::Unbuilt);
+    }
+    let space = space_of(alloc, spec)?;
+    let lists = signals(alloc, spec)?;
+    if !has_signals(program, &lists) {
+        return Ok(Verdict::Signals);
+    }
+    if let Some(verdict) = refused_node(program, &space) {
+        return Ok(verdict);
+    }
+    verdict_on_runs(alloc, spec, program, &space, bound)
+}
+
+/// Whether the program has exactly these inputs, cells and outputs.
+fn has_signals(program: &Program, lists: &SignalLists) -> bool
+    ensures { IsTrue result ↔ ((program.now.inputs ≡ lists.now.inputs) × (program.now.cells ≡ lists.now.cells)
+        × (program.now.outputs ≡ lists.now.outputs)) }
+{
+    program.inputs.as_slice() == lists.inputs.as_slice()
+        && program.cells.as_slice() == lists.cells.as_slice()
+        && program.outputs.as_slice() == lists.outputs.as_slice()
+}
+
+/// The verdict on a program over the bits of the specification: whether it has an annotation.
+fn verdict_on_runs(
+    alloc: Global,
+    spec: &Spec,
+    program: &Program,
+    space: &Space,
+    bound: u32,
+) -> Result<Verdict, CheckError>
+    requires few_states { length program.now.states < 2 ^ 32 }
+    requires built { program.now.windows ≡ [] }
+    requires few_bits { HasFewBits (spec_tree spec.now) }
+    requires space { space_tree space.now ≡ spec_space (spec_tree spec.now) }
+    requires over { IsOverBits (spec_tree spec.now) (program_tree program.now) }
+    ensures verdict { IfOk result (IsVerdict (spec_tree spec.now) (program_tree program.now) bound) }
+    ensures realized { IfOk result (λ v. v ≡ Verdict.Yes → Realizes (spec_tree spec.now) (program_tree program.now)) }
+    ensures cause { IfErr result (HasCheckCause (spec_tree spec.now) (program_tree program.now)) }
+{
+    let controller = controller_of(alloc, program, space)?;
+    let automaton = automaton_of(alloc, spec, space)?;
+    let annotation = annotate(alloc, &automaton, space, &controller, bound)?;
+    match annotation {
+        Some(_) => Ok(Verdict::Yes),
+        None => Ok(Verdict::NoAnnotation),
+    }
+}
+
+/// The automaton of the negation of the whole formula.
+fn automaton_of(alloc: Global, spec: &Spec, space: &Space) -> Result<Automaton, BuildError>
+    requires space { space_tree space.now ≡ spec_space (spec_tree spec.now) }
+    ensures automaton { IfOk result (λ made. (states : List StateTree) × (length states ≡ made.states)
+        × IsAutomaton (negated_form (spec_tree spec.now)) states (edge_trees made.edges)) }
+    ensures few_states { IfOk result (λ made. made.states ≤ most_automaton_states) }
+    ensures few_edges { IfOk result (λ made. length made.edges ≤ most_automaton_edges) }
+    ensures choices { IfErr result (λ e. e ≡ BuildError.Choices → HasTooManyChoices (negated_form (spec_tree spec.now))) }
+    ensures states { IfErr result (λ e. e ≡ BuildError.States → HasTooManyStates (negated_form (spec_tree spec.now))) }
+    ensures edges { IfErr result (λ e. e ≡ BuildError.Edges → HasTooManyEdges (negated_form (spec_tree spec.now))) }
+{
+    let negation = Formula::Not(Box::new(alloc, whole(alloc, spec)?)?);
+    let form = to_letters(alloc, &negation, space)?;
+    build(alloc, &form)
+}

@@ -1,0 +1,289 @@
+//! Programs that are accepted, and programs that are not.
+
+ghost use Rattle.std.specs.Prelude.{IfOk, IsTrue};
+ghost use Rattle.std.specs.List.{list_all};
+ghost use Rattle.tsl_terms.specs.WellFormed.{name_fits};
+
+use crate::{CheckError, Verdict, accept};
+use flow_program::{Program, read_program};
+use std::alloc::Global;
+use std::process::Abort;
+use std::test::Fail;
+use tsl_reader::read_spec;
+use tsl_terms::{Names, Spec};
+
+/// Two updates that are wanted again and again.
+const IN_TURN: &[u8] = b"always guarantee { F [g <- a()]; F [g <- b()]; }";
+
+/// Copies an input where it has a property.
+const COPY: &[u8] = b"always guarantee { p x -> [y <- x]; q y -> q y; }";
+
+/// What a text has before the nodes of a program for that.
+const COPY_FRONT: &[u8] = b"tslprogram 1\ninput x\ncell y\n";
+
+/// A program for the updates in turn.
+const TURNS: &[u8] =
+    b"tslprogram 1\noutput g\nnode 0 set [g <- a()] go 1\nnode 1 set [g <- b()] go 0\n\
+state 0 at 0\nstate 1 at 1\nend\n";
+
+/// A specification, a program, a bound, and what is said.
+const SAID: &[(&[u8], &[u8], u32, &str)] = &[
+    // a bound that is enough, and the one below
+    (IN_TURN, TURNS, 1, "Ok(Yes)"),
+    (IN_TURN, TURNS, 0, "Ok(NoAnnotation)"),
+    // a test with two branches
+    (CHOOSING, CHOOSER, 0, "Ok(Yes)"),
+    // what holds only because equal terms have equal values is not seen
+    (TWINS, TWIN, 2, "Ok(NoAnnotation)"),
+    // nothing to do
+    (b"", NOTHING, 0, "Ok(Yes)"),
+    (b"guarantee { false; }", NOTHING, 4, "Ok(NoAnnotation)"),
+    (
+        b"assume { false; } guarantee { false; }",
+        NOTHING,
+        0,
+        "Ok(Yes)",
+    ),
+];
+
+/// Takes the input exactly where it has a property.
+const CHOOSING: &[u8] = b"always guarantee { p x <-> [y <- x]; q y -> q y; }";
+
+/// A program for that.
+const CHOOSER: &[u8] =
+    b"tslprogram 1\ninput x\ncell y\nnode 0 set [y <- x] go 0\nnode 1 set [y <- y] go 0\n\
+node 2 if p x then 0 else 1\nstate 0 at 2\nend\n";
+
+/// Two cells that take one term.
+const TWINS: &[u8] =
+    b"always guarantee { [y <- f x] && [z <- f x]; } guarantee { X (p y <-> p z); }";
+
+/// A program for that.
+const TWIN: &[u8] =
+    b"tslprogram 1\ninput x\ncell y\ncell z\nnode 0 set [y <- f x] [z <- f x] go 0\nstate 0 at 0\nend\n";
+
+/// A program without signals.
+const NOTHING: &[u8] = b"tslprogram 1\nnode 0 set go 0\nstate 0 at 0\nend\n";
+
+/// The nodes and states of a program that copies, and what is said of it with a bound of two.
+const NODES: &[(&[u8], &str)] = &[
+    (b"node 0 set [y <- x] go 0\nstate 0 at 0\n", "Ok(Yes)"),
+    (
+        b"node 0 set [y <- y] go 0\nstate 0 at 0\n",
+        "Ok(NoAnnotation)",
+    ),
+    (
+        b"node 0 set [y <- x] go 0\nnode 1 set [y <- y] go 0\nnode 2 if p x then 0 else 1\nstate 0 at 2\n",
+        "Ok(Yes)",
+    ),
+    // the branches are not exchanged
+    (
+        b"node 0 set [y <- x] go 0\nnode 1 set [y <- y] go 0\nnode 2 if p x then 1 else 0\nstate 0 at 2\n",
+        "Ok(NoAnnotation)",
+    ),
+    // a term that no update names, and a test that the specification does not make
+    (
+        b"node 0 set [y <- f x] go 0\nstate 0 at 0\n",
+        "Ok(Choice(0))",
+    ),
+    (
+        b"node 0 set [y <- x] go 0\nnode 1 if q x then 0 else 0\nstate 0 at 1\n",
+        "Ok(Test(1))",
+    ),
+    // the first of two such nodes, also where it is reached in no run
+    (
+        b"node 0 set [y <- x] go 0\nnode 1 if q x then 0 else 0\nnode 2 set [y <- f x] go 0\nstate 0 at 0\n",
+        "Ok(Test(1))",
+    ),
+    (
+        b"node 0 set [y <- f x] go 0\nnode 1 if q x then 0 else 0\nstate 0 at 1\n",
+        "Ok(Choice(0))",
+    ),
+    // before annotations are asked for
+    (
+        b"node 0 set [y <- y] go 0\nnode 1 if p y then 0 else 0\nstate 0 at 1\n",
+        "Ok(Test(1))",
+    ),
+];
+
+/// The signals of a program that does nothing else, and what is said of it for a specification that copies.
+const FRONTS: &[(&[u8], &[u8], &str)] = &[
+    (b"", b"", "Ok(Signals)"),
+    (b"input x\ninput y\n", b"", "Ok(Signals)"),
+    // an output in place of a cell
+    (b"input x\noutput y\n", b" [y <- x]", "Ok(Signals)"),
+    // other signals besides
+    (b"input x\ninput z\ncell y\n", b" [y <- x]", "Ok(Signals)"),
+    // before nodes are looked at
+    (b"input x\noutput y\n", b" [y <- f x]", "Ok(Signals)"),
+    // windows before all else
+    (
+        b"input x\noutput y\nwindow p x at 0 is p x at 1\n",
+        b" [y <- x]",
+        "Err(Unbuilt)",
+    ),
+];
+
+/// A specification that a text spells.
+fn spec_of(rt: &impl Abort, alloc: Global, text: &[u8]) -> Result<Spec, Fail>
+    ensures { IfOk result (λ spec. IsTrue (list_all name_fits spec.names)) }
+{
+    assert!(rt; text.len() < 1_000_000);
+    match read_spec(alloc, text) {
+        Ok(spec) => Ok(spec),
+        Err(_) => Err("the specification is refused".into()),
+    }
+}
+
+/// A program that a text spells after these names.
+fn program_of(rt: &impl Abort, alloc: Global, text: &[u8], names: Names) -> Result<Program, Fail>
+    requires { IsTrue (list_all name_fits names) }
+{
+    assert!(rt; text.len() < 1_000_000 && names.count() < 1_000_000);
+    match read_program(alloc, text, names) {
+        Ok((program, _)) => Ok(program),
+        Err(_) => Err("the program is refused".into()),
+    }
+}
+
+/// What is said of a program.
+fn said(
+    rt: &impl Abort,
+    alloc: Global,
+    spec: &[u8],
+    program: &[u8],
+    bound: u32,
+) -> Result<String, Fail> {
+    let spec = spec_of(rt, alloc, spec)?;
+    let program = program_of(rt, alloc, program, spec.names.copy()?)?;
+    assert!(rt; program.nodes.len() < 100_000 && program.states.len() < 100_000);
+    let said: Result<Verdict, CheckError> = accept(alloc, &spec, &program, bound);
+    Ok(format!(in alloc; "{said:?}")?)
+}
+
+/// A specification of so many predicate terms, and of so many updates of one signal.
+fn large(alloc: Global, terms: u32, updates: u32) -> Result<Vec<u8>, Fail> {
+    let mut text = Vec::from_slice(alloc, b"guarantee { ")?;
+    for number in 0..terms {
+        text.extend_from_slice(format!(in alloc; "p{number} x; ")?.as_bytes())?;
+    }
+    for number in 0..updates {
+        text.extend_from_slice(format!(in alloc; "[y <- f{number} x]; ")?.as_bytes())?;
+    }
+    text.push(b'}')?;
+    Ok(text)
+}
+
+/// A program of 64 states that tests ten predicate terms in each of them and goes round.
+fn many_states(alloc: Global) -> Result<Vec<u8>, Fail> {
+    let mut text = Vec::from_slice(alloc, b"tslprogram 1\ninput x\noutput y\n")?;
+    for state in 0..64u32 {
+        let (first, next) = (state * 12, (state + 1) % 64);
+        let ends = format!(in alloc;
+            "node {first} set [y <- f0 x] go {next}\nnode {} set [y <- f1 x] go {state}\n",
+            first + 1
+        )?;
+        text.extend_from_slice(ends.as_bytes())?;
+        for term in 0..10 {
+            let node = first + 2 + term;
+            let line = format!(in alloc;
+                "node {node} if p{term} x then {} else {first}\n",
+                node - 1
+            )?;
+            text.extend_from_slice(line.as_bytes())?;
+        }
+    }
+    for state in 0..64u32 {
+        let line = format!(in alloc; "state {state} at {}\n", state * 12 + 11)?;
+        text.extend_from_slice(line.as_bytes())?;
+    }
+    text.extend_from_slice(b"end\n")?;
+    Ok(text)
+}
+
+/// A text of three parts.
+fn joined(alloc: Global, first: &[u8], second: &[u8], third: &[u8]) -> Result<Vec<u8>, Fail> {
+    let mut text = Vec::from_slice(alloc, first)?;
+    text.extend_from_slice(second)?;
+    text.extend_from_slice(third)?;
+    Ok(text)
+}
+
+#[test]
+fn a_larger_bound_may_be_needed(rt: HostRuntime) -> Result<(), Fail> {
+    for &(spec, program, bound, expected) in SAID {
+        assert_eq!(rt;
+            said(&rt, rt.alloc(), spec, program, bound)?.as_str(),
+            expected
+        );
+    }
+    Ok(())
+}
+
+#[test]
+fn the_first_refused_node_is_named(rt: HostRuntime) -> Result<(), Fail> {
+    for &(nodes, expected) in NODES {
+        let program = joined(rt.alloc(), COPY_FRONT, nodes, b"end\n")?;
+        assert_eq!(rt;
+            said(&rt, rt.alloc(), COPY, &program, 2)?.as_str(),
+            expected
+        );
+    }
+    Ok(())
+}
+
+#[test]
+fn signals_are_compared_first(rt: HostRuntime) -> Result<(), Fail> {
+    for &(signals, updates, expected) in FRONTS {
+        let front = joined(rt.alloc(), b"tslprogram 1\n", signals, b"node 0 set")?;
+        let program = joined(rt.alloc(), &front, updates, b" go 0\nstate 0 at 0\nend\n")?;
+        assert_eq!(rt;
+            said(&rt, rt.alloc(), COPY, &program, 2)?.as_str(),
+            expected
+        );
+    }
+    Ok(())
+}
+
+#[test]
+fn limits_of_bits_come_before_every_verdict(rt: HostRuntime) -> Result<(), Fail> {
+    for (terms, updates, expected) in [
+        (11, 60, "Err(Large(Predicates))"),
+        (10, 55, "Err(Large(Bits))"),
+        (0, 65, "Err(Large(Bits))"),
+        (10, 54, "Ok(Signals)"),
+    ] {
+        let spec = large(rt.alloc(), terms, updates)?;
+        assert_eq!(rt;
+            said(&rt, rt.alloc(), &spec, NOTHING, 2)?.as_str(),
+            expected
+        );
+    }
+    Ok(())
+}
+
+#[test]
+fn programs_of_many_states_are_looked_at_whole(rt: HostRuntime) -> Result<(), Fail> {
+    let alloc = rt.alloc();
+    let program = many_states(alloc)?;
+    let terms =
+        b"(p0 x && p1 x && p2 x && p3 x && p4 x && p5 x && p6 x && p7 x && p8 x && p9 x)".as_slice();
+    let spec = joined(
+        alloc,
+        b"always guarantee { ",
+        terms,
+        b" <-> [y <- f1 x]; [y <- f0 x] || [y <- f1 x]; }",
+    )?;
+    assert_eq!(rt; said(&rt, alloc, &spec, &program, 0)?.as_str(), "Ok(Yes)");
+    let spec = joined(
+        alloc,
+        b"guarantee { ",
+        terms,
+        b" -> X [y <- f0 x]; [y <- f0 x] || [y <- f1 x]; }",
+    )?;
+    assert_eq!(rt;
+        said(&rt, alloc, &spec, &program, 15)?.as_str(),
+        "Ok(NoAnnotation)"
+    );
+    Ok(())
+}

@@ -1,0 +1,4 @@
+pub mod Words
+pub mod CnfRead
+pub mod LogRead
+pub mod Parted

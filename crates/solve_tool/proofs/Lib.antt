@@ -1,0 +1,5 @@
+pub mod Proper
+pub mod Readable
+pub mod Reacting
+pub mod Solutions
+pub mod ValuesTold

@@ -1,0 +1,169 @@
+-- A text has at most one cause why it spells no interpretation of names with cells.
+use Rattle.std.proofs.Common.{◌≡◌, ◌∙◌, ℕ, zero, suc, ◌≤◌, List, refl, sym, ap, subst, arith, inl, inr, ⊎_elim}
+use Rattle.std.specs.Prelude.{◌≢◌, slice_get}
+use Rattle.std.proofs.lemmas.Bool.{cases_lt}
+use Rattle.sequence.proofs.Options.{none_never_some, one_value}
+use Rattle.tsl_text.specs.declared.Token.{Token}
+use Rattle.tsl_text.specs.declared.TextError.{TextError}
+use Rattle.tsl_text.specs.declared.TextError.TheVariants as bytes
+use Rattle.tsl_text.specs.Division.{AreTokens}
+use Rattle.tsl_terms.specs.Name.{Name}
+use Rattle.table_interp.specs.declared.TheConstants.{MOST_VALUES}
+use Rattle.table_interp.specs.declared.TableError.{TableError}
+use Rattle.table_interp.specs.declared.TableError.TheVariants as error
+use Rattle.table_interp.specs.Syntax.{Entry, TablesSyntax}
+use Rattle.table_interp.specs.Grammar.{IsTables}
+use Rattle.table_interp.specs.Forms.{IsRead}
+use Rattle.table_interp.specs.Needed.{IsFirstRepeat}
+use Rattle.table_interp.specs.Tables.{IsKnown, IsOnce, IsWhole, HasFewEntries, IsCounted, IsInRange, HasFewValues}
+use Rattle.table_interp.specs.Tables.{too_large, HasEntryCause, HasTableCause}
+use Rattle.table_interp.proofs.Exactness.{tables_exact}
+use Rattle.table_interp.proofs.Refusals.{one_given, no_tokens, form_refuses}
+use Rattle.table_interp.proofs.OneFault.{one_form, one_text_fault, one_by_stages}
+
+-- the first place that repeats an earlier one is one place
+pub one_repeat : {A : Type 0} (xs : List A) (i j : ℕ) → IsFirstRepeat xs i → IsFirstRepeat xs j → i ≡ j
+one_repeat xs i j h k =
+    ⊎_elim (λ less. absurd (k.none_before i less h.repeat))
+    (λ back. ⊎_elim (λ less. absurd (h.none_before j less k.repeat)) (λ forth. omega (arith, back, forth)) (cases_lt j i))
+    (cases_lt i j)
+
+module _ (text : List ℕ) (names : List Name) (cells : List ℕ) where
+  -- how far entries give an interpretation
+  abbrev UpTo : ℕ → TablesSyntax → Type 0
+  UpTo zero given = Unit {0}
+  UpTo (suc zero) given = IsKnown names cells given
+  UpTo (suc (suc zero)) given = IsOnce names cells given
+  UpTo (suc (suc (suc zero))) given = IsWhole names cells given
+  UpTo (suc (suc (suc (suc zero)))) given = HasFewEntries names cells given
+  UpTo (suc (suc (suc (suc (suc zero))))) given = IsCounted names cells given
+  UpTo (suc (suc (suc (suc (suc (suc n)))))) given = IsInRange names cells given
+
+  less : (n : ℕ) (given : TablesSyntax) → UpTo (suc n) given → UpTo n given
+  less zero given h = tt
+  less (suc zero) given h = h.known
+  less (suc (suc zero)) given h = h.so_far
+  less (suc (suc (suc zero))) given h = h.so_far
+  less (suc (suc (suc (suc zero)))) given h = h.so_far
+  less (suc (suc (suc (suc (suc zero))))) given h = h.so_far
+  less (suc (suc (suc (suc (suc (suc n)))))) given h = h
+
+  -- how far the text spells one: it has tokens, they are of the form of tables, and the entries give so much
+  abbrev Reaches : ℕ → Type 0
+  Reaches zero = Unit {0}
+  Reaches (suc zero) = (tokens : List Token) × AreTokens text tokens
+  Reaches (suc (suc zero)) = (given : TablesSyntax) × IsRead IsTables text given
+  Reaches (suc (suc (suc n))) = (given : TablesSyntax) × HasFewValues text given × UpTo n given
+
+  one_back : (n : ℕ) → Reaches (suc n) → Reaches n
+  one_back zero h = tt
+  one_back (suc zero) h = (h.1.tokens, h.1.tokens_are)
+  one_back (suc (suc zero)) h = (h.0, h.1.read)
+  one_back (suc (suc (suc n))) h = (h.0, h.1, less n h.0 h.2)
+
+  -- how far a text with this cause does
+  abbrev stage : TableError → ℕ
+  stage (error.Byte at) = 0
+  stage (error.OpenComment at) = 0
+  stage (error.Form at) = 1
+  stage error.Domain = 2
+  stage (error.Unknown start end) = 3
+  stage (error.Twice start end) = 4
+  stage (error.Missing id) = 5
+  stage (error.Entries id) = 6
+  stage (error.Count id) = 7
+  stage (error.Range id value) = 8
+  stage error.NoMemory = 9
+
+  abbrev IsCause : TableError → Type 0
+  IsCause e = HasTableCause text names cells e × (e ≢ error.NoMemory)
+
+  reached : (e : TableError) → IsCause e → Reaches (stage e)
+  reached (error.Byte at) h = tt
+  reached (error.OpenComment at) h = tt
+  reached (error.Form at) (inl h, other) = (_, h.tokens_are)
+  reached (error.Form at) (inr h, other) = (_, h.tokens_are)
+  reached error.Domain h = (h.0.given, h.0.read)
+  reached (error.Unknown start end) h = (h.0.given, h.0.read, tt)
+  reached (error.Twice start end) h = (h.0.given, h.0.read, h.0.cause.known)
+  reached (error.Missing id) h = (h.0.given, h.0.read, h.0.cause.so_far)
+  reached (error.Entries id) h = (h.0.given, h.0.read, h.0.cause.so_far)
+  reached (error.Count id) h = (h.0.given, h.0.read, h.0.cause.so_far)
+  reached (error.Range id value) h = (h.0.given, h.0.read, h.0.cause.so_far)
+  reached error.NoMemory h = absurd (h.1 refl)
+
+  -- what the text gives is one thing
+  so_far : (n : ℕ) (given : TablesSyntax) → HasFewValues text given → Reaches (suc (suc (suc n))) → UpTo n given
+  so_far n given few h = subst (UpTo n) (one_given (tables_exact 0) text h.0 given h.1.read few.read) h.2
+
+  stuck : (e : TableError) → IsCause e → Reaches (suc (stage e)) → ⊥
+  stuck (error.Byte at) h k = no_tokens text (bytes.Byte at) h.0 k.0 k.1
+  stuck (error.OpenComment at) h k = no_tokens text (bytes.OpenComment at) h.0 k.0 k.1
+  stuck (error.Form at) h k = form_refuses IsTables text at h.0 k.0 k.1
+  stuck error.Domain h k =
+      let same : k.0 ≡ h.0.given = one_given (tables_exact 0) text k.0 h.0.given k.1.read h.0.read in
+      let few : h.0.given.domain ≤ MOST_VALUES = subst (λ (g : TablesSyntax). g.domain ≤ MOST_VALUES) same k.1.few_values in
+      omega (arith, few, h.0.many_values)
+  stuck (error.Unknown start end) h k = none_never_some _ h.0.cause.entry (so_far 1 h.0.given h.0.read k) h.0.cause.first
+  stuck (error.Twice start end) h k = (so_far 2 h.0.given h.0.read k).once h.0.cause.at h.0.cause.first.repeat
+  stuck (error.Missing id) h k = none_never_some _ id (so_far 3 h.0.given h.0.read k).whole h.0.cause.first
+  stuck (error.Entries id) h k = none_never_some _ id (so_far 4 h.0.given h.0.read k).few_entries h.0.cause.first
+  stuck (error.Count id) h k = none_never_some _ id (so_far 5 h.0.given h.0.read k).counted h.0.cause.first
+  stuck (error.Range id value) h k = none_never_some _ id (so_far 6 h.0.given h.0.read k).in_range h.0.cause.first
+  stuck error.NoMemory h k = h.1 refl
+
+  -- a cause of what the text gives, at what another one speaks of
+  moved : (given other : TablesSyntax) → HasFewValues text given → HasFewValues text other → (e : TableError) →
+      HasEntryCause names cells other e → HasEntryCause names cells given e
+  moved given other few also e h =
+      subst (λ g. HasEntryCause names cells g e) (one_given (tables_exact 0) text other given also.read few.read) h
+
+  -- a fault of the bytes as such a refusal
+  abbrev told : TextError → TableError
+  told (bytes.Byte at) = error.Byte at
+  told (bytes.OpenComment at) = error.OpenComment at
+  told bytes.NoMemory = error.NoMemory
+
+  one_of_stage : (a b : TableError) → stage a ≡ stage b → IsCause a → IsCause b → a ≡ b
+  one_of_stage (error.Byte x) (error.Byte y) e h k = ap told (one_text_fault text (bytes.Byte x) (bytes.Byte y) h.0 k.0)
+  one_of_stage (error.Byte x) (error.OpenComment y) e h k = ap told (one_text_fault text (bytes.Byte x) (bytes.OpenComment y) h.0 k.0)
+  one_of_stage (error.OpenComment x) (error.Byte y) e h k = ap told (one_text_fault text (bytes.OpenComment x) (bytes.Byte y) h.0 k.0)
+  one_of_stage (error.OpenComment x) (error.OpenComment y) e h k =
+      ap told (one_text_fault text (bytes.OpenComment x) (bytes.OpenComment y) h.0 k.0)
+  one_of_stage (error.Form x) (error.Form y) e h k = ap error.Form (one_form IsTables text x y h.0 k.0)
+  one_of_stage error.Domain error.Domain e h k = refl
+  one_of_stage (error.Unknown s f) (error.Unknown x y) e h k =
+      let cause = h.0.cause in
+      let other = moved h.0.given k.0.given h.0.read k.0.read (error.Unknown x y) k.0.cause in
+      let entry : cause.entry ≡ other.entry = one_value _ cause.entry other.entry cause.first other.first in
+      λ i. error.Unknown ((cause.starts ∙ ap (λ (d : Entry). d.name.token.start) entry ∙ sym other.starts) i)
+      ((cause.ends ∙ ap (λ (d : Entry). d.name.token.end) entry ∙ sym other.ends) i)
+  one_of_stage (error.Twice s f) (error.Twice x y) e h k =
+      let cause = h.0.cause in
+      let other = moved h.0.given k.0.given h.0.read k.0.read (error.Twice x y) k.0.cause in
+      let at : cause.at ≡ other.at = one_repeat _ cause.at other.at cause.first other.first in
+      let entry : cause.entry ≡ other.entry = one_value (slice_get h.0.given.entries other.at) cause.entry other.entry
+      (sym (ap (slice_get h.0.given.entries) at) ∙ cause.there) other.there in
+      λ i. error.Twice ((cause.starts ∙ ap (λ (d : Entry). d.name.token.start) entry ∙ sym other.starts) i)
+      ((cause.ends ∙ ap (λ (d : Entry). d.name.token.end) entry ∙ sym other.ends) i)
+  one_of_stage (error.Missing x) (error.Missing y) e h k =
+      let other = moved h.0.given k.0.given h.0.read k.0.read (error.Missing y) k.0.cause in
+      ap error.Missing (one_value _ x y h.0.cause.first other.first)
+  one_of_stage (error.Entries x) (error.Entries y) e h k =
+      let other = moved h.0.given k.0.given h.0.read k.0.read (error.Entries y) k.0.cause in
+      ap error.Entries (one_value _ x y h.0.cause.first other.first)
+  one_of_stage (error.Count x) (error.Count y) e h k =
+      let other = moved h.0.given k.0.given h.0.read k.0.read (error.Count y) k.0.cause in
+      ap error.Count (one_value _ x y h.0.cause.first other.first)
+  one_of_stage (error.Range x v) (error.Range y w) e h k =
+      let other = moved h.0.given k.0.given h.0.read k.0.read (error.Range y w) k.0.cause in
+      let id : x ≡ y = one_value _ x y h.0.cause.first other.first in
+      let value : v ≡ w = one_value (too_large names h.0.given y) v w
+      (sym (ap (too_large names h.0.given) id) ∙ h.0.cause.number) other.number in
+      λ i. error.Range (id i) (value i)
+  one_of_stage error.NoMemory b e h k = absurd (h.1 refl)
+  one_of_stage a b e h k = absurd (omega (arith, e))
+
+  pub one_table_cause : (a b : TableError) → a ≢ error.NoMemory → b ≢ error.NoMemory → HasTableCause text names cells a →
+      HasTableCause text names cells b → a ≡ b
+  one_table_cause a b first second h k = one_by_stages Reaches one_back stage IsCause reached stuck one_of_stage a b (h, first) (k, second)

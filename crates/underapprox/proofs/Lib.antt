@@ -1,0 +1,4 @@
+pub mod Agreement
+pub mod Booleans
+pub mod Happenings
+mod Examples

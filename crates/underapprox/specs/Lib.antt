@@ -1,0 +1,3 @@
+pub mod LetterForm
+pub mod LetterLasso
+pub mod WholeUpdates
