@@ -1,3 +1,5 @@
 pub mod ProgramBits
 pub mod ControllerOf
 pub mod RunLetters
+pub mod DecisionTree
+pub mod Flow

@@ -4,13 +4,18 @@
 //!   are choices of a space: the entry of each state and valuation is what the program's walk gives
 //!   there (`specs/ControllerOf`).
 //! - The law `one_controller`: there is one such controller at most.
+//! - `flow_of` gives the program of a controller over the bits of a space (`specs/Flow`): its states are the
+//!   reachable ones, and each has a reduced decision tree over the predicate terms (`specs/DecisionTree`),
+//!   whose equal parts are one node.
 //! - The law `closed_runs_have_letter_loops`: each closed run of the program has a letter loop of that
 //!   controller (`specs/RunLetters`). Its letters have the truths of the predicate terms and the assigned
 //!   terms, so each atom that has a bit holds in the run exactly where the letter has its bit.
 #![tactic(auto)]
 
 mod controlling;
+mod flowing;
 mod laws;
 
 pub use controlling::controller_of;
+pub use flowing::flow_of;
 pub use laws::{closed_runs_have_letter_loops, one_controller};
