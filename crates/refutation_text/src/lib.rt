@@ -13,7 +13,7 @@ mod laws;
 mod output;
 
 pub use laws::{written_formulas_are_read, written_logs_are_read, written_refutations_are_spelled};
-pub use output::{put_cnf, put_literal, put_log, put_refutation};
+pub use output::{put_clause, put_cnf, put_literal, put_log, put_refutation};
 
 #[cfg(test)]
 mod tests;

@@ -70,8 +70,8 @@ fn put_step(out: &mut Vec<u8>, step: &Step) -> Result<(), NoMemory>
     put_hints(out, step.hints.as_slice())
 }
 
-/// Appends the line of a clause.
-fn put_clause(out: &mut Vec<u8>, clause: &Clause) -> Result<(), NoMemory>
+/// Appends the literals of a clause and a 0, with single spaces between them. An `Err` says that memory ran out.
+pub fn put_clause(out: &mut Vec<u8>, clause: &Clause) -> Result<(), NoMemory>
     ensures increasing { IsIncreasing clause.now }
     ensures text { OnOk result (out.new.items ≡ out.old.items ++ clause_line clause.now) }
 {
