@@ -6,3 +6,6 @@ pub mod RunLoops
 pub mod WalksThere
 pub mod EntryLists
 pub mod OneController
+pub mod NewMembers
+pub mod TreeLists
+pub mod FlowLemmas

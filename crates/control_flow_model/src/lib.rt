@@ -7,6 +7,8 @@
 //! - `flow_of` gives the program of a controller over the bits of a space (`specs/Flow`): its states are the
 //!   reachable ones, and each has a reduced decision tree over the predicate terms (`specs/DecisionTree`),
 //!   whose equal parts are one node.
+//! - Laws of such a program: its walks give the controller's entries (`flows_walk_as_controllers`), it tests
+//!   predicate terms and assigns choices alone (`flows_have_bits`), and it is small (`flows_are_small`).
 //! - The law `closed_runs_have_letter_loops`: each closed run of the program has a letter loop of that
 //!   controller (`specs/RunLetters`). Its letters have the truths of the predicate terms and the assigned
 //!   terms, so each atom that has a bit holds in the run exactly where the letter has its bit.
@@ -18,4 +20,7 @@ mod laws;
 
 pub use controlling::controller_of;
 pub use flowing::flow_of;
-pub use laws::{closed_runs_have_letter_loops, one_controller};
+pub use laws::{
+    closed_runs_have_letter_loops, flows_are_small, flows_have_bits, flows_walk_as_controllers,
+    one_controller,
+};
