@@ -1,3 +1,4 @@
 pub mod FaultExamples
 pub mod TraceExamples
+pub mod SearchExamples
 pub mod Written

@@ -1,3 +1,4 @@
 pub mod FaultText
 pub mod FormulaText
 pub mod TraceText
+pub mod SearchTexts

@@ -3,6 +3,10 @@
 //! `fault_text` gives the line that says why a text or the words were refused: at Ok exactly the
 //! bytes that the definition of the same name gives for the fault, which is a table of its cases.
 //!
+//! `none_text` gives the text which says that no controller was found, and `spent_text` the one which
+//! says that the budget of a search was spent: at Ok exactly the bytes that the definitions of the
+//! same names give.
+//!
 //! `trace_text` gives the text of a run that closes and of the verdicts on it: at Ok exactly the
 //! bytes that the definition of the same name gives. The one condition is that the names hold each
 //! number.
@@ -21,10 +25,12 @@ ghost use Rattle.tsl_report.specs.FormulaText.{formula_text, members_text, other
 
 mod fault;
 mod laws;
+mod search;
 mod trace;
 
 pub use fault::{DataPart, Fault, Head, LimitName, ProgramRule, TokenPart, fault_text};
 pub use laws::whole_formulas_can_be_written;
+pub use search::{none_text, spent_text};
 use sequence::NoMemory;
 use std::alloc::Global;
 use term_text::{put_probe, put_update};
