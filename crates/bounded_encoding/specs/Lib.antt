@@ -1,0 +1,6 @@
+pub mod Question
+pub mod QuestionView
+pub mod ClauseLists
+pub mod Variables
+pub mod Encoding
+pub mod Answers

@@ -1,0 +1,17 @@
+//! The question for a controller: is there one with so many states that has an annotation within a bound?
+//!
+//! `specs/Question` says what a solution is. `encode` gives the question as clauses, exactly those of
+//! `specs/Encoding`, or says that they are too many; `find_controller` answers it, by a controller
+//! with its annotation, by the clauses with a refutation of them, or by a trace where a budget of learnt
+//! clauses is spent (`specs/Answers`). Laws are the contracts of functions that do nothing.
+#![tactic(auto)]
+
+mod answers;
+mod encoding;
+mod errors;
+mod finding;
+
+pub use answers::Found;
+pub use encoding::encode;
+pub use errors::EncodeError;
+pub use finding::find_controller;
