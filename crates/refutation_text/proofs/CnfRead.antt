@@ -4,7 +4,7 @@ use Rattle.std.proofs.Common.{◌∷◌, ◌++◌, map, filter, flat_map, length
 use Rattle.std.proofs.Common.{arith, append_assoc, append-nil}
 use Rattle.std.specs.Prelude.{nat_abs, count_by}
 use Rattle.std.specs.List.{list_all}
-use Rattle.std.proofs.lemmas.Bool.{and_from, le-leb, lt-ltb}
+use Rattle.std.proofs.lemmas.Bool.{and_parts, and_from, le-leb, lt-ltb}
 use Rattle.std.proofs.lemmas.List.Elements.{All-head, All-tail}
 use Rattle.std.proofs.lemmas.List.Folds.{list_all-append}
 use Rattle.sequence.specs.Options.{passes}
@@ -252,29 +252,65 @@ header_is_line variables count v c =
     (list_all-append is_line_byte (codes "p cnf ") (decimal variables) ∙ word_is_line (decimal variables) variables'.whole) refl)
     (word_is_line (decimal count) count'.whole)
 
+-- ---- comments
+
+-- lines that are comments go by
+comments_pass : (number : ℕ) (front ls : List (List ℕ)) → list_all is_comment front ≡ true →
+    (m : ℕ) × (filter (λ line. not (is_comment line.bytes)) (ended_lines number (front ++ ls))
+    ≡ filter (λ line. not (is_comment line.bytes)) (ended_lines m ls))
+comments_pass number [] ls h = (number, refl)
+comments_pass number (l ∷ front) ls h =
+    let parts = and_parts (is_comment l) (list_all is_comment front) h in
+    let rest = comments_pass (suc number) front ls parts.1 in (
+      rest.0,
+      ap (λ b. cond (not b) (record { number = number; bytes = l; ended = true }
+          ∷ filter (λ line. not (is_comment line.bytes)) (ended_lines (suc number) (front ++ ls)))
+          (filter (λ line. not (is_comment line.bytes)) (ended_lines (suc number) (front ++ ls)))) parts.0
+          ∙ rest.1,
+    )
+
 -- ---- the whole text
 
-pub cnf_is_read : (variables : ℕ) (clauses : List (List Lit)) → IsWithinLimits variables clauses → cnf_answer (cnf_text variables clauses)
-    ≡ is_cnf variables clauses
-cnf_is_read variables clauses h =
+-- the lines of a formula
+abbrev pub formula_lines : ℕ → List (List Lit) → List (List ℕ)
+formula_lines variables clauses = header_line variables (length clauses) ∷ map clause_line clauses
+
+pub formula_lines_are_lines : (variables : ℕ) (clauses : List (List Lit)) → IsWithinLimits variables clauses →
+    list_all is_line (formula_lines variables clauses) ≡ true
+formula_lines_are_lines variables clauses h =
+    let few : variables ≤ 1048576 = h.few_variables in
+    let within : length clauses ≤ 2000000 = h.few_clauses in
+    and_from (is_line (header_line variables (length clauses))) (list_all is_line (map clause_line clauses))
+    (header_is_line variables (length clauses) (omega (arith, few)) (omega (arith, within)))
+    (are_lines variables (omega (arith, few)) clauses h.each)
+
+-- a formula behind comments
+pub cnf_is_read_behind : (front : List (List ℕ)) (variables : ℕ) (clauses : List (List Lit)) → list_all is_line front ≡ true →
+    list_all is_comment front ≡ true → IsWithinLimits variables clauses →
+    cnf_answer (text_of_lines (front ++ formula_lines variables clauses)) ≡ is_cnf variables clauses
+cnf_is_read_behind front variables clauses are comments h =
     let few : variables ≤ 1048576 = h.few_variables in
     let within : length clauses ≤ 2000000 = h.few_clauses in
     let all = h.each in
     let v : variables < 10 ^ 18 = omega (arith, few) in
     let c : length clauses < 10 ^ 18 = omega (arith, within) in
     let most : variables ≤ 2147483647 = omega (arith, few) in
-    let ls : List (List ℕ) = header_line variables (length clauses) ∷ map clause_line clauses in
+    let ls : List (List ℕ) = formula_lines variables clauses in
     let counts : Counts = record { variables = variables; clauses = length clauses } in
-    let behind = clause_lines 2 clauses in
-    let told = are_told variables most (length clauses) 0 2 clauses (omega arith) all in
-    let begun : data_lines (cnf_text variables clauses)
-    ≡ record { number = 1; bytes = header_line variables (length clauses); ended = true } ∷ behind =
+    let passed = comments_pass 1 front ls comments in
+    let first : NumberedLine = record { number = passed.0; bytes = header_line variables (length clauses); ended = true } in
+    let behind = clause_lines (suc passed.0) clauses in
+    let told = are_told variables most (length clauses) 0 (suc passed.0) clauses (omega arith) all in
+    let begun : data_lines (text_of_lines (front ++ ls)) ≡ first ∷ behind =
     ap (filter (λ (line : NumberedLine). not (is_comment line.bytes)))
-    (lines_numbered ls (and_from (is_line (header_line variables (length clauses))) (list_all is_line (map clause_line clauses))
-    (header_is_line variables (length clauses) v c) (are_lines variables most clauses all)))
-    ∙ ap (λ rest. record { number = 1; bytes = header_line variables (length clauses); ended = true } ∷ rest)
-    (no_comments variables most 2 clauses all) in
-    cnf_is (cnf_text variables clauses) (record { number = 1; bytes = header_line variables (length clauses); ended = true }) behind counts
+    (lines_numbered (front ++ ls) (list_all-append is_line front ls
+    ∙ and_from (list_all is_line front) (list_all is_line ls) are (formula_lines_are_lines variables clauses h)))
+    ∙ (passed.1 ∙ ap (λ rest. first ∷ rest) (no_comments variables most (suc passed.0) clauses all)) in
+    cnf_is (text_of_lines (front ++ ls)) first behind counts
     (length clauses) (flat_map words_beside behind) clauses begun (header_told variables (length clauses) v c) refl told.right
     (sym told.ended)
     (omega arith) few within (sym told.told)
+
+pub cnf_is_read : (variables : ℕ) (clauses : List (List Lit)) → IsWithinLimits variables clauses → cnf_answer (cnf_text variables clauses)
+    ≡ is_cnf variables clauses
+cnf_is_read variables clauses h = cnf_is_read_behind [] variables clauses refl refl h

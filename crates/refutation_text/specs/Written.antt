@@ -37,6 +37,10 @@ log_text steps = text_of_lines (map step_line steps)
 abbrev pub refutation_text : ℕ → List (List Lit) → List Step → List ℕ
 refutation_text variables clauses steps = cnf_text variables clauses ++ codes "lrat\n" ++ log_text steps
 
+-- a line that is a comment, with this text behind its first byte
+abbrev pub comment_text : List ℕ → List ℕ
+comment_text comment = codes "c " ++ comment ++ codes "\n"
+
 -- the literals of a clause rise by their numbers, and its variables are those of the formula
 pub record IsClauseOver (variables : ℕ) (clause : List Lit) : Type 0 where
   pub increasing : IsIncreasing clause

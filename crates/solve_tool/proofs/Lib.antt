@@ -1,5 +1,4 @@
 pub mod Proper
-pub mod Readable
 pub mod Reacting
 pub mod Solutions
 pub mod ValuesTold

@@ -16,7 +16,7 @@ use Rattle.solve_tool.specs.Outcome.{proper_clauses, IsSolution}
 use Rattle.solve_tool.specs.Values.{satisfiable_text}
 use Rattle.solve_tool.specs.internal.Solutions.{IsSatisfiableReply, IsUnsatisfiableReply}
 use Rattle.solve_tool.proofs.Proper.{meets_rest, unmet_rest}
-use Rattle.solve_tool.proofs.Readable.{are_readable}
+use Rattle.refutation_text.proofs.Readable.{are_readable}
 
 module _ {E : Type 0} (request : Request) (variables : ℕ) (clauses proper : List (List Lit)) (same : proper ≡ proper_clauses clauses)
     (r : Result Reply E) where
