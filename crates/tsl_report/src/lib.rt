@@ -157,4 +157,6 @@ fn put_others(
 #[cfg(test)]
 mod fault_tests;
 #[cfg(test)]
+mod search_tests;
+#[cfg(test)]
 mod tests;
