@@ -39,7 +39,8 @@ use Rattle.program_check.proofs.AnnotatedRuns.{annotated_program_meets}
 use Rattle.program_check.proofs.OtherNumbers.{annotated_there}
 use Rattle.program_check.proofs.ProgramNames.{program_over}
 
-signals_of : (choices : ℕ → List TermTree) (first : ℕ) (signals : List ℕ) →
+-- signals with their choices are these signals
+pub signals_of : (choices : ℕ → List TermTree) (first : ℕ) (signals : List ℕ) →
     map (λ (c : ControlledTree). c.signal) (controlled_from choices first signals) ≡ signals
 signals_of choices first [] = refl
 signals_of choices first (s ∷ signals) = ap (λ rest. s ∷ rest) (signals_of choices (first + length (choices s)) signals)

@@ -1,4 +1,5 @@
 pub mod AnnotatedRuns
+pub mod SpaceTerms
 pub mod ProgramNames
 pub mod OtherNumbers
 pub mod Accepted

@@ -14,7 +14,7 @@ use Rattle.machines.specs.MachineTree.{ControllerTree}
 use Rattle.program_check.specs.declared.verdict.Verdict.{Verdict}
 use Rattle.program_check.specs.declared.verdict.Verdict.TheVariants.{Signals, Test, Choice, Foreign, Unsound, NoAnnotation, Yes}
 use Rattle.program_check.specs.declared.verdict.Limit.{Limit}
-use Rattle.program_check.specs.declared.verdict.Limit.TheVariants.{Predicates, Bits, Choices, States, Edges}
+use Rattle.program_check.specs.declared.verdict.Limit.TheVariants.{Predicates, Bits, Choices, States, Edges, Clauses}
 use Rattle.program_check.specs.Verdicts.{HasFewBits, first_refused_node, negated_form, IsQuestion, IsOverBits, IsVerdict, IsPassed}
 
 module _ (spec : SpecTree) (program : ProgramTree) (bound : ℕ) where
@@ -54,3 +54,4 @@ module _ (spec : SpecTree) (program : ProgramTree) (bound : ℕ) where
       let beyond : most_automaton_edges < length edges =
       passes_edges (negated_form spec) asked.states edges asked.automaton passed.2 in
       omega (arith, within, beyond)) v is
+  no_verdict Clauses v few passed is = passed

@@ -27,7 +27,7 @@ use Rattle.control_flow_model.specs.ControllerOf.{IsControllerOf}
 use Rattle.program_check.specs.declared.verdict.Verdict.{Verdict}
 use Rattle.program_check.specs.declared.verdict.Verdict.TheVariants.{Signals, Test, Choice, Foreign, Unsound, NoAnnotation, Yes}
 use Rattle.program_check.specs.declared.verdict.Limit.{Limit}
-use Rattle.program_check.specs.declared.verdict.Limit.TheVariants.{Predicates, Bits, Choices, States, Edges}
+use Rattle.program_check.specs.declared.verdict.Limit.TheVariants.{Predicates, Bits, Choices, States, Edges, Clauses}
 use Rattle.program_check.specs.declared.verdict.CheckError.{CheckError}
 use Rattle.program_check.specs.declared.verdict.CheckError.TheVariants.{Large, NoMemory, Unbuilt}
 
@@ -107,13 +107,15 @@ IsVerdict spec program bound (Unsound i) = ⊥
 IsVerdict spec program bound NoAnnotation = IsOverBits spec program × HasNoAnnotation spec program bound
 IsVerdict spec program bound Yes = IsOverBits spec program × HasAnnotation spec program bound
 
--- a limit that is passed: those of bits before every verdict, those of the automaton only where an annotation is asked
+-- a limit that is passed: those of bits before every verdict, those of the automaton only where an annotation is asked, and that of
+-- clauses never, since no encoding is asked for
 abbrev pub IsPassed : SpecTree → ProgramTree → Limit → Type 0
 IsPassed spec program Predicates = HasSpaceCause spec spaces.Predicates
 IsPassed spec program Bits = HasSpaceCause spec spaces.Bits
 IsPassed spec program Choices = HasFewBits spec × IsOverBits spec program × HasTooManyChoices (negated_form spec)
 IsPassed spec program States = HasFewBits spec × IsOverBits spec program × HasTooManyStates (negated_form spec)
 IsPassed spec program Edges = HasFewBits spec × IsOverBits spec program × HasTooManyEdges (negated_form spec)
+IsPassed spec program Clauses = ⊥
 
 -- why nothing is said: windows are not built, which is asked before all else; a limit is passed; or memory ran out
 abbrev pub HasCheckCause : SpecTree → ProgramTree → CheckError → Type 0

@@ -92,8 +92,9 @@ fn verdict_on_runs(
     }
 }
 
-/// The automaton of the negation of the whole formula.
-fn automaton_of(alloc: Global, spec: &Spec, space: &Space) -> Result<Automaton, BuildError>
+/// The automaton of the negation of the whole formula. An `Err` says which of its limits is passed, or
+/// that memory ran out.
+pub fn automaton_of(alloc: Global, spec: &Spec, space: &Space) -> Result<Automaton, BuildError>
     requires space { space_tree space.now ≡ spec_space (spec_tree spec.now) }
     ensures automaton { IfOk result (λ made. (states : List StateTree) × (length states ≡ made.states)
         × IsAutomaton (negated_form (spec_tree spec.now)) states (edge_trees made.edges)) }

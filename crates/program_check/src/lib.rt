@@ -5,6 +5,8 @@
 //! input loop, meets the whole formula. The other verdicts do not say that a run fails: at `NoAnnotation`
 //! the program may still meet the formula, by what terms mean or within a larger bound.
 //!
+//! `automaton_of` gives the automaton that is asked for: that of the negation of the whole formula.
+//!
 //! A program has at most one verdict (`one_verdict`), and within the limits of bits none where a limit is
 //! passed (`limits_leave_no_verdict`).
 #![tactic(auto)]
@@ -14,7 +16,7 @@ mod bits;
 mod laws;
 mod verdict;
 
-pub use accepting::accept;
+pub use accepting::{accept, automaton_of};
 pub use laws::{annotated_programs_meet, limits_leave_no_verdict, one_verdict};
 pub use verdict::{CheckError, Limit, Verdict};
 

@@ -38,6 +38,9 @@ pub enum Limit {
     States,
     /// The automaton has more than 200,000 edges.
     Edges,
+    /// The encoding of the question whether there is a controller has more than 2,000,000 clauses. No program is
+    /// refused for it.
+    Clauses,
 }
 
 /// Why nothing is said of a program.

@@ -7,7 +7,7 @@ use Rattle.tsl_meaning.specs.Promise.{Realizes}
 use Rattle.program_check.specs.declared.verdict.Verdict.{Verdict}
 use Rattle.program_check.specs.declared.verdict.Verdict.TheVariants.{Signals, Test, Choice, Foreign, Unsound, NoAnnotation, Yes}
 use Rattle.program_check.specs.declared.verdict.Limit.{Limit}
-use Rattle.program_check.specs.declared.verdict.Limit.TheVariants.{Predicates, Bits, Choices, States, Edges}
+use Rattle.program_check.specs.declared.verdict.Limit.TheVariants.{Predicates, Bits, Choices, States, Edges, Clauses}
 use Rattle.program_check.specs.Verdicts.{IsVerdict}
 use Rattle.tsl_terms.specs.SpecTree.{SpecTree}
 use Rattle.flow_program.specs.ProgramTree.{ProgramTree}
@@ -41,6 +41,7 @@ limit_comes Bits = refl
 limit_comes Choices = refl
 limit_comes States = refl
 limit_comes Edges = refl
+limit_comes Clauses = refl
 
 both_come : (bound : ℕ) (spec : SpecTree) (program : ProgramTree) (reply : Reply) → VerdictOutcome bound spec program reply →
     comes_of_bytes reply.status ≡ true

@@ -10,13 +10,14 @@ use Rattle.tsl_meaning.specs.Promise.{Realizes}
 use Rattle.letter_space.specs.declared.limits.TheConstants.{MOST_PREDICATES, MOST_BITS}
 use Rattle.obligations.specs.Choices.{most_choices}
 use Rattle.cobuchi_automata.specs.Refusals.{most_automaton_states, most_automaton_edges}
+use Rattle.refutation_check.specs.declared.dimacs.TheConstants.{MOST_CLAUSES}
 use Rattle.program_check.specs.declared.verdict.Verdict.{Verdict}
 use Rattle.program_check.specs.declared.verdict.Verdict.TheVariants.{Signals, Test, Choice, Foreign, Unsound, NoAnnotation, Yes}
 use Rattle.program_check.specs.declared.verdict.Limit.{Limit}
 use Rattle.program_check.specs.declared.verdict.Limit.TheVariants as limits
 use Rattle.program_check.specs.Verdicts.{IsVerdict, IsPassed}
 use Rattle.tsl_report.specs.declared.fault.Head.TheVariants.{Program}
-use Rattle.tsl_report.specs.declared.fault.LimitName.TheVariants.{Predicates, Bits, Choices, States, Edges}
+use Rattle.tsl_report.specs.declared.fault.LimitName.TheVariants.{Predicates, Bits, Choices, States, Edges, Clauses}
 use Rattle.tsl_report.specs.declared.fault.Fault.{Fault}
 use Rattle.tsl_report.specs.declared.fault.Fault.TheVariants.{Parts, Large, Unbuilt}
 use Rattle.tsl_tool.specs.declared.status.Status.{Status}
@@ -72,6 +73,7 @@ fault_at_limit limits.Bits = Large Bits MOST_BITS
 fault_at_limit limits.Choices = Large Choices most_choices
 fault_at_limit limits.States = Large States most_automaton_states
 fault_at_limit limits.Edges = Large Edges most_automaton_edges
+fault_at_limit limits.Clauses = Large Clauses MOST_CLAUSES
 
 -- ---- the reply
 

@@ -18,6 +18,7 @@ use flow_program::{Program, read_program};
 use letter_space::{MOST_BITS, MOST_PREDICATES};
 use obligations::MOST_CHOICES;
 use program_check::{CheckError, Limit, Verdict, accept};
+use refutation_check::MOST_CLAUSES;
 use sequence::NoMemory;
 use std::alloc::Global;
 use tsl_reader::read_spec;
@@ -157,5 +158,6 @@ fn fault_of_limit(limit: Limit) -> Fault
         Limit::Choices => Fault::Large(LimitName::Choices, MOST_CHOICES as u32),
         Limit::States => Fault::Large(LimitName::States, MOST_AUTOMATON_STATES as u32),
         Limit::Edges => Fault::Large(LimitName::Edges, MOST_AUTOMATON_EDGES as u32),
+        Limit::Clauses => Fault::Large(LimitName::Clauses, MOST_CLAUSES as u32),
     }
 }
