@@ -3,4 +3,5 @@ pub mod QuestionView
 pub mod ClauseLists
 pub mod Variables
 pub mod Encoding
+pub mod Decoding
 pub mod Answers

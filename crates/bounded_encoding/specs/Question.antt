@@ -2,6 +2,7 @@
 -- Source: Schewe, Finkbeiner: Bounded Synthesis (ATVA 2007).
 use Rattle.std.specs.Prelude.{◌≡◌, ◌<◌, ◌≤◌, ℕ, List, Option}
 use Rattle.std.specs.List.{AllByRecursion}
+use Rattle.ltl_formula.specs.Cubes.{IsWithin}
 use Rattle.letter_space.specs.SpaceTree.{SpaceTree, IsSpace}
 use Rattle.cobuchi_automata.specs.Automata.{EdgeTree}
 use Rattle.machines.specs.MachineTree.{ControllerTree, IsController}
@@ -31,10 +32,16 @@ HasNoController q = (c : ControllerTree) (number : ℕ → ℕ → Option ℕ) �
 abbrev pub JoinsStates : ℕ → EdgeTree → Type 0
 JoinsStates states e = (e.from < states) × (e.to < states)
 
--- What holds of each question that is asked: its space is one, there are states, and edges are between states. An edge may want
--- a bit that the space lacks; it matches no letter. One that the space lacks and that is to be unset asks nothing.
+-- an edge wants only bits that it asks for
+abbrev pub WantsAsked : EdgeTree → Type 0
+WantsAsked e = IsWithin e.care e.want
+
+-- What holds of each question that is asked: its space is one, there are states, edges are between states, and each wants only
+-- what it asks for. An edge may want a bit that the space lacks; it matches no letter. One that the space lacks and that is to be
+-- unset asks nothing.
 pub record IsPosed (q : QuestionTree) : Type 0 where
   pub space : IsSpace q.space
   pub has_state : 1 ≤ q.states
   pub automaton_starts : 1 ≤ q.automaton_states
   pub between : AllByRecursion (JoinsStates q.automaton_states) q.edges
+  pub within : AllByRecursion WantsAsked q.edges

@@ -3,15 +3,21 @@
 //! `specs/Question` says what a solution is. `encode` gives the question as clauses, exactly those of
 //! `specs/Encoding`, or says that they are too many; `find_controller` answers it, by a controller
 //! with its annotation, by the clauses with a refutation of them, or by a trace where a budget of learnt
-//! clauses is spent (`specs/Answers`). Laws are the contracts of functions that do nothing.
+//! clauses is spent (`specs/Answers`). `specs/Decoding` says what an assignment says of the variables. Laws
+//! are the contracts of functions that do nothing: an assignment that meets the clauses gives a solution,
+//! and each solution gives such an assignment.
 #![tactic(auto)]
 
 mod answers;
 mod encoding;
 mod errors;
 mod finding;
+mod laws;
 
 pub use answers::Found;
 pub use encoding::encode;
 pub use errors::EncodeError;
 pub use finding::find_controller;
+pub use laws::{
+    assignments_give_controllers, controllers_give_assignments, variables_have_one_number,
+};
