@@ -389,3 +389,171 @@ def verdict(spec_text, program_text, bound):
                         numbers[after, to] = least
                         work.append((after, to))
     return "accepted"
+
+
+# ---- the search for a controller: its variables, its clauses, and what an assignment of them says ----
+
+class Question:
+    """Is there a controller with so many states that has an annotation within a bound? Variables have numbers from 1:
+    `choice[s, v, bit]`, `after[s, v, t]` and `least[s, q, i]`, in this order, each kind by rising indices."""
+
+    def __init__(self, spec_text, states, bound):
+        lists = Reader(spec_text).spec()
+        self.formula, self.space, self.states, self.bound = whole_formula(lists), Space(lists), states, bound
+        self.count, self.edges = automaton(letters(("!", self.formula), self.space))
+        self.tests = len(self.space.tests)
+        self.groups = [[self.space.bits["update", signal, term] for term in self.space.choices[signal]]
+                       for signal in self.space.controlled]
+        self.places = list(itertools.product(range(states), self.space.valuations()))
+        numbers = itertools.count(1)
+        self.choice = {(s, v, bit): next(numbers) for s, v in self.places for group in self.groups for bit in group}
+        self.after = {(s, v, t): next(numbers) for s, v in self.places for t in range(states)}
+        self.least = {(s, q, i): next(numbers) for s in range(states) for q in range(self.count) for i in range(bound + 1)}
+        self.variables = next(numbers) - 1
+
+    def meets(self, valuation, cube):
+        """Whether a valuation has what a cube asks of the tests."""
+        return all(bool(valuation >> bit & 1) == wanted for bit, wanted in cube if bit < self.tests)
+
+    def demands(self):
+        """All clauses, also those with a literal and its negation, as lists of literals."""
+        for s, v in self.places:
+            for group in self.groups:
+                yield from exactly_one([self.choice[s, v, bit] for bit in group])
+        for s, v in self.places:
+            yield from exactly_one([self.after[s, v, t] for t in range(self.states)])
+        yield [self.least[0, 0, 0]]
+        for s, q, i in self.least:
+            if i > 0:
+                yield [-self.least[s, q, i], self.least[s, q, i - 1]]
+        for s in range(self.states):
+            for q, cube, p, rejecting in self.edges:
+                asked = sorted((bit, wanted) for bit, wanted in cube if bit >= self.tests)
+                for v in self.space.valuations():
+                    if self.meets(v, cube):
+                        chosen = [-self.choice[s, v, bit] if wanted else self.choice[s, v, bit] for bit, wanted in asked]
+                        for t, i in itertools.product(range(self.states), range(self.bound + 1)):
+                            then = [self.least[t, p, i + rejecting]] if i + rejecting <= self.bound else []
+                            yield [-self.least[s, q, i], -self.after[s, v, t], *chosen, *then]
+
+    def clauses(self):
+        """Each clause by rising numbers, without repeats; those with a literal and its negation are left out."""
+        return [sorted(set(c)) for c in self.demands() if not any(-literal in c for literal in c)]
+
+    def decoded(self, trues):
+        """The controller and the annotation that the true variables say. The controller is a table: for a state and a
+        valuation the picked bits and the next state. The annotation has a number for each pair that is numbered."""
+        def one(variables, members):
+            found = [m for m in members if variables[m] in trues]
+            assert len(found) == 1
+            return found[0][-1]
+        table = {(s, v): ([one(self.choice, [(s, v, bit) for bit in group]) for group in self.groups],
+                          one(self.after, [(s, v, t) for t in range(self.states)])) for s, v in self.places}
+        numbers = {}
+        for s, q in itertools.product(range(self.states), range(self.count)):
+            if self.least[s, q, 0] in trues:
+                numbers[s, q] = max(i for i in range(self.bound + 1) if self.least[s, q, i] in trues)
+        return table, numbers
+
+    def is_annotation(self, table, numbers):
+        """Whether the numbers are an annotation of the controller within the bound."""
+        if (0, 0) not in numbers or max(numbers.values()) > self.bound:
+            return False
+        for (s, q), number in numbers.items():
+            for v in self.space.valuations():
+                picked, t = table[s, v]
+                for _, cube, p, rejecting in (e for e in self.edges if e[0] == q):
+                    chosen = all((bit in picked) == wanted for bit, wanted in cube if bit >= self.tests)
+                    if chosen and self.meets(v, cube) and numbers.get((t, p), -1) < number + rejecting:
+                        return False
+        return True
+
+    def program_text(self, table):
+        """The program of a controller, by `flow_of`."""
+        updates = {bit: atom for atom, bit in self.space.bits.items() if atom[0] == "update"}
+        reachable, queue = {0}, [0]
+        for s in queue:
+            for v in self.space.valuations():
+                if table[s, v][1] not in reachable:
+                    reachable.add(table[s, v][1])
+                    queue.append(table[s, v][1])
+        new = {s: place for place, s in enumerate(sorted(reachable))}
+        nodes = {}
+
+        def node_of(node):
+            return nodes.setdefault(node, len(nodes))
+
+        def tree(s, v, bit):
+            if bit == self.tests:
+                picked, t = table[s, v]
+                return node_of("set" + "".join(f" {atom_text(updates[b])}" for b in picked) + f" go {new[t]}")
+            then, other = tree(s, v | 1 << bit, bit + 1), tree(s, v, bit + 1)
+            return then if then == other else node_of(f"if {atom_text(self.space.tests[bit])} then {then} else {other}")
+        roots = [tree(s, 0, 0) for s in sorted(reachable)]
+        declared = [("input", self.space.inputs), ("cell", self.space.cells), ("output", self.space.outputs)]
+        return text_of(["tslprogram 1", *(f"{word} {name}" for word, names in declared for name in names),
+                        *(f"node {i} {node}" for node, i in nodes.items()),
+                        *(f"state {s} at {root}" for s, root in enumerate(roots)), "end"])
+
+    def spent_text(self, learnt):
+        """What is written where the budget is spent and these clauses were learnt."""
+        edges = [f"edge {q} {p} {int(rejecting)} " + line_of((b + 1 if wanted else -b - 1) for b, wanted in sorted(cube))
+                 for q, cube, p, rejecting in self.edges]
+        return text_of(["spent controller", f"sizes {self.states} {self.bound}", f"automaton {self.count}", *edges,
+                        *(f"clause {line_of(clause)}" for clause in learnt), "end"])
+
+    def none_text(self):
+        return text_of(["none", f"states {self.states}", f"bound {self.bound}", "reason rounds 0", "end"])
+
+
+def exactly_one(literals):
+    """Some literal, and then not both of each two."""
+    return [literals, *([-a, -b] for a, b in itertools.combinations(literals, 2))]
+
+
+def line_of(literals):
+    return " ".join([*map(str, literals), "0"])
+
+
+def text_of(lines):
+    return "".join(f"{line}\n" for line in lines)
+
+
+def cnf_text(variables, clauses):
+    return text_of([f"p cnf {variables} {len(clauses)}", *map(line_of, clauses)])
+
+
+# ---- terms and formulas as text ----
+
+def term_text(term):
+    if term[0] == "signal":
+        return term[1]
+    return applied(term[1], term[2])
+
+
+def applied(name, arguments):
+    if not arguments:
+        return f"{name}()"
+    inner = [f"({term_text(t)})" if t[0] == "apply" and t[2] else term_text(t) for t in arguments]
+    return " ".join([name, *inner])
+
+
+def atom_text(atom):
+    if atom[0] == "update":
+        return f"[{atom[1]} <- {term_text(atom[2])}]"
+    return atom[2][0][1] if atom[1] == "?" else applied(atom[1], atom[2])
+
+
+def formula_text(formula):
+    word, parts = formula[0], formula[1:]
+    if word in ("true", "false"):
+        return word
+    if word in ("test", "update"):
+        return atom_text(formula)
+    if word == "!":
+        return f"!{formula_text(parts[0])}"
+    if word in ("X", "F", "G"):
+        return f"{word} {formula_text(parts[0])}"
+    if word in ("&&", "||"):
+        return "(" + f" {word} ".join(map(formula_text, parts[0])) + ")"
+    return f"({formula_text(parts[0])} {word} {formula_text(parts[1])})"

@@ -1,7 +1,6 @@
 #!/usr/bin/env python3
 """Times `solve` on pigeons, parities, random formulas and encodings, beside `minisat`, `cadical` and `picosat` where they are
 installed. The first argument is the most seconds of a run, 20 if there is none; families may be named after it."""
-import itertools
 import os
 import random
 import re
@@ -18,8 +17,7 @@ LEAST = 0.005
 
 
 def text_of(variables, clauses):
-    lines = [f"p cnf {variables} {len(clauses)}"] + [f"{' '.join(map(str, clause))} 0" for clause in clauses]
-    return ("\n".join(lines) + "\n").encode()
+    return plain.cnf_text(variables, clauses).encode()
 
 
 def pigeons(holes):
@@ -59,44 +57,9 @@ def threshold(count, seed):
 
 
 def controller(text, states, bound):
-    """The clauses whose assignments are the controllers of so many states within the bound, for the negated whole formula."""
-    lists = plain.Reader(text).spec()
-    space = plain.Space(lists)
-    count, edges = plain.automaton(plain.letters(("!", plain.whole_formula(lists)), space))
-    valuations = list(space.valuations())
-    updates = [[space.bits["update", signal, term] for term in space.choices[signal]] for signal in space.controlled]
-    numbers = itertools.count(1)
-    choice = {(s, v, bit): next(numbers) for s in range(states) for v in valuations for group in updates for bit in group}
-    after = {(s, v, t): next(numbers) for s in range(states) for v in valuations for t in range(states)}
-    least = {(s, q, i): next(numbers) for s in range(states) for q in range(count) for i in range(bound + 1)}
-    clauses = []
-
-    def exactly_one(literals):
-        clauses.append(literals)
-        clauses.extend([-a, -b] for a, b in itertools.combinations(literals, 2))
-
-    for s in range(states):
-        for v in valuations:
-            for group in updates:
-                exactly_one([choice[s, v, bit] for bit in group])
-    for s in range(states):
-        for v in valuations:
-            exactly_one([after[s, v, t] for t in range(states)])
-    clauses.append([least[0, 0, 0]])
-    clauses += [[-least[s, q, i], least[s, q, i - 1]] for s in range(states) for q in range(count) for i in range(1, bound + 1)]
-    tests = len(space.tests)
-    for s in range(states):
-        for q, cube, p, rejecting in edges:
-            for v in valuations:
-                if all(bool(v >> bit & 1) == wanted for bit, wanted in cube if bit < tests):
-                    chosen = [-choice[s, v, bit] if wanted else choice[s, v, bit] for bit, wanted in sorted(cube) if bit >= tests]
-                    for t in range(states):
-                        for i in range(bound + 1):
-                            then = [least[t, p, i + rejecting]] if i + rejecting <= bound else []
-                            clause = [-least[s, q, i], -after[s, v, t], *chosen, *then]
-                            if not any(-literal in clause for literal in clause):
-                                clauses.append(clause)
-    return text_of(len(choice) + len(after) + len(least), clauses)
+    """The clauses whose assignments are the controllers of so many states within the bound."""
+    question = plain.Question(text, states, bound)
+    return text_of(question.variables, question.clauses())
 
 
 def arbiter(count):
