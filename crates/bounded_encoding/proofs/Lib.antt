@@ -12,3 +12,8 @@ pub mod Decoded
 pub mod Encoded
 pub mod Posed
 mod Examples
+pub mod Between
+pub mod Firsts
+pub mod Readings
+pub mod Signals
+pub mod Unpaired

@@ -5,3 +5,4 @@ pub mod Variables
 pub mod Encoding
 pub mod Decoding
 pub mod Answers
+pub mod internal

@@ -13,6 +13,7 @@ mod encoding;
 mod errors;
 mod finding;
 mod laws;
+mod reading;
 
 pub use answers::Found;
 pub use encoding::encode;
