@@ -1,12 +1,11 @@
--- Whether a question has a solution does not depend on which automaton of the formula it is asked for, and none is asked past a limit.
-use Rattle.std.proofs.Common.{◌≡◌, ◌∙◌, ℕ, ◌<◌, ◌≤◌, List, length, Option, refl, sym, subst, arith}
+-- Whether a question has a solution does not depend on how its automaton is numbered, and none is asked past a limit.
+use Rattle.std.proofs.Common.{◌≡◌, ◌∙◌, ℕ, ◌<◌, ◌≤◌, length, Option, refl, sym, subst, arith}
 use Rattle.tsl_terms.specs.SpecTree.{SpecTree}
 use Rattle.tsl_terms.specs.Predicates.{predicates_of}
 use Rattle.flow_program.specs.ProgramTree.{ProgramTree}
 use Rattle.letter_space.specs.declared.limits.TheConstants.{MOST_PREDICATES, MOST_BITS}
 use Rattle.letter_space.specs.SpaceTree.{bit_count}
 use Rattle.letter_space.specs.SpecSpace.{spec_space}
-use Rattle.cobuchi_automata.specs.Automata.{EdgeTree}
 use Rattle.cobuchi_automata.specs.Refusals.{most_automaton_states, most_automaton_edges}
 use Rattle.cobuchi_automata.proofs.AutomatonLemmas.{has_choices, passes_states, passes_edges}
 use Rattle.machines.specs.MachineTree.{ControllerTree}
@@ -16,7 +15,7 @@ use Rattle.program_check.specs.declared.verdict.Limit.{Limit}
 use Rattle.program_check.specs.declared.verdict.Limit.TheVariants.{Predicates, Bits, Choices, States, Edges, Clauses}
 use Rattle.program_check.specs.Verdicts.{negated_form}
 use Rattle.program_check.proofs.OtherNumbers.{annotated_there}
-use Rattle.bounded_encoding.specs.Question.{QuestionTree, IsSolution}
+use Rattle.bounded_encoding.specs.Question.{QuestionTree, IsSolution, HasNoController}
 use Rattle.refinement_loop.specs.Outcomes.{IsAsked, IsWrittenFor, HasNoSolution, IsLargeFor}
 
 module _ (spec : SpecTree) (states bound : ℕ) where
@@ -40,11 +39,19 @@ module _ (spec : SpecTree) (states bound : ℕ) where
         },
       )
 
+  -- so that there is none for one tells that there is none for each
+  pub none_of : (q : QuestionTree) → IsAsked spec states bound q → HasNoController q → HasNoSolution spec states bound
+  none_of q asked none = record {
+    question = q;
+    asked = asked;
+    none = λ p other c number solution.
+        let there = solution_there p q other asked c number solution in
+        none c there.0 there.1;
+  }
+
   pub not_both : (program : ProgramTree) → IsWrittenFor spec states bound program → HasNoSolution spec states bound → ⊥
   not_both program written none =
-      let there = solution_there written.question none.question written.asked none.asked written.controller written.number
-      written.solution in
-      none.none written.controller there.0 there.1
+      none.none written.question written.asked written.controller written.number written.solution
 
   -- nothing is asked where a limit of bits or of automata is passed
   pub not_asked : (q : QuestionTree) (limit : Limit) → (limit ≡ Clauses → ⊥) → IsAsked spec states bound q →

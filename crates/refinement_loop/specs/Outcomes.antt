@@ -52,11 +52,11 @@ pub record IsWrittenFor (spec : SpecTree) (states bound : ℕ) (program : Progra
   pub solution : IsSolution question controller number
   pub flow : IsFlowOf controller (spec_space spec) (inputs_of spec) (cells_of spec) (outputs_of spec) [] program
 
--- no controller answers the question
+-- the question can be asked, and no controller answers it, in whichever order the automaton's states and edges are numbered
 pub record HasNoSolution (spec : SpecTree) (states bound : ℕ) : Type 0 where
   pub question : QuestionTree
   pub asked : IsAsked spec states bound question
-  pub none : HasNoController question
+  pub none : (q : QuestionTree) → IsAsked spec states bound q → HasNoController q
 
 -- the question's automaton has so many states and these edges, and the clauses are a trace of so many that the encoding leads to
 pub record IsSpentOn (spec : SpecTree) (states bound budget automaton_states : ℕ) (edges : List EdgeTree) (clauses : List (List Lit))

@@ -8,6 +8,9 @@ ghost use Rattle.refinement_loop.specs.Outcomes.{IsAsked, HasRefineCause};
 
 use crate::errors::RefineError;
 use crate::outcome::Asked;
+use bounded_encoding::find_controller;
+use letter_space::space_of;
+use program_check::automaton_of;
 use std::alloc::Global;
 use tsl_terms::Spec;
 
@@ -29,5 +32,12 @@ pub fn ask(
     ensures found { IfOk result (λ a. IsFound (question_of a.automaton a.space states bound) budget a.found) }
     ensures cause { IfErr result (HasRefineCause (spec_tree spec.now) states bound) }
 {
-    Err(RefineError::NoMemory)
+    let space = space_of(alloc, spec)?;
+    let automaton = automaton_of(alloc, spec, &space)?;
+    let found = find_controller(alloc, &automaton, &space, states, bound, budget)?;
+    Ok(Asked {
+        space,
+        automaton,
+        found,
+    })
 }

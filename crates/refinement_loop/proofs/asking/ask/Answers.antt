@@ -1,0 +1,20 @@
+use Rattle.sequence.proofs.Results.{handed_on}
+use Rattle.tsl_terms.specs.SpecView.{spec_tree}
+use Rattle.bounded_encoding.specs.QuestionView.{question_of}
+use Rattle.refinement_loop.specs.Outcomes.{HasRefineCause}
+use Rattle.refinement_loop.specs.Refusals.{refused_encoding}
+use Rattle.refinement_loop.proofs.Answered.{asked_of, refused_question}
+use Rattle.refinement_loop.proofs.asking.ask.Goals as goal
+
+pub returns-in_err-found-clause-cause : goal.returns-in_err-found-clause-cause
+returns-in_err-found-clause-cause c =
+    let spec = spec_tree c.args.spec.now in
+    let space = c.in_ok-space.space in
+    let automaton = c.in_ok-automaton.automaton in
+    let made = c.in_ok-automaton.ensures in
+    let asked = asked_of spec space automaton c.args.states c.args.bound c.in_ok-space.ensures.space made.automaton made.few_states
+    made.few_edges in
+    handed_on c.from_residual-in_err-found.result (refused_encoding c.in_err-found.field-0.0)
+    (HasRefineCause spec c.args.states c.args.bound) c.from_residual-in_err-found.ensures.1
+    (refused_question spec c.args.states c.args.bound (question_of automaton space c.args.states c.args.bound) asked
+    c.in_err-found.field-0.0 c.in_err-found.ensures.refused)
