@@ -1,0 +1,6 @@
+pub mod EnvironmentMoves
+pub mod EnvironmentQuestion
+pub mod DualVariables
+pub mod DualEncoding
+pub mod DualDecoding
+pub mod DualAnswers

@@ -1,0 +1,18 @@
+//! Answers to the question for an environment.
+
+use annotation_check::Annotation;
+use clause_core::Clause;
+use machines::Environment;
+use refutation_check::Log;
+use sequence::Sequence;
+
+/// What a search for an environment came to.
+#[derive(Debug, Drop)]
+pub enum FoundDual {
+    /// This environment, with this annotation of it.
+    Environment(Environment, Annotation),
+    /// There is none: a log that refutes the question's clauses.
+    None(Log),
+    /// As many clauses as allowed were learnt, and these are they, in order: a trace.
+    Spent(Sequence<Clause>),
+}
