@@ -211,9 +211,9 @@ fn true_run(truths: &[bool], from: usize, count: u32) -> u32
     requires { from + count ≤ length truths.now }
     ensures { result ≡ prefix_len (λ i. assignment_of truths.now (from + i)) (below count) }
 {
-    for place in 0..count {
-        if !truths[from + place as usize] {
-            return place;
+    for number in 0..count {
+        if !truths[from + number as usize] {
+            return number;
         }
     }
     count
