@@ -17,3 +17,9 @@ pub mod Firsts
 pub mod Readings
 pub mod Signals
 pub mod Unpaired
+pub mod Adding
+pub mod Sizes
+pub mod Placed
+pub mod LeftOut
+pub mod Gathering
+pub mod Over

@@ -1,7 +1,6 @@
 -- What an answer to the question for a controller says.
 use Rattle.std.specs.Prelude.{◌≡◌, ◌≤◌, ℕ, ◌*◌, List, length, Option}
 use Rattle.clause_core.specs.Literals.{Lit}
-use Rattle.clause_core.specs.declared.formulas.Cnf.{Cnf}
 use Rattle.refutation_check.specs.declared.dimacs.TheConstants.{MOST_CLAUSES}
 use Rattle.refutation_check.specs.declared.steps.Step.{Step}
 use Rattle.sat_core.specs.Answers.{AreRefuting, IsWholeTrace}

@@ -1,1 +1,4 @@
 pub mod Reading
+pub mod Made
+pub mod Refusing
+pub mod Asking

@@ -9,14 +9,22 @@
 #![tactic(auto)]
 
 mod answers;
+mod asking;
+mod builder;
+mod controller_clauses;
+mod edge_literals;
 mod encoding;
+mod encoding_laws;
 mod errors;
 mod finding;
 mod laws;
 mod reading;
+mod simple_clauses;
+mod transition_clauses;
 
 pub use answers::Found;
 pub use encoding::encode;
+pub use encoding_laws::clauses_are_over_variables;
 pub use errors::EncodeError;
 pub use finding::find_controller;
 pub use laws::{

@@ -75,7 +75,7 @@ fn entries_read(
 }
 
 /// How many choices the signals have together.
-fn choices_in_all(space: &Space) -> usize
+pub(crate) fn choices_in_all(space: &Space) -> usize
     ensures value { result ≡ choice_count (space_tree space.now).controlled }
     ensures few { result ≤ 64 }
 {

@@ -1,0 +1,9 @@
+use Rattle.std.proofs.Common.{◌≡◌}
+use Rattle.bounded_encoding.specs.ClauseLists.{each}
+use Rattle.bounded_encoding.specs.Encoding.{nexts_in, next_clauses}
+use Rattle.bounded_encoding.specs.internal.Asking.{tree_of}
+use Rattle.bounded_encoding.specs.internal.Made.{with_clauses}
+use Rattle.bounded_encoding.proofs.controller_clauses.add_nexts.Given as goal
+
+abbrev pub invariant-loop-s : goal.invariant-loop-s
+invariant-loop-s l = with_clauses l.out (each l.s l.fn.question.states (nexts_in (tree_of l.fn.question))) ≡ with_clauses l.fn.out (next_clauses (tree_of l.fn.question))

@@ -1,0 +1,66 @@
+//! Clauses made so far.
+
+ghost use Rattle.std.specs.Prelude.{◌≡◌, ◌≤◌, ◌∷◌, [], length, OnOk};
+ghost use Rattle.bounded_encoding.specs.internal.Made.{with_clauses};
+ghost use Rattle.bounded_encoding.specs.internal.Refusing.{Refuses};
+
+use crate::errors::EncodeError;
+use clause_core::{Clause, Literal, clause_of, is_tautology};
+use sequence::Sequence;
+use std::alloc::Global;
+use std::marker::Model;
+
+/// Clauses made so far, and how many there may be at most.
+#[derive(Debug, Drop)]
+pub(crate) struct Builder {
+    list: Vec<Clause>,
+    limit: u64,
+}
+
+impl Model for Builder {
+    ghost use Rattle.std.specs.Prelude.{◌≤◌, length};
+    ghost use Rattle.bounded_encoding.specs.internal.Made.{Made};
+
+    ghost Value = { Made };
+
+    ghost view = { λ made. record { clauses = made.list.items; most = made.limit } };
+
+    ghost invariant = { λ made. length made.list.items ≤ made.limit };
+}
+
+impl Builder {
+    /// No clauses yet.
+    pub(crate) fn new(alloc: Global, limit: u64) -> Builder
+        ensures { result ≡ record { clauses = []; most = limit } }
+    {
+        Builder {
+            list: Vec::new(alloc),
+            limit,
+        }
+    }
+
+    /// The clauses.
+    pub(crate) fn into_list(self) -> Sequence<Clause>
+        ensures list { result ≡ self.clauses }
+        ensures within { length self.clauses ≤ self.most }
+    {
+        let Builder { list, .. } = self;
+        Sequence::from_vec(list)
+    }
+
+    /// Adds the clause of these literals, but for one with a literal and its negation.
+    pub(crate) fn add(&mut self, alloc: Global, literals: &[Literal]) -> Result<(), EncodeError>
+        ensures added { OnOk result (self.new ≡ with_clauses self.old (literals.now ∷ [])) }
+        ensures refused { Refuses result (with_clauses self.old (literals.now ∷ [])) }
+    {
+        let clause = clause_of(alloc, literals)?;
+        if is_tautology(&clause) {
+            return Ok(());
+        }
+        if self.list.len() as u64 >= self.limit {
+            return Err(EncodeError::Clauses);
+        }
+        self.list.push(clause)?;
+        Ok(())
+    }
+}

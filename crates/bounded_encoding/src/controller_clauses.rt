@@ -1,0 +1,244 @@
+//! The clauses of choices, next states and numbers.
+
+ghost use Rattle.std.specs.Prelude.{◌≡◌, ◌<◌, OnOk, All};
+ghost use Rattle.std.specs.List.{flat_map};
+ghost use Rattle.letter_space.specs.ControlledView.{controlled_tree};
+ghost use Rattle.bounded_encoding.specs.Encoding.{signal_clauses, choices_under, choices_in, choice_clauses};
+ghost use Rattle.bounded_encoding.specs.Encoding.{nexts_under, nexts_in, next_clauses, start_clauses};
+ghost use Rattle.bounded_encoding.specs.Encoding.{numbers_at, numbers_in, number_clauses};
+ghost use Rattle.bounded_encoding.specs.internal.Made.{with_clauses};
+ghost use Rattle.bounded_encoding.specs.internal.Refusing.{Refuses};
+ghost use Rattle.bounded_encoding.specs.internal.Asking.{tree_of, controlled_trees, IsPlaced, IsAsked};
+
+use crate::asking::{Question, choice_base, next_base, number_base};
+use crate::builder::Builder;
+use crate::errors::EncodeError;
+use crate::simple_clauses::{add_exactly_one, add_falling, add_true};
+use letter_space::Controlled;
+use std::alloc::Global;
+
+/// Adds that a signal takes one choice in a state under a valuation.
+fn add_signal(
+    alloc: Global,
+    out: &mut Builder,
+    question: &Question,
+    s: u32,
+    v: u32,
+    signal: &Controlled,
+) -> Result<(), EncodeError>
+    requires asked { IsAsked question.now }
+    requires state { s < question.now.states }
+    requires valuation { v < question.now.valuations }
+    requires placed { IsPlaced (tree_of question.now) (controlled_tree signal.now) }
+    ensures added { OnOk result (out.new ≡ with_clauses out.old (signal_clauses (tree_of question.now) s v (controlled_tree signal.now))) }
+    ensures refused { Refuses result (with_clauses out.old (signal_clauses (tree_of question.now) s v (controlled_tree signal.now))) }
+{
+    let base = choice_base(question, s, v);
+    let first = signal.first - question.predicates;
+    add_exactly_one(alloc, out, base, first, first + signal.choices.len() as u32)
+}
+
+/// Adds that each of some signals takes one choice in a state under a valuation.
+#[tactic(auto, using(crate::proofs::Adding::step, crate::proofs::Adding::stop, crate::proofs::Adding::end, crate::proofs::Adding::with_both, crate::proofs::Adding::beyond_more))]
+fn add_signals(
+    alloc: Global,
+    out: &mut Builder,
+    question: &Question,
+    s: u32,
+    v: u32,
+    signals: &[Controlled],
+) -> Result<(), EncodeError>
+    requires asked { IsAsked question.now }
+    requires state { s < question.now.states }
+    requires valuation { v < question.now.valuations }
+    requires placed { All (λ c. IsPlaced (tree_of question.now) (controlled_tree c)) signals.now }
+    ensures added { OnOk result (out.new ≡ with_clauses out.old (flat_map (λ c. signal_clauses (tree_of question.now) s v (controlled_tree c)) signals.now)) }
+    ensures refused { Refuses result (with_clauses out.old (flat_map (λ c. signal_clauses (tree_of question.now) s v (controlled_tree c)) signals.now)) }
+{
+    for signal in signals {
+        add_signal(alloc, out, question, s, v, signal)?;
+    }
+    Ok(())
+}
+
+/// Adds that each signal takes one choice in a state under a valuation.
+fn add_choices_under(
+    alloc: Global,
+    out: &mut Builder,
+    question: &Question,
+    s: u32,
+    v: u32,
+) -> Result<(), EncodeError>
+    requires asked { IsAsked question.now }
+    requires state { s < question.now.states }
+    requires valuation { v < question.now.valuations }
+    ensures added { OnOk result (out.new ≡ with_clauses out.old (choices_under (tree_of question.now) s v)) }
+    ensures refused { Refuses result (with_clauses out.old (choices_under (tree_of question.now) s v)) }
+{
+    add_signals(
+        alloc,
+        out,
+        question,
+        s,
+        v,
+        question.space.controlled.as_slice(),
+    )
+}
+
+/// Adds that each signal takes one choice in a state, under each valuation.
+#[tactic(auto, using(crate::proofs::Adding::step, crate::proofs::Adding::stop, crate::proofs::Adding::end, crate::proofs::Adding::with_both, crate::proofs::Adding::beyond_more))]
+fn add_choices_in(
+    alloc: Global,
+    out: &mut Builder,
+    question: &Question,
+    s: u32,
+) -> Result<(), EncodeError>
+    requires asked { IsAsked question.now }
+    requires state { s < question.now.states }
+    ensures added { OnOk result (out.new ≡ with_clauses out.old (choices_in (tree_of question.now) s)) }
+    ensures refused { Refuses result (with_clauses out.old (choices_in (tree_of question.now) s)) }
+{
+    for v in 0..question.valuations {
+        add_choices_under(alloc, out, question, s, v)?;
+    }
+    Ok(())
+}
+
+/// Adds that each signal takes one choice, in each state and under each valuation.
+#[tactic(auto, using(crate::proofs::Adding::step, crate::proofs::Adding::stop, crate::proofs::Adding::end, crate::proofs::Adding::with_both, crate::proofs::Adding::beyond_more))]
+pub(crate) fn add_choices(
+    alloc: Global,
+    out: &mut Builder,
+    question: &Question,
+) -> Result<(), EncodeError>
+    requires asked { IsAsked question.now }
+    ensures added { OnOk result (out.new ≡ with_clauses out.old (choice_clauses (tree_of question.now))) }
+    ensures refused { Refuses result (with_clauses out.old (choice_clauses (tree_of question.now))) }
+{
+    for s in 0..question.states {
+        add_choices_in(alloc, out, question, s)?;
+    }
+    Ok(())
+}
+
+/// Adds that a state has one next state under a valuation.
+fn add_nexts_under(
+    alloc: Global,
+    out: &mut Builder,
+    question: &Question,
+    s: u32,
+    v: u32,
+) -> Result<(), EncodeError>
+    requires asked { IsAsked question.now }
+    requires state { s < question.now.states }
+    requires valuation { v < question.now.valuations }
+    ensures added { OnOk result (out.new ≡ with_clauses out.old (nexts_under (tree_of question.now) s v)) }
+    ensures refused { Refuses result (with_clauses out.old (nexts_under (tree_of question.now) s v)) }
+{
+    let base = next_base(question, s, v);
+    add_exactly_one(alloc, out, base, 0, question.states)
+}
+
+/// Adds that a state has one next state under each valuation.
+#[tactic(auto, using(crate::proofs::Adding::step, crate::proofs::Adding::stop, crate::proofs::Adding::end, crate::proofs::Adding::with_both, crate::proofs::Adding::beyond_more))]
+fn add_nexts_in(
+    alloc: Global,
+    out: &mut Builder,
+    question: &Question,
+    s: u32,
+) -> Result<(), EncodeError>
+    requires asked { IsAsked question.now }
+    requires state { s < question.now.states }
+    ensures added { OnOk result (out.new ≡ with_clauses out.old (nexts_in (tree_of question.now) s)) }
+    ensures refused { Refuses result (with_clauses out.old (nexts_in (tree_of question.now) s)) }
+{
+    for v in 0..question.valuations {
+        add_nexts_under(alloc, out, question, s, v)?;
+    }
+    Ok(())
+}
+
+/// Adds that each state has one next state under each valuation.
+#[tactic(auto, using(crate::proofs::Adding::step, crate::proofs::Adding::stop, crate::proofs::Adding::end, crate::proofs::Adding::with_both, crate::proofs::Adding::beyond_more))]
+pub(crate) fn add_nexts(
+    alloc: Global,
+    out: &mut Builder,
+    question: &Question,
+) -> Result<(), EncodeError>
+    requires asked { IsAsked question.now }
+    ensures added { OnOk result (out.new ≡ with_clauses out.old (next_clauses (tree_of question.now))) }
+    ensures refused { Refuses result (with_clauses out.old (next_clauses (tree_of question.now))) }
+{
+    for s in 0..question.states {
+        add_nexts_in(alloc, out, question, s)?;
+    }
+    Ok(())
+}
+
+/// Adds that the pair of both starts is numbered.
+pub(crate) fn add_start(
+    alloc: Global,
+    out: &mut Builder,
+    question: &Question,
+) -> Result<(), EncodeError>
+    requires asked { IsAsked question.now }
+    ensures added { OnOk result (out.new ≡ with_clauses out.old (start_clauses (tree_of question.now))) }
+    ensures refused { Refuses result (with_clauses out.old (start_clauses (tree_of question.now))) }
+{
+    let base = number_base(question, 0, 0);
+    add_true(alloc, out, base)
+}
+
+/// Adds that the numbers of a pair fall.
+fn add_numbers_of(
+    alloc: Global,
+    out: &mut Builder,
+    question: &Question,
+    s: u32,
+    p: u32,
+) -> Result<(), EncodeError>
+    requires asked { IsAsked question.now }
+    requires state { s < question.now.states }
+    requires automaton_state { p < question.now.automaton.now.states }
+    ensures added { OnOk result (out.new ≡ with_clauses out.old (numbers_at (tree_of question.now) s p)) }
+    ensures refused { Refuses result (with_clauses out.old (numbers_at (tree_of question.now) s p)) }
+{
+    let base = number_base(question, s, p);
+    add_falling(alloc, out, base, question.bound)
+}
+
+/// Adds that the numbers of each pair of a state fall.
+#[tactic(auto, using(crate::proofs::Adding::step, crate::proofs::Adding::stop, crate::proofs::Adding::end, crate::proofs::Adding::with_both, crate::proofs::Adding::beyond_more))]
+fn add_numbers_in(
+    alloc: Global,
+    out: &mut Builder,
+    question: &Question,
+    s: u32,
+) -> Result<(), EncodeError>
+    requires asked { IsAsked question.now }
+    requires state { s < question.now.states }
+    ensures added { OnOk result (out.new ≡ with_clauses out.old (numbers_in (tree_of question.now) s)) }
+    ensures refused { Refuses result (with_clauses out.old (numbers_in (tree_of question.now) s)) }
+{
+    for p in 0..question.automaton.states {
+        add_numbers_of(alloc, out, question, s, p)?;
+    }
+    Ok(())
+}
+
+/// Adds that the numbers of each pair fall.
+#[tactic(auto, using(crate::proofs::Adding::step, crate::proofs::Adding::stop, crate::proofs::Adding::end, crate::proofs::Adding::with_both, crate::proofs::Adding::beyond_more))]
+pub(crate) fn add_numbers(
+    alloc: Global,
+    out: &mut Builder,
+    question: &Question,
+) -> Result<(), EncodeError>
+    requires asked { IsAsked question.now }
+    ensures added { OnOk result (out.new ≡ with_clauses out.old (number_clauses (tree_of question.now))) }
+    ensures refused { Refuses result (with_clauses out.old (number_clauses (tree_of question.now))) }
+{
+    for s in 0..question.states {
+        add_numbers_in(alloc, out, question, s)?;
+    }
+    Ok(())
+}
