@@ -30,3 +30,6 @@ pub use finding::find_controller;
 pub use laws::{
     assignments_give_controllers, controllers_give_assignments, variables_have_one_number,
 };
+
+#[cfg(test)]
+mod finding_tests;
