@@ -12,16 +12,18 @@ use Rattle.cobuchi_automata.specs.Automata.{EdgeTree}
 use Rattle.bounded_encoding.specs.Variables.{valuations_of, choices_in_all}
 use Rattle.bounded_encoding.specs.Encoding.{asked_literal, meeting, met_valuations}
 use Rattle.bounded_encoding.specs.declared.asking.Question.{Question}
-use Rattle.bounded_encoding.specs.internal.Asking.{tree_of, IsAsked}
+use Rattle.bounded_encoding.specs.internal.Asking.{tree_of, IsCounted}
 use Rattle.bounded_encoding.specs.ClauseLists.{between}
 use Rattle.bounded_encoding.proofs.Between.{between_more, between_none}
 
-passing : {X : Type 0} (t : Bool) (a : ℕ) (g : ℕ → X) (later : List ℕ) → map g (cond t (a ∷ later) later) ≡ cond t (g a ∷ []) [] ++ map g later
+passing : {X : Type 0} (t : Bool) (a : ℕ) (g : ℕ → X) (later : List ℕ) → map g (cond t (a ∷ later) later)
+    ≡ cond t (g a ∷ []) [] ++ map g later
 passing true a g later = refl
 passing false a g later = refl
 
 -- one turn, and the end
-pub gathered : {X : Type 0} (whole xs ys : List X) (a b : ℕ) (t : ℕ → Bool) (g : ℕ → X) → a < b → xs ++ map g (filter t (between a b)) ≡ whole
+pub gathered : {X : Type 0} (whole xs ys : List X) (a b : ℕ) (t : ℕ → Bool) (g : ℕ → X) → a < b → xs ++ map g (filter t (between a b))
+    ≡ whole
     → ys ≡ xs ++ cond (t a) (g a ∷ []) [] → ys ++ map g (filter t (between (a + 1) b)) ≡ whole
 gathered whole xs ys a b t g h e is =
     ap (λ (zs : List _). zs ++ map g (filter t (between (a + 1) b))) is
@@ -29,7 +31,8 @@ gathered whole xs ys a b t g h e is =
     ∙ (ap (λ (zs : List _). xs ++ zs) (sym (passing (t a) a g (filter t (between (a + 1) b))))
     ∙ (ap (λ (ns : List ℕ). xs ++ map g (filter t ns)) (sym (between_more a b h)) ∙ e)))
 
-pub gathered_all : {X : Type 0} (whole xs : List X) (a b : ℕ) (t : ℕ → Bool) (g : ℕ → X) → b ≤ a → xs ++ map g (filter t (between a b)) ≡ whole → xs ≡ whole
+pub gathered_all : {X : Type 0} (whole xs : List X) (a b : ℕ) (t : ℕ → Bool) (g : ℕ → X) → b ≤ a → xs ++ map g (filter t (between a b))
+    ≡ whole → xs ≡ whole
 gathered_all whole xs a b t g h e = sym (append-nil xs) ∙ (ap (λ (ns : List ℕ). xs ++ map g (filter t ns)) (sym (between_none a b h)) ∙ e)
 
 -- what is below a power is not reached beyond it
@@ -40,7 +43,7 @@ not_reached bits p q n h up low =
     a ∙ sym b
 
 -- the literal of a choice that an edge asks for
-pub asked_is : (q : Question) → IsAsked q → (e : EdgeTree) (s v b base : ℕ) (l : Lit) (wants : Bool)
+pub asked_is : (q : Question) → IsCounted q → (e : EdgeTree) (s v b base : ℕ) (l : Lit) (wants : Bool)
     → base ≡ (s * valuations_of (tree_of q) + v) * choices_in_all (tree_of q) → wants ≡ has_bit (q.predicates + b) e.want
     → l ≡ record { index = base + b; positive = not wants } → l ≡ asked_literal (tree_of q) e s v b
 asked_is q h e s v b base l wants starts want is =
@@ -60,10 +63,13 @@ pub met_below : (q : QuestionTree) (e : EdgeTree) → AllByRecursion (λ v. v < 
 met_below q e = by_test (nat_le (2 ^ bit_count q.space) e.want)
   where
     by_test : (out : Bool) → AllByRecursion (λ v. v < valuations_of q)
-        (cond out [] (meeting (length q.space.predicates) (e.care % 2 ^ length q.space.predicates) (e.want % 2 ^ length q.space.predicates)))
+        (cond out [] (meeting (length q.space.predicates) (e.care % 2 ^ length q.space.predicates)
+        (e.want % 2 ^ length q.space.predicates)))
     by_test true = tt
-    by_test false = below_filtered (valuations_of q) (cube_matches (e.care % 2 ^ length q.space.predicates) (e.want % 2 ^ length q.space.predicates))
+    by_test false = below_filtered (valuations_of q)
+        (cube_matches (e.care % 2 ^ length q.space.predicates) (e.want % 2 ^ length q.space.predicates))
         0 (valuations_of q) (omega arith)
 
-pub all_met_below : (q : Question) → IsAsked q → (e : EdgeTree) → All (λ v. v < q.valuations) (met_valuations (tree_of q) e)
-all_met_below q h e = rw h.valuations (All-from_recursion (λ v. v < valuations_of (tree_of q)) (met_valuations (tree_of q) e) (met_below (tree_of q) e))
+pub all_met_below : (q : Question) → IsCounted q → (e : EdgeTree) → All (λ v. v < q.valuations) (met_valuations (tree_of q) e)
+all_met_below q h e = rw h.valuations
+    (All-from_recursion (λ v. v < valuations_of (tree_of q)) (met_valuations (tree_of q) e) (met_below (tree_of q) e))

@@ -24,7 +24,8 @@ left_out clause l h g =
     rw paired refl
 
 -- nothing is kept of lists of which nothing is kept
-pub none_kept_range : (f : ℕ → List (List Lit)) (a n : ℕ) → ((x : ℕ) → a ≤ x → x < a + n → kept (f x) ≡ []) → kept (flat_map f (range_with_len a n)) ≡ []
+pub none_kept_range : (f : ℕ → List (List Lit)) (a n : ℕ) → ((x : ℕ) → a ≤ x → x < a + n → kept (f x) ≡ [])
+    → kept (flat_map f (range_with_len a n)) ≡ []
 none_kept_range f a zero h = refl
 none_kept_range f a (suc n) h =
     kept_both (f a) (flat_map f (range_with_len (a + 1) n))
@@ -38,7 +39,8 @@ none_kept_list f h [] = refl
 none_kept_list f h (x ∷ xs) = kept_both (f x) (flat_map f xs) ∙ rw (h x, none_kept_list f h xs) refl
 
 -- from a pair to itself by an edge that is not rejecting, nothing is kept
-after_itself : (e : EdgeTree) (i bound : ℕ) (rest : List Lit) (l : Lit) → e.rejecting ≡ false → i < bound + 1 → has (cond (nat_le (after_edge i e) bound) (l ∷ []) rest) l ≡ true
+after_itself : (e : EdgeTree) (i bound : ℕ) (rest : List Lit) (l : Lit) → e.rejecting ≡ false → i < bound + 1
+    → has (cond (nat_le (after_edge i e) bound) (l ∷ []) rest) l ≡ true
 after_itself e i bound rest l still low =
     let here : after_edge i e ≡ i = rw still (omega arith) in
     let within : nat_le (after_edge i e) bound ≡ true = rw here (grind (arith, low)) in
@@ -66,7 +68,8 @@ stays_left_out q e s v i same_state still low =
 
     later : has (asked_of_choices q e s v ++ numbered_after q e s i) (yes q (is_numbered s e.from i)) ≡ true
     later = has-append (asked_of_choices q e s v) (numbered_after q e s i) (yes q (is_numbered s e.from i))
-        ∙ or_right (has (asked_of_choices q e s v) (yes q (is_numbered s e.from i))) (has (numbered_after q e s i) (yes q (is_numbered s e.from i))) after
+        ∙ or_right (has (asked_of_choices q e s v) (yes q (is_numbered s e.from i)))
+        (has (numbered_after q e s i) (yes q (is_numbered s e.from i))) after
 
     last : has (transition_clause q s e v s i) (yes q (is_numbered s e.from i)) ≡ true
     last = or_right (same (no q (is_numbered s e.from i)) (yes q (is_numbered s e.from i)))
@@ -74,12 +77,14 @@ stays_left_out q e s v i same_state still low =
         (or_right (same (no q (goes_to s v s)) (yes q (is_numbered s e.from i)))
         (has (asked_of_choices q e s v ++ numbered_after q e s i) (yes q (is_numbered s e.from i))) later)
 
-pub nothing_stays : (q : QuestionTree) (e : EdgeTree) (s v t : ℕ) → s ≡ t → e.from ≡ e.to → e.rejecting ≡ false → kept (transitions_to q s e v t) ≡ []
+pub nothing_stays : (q : QuestionTree) (e : EdgeTree) (s v t : ℕ) → s ≡ t → e.from ≡ e.to → e.rejecting ≡ false
+    → kept (transitions_to q s e v t) ≡ []
 nothing_stays q e s v t same_place same_state still =
     subst (λ (x : ℕ). kept (transitions_to q s e v x) ≡ []) same_place
     (none_kept_each (λ i. transition_clause q s e v s i ∷ []) 0 (q.bound + 1) (λ i l m. stays_left_out q e s v i same_state still m))
 
-pub nothing_in_one_state : (q : QuestionTree) (e : EdgeTree) (s : ℕ) → q.states ≡ 1 → s ≡ 0 → e.from ≡ e.to → e.rejecting ≡ false → kept (transitions_along q s e) ≡ []
+pub nothing_in_one_state : (q : QuestionTree) (e : EdgeTree) (s : ℕ) → q.states ≡ 1 → s ≡ 0 → e.from ≡ e.to → e.rejecting ≡ false
+    → kept (transitions_along q s e) ≡ []
 nothing_in_one_state q e s single start same_state still =
     none_kept_list (transitions_under q s e) (λ v. none_kept_each (transitions_to q s e v) 0 q.states
     (λ t l m. nothing_stays q e s v t (omega (arith, single, start, m)) same_state still)) (met_valuations q e)
@@ -91,7 +96,8 @@ with_nothing m xs h = ap (λ (ys : List (List Lit)). record { clauses = m.clause
 -- a clause without a pair is kept
 implies_kept : (a b : ℕ) → a ≢ b → length (kept ((no_at a ∷ yes_at b ∷ []) ∷ [])) ≡ 1
 implies_kept a b differ =
-    let unpaired : has_pair (in_order (no_at a ∷ yes_at b ∷ [])) ≡ false = false_from_ne_true (has_pair (in_order (no_at a ∷ yes_at b ∷ []))) (λ h. refuted h) in
+    let unpaired : has_pair (in_order (no_at a ∷ yes_at b ∷ []))
+    ≡ false = false_from_ne_true (has_pair (in_order (no_at a ∷ yes_at b ∷ []))) (λ h. refuted h) in
     rw unpaired refl
   where
     one_of : (l : Lit) → has (no_at a ∷ yes_at b ∷ []) l ≡ true → (no_at a ≡ l) ⊎ (yes_at b ≡ l)
@@ -112,11 +118,13 @@ implies_kept a b differ =
         (one_of (negation pair.literal) (sym (has-in_order (no_at a ∷ yes_at b ∷ []) (negation pair.literal)) ∙ pair.other))
 
 -- how many are kept of lists of which as many are kept
-pub kept_range : (f : ℕ → List (List Lit)) (k a n : ℕ) → ((x : ℕ) → a ≤ x → x < a + n → length (kept (f x)) ≡ k) → length (kept (flat_map f (range_with_len a n))) ≡ n * k
+pub kept_range : (f : ℕ → List (List Lit)) (k a n : ℕ) → ((x : ℕ) → a ≤ x → x < a + n → length (kept (f x)) ≡ k)
+    → length (kept (flat_map f (range_with_len a n))) ≡ n * k
 kept_range f k a zero h = omega arith
 kept_range f k a (suc n) h =
     let here : length (kept (f a)) ≡ k = h a (omega arith) (omega arith) in
-    let later : length (kept (flat_map f (range_with_len (a + 1) n))) ≡ n * k = kept_range f k (a + 1) n (λ x l m. h x (omega (arith, l)) (omega (arith, m))) in
+    let later : length (kept (flat_map f (range_with_len (a + 1) n)))
+    ≡ n * k = kept_range f k (a + 1) n (λ x l m. h x (omega (arith, l)) (omega (arith, m))) in
     let all : suc n * k ≡ n * k + k = grind arith in
     rw (kept_both (f a) (flat_map f (range_with_len (a + 1) n)), length-append (kept (f a)) (kept (flat_map f (range_with_len (a + 1) n))))
     (omega (arith, here, later, all))

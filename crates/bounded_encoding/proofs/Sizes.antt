@@ -6,7 +6,7 @@ use Rattle.cobuchi_automata.specs.declared.build_error.TheConstants.{MOST_AUTOMA
 use Rattle.refutation_check.specs.declared.dimacs.TheConstants.{MOST_CLAUSES}
 use Rattle.bounded_encoding.specs.Variables.{valuations_of, choices_in_all}
 use Rattle.bounded_encoding.specs.declared.asking.Question.{Question}
-use Rattle.bounded_encoding.specs.internal.Asking.{tree_of, IsAsked}
+use Rattle.bounded_encoding.specs.internal.Asking.{tree_of, IsCounted}
 use Rattle.bounded_encoding.proofs.Posed.{is_posed}
 use Rattle.bounded_encoding.proofs.Adding.{row, in_table}
 
@@ -14,26 +14,29 @@ pub le_times : (a b : ℕ) → 1 ≤ b → a ≤ a * b
 le_times a b h = let e : a * 1 ≤ a * b = mul-le-mul_left a h in omega (arith, e)
 
 -- all variables, by the counts of the question
-pub few_counted : (q : Question) → IsAsked q
+pub few_counted : (q : Question) → IsCounted q
     → q.states * q.valuations * q.choices + q.states * q.valuations * q.states + q.states * q.automaton.now.states * (q.bound + 1) < 2 ^ 31
 few_counted q h = rw (h.valuations, h.choices) h.few
 
-pub few_cells : (q : Question) → IsAsked q → q.states * q.valuations < 2 ^ 31
+pub few_cells : (q : Question) → IsCounted q → q.states * q.valuations < 2 ^ 31
 few_cells q h = omega (arith, few_counted q h, le_times (q.states * q.valuations) q.states h.posed.has_state)
 
-pub few_pairs : (q : Question) → IsAsked q → q.states * q.automaton.now.states < 2 ^ 31
-few_pairs q h = let e : q.states * q.automaton.now.states ≤ q.states * q.automaton.now.states * (q.bound + 1) = le_times (q.states * q.automaton.now.states) (q.bound + 1) (omega arith) in omega (arith, few_counted q h, e)
+pub few_pairs : (q : Question) → IsCounted q → q.states * q.automaton.now.states < 2 ^ 31
+few_pairs q h = let e : q.states * q.automaton.now.states ≤ q.states * q.automaton.now.states * (q.bound + 1) = le_times
+    (q.states * q.automaton.now.states) (q.bound + 1) (omega arith) in omega (arith, few_counted q h, e)
 
 -- the indices of choices, of next states and of numbers
-pub choice_fits : (q : Question) → IsAsked q → (s v : ℕ) → s < q.states → v < q.valuations
-    → (s * q.valuations + v + 1 ≤ q.states * q.valuations) × ((s * q.valuations + v) * q.choices + q.choices ≤ q.states * q.valuations * q.choices)
+pub choice_fits : (q : Question) → IsCounted q → (s v : ℕ) → s < q.states → v < q.valuations
+    → (s * q.valuations + v + 1 ≤ q.states * q.valuations) ×
+    ((s * q.valuations + v) * q.choices + q.choices ≤ q.states * q.valuations * q.choices)
 choice_fits q h s v l m = (in_table q.states q.valuations s v l m, row q.states q.valuations q.choices s v l m)
 
-pub next_fits : (q : Question) → IsAsked q → (s v : ℕ) → s < q.states → v < q.valuations
-    → (s * q.valuations + v + 1 ≤ q.states * q.valuations) × ((s * q.valuations + v) * q.states + q.states ≤ q.states * q.valuations * q.states)
+pub next_fits : (q : Question) → IsCounted q → (s v : ℕ) → s < q.states → v < q.valuations
+    → (s * q.valuations + v + 1 ≤ q.states * q.valuations) ×
+    ((s * q.valuations + v) * q.states + q.states ≤ q.states * q.valuations * q.states)
 next_fits q h s v l m = (in_table q.states q.valuations s v l m, row q.states q.valuations q.states s v l m)
 
-pub number_fits : (q : Question) → IsAsked q → (s p : ℕ) → s < q.states → p < q.automaton.now.states
+pub number_fits : (q : Question) → IsCounted q → (s p : ℕ) → s < q.states → p < q.automaton.now.states
     → (s * q.automaton.now.states + p + 1 ≤ q.states * q.automaton.now.states)
     × ((s * q.automaton.now.states + p) * (q.bound + 1) + (q.bound + 1) ≤ q.states * q.automaton.now.states * (q.bound + 1))
 number_fits q h s p l m = (in_table q.states q.automaton.now.states s p l m, row q.states q.automaton.now.states (q.bound + 1) s p l m)
@@ -42,7 +45,8 @@ number_fits q h s p l m = (in_table q.states q.automaton.now.states s p l m, row
 few_valuations : (n : ℕ) → n ≤ 10 → 2 ^ n ≤ 1024
 few_valuations n h = pow_mono h
 
-pub variables_fit : (s v b p k : ℕ) → s ≤ 8 → v ≤ 1024 → b ≤ 64 → p ≤ 4096 → s * p * k ≤ 2000000 → s * v * b + s * v * s + s * p * (k + 1) < 2 ^ 31
+pub variables_fit : (s v b p k : ℕ) → s ≤ 8 → v ≤ 1024 → b ≤ 64 → p ≤ 4096 → s * p * k ≤ 2000000
+    → s * v * b + s * v * s + s * p * (k + 1) < 2 ^ 31
 variables_fit s v b p k few_s few_v few_b few_p few_k =
     let cells : s * v ≤ 8 * 1024 = mul-le-mul few_s few_v in
     let choices : s * v * b ≤ 8 * 1024 * 64 = mul-le-mul cells few_b in
@@ -59,7 +63,7 @@ bound_fits s p k some_s some_p few =
 
 pub is_asked : (q : Question) → 1 ≤ q.states → q.states ≤ 8 → q.automaton.now.states ≤ MOST_AUTOMATON_STATES
     → q.states * q.automaton.now.states * q.bound ≤ MOST_CLAUSES → q.predicates ≡ length (tree_of q).space.predicates
-    → q.valuations ≡ valuations_of (tree_of q) → q.choices ≡ choices_in_all (tree_of q) → IsAsked q
+    → q.valuations ≡ valuations_of (tree_of q) → q.choices ≡ choices_in_all (tree_of q) → IsCounted q
 is_asked q some_state few_states few_automaton few_numbers p v c = record {
   posed = is_posed q.automaton.now q.space.now q.states q.bound some_state;
   predicates = p;

@@ -5,7 +5,7 @@ ghost use Rattle.cobuchi_automata.specs.declared.build_error.TheConstants.{MOST_
 ghost use Rattle.refutation_check.specs.declared.dimacs.TheConstants.{MOST_CLAUSES};
 ghost use Rattle.bounded_encoding.specs.QuestionView.{question_of};
 ghost use Rattle.bounded_encoding.specs.Variables.{before_next, before_numbers, valuations_of, choices_in_all};
-ghost use Rattle.bounded_encoding.specs.internal.Asking.{tree_of, IsAsked};
+ghost use Rattle.bounded_encoding.specs.internal.Asking.{tree_of, IsCounted};
 
 use crate::reading::choices_in_all;
 use cobuchi_automata::Automaton;
@@ -41,7 +41,7 @@ pub(crate) fn question_asked<'a>(
     requires few_states { states ≤ 8 }
     requires few_automaton_states { automaton.now.states ≤ MOST_AUTOMATON_STATES }
     requires few_numbers { states * automaton.now.states * bound ≤ MOST_CLAUSES }
-    ensures asked { IsAsked result }
+    ensures asked { IsCounted result }
     ensures tree { tree_of result ≡ question_of automaton.now space.now states bound }
 {
     Question {
@@ -57,7 +57,7 @@ pub(crate) fn question_asked<'a>(
 
 /// The index of the first choice in a state under a valuation.
 pub(crate) fn choice_base(question: &Question, s: u32, v: u32) -> u32
-    requires asked { IsAsked question.now }
+    requires asked { IsCounted question.now }
     requires state { s < question.now.states }
     requires valuation { v < question.now.valuations }
     ensures value { result ≡ (s * valuations_of (tree_of question.now) + v) * choices_in_all (tree_of question.now) }
@@ -68,7 +68,7 @@ pub(crate) fn choice_base(question: &Question, s: u32, v: u32) -> u32
 
 /// The index of the first next state from a state under a valuation.
 pub(crate) fn next_base(question: &Question, s: u32, v: u32) -> u32
-    requires asked { IsAsked question.now }
+    requires asked { IsCounted question.now }
     requires state { s < question.now.states }
     requires valuation { v < question.now.valuations }
     ensures value { result ≡ before_next (tree_of question.now) + (s * valuations_of (tree_of question.now) + v) * question.now.states }
@@ -80,10 +80,11 @@ pub(crate) fn next_base(question: &Question, s: u32, v: u32) -> u32
 
 /// The index of the first number of a pair of states.
 pub(crate) fn number_base(question: &Question, s: u32, p: u32) -> u32
-    requires asked { IsAsked question.now }
+    requires asked { IsCounted question.now }
     requires state { s < question.now.states }
     requires automaton_state { p < question.now.automaton.now.states }
-    ensures value { result ≡ before_numbers (tree_of question.now) + (s * question.now.automaton.now.states + p) * (question.now.bound + 1) }
+    ensures value { result ≡ before_numbers (tree_of question.now) + (s * question.now.automaton.now.states + p) *
+        (question.now.bound + 1) }
     ensures room { result + question.now.bound + 1 < 2 ^ 31 }
 {
     question.states * question.valuations * question.choices

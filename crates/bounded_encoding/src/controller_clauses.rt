@@ -8,7 +8,7 @@ ghost use Rattle.bounded_encoding.specs.Encoding.{nexts_under, nexts_in, next_cl
 ghost use Rattle.bounded_encoding.specs.Encoding.{numbers_at, numbers_in, number_clauses};
 ghost use Rattle.bounded_encoding.specs.internal.Made.{with_clauses};
 ghost use Rattle.bounded_encoding.specs.internal.Refusing.{Refuses};
-ghost use Rattle.bounded_encoding.specs.internal.Asking.{tree_of, controlled_trees, IsPlaced, IsAsked};
+ghost use Rattle.bounded_encoding.specs.internal.Asking.{tree_of, controlled_trees, IsPlaced, IsCounted};
 
 use crate::asking::{Question, choice_base, next_base, number_base};
 use crate::builder::Builder;
@@ -26,7 +26,7 @@ fn add_signal(
     v: u32,
     signal: &Controlled,
 ) -> Result<(), EncodeError>
-    requires asked { IsAsked question.now }
+    requires asked { IsCounted question.now }
     requires state { s < question.now.states }
     requires valuation { v < question.now.valuations }
     requires placed { IsPlaced (tree_of question.now) (controlled_tree signal.now) }
@@ -39,7 +39,7 @@ fn add_signal(
 }
 
 /// Adds that each of some signals takes one choice in a state under a valuation.
-#[tactic(auto, using(crate::proofs::Adding::step, crate::proofs::Adding::stop, crate::proofs::Adding::end, crate::proofs::Adding::with_both, crate::proofs::Adding::beyond_more))]
+#[tactic(auto, using(crate::proofs::Adding::adding))]
 fn add_signals(
     alloc: Global,
     out: &mut Builder,
@@ -48,12 +48,14 @@ fn add_signals(
     v: u32,
     signals: &[Controlled],
 ) -> Result<(), EncodeError>
-    requires asked { IsAsked question.now }
+    requires asked { IsCounted question.now }
     requires state { s < question.now.states }
     requires valuation { v < question.now.valuations }
     requires placed { All (λ c. IsPlaced (tree_of question.now) (controlled_tree c)) signals.now }
-    ensures added { OnOk result (out.new ≡ with_clauses out.old (flat_map (λ c. signal_clauses (tree_of question.now) s v (controlled_tree c)) signals.now)) }
-    ensures refused { Refuses result (with_clauses out.old (flat_map (λ c. signal_clauses (tree_of question.now) s v (controlled_tree c)) signals.now)) }
+    ensures added { OnOk result (out.new
+        ≡ with_clauses out.old (flat_map (λ c. signal_clauses (tree_of question.now) s v (controlled_tree c)) signals.now)) }
+    ensures refused { Refuses result
+        (with_clauses out.old (flat_map (λ c. signal_clauses (tree_of question.now) s v (controlled_tree c)) signals.now)) }
 {
     for signal in signals {
         add_signal(alloc, out, question, s, v, signal)?;
@@ -69,7 +71,7 @@ fn add_choices_under(
     s: u32,
     v: u32,
 ) -> Result<(), EncodeError>
-    requires asked { IsAsked question.now }
+    requires asked { IsCounted question.now }
     requires state { s < question.now.states }
     requires valuation { v < question.now.valuations }
     ensures added { OnOk result (out.new ≡ with_clauses out.old (choices_under (tree_of question.now) s v)) }
@@ -86,14 +88,14 @@ fn add_choices_under(
 }
 
 /// Adds that each signal takes one choice in a state, under each valuation.
-#[tactic(auto, using(crate::proofs::Adding::step, crate::proofs::Adding::stop, crate::proofs::Adding::end, crate::proofs::Adding::with_both, crate::proofs::Adding::beyond_more))]
+#[tactic(auto, using(crate::proofs::Adding::adding))]
 fn add_choices_in(
     alloc: Global,
     out: &mut Builder,
     question: &Question,
     s: u32,
 ) -> Result<(), EncodeError>
-    requires asked { IsAsked question.now }
+    requires asked { IsCounted question.now }
     requires state { s < question.now.states }
     ensures added { OnOk result (out.new ≡ with_clauses out.old (choices_in (tree_of question.now) s)) }
     ensures refused { Refuses result (with_clauses out.old (choices_in (tree_of question.now) s)) }
@@ -105,13 +107,13 @@ fn add_choices_in(
 }
 
 /// Adds that each signal takes one choice, in each state and under each valuation.
-#[tactic(auto, using(crate::proofs::Adding::step, crate::proofs::Adding::stop, crate::proofs::Adding::end, crate::proofs::Adding::with_both, crate::proofs::Adding::beyond_more))]
+#[tactic(auto, using(crate::proofs::Adding::adding))]
 pub(crate) fn add_choices(
     alloc: Global,
     out: &mut Builder,
     question: &Question,
 ) -> Result<(), EncodeError>
-    requires asked { IsAsked question.now }
+    requires asked { IsCounted question.now }
     ensures added { OnOk result (out.new ≡ with_clauses out.old (choice_clauses (tree_of question.now))) }
     ensures refused { Refuses result (with_clauses out.old (choice_clauses (tree_of question.now))) }
 {
@@ -129,7 +131,7 @@ fn add_nexts_under(
     s: u32,
     v: u32,
 ) -> Result<(), EncodeError>
-    requires asked { IsAsked question.now }
+    requires asked { IsCounted question.now }
     requires state { s < question.now.states }
     requires valuation { v < question.now.valuations }
     ensures added { OnOk result (out.new ≡ with_clauses out.old (nexts_under (tree_of question.now) s v)) }
@@ -140,14 +142,14 @@ fn add_nexts_under(
 }
 
 /// Adds that a state has one next state under each valuation.
-#[tactic(auto, using(crate::proofs::Adding::step, crate::proofs::Adding::stop, crate::proofs::Adding::end, crate::proofs::Adding::with_both, crate::proofs::Adding::beyond_more))]
+#[tactic(auto, using(crate::proofs::Adding::adding))]
 fn add_nexts_in(
     alloc: Global,
     out: &mut Builder,
     question: &Question,
     s: u32,
 ) -> Result<(), EncodeError>
-    requires asked { IsAsked question.now }
+    requires asked { IsCounted question.now }
     requires state { s < question.now.states }
     ensures added { OnOk result (out.new ≡ with_clauses out.old (nexts_in (tree_of question.now) s)) }
     ensures refused { Refuses result (with_clauses out.old (nexts_in (tree_of question.now) s)) }
@@ -159,13 +161,13 @@ fn add_nexts_in(
 }
 
 /// Adds that each state has one next state under each valuation.
-#[tactic(auto, using(crate::proofs::Adding::step, crate::proofs::Adding::stop, crate::proofs::Adding::end, crate::proofs::Adding::with_both, crate::proofs::Adding::beyond_more))]
+#[tactic(auto, using(crate::proofs::Adding::adding))]
 pub(crate) fn add_nexts(
     alloc: Global,
     out: &mut Builder,
     question: &Question,
 ) -> Result<(), EncodeError>
-    requires asked { IsAsked question.now }
+    requires asked { IsCounted question.now }
     ensures added { OnOk result (out.new ≡ with_clauses out.old (next_clauses (tree_of question.now))) }
     ensures refused { Refuses result (with_clauses out.old (next_clauses (tree_of question.now))) }
 {
@@ -181,7 +183,7 @@ pub(crate) fn add_start(
     out: &mut Builder,
     question: &Question,
 ) -> Result<(), EncodeError>
-    requires asked { IsAsked question.now }
+    requires asked { IsCounted question.now }
     ensures added { OnOk result (out.new ≡ with_clauses out.old (start_clauses (tree_of question.now))) }
     ensures refused { Refuses result (with_clauses out.old (start_clauses (tree_of question.now))) }
 {
@@ -197,7 +199,7 @@ fn add_numbers_of(
     s: u32,
     p: u32,
 ) -> Result<(), EncodeError>
-    requires asked { IsAsked question.now }
+    requires asked { IsCounted question.now }
     requires state { s < question.now.states }
     requires automaton_state { p < question.now.automaton.now.states }
     ensures added { OnOk result (out.new ≡ with_clauses out.old (numbers_at (tree_of question.now) s p)) }
@@ -208,14 +210,14 @@ fn add_numbers_of(
 }
 
 /// Adds that the numbers of each pair of a state fall.
-#[tactic(auto, using(crate::proofs::Adding::step, crate::proofs::Adding::stop, crate::proofs::Adding::end, crate::proofs::Adding::with_both, crate::proofs::Adding::beyond_more))]
+#[tactic(auto, using(crate::proofs::Adding::adding))]
 fn add_numbers_in(
     alloc: Global,
     out: &mut Builder,
     question: &Question,
     s: u32,
 ) -> Result<(), EncodeError>
-    requires asked { IsAsked question.now }
+    requires asked { IsCounted question.now }
     requires state { s < question.now.states }
     ensures added { OnOk result (out.new ≡ with_clauses out.old (numbers_in (tree_of question.now) s)) }
     ensures refused { Refuses result (with_clauses out.old (numbers_in (tree_of question.now) s)) }
@@ -227,13 +229,13 @@ fn add_numbers_in(
 }
 
 /// Adds that the numbers of each pair fall.
-#[tactic(auto, using(crate::proofs::Adding::step, crate::proofs::Adding::stop, crate::proofs::Adding::end, crate::proofs::Adding::with_both, crate::proofs::Adding::beyond_more))]
+#[tactic(auto, using(crate::proofs::Adding::adding))]
 pub(crate) fn add_numbers(
     alloc: Global,
     out: &mut Builder,
     question: &Question,
 ) -> Result<(), EncodeError>
-    requires asked { IsAsked question.now }
+    requires asked { IsCounted question.now }
     ensures added { OnOk result (out.new ≡ with_clauses out.old (number_clauses (tree_of question.now))) }
     ensures refused { Refuses result (with_clauses out.old (number_clauses (tree_of question.now))) }
 {

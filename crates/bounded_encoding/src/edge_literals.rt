@@ -6,7 +6,7 @@ ghost use Rattle.cobuchi_automata.specs.Edges.{edge_tree};
 ghost use Rattle.annotation_check.specs.Annotations.{after_edge};
 ghost use Rattle.bounded_encoding.specs.ClauseLists.{below};
 ghost use Rattle.bounded_encoding.specs.Encoding.{met_valuations, asked_of_choices, numbered_after, transition_clause};
-ghost use Rattle.bounded_encoding.specs.internal.Asking.{tree_of, IsAsked, IsTransition};
+ghost use Rattle.bounded_encoding.specs.internal.Asking.{tree_of, IsCounted, IsWithinCounts};
 
 use crate::asking::{Question, choice_base, next_base, number_base};
 use crate::simple_clauses::literal;
@@ -86,7 +86,7 @@ pub(crate) fn met_valuations(
     question: &Question,
     edge: Edge,
 ) -> Result<Vec<u32>, NoMemory>
-    requires asked { IsAsked question.now }
+    requires asked { IsCounted question.now }
     ensures { IfOk result (λ met. met.items ≡ met_valuations (tree_of question.now) (edge_tree edge)) }
 {
     if reaches(edge.cube.want, question.predicates + question.choices) {
@@ -103,8 +103,8 @@ pub(crate) fn asked_of_choices(
     question: &Question,
     transition: Transition,
 ) -> Result<Vec<Literal>, NoMemory>
-    requires asked { IsAsked question.now }
-    requires transition { IsTransition question.now transition }
+    requires asked { IsCounted question.now }
+    requires transition { IsWithinCounts question.now transition }
     ensures { IfOk result (λ literals. literals.items
         ≡ asked_of_choices (tree_of question.now) (edge_tree transition.edge) transition.state transition.valuation) }
 {
@@ -135,7 +135,7 @@ fn push_numbered_after(
     t: u32,
     i: u32,
 ) -> Result<(), NoMemory>
-    requires asked { IsAsked question.now }
+    requires asked { IsCounted question.now }
     requires state { t < question.now.states }
     requires automaton_state { edge.to < question.now.automaton.now.states }
     requires number { i < question.now.bound + 1 }
@@ -160,11 +160,12 @@ pub(crate) fn transition_literals(
     t: u32,
     i: u32,
 ) -> Result<Vec<Literal>, NoMemory>
-    requires asked { IsAsked question.now }
-    requires transition { IsTransition question.now transition }
+    requires asked { IsCounted question.now }
+    requires transition { IsWithinCounts question.now transition }
     requires next { t < question.now.states }
     requires number { i < question.now.bound + 1 }
-    requires literals { asked.now ≡ asked_of_choices (tree_of question.now) (edge_tree transition.edge) transition.state transition.valuation }
+    requires literals { asked.now ≡ asked_of_choices (tree_of question.now)
+        (edge_tree transition.edge) transition.state transition.valuation }
     ensures { IfOk result (λ literals. literals.items
         ≡ transition_clause (tree_of question.now) transition.state (edge_tree transition.edge) transition.valuation t i) }
 {

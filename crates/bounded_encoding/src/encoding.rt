@@ -9,7 +9,7 @@ ghost use Rattle.bounded_encoding.specs.Encoding.{demands, encoding};
 ghost use Rattle.bounded_encoding.specs.declared.errors.EncodeError.TheVariants.{Clauses};
 ghost use Rattle.bounded_encoding.specs.internal.Made.{with_clauses};
 ghost use Rattle.bounded_encoding.specs.internal.Refusing.{Refuses};
-ghost use Rattle.bounded_encoding.specs.internal.Asking.{tree_of, IsAsked};
+ghost use Rattle.bounded_encoding.specs.internal.Asking.{tree_of, IsCounted};
 
 use crate::asking::{Question, question_asked};
 use crate::builder::Builder;
@@ -86,7 +86,7 @@ fn falling_count(states: u32, automaton_states: u32, bound: u32) -> u64
 
 /// How many variables there are.
 fn variables_in_all(question: &Question) -> u32
-    requires asked { IsAsked question.now }
+    requires asked { IsCounted question.now }
     ensures { result ≡ variable_count (tree_of question.now) }
 {
     question.states * question.valuations * question.choices
@@ -95,9 +95,9 @@ fn variables_in_all(question: &Question) -> u32
 }
 
 /// Adds all clauses of a question.
-#[tactic(auto, using(crate::proofs::Adding::with_both, crate::proofs::Adding::beyond_more))]
+#[tactic(auto, using(crate::proofs::Adding::adding))]
 fn add_demands(alloc: Global, out: &mut Builder, question: &Question) -> Result<(), EncodeError>
-    requires asked { IsAsked question.now }
+    requires asked { IsCounted question.now }
     ensures added { OnOk result (out.new ≡ with_clauses out.old (demands (tree_of question.now))) }
     ensures refused { Refuses result (with_clauses out.old (demands (tree_of question.now))) }
 {

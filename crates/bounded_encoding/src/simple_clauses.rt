@@ -49,7 +49,7 @@ fn add_not_both(alloc: Global, out: &mut Builder, a: u32, b: u32) -> Result<(), 
 }
 
 /// Adds for each later variable that it and this one are not both true.
-#[tactic(auto, using(crate::proofs::Adding::step, crate::proofs::Adding::stop, crate::proofs::Adding::end, crate::proofs::Adding::with_both, crate::proofs::Adding::beyond_more))]
+#[tactic(auto, using(crate::proofs::Adding::adding))]
 fn add_not_with(
     alloc: Global,
     out: &mut Builder,
@@ -69,7 +69,7 @@ fn add_not_with(
 }
 
 /// Adds that no two of the variables are true.
-#[tactic(auto, using(crate::proofs::Adding::step, crate::proofs::Adding::stop, crate::proofs::Adding::end, crate::proofs::Adding::with_both, crate::proofs::Adding::beyond_more))]
+#[tactic(auto, using(crate::proofs::Adding::adding))]
 fn add_no_two(
     alloc: Global,
     out: &mut Builder,
@@ -88,7 +88,7 @@ fn add_no_two(
 }
 
 /// Adds that exactly one of the variables is true.
-#[tactic(auto, using(crate::proofs::Adding::step, crate::proofs::Adding::stop, crate::proofs::Adding::end, crate::proofs::Adding::with_both, crate::proofs::Adding::beyond_more))]
+#[tactic(auto, using(crate::proofs::Adding::adding))]
 pub(crate) fn add_exactly_one(
     alloc: Global,
     out: &mut Builder,
@@ -115,7 +115,7 @@ fn add_implies(alloc: Global, out: &mut Builder, a: u32, b: u32) -> Result<(), E
 }
 
 /// Adds that the number of a pair is at least each number below one that it is at least.
-#[tactic(auto, using(crate::proofs::Adding::step, crate::proofs::Adding::stop, crate::proofs::Adding::end, crate::proofs::Adding::with_both, crate::proofs::Adding::beyond_more))]
+#[tactic(auto, using(crate::proofs::Adding::adding))]
 pub(crate) fn add_falling(
     alloc: Global,
     out: &mut Builder,

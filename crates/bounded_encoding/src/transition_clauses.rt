@@ -3,10 +3,11 @@
 ghost use Rattle.std.specs.Prelude.{◌≡◌, ◌<◌, ◌+◌, ◌∷◌, [], true, false, OnOk, All};
 ghost use Rattle.std.specs.List.{flat_map};
 ghost use Rattle.cobuchi_automata.specs.Edges.{edge_tree, IsBetween};
-ghost use Rattle.bounded_encoding.specs.Encoding.{asked_of_choices, transition_clause, transitions_to, transitions_under, transitions_along, transitions_in, transition_clauses};
+ghost use Rattle.bounded_encoding.specs.Encoding.{asked_of_choices, transition_clause, transitions_to, transitions_under};
+ghost use Rattle.bounded_encoding.specs.Encoding.{transitions_along, transitions_in, transition_clauses};
 ghost use Rattle.bounded_encoding.specs.internal.Made.{with_clauses};
 ghost use Rattle.bounded_encoding.specs.internal.Refusing.{Refuses};
-ghost use Rattle.bounded_encoding.specs.internal.Asking.{tree_of, IsAsked, IsTransition};
+ghost use Rattle.bounded_encoding.specs.internal.Asking.{tree_of, IsCounted, IsWithinCounts};
 
 use crate::asking::Question;
 use crate::builder::Builder;
@@ -26,11 +27,12 @@ fn add_transition(
     t: u32,
     i: u32,
 ) -> Result<(), EncodeError>
-    requires asked { IsAsked question.now }
-    requires transition { IsTransition question.now transition }
+    requires asked { IsCounted question.now }
+    requires transition { IsWithinCounts question.now transition }
     requires next { t < question.now.states }
     requires number { i < question.now.bound + 1 }
-    requires literals { asked.now ≡ asked_of_choices (tree_of question.now) (edge_tree transition.edge) transition.state transition.valuation }
+    requires literals { asked.now ≡ asked_of_choices (tree_of question.now)
+        (edge_tree transition.edge) transition.state transition.valuation }
     ensures added { OnOk result (out.new ≡ with_clauses out.old
         (transition_clause (tree_of question.now) transition.state (edge_tree transition.edge) transition.valuation t i ∷ [])) }
     ensures refused { Refuses result (with_clauses out.old
@@ -41,7 +43,7 @@ fn add_transition(
 }
 
 /// Adds the clauses of a transition to a state, one for each number.
-#[tactic(auto, using(crate::proofs::Adding::step, crate::proofs::Adding::stop, crate::proofs::Adding::end, crate::proofs::Adding::with_both, crate::proofs::Adding::beyond_more))]
+#[tactic(auto, using(crate::proofs::Adding::adding))]
 fn add_each_number(
     alloc: Global,
     out: &mut Builder,
@@ -50,10 +52,11 @@ fn add_each_number(
     asked: &[Literal],
     t: u32,
 ) -> Result<(), EncodeError>
-    requires asked { IsAsked question.now }
-    requires transition { IsTransition question.now transition }
+    requires asked { IsCounted question.now }
+    requires transition { IsWithinCounts question.now transition }
     requires next { t < question.now.states }
-    requires literals { asked.now ≡ asked_of_choices (tree_of question.now) (edge_tree transition.edge) transition.state transition.valuation }
+    requires literals { asked.now ≡ asked_of_choices (tree_of question.now)
+        (edge_tree transition.edge) transition.state transition.valuation }
     ensures added { OnOk result (out.new ≡ with_clauses out.old
         (transitions_to (tree_of question.now) transition.state (edge_tree transition.edge) transition.valuation t)) }
     ensures refused { Refuses result (with_clauses out.old
@@ -82,10 +85,11 @@ fn add_transitions_to(
     asked: &[Literal],
     t: u32,
 ) -> Result<(), EncodeError>
-    requires asked { IsAsked question.now }
-    requires transition { IsTransition question.now transition }
+    requires asked { IsCounted question.now }
+    requires transition { IsWithinCounts question.now transition }
     requires next { t < question.now.states }
-    requires literals { asked.now ≡ asked_of_choices (tree_of question.now) (edge_tree transition.edge) transition.state transition.valuation }
+    requires literals { asked.now ≡ asked_of_choices (tree_of question.now)
+        (edge_tree transition.edge) transition.state transition.valuation }
     ensures added { OnOk result (out.new ≡ with_clauses out.old
         (transitions_to (tree_of question.now) transition.state (edge_tree transition.edge) transition.valuation t)) }
     ensures refused { Refuses result (with_clauses out.old
@@ -98,7 +102,7 @@ fn add_transitions_to(
 }
 
 /// Adds the clauses of a transition to each state.
-#[tactic(auto, using(crate::proofs::Adding::step, crate::proofs::Adding::stop, crate::proofs::Adding::end, crate::proofs::Adding::with_both, crate::proofs::Adding::beyond_more))]
+#[tactic(auto, using(crate::proofs::Adding::adding))]
 fn add_each_next(
     alloc: Global,
     out: &mut Builder,
@@ -106,9 +110,10 @@ fn add_each_next(
     transition: Transition,
     asked: &[Literal],
 ) -> Result<(), EncodeError>
-    requires asked { IsAsked question.now }
-    requires transition { IsTransition question.now transition }
-    requires literals { asked.now ≡ asked_of_choices (tree_of question.now) (edge_tree transition.edge) transition.state transition.valuation }
+    requires asked { IsCounted question.now }
+    requires transition { IsWithinCounts question.now transition }
+    requires literals { asked.now ≡ asked_of_choices (tree_of question.now)
+        (edge_tree transition.edge) transition.state transition.valuation }
     ensures added { OnOk result (out.new ≡ with_clauses out.old
         (transitions_under (tree_of question.now) transition.state (edge_tree transition.edge) transition.valuation)) }
     ensures refused { Refuses result (with_clauses out.old
@@ -127,8 +132,8 @@ fn add_transitions_under(
     question: &Question,
     transition: Transition,
 ) -> Result<(), EncodeError>
-    requires asked { IsAsked question.now }
-    requires transition { IsTransition question.now transition }
+    requires asked { IsCounted question.now }
+    requires transition { IsWithinCounts question.now transition }
     ensures added { OnOk result (out.new ≡ with_clauses out.old
         (transitions_under (tree_of question.now) transition.state (edge_tree transition.edge) transition.valuation)) }
     ensures refused { Refuses result (with_clauses out.old
@@ -139,7 +144,7 @@ fn add_transitions_under(
 }
 
 /// Adds the clauses of a state and an edge, under each of some valuations.
-#[tactic(auto, using(crate::proofs::Adding::step, crate::proofs::Adding::stop, crate::proofs::Adding::end, crate::proofs::Adding::with_both, crate::proofs::Adding::beyond_more))]
+#[tactic(auto, using(crate::proofs::Adding::adding))]
 fn add_each_valuation(
     alloc: Global,
     out: &mut Builder,
@@ -148,12 +153,14 @@ fn add_each_valuation(
     edge: Edge,
     met: &[u32],
 ) -> Result<(), EncodeError>
-    requires asked { IsAsked question.now }
+    requires asked { IsCounted question.now }
     requires state { s < question.now.states }
     requires between { IsBetween question.now.automaton.now.states edge }
     requires met { All (λ v. v < question.now.valuations) met.now }
-    ensures added { OnOk result (out.new ≡ with_clauses out.old (flat_map (transitions_under (tree_of question.now) s (edge_tree edge)) met.now)) }
-    ensures refused { Refuses result (with_clauses out.old (flat_map (transitions_under (tree_of question.now) s (edge_tree edge)) met.now)) }
+    ensures added { OnOk result (out.new
+        ≡ with_clauses out.old (flat_map (transitions_under (tree_of question.now) s (edge_tree edge)) met.now)) }
+    ensures refused { Refuses result
+        (with_clauses out.old (flat_map (transitions_under (tree_of question.now) s (edge_tree edge)) met.now)) }
 {
     for v in met {
         let transition = Transition {
@@ -174,7 +181,7 @@ fn add_transitions_along(
     s: u32,
     edge: Edge,
 ) -> Result<(), EncodeError>
-    requires asked { IsAsked question.now }
+    requires asked { IsCounted question.now }
     requires state { s < question.now.states }
     requires between { IsBetween question.now.automaton.now.states edge }
     ensures added { OnOk result (out.new ≡ with_clauses out.old (transitions_along (tree_of question.now) s (edge_tree edge))) }
@@ -188,7 +195,7 @@ fn add_transitions_along(
 }
 
 /// Adds the clauses of a state and each of some edges.
-#[tactic(auto, using(crate::proofs::Adding::step, crate::proofs::Adding::stop, crate::proofs::Adding::end, crate::proofs::Adding::with_both, crate::proofs::Adding::beyond_more))]
+#[tactic(auto, using(crate::proofs::Adding::adding))]
 fn add_each_edge(
     alloc: Global,
     out: &mut Builder,
@@ -196,11 +203,13 @@ fn add_each_edge(
     s: u32,
     edges: &[Edge],
 ) -> Result<(), EncodeError>
-    requires asked { IsAsked question.now }
+    requires asked { IsCounted question.now }
     requires state { s < question.now.states }
     requires between { All (IsBetween question.now.automaton.now.states) edges.now }
-    ensures added { OnOk result (out.new ≡ with_clauses out.old (flat_map (λ e. transitions_along (tree_of question.now) s (edge_tree e)) edges.now)) }
-    ensures refused { Refuses result (with_clauses out.old (flat_map (λ e. transitions_along (tree_of question.now) s (edge_tree e)) edges.now)) }
+    ensures added { OnOk result (out.new
+        ≡ with_clauses out.old (flat_map (λ e. transitions_along (tree_of question.now) s (edge_tree e)) edges.now)) }
+    ensures refused { Refuses result
+        (with_clauses out.old (flat_map (λ e. transitions_along (tree_of question.now) s (edge_tree e)) edges.now)) }
 {
     for edge in edges {
         add_transitions_along(alloc, out, question, s, *edge)?;
@@ -215,7 +224,7 @@ fn add_transitions_in(
     question: &Question,
     s: u32,
 ) -> Result<(), EncodeError>
-    requires asked { IsAsked question.now }
+    requires asked { IsCounted question.now }
     requires state { s < question.now.states }
     ensures added { OnOk result (out.new ≡ with_clauses out.old (transitions_in (tree_of question.now) s)) }
     ensures refused { Refuses result (with_clauses out.old (transitions_in (tree_of question.now) s)) }
@@ -224,13 +233,13 @@ fn add_transitions_in(
 }
 
 /// Adds the clauses of all transitions.
-#[tactic(auto, using(crate::proofs::Adding::step, crate::proofs::Adding::stop, crate::proofs::Adding::end, crate::proofs::Adding::with_both, crate::proofs::Adding::beyond_more))]
+#[tactic(auto, using(crate::proofs::Adding::adding))]
 pub(crate) fn add_transitions(
     alloc: Global,
     out: &mut Builder,
     question: &Question,
 ) -> Result<(), EncodeError>
-    requires asked { IsAsked question.now }
+    requires asked { IsCounted question.now }
     ensures added { OnOk result (out.new ≡ with_clauses out.old (transition_clauses (tree_of question.now))) }
     ensures refused { Refuses result (with_clauses out.old (transition_clauses (tree_of question.now))) }
 {

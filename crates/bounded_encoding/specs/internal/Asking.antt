@@ -23,7 +23,7 @@ abbrev pub IsPlaced : QuestionTree → ControlledTree → Type 0
 IsPlaced q g = (length q.space.predicates ≤ g.first) × (g.first + length g.choices ≤ length q.space.predicates + choices_in_all q)
 
 -- What holds of a question that is asked: its counts are right, and its variables have numbers that fit.
-pub record IsAsked (q : Question) : Type 0 where
+pub record IsCounted (q : Question) : Type 0 where
   pub posed : IsPosed (tree_of q)
   pub predicates : q.predicates ≡ length (tree_of q).space.predicates
   pub valuations : q.valuations ≡ valuations_of (tree_of q)
@@ -32,7 +32,7 @@ pub record IsAsked (q : Question) : Type 0 where
   pub low_bound : q.bound + 1 < 2 ^ 31
 
 -- a transition of a question: its state, its valuation and the states of its edge are in range
-pub record IsTransition (q : Question) (transition : Transition) : Type 0 where
+pub record IsWithinCounts (q : Question) (transition : Transition) : Type 0 where
   pub state : transition.state < q.states
   pub valuation : transition.valuation < q.valuations
   pub from : transition.edge.from < q.automaton.now.states

@@ -5,7 +5,9 @@ use Rattle.bounded_encoding.proofs.controller_clauses.add_nexts.Goals as goal
 
 pub returns-in_err-add_nexts_in-clause-refused : goal.returns-in_err-add_nexts_in-clause-refused
 returns-in_err-add_nexts_in-clause-refused c = passed_on _ _ _ c.from_residual.ensures.1
-    (λ is. stop _ _ _ _ (nexts_in (tree_of c.args.question.now)) c.loop-s-test.true c.loop-s.invariant (c.in_err-add_nexts_in.ensures.refused is))
+    (λ is. stop _ _ _ _ (nexts_in (tree_of c.args.question.now)) c.loop-s-test.true c.loop-s.invariant
+    (c.in_err-add_nexts_in.ensures.refused is))
 
 pub loop-s-preserved : goal.loop-s-preserved
-loop-s-preserved c = step _ _ _ _ _ (nexts_in (tree_of c.args.question.now)) c.loop-s-test.true c.loop-s.invariant c.in_ok-add_nexts_in.ensures.added
+loop-s-preserved c = step _ _ _ _ _
+    (nexts_in (tree_of c.args.question.now)) c.loop-s-test.true c.loop-s.invariant c.in_ok-add_nexts_in.ensures.added

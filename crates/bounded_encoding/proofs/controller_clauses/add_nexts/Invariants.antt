@@ -6,4 +6,5 @@ use Rattle.bounded_encoding.specs.internal.Made.{with_clauses}
 use Rattle.bounded_encoding.proofs.controller_clauses.add_nexts.Given as goal
 
 abbrev pub invariant-loop-s : goal.invariant-loop-s
-invariant-loop-s l = with_clauses l.out (each l.s l.fn.question.states (nexts_in (tree_of l.fn.question))) ≡ with_clauses l.fn.out (next_clauses (tree_of l.fn.question))
+invariant-loop-s l = with_clauses l.out (each l.s l.fn.question.states (nexts_in (tree_of l.fn.question)))
+    ≡ with_clauses l.fn.out (next_clauses (tree_of l.fn.question))

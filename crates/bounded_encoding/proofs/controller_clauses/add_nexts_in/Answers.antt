@@ -6,10 +6,13 @@ use Rattle.bounded_encoding.proofs.controller_clauses.add_nexts_in.Goals as goal
 
 pub returns-in_err-add_nexts_under-clause-refused : goal.returns-in_err-add_nexts_under-clause-refused
 returns-in_err-add_nexts_under-clause-refused c = passed_on _ _ _ c.from_residual.ensures.1
-    (λ is. stop _ _ _ _ (nexts_under (tree_of c.args.question.now) c.args.s) (omega (arith, c.loop-v-test.true, c.requires.asked.valuations)) c.loop-v.invariant (c.in_err-add_nexts_under.ensures.refused is))
+    (λ is. stop _ _ _ _ (nexts_under (tree_of c.args.question.now) c.args.s)
+    (omega (arith, c.loop-v-test.true, c.requires.asked.valuations)) c.loop-v.invariant (c.in_err-add_nexts_under.ensures.refused is))
 
 pub loop-v-preserved : goal.loop-v-preserved
-loop-v-preserved c = step _ _ _ _ _ (nexts_under (tree_of c.args.question.now) c.args.s) (omega (arith, c.loop-v-test.true, c.requires.asked.valuations)) c.loop-v.invariant c.in_ok-add_nexts_under.ensures.added
+loop-v-preserved c = step _ _ _ _ _ (nexts_under (tree_of c.args.question.now) c.args.s)
+    (omega (arith, c.loop-v-test.true, c.requires.asked.valuations)) c.loop-v.invariant c.in_ok-add_nexts_under.ensures.added
 
 pub returns-clause-added : goal.returns-clause-added
-returns-clause-added c = end _ _ _ _ (nexts_under (tree_of c.args.question.now) c.args.s) (omega (arith, c.loop-v-test.false, c.requires.asked.valuations)) c.loop-v.invariant
+returns-clause-added c = end _ _ _ _ (nexts_under (tree_of c.args.question.now) c.args.s)
+    (omega (arith, c.loop-v-test.false, c.requires.asked.valuations)) c.loop-v.invariant

@@ -7,4 +7,5 @@ use Rattle.bounded_encoding.specs.internal.Made.{with_clauses}
 use Rattle.bounded_encoding.proofs.controller_clauses.add_nexts_in.Given as goal
 
 abbrev pub invariant-loop-v : goal.invariant-loop-v
-invariant-loop-v l = with_clauses l.out (each l.v (valuations_of (tree_of l.fn.question)) (nexts_under (tree_of l.fn.question) l.s)) ≡ with_clauses l.fn.out (nexts_in (tree_of l.fn.question) l.s)
+invariant-loop-v l = with_clauses l.out (each l.v (valuations_of (tree_of l.fn.question)) (nexts_under (tree_of l.fn.question) l.s))
+    ≡ with_clauses l.fn.out (nexts_in (tree_of l.fn.question) l.s)

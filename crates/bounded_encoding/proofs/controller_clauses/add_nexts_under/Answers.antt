@@ -5,5 +5,6 @@ use Rattle.bounded_encoding.specs.internal.Refusing.{Refuses}
 use Rattle.bounded_encoding.proofs.controller_clauses.add_nexts_under.Goals as goal
 
 pub returns-clause-refused : goal.returns-clause-refused
-returns-clause-refused c = subst (λ (b : ℕ). Refuses c.add_exactly_one.result (with_clauses c.args.out.now (exactly_one (λ t. b + t) 0 c.args.question.now.states)))
+returns-clause-refused c = subst
+    (λ (b : ℕ). Refuses c.add_exactly_one.result (with_clauses c.args.out.now (exactly_one (λ t. b + t) 0 c.args.question.now.states)))
     c.next_base-base.ensures.value c.add_exactly_one.ensures.refused

@@ -6,4 +6,5 @@ use Rattle.bounded_encoding.specs.internal.Made.{with_clauses}
 use Rattle.bounded_encoding.proofs.controller_clauses.add_numbers.Given as goal
 
 abbrev pub invariant-loop-s : goal.invariant-loop-s
-invariant-loop-s l = with_clauses l.out (each l.s l.fn.question.states (numbers_in (tree_of l.fn.question))) ≡ with_clauses l.fn.out (number_clauses (tree_of l.fn.question))
+invariant-loop-s l = with_clauses l.out (each l.s l.fn.question.states (numbers_in (tree_of l.fn.question)))
+    ≡ with_clauses l.fn.out (number_clauses (tree_of l.fn.question))

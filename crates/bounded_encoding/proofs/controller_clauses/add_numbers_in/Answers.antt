@@ -5,7 +5,9 @@ use Rattle.bounded_encoding.proofs.controller_clauses.add_numbers_in.Goals as go
 
 pub returns-in_err-add_numbers_of-clause-refused : goal.returns-in_err-add_numbers_of-clause-refused
 returns-in_err-add_numbers_of-clause-refused c = passed_on _ _ _ c.from_residual.ensures.1
-    (λ is. stop _ _ _ _ (numbers_at (tree_of c.args.question.now) c.args.s) c.loop-p-test.true c.loop-p.invariant (c.in_err-add_numbers_of.ensures.refused is))
+    (λ is. stop _ _ _ _ (numbers_at (tree_of c.args.question.now) c.args.s) c.loop-p-test.true c.loop-p.invariant
+    (c.in_err-add_numbers_of.ensures.refused is))
 
 pub loop-p-preserved : goal.loop-p-preserved
-loop-p-preserved c = step _ _ _ _ _ (numbers_at (tree_of c.args.question.now) c.args.s) c.loop-p-test.true c.loop-p.invariant c.in_ok-add_numbers_of.ensures.added
+loop-p-preserved c = step _ _ _ _ _ (numbers_at (tree_of c.args.question.now) c.args.s) c.loop-p-test.true c.loop-p.invariant
+    c.in_ok-add_numbers_of.ensures.added

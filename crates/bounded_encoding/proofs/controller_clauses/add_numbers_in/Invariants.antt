@@ -6,4 +6,5 @@ use Rattle.bounded_encoding.specs.internal.Made.{with_clauses}
 use Rattle.bounded_encoding.proofs.controller_clauses.add_numbers_in.Given as goal
 
 abbrev pub invariant-loop-p : goal.invariant-loop-p
-invariant-loop-p l = with_clauses l.out (each l.p l.fn.question.automaton.now.states (numbers_at (tree_of l.fn.question) l.s)) ≡ with_clauses l.fn.out (numbers_in (tree_of l.fn.question) l.s)
+invariant-loop-p l = with_clauses l.out (each l.p l.fn.question.automaton.now.states (numbers_at (tree_of l.fn.question) l.s))
+    ≡ with_clauses l.fn.out (numbers_in (tree_of l.fn.question) l.s)

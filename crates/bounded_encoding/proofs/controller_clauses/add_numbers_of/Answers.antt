@@ -5,5 +5,6 @@ use Rattle.bounded_encoding.specs.internal.Refusing.{Refuses}
 use Rattle.bounded_encoding.proofs.controller_clauses.add_numbers_of.Goals as goal
 
 pub returns-clause-refused : goal.returns-clause-refused
-returns-clause-refused c = subst (λ (b : ℕ). Refuses c.add_falling.result (with_clauses c.args.out.now (falling (λ i. b + i) c.args.question.now.bound)))
+returns-clause-refused c = subst
+    (λ (b : ℕ). Refuses c.add_falling.result (with_clauses c.args.out.now (falling (λ i. b + i) c.args.question.now.bound)))
     c.number_base-base.ensures.value c.add_falling.ensures.refused

@@ -8,8 +8,11 @@ use Rattle.bounded_encoding.proofs.edge_literals.asked_of_choices.Goals as goal
 
 pub loop-b-preserved : goal.loop-b-preserved
 loop-b-preserved c =
-    let is : c.literal-unwanted.result ≡ asked_literal (tree_of c.args.question.now) (edge_tree c.args.transition.edge) c.args.transition.state c.args.transition.valuation c.loop-b.b =
-    asked_is c.args.question.now c.requires.asked (edge_tree c.args.transition.edge) c.args.transition.state c.args.transition.valuation c.loop-b.b _ _ _
+    let is : c.literal-unwanted.result
+    ≡ asked_literal (tree_of c.args.question.now)
+    (edge_tree c.args.transition.edge) c.args.transition.state c.args.transition.valuation c.loop-b.b =
+    asked_is c.args.question.now c.requires.asked (edge_tree c.args.transition.edge) c.args.transition.state c.args.transition.valuation
+    c.loop-b.b _ _ _
     c.choice_base-base.ensures.value c.has_bit.ensures c.literal-unwanted.ensures in
     let asks : c.has_bit-in-loop-b.result ≡ asks_choice (tree_of c.args.question.now) (edge_tree c.args.transition.edge) c.loop-b.b =
     c.has_bit-in-loop-b.ensures ∙ ap (λ (n : ℕ). has_bit (n + c.loop-b.b) c.args.transition.edge.cube.care) c.requires.asked.predicates in

@@ -6,7 +6,8 @@ use Rattle.bounded_encoding.proofs.edge_literals.meeting_below.Goals as goal
 
 pub loop-v-preserved : goal.loop-v-preserved
 loop-v-preserved c = gathered _ _ _ _ _ (cube_matches c.args.care c.args.want) (λ n. n) c.loop-v-test.true c.loop-v.invariant
-    (c.in_ok-push_number_if.ensures ∙ ap (λ (n : ℕ). c.loop-v.met.items ++ cond (cube_matches c.args.care c.args.want n) (c.loop-v.v ∷ []) []) c.from.ensures)
+    (c.in_ok-push_number_if.ensures
+    ∙ ap (λ (n : ℕ). c.loop-v.met.items ++ cond (cube_matches c.args.care c.args.want n) (c.loop-v.v ∷ []) []) c.from.ensures)
 
 pub returns : goal.returns
 returns c = gathered_all _ _ _ _ (cube_matches c.args.care c.args.want) (λ n. n) c.loop-v-test.false c.loop-v.invariant ∙ map-id _

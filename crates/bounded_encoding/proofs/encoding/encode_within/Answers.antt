@@ -12,14 +12,20 @@ use Rattle.bounded_encoding.proofs.encoding.encode_within.Goals as goal
 
 pub returns-then-falling_count-limit-clause-refused : goal.returns-then-falling_count-limit-clause-refused
 returns-then-falling_count-limit-clause-refused c =
-    λ is. omega (arith, numbers_within (question_of c.args.automaton.now c.args.space.now c.args.states c.args.bound), c.falling_count.ensures, c.if-falling_count-limit.true)
+    λ is. omega (
+      arith,
+      numbers_within (question_of c.args.automaton.now c.args.space.now c.args.states c.args.bound),
+      c.falling_count.ensures,
+      c.if-falling_count-limit.true,
+    )
 
 pub invariant_of-result : goal.invariant_of-result
 invariant_of-result c =
     let asked = c.question_asked-question.ensures.asked in
     let listed : c.into_list.result ≡ encoding (tree_of c.question_asked-question.result) =
     c.into_list.ensures.list ∙ ap (λ (m : Made). m.clauses)
-    (c.in_ok-add_demands.ensures.added ∙ ap (λ (m : Made). with_clauses m (demands (tree_of c.question_asked-question.result))) c.new-out.ensures) in
+    (c.in_ok-add_demands.ensures.added
+    ∙ ap (λ (m : Made). with_clauses m (demands (tree_of c.question_asked-question.result))) c.new-out.ensures) in
     record {
       few = omega (arith, c.variables_in_all-variables.ensures, asked.few);
       over = subst (λ (n : ℕ). All (IsOver n) c.into_list.result) (sym c.variables_in_all-variables.ensures)

@@ -5,4 +5,5 @@ use Rattle.bounded_encoding.specs.internal.Made.{with_clauses}
 use Rattle.bounded_encoding.proofs.simple_clauses.add_no_two.Given as goal
 
 abbrev pub invariant-loop-x : goal.invariant-loop-x
-invariant-loop-x l = with_clauses l.out (each l.x l.to (λ x. no_two_with (λ z. l.base + z) x l.to)) ≡ with_clauses l.fn.out (no_two (λ z. l.base + z) l.from l.to)
+invariant-loop-x l = with_clauses l.out (each l.x l.to (λ x. no_two_with (λ z. l.base + z) x l.to))
+    ≡ with_clauses l.fn.out (no_two (λ z. l.base + z) l.from l.to)

@@ -6,4 +6,5 @@ use Rattle.bounded_encoding.specs.internal.Made.{with_clauses}
 use Rattle.bounded_encoding.proofs.simple_clauses.add_not_with.Given as goal
 
 abbrev pub invariant-loop-y : goal.invariant-loop-y
-invariant-loop-y l = with_clauses l.out (each l.y l.to (λ y. (no_at (l.base + l.x) ∷ no_at (l.base + y) ∷ []) ∷ [])) ≡ with_clauses l.fn.out (no_two_with (λ z. l.base + z) l.x l.to)
+invariant-loop-y l = with_clauses l.out (each l.y l.to (λ y. (no_at (l.base + l.x) ∷ no_at (l.base + y) ∷ []) ∷ []))
+    ≡ with_clauses l.fn.out (no_two_with (λ z. l.base + z) l.x l.to)

@@ -6,8 +6,10 @@ use Rattle.bounded_encoding.proofs.transition_clauses.add_each_edge.Goals as goa
 
 pub returns-in_err-add_transitions_along-clause-refused : goal.returns-in_err-add_transitions_along-clause-refused
 returns-in_err-add_transitions_along-clause-refused c = passed_on _ _ _ c.from_residual.ensures.1
-    (λ is. stop_item _ _ _ _ _ (λ e. transitions_along (tree_of c.args.question.now) c.args.s (edge_tree e)) c.loop-edge-test.true c.edge-item.is c.loop-edge.invariant (c.in_err-add_transitions_along.ensures.refused is))
+    (λ is. stop_item _ _ _ _ _ (λ e. transitions_along (tree_of c.args.question.now) c.args.s (edge_tree e)) c.loop-edge-test.true
+    c.edge-item.is c.loop-edge.invariant (c.in_err-add_transitions_along.ensures.refused is))
 
 pub loop-edge-preserved : goal.loop-edge-preserved
-loop-edge-preserved c = step_item _ _ _ _ _ _ (λ e. transitions_along (tree_of c.args.question.now) c.args.s (edge_tree e)) c.loop-edge-test.true c.edge-item.is c.loop-edge.invariant
+loop-edge-preserved c = step_item _ _ _ _ _ _
+    (λ e. transitions_along (tree_of c.args.question.now) c.args.s (edge_tree e)) c.loop-edge-test.true c.edge-item.is c.loop-edge.invariant
     c.in_ok-add_transitions_along.ensures.added

@@ -7,5 +7,6 @@ use Rattle.bounded_encoding.specs.internal.Asking.{tree_of}
 use Rattle.bounded_encoding.proofs.transition_clauses.add_each_edge.Given as goal
 
 abbrev pub invariant-loop-edge : goal.invariant-loop-edge
-invariant-loop-edge l = with_clauses l.out (flat_map (λ e. transitions_along (tree_of l.fn.question) l.fn.s (edge_tree e)) (drop l.edge-index l.edges))
+invariant-loop-edge l = with_clauses l.out
+    (flat_map (λ e. transitions_along (tree_of l.fn.question) l.fn.s (edge_tree e)) (drop l.edge-index l.edges))
     ≡ with_clauses l.fn.out (flat_map (λ e. transitions_along (tree_of l.fn.question) l.fn.s (edge_tree e)) l.edges)

@@ -7,9 +7,12 @@ use Rattle.bounded_encoding.proofs.transition_clauses.add_each_number.Goals as g
 
 pub returns-in_err-add_transition-clause-refused : goal.returns-in_err-add_transition-clause-refused
 returns-in_err-add_transition-clause-refused c = passed_on _ _ _ c.from_residual.ensures.1
-    (λ is. stop _ _ _ _ (λ i. transition_clause (tree_of c.args.question.now) c.args.transition.state (edge_tree c.args.transition.edge) c.args.transition.valuation c.args.t i ∷ [])
+    (λ is. stop _ _ _ _ (λ i. transition_clause (tree_of c.args.question.now) c.args.transition.state
+    (edge_tree c.args.transition.edge) c.args.transition.valuation c.args.t i ∷ [])
     c.loop-i-test.true c.loop-i.invariant (c.in_err-add_transition.ensures.refused is))
 
 pub loop-i-preserved : goal.loop-i-preserved
-loop-i-preserved c = step _ _ _ _ _ (λ i. transition_clause (tree_of c.args.question.now) c.args.transition.state (edge_tree c.args.transition.edge) c.args.transition.valuation c.args.t i ∷ [])
+loop-i-preserved c = step _ _ _ _ _
+    (λ i. transition_clause (tree_of c.args.question.now) c.args.transition.state
+    (edge_tree c.args.transition.edge) c.args.transition.valuation c.args.t i ∷ [])
     c.loop-i-test.true c.loop-i.invariant c.in_ok-add_transition.ensures.added

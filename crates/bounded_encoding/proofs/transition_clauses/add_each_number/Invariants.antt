@@ -7,5 +7,9 @@ use Rattle.bounded_encoding.specs.internal.Made.{with_clauses}
 use Rattle.bounded_encoding.proofs.transition_clauses.add_each_number.Given as goal
 
 abbrev pub invariant-loop-i : goal.invariant-loop-i
-invariant-loop-i l = with_clauses l.out (each l.i (l.fn.question.bound + 1) (λ i. transition_clause (tree_of l.fn.question) l.fn.transition.state (edge_tree l.fn.transition.edge) l.fn.transition.valuation l.fn.t i ∷ []))
-    ≡ with_clauses l.fn.out (transitions_to (tree_of l.fn.question) l.fn.transition.state (edge_tree l.fn.transition.edge) l.fn.transition.valuation l.fn.t)
+invariant-loop-i l = with_clauses l.out
+    (each l.i (l.fn.question.bound + 1)
+    (λ i. transition_clause (tree_of l.fn.question) l.fn.transition.state
+    (edge_tree l.fn.transition.edge) l.fn.transition.valuation l.fn.t i ∷ []))
+    ≡ with_clauses l.fn.out (transitions_to (tree_of l.fn.question) l.fn.transition.state
+    (edge_tree l.fn.transition.edge) l.fn.transition.valuation l.fn.t)

@@ -10,13 +10,15 @@ use Rattle.bounded_encoding.specs.internal.Refusing.{Refuses}
 use Rattle.bounded_encoding.specs.internal.Asking.{tree_of}
 use Rattle.bounded_encoding.proofs.transition_clauses.add_transitions_in.Goals as goal
 
-listed : (c : goal.After-add_each_edge) → flat_map (λ e. transitions_along (tree_of c.args.question.now) c.args.s (edge_tree e)) c.as_slice.result.now
+listed : (c : goal.After-add_each_edge)
+    → flat_map (λ e. transitions_along (tree_of c.args.question.now) c.args.s (edge_tree e)) c.as_slice.result.now
     ≡ transitions_in (tree_of c.args.question.now) c.args.s
 listed c = ap (flat_map (λ (e : Edge). transitions_along (tree_of c.args.question.now) c.args.s (edge_tree e))) c.as_slice.ensures
     ∙ sym (flat_map-map (transitions_along (tree_of c.args.question.now) c.args.s) edge_tree c.args.question.now.automaton.now.edges)
 
 pub returns-clause-added : goal.returns-clause-added
-returns-clause-added c = subst (λ (more : List (List Lit)). OnOk c.add_each_edge.result (c.add_each_edge.new.out ≡ with_clauses c.args.out.now more))
+returns-clause-added c = subst
+    (λ (more : List (List Lit)). OnOk c.add_each_edge.result (c.add_each_edge.new.out ≡ with_clauses c.args.out.now more))
     (listed c) c.add_each_edge.ensures.added
 
 pub returns-clause-refused : goal.returns-clause-refused

@@ -8,5 +8,8 @@ use Rattle.bounded_encoding.proofs.transition_clauses.add_transitions_to.Goals a
 pub returns-then-stays-clause-added : goal.returns-then-stays-clause-added
 returns-then-stays-clause-added c =
     let is = c.stays.ensures c.if-stays.true in
-    sym (with_nothing c.args.out.now (transitions_to (tree_of c.args.question.now) c.args.transition.state (edge_tree c.args.transition.edge) c.args.transition.valuation c.args.t)
-    (nothing_stays (tree_of c.args.question.now) (edge_tree c.args.transition.edge) c.args.transition.state c.args.transition.valuation c.args.t is.0 is.1 is.2))
+    sym (with_nothing c.args.out.now
+    (transitions_to (tree_of c.args.question.now) c.args.transition.state
+    (edge_tree c.args.transition.edge) c.args.transition.valuation c.args.t)
+    (nothing_stays (tree_of c.args.question.now) (edge_tree c.args.transition.edge) c.args.transition.state c.args.transition.valuation
+    c.args.t is.0 is.1 is.2))
