@@ -92,7 +92,7 @@ node_at shared d i is =
 
 -- ---- terms that are picked are choices
 
-picked_chosen : (cs : List ControlledTree) (picks : List ℕ) (ts : List TermTree) → terms_picked cs picks ≡ Some ts →
+pub picked_chosen : (cs : List ControlledTree) (picks : List ℕ) (ts : List TermTree) → terms_picked cs picks ≡ Some ts →
     are_terms_chosen cs ts ≡ true
 picked_chosen [] [] ts picked = ap (are_terms_chosen []) (sym (same_Some [] ts picked))
 picked_chosen [] (pick ∷ picks) ts picked = absurd (none-some ts picked)
@@ -117,6 +117,11 @@ entry_within c s v e at = by (nat_lt v c.valuations) refl
     by true within = ltb-true v c.valuations within
     by false past = absurd (none-some e (ap (λ b. cond b (slice_get c.entries (s * c.valuations + v)) None) (sym past) ∙ at))
 
+pub entry_there : (c : ControllerTree) (s v : ℕ) (e : EntryTree) → controller_entry c s v ≡ Some e →
+    slice_get c.entries (s * c.valuations + v) ≡ Some e
+entry_there c s v e at =
+    ap (λ b. cond b (slice_get c.entries (s * c.valuations + v)) None) (sym (lt-ltb v c.valuations (entry_within c s v e at))) ∙ at
+
 pub rising_from : (ns : List ℕ) → IsRising ns → (i n : ℕ) → slice_get ns i ≡ Some n → i ≤ n
 rising_from ns rise zero n at = omega arith
 rising_from ns rise (suc i) n at =
@@ -125,6 +130,20 @@ rising_from ns rise (suc i) n at =
 
 pub place_contained : (ns : List ℕ) (n : ℕ) → Contains ns n → (i : ℕ) × (slice_get ns i ≡ Some n)
 place_contained ns n (k, within, is) = (k, slice_get-get_or ns k n within ∙ ap Some is)
+
+-- ---- how many trees become nodes
+
+pub few_shared : (space : SpaceTree) (c : ControllerTree) (kept : List ℕ) (trees : List DecisionTree) →
+    map (state_tree space c) kept ≡ map Some trees → length (shared_trees trees) ≤ length kept * (2 * valuation_count space)
+few_shared space c kept trees are =
+    let each = each_from_places (λ d. length (subtrees d) ≤ 2 * valuation_count space) trees (λ i d at.
+    let state = image_of (state_tree space c) kept trees are i d at in
+    let few = few_subtrees (controller_entry c state.0) (length space.predicates) 0 0 d state.2 in
+    omega (arith, few)) in
+    let joined = few_joined trees (2 * valuation_count space) each in
+    let new = few_new same_decision [] (flat_map subtrees trees) in
+    subst (λ n. length (shared_trees trees) ≤ n * (2 * valuation_count space)) (sym (as_many (state_tree space c) kept trees are))
+    (omega (arith, joined, new))
 
 module _ (c : ControllerTree) (space : SpaceTree) (inputs cells outputs : List ℕ) (windows : List WindowTree) (program : ProgramTree)
     (flow : IsFlowOf c space inputs cells outputs windows program) where
@@ -195,14 +214,8 @@ module _ (c : ControllerTree) (space : SpaceTree) (inputs cells outputs : List �
 
   pub few_nodes : length program.nodes ≤ length program.states * (2 * valuation_count space)
   few_nodes =
-      let each = each_from_places (λ d. length (subtrees d) ≤ 2 * valuation_count space) flow.trees (λ i d at.
-      let state = image_of (state_tree space c) flow.kept flow.trees flow.are_trees i d at in
-      let few = few_subtrees (controller_entry c state.0) (length space.predicates) 0 0 d state.2 in
-      omega (arith, few)) in
-      let joined = few_joined flow.trees (2 * valuation_count space) each in
-      let new = few_new same_decision [] (flat_map subtrees flow.trees) in
-      let trees = as_many (node_number shared) flow.trees program.states flow.has_states in
-      subst (λ n. length program.nodes ≤ n * (2 * valuation_count space)) trees (omega (arith, joined, new, node_count))
+      let few = few_shared space c flow.kept flow.trees flow.are_trees in
+      subst (λ n. length program.nodes ≤ n * (2 * valuation_count space)) (sym state_count) (omega (arith, few, node_count))
 
   -- ---- walks
 
@@ -351,9 +364,7 @@ module _ (c : ControllerTree) (is : IsController c) where
   pub reachable_below : (s : ℕ) → IsReachable c s → s < c.states
   reachable_below _ at_start = omega (arith, is.has_state)
   reachable_below _ (by_entry s v e before entry) =
-      let within = entry_within c s v e entry in
-      let there : slice_get c.entries (s * c.valuations + v) ≡ Some e =
-      ap (λ b. cond b (slice_get c.entries (s * c.valuations + v)) None) (sym (lt-ltb v c.valuations within)) ∙ entry in
+      let there = entry_there c s v e entry in
       is.stays (s * c.valuations + v) e.next (slice_get_image (λ (d : EntryTree). d.next) c.entries (s * c.valuations + v) e there)
 
   module _ (kept : List ℕ) (are : AreKept c kept) where

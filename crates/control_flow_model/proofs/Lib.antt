@@ -9,3 +9,8 @@ pub mod OneController
 pub mod NewMembers
 pub mod TreeLists
 pub mod FlowLemmas
+pub mod ReachingLemmas
+pub mod PartLemmas
+pub mod OkAnswers
+pub mod NodeLemmas
+pub mod FitLemmas

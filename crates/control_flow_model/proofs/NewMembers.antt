@@ -1,11 +1,11 @@
 -- A list that grows by what did not stand in it: what it keeps, and what stands in it.
 use Rattle.std.proofs.Common.{◌≡◌, ◌∙◌, ℕ, zero, suc, ◌+◌, ◌≤◌, Bool, true, false, cond, List, [], ◌∷◌, ◌++◌, length, Some, slice_get}
-use Rattle.std.proofs.Common.{sym, ap, refl, arith, length-append}
+use Rattle.std.proofs.Common.{sym, ap, refl, subst, arith, inl, inr, length-append}
 use Rattle.std.proofs.lemmas.Bool.{false≢true}
 use Rattle.std.proofs.lemmas.Option.{none-some, same_Some}
 use Rattle.sequence.specs.Kept.{is_kept, with_new}
 use Rattle.sequence.proofs.Passes.{list_any_contained, list_any_place}
-use Rattle.sequence.proofs.Places.{contains_at, slice_get-behind, slice_get_grown}
+use Rattle.sequence.proofs.Places.{contains_at, slice_get-behind, slice_get_grown, slice_get_push}
 
 module _ {X : Type 0} (same : X → X → Bool) where
   -- one member more, unless it is there
@@ -35,6 +35,20 @@ module _ {X : Type 0} (same : X → X → Bool) where
       let one : length (with_one kept x) ≤ length kept + 1 =
       one_more (λ ys. length ys ≤ length kept + 1) kept x (λ _. omega arith) (λ _. omega (arith, length-append kept (x ∷ []))) in
       omega (arith, one, few_new (with_one kept x) xs)
+
+  -- what holds of the old members and of those that are added holds of each
+  pub each_new : (Q : X → Type 0) (kept xs : List X) → ((i : ℕ) (x : X) → slice_get kept i ≡ Some x → Q x) →
+      ((j : ℕ) (x : X) → slice_get xs j ≡ Some x → Q x) → (i : ℕ) (x : X) → slice_get (with_new same kept xs) i ≡ Some x → Q x
+  each_new Q kept [] old new i x at = old i x at
+  each_new Q kept (y ∷ xs) old new i x at =
+      each_new Q (with_one kept y) xs (one_more (λ ks. (k : ℕ) (z : X) → slice_get ks k ≡ Some z → Q z) kept y (λ _. old) (λ _. pushed))
+      (λ j z there. new (suc j) z there) i x at
+    where
+      pushed : (k : ℕ) (z : X) → slice_get (kept ++ y ∷ []) k ≡ Some z → Q z
+      pushed k z there = elim (slice_get_push kept y k z there) [
+        | inl before ↦ old k z before.1
+        | inr last ↦ subst Q last.1 (new 0 y refl)
+      ]
 
   module _ (is : (a b : X) → same a b ≡ true → a ≡ b) (itself : (a : X) → same a a ≡ true) where
     pub is_kept_at : (kept : List X) (i : ℕ) (x : X) → slice_get kept i ≡ Some x → is_kept same kept x ≡ true

@@ -3,3 +3,4 @@ pub mod ControllerOf
 pub mod RunLetters
 pub mod DecisionTree
 pub mod Flow
+pub mod internal

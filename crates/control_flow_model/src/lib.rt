@@ -17,6 +17,10 @@
 mod controlling;
 mod flowing;
 mod laws;
+mod noding;
+mod parting;
+mod reaching;
+mod sharing;
 
 pub use controlling::controller_of;
 pub use flowing::flow_of;

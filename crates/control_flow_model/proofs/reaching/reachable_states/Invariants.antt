@@ -1,0 +1,7 @@
+use Rattle.std.proofs.Common.{◌≡◌, filter}
+use Rattle.sequence.specs.Numbers.{is_among, numbers_from}
+use Rattle.control_flow_model.proofs.reaching.reachable_states.Given as goal
+
+-- those of the states gone through that are found
+abbrev pub invariant-loop-state : goal.invariant-loop-state
+invariant-loop-state l = l.kept.items ≡ filter (is_among l.found.items) (numbers_from 0 l.state)
