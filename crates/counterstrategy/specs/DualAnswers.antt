@@ -16,8 +16,8 @@ use Rattle.counterstrategy.specs.declared.dual_error.DualError.TheVariants.{Vect
 use Rattle.counterstrategy.specs.declared.dual_answers.FoundDual.{FoundDual}
 use Rattle.counterstrategy.specs.declared.dual_answers.FoundDual.TheVariants.{Environment, None, Spent}
 
--- a question within the limits: neither its vectors nor its clauses are too many
-pub record IsWithinLimits (q : QuestionTree) : Type 0 where
+-- a question can be asked where neither its vectors nor its clauses are too many
+pub record IsAskable (q : QuestionTree) : Type 0 where
   pub few_vectors : vectors_in_all q ≤ MOST_VECTORS
   pub few_clauses : length (dual_encoding q) ≤ MOST_CLAUSES
 
@@ -44,7 +44,7 @@ IsRightDual q budget (Environment e a) = IsFoundEnvironment q (environment_tree 
 IsRightDual q budget (None log) = IsDualRefuted q log.steps
 IsRightDual q budget (Spent clauses) = IsWholeTrace (dual_variable_count q) (dual_encoding q) budget clauses
 
--- the answer is right where so many clauses may be learnt, and the question is within the limits
+-- the answer is right where so many clauses may be learnt, and the question can be asked
 pub record IsFoundDual (q : QuestionTree) (budget : ℕ) (found : FoundDual) : Type 0 where
-  pub limits : IsWithinLimits q
+  pub limits : IsAskable q
   pub right : IsRightDual q budget found

@@ -5,7 +5,7 @@ ghost use Rattle.cobuchi_automata.specs.declared.build_error.TheConstants.{MOST_
 ghost use Rattle.bounded_encoding.specs.QuestionView.{question_of};
 ghost use Rattle.counterstrategy.specs.DualVariables.{dual_variable_count};
 ghost use Rattle.counterstrategy.specs.DualEncoding.{dual_encoding};
-ghost use Rattle.counterstrategy.specs.DualAnswers.{IsWithinLimits, HasDualCause};
+ghost use Rattle.counterstrategy.specs.DualAnswers.{IsAskable, HasDualCause};
 
 use crate::dual_error::DualError;
 use clause_core::Cnf;
@@ -28,7 +28,7 @@ pub fn encode_dual(
     requires few_automaton_states { automaton.now.states ≤ MOST_AUTOMATON_STATES }
     ensures variables { IfOk result (λ cnf. cnf.variables ≡ dual_variable_count (question_of automaton.now space.now states bound)) }
     ensures clauses { IfOk result (λ cnf. cnf.clauses ≡ dual_encoding (question_of automaton.now space.now states bound)) }
-    ensures limits { IfOk result (λ cnf. IsWithinLimits (question_of automaton.now space.now states bound)) }
+    ensures limits { IfOk result (λ cnf. IsAskable (question_of automaton.now space.now states bound)) }
     ensures cause { IfErr result (HasDualCause (question_of automaton.now space.now states bound)) }
 {
     Err(DualError::NoMemory)

@@ -14,8 +14,12 @@ mod dual_answers;
 mod dual_encoding;
 mod dual_error;
 mod environment_finding;
+mod laws;
 
 pub use dual_answers::FoundDual;
 pub use dual_encoding::encode_dual;
 pub use dual_error::DualError;
 pub use environment_finding::find_environment;
+pub use laws::{
+    assignments_give_environments, dual_variables_have_one_number, environments_give_assignments,
+};

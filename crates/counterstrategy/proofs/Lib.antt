@@ -1,0 +1,12 @@
+pub mod RangeMembers
+pub mod VectorPicks
+pub mod PassingBits
+pub mod HighBits
+pub mod Implications
+pub mod LevelNumbers
+pub mod DualNumbers
+pub mod DualDemands
+pub mod EnvironmentDecoded
+pub mod EnvironmentEncoded
+pub mod DualRefuted
+mod Examples
