@@ -65,7 +65,7 @@ pub none_found : (spec : SpecTree) (states bound budget : ℕ) (q : QuestionTree
     IsAsked spec states bound q → IsFound q budget found → found ≡ founds.None cnf log → HasNoSolution spec states bound
 none_found spec states bound budget q found cnf log asked answer is =
     let right : IsFound q budget (founds.None cnf log) = subst (IsFound q budget) is answer in
-    none_of spec states bound q asked right.right.none
+    none_of spec states bound q asked right.few right.right.none
 
 -- a controller that is found gives a program that is written
 pub written_of : (spec : SpecTree) (states bound budget : ℕ) (q : QuestionTree) (found : Found) (c : Controller) (a : Annotation)
@@ -77,6 +77,7 @@ written_of spec states bound budget q found c a program asked answer is flow =
     record {
       question = q;
       asked = asked;
+      few = right.few;
       controller = controller_tree c;
       number = number_of_pair q.automaton_states a.numbers;
       solution = right.right.solution;

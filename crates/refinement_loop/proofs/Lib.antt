@@ -1,3 +1,7 @@
+pub mod MatchedSums
+pub mod KeptCounts
+pub mod LoopPairs
+pub mod EncodingSizes
 pub mod OneAnswer
 pub mod RestrictedControllers
 pub mod KeptStates

@@ -1,5 +1,5 @@
--- Whether a question has a solution does not depend on how its automaton is numbered, and none is asked past a limit.
-use Rattle.std.proofs.Common.{◌≡◌, ◌∙◌, ℕ, ◌<◌, ◌≤◌, length, Option, refl, sym, subst, arith}
+-- Whether a question has a solution does not depend on how its automaton is numbered, and none is answered past a limit.
+use Rattle.std.proofs.Common.{◌≡◌, ◌∙◌, ℕ, ◌<◌, ◌≤◌, length, Option, sym, subst, arith}
 use Rattle.tsl_terms.specs.SpecTree.{SpecTree}
 use Rattle.tsl_terms.specs.Predicates.{predicates_of}
 use Rattle.flow_program.specs.ProgramTree.{ProgramTree}
@@ -15,8 +15,14 @@ use Rattle.program_check.specs.declared.verdict.Limit.{Limit}
 use Rattle.program_check.specs.declared.verdict.Limit.TheVariants.{Predicates, Bits, Choices, States, Edges, Clauses}
 use Rattle.program_check.specs.Verdicts.{negated_form}
 use Rattle.program_check.proofs.OtherNumbers.{annotated_there}
+use Rattle.refutation_check.specs.declared.dimacs.TheConstants.{MOST_CLAUSES}
+use Rattle.bounded_encoding.specs.Encoding.{encoding}
 use Rattle.bounded_encoding.specs.Question.{QuestionTree, IsSolution, HasNoController}
-use Rattle.refinement_loop.specs.Outcomes.{IsAsked, IsWrittenFor, HasNoSolution, IsLargeFor}
+use Rattle.refinement_loop.specs.Outcomes.{IsAsked, HasFewClauses, IsWrittenFor, HasNoSolution, IsLargeFor, IsOutcome}
+use Rattle.refinement_loop.specs.declared.outcome.Sizes.{Sizes}
+use Rattle.refinement_loop.specs.declared.outcome.Outcome.{Outcome}
+use Rattle.refinement_loop.specs.declared.outcome.Outcome.TheVariants as outcomes
+use Rattle.refinement_loop.proofs.EncodingSizes.{same_size}
 
 module _ (spec : SpecTree) (states bound : ℕ) where
   -- a solution of one question that is asked gives one of each
@@ -40,10 +46,11 @@ module _ (spec : SpecTree) (states bound : ℕ) where
       )
 
   -- so that there is none for one tells that there is none for each
-  pub none_of : (q : QuestionTree) → IsAsked spec states bound q → HasNoController q → HasNoSolution spec states bound
-  none_of q asked none = record {
+  pub none_of : (q : QuestionTree) → IsAsked spec states bound q → HasFewClauses q → HasNoController q → HasNoSolution spec states bound
+  none_of q asked few none = record {
     question = q;
     asked = asked;
+    few = few;
     none = λ p other c number solution.
         let there = solution_there p q other asked c number solution in
         none c there.0 there.1;
@@ -53,26 +60,38 @@ module _ (spec : SpecTree) (states bound : ℕ) where
   not_both program written none =
       none.none written.question written.asked written.controller written.number written.solution
 
-  -- nothing is asked where a limit of bits or of automata is passed
-  pub not_asked : (q : QuestionTree) (limit : Limit) → (limit ≡ Clauses → ⊥) → IsAsked spec states bound q →
+  -- nothing is answered where a limit is passed
+  pub not_answered : (q : QuestionTree) (limit : Limit) → IsAsked spec states bound q → HasFewClauses q →
       IsLargeFor spec states bound limit → ⊥
-  not_asked q Predicates other asked large =
+  not_answered q Predicates asked few large =
       let within : length (predicates_of spec) ≤ MOST_PREDICATES = asked.few_bits.few_predicates in
       let beyond : MOST_PREDICATES < length (predicates_of spec) = large in
       omega (arith, within, beyond)
-  not_asked q Bits other asked large =
+  not_answered q Bits asked few large =
       let within : bit_count (spec_space spec) ≤ MOST_BITS = asked.few_bits.few_bits in
       let beyond : MOST_BITS < bit_count (spec_space spec) = large.1 in
       omega (arith, within, beyond)
-  not_asked q Choices other asked large = has_choices (negated_form spec) asked.automaton_states q.edges asked.automaton large.1
-  not_asked q States other asked large =
+  not_answered q Choices asked few large = has_choices (negated_form spec) asked.automaton_states q.edges asked.automaton large.1
+  not_answered q States asked few large =
       let within : length asked.automaton_states ≤ most_automaton_states = omega (arith, asked.counted, asked.few_automaton_states) in
       let beyond : most_automaton_states < length asked.automaton_states =
       passes_states (negated_form spec) asked.automaton_states q.edges asked.automaton large.1 in
       omega (arith, within, beyond)
-  not_asked q Edges other asked large =
+  not_answered q Edges asked few large =
       let within : length q.edges ≤ most_automaton_edges = asked.few_edges in
       let beyond : most_automaton_edges < length q.edges =
       passes_edges (negated_form spec) asked.automaton_states q.edges asked.automaton large.1 in
       omega (arith, within, beyond)
-  not_asked q Clauses other asked large = other refl
+  not_answered q Clauses asked few large =
+      let within : length (encoding q) ≤ MOST_CLAUSES = few in
+      let beyond : MOST_CLAUSES < length (encoding large.question) = large.many in
+      omega (arith, within, beyond, same_size spec states bound q large.question asked large.asked)
+
+pub no_outcome : (spec : SpecTree) (sizes : Sizes) (limit : Limit) (outcome : Outcome) →
+    IsLargeFor spec sizes.states sizes.bound limit → IsOutcome spec sizes outcome → ⊥
+no_outcome spec sizes limit (outcomes.Written program) large is =
+    not_answered spec sizes.states sizes.bound is.question limit is.asked is.few large
+no_outcome spec sizes limit outcomes.None large is =
+    not_answered spec sizes.states sizes.bound is.question limit is.asked is.few large
+no_outcome spec sizes limit (outcomes.Spent automaton clauses) large is =
+    not_answered spec sizes.states sizes.bound is.question limit is.asked is.few large

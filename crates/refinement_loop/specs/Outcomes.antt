@@ -43,10 +43,15 @@ pub record IsAsked (spec : SpecTree) (states bound : ℕ) (q : QuestionTree) : T
   pub has_states : q.states ≡ states
   pub has_bound : q.bound ≡ bound
 
+-- the question has no more clauses than there may be
+abbrev pub HasFewClauses : QuestionTree → Type 0
+HasFewClauses q = length (encoding q) ≤ MOST_CLAUSES
+
 -- the program is that of a controller that answers the question, with the signals of the specification and without windows
 pub record IsWrittenFor (spec : SpecTree) (states bound : ℕ) (program : ProgramTree) : Type 0 where
   pub question : QuestionTree
   pub asked : IsAsked spec states bound question
+  pub few : HasFewClauses question
   pub controller : ControllerTree
   pub number : ℕ → ℕ → Option ℕ
   pub solution : IsSolution question controller number
@@ -56,6 +61,7 @@ pub record IsWrittenFor (spec : SpecTree) (states bound : ℕ) (program : Progra
 pub record HasNoSolution (spec : SpecTree) (states bound : ℕ) : Type 0 where
   pub question : QuestionTree
   pub asked : IsAsked spec states bound question
+  pub few : HasFewClauses question
   pub none : (q : QuestionTree) → IsAsked spec states bound q → HasNoController q
 
 -- the question's automaton has so many states and these edges, and the clauses are a trace of so many that the encoding leads to
@@ -63,6 +69,7 @@ pub record IsSpentOn (spec : SpecTree) (states bound budget automaton_states : �
     : Type 0 where
   pub question : QuestionTree
   pub asked : IsAsked spec states bound question
+  pub few : HasFewClauses question
   pub has_states : automaton_states ≡ question.automaton_states
   pub has_edges : edges ≡ question.edges
   pub trace : IsWholeTrace (variable_count question) (encoding question) budget clauses

@@ -1,12 +1,12 @@
 //! Laws of outcomes: each function does nothing, and its contract is the law.
 
-ghost use Rattle.std.specs.Prelude.{◌≡◌, ℕ};
+ghost use Rattle.std.specs.Prelude.{ℕ};
 ghost use Rattle.tsl_terms.specs.SpecTree.{SpecTree};
 ghost use Rattle.flow_program.specs.ProgramTree.{ProgramTree};
 ghost use Rattle.program_check.specs.declared.verdict.Limit.{Limit};
-ghost use Rattle.program_check.specs.declared.verdict.Limit.TheVariants.{Clauses};
-ghost use Rattle.bounded_encoding.specs.Question.{QuestionTree};
-ghost use Rattle.refinement_loop.specs.Outcomes.{IsAsked, IsWrittenFor, HasNoSolution, IsLargeFor};
+ghost use Rattle.refinement_loop.specs.declared.outcome.Sizes.{Sizes};
+ghost use Rattle.refinement_loop.specs.declared.outcome.Outcome.{Outcome};
+ghost use Rattle.refinement_loop.specs.Outcomes.{IsWrittenFor, HasNoSolution, IsLargeFor, IsOutcome};
 
 /// No program is written for a specification for which no controller answers the question.
 pub fn written_or_none()
@@ -14,9 +14,9 @@ pub fn written_or_none()
         IsWrittenFor spec states bound program → HasNoSolution spec states bound → ⊥ }
 {}
 
-/// Where a limit of bits or of automata is passed, no question is asked. So `ask` answers within these limits,
-/// unless there are too many clauses or memory runs out.
-pub fn limits_leave_no_question()
-    ensures { (spec : SpecTree) (states bound : ℕ) (question : QuestionTree) (limit : Limit) → (limit ≡ Clauses → ⊥) →
-        IsAsked spec states bound question → IsLargeFor spec states bound limit → ⊥ }
+/// Where a limit is passed, nothing is answered. So `refine` answers within the limits, unless memory runs
+/// out, and tells a limit only where it is passed.
+pub fn limits_leave_no_outcome()
+    ensures { (spec : SpecTree) (sizes : Sizes) (limit : Limit) (outcome : Outcome) →
+        IsLargeFor spec sizes.states sizes.bound limit → IsOutcome spec sizes outcome → ⊥ }
 {}

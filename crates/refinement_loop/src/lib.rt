@@ -6,8 +6,8 @@
 //! Where there is no such controller it says so, and where the budget of learnt clauses is spent it gives the
 //! automaton and the trace (`specs/Outcomes`). So far the question is asked once: no rounds are made.
 //!
-//! Laws: no program is written where there is no such controller (`written_or_none`), and no question is asked
-//! past a limit of bits or of automata (`limits_leave_no_question`).
+//! Laws: no program is written where there is no such controller (`written_or_none`), and nothing is answered
+//! where a limit is passed (`limits_leave_no_outcome`).
 #![tactic(auto)]
 
 mod asking;
@@ -18,6 +18,6 @@ mod refining;
 
 pub use asking::ask;
 pub use errors::RefineError;
-pub use laws::{limits_leave_no_question, written_or_none};
+pub use laws::{limits_leave_no_outcome, written_or_none};
 pub use outcome::{Asked, Outcome, Sizes};
 pub use refining::refine;
