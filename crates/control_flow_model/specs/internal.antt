@@ -1,3 +1,4 @@
 pub mod Reaching
 pub mod Parts
 pub mod PartNodes
+pub mod Examples

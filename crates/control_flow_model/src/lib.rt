@@ -28,3 +28,6 @@ pub use laws::{
     closed_runs_have_letter_loops, flows_are_small, flows_have_bits, flows_walk_as_controllers,
     one_controller,
 };
+
+#[cfg(test)]
+mod tests;

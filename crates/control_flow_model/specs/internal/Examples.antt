@@ -1,0 +1,19 @@
+-- Internal: only the tests of this crate use these words. Two predicate terms `p x` and `q y`, and the cell `y`, which takes x or y.
+use Rattle.std.specs.Prelude.{◌≡◌, ℕ, ◌<◌, [], ◌∷◌}
+use Rattle.tsl_terms.specs.TermTree.{signal, no_terms, more_terms, ProbeTree}
+use Rattle.letter_space.specs.SpaceTree.{SpaceTree}
+use Rattle.machines.specs.MachineTree.{EntryTree}
+
+-- a predicate of a signal
+abbrev pub probe_of : ℕ → ℕ → ProbeTree
+probe_of predicate of = record { predicate = predicate; arguments = more_terms (signal of) no_terms }
+
+abbrev pub example_space : SpaceTree
+example_space = record {
+  predicates = probe_of 3 1 ∷ probe_of 4 2 ∷ [];
+  controlled = record { signal = 2; choices = signal 1 ∷ signal 2 ∷ []; first = 2 } ∷ [];
+}
+
+-- an entry of the example: one choice of two, and one of so many states to go to
+abbrev pub IsExampleEntry : ℕ → EntryTree → Type 0
+IsExampleEntry states e = (e.next < states) × (pick : ℕ) × (e.choices ≡ pick ∷ []) × (pick < 2)
