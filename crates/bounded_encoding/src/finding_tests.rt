@@ -43,7 +43,7 @@ const SEARCHES: &[(&[u8], u32, u32, u64, &str)] = &[
 ];
 
 /// A specification that a text spells.
-fn spec_of(rt: &impl Abort, alloc: Global, text: &[u8]) -> Result<Spec, Fail> {
+pub(crate) fn spec_of(rt: &impl Abort, alloc: Global, text: &[u8]) -> Result<Spec, Fail> {
     assert!(rt; text.len() < 1_000_000);
     match read_spec(alloc, text) {
         Ok(spec) => Ok(spec),
@@ -52,7 +52,7 @@ fn spec_of(rt: &impl Abort, alloc: Global, text: &[u8]) -> Result<Spec, Fail> {
 }
 
 /// The bits of a specification.
-fn bits_of(alloc: Global, spec: &Spec) -> Result<Space, Fail> {
+pub(crate) fn bits_of(alloc: Global, spec: &Spec) -> Result<Space, Fail> {
     match space_of(alloc, spec) {
         Ok(space) => Ok(space),
         Err(_) => Err("there are too many bits".into()),
@@ -60,7 +60,7 @@ fn bits_of(alloc: Global, spec: &Spec) -> Result<Space, Fail> {
 }
 
 /// The automaton of the negation of a specification.
-fn automaton_of(alloc: Global, spec: &Spec, space: &Space) -> Result<Automaton, Fail>
+pub(crate) fn automaton_of(alloc: Global, spec: &Spec, space: &Space) -> Result<Automaton, Fail>
     ensures { IfOk result (λ automaton. automaton.states ≤ MOST_AUTOMATON_STATES) }
 {
     let negation = Formula::Not(Box::new(alloc, whole(alloc, spec)?)?);

@@ -33,3 +33,5 @@ pub use laws::{
 
 #[cfg(test)]
 mod finding_tests;
+#[cfg(test)]
+mod tests;
