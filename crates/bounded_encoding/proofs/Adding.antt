@@ -11,7 +11,7 @@ use Rattle.std.proofs.lemmas.List.{map-append, drop_more}
 use Rattle.std.proofs.lemmas.List.Elements.{filter-append}
 use Rattle.clause_core.specs.Literals.{Lit}
 use Rattle.clause_core.specs.Clauses.{in_order, has_pair}
-use Rattle.bounded_encoding.specs.internal.Made.{Made, with_clauses, IsBeyond}
+use Rattle.bounded_encoding.specs.Made.{Made, with_clauses, IsBeyond}
 use Rattle.bounded_encoding.proofs.Between.{between_more, between_none}
 use Rattle.bounded_encoding.specs.ClauseLists.{kept, between, each}
 

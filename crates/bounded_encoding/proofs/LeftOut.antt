@@ -13,7 +13,7 @@ use Rattle.bounded_encoding.specs.ClauseLists.{kept, each}
 use Rattle.bounded_encoding.specs.Variables.{is_numbered, goes_to, index_of, yes_at, no_at, yes, no}
 use Rattle.bounded_encoding.specs.Encoding.{transition_clause, transitions_to, transitions_under, transitions_along, asked_of_choices, numbered_after, met_valuations}
 use Rattle.bounded_encoding.specs.Encoding.{choice_clauses, next_clauses, start_clauses, number_clauses, transition_clauses, encoding, falling, numbers_at, numbers_in}
-use Rattle.bounded_encoding.specs.internal.Made.{Made, with_clauses}
+use Rattle.bounded_encoding.specs.Made.{Made, with_clauses}
 use Rattle.bounded_encoding.proofs.Adding.{kept_both, with_none}
 
 -- a clause with a pair is left out

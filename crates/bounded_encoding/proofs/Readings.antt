@@ -14,7 +14,8 @@ use Rattle.bounded_encoding.specs.ClauseLists.{below}
 use Rattle.bounded_encoding.specs.Question.{QuestionTree}
 use Rattle.bounded_encoding.specs.Variables.{valuations_of, before_next, before_numbers}
 use Rattle.bounded_encoding.specs.Decoding.{entry_read, pair_read, numbers_read}
-use Rattle.bounded_encoding.specs.internal.Reading.{entry_numbered, number_from, numbers_from_index}
+use Rattle.bounded_encoding.specs.internal.Reading.{entry_numbered}
+use Rattle.bounded_encoding.specs.Reading.{number_from, numbers_from_index}
 use Rattle.bounded_encoding.proofs.Ranges.{first_below}
 
 -- a number by its row and its column

@@ -5,4 +5,7 @@ pub mod Variables
 pub mod Encoding
 pub mod Decoding
 pub mod Answers
+pub mod Made
+pub mod Refusing
+pub mod Reading
 pub mod internal

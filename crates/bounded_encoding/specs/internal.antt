@@ -1,4 +1,2 @@
 pub mod Reading
-pub mod Made
-pub mod Refusing
 pub mod Asking

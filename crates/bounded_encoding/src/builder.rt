@@ -1,8 +1,8 @@
 //! Clauses made so far.
 
 ghost use Rattle.std.specs.Prelude.{◌≡◌, ◌≤◌, ◌∷◌, [], length, OnOk};
-ghost use Rattle.bounded_encoding.specs.internal.Made.{with_clauses};
-ghost use Rattle.bounded_encoding.specs.internal.Refusing.{Refuses};
+ghost use Rattle.bounded_encoding.specs.Made.{with_clauses};
+ghost use Rattle.bounded_encoding.specs.Refusing.{Refuses};
 
 use crate::errors::EncodeError;
 use clause_core::{Clause, Literal, clause_of, is_tautology};
@@ -12,14 +12,14 @@ use std::marker::Model;
 
 /// Clauses made so far, and how many there may be at most.
 #[derive(Debug, Drop)]
-pub(crate) struct Builder {
+pub struct Builder {
     list: Vec<Clause>,
     limit: u64,
 }
 
 impl Model for Builder {
     ghost use Rattle.std.specs.Prelude.{◌≤◌, length};
-    ghost use Rattle.bounded_encoding.specs.internal.Made.{Made};
+    ghost use Rattle.bounded_encoding.specs.Made.{Made};
 
     ghost Value = { Made };
 
@@ -30,7 +30,7 @@ impl Model for Builder {
 
 impl Builder {
     /// No clauses yet.
-    pub(crate) fn new(alloc: Global, limit: u64) -> Builder
+    pub fn new(alloc: Global, limit: u64) -> Builder
         ensures { result ≡ record { clauses = []; most = limit } }
     {
         Builder {
@@ -40,7 +40,7 @@ impl Builder {
     }
 
     /// The clauses.
-    pub(crate) fn into_list(self) -> Sequence<Clause>
+    pub fn into_list(self) -> Sequence<Clause>
         ensures list { result ≡ self.clauses }
         ensures within { length self.clauses ≤ self.most }
     {
@@ -49,7 +49,7 @@ impl Builder {
     }
 
     /// Adds the clause of these literals, but for one with a literal and its negation.
-    pub(crate) fn add(&mut self, alloc: Global, literals: &[Literal]) -> Result<(), EncodeError>
+    pub fn add(&mut self, alloc: Global, literals: &[Literal]) -> Result<(), EncodeError>
         ensures added { OnOk result (self.new ≡ with_clauses self.old (literals.now ∷ [])) }
         ensures refused { Refuses result (with_clauses self.old (literals.now ∷ [])) }
     {

@@ -6,8 +6,8 @@ ghost use Rattle.letter_space.specs.ControlledView.{controlled_tree};
 ghost use Rattle.bounded_encoding.specs.Encoding.{signal_clauses, choices_under, choices_in, choice_clauses};
 ghost use Rattle.bounded_encoding.specs.Encoding.{nexts_under, nexts_in, next_clauses, start_clauses};
 ghost use Rattle.bounded_encoding.specs.Encoding.{numbers_at, numbers_in, number_clauses};
-ghost use Rattle.bounded_encoding.specs.internal.Made.{with_clauses};
-ghost use Rattle.bounded_encoding.specs.internal.Refusing.{Refuses};
+ghost use Rattle.bounded_encoding.specs.Made.{with_clauses};
+ghost use Rattle.bounded_encoding.specs.Refusing.{Refuses};
 ghost use Rattle.bounded_encoding.specs.internal.Asking.{tree_of, controlled_trees, IsPlaced, IsCounted};
 
 use crate::asking::{Question, choice_base, next_base, number_base};

@@ -27,7 +27,7 @@ pub(crate) struct Transition {
 }
 
 /// Whether a number has a bit.
-fn has_bit(number: u64, bit: u32) -> bool
+pub fn has_bit(number: u64, bit: u32) -> bool
     requires { bit < 64 }
     ensures { result ≡ has_bit bit number }
 {
@@ -50,7 +50,7 @@ fn low_bits(number: u64, bits: u32) -> u64
 }
 
 /// Adds a number to a list where a test says so.
-fn push_number_if(list: &mut Vec<u32>, number: u32, test: bool) -> Result<(), NoMemory>
+pub fn push_number_if(list: &mut Vec<u32>, number: u32, test: bool) -> Result<(), NoMemory>
     ensures { OnOk result (list.new.items ≡ list.old.items ++ cond test (number ∷ []) []) }
 {
     if test {
@@ -60,7 +60,11 @@ fn push_number_if(list: &mut Vec<u32>, number: u32, test: bool) -> Result<(), No
 }
 
 /// Adds a literal to a list where a test says so.
-fn push_literal_if(list: &mut Vec<Literal>, literal: Literal, test: bool) -> Result<(), NoMemory>
+pub fn push_literal_if(
+    list: &mut Vec<Literal>,
+    literal: Literal,
+    test: bool,
+) -> Result<(), NoMemory>
     ensures { OnOk result (list.new.items ≡ list.old.items ++ cond test (literal ∷ []) []) }
 {
     if test {
@@ -120,7 +124,7 @@ pub(crate) fn asked_of_choices(
 }
 
 /// What the pair after an edge has at least.
-fn after_edge(number: u32, edge: Edge) -> u32
+pub fn after_edge(number: u32, edge: Edge) -> u32
     requires { number + 1 < 2 ^ 31 }
     ensures { result ≡ after_edge number (edge_tree edge) }
 {

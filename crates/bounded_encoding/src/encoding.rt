@@ -7,8 +7,8 @@ ghost use Rattle.bounded_encoding.specs.QuestionView.{question_of};
 ghost use Rattle.bounded_encoding.specs.Variables.{variable_count};
 ghost use Rattle.bounded_encoding.specs.Encoding.{demands, encoding};
 ghost use Rattle.bounded_encoding.specs.declared.errors.EncodeError.TheVariants.{Clauses};
-ghost use Rattle.bounded_encoding.specs.internal.Made.{with_clauses};
-ghost use Rattle.bounded_encoding.specs.internal.Refusing.{Refuses};
+ghost use Rattle.bounded_encoding.specs.Made.{with_clauses};
+ghost use Rattle.bounded_encoding.specs.Refusing.{Refuses};
 ghost use Rattle.bounded_encoding.specs.internal.Asking.{tree_of, IsCounted};
 
 use crate::asking::{Question, question_asked};

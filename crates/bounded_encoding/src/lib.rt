@@ -23,6 +23,8 @@ mod simple_clauses;
 mod transition_clauses;
 
 pub use answers::Found;
+pub use builder::Builder;
+pub use edge_literals::{after_edge, has_bit, push_literal_if, push_number_if};
 pub use encoding::encode;
 pub use encoding_laws::clauses_are_over_variables;
 pub use errors::EncodeError;
@@ -30,6 +32,8 @@ pub use finding::find_controller;
 pub use laws::{
     assignments_give_controllers, controllers_give_assignments, variables_have_one_number,
 };
+pub use reading::{first_true, numbers_read};
+pub use simple_clauses::{add_exactly_one, add_falling, add_true, literal};
 
 #[cfg(test)]
 mod finding_tests;

@@ -11,7 +11,8 @@ ghost use Rattle.machines.specs.MachineView.{entry_tree, controller_tree};
 ghost use Rattle.bounded_encoding.specs.ClauseLists.{below};
 ghost use Rattle.bounded_encoding.specs.QuestionView.{question_of};
 ghost use Rattle.bounded_encoding.specs.Variables.{before_numbers, variable_count};
-ghost use Rattle.bounded_encoding.specs.internal.Reading.{choice_from, next_from, entry_numbered, number_from, numbers_from_index};
+ghost use Rattle.bounded_encoding.specs.internal.Reading.{choice_from, entry_numbered};
+ghost use Rattle.bounded_encoding.specs.Reading.{next_from, number_from, numbers_from_index};
 
 use cobuchi_automata::Automaton;
 use letter_space::{Controlled, Space};
@@ -143,7 +144,7 @@ fn choice_read(truths: &[bool], base: usize, predicates: u32, controlled: &Contr
 }
 
 /// The first of so many variables from an index on that is true; 0 where none is.
-fn first_true(truths: &[bool], from: usize, count: u32) -> u32
+pub fn first_true(truths: &[bool], from: usize, count: u32) -> u32
     requires { from + count ≤ length truths.now }
     ensures { result ≡ next_from (assignment_of truths.now) from count }
 {
@@ -180,7 +181,7 @@ pub(crate) fn numbers_of_pairs(
 }
 
 /// The numbers of so many pairs, where their variables begin at an index and each has so many.
-fn numbers_read(
+pub fn numbers_read(
     alloc: Global,
     truths: &[bool],
     base: usize,

@@ -3,8 +3,8 @@
 ghost use Rattle.std.specs.Prelude.{◌≡◌, ◌<◌, ◌+◌, ◌^◌, ◌∷◌, [], OnOk};
 ghost use Rattle.bounded_encoding.specs.Variables.{yes_at, no_at};
 ghost use Rattle.bounded_encoding.specs.Encoding.{some_one, no_two_with, no_two, exactly_one, falling};
-ghost use Rattle.bounded_encoding.specs.internal.Made.{with_clauses};
-ghost use Rattle.bounded_encoding.specs.internal.Refusing.{Refuses};
+ghost use Rattle.bounded_encoding.specs.Made.{with_clauses};
+ghost use Rattle.bounded_encoding.specs.Refusing.{Refuses};
 
 use crate::builder::Builder;
 use crate::errors::EncodeError;
@@ -12,7 +12,7 @@ use clause_core::Literal;
 use std::alloc::Global;
 
 /// The literal of the variable with this index.
-pub(crate) fn literal(index: u32, positive: bool) -> Literal
+pub fn literal(index: u32, positive: bool) -> Literal
     requires { index + 1 < 2 ^ 31 }
     ensures { result ≡ record { index = index; positive = positive } }
 {
@@ -89,7 +89,7 @@ fn add_no_two(
 
 /// Adds that exactly one of the variables is true.
 #[tactic(auto, using(crate::proofs::Adding::adding))]
-pub(crate) fn add_exactly_one(
+pub fn add_exactly_one(
     alloc: Global,
     out: &mut Builder,
     base: u32,
@@ -116,7 +116,7 @@ fn add_implies(alloc: Global, out: &mut Builder, a: u32, b: u32) -> Result<(), E
 
 /// Adds that the number of a pair is at least each number below one that it is at least.
 #[tactic(auto, using(crate::proofs::Adding::adding))]
-pub(crate) fn add_falling(
+pub fn add_falling(
     alloc: Global,
     out: &mut Builder,
     base: u32,
@@ -133,7 +133,7 @@ pub(crate) fn add_falling(
 }
 
 /// Adds that a variable is true.
-pub(crate) fn add_true(alloc: Global, out: &mut Builder, a: u32) -> Result<(), EncodeError>
+pub fn add_true(alloc: Global, out: &mut Builder, a: u32) -> Result<(), EncodeError>
     requires { a + 1 < 2 ^ 31 }
     ensures added { OnOk result (out.new ≡ with_clauses out.old ((yes_at a ∷ []) ∷ [])) }
     ensures refused { Refuses result (with_clauses out.old ((yes_at a ∷ []) ∷ [])) }

@@ -5,8 +5,8 @@ ghost use Rattle.std.specs.List.{flat_map};
 ghost use Rattle.cobuchi_automata.specs.Edges.{edge_tree, IsBetween};
 ghost use Rattle.bounded_encoding.specs.Encoding.{asked_of_choices, transition_clause, transitions_to, transitions_under};
 ghost use Rattle.bounded_encoding.specs.Encoding.{transitions_along, transitions_in, transition_clauses};
-ghost use Rattle.bounded_encoding.specs.internal.Made.{with_clauses};
-ghost use Rattle.bounded_encoding.specs.internal.Refusing.{Refuses};
+ghost use Rattle.bounded_encoding.specs.Made.{with_clauses};
+ghost use Rattle.bounded_encoding.specs.Refusing.{Refuses};
 ghost use Rattle.bounded_encoding.specs.internal.Asking.{tree_of, IsCounted, IsWithinCounts};
 
 use crate::asking::Question;

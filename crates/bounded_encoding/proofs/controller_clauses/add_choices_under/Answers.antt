@@ -5,8 +5,8 @@ use Rattle.clause_core.specs.Literals.{Lit}
 use Rattle.letter_space.specs.declared.controlled.Controlled.{Controlled}
 use Rattle.letter_space.specs.ControlledView.{controlled_tree}
 use Rattle.bounded_encoding.specs.Encoding.{signal_clauses, choices_under}
-use Rattle.bounded_encoding.specs.internal.Made.{with_clauses}
-use Rattle.bounded_encoding.specs.internal.Refusing.{Refuses}
+use Rattle.bounded_encoding.specs.Made.{with_clauses}
+use Rattle.bounded_encoding.specs.Refusing.{Refuses}
 use Rattle.bounded_encoding.specs.internal.Asking.{tree_of, IsPlaced}
 use Rattle.bounded_encoding.proofs.Placed.{placed_signals}
 use Rattle.bounded_encoding.proofs.controller_clauses.add_choices_under.Goals as goal

@@ -3,7 +3,7 @@ use Rattle.bounded_encoding.specs.ClauseLists.{each}
 use Rattle.bounded_encoding.specs.Variables.{valuations_of}
 use Rattle.bounded_encoding.specs.Encoding.{nexts_under, nexts_in}
 use Rattle.bounded_encoding.specs.internal.Asking.{tree_of}
-use Rattle.bounded_encoding.specs.internal.Made.{with_clauses}
+use Rattle.bounded_encoding.specs.Made.{with_clauses}
 use Rattle.bounded_encoding.proofs.controller_clauses.add_nexts_in.Given as goal
 
 abbrev pub invariant-loop-v : goal.invariant-loop-v

@@ -2,7 +2,7 @@ use Rattle.std.proofs.Common.{◌≡◌}
 use Rattle.bounded_encoding.specs.ClauseLists.{each}
 use Rattle.bounded_encoding.specs.Encoding.{numbers_at, numbers_in}
 use Rattle.bounded_encoding.specs.internal.Asking.{tree_of}
-use Rattle.bounded_encoding.specs.internal.Made.{with_clauses}
+use Rattle.bounded_encoding.specs.Made.{with_clauses}
 use Rattle.bounded_encoding.proofs.controller_clauses.add_numbers_in.Given as goal
 
 abbrev pub invariant-loop-p : goal.invariant-loop-p

@@ -1,7 +1,7 @@
 use Rattle.std.proofs.Common.{ℕ, ◌+◌, subst}
 use Rattle.bounded_encoding.specs.Encoding.{falling}
-use Rattle.bounded_encoding.specs.internal.Made.{with_clauses}
-use Rattle.bounded_encoding.specs.internal.Refusing.{Refuses}
+use Rattle.bounded_encoding.specs.Made.{with_clauses}
+use Rattle.bounded_encoding.specs.Refusing.{Refuses}
 use Rattle.bounded_encoding.proofs.controller_clauses.add_numbers_of.Goals as goal
 
 pub returns-clause-refused : goal.returns-clause-refused

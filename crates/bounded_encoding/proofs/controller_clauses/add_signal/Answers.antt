@@ -1,7 +1,7 @@
 use Rattle.std.proofs.Common.{◌≡◌, List, subst, OnOk, refl}
 use Rattle.clause_core.specs.Literals.{Lit}
-use Rattle.bounded_encoding.specs.internal.Made.{with_clauses}
-use Rattle.bounded_encoding.specs.internal.Refusing.{Refuses}
+use Rattle.bounded_encoding.specs.Made.{with_clauses}
+use Rattle.bounded_encoding.specs.Refusing.{Refuses}
 use Rattle.bounded_encoding.proofs.Placed.{signal_by_base}
 use Rattle.bounded_encoding.proofs.controller_clauses.add_signal.Goals as goal
 

@@ -2,7 +2,7 @@ use Rattle.std.proofs.Common.{◌≡◌, drop}
 use Rattle.std.specs.List.{flat_map}
 use Rattle.letter_space.specs.ControlledView.{controlled_tree}
 use Rattle.bounded_encoding.specs.Encoding.{signal_clauses}
-use Rattle.bounded_encoding.specs.internal.Made.{with_clauses}
+use Rattle.bounded_encoding.specs.Made.{with_clauses}
 use Rattle.bounded_encoding.specs.internal.Asking.{tree_of}
 use Rattle.bounded_encoding.proofs.controller_clauses.add_signals.Given as goal
 

@@ -4,7 +4,7 @@ use Rattle.clause_core.specs.Clauses.{IsOver}
 use Rattle.bounded_encoding.specs.QuestionView.{question_of}
 use Rattle.bounded_encoding.specs.Variables.{variable_count}
 use Rattle.bounded_encoding.specs.Encoding.{demands, encoding}
-use Rattle.bounded_encoding.specs.internal.Made.{Made, with_clauses}
+use Rattle.bounded_encoding.specs.Made.{Made, with_clauses}
 use Rattle.bounded_encoding.specs.internal.Asking.{tree_of}
 use Rattle.bounded_encoding.proofs.LeftOut.{numbers_within}
 use Rattle.bounded_encoding.proofs.Over.{encoding_over}

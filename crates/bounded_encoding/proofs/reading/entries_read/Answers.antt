@@ -3,7 +3,8 @@ use Rattle.clause_core.specs.Clauses.{assignment_of}
 use Rattle.letter_space.specs.SpaceTree.{choice_count}
 use Rattle.letter_space.specs.SpaceView.{space_tree}
 use Rattle.machines.specs.MachineView.{entry_tree}
-use Rattle.bounded_encoding.specs.internal.Reading.{choice_from, next_from, entry_numbered}
+use Rattle.bounded_encoding.specs.internal.Reading.{choice_from, entry_numbered}
+use Rattle.bounded_encoding.specs.Reading.{next_from}
 use Rattle.bounded_encoding.proofs.Readings.{numbered_more}
 use Rattle.bounded_encoding.proofs.reading.entries_read.Goals as goal
 

@@ -1,6 +1,6 @@
 use Rattle.std.proofs.Common.{◌+◌, ◌*◌}
 use Rattle.clause_core.specs.Clauses.{assignment_of}
-use Rattle.bounded_encoding.specs.internal.Reading.{number_from}
+use Rattle.bounded_encoding.specs.Reading.{number_from}
 use Rattle.bounded_encoding.proofs.Readings.{numbered_next}
 use Rattle.bounded_encoding.proofs.reading.numbers_read.Goals as goal
 

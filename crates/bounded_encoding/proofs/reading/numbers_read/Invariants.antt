@@ -1,6 +1,6 @@
 use Rattle.std.proofs.Common.{◌≡◌}
 use Rattle.clause_core.specs.Clauses.{assignment_of}
-use Rattle.bounded_encoding.specs.internal.Reading.{numbers_from_index}
+use Rattle.bounded_encoding.specs.Reading.{numbers_from_index}
 use Rattle.bounded_encoding.proofs.reading.numbers_read.Given as goal
 
 abbrev pub invariant-loop-pair : goal.invariant-loop-pair

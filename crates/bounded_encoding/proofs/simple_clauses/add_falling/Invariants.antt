@@ -2,7 +2,7 @@ use Rattle.std.proofs.Common.{◌≡◌, ◌+◌, ◌-◌, [], ◌∷◌}
 use Rattle.bounded_encoding.specs.ClauseLists.{each}
 use Rattle.bounded_encoding.specs.Variables.{yes_at, no_at}
 use Rattle.bounded_encoding.specs.Encoding.{falling}
-use Rattle.bounded_encoding.specs.internal.Made.{with_clauses}
+use Rattle.bounded_encoding.specs.Made.{with_clauses}
 use Rattle.bounded_encoding.proofs.simple_clauses.add_falling.Given as goal
 
 abbrev pub invariant-loop-i : goal.invariant-loop-i

@@ -2,7 +2,7 @@ use Rattle.std.proofs.Common.{◌≡◌, ◌+◌, [], ◌∷◌}
 use Rattle.bounded_encoding.specs.ClauseLists.{each}
 use Rattle.bounded_encoding.specs.Variables.{no_at}
 use Rattle.bounded_encoding.specs.Encoding.{no_two_with}
-use Rattle.bounded_encoding.specs.internal.Made.{with_clauses}
+use Rattle.bounded_encoding.specs.Made.{with_clauses}
 use Rattle.bounded_encoding.proofs.simple_clauses.add_not_with.Given as goal
 
 abbrev pub invariant-loop-y : goal.invariant-loop-y

@@ -3,7 +3,7 @@ use Rattle.bounded_encoding.specs.ClauseLists.{each}
 use Rattle.cobuchi_automata.specs.Edges.{edge_tree}
 use Rattle.bounded_encoding.specs.Encoding.{transitions_to, transitions_under}
 use Rattle.bounded_encoding.specs.internal.Asking.{tree_of}
-use Rattle.bounded_encoding.specs.internal.Made.{with_clauses}
+use Rattle.bounded_encoding.specs.Made.{with_clauses}
 use Rattle.bounded_encoding.proofs.transition_clauses.add_each_next.Given as goal
 
 abbrev pub invariant-loop-t : goal.invariant-loop-t

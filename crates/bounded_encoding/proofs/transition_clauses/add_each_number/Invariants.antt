@@ -3,7 +3,7 @@ use Rattle.bounded_encoding.specs.ClauseLists.{each}
 use Rattle.cobuchi_automata.specs.Edges.{edge_tree}
 use Rattle.bounded_encoding.specs.Encoding.{transition_clause, transitions_to}
 use Rattle.bounded_encoding.specs.internal.Asking.{tree_of}
-use Rattle.bounded_encoding.specs.internal.Made.{with_clauses}
+use Rattle.bounded_encoding.specs.Made.{with_clauses}
 use Rattle.bounded_encoding.proofs.transition_clauses.add_each_number.Given as goal
 
 abbrev pub invariant-loop-i : goal.invariant-loop-i

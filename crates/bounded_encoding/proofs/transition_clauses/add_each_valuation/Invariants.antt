@@ -2,7 +2,7 @@ use Rattle.std.proofs.Common.{◌≡◌, drop}
 use Rattle.std.specs.List.{flat_map}
 use Rattle.cobuchi_automata.specs.Edges.{edge_tree}
 use Rattle.bounded_encoding.specs.Encoding.{transitions_under}
-use Rattle.bounded_encoding.specs.internal.Made.{with_clauses}
+use Rattle.bounded_encoding.specs.Made.{with_clauses}
 use Rattle.bounded_encoding.specs.internal.Asking.{tree_of}
 use Rattle.bounded_encoding.proofs.transition_clauses.add_each_valuation.Given as goal
 

@@ -5,8 +5,8 @@ use Rattle.clause_core.specs.Literals.{Lit}
 use Rattle.cobuchi_automata.specs.declared.automaton.Edge.{Edge}
 use Rattle.cobuchi_automata.specs.Edges.{edge_tree}
 use Rattle.bounded_encoding.specs.Encoding.{transitions_along, transitions_in}
-use Rattle.bounded_encoding.specs.internal.Made.{with_clauses}
-use Rattle.bounded_encoding.specs.internal.Refusing.{Refuses}
+use Rattle.bounded_encoding.specs.Made.{with_clauses}
+use Rattle.bounded_encoding.specs.Refusing.{Refuses}
 use Rattle.bounded_encoding.specs.internal.Asking.{tree_of}
 use Rattle.bounded_encoding.proofs.transition_clauses.add_transitions_in.Goals as goal
 

@@ -1,7 +1,6 @@
--- Internal: only private functions of this crate use these words.
 -- What a refusal says.
 use Rattle.std.specs.Prelude.{◌≡◌, Result, IfErr}
-use Rattle.bounded_encoding.specs.internal.Made.{Made, IsBeyond}
+use Rattle.bounded_encoding.specs.Made.{Made, IsBeyond}
 use Rattle.bounded_encoding.specs.declared.errors.EncodeError.{EncodeError}
 use Rattle.bounded_encoding.specs.declared.errors.EncodeError.TheVariants.{Clauses}
 

@@ -1,4 +1,3 @@
--- Internal: only private functions of this crate use these words.
 -- Clauses made so far, at most a given number of them.
 use Rattle.std.specs.Prelude.{◌<◌, ℕ, List, ◌++◌, length}
 use Rattle.clause_core.specs.Literals.{Lit}
