@@ -21,3 +21,6 @@ pub use errors::RefineError;
 pub use laws::{limits_leave_no_outcome, written_or_none};
 pub use outcome::{Asked, Outcome, Sizes};
 pub use refining::refine;
+
+#[cfg(test)]
+mod tests;
