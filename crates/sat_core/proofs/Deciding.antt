@@ -138,3 +138,29 @@ decisions_left t sound d level place are given low = record {
               ∙ unset_has 0 (up_to level t.entries) e.literal (ap (place_of (up_to level t.entries)) r.2.is ∙ unset)))
           | inr behind ↦ ap (is_queued d.heap) (sym r.2.is) ∙ given r.0 e behind r.2.there
         ]
+
+-- where all entries are given back, none need be set
+pub decisions_freed : (t : TrailState) (d : Decisions) → AreDecisions t.variables t.entries d → AreGiven t.entries 0 d.heap →
+    AreDecisions t.variables [] d
+decisions_freed t d are given = record {
+  heap = are.heap;
+  one_activity_each = are.one_activity_each;
+  one_value_each = are.one_value_each;
+  queued = λ index below unset. by_place index below (place_of t.entries index) refl;
+}
+  where
+    by_place : (index : ℕ) → index < t.variables → (o : Option ℕ) → place_of t.entries index ≡ o → is_queued d.heap index ≡ true
+    by_place index below None is = are.queued index below is
+    by_place index below (Some p) is =
+        let r = place_found 0 t.entries index p is in
+        ap (is_queued d.heap) (sym r.2.is) ∙ given r.0 r.2.entry (omega arith) r.2.there
+
+-- what is to be decided again does not matter
+pub decisions_repeated : (variables : ℕ) (es : List Entry) (d n : Decisions) → n ≡ record d { repeated = n.repeated } →
+    AreDecisions variables es d → AreDecisions variables es n
+decisions_repeated variables es d n rest are = subst (AreDecisions variables es) (sym rest) (record {
+  heap = are.heap;
+  one_activity_each = are.one_activity_each;
+  one_value_each = are.one_value_each;
+  queued = are.queued;
+})

@@ -9,3 +9,4 @@ mod Examples
 pub mod LogNumbers
 pub mod HeapPlaces
 pub mod Deciding
+pub mod LogHints

@@ -10,7 +10,11 @@ use Rattle.std.proofs.lemmas.Option.{none-some, same_Some}
 use Rattle.std.proofs.lemmas.List.{append_assoc, append-nil, map-append, length-append, length_push, length-map}
 use Rattle.std.proofs.lemmas.List.Elements.{All-push, All-nil, All-from_recursion, recursion_from_All, Contains-append_cases}
 use Rattle.std.proofs.lemmas.List.Elements.{Contains-append_left}
-use Rattle.sat_core.specs.internal.Ends.{IsEnd}
+use Rattle.sat_core.specs.declared.journal.Journal.{Journal}
+use Rattle.sat_core.specs.declared.shelves.Shelf.{Shelf}
+use Rattle.sat_core.specs.internal.Shelves.{log_number, log_hints, AreLogNumbers, AreFirst, BeginsAnew, IsShortened}
+use Rattle.sat_core.proofs.LogHints.{first_named, named_next, shown_in_log, hints_in_log}
+use Rattle.sat_core.specs.internal.Ends.{IsEnd, IsSearchAnswer}
 use Rattle.sat_core.specs.internal.Hints.{AreHints}
 use Rattle.clause_core.specs.Literals.{Lit, negation, same, has}
 use Rattle.clause_core.specs.Clauses.{IsIncreasing, in_order, IsOver, has_pair, is_true, meets, meets_all, assignment_of}
@@ -43,36 +47,53 @@ use Rattle.sat_core.proofs.LogNumbers.{is_numbered, numbered_more}
 use Rattle.sat_core.proofs.Walking.{up_to_has, up_to_from}
 use Rattle.sat_core.proofs.Counting.{trace_is_short, filter-has}
 
--- the steps taken so far, and the trail that they lead to
-pub record IsSearch (variables : ℕ) (clauses : List (List Lit)) (t : TrailState) (steps : List Step) : Type 0 where
+-- the clauses of a formula and of the steps behind them
+abbrev pub known : List (List Lit) → List Step → List (List Lit)
+known clauses steps = clauses ++ clauses_of steps
+
+-- the steps taken so far, and the trail that they lead to, with its clauses by their numbers; whether the trail may be
+-- shortened, and then it lacks some of the learnt clauses
+pub record IsSearch (shortens : Bool) (variables : ℕ) (clauses : List (List Lit)) (t : TrailState) (steps : List Step) (numbers : List ℕ) :
+    Type 0 where
   pub usable : t.broken ≡ false
   pub sound : IsSound t
   pub same_variables : t.variables ≡ variables
-  pub stands : t.clauses ≡ clauses ++ clauses_of steps
-  pub logged : (later : List Step) → steps_refusal variables (length t.clauses) (numbered_from 1 t.clauses) later ≡ None →
-      steps_refusal variables (length clauses) (numbered_from 1 clauses) (steps ++ later) ≡ None
+  pub others : List (List Lit)
+  pub stands : t.clauses ≡ clauses ++ others
+  pub fewer : length t.clauses ≤ length clauses + length steps
+  pub named : AreLogNumbers (known clauses steps) t.clauses numbers
+  pub logged : (later : List Step) → steps_refusal variables (length (known clauses steps)) (numbered_from 1 (known clauses steps)) later
+      ≡ None → steps_refusal variables (length clauses) (numbered_from 1 clauses) (steps ++ later) ≡ None
   pub few_hints : HaveFewHints steps
   pub numbered : AreNumbered (length clauses + 1) steps
-  pub traced : (later : List (List Lit)) → IsTrace variables t.clauses later → IsTrace variables clauses (clauses_of steps ++ later)
+  pub traced : shortens ≡ false → (t.clauses ≡ known clauses steps)
+      × ((later : List (List Lit)) → IsTrace variables t.clauses later → IsTrace variables clauses (clauses_of steps ++ later))
   pub increasing : AllByRecursion IsIncreasing (clauses_of steps)
   pub quiet : AreQuietBelow t t.level
 
 -- ---- the beginning
 
-pub search_begins : (variables : ℕ) (clauses : List (List Lit)) (t : TrailState) → t ≡ started variables clauses → IsSound t →
-    IsSearch variables clauses t []
-search_begins variables clauses t is sound = subst (λ (s : TrailState). IsSearch variables clauses s []) (sym is) (record {
-  usable = refl;
-  sound = subst IsSound is sound;
-  same_variables = refl;
-  stands = sym (append-nil clauses);
-  logged = λ later h. h;
-  few_hints = All-nil (λ (step : Step). length step.hints + 1 < 2 ^ 32);
-  numbered = tt;
-  traced = λ later h. h;
-  increasing = tt;
-  quiet = λ level below. absurd (omega arith);
-})
+pub search_begins : (shortens : Bool) (variables : ℕ) (clauses : List (List Lit)) (t : TrailState) (steps : List Step) (shelf : Shelf) →
+    t ≡ started variables clauses → IsSound t → steps ≡ [] → AreFirst (length clauses) shelf →
+    IsSearch shortens variables clauses t steps shelf.numbers.items
+search_begins shortens variables clauses t steps shelf is sound none first =
+    subst (λ (ss : List Step). IsSearch shortens variables clauses t ss shelf.numbers.items) (sym none)
+    (subst (λ (s : TrailState). IsSearch shortens variables clauses s [] shelf.numbers.items) (sym is) (record {
+      usable = refl;
+      sound = subst IsSound is sound;
+      same_variables = refl;
+      others = [];
+      stands = sym (append-nil clauses);
+      fewer = omega arith;
+      named = first_named clauses [] shelf first;
+      logged = λ later h. subst (λ (cs : List (List Lit)). steps_refusal variables (length cs) (numbered_from 1 cs) later ≡ None)
+          (append-nil clauses) h;
+      few_hints = All-nil (λ (step : Step). length step.hints + 1 < 2 ^ 32);
+      numbered = tt;
+      traced = λ all. (sym (append-nil clauses), λ later h. h);
+      increasing = tt;
+      quiet = λ level below. absurd (omega arith);
+    }))
 
 -- ---- propagation
 
@@ -84,14 +105,18 @@ up_to_added n level [] (e ∷ es) all below = cond-false (leb e.level level) (e 
 up_to_added n level (x ∷ es) added all below = ap (λ (xs : List Entry). cond (leb x.level level) (x ∷ xs) xs)
     (up_to_added n level es added all below)
 
-pub search_propagated : (variables : ℕ) (clauses : List (List Lit)) (t u : TrailState) (steps : List Step) →
-    IsSearch variables clauses t steps → Propagates t u → IsSound u → IsSearch variables clauses u steps
-search_propagated variables clauses t u steps search grows sound = subst (λ (s : TrailState). IsSearch variables clauses s steps)
-    (sym grows.rest_stays) (record {
+pub search_propagated : (shortens : Bool) (variables : ℕ) (clauses : List (List Lit)) (t u : TrailState) (steps : List Step)
+    (numbers : List ℕ) → IsSearch shortens variables clauses t steps numbers → Propagates t u → IsSound u →
+    IsSearch shortens variables clauses u steps numbers
+search_propagated shortens variables clauses t u steps numbers search grows sound =
+    subst (λ (s : TrailState). IsSearch shortens variables clauses s steps numbers) (sym grows.rest_stays) (record {
       usable = search.usable;
       sound = subst IsSound grows.rest_stays sound;
       same_variables = search.same_variables;
+      others = search.others;
       stands = search.stands;
+      fewer = search.fewer;
+      named = search.named;
       logged = search.logged;
       few_hints = search.few_hints;
       numbered = search.numbered;
@@ -104,15 +129,18 @@ search_propagated variables clauses t u steps search grows sound = subst (λ (s 
 
 -- ---- a decision
 
-pub search_decided : (variables : ℕ) (clauses : List (List Lit)) (t u : TrailState) (steps : List Step) (l : Lit) →
-    IsSearch variables clauses t steps → IsQuiet t.clauses (literals_of t.entries) → u ≡ decided t l → IsSound u →
-    IsSearch variables clauses u steps
-search_decided variables clauses t u steps l search quiet is sound = subst (λ (s : TrailState). IsSearch variables clauses s steps) (sym is)
-    (record {
+pub search_decided : (shortens : Bool) (variables : ℕ) (clauses : List (List Lit)) (t u : TrailState) (steps : List Step)
+    (numbers : List ℕ) (l : Lit) → IsSearch shortens variables clauses t steps numbers → IsQuiet t.clauses (literals_of t.entries) →
+    u ≡ decided t l → IsSound u → IsSearch shortens variables clauses u steps numbers
+search_decided shortens variables clauses t u steps numbers l search quiet is sound =
+    subst (λ (s : TrailState). IsSearch shortens variables clauses s steps numbers) (sym is) (record {
       usable = search.usable;
       sound = subst IsSound is sound;
       same_variables = search.same_variables;
+      others = search.others;
       stands = search.stands;
+      fewer = search.fewer;
+      named = search.named;
       logged = search.logged;
       few_hints = search.few_hints;
       numbered = search.numbered;
@@ -336,10 +364,6 @@ module _ (t : TrailState) (sound : IsSound t) (clause : List Lit) (hints : List 
           (negation asserting.asserted) back t.level (ap (λ (l : Lit). l.index) e) second.2 asserting.last in
           omega (arith, one.1, asserting.below)
 
-  lesson_step : step_refusal t.variables (length t.clauses) (numbered_from 1 t.clauses) (learnt_step (length t.clauses + 1) clause hints)
-      ≡ None
-  lesson_step = step_accepted t.variables t.clauses clause hints lesson_over lesson_no_pair lesson.shown
-
 up_to-up_to : (low high : ℕ) (es : List Entry) → low ≤ high → up_to low (up_to high es) ≡ up_to low es
 up_to-up_to low high [] h = refl
 up_to-up_to low high (e ∷ es) h = by_tests (leb e.level high) refl (up_to-up_to low high es h)
@@ -353,103 +377,206 @@ up_to-up_to low high (e ∷ es) h = by_tests (leb e.level high) refl (up_to-up_t
 pub clauses_of_push : (steps : List Step) (s : Step) → clauses_of (steps ++ s ∷ []) ≡ clauses_of steps ++ s.clause ∷ []
 clauses_of_push steps s = map-append (λ (step : Step). step.clause) steps (s ∷ [])
 
+known_long : (clauses : List (List Lit)) (steps : List Step) → length (known clauses steps) ≡ length clauses + length steps
+known_long clauses steps = length-append clauses (clauses_of steps)
+    ∙ ap (λ (n : ℕ). length clauses + n) (length-map steps (λ (s : Step). s.clause))
+
+known_push : (clauses : List (List Lit)) (steps : List Step) (s : Step) →
+    known clauses (steps ++ s ∷ []) ≡ known clauses steps ++ s.clause ∷ []
+known_push clauses steps s = ap (λ (cs : List (List Lit)). clauses ++ cs) (clauses_of_push steps s)
+    ∙ sym (append_assoc clauses (clauses_of steps) (s.clause ∷ []))
+
 -- the steps with one more, whose number is the next
-search_numbered : (variables : ℕ) (clauses : List (List Lit)) (t : TrailState) (steps : List Step) → IsSearch variables clauses t steps →
-    (step : Step) → step.number ≡ length t.clauses + 1 → AreHints (length t.clauses) step.hints →
+search_numbered : (clauses : List (List Lit)) (steps : List Step) → AreNumbered (length clauses + 1) steps → (step : Step) →
+    step.number ≡ length (known clauses steps) + 1 → AreHints (length (known clauses steps)) step.hints →
     AreNumbered (length clauses + 1) (steps ++ step ∷ [])
-search_numbered variables clauses t steps search step is hints =
-    numbered_more (length clauses + 1) steps step (length t.clauses + 1)
-    (omega (
-      arith,
-      ap length search.stands,
-      length-append clauses (clauses_of steps),
-      length-map steps (λ (s : Step). s.clause),
-    )) search.numbered (is_numbered step (length t.clauses) is hints)
+search_numbered clauses steps numbered step is hints =
+    numbered_more (length clauses + 1) steps step (length (known clauses steps) + 1) (omega (arith, known_long clauses steps)) numbered
+    (is_numbered step (length (known clauses steps)) is hints)
 
-pub search_learnt : (variables : ℕ) (clauses : List (List Lit)) (anew : Bool) (t u : TrailState) (steps more : List Step) →
-    IsSearch variables clauses t steps → HasLearnt anew t steps u more → IsSound u → 0 < t.level → IsSearch variables clauses u more
-search_learnt variables clauses anew t u steps more search learnt sound above = subst (λ (s : TrailState). IsSearch variables clauses s more)
-    (sym learnt.trail_is) (subst (λ (ss : List Step). IsSearch variables clauses (with_clause (undone t target) clause) ss)
-    (sym learnt.steps_are) (record {
-      usable = search.usable;
-      sound = subst IsSound learnt.trail_is sound;
-      same_variables = search.same_variables;
-      stands = ap (λ (cs : List (List Lit)). cs ++ clause ∷ []) search.stands
-          ∙ (append_assoc clauses (clauses_of steps) (clause ∷ []) ∙ ap (λ (cs : List (List Lit)). clauses ++ cs)
-          (sym (clauses_of_push steps step)));
-      logged = λ later h. ap (λ (ss : List Step). steps_refusal variables (length clauses) (numbered_from 1 clauses) ss)
-          (append_assoc steps (step ∷ []) later) ∙ search.logged (step ∷ later) (follows later h);
-      few_hints = All-push (λ (s : Step). length s.hints + 1 < 2 ^ 32) steps step search.few_hints learnt.lesson.few_hints;
-      numbered = search_numbered variables clauses t steps search step refl learnt.lesson.named;
-      traced = λ later h. subst (λ (cs : List (List Lit)). IsTrace variables clauses cs)
-          (sym (ap (λ (cs : List (List Lit)). cs ++ later) (clauses_of_push steps step)
-          ∙ append_assoc (clauses_of steps) (clause ∷ []) later))
-          (search.traced (clause ∷ later) (
-            subst (λ (v : ℕ). IsLearnt v t.clauses clause) search.same_variables
-                (lesson_learnt t search.sound clause hints back learnt.lesson search.quiet above),
-            h,
-          ));
-      increasing = subst (AllByRecursion IsIncreasing) (sym (clauses_of_push steps step)) (all_push (clauses_of steps) search.increasing);
-      quiet = λ level below. subst (λ (es : List Entry). IsQuiet (t.clauses ++ clause ∷ []) (literals_of es))
-          (sym (up_to-up_to level target t.entries (omega arith))) (lesson_quiet t search.sound clause hints back learnt.lesson
-          search.quiet above level (omega (arith, target_low anew)));
-    }))
-  where
-    clause : List Lit
-    clause = learnt.clause
+module _ (shortens : Bool) (variables : ℕ) (clauses : List (List Lit)) (anew : Bool) (t u : TrailState) (journal after : Journal)
+    (search : IsSearch shortens variables clauses t journal.steps.items journal.shelf.numbers.items)
+    (next_is : journal.next ≡ length clauses + length journal.steps.items + 1) (learnt : HasLearnt anew t journal u after)
+    (sound : IsSound u) (above : 0 < t.level) where
+  abbrev clause : List Lit
+  clause = learnt.clause
 
-    hints : List ℕ
-    hints = learnt.hints
+  abbrev hints : List ℕ
+  hints = learnt.hints
 
-    back : ℕ
-    back = learnt.back
+  abbrev back : ℕ
+  back = learnt.back
 
-    target : ℕ
-    target = cond anew 0 back
+  abbrev taken : List Step
+  taken = journal.steps.items
 
-    target_low : (b : Bool) → cond b 0 back ≤ back
-    target_low true = omega arith
-    target_low false = omega arith
+  abbrev before : List (List Lit)
+  before = known clauses taken
 
-    step : Step
-    step = learnt_step (length t.clauses + 1) clause hints
+  abbrev names : List ℕ
+  names = journal.shelf.numbers.items
 
-    all_push : (cs : List (List Lit)) → AllByRecursion IsIncreasing cs → AllByRecursion IsIncreasing (cs ++ clause ∷ [])
-    all_push [] all = (learnt.lesson.increasing, tt)
-    all_push (c ∷ cs) all = (all.0, all_push cs all.1)
+  abbrev target : ℕ
+  target = cond anew 0 back
 
-    follows : (later : List Step) → steps_refusal variables (length (t.clauses ++ clause ∷ []))
-        (numbered_from 1 (t.clauses ++ clause ∷ [])) later ≡ None → steps_refusal variables (length t.clauses) (numbered_from 1 t.clauses)
-        (step ∷ later) ≡ None
-    follows later h =
-        let accepted : step_refusal variables (length t.clauses) (numbered_from 1 t.clauses) step ≡ None =
-        subst (λ (v : ℕ). step_refusal v (length t.clauses) (numbered_from 1 t.clauses) step ≡ None) search.same_variables
-        (lesson_step t search.sound clause hints back learnt.lesson) in
-        let rest : steps_refusal variables (length t.clauses + 1) (numbered_from 1 t.clauses
-        ++ record { number = length t.clauses + 1; clause = clause } ∷ []) later
-        ≡ None = ap (λ (ks : List Numbered). steps_refusal variables (length t.clauses + 1) ks later)
-        (sym (numbered_push 1 t.clauses clause (length t.clauses + 1) (omega arith)))
-        ∙ (ap (λ (n : ℕ). steps_refusal variables n (numbered_from 1 (t.clauses ++ clause ∷ [])) later)
-        (sym (length_push t.clauses clause)) ∙ h) in
-        ap (λ (o : Option Refusal). first_of o (steps_refusal variables (length t.clauses + 1)
-        (numbered_from 1 t.clauses ++ record { number = length t.clauses + 1; clause = clause } ∷ []) later)) accepted ∙ rest
+  target_low : (b : Bool) → cond b 0 back ≤ back
+  target_low true = omega arith
+  target_low false = omega arith
+
+  next_number : journal.next ≡ length before + 1
+  next_number = omega (arith, next_is, known_long clauses taken)
+
+  abbrev step : Step
+  step = learnt_step journal.next clause (log_hints names hints)
+
+  all_push : (cs : List (List Lit)) → AllByRecursion IsIncreasing cs → AllByRecursion IsIncreasing (cs ++ clause ∷ [])
+  all_push [] all = (learnt.lesson.increasing, tt)
+  all_push (c ∷ cs) all = (all.0, all_push cs all.1)
+
+  accepted : step_refusal variables (length before) (numbered_from 1 before) step ≡ None
+  accepted = subst (λ (n : ℕ). step_refusal variables (length before) (numbered_from 1 before)
+      (learnt_step n clause (log_hints names hints)) ≡ None) (sym next_number) (step_accepted variables before clause (log_hints names hints)
+      (subst (λ (v : ℕ). IsOver v clause) search.same_variables (lesson_over t search.sound clause hints back learnt.lesson))
+      (lesson_no_pair t search.sound clause hints back learnt.lesson)
+      (shown_in_log before t.clauses names search.named hints learnt.lesson.named (map negation clause) learnt.lesson.shown))
+
+  follows : (later : List Step) → steps_refusal variables (length (before ++ clause ∷ [])) (numbered_from 1 (before ++ clause ∷ [])) later
+      ≡ None → steps_refusal variables (length before) (numbered_from 1 before) (step ∷ later) ≡ None
+  follows later h =
+      let rest : steps_refusal variables journal.next (numbered_from 1 before
+      ++ record { number = journal.next; clause = clause } ∷ []) later ≡ None = ap (λ (ks : List Numbered). steps_refusal variables journal.next ks later)
+      (sym (numbered_push 1 before clause journal.next (omega (arith, next_number))))
+      ∙ (ap (λ (n : ℕ). steps_refusal variables n (numbered_from 1 (before ++ clause ∷ [])) later)
+      (next_number ∙ sym (length_push before clause)) ∙ h) in
+      ap (λ (o : Option Refusal). first_of o (steps_refusal variables journal.next
+      (numbered_from 1 before ++ record { number = journal.next; clause = clause } ∷ []) later)) accepted ∙ rest
+
+  still_traced : shortens ≡ false → (t.clauses ++ clause ∷ [] ≡ known clauses (taken ++ step ∷ []))
+      × ((later : List (List Lit)) → IsTrace variables (t.clauses ++ clause ∷ []) later →
+      IsTrace variables clauses (clauses_of (taken ++ step ∷ []) ++ later))
+  still_traced all =
+      let r = search.traced all in (
+        ap (λ (cs : List (List Lit)). cs ++ clause ∷ []) r.0 ∙ sym (known_push clauses taken step),
+        λ later h. subst (λ (cs : List (List Lit)). IsTrace variables clauses cs)
+            (sym (ap (λ (cs : List (List Lit)). cs ++ later) (clauses_of_push taken step)
+            ∙ append_assoc (clauses_of taken) (clause ∷ []) later))
+            (r.1 (clause ∷ later) (
+              subst (λ (v : ℕ). IsLearnt v t.clauses clause) search.same_variables
+                  (lesson_learnt t search.sound clause hints back learnt.lesson search.quiet above),
+              h,
+            )),
+      )
+
+  one_more : IsSearch shortens variables clauses (with_clause (undone t target) clause) (taken ++ step ∷ []) (names ++ journal.next ∷ [])
+  one_more = record {
+    usable = search.usable;
+    sound = subst IsSound learnt.trail_is sound;
+    same_variables = search.same_variables;
+    others = search.others ++ clause ∷ [];
+    stands = ap (λ (cs : List (List Lit)). cs ++ clause ∷ []) search.stands ∙ append_assoc clauses search.others (clause ∷ []);
+    fewer = omega (arith, search.fewer, length_push t.clauses clause, length_push taken step);
+    named = subst (λ (cs : List (List Lit)). AreLogNumbers cs (t.clauses ++ clause ∷ []) (names ++ journal.next ∷ []))
+        (sym (known_push clauses taken step)) (named_next before t.clauses names clause journal.next next_number search.named);
+    logged = λ later h. ap (λ (ss : List Step). steps_refusal variables (length clauses) (numbered_from 1 clauses) ss)
+        (append_assoc taken (step ∷ []) later) ∙ search.logged (step ∷ later) (follows later
+        (subst (λ (cs : List (List Lit)). steps_refusal variables (length cs) (numbered_from 1 cs) later ≡ None)
+        (known_push clauses taken step) h));
+    few_hints = All-push (λ (s : Step). length s.hints + 1 < 2 ^ 32) taken step search.few_hints
+        (subst (λ (n : ℕ). n + 1 < 2 ^ 32) (sym (length-map hints (log_number names))) learnt.lesson.few_hints);
+    numbered = search_numbered clauses taken search.numbered step next_number
+        (hints_in_log before t.clauses names search.named hints learnt.lesson.named);
+    traced = still_traced;
+    increasing = subst (AllByRecursion IsIncreasing) (sym (clauses_of_push taken step)) (all_push (clauses_of taken) search.increasing);
+    quiet = λ level below. subst (λ (es : List Entry). IsQuiet (t.clauses ++ clause ∷ []) (literals_of es))
+        (sym (up_to-up_to level target t.entries (omega arith))) (lesson_quiet t search.sound clause hints back learnt.lesson
+        search.quiet above level (omega (arith, target_low anew)));
+  }
+
+  pub search_learnt : IsSearch shortens variables clauses u after.steps.items after.shelf.numbers.items
+  search_learnt = subst (λ (s : TrailState). IsSearch shortens variables clauses s after.steps.items after.shelf.numbers.items)
+      (sym learnt.trail_is) (subst (λ (ss : List Step). IsSearch shortens variables clauses (with_clause (undone t target) clause) ss
+      after.shelf.numbers.items) (sym learnt.steps_are) (subst (λ (ns : List ℕ). IsSearch shortens variables clauses
+      (with_clause (undone t target) clause) (taken ++ step ∷ []) ns) (sym learnt.numbers_are) one_more))
+
+-- ---- a trail that begins anew
+
+pub search_shortened : (variables : ℕ) (clauses : List (List Lit)) (shortens : Bool) (t u : TrailState) (steps : List Step)
+    (numbers : List ℕ) (shelf : Shelf) → IsSearch shortens variables clauses t steps numbers → shortens ≡ true →
+    BeginsAnew variables clauses t numbers u shelf → IsSound u → IsSearch shortens variables clauses u steps shelf.numbers.items
+search_shortened variables clauses shortens t u steps numbers shelf search is begins sound =
+    subst (λ (s : TrailState). IsSearch shortens variables clauses s steps shelf.numbers.items) (sym begins.trail_is) (record {
+      usable = refl;
+      sound = subst IsSound begins.trail_is sound;
+      same_variables = refl;
+      others = begins.kept.others;
+      stands = begins.kept.stand;
+      fewer = omega (arith, begins.kept.fewer, search.fewer);
+      named = begins.kept.named (clauses_of steps) search.named;
+      logged = search.logged;
+      few_hints = search.few_hints;
+      numbered = search.numbered;
+      traced = λ none. absurd (true≢false (sym is ∙ none));
+      increasing = search.increasing;
+      quiet = λ level below. absurd (omega arith);
+    })
+
+-- the steps and the trail after a call that may shorten it
+pub search_stays : (shortens wanted : Bool) (variables : ℕ) (clauses : List (List Lit)) (t u : TrailState) (journal after : Journal) →
+    IsSearch shortens variables clauses t journal.steps.items journal.shelf.numbers.items →
+    length journal.shelf.uses.items ≡ length t.clauses → wanted ≡ shortens → IsSound u →
+    after ≡ record journal { shelf = after.shelf } → IsShortened wanted variables clauses t journal u after →
+    IsSearch shortens variables clauses u after.steps.items after.shelf.numbers.items × (length after.shelf.uses.items ≡ length u.clauses)
+search_stays shortens wanted variables clauses t u journal after search uses same sound rest (inl (here, all)) =
+    subst (λ (s : TrailState). IsSearch shortens variables clauses s after.steps.items after.shelf.numbers.items
+    × (length after.shelf.uses.items ≡ length s.clauses)) (sym here)
+    (subst (λ (j : Journal). IsSearch shortens variables clauses t j.steps.items j.shelf.numbers.items
+    × (length j.shelf.uses.items ≡ length t.clauses)) (sym all) (search, uses))
+search_stays shortens wanted variables clauses t u journal after search uses same sound rest (inr (is, begins)) = (
+  subst (λ (ss : List Step). IsSearch shortens variables clauses u ss after.shelf.numbers.items)
+      (sym (ap (λ (j : Journal). j.steps.items) rest)) (search_shortened variables clauses shortens t u journal.steps.items
+      journal.shelf.numbers.items after.shelf search (sym same ∙ is) begins sound),
+  begins.kept.one_use_each ∙ sym (ap (λ (s : TrailState). length s.clauses) begins.trail_is),
+)
 
 -- ---- the answers
 
-pub search_refuted : (variables : ℕ) (clauses : List (List Lit)) (t : TrailState) (steps : List Step) (log : Log) →
-    IsSearch variables clauses t steps → IsRefuted t.clauses steps log → AreRefuting variables clauses log.steps
-search_refuted variables clauses t steps log search refuted = subst (AreRefuting variables clauses) (sym refuted.steps_are) (record {
-  accepted = ap (λ (o : Option Refusal). first_of o (end_refusal (steps ++ last ∷ []))) (search.logged (last ∷ []) accepted) ∙ ended steps;
-  few_hints = All-push (λ (s : Step). length s.hints + 1 < 2 ^ 32) steps last search.few_hints refuted.few_hints;
-  numbered = search_numbered variables clauses t steps search last refl refuted.named;
-})
+pub search_refuted : (shortens : Bool) (variables : ℕ) (clauses : List (List Lit)) (t : TrailState) (journal : Journal) (log : Log) →
+    IsSearch shortens variables clauses t journal.steps.items journal.shelf.numbers.items →
+    journal.next ≡ length clauses + length journal.steps.items + 1 → IsRefuted t.clauses journal log →
+    AreRefuting variables clauses log.steps
+search_refuted shortens variables clauses t journal log search next_is refuted =
+    subst (AreRefuting variables clauses) (sym refuted.steps_are) (record {
+      accepted = ap (λ (o : Option Refusal). first_of o (end_refusal (steps ++ last ∷ []))) (search.logged (last ∷ []) accepted)
+          ∙ ended steps;
+      few_hints = All-push (λ (s : Step). length s.hints + 1 < 2 ^ 32) steps last search.few_hints
+          (subst (λ (n : ℕ). n + 1 < 2 ^ 32) (sym (length-map refuted.hints (log_number numbers))) refuted.few_hints);
+      numbered = search_numbered clauses steps search.numbered last next_number
+          (hints_in_log before t.clauses numbers search.named refuted.hints refuted.named);
+    })
   where
-    last : Step
-    last = learnt_step (length t.clauses + 1) [] refuted.hints
+    steps : List Step
+    steps = journal.steps.items
 
-    accepted : steps_refusal variables (length t.clauses) (numbered_from 1 t.clauses) (last ∷ []) ≡ None
-    accepted = ap (λ (o : Option Refusal). first_of o None) (step_accepted variables t.clauses [] refuted.hints
-        (All-nil (λ (l : Lit). l.index < variables)) refl refuted.shown)
+    numbers : List ℕ
+    numbers = journal.shelf.numbers.items
+
+    before : List (List Lit)
+    before = known clauses steps
+
+    next_number : journal.next ≡ length before + 1
+    next_number = omega (arith, next_is, known_long clauses steps)
+
+    last : Step
+    last = learnt_step journal.next [] (log_hints numbers refuted.hints)
+
+    step_taken : step_refusal variables (length before) (numbered_from 1 before) last ≡ None
+    step_taken = subst (λ (n : ℕ). step_refusal variables (length before) (numbered_from 1 before)
+        (learnt_step n [] (log_hints numbers refuted.hints)) ≡ None) (sym next_number) (step_accepted variables before []
+        (log_hints numbers refuted.hints) (All-nil (λ (l : Lit). l.index < variables)) refl
+        (shown_in_log before t.clauses numbers search.named refuted.hints refuted.named [] refuted.shown))
+
+    accepted : steps_refusal variables (length before) (numbered_from 1 before) (last ∷ []) ≡ None
+    accepted = ap (λ (o : Option Refusal). first_of o None) step_taken
 
     ended : (ss : List Step) → end_refusal (ss ++ last ∷ []) ≡ None
     ended ss = ap (λ (b : Bool). cond b None (Some unfinished)) (found ss)
@@ -459,12 +586,12 @@ search_refuted variables clauses t steps log search refuted = subst (AreRefuting
         found (x ∷ xs) = or_right (is_empty_clause x.clause) (list_any (λ (s : Step). is_empty_clause s.clause) (xs ++ last ∷ []))
             (found xs)
 
-pub search_spent : (variables : ℕ) (clauses : List (List Lit)) (t : TrailState) (steps : List Step) (budget : ℕ) (trace : List (List Lit)) →
-    IsSearch variables clauses t steps → length steps ≡ budget → trace ≡ clauses_of steps → (ReachesFalse t.clauses [] → ⊥) →
-    IsWholeTrace variables clauses budget trace
-search_spent variables clauses t steps budget trace search spent is none =
+pub search_spent : (shortens : Bool) (variables : ℕ) (clauses : List (List Lit)) (t : TrailState) (steps : List Step) (numbers : List ℕ)
+    (budget : ℕ) (trace : List (List Lit)) → IsSearch shortens variables clauses t steps numbers → length steps ≡ budget →
+    trace ≡ clauses_of steps → (ReachesFalse t.clauses [] → ⊥) → shortens ≡ false → IsWholeTrace variables clauses budget trace
+search_spent shortens variables clauses t steps numbers budget trace search spent is none keeps =
     let all : IsTrace variables clauses (clauses_of steps) = subst (λ (cs : List (List Lit)). IsTrace variables clauses cs)
-    (append-nil (clauses_of steps)) (search.traced [] none) in
+    (append-nil (clauses_of steps)) ((search.traced keeps).1 [] none) in
     let count : length (clauses_of steps) ≡ budget = length-map steps (λ (s : Step). s.clause) ∙ spent in
     let short = trace_is_short variables clauses (clauses_of steps) all search.increasing in
     record {
@@ -529,23 +656,26 @@ quiet_met (c ∷ cs) es variables truths apart all read over none =
             (truths_true es variables truths apart all read x over.0 f)
         by_test true f later n = or_right (is_true (assignment_of truths) x) (meets (assignment_of truths) xs) (later n)
 
-pub search_satisfied : (variables : ℕ) (clauses : List (List Lit)) (t : TrailState) (steps : List Step) (truths : List Bool) →
-    IsSearch variables clauses t steps → All (IsOver variables) clauses → IsQuiet t.clauses (literals_of t.entries) →
+pub search_satisfied : (shortens : Bool) (variables : ℕ) (clauses : List (List Lit)) (t : TrailState) (found : List Step)
+    (of_trail : List ℕ) (truths : List Bool) → IsSearch shortens variables clauses t found of_trail → All (IsOver variables) clauses →
+    IsQuiet t.clauses (literals_of t.entries) →
     AreSet t.entries variables → AreVariableTruths t.entries variables truths → AreSatisfying variables clauses truths
-search_satisfied variables clauses t steps truths search over quiet all read = record {
+search_satisfied shortens variables clauses t found of_trail truths search over quiet all read = record {
   one_each = read.all;
   all_met = quiet_met clauses t.entries variables truths (apart_from t.variables t.clauses t.entries search.sound.stand) all read
       (recursion_from_All (IsOver variables) clauses over) (λ c in' f. quiet.none_false
-      (c, subst (λ (cs : List (List Lit)). Contains cs c) (sym search.stands) (Contains-append_left clauses (clauses_of steps) c in'), f));
+      (c, subst (λ (cs : List (List Lit)). Contains cs c) (sym search.stands) (Contains-append_left clauses search.others c in'), f));
 }
 
-pub search_ended : (variables : ℕ) (clauses : List (List Lit)) (t : TrailState) (steps : List Step) (budget : ℕ) →
-    IsSearch variables clauses t steps → length steps ≡ budget → (answer : Answer) → IsEnd t.clauses steps answer →
-    IsRightAnswer variables clauses budget answer
-search_ended variables clauses t steps budget search spent (Sat assignment) end' = absurd end'
-search_ended variables clauses t steps budget search spent (Unsat log) end' = search_refuted variables clauses t steps log search end'
-search_ended variables clauses t steps budget search spent (Spent trace) end' = search_spent variables clauses t steps budget trace search
-    spent end'.0 end'.1
+pub search_ended : (shortens : Bool) (variables : ℕ) (clauses : List (List Lit)) (t : TrailState) (journal : Journal) (budget : ℕ) →
+    IsSearch shortens variables clauses t journal.steps.items journal.shelf.numbers.items →
+    journal.next ≡ length clauses + length journal.steps.items + 1 → length journal.steps.items ≡ budget → (answer : Answer) →
+    IsEnd t.clauses journal answer → IsSearchAnswer shortens variables clauses budget answer
+search_ended shortens variables clauses t journal budget search next_is spent (Sat assignment) end' = absurd end'
+search_ended shortens variables clauses t journal budget search next_is spent (Unsat log) end' =
+    search_refuted shortens variables clauses t journal log search next_is end'
+search_ended shortens variables clauses t journal budget search next_is spent (Spent trace) end' =
+    search_spent shortens variables clauses t journal.steps.items journal.shelf.numbers.items budget trace search spent end'.0 end'.1
 
 -- ---- the measure
 

@@ -5,3 +5,4 @@ pub mod Ends
 pub mod Decisions
 pub mod ConflictWalks
 pub mod Heaps
+pub mod Shelves

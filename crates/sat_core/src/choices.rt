@@ -1,6 +1,6 @@
 //! The order of decisions, and the assignment that is read off a trail.
 
-ghost use Rattle.std.specs.Prelude.{◌≡◌, ◌==◌, ◌||◌, ◌^◌, ◌<◌, ◌++◌, ◌∷◌, [], ℕ, List, length, false, All, MatchOption, IfOk, OnOk};
+ghost use Rattle.std.specs.Prelude.{◌≡◌, ◌==◌, ◌||◌, ◌^◌, ◌<◌, ◌++◌, ◌∷◌, [], ℕ, List, length, true, false, All, MatchOption, IfSome, IfOk, OnOk};
 ghost use Rattle.sat_trail.specs.declared.entries.Entry.{Entry};
 ghost use Rattle.sat_trail.specs.States.{TrailState, IsSound, up_to};
 ghost use Rattle.sat_core.specs.internal.Heaps.{IsHeap, variable_count, is_queued};
@@ -19,6 +19,8 @@ pub struct Decisions {
     heap: VariableHeap,
     /// For each variable the value that it had last; false at first.
     phases: Vec<bool>,
+    /// What is to be decided before all else, the last one first.
+    repeated: Vec<Literal>,
 }
 
 impl Decisions {
@@ -30,6 +32,7 @@ impl Decisions {
         Ok(Decisions {
             heap: VariableHeap::new(alloc, variables)?,
             phases: vec![in alloc; false; variables as usize]?,
+            repeated: Vec::new(alloc),
         })
     }
 
@@ -40,12 +43,40 @@ impl Decisions {
         requires decisions { AreDecisions trail.old.variables trail.old.entries self.old }
         ensures { IfOk result (Decides trail.old trail.new self.new) }
     {
+        if let Some(literal) = self.next_repeated(trail) {
+            trail.decide(literal)?;
+            return Ok(true);
+        }
         let Some(index) = self.next_variable(trail) else {
             return Ok(false);
         };
         let literal = Literal::of_variable(index + 1, self.phases[index as usize]);
         trail.decide(literal)?;
         Ok(true)
+    }
+
+    /// The next literal to be decided again that is not set; none where there is none.
+    fn next_repeated(&mut self, trail: &Trail) -> Option<Literal>
+        requires usable { trail.now.broken ≡ false }
+        requires values { length self.old.phases.items ≡ trail.now.variables }
+        ensures unset { IfSome result (λ literal. IsUnset trail.now.entries trail.now.variables literal.index) }
+        ensures rest { self.new ≡ record self.old { repeated = self.new.repeated } }
+    {
+        while let Some(literal) = self.repeated.pop() {
+            if self.is_unset(trail, literal) {
+                return Some(literal);
+            }
+        }
+        None
+    }
+
+    /// Whether a literal is of one of the variables, which is not set.
+    fn is_unset(&self, trail: &Trail, literal: Literal) -> bool
+        requires usable { trail.now.broken ≡ false }
+        requires values { length self.now.phases.items ≡ trail.now.variables }
+        ensures { result ≡ true → IsUnset trail.now.entries trail.now.variables literal.index }
+    {
+        literal.index() < self.phases.len() && trail.set_place(literal.variable()).is_none()
     }
 
     /// Takes the next variable that is not set out of the heap; none where all are set.
@@ -67,13 +98,15 @@ impl Decisions {
     }
 
     /// Notes that what is above a level will be taken back: those variables may be decided again, and
-    /// each to the value that it has. An `Err` says that memory ran out.
+    /// each to the value that it has; nothing is to be decided before all else. An `Err` says that memory
+    /// ran out.
     pub fn take_back(&mut self, trail: &Trail, level: u32) -> Result<(), NoMemory>
         requires usable { trail.now.broken ≡ false }
         requires sound { IsSound trail.now }
         requires decisions { AreDecisions trail.now.variables trail.now.entries self.old }
         ensures { OnOk result (AreDecisions trail.now.variables (up_to level trail.now.entries) self.new) }
     {
+        self.repeated.clear();
         let mut place = trail.set_count();
         while place > 0 {
             let last = place - 1;
@@ -82,6 +115,35 @@ impl Decisions {
             }
             self.give_back(trail.set_at(last))?;
             place = last;
+        }
+        Ok(())
+    }
+
+    /// Notes that all will be taken back, and what was decided is to be decided again first. An `Err` says
+    /// that memory ran out.
+    pub fn take_all_back(&mut self, trail: &Trail) -> Result<(), NoMemory>
+        requires usable { trail.now.broken ≡ false }
+        requires sound { IsSound trail.now }
+        requires decisions { AreDecisions trail.now.variables trail.now.entries self.old }
+        ensures { OnOk result (AreDecisions trail.now.variables [] self.new) }
+    {
+        self.repeated.clear();
+        let mut place = trail.set_count();
+        while place > 0 {
+            place -= 1;
+            let literal = trail.set_at(place);
+            self.repeat_if(literal, trail.reason_at(place).is_none())?;
+            self.give_back(literal)?;
+        }
+        Ok(())
+    }
+
+    /// Notes that a literal is to be decided again, if it was decided. An `Err` says that memory ran out.
+    fn repeat_if(&mut self, literal: Literal, decided: bool) -> Result<(), NoMemory>
+        ensures { self.new ≡ record self.old { repeated = self.new.repeated } }
+    {
+        if decided {
+            self.repeated.push(literal)?;
         }
         Ok(())
     }

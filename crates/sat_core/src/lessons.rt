@@ -8,11 +8,12 @@ ghost use Rattle.sat_core.specs.internal.ConflictWalks.{AreNoMarks};
 ghost use Rattle.sat_core.specs.internal.Decisions.{AreDecisions};
 
 use crate::choices::Decisions;
+use crate::journal::Journal;
 use crate::walks::Walk;
 use clause_core::{Clause, clause_of};
-use refutation_check::{Log, Step};
+use refutation_check::Log;
 use sat_trail::Trail;
-use sequence::{NoMemory, Sequence};
+use sequence::NoMemory;
 use std::alloc::Global;
 
 /// A clause that follows, the hints that show it, and the level to go back to.
@@ -28,7 +29,7 @@ struct Lesson {
 pub fn learn(
     alloc: Global,
     trail: &mut Trail,
-    steps: &mut Vec<Step>,
+    journal: &mut Journal,
     walk: &mut Walk,
     decisions: &mut Decisions,
     conflict: u32,
@@ -42,7 +43,10 @@ pub fn learn(
     requires few { length trail.old.clauses + 1 < 2 ^ 32 }
     requires marks { AreNoMarks trail.old.variables walk.old.marks }
     requires decisions { AreDecisions trail.old.variables trail.old.entries decisions.old }
-    ensures learnt { OnOk result (HasLearnt anew trail.old steps.old.items trail.new steps.new.items) }
+    requires next { journal.old.next + 1 < 2 ^ 64 }
+    requires numbers { length journal.old.shelf.numbers.items ≡ length trail.old.clauses }
+    requires uses { length journal.old.shelf.uses.items ≡ length trail.old.clauses }
+    ensures learnt { OnOk result (HasLearnt anew trail.old journal.old trail.new journal.new) }
     ensures sound { OnOk result (IsSound trail.new) }
     ensures marks { OnOk result (AreNoMarks trail.new.variables walk.new.marks) }
     ensures decisions { OnOk result (AreDecisions trail.new.variables trail.new.entries decisions.new) }
@@ -52,12 +56,8 @@ pub fn learn(
     decisions.bump(walk.marks.looked.as_slice());
     decisions.take_back(trail, level)?;
     trail.undo_to(level);
-    let number = trail.learn(clause_of(alloc, lesson.clause.literals())?)?;
-    steps.push(Step {
-        number: u64::from(number) + 1,
-        clause: lesson.clause,
-        hints: Sequence::from_vec(lesson.hints),
-    })?;
+    let _ = trail.learn(clause_of(alloc, lesson.clause.literals())?)?;
+    journal.add(alloc, lesson.clause, lesson.hints.as_slice())?;
     Ok(())
 }
 
@@ -68,33 +68,27 @@ fn level_after(anew: bool, back: u32) -> u32
     if anew { 0 } else { back }
 }
 
-/// The log of the steps that is closed by a conflict at level 0; the number is that of the last step.
-/// An `Err` says that memory ran out.
+/// The log of the steps that is closed by a conflict at level 0. An `Err` says that memory ran out.
 pub fn refute(
     alloc: Global,
     trail: &Trail,
-    mut steps: Vec<Step>,
+    mut journal: Journal,
     walk: &mut Walk,
     conflict: u32,
-    number: u64,
 ) -> Result<Log, NoMemory>
     requires usable { trail.now.broken ≡ false }
     requires sound { IsSound trail.now }
     requires conflict { IsFalseAt trail.now conflict }
     requires start { trail.now.level ≡ 0 }
-    requires number { number ≡ length trail.now.clauses + 1 }
     requires marks { AreNoMarks trail.now.variables walk.old.marks }
-    ensures { IfOk result (IsRefuted trail.now.clauses steps.items) }
+    requires next { journal.next + 1 < 2 ^ 64 }
+    requires numbers { length journal.shelf.numbers.items ≡ length trail.now.clauses }
+    requires uses { length journal.shelf.uses.items ≡ length trail.now.clauses }
+    ensures { IfOk result (IsRefuted trail.now.clauses journal) }
 {
     let lesson = lesson_of(alloc, trail, walk, conflict)?;
-    steps.push(Step {
-        number,
-        clause: lesson.clause,
-        hints: Sequence::from_vec(lesson.hints),
-    })?;
-    Ok(Log {
-        steps: Sequence::from_vec(steps),
-    })
+    journal.add(alloc, lesson.clause, lesson.hints.as_slice())?;
+    Ok(journal.into_log())
 }
 
 /// What a conflict teaches: the clause of the first unique implication point. An `Err` says that

@@ -10,14 +10,21 @@
 //! conflicts were found by it, the later ones the more. At the counts of `Restarts` the search begins
 //! anew at level 0, with what it has learnt. The hints of its log are the reasons of the entries that
 //! the clause was found by, in the order in which they were set.
+//!
+//! Clauses that were not used of late are left out of the trail, at the counts of `Drops`: the trail is made
+//! anew without them, and the same decisions are taken again. What is learnt then is a refutation, but no trace,
+//! since a clause may be learnt twice. So a search whose budget is spent is followed by one that keeps all.
 #![tactic(auto)]
 
 mod answers;
 mod choices;
+mod drops;
 mod heap;
+mod journal;
 mod lessons;
 mod marks;
 mod restarts;
+mod shelves;
 mod solver;
 mod walks;
 

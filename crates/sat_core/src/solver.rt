@@ -1,19 +1,25 @@
 //! The search.
 
-ghost use Rattle.std.specs.Prelude.{◌≡◌, ◌+◌, ◌-◌, ◌^◌, ◌<◌, false, length, All, IfOk};
+ghost use Rattle.std.specs.Prelude.{◌≡◌, ◌+◌, ◌-◌, ◌^◌, ◌<◌, ◌≤◌, false, length, All, IfOk};
 ghost use Rattle.clause_core.specs.Clauses.{has_pair};
 ghost use Rattle.sat_core.specs.Answers.{IsRightAnswer};
-ghost use Rattle.sat_core.specs.internal.Ends.{IsEnd};
+ghost use Rattle.sat_trail.specs.States.{IsSound};
+ghost use Rattle.sat_core.specs.internal.Decisions.{AreDecisions};
+ghost use Rattle.sat_core.specs.internal.Ends.{IsEnd, IsSearchAnswer};
 ghost use Rattle.sat_core.specs.internal.Lessons.{clauses_of};
 ghost use Rattle.sat_core.specs.internal.ConflictWalks.{AreNoMarks};
+ghost use Rattle.sat_core.specs.internal.Shelves.{IsShortened};
 
 use crate::answers::Answer;
 use crate::choices::{Decisions, assignment_of};
+use crate::drops::Drops;
+use crate::journal::Journal;
 use crate::lessons::{learn, refute};
 use crate::restarts::Restarts;
+use crate::shelves::Kept;
 use crate::walks::Walk;
 use clause_core::{Clause, Cnf};
-use refutation_check::Step;
+use refutation_check::Log;
 use sat_trail::Trail;
 use sequence::{NoMemory, Sequence};
 use std::alloc::Global;
@@ -28,13 +34,28 @@ pub fn solve(alloc: Global, cnf: &Cnf, budget: u64) -> Result<Answer, NoMemory>
     requires few { length cnf.now.clauses + budget < 2 ^ 32 - 1 }
     ensures { IfOk result (IsRightAnswer cnf.now.variables cnf.now.clauses budget) }
 {
+    match search(alloc, cnf, budget, true)? {
+        Answer::Sat(assignment) => Ok(Answer::Sat(assignment)),
+        Answer::Unsat(log) => Ok(Answer::Unsat(log)),
+        Answer::Spent(_) => search(alloc, cnf, budget, false),
+    }
+}
+
+/// Searches until so many clauses are learnt. Where the trail may be shortened, clauses that were not used
+/// of late are left out of it, and then the learnt clauses may be no trace. An `Err` says that memory ran
+/// out.
+fn search(alloc: Global, cnf: &Cnf, budget: u64, shortens: bool) -> Result<Answer, NoMemory>
+    requires few { length cnf.now.clauses + budget < 2 ^ 32 - 1 }
+    ensures { IfOk result (IsSearchAnswer shortens cnf.now.variables cnf.now.clauses budget) }
+{
     let Ok(mut trail) = Trail::new(alloc, cnf) else {
         return Err(NoMemory);
     };
-    let mut steps = Vec::new(alloc);
+    let mut journal = Journal::new(alloc, cnf.clauses.len() as u32)?;
     let mut walk = Walk::new(alloc, cnf.variables)?;
     let mut decisions = Decisions::new(alloc, cnf.variables)?;
     let mut restarts = Restarts::new();
+    let mut drops = Drops::new(shortens, cnf.clauses.len() as u64);
     loop {
         let Some(conflict) = trail.propagate()? else {
             if decisions.decide(&mut trail)? {
@@ -44,55 +65,99 @@ pub fn solve(alloc: Global, cnf: &Cnf, budget: u64) -> Result<Answer, NoMemory>
             return Ok(Answer::Sat(assignment));
         };
         if trail.level() == 0 {
-            let number = cnf.clauses.len() as u64 + steps.len() as u64 + 1;
-            let log = refute(alloc, &trail, steps, &mut walk, conflict, number)?;
+            let log = refute(alloc, &trail, journal, &mut walk, conflict)?;
             return Ok(Answer::Unsat(log));
         }
-        if steps.len() as u64 == budget {
-            let number = cnf.clauses.len() as u64 + budget + 1;
-            return end(alloc, trail, steps, walk, number);
+        if journal.len() == budget {
+            return end(alloc, trail, journal, walk);
         }
-        let anew = restarts.is_due(steps.len() as u64 + 1);
+        let anew = restarts.is_due(journal.len() + 1);
         learn(
             alloc,
             &mut trail,
-            &mut steps,
+            &mut journal,
             &mut walk,
             &mut decisions,
             conflict,
             anew,
         )?;
+        trail = shortened(alloc, cnf, trail, &mut journal, &mut decisions, &mut drops)?;
     }
 }
 
+/// The trail, or where clauses are to be left out one that begins anew without them. An `Err` says that
+/// memory ran out.
+fn shortened(
+    alloc: Global,
+    cnf: &Cnf,
+    trail: Trail,
+    journal: &mut Journal,
+    decisions: &mut Decisions,
+    drops: &mut Drops,
+) -> Result<Trail, NoMemory>
+    requires usable { trail.broken ≡ false }
+    requires sound { IsSound trail }
+    requires variables { cnf.now.variables ≡ trail.variables }
+    requires formula { length cnf.now.clauses ≤ length trail.clauses }
+    requires numbers { length journal.old.shelf.numbers.items ≡ length trail.clauses }
+    requires uses { length journal.old.shelf.uses.items ≡ length trail.clauses }
+    requires decisions { AreDecisions trail.variables trail.entries decisions.old }
+    ensures trail { IfOk result (λ new. IsShortened drops.old.wanted cnf.now.variables cnf.now.clauses trail journal.old new journal.new) }
+    ensures journal { journal.new ≡ record journal.old { shelf = journal.new.shelf } }
+    ensures drops { drops.new.wanted ≡ drops.old.wanted }
+    ensures decisions { IfOk result (λ new. AreDecisions new.variables new.entries decisions.new) }
+    ensures sound { IfOk result IsSound }
+{
+    if !drops.is_due(journal.len()) {
+        return Ok(trail);
+    }
+    decisions.take_all_back(&trail)?;
+    let from = drops.from(journal.len());
+    let kept = journal
+        .shelf
+        .kept(alloc, cnf.clauses.as_slice(), &trail, from)?;
+    let Kept { clauses, shelf } = kept;
+    let shorter = Cnf {
+        variables: cnf.variables,
+        clauses: Sequence::from_vec(clauses),
+    };
+    let Ok(new) = Trail::new(alloc, &shorter) else {
+        return Err(NoMemory);
+    };
+    journal.shelf = shelf;
+    Ok(new)
+}
+
 /// Ends a search that may learn no more: by a refutation where propagation at level 0 finds a clause
-/// that is false, the number being that of its last step. An `Err` says that memory ran out.
+/// that is false. An `Err` says that memory ran out.
 fn end(
     alloc: Global,
     mut trail: Trail,
-    steps: Vec<Step>,
+    journal: Journal,
     mut walk: Walk,
-    number: u64,
 ) -> Result<Answer, NoMemory>
     requires usable { trail.broken ≡ false }
     requires marks { AreNoMarks trail.variables walk.marks }
-    requires number { number ≡ length trail.clauses + 1 }
-    ensures { IfOk result (IsEnd trail.clauses steps.items) }
+    requires next { journal.next + 1 < 2 ^ 64 }
+    requires numbers { length journal.shelf.numbers.items ≡ length trail.clauses }
+    requires uses { length journal.shelf.uses.items ≡ length trail.clauses }
+    ensures { IfOk result (IsEnd trail.clauses journal) }
 {
     trail.undo_to(0);
     match trail.propagate()? {
         Some(conflict) => {
-            let log = refute(alloc, &trail, steps, &mut walk, conflict, number)?;
+            let log = refute(alloc, &trail, journal, &mut walk, conflict)?;
             Ok(Answer::Unsat(log))
         }
-        None => Ok(Answer::Spent(learnt_clauses(alloc, steps)?)),
+        None => Ok(Answer::Spent(learnt_clauses(alloc, journal.into_log())?)),
     }
 }
 
 /// The clauses of the steps. An `Err` says that memory ran out.
-fn learnt_clauses(alloc: Global, steps: Vec<Step>) -> Result<Sequence<Clause>, NoMemory>
-    ensures { IfOk result (λ clauses. clauses ≡ clauses_of steps.items) }
+fn learnt_clauses(alloc: Global, log: Log) -> Result<Sequence<Clause>, NoMemory>
+    ensures { IfOk result (λ clauses. clauses ≡ clauses_of log.steps) }
 {
+    let steps = log.steps.into_vec();
     let mut clauses = Vec::with_capacity(alloc, steps.len())?;
     for step in steps {
         clauses.push(step.clause)?;

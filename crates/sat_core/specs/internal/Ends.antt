@@ -1,14 +1,21 @@
--- Internal: only private functions of this crate use this word. How a search ends that may learn no more.
-use Rattle.std.specs.Prelude.{◌≡◌, List, []}
+-- Internal: only private functions of this crate use these words. How a search ends.
+use Rattle.std.specs.Prelude.{◌≡◌, ℕ, Bool, false, List, []}
 use Rattle.clause_core.specs.Literals.{Lit}
 use Rattle.clause_core.specs.Propagation.{ReachesFalse}
-use Rattle.refutation_check.specs.declared.steps.Step.{Step}
 use Rattle.sat_core.specs.declared.answers.Answer.{Answer}
 use Rattle.sat_core.specs.declared.answers.Answer.TheVariants.{Sat, Unsat, Spent}
+use Rattle.sat_core.specs.declared.journal.Journal.{Journal}
+use Rattle.sat_core.specs.Answers.{AreSatisfying, AreRefuting, IsWholeTrace}
 use Rattle.sat_core.specs.internal.Lessons.{clauses_of, IsRefuted}
 
 -- how the search ends where no more may be learnt, behind the clauses of a trail
-abbrev pub IsEnd : List (List Lit) → List Step → Answer → Type 0
-IsEnd clauses steps (Sat assignment) = ⊥
-IsEnd clauses steps (Unsat log) = IsRefuted clauses steps log
-IsEnd clauses steps (Spent trace) = (trace ≡ clauses_of steps) × (ReachesFalse clauses [] → ⊥)
+abbrev pub IsEnd : List (List Lit) → Journal → Answer → Type 0
+IsEnd clauses journal (Sat assignment) = ⊥
+IsEnd clauses journal (Unsat log) = IsRefuted clauses journal log
+IsEnd clauses journal (Spent trace) = (trace ≡ clauses_of journal.steps.items) × (ReachesFalse clauses [] → ⊥)
+
+-- What a search answers that may leave clauses out of its trail. If it does, a spent budget says nothing.
+abbrev pub IsSearchAnswer : Bool → ℕ → List (List Lit) → ℕ → Answer → Type 0
+IsSearchAnswer shortens variables clauses budget (Sat assignment) = AreSatisfying variables clauses assignment.truths
+IsSearchAnswer shortens variables clauses budget (Unsat log) = AreRefuting variables clauses log.steps
+IsSearchAnswer shortens variables clauses budget (Spent trace) = shortens ≡ false → IsWholeTrace variables clauses budget trace

@@ -10,7 +10,9 @@ use Rattle.sat_trail.specs.States.{TrailState, with_clause, undone}
 use Rattle.refutation_check.specs.declared.steps.Step.{Step}
 use Rattle.refutation_check.specs.declared.steps.Log.{Log}
 use Rattle.refutation_check.specs.Checking.{numbered_from, refused_hint}
+use Rattle.sat_core.specs.declared.journal.Journal.{Journal}
 use Rattle.sat_core.specs.internal.Levels.{IsSetAt}
+use Rattle.sat_core.specs.internal.Shelves.{log_hints}
 
 -- One literal of the clause is false at the present level. The others are false at lower levels, the largest of
 -- which is the level to go back to; that is 0 where there are no others.
@@ -41,19 +43,23 @@ abbrev pub clauses_of : List Step → List (List Lit)
 clauses_of steps = map (λ step. step.clause) steps
 
 -- A clause is learnt: the trail goes back, to level 0 where the search begins anew, and takes the clause, and its step
--- stands behind the others.
-pub record HasLearnt (anew : Bool) (old : TrailState) (steps : List Step) (new : TrailState) (more : List Step) : Type 0 where
+-- stands behind the others, with the next number.
+pub record HasLearnt (anew : Bool) (old : TrailState) (journal : Journal) (new : TrailState) (after : Journal) : Type 0 where
   pub clause : List Lit
   pub hints : List ℕ
   pub back : ℕ
   pub lesson : IsLesson old clause hints back
   pub trail_is : new ≡ with_clause (undone old (cond anew 0 back)) clause
-  pub steps_are : more ≡ steps ++ learnt_step (length old.clauses + 1) clause hints ∷ []
+  pub steps_are : after.steps.items
+      ≡ journal.steps.items ++ learnt_step journal.next clause (log_hints journal.shelf.numbers.items hints) ∷ []
+  pub next_is : after.next ≡ journal.next + 1
+  pub numbers_are : after.shelf.numbers.items ≡ journal.shelf.numbers.items ++ journal.next ∷ []
+  pub one_use_each : length after.shelf.uses.items ≡ length after.shelf.numbers.items
 
--- a log of these steps and of one more with the empty clause, which hints show behind these clauses
-pub record IsRefuted (clauses : List (List Lit)) (steps : List Step) (log : Log) : Type 0 where
+-- a log of the steps and of one more with the empty clause, which hints show behind these clauses
+pub record IsRefuted (clauses : List (List Lit)) (journal : Journal) (log : Log) : Type 0 where
   pub hints : List ℕ
   pub shown : refused_hint (numbered_from 1 clauses) [] 1 hints ≡ None
   pub few_hints : length hints + 1 < 2 ^ 32
   pub named : AreHints (length clauses) hints
-  pub steps_are : log.steps ≡ steps ++ learnt_step (length clauses + 1) [] hints ∷ []
+  pub steps_are : log.steps ≡ journal.steps.items ++ learnt_step journal.next [] (log_hints journal.shelf.numbers.items hints) ∷ []

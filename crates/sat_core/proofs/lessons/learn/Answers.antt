@@ -2,7 +2,9 @@ use Rattle.std.proofs.Common.{◌≡◌, ◌+◌, ◌++◌, ◌∷◌, [], ℕ, 
 use Rattle.clause_core.specs.Literals.{Lit}
 use Rattle.clause_core.specs.Clauses.{IsOver, has_pair}
 use Rattle.sat_trail.specs.States.{TrailState, with_clause, undone}
+use Rattle.sat_core.specs.internal.Hints.{AreHints}
 use Rattle.sat_core.specs.internal.Lessons.{learnt_step}
+use Rattle.sat_core.specs.internal.Shelves.{log_hints}
 use Rattle.sat_core.specs.internal.ConflictWalks.{AreNoMarks}
 use Rattle.sat_core.specs.internal.Decisions.{AreDecisions}
 use Rattle.sat_core.proofs.Searching.{lesson_over, lesson_no_pair, copied}
@@ -34,19 +36,24 @@ returns-clause-learnt c =
     c.in_ok-clause_of.ensures c.literals.ensures.value c.literals.ensures.increasing in
     let target : ℕ = cond c.args.anew 0 lesson.back in
     let back : c.undo_to.new.self ≡ undone t target = c.undo_to.ensures.value ∙ ap (undone t) c.level_after-level.ensures in
-    let number : c.from.result + 1 ≡ length t.clauses + 1 = ap (λ (n : ℕ). n + 1)
-    (c.from.ensures ∙ (c.in_ok-number.ensures.number ∙ ap (λ (s : TrailState). length s.clauses) back)) in
+    let hints : c.as_slice-2.result.now ≡ lesson.hints.items = c.as_slice-2.ensures.value in
     record {
       clause = lesson.clause;
       hints = lesson.hints.items;
       back = lesson.back;
       lesson = c.in_ok-lesson.ensures.lesson;
-      trail_is = c.in_ok-number.ensures.ok ∙ (ap (λ (s : TrailState). with_clause s c.in_ok-clause_of.field-0) back
+      trail_is = c.in_ok-learn.ensures.ok ∙ (ap (λ (s : TrailState). with_clause s c.in_ok-clause_of.field-0) back
           ∙ ap (with_clause (undone t target)) copy);
-      steps_are = c.in_ok-push.ensures.items ∙ (ap (λ (n : ℕ). c.args.steps.now.items
-          ++ learnt_step n lesson.clause c.from_vec.result ∷ []) number
-          ∙ ap (λ (hs : List ℕ). c.args.steps.now.items ++ learnt_step (length t.clauses + 1) lesson.clause hs ∷ []) c.from_vec.ensures);
+      steps_are = c.in_ok-add.ensures.steps ∙ ap (λ (hs : List ℕ). c.args.journal.now.steps.items
+          ++ learnt_step c.args.journal.now.next lesson.clause (log_hints c.args.journal.now.shelf.numbers.items hs) ∷ []) hints;
+      next_is = c.in_ok-add.ensures.next;
+      numbers_are = c.in_ok-add.ensures.numbers;
+      one_use_each = c.in_ok-add.ensures.uses;
     }
+
+pub add-requires-clause-named : goal.add-requires-clause-named
+add-requires-clause-named c = subst (AreHints (length c.args.journal.now.shelf.numbers.items)) (sym c.as_slice-2.ensures.value)
+    (subst (λ (n : ℕ). AreHints n c.in_ok-lesson.lesson.hints.items) (sym c.requires.numbers) c.in_ok-lesson.ensures.lesson.named)
 
 pub bump-requires-clause-heap : goal.bump-requires-clause-heap
 bump-requires-clause-heap c = c.requires.decisions.heap
@@ -62,10 +69,10 @@ take_back-requires-clause-decisions c =
 
 pub returns-clause-marks : goal.returns-clause-marks
 returns-clause-marks c = subst (λ (n : ℕ). AreNoMarks n c.lesson_of.new.walk.marks)
-    (sym (ap (λ (s : TrailState). s.variables) c.in_ok-number.ensures.ok
+    (sym (ap (λ (s : TrailState). s.variables) c.in_ok-learn.ensures.ok
     ∙ ap (λ (s : TrailState). s.variables) c.undo_to.ensures.value)) c.in_ok-lesson.ensures.marks
 
 pub returns-clause-decisions : goal.returns-clause-decisions
 returns-clause-decisions c = subst (λ (s : TrailState). AreDecisions s.variables s.entries c.take_back.new.self)
-    (sym (c.in_ok-number.ensures.ok ∙ ap (λ (s : TrailState). with_clause s c.in_ok-clause_of.field-0) c.undo_to.ensures.value))
+    (sym (c.in_ok-learn.ensures.ok ∙ ap (λ (s : TrailState). with_clause s c.in_ok-clause_of.field-0) c.undo_to.ensures.value))
     c.in_ok-take_back.ensures

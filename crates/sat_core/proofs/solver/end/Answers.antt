@@ -4,6 +4,7 @@ use Rattle.clause_core.specs.Propagation.{IsQuiet}
 use Rattle.sat_trail.specs.Entries.{literals_of}
 use Rattle.sat_trail.specs.States.{TrailState, EndsWith}
 use Rattle.sat_core.specs.internal.ConflictWalks.{AreNoMarks}
+use Rattle.sat_core.specs.internal.Lessons.{clauses_of}
 use Rattle.sat_core.proofs.Searching.{quiet_reaches}
 use Rattle.sat_core.proofs.solver.end.Goals as goal
 
@@ -14,7 +15,7 @@ returns c =
     (λ (o : Option ℕ). EndsWith o u) c.in-None.is c.in_ok-conflict.ensures.ends in
     let same : u.clauses ≡ c.args.trail.clauses = ap (λ (s : TrailState). s.clauses) c.in_ok-conflict.ensures.ok.rest_stays
     ∙ ap (λ (s : TrailState). s.clauses) c.undo_to.ensures.value in (
-      c.in_ok-learnt_clauses-in-None.ensures,
+      c.in_ok-learnt_clauses-in-None.ensures ∙ ap clauses_of c.into_log.ensures,
       quiet_reaches c.args.trail.clauses (literals_of u.entries)
           (subst (λ (cs : List (List Lit)). IsQuiet cs (literals_of u.entries)) same quiet),
     )

@@ -3,4 +3,4 @@ use Rattle.sat_core.specs.internal.Lessons.{clauses_of}
 use Rattle.sat_core.proofs.solver.learnt_clauses.Given as goal
 
 abbrev pub invariant-loop-step : goal.invariant-loop-step
-invariant-loop-step l = l.clauses.items ++ clauses_of l.step-iterator.rest.items ≡ clauses_of l.fn.steps.items
+invariant-loop-step l = l.clauses.items ++ clauses_of l.step-iterator.rest.items ≡ clauses_of l.fn.log.steps

@@ -8,4 +8,5 @@ returns-then-is_none-clause-decisions c = λ e here.
     let t = c.args.trail.now in
     let none : place_of t.entries c.in-Some.index ≡ None = search rules in
     decisions_set t.variables t.entries c.loop-index.self c.pop.new.self c.in-Some.index c.loop-index.invariant c.pop.ensures.heap
-    c.pop.ensures.count c.in-Some.ensures.others none (record { heap = c.pop.new.self; phases = c.loop-index.self.phases }) refl refl e here
+    c.pop.ensures.count c.in-Some.ensures.others none
+    (record { heap = c.pop.new.self; phases = c.loop-index.self.phases; repeated = c.loop-index.self.repeated }) refl refl e here
