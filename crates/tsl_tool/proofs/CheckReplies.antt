@@ -6,8 +6,6 @@ use Rattle.tsl_report.specs.declared.fault.Fault.TheVariants.{Parts, Unbuilt}
 use Rattle.tsl_meaning.specs.Promise.{Realizes}
 use Rattle.program_check.specs.declared.verdict.Verdict.{Verdict}
 use Rattle.program_check.specs.declared.verdict.Verdict.TheVariants.{Signals, Test, Choice, Foreign, Unsound, NoAnnotation, Yes}
-use Rattle.program_check.specs.declared.verdict.Limit.{Limit}
-use Rattle.program_check.specs.declared.verdict.Limit.TheVariants.{Predicates, Bits, Choices, States, Edges, Clauses}
 use Rattle.program_check.specs.Verdicts.{IsVerdict}
 use Rattle.tsl_terms.specs.SpecTree.{SpecTree}
 use Rattle.flow_program.specs.ProgramTree.{ProgramTree}
@@ -15,14 +13,15 @@ use Rattle.tsl_tool.specs.declared.words.Command.TheVariants.{Check}
 use Rattle.tsl_tool.specs.declared.status.Status.{Status}
 use Rattle.tsl_tool.specs.declared.status.Status.TheVariants.{Done, No}
 use Rattle.tsl_tool.specs.declared.reply.Reply.{Reply}
-use Rattle.tsl_tool.specs.Check.{CheckParts, AreCheckParts, CheckInput, SpellCheckInput, verdict_reply, fault_at_limit}
+use Rattle.tsl_tool.specs.Check.{CheckParts, AreCheckParts, CheckInput, SpellCheckInput, verdict_reply}
 use Rattle.tsl_tool.specs.Check.{VerdictOutcome, unbuilt, too_large, judged, spec_refused, program_refused, both_spelled}
 use Rattle.tsl_tool.specs.Check.{CheckOutcome, without_program, of_texts}
 use Rattle.tsl_tool.specs.Promise.{Promise}
-use Rattle.tsl_tool.specs.Replies.{fault_status, fault_reply}
+use Rattle.tsl_tool.specs.Refusals.{fault_at_limit}
+use Rattle.tsl_tool.specs.Replies.{fault_reply}
 use Rattle.tsl_tool.proofs.FaultPromises.{fault_keeps}
 use Rattle.tsl_tool.proofs.RunReplies.{program_fault_comes}
-use Rattle.tsl_tool.proofs.Statuses.{comes_of_bytes, status_of, text_of, refusal_comes, fault_says}
+use Rattle.tsl_tool.proofs.Statuses.{comes_of_bytes, status_of, text_of, refusal_comes, limit_comes, fault_says}
 
 -- ---- statuses
 
@@ -34,14 +33,6 @@ verdict_comes bound (Foreign i) = refl
 verdict_comes bound (Unsound i) = refl
 verdict_comes bound NoAnnotation = refl
 verdict_comes bound Yes = refl
-
-limit_comes : (limit : Limit) → comes_of_bytes (fault_status (fault_at_limit limit)) ≡ true
-limit_comes Predicates = refl
-limit_comes Bits = refl
-limit_comes Choices = refl
-limit_comes States = refl
-limit_comes Edges = refl
-limit_comes Clauses = refl
 
 both_come : (bound : ℕ) (spec : SpecTree) (program : ProgramTree) (reply : Reply) → VerdictOutcome bound spec program reply →
     comes_of_bytes reply.status ≡ true

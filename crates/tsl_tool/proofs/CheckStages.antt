@@ -16,14 +16,14 @@ use Rattle.program_check.specs.declared.verdict.Verdict.TheVariants.{Yes}
 use Rattle.program_check.specs.declared.verdict.Limit.{Limit}
 use Rattle.program_check.specs.declared.verdict.CheckError.TheVariants.{Large}
 use Rattle.program_check.specs.Verdicts.{IsVerdict, HasCheckCause}
-use Rattle.tsl_tool.specs.Check.{verdict_reply, fault_at_limit, too_large, judged}
+use Rattle.tsl_tool.specs.Check.{verdict_reply, too_large, judged}
 use Rattle.tsl_tool.specs.Check.{CheckParts, AreCheckParts, CheckInput, SpellCheckInput, VerdictOutcome, TextsOutcome, spec_refused}
 use Rattle.tsl_tool.specs.Check.{program_refused, both_spelled, CheckOutcome, without_program, of_texts}
 use Rattle.tsl_tool.specs.HeadLines.{HasNoLine}
 use Rattle.tsl_tool.specs.Replies.{fault_reply}
 use Rattle.tsl_tool.specs.RunFaults.{IsProgramFault}
 use Rattle.tsl_tool.specs.RunParts.{program_line}
-use Rattle.tsl_tool.specs.Synth.{HasSpecFault}
+use Rattle.tsl_tool.specs.Refusals.{HasSpecFault, fault_at_limit}
 
 module _ {E : Type 0} (bound : ℕ) where
   pub without_program_outcome : (bytes : List ℕ) (r : Result Reply E) → HasNoLine bytes program_line →

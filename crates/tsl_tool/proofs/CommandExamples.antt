@@ -3,7 +3,7 @@ use Rattle.std.proofs.Common.{inl, arith}
 use Rattle.std.specs.Prelude.{◌≡◌, ℕ, List, [], ◌∷◌, codes, Some, None, refl}
 use Rattle.tsl_report.specs.declared.fault.Fault.TheVariants.{Usage as WrongWords}
 use Rattle.tsl_report.specs.FaultText.{fault_text}
-use Rattle.tsl_tool.specs.declared.words.Command.TheVariants.{Synth, Recheck}
+use Rattle.tsl_tool.specs.declared.words.Command.TheVariants.{Synth, Prove, Recheck}
 use Rattle.tsl_tool.specs.declared.status.Status.TheVariants.{Usage, WriteFault}
 use Rattle.tsl_tool.specs.Commands.{command_of, most_bytes}
 use Rattle.tsl_io.specs.Effects.{Effect}
@@ -11,14 +11,32 @@ use Rattle.tsl_tool.specs.Ends.{IsReplyTo, Ends, answered, cut_off}
 use Rattle.tsl_tool.specs.Outcome.{usage}
 use Rattle.tsl_tool.specs.Replies.{fault_reply}
 
-synth_alone : command_of (codes "synth" ∷ []) ≡ Some (Synth (record { states = 2 }))
+synth_alone : command_of (codes "synth" ∷ []) ≡ Some (Synth (record { states = 2; bound = 2; rounds = 0; budget = 20000 }))
 synth_alone = refl
 
-one_state : command_of (codes "synth" ∷ codes "--states" ∷ codes "1" ∷ []) ≡ Some (Synth (record { states = 1 }))
-one_state = refl
+in_any_order : command_of (codes "synth" ∷ codes "--budget" ∷ codes "7" ∷ codes "--states" ∷ codes "1" ∷ codes "--rounds" ∷ codes "0" ∷ [])
+    ≡ Some (Synth (record { states = 1; bound = 2; rounds = 0; budget = 7 }))
+in_any_order = refl
 
 nine_states : command_of (codes "synth" ∷ codes "--states" ∷ codes "9" ∷ []) ≡ None
 nine_states = refl
+
+-- also where both values are the same
+named_twice : command_of (codes "synth" ∷ codes "--states" ∷ codes "1" ∷ codes "--states" ∷ codes "1" ∷ []) ≡ None
+named_twice = refl
+
+without_a_value : command_of (codes "prove" ∷ codes "--bound" ∷ []) ≡ None
+without_a_value = refl
+
+leading_zero : command_of (codes "check" ∷ codes "--bound" ∷ codes "02" ∷ []) ≡ None
+leading_zero = refl
+
+of_another_command : command_of (codes "prove" ∷ codes "--rounds" ∷ codes "0" ∷ []) ≡ None
+of_another_command = refl
+
+prove_alone : command_of (codes "prove" ∷ codes "--bound" ∷ codes "0" ∷ [])
+    ≡ Some (Prove (record { states = 2; bound = 0; budget = 20000 }))
+prove_alone = refl
 
 recheck_alone : command_of (codes "recheck" ∷ []) ≡ Some Recheck
 recheck_alone = refl

@@ -4,7 +4,7 @@ use Rattle.std.specs.Prelude.{Option, Some, None}
 use Rattle.tsl_report.specs.declared.fault.Fault.{Fault}
 use Rattle.tsl_report.specs.declared.fault.Fault.TheVariants.{Usage as WrongWords, Read, Large as PastLimit}
 use Rattle.tsl_tool.specs.declared.words.Command.{Command}
-use Rattle.tsl_tool.specs.declared.words.Command.TheVariants.{Synth, Check, Run, Recheck}
+use Rattle.tsl_tool.specs.declared.words.Command.TheVariants.{Synth, Check, Run, Prove, Recheck}
 use Rattle.tsl_tool.specs.declared.status.Status.{Status}
 use Rattle.tsl_tool.specs.declared.reply.Reply.{Reply}
 use Rattle.tsl_tool.specs.Promise.{Promise}
@@ -25,6 +25,10 @@ fault_promises (Some Run) WrongWords bytes text = tt
 fault_promises (Some Run) Read bytes text = tt
 fault_promises (Some Run) (PastLimit name limit) bytes text = tt
 fault_promises (Some Run) _ bytes text = tt
+fault_promises (Some (Prove sizes)) WrongWords bytes text = tt
+fault_promises (Some (Prove sizes)) Read bytes text = tt
+fault_promises (Some (Prove sizes)) (PastLimit name limit) bytes text = tt
+fault_promises (Some (Prove sizes)) _ bytes text = tt
 fault_promises (Some Recheck) WrongWords bytes text = tt
 fault_promises (Some Recheck) Read bytes text = tt
 fault_promises (Some Recheck) (PastLimit name limit) bytes text = tt

@@ -3,10 +3,6 @@ pub mod CheckStages
 pub mod CommandExamples
 pub mod EndLaws
 pub mod FaultPromises
-pub mod FixedCode
-pub mod FixedExamples
-pub mod FixedLaws
-pub mod FixedSteps
 pub mod OutcomeLaws
 pub mod PlainUpdates
 pub mod ProgramFaultLaws
@@ -20,7 +16,12 @@ pub mod RunNames
 pub mod RunParting
 pub mod RunReplies
 pub mod RunVerdicts
-pub mod SignalNames
 pub mod Statuses
-pub mod SynthLaws
+pub mod FewVariables
+pub mod FormulaLines
+pub mod ProveReplies
+pub mod ProveStages
+pub mod SynthReplies
+pub mod SynthStages
 pub mod WholeTexts
+pub mod OptionPairs

@@ -6,18 +6,15 @@ use Rattle.refutation_check.specs.CnfText.{CnfAnswer, is_cnf, form_at as cnf_for
 use Rattle.refutation_check.specs.LogText.{LogAnswer, is_log, form_at as log_form_at, log_answer}
 use Rattle.tsl_report.specs.declared.fault.Fault.{Fault}
 use Rattle.tsl_report.specs.declared.fault.Fault.TheVariants.{Usage as WrongWords, Read, Parts, CnfForm, LogForm, Large as PastLimit}
-use Rattle.tsl_report.specs.declared.fault.Fault.TheVariants.{Unbuilt}
 use Rattle.tsl_report.specs.declared.fault.Head.TheVariants.{Lrat}
 use Rattle.tsl_report.specs.declared.fault.LimitName.TheVariants.{Text, Variables, Clauses}
-use Rattle.flow_program.specs.ProgramText.{program_text}
 use Rattle.tsl_tool.specs.declared.status.Status.{Status}
 use Rattle.tsl_tool.specs.declared.status.Status.TheVariants.{Done, No, Usage, Large, ReadFault, WriteFault, Memory}
 use Rattle.tsl_tool.specs.declared.words.Command.{Command}
-use Rattle.tsl_tool.specs.declared.words.Command.TheVariants.{Synth, Check, Run, Recheck}
+use Rattle.tsl_tool.specs.declared.words.Command.TheVariants.{Synth, Check, Run, Prove, Recheck}
 use Rattle.tsl_tool.specs.declared.reply.Reply.{Reply}
 use Rattle.tsl_tool.specs.Commands.{command_of, most_bytes}
 use Rattle.tsl_tool.specs.Replies.{fault_status, fault_reply}
-use Rattle.tsl_tool.specs.Synth.{written, unbuilt, refused}
 use Rattle.tsl_tool.specs.HeadLines.{IsFirstLineAt}
 use Rattle.tsl_tool.specs.Recheck.{without_log, of_parts, head_line, verdict, parts_reply}
 use Rattle.tsl_tool.specs.Recheck.{recheck_reply, cnf_part, log_part}
@@ -25,9 +22,11 @@ use Rattle.tsl_tool.specs.Outcome.{CommandOutcome, Outcome, usage, source_failed
 use Rattle.tsl_tool.specs.Promise.{Promise}
 use Rattle.tsl_tool.proofs.CheckReplies.{check_comes, check_says, check_keeps}
 use Rattle.tsl_tool.proofs.FaultPromises.{fault_keeps}
+use Rattle.tsl_tool.proofs.ProveReplies.{prove_comes, prove_says, prove_keeps}
 use Rattle.tsl_tool.proofs.RecheckLaws.{yes_refutes, no_exactly}
 use Rattle.tsl_tool.proofs.RunReplies.{run_comes, run_says, run_keeps}
-use Rattle.tsl_tool.proofs.Statuses.{comes_of_bytes, status_of, text_of, refusal_comes, line_says, fault_says}
+use Rattle.tsl_tool.proofs.Statuses.{comes_of_bytes, status_of, text_of, line_says, fault_says}
+use Rattle.tsl_tool.proofs.SynthReplies.{synth_comes, synth_says, synth_keeps}
 
 verdict_comes : (refusal : Option Refusal) → comes_of_bytes (verdict refusal).status ≡ true
 verdict_comes None = refl
@@ -42,12 +41,10 @@ parts_come too_many_clauses log = refl
 
 pub command_comes : (command : Command) (bytes : List ℕ) (reply : Reply) → CommandOutcome command bytes reply →
     comes_of_bytes reply.status ≡ true
-command_comes (Synth sizes) bytes reply (written done h) = ap comes_of_bytes done
-command_comes (Synth sizes) bytes reply (unbuilt h is) = ap comes_of_bytes (status_of is)
-command_comes (Synth sizes) bytes reply (refused fault h is) = ap comes_of_bytes (status_of is)
-    ∙ refusal_comes bytes h.error fault h.is_fault
+command_comes (Synth sizes) bytes reply outcome = synth_comes sizes bytes reply outcome
 command_comes (Check bound) bytes reply outcome = check_comes bound bytes reply outcome
 command_comes Run bytes reply outcome = run_comes bytes reply outcome
+command_comes (Prove sizes) bytes reply outcome = prove_comes sizes bytes reply outcome
 command_comes Recheck bytes reply (without_log h is) = ap comes_of_bytes (status_of is)
 command_comes Recheck bytes reply (of_parts at h is) =
     ap comes_of_bytes (status_of is) ∙ parts_come (cnf_answer (cnf_part bytes at)) (log_answer (log_part bytes at))
@@ -99,12 +96,10 @@ parts_say too_many_variables log = line_says (PastLimit Variables 1048576)
 parts_say too_many_clauses log = line_says (PastLimit Clauses 2000000)
 
 command_says : (command : Command) (bytes : List ℕ) (reply : Reply) → CommandOutcome command bytes reply → reply.text ≢ []
-command_says (Synth sizes) bytes reply (written done h) e =
-    let program : program_text h.spec.names h.program ≡ [] = sym h.spelled.text ∙ e in cc
-command_says (Synth sizes) bytes reply (unbuilt h is) e = fault_says Unbuilt reply is e
-command_says (Synth sizes) bytes reply (refused fault h is) e = fault_says fault reply is e
+command_says (Synth sizes) bytes reply outcome e = synth_says sizes bytes reply outcome e
 command_says (Check bound) bytes reply outcome e = check_says bound bytes reply outcome e
 command_says Run bytes reply outcome e = run_says bytes reply outcome e
+command_says (Prove sizes) bytes reply outcome e = prove_says sizes bytes reply outcome e
 command_says Recheck bytes reply (without_log h is) e = fault_says (Parts Lrat) reply is e
 command_says Recheck bytes reply (of_parts at h is) e =
     parts_say (cnf_answer (cnf_part bytes at)) (log_answer (log_part bytes at)) (sym (text_of is) ∙ e)
@@ -124,12 +119,10 @@ recheck_keeps bytes at _ first is = tt
 
 command_keeps : (command : Command) (bytes : List ℕ) (reply : Reply) → CommandOutcome command bytes reply →
     Promise (Some command) reply.status bytes reply.text
-command_keeps (Synth sizes) bytes reply (written done h) =
-    subst (λ (s : Status). Promise (Some (Synth sizes)) s bytes reply.text) (sym done) h
-command_keeps (Synth sizes) bytes reply (unbuilt h is) = fault_keeps (Some (Synth sizes)) Unbuilt bytes reply is
-command_keeps (Synth sizes) bytes reply (refused fault h is) = fault_keeps (Some (Synth sizes)) fault bytes reply is
+command_keeps (Synth sizes) bytes reply outcome = synth_keeps sizes bytes reply outcome
 command_keeps (Check bound) bytes reply outcome = check_keeps bound bytes reply outcome
 command_keeps Run bytes reply outcome = run_keeps bytes reply outcome
+command_keeps (Prove sizes) bytes reply outcome = prove_keeps sizes bytes reply outcome
 command_keeps Recheck bytes reply (without_log h is) = fault_keeps (Some Recheck) (Parts Lrat) bytes reply is
 command_keeps Recheck bytes reply (of_parts at first is) =
     subst (λ (r : Reply). Promise (Some Recheck) r.status bytes r.text) (sym is)

@@ -1,5 +1,7 @@
 -- The statuses and texts of replies.
-use Rattle.std.proofs.Common.{◌≡◌, ◌≢◌, ℕ, Bool, true, false, List, [], ◌∷◌, ◌++◌, ap, sym, ◌∙◌}
+use Rattle.std.proofs.Common.{◌≡◌, ◌≢◌, ℕ, Bool, true, false, List, [], ◌∷◌, ◌++◌, refl, ap, sym, ◌∙◌}
+use Rattle.program_check.specs.declared.verdict.Limit.{Limit}
+use Rattle.program_check.specs.declared.verdict.Limit.TheVariants.{Predicates, Bits, Choices, States, Edges, Clauses}
 use Rattle.tsl_reader.specs.declared.SpecError.{SpecError}
 use Rattle.tsl_reader.specs.declared.SpecError.TheVariants.{Byte, OpenComment, Form, Deep, Kind, Arity, Nodes, NoMemory}
 use Rattle.tsl_report.specs.declared.fault.Fault.{Fault}
@@ -7,8 +9,9 @@ use Rattle.tsl_report.specs.FaultText.{fault_line, fault_text}
 use Rattle.tsl_tool.specs.declared.status.Status.{Status}
 use Rattle.tsl_tool.specs.declared.status.Status.TheVariants.{Done, No, Usage, Reading, Large, Spent, ReadFault, WriteFault, Memory}
 use Rattle.tsl_tool.specs.declared.reply.Reply.{Reply}
-use Rattle.tsl_tool.specs.Refusals.{IsFaultOf}
+use Rattle.tsl_tool.specs.Refusals.{IsFaultOf, fault_at_limit}
 use Rattle.tsl_tool.specs.Replies.{fault_status, fault_reply}
+use Rattle.tsl_tool.specs.Statuses.{is_answer}
 
 pub status_of : {a b : Reply} → a ≡ b → a.status ≡ b.status
 status_of h = ap (λ (r : Reply). r.status) h
@@ -38,6 +41,31 @@ refusal_comes bytes (Kind start end) fault h = ap (λ f. comes_of_bytes (fault_s
 refusal_comes bytes (Arity start end) fault h = ap (λ f. comes_of_bytes (fault_status f)) h.2
 refusal_comes bytes Nodes fault h = ap (λ f. comes_of_bytes (fault_status f)) h
 refusal_comes bytes NoMemory fault h = absurd h
+
+-- the fault of a limit
+pub limit_comes : (limit : Limit) → comes_of_bytes (fault_status (fault_at_limit limit)) ≡ true
+limit_comes Predicates = refl
+limit_comes Bits = refl
+limit_comes Choices = refl
+limit_comes States = refl
+limit_comes Edges = refl
+limit_comes Clauses = refl
+
+pub limit_status : (limit : Limit) → fault_status (fault_at_limit limit) ≡ Large
+limit_status Predicates = refl
+limit_status Bits = refl
+limit_status Choices = refl
+limit_status States = refl
+limit_status Edges = refl
+limit_status Clauses = refl
+
+pub limit_is_large : (limit : Limit) → is_answer (fault_status (fault_at_limit limit)) ≡ false
+limit_is_large Predicates = refl
+limit_is_large Bits = refl
+limit_is_large Choices = refl
+limit_is_large States = refl
+limit_is_large Edges = refl
+limit_is_large Clauses = refl
 
 -- each reply has a text
 some_byte : (xs : List ℕ) (y : ℕ) → xs ++ y ∷ [] ≢ []

@@ -7,19 +7,13 @@ use Rattle.flow_program.specs.declared.reading.ProgramError.{ProgramError}
 use Rattle.flow_program.specs.ProgramTree.{ProgramTree}
 use Rattle.flow_program.specs.Reading.{IsReading, HasProgramCause}
 use Rattle.tsl_meaning.specs.Promise.{Realizes}
-use Rattle.letter_space.specs.declared.limits.TheConstants.{MOST_PREDICATES, MOST_BITS}
-use Rattle.obligations.specs.Choices.{most_choices}
-use Rattle.cobuchi_automata.specs.Refusals.{most_automaton_states, most_automaton_edges}
-use Rattle.refutation_check.specs.declared.dimacs.TheConstants.{MOST_CLAUSES}
 use Rattle.program_check.specs.declared.verdict.Verdict.{Verdict}
 use Rattle.program_check.specs.declared.verdict.Verdict.TheVariants.{Signals, Test, Choice, Foreign, Unsound, NoAnnotation, Yes}
 use Rattle.program_check.specs.declared.verdict.Limit.{Limit}
-use Rattle.program_check.specs.declared.verdict.Limit.TheVariants as limits
 use Rattle.program_check.specs.Verdicts.{IsVerdict, IsPassed}
 use Rattle.tsl_report.specs.declared.fault.Head.TheVariants.{Program}
-use Rattle.tsl_report.specs.declared.fault.LimitName.TheVariants.{Predicates, Bits, Choices, States, Edges, Clauses}
 use Rattle.tsl_report.specs.declared.fault.Fault.{Fault}
-use Rattle.tsl_report.specs.declared.fault.Fault.TheVariants.{Parts, Large, Unbuilt}
+use Rattle.tsl_report.specs.declared.fault.Fault.TheVariants.{Parts, Unbuilt}
 use Rattle.tsl_tool.specs.declared.status.Status.{Status}
 use Rattle.tsl_tool.specs.declared.status.Status.TheVariants.{Done, No}
 use Rattle.tsl_tool.specs.declared.reply.Reply.{Reply}
@@ -27,7 +21,7 @@ use Rattle.tsl_tool.specs.HeadLines.{HasNoLine, IsCutBefore}
 use Rattle.tsl_tool.specs.Replies.{fault_reply}
 use Rattle.tsl_tool.specs.RunFaults.{IsProgramFault}
 use Rattle.tsl_tool.specs.RunParts.{program_line}
-use Rattle.tsl_tool.specs.Synth.{HasSpecFault}
+use Rattle.tsl_tool.specs.Refusals.{HasSpecFault, fault_at_limit}
 
 -- ---- what the parts spell
 
@@ -50,7 +44,7 @@ pub record SpellCheckInput (parts : CheckParts) (input : CheckInput) : Type 0 wh
   pub spec : Spells parts.spec input.spec
   pub program : IsReading parts.program input.spec.names input.program input.names
 
--- ---- verdicts and limits
+-- ---- verdicts
 
 -- the line of a verdict that the program is refused
 abbrev pub refused_reply : List ℕ → Reply
@@ -65,15 +59,6 @@ verdict_reply bound (Choice i) = refused_reply (codes "choice " ++ decimal i)
 verdict_reply bound (Foreign i) = refused_reply (codes "foreign " ++ decimal i)
 verdict_reply bound (Unsound i) = refused_reply (codes "window " ++ decimal i)
 verdict_reply bound NoAnnotation = refused_reply (codes "bound " ++ decimal bound)
-
--- the fault of a limit that is passed
-abbrev pub fault_at_limit : Limit → Fault
-fault_at_limit limits.Predicates = Large Predicates MOST_PREDICATES
-fault_at_limit limits.Bits = Large Bits MOST_BITS
-fault_at_limit limits.Choices = Large Choices most_choices
-fault_at_limit limits.States = Large States most_automaton_states
-fault_at_limit limits.Edges = Large Edges most_automaton_edges
-fault_at_limit limits.Clauses = Large Clauses MOST_CLAUSES
 
 -- ---- the reply
 

@@ -2,12 +2,12 @@ pub mod Causes
 pub mod Check
 pub mod Commands
 pub mod Ends
-pub mod Fixed
 pub mod internal
 pub mod Form
 pub mod HeadLines
 pub mod Outcome
 pub mod Promise
+pub mod Prove
 pub mod Recheck
 pub mod Refusals
 pub mod Replies
@@ -17,3 +17,4 @@ pub mod RunParts
 pub mod Statuses
 pub mod Synth
 pub mod Limits
+pub mod Options

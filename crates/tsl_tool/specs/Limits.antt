@@ -1,4 +1,5 @@
--- The limits of texts and of the work, in numbers. The definitions cite them as constants of the code, and here each constant has its number.
+-- The limits of texts and of the work, in numbers. The definitions cite them as constants of the code, and here each constant has its
+-- number.
 use Rattle.std.specs.Prelude.{◌≡◌, ℕ}
 use Rattle.tsl_text.specs.declared.numbers.TheConstants.{MOST_DIGITS}
 use Rattle.tsl_terms.specs.WellFormed.{deepest as deepest_brackets}
@@ -10,21 +11,33 @@ use Rattle.refutation_check.specs.declared.dimacs.TheConstants.{MOST_VARIABLES, 
 use Rattle.letter_space.specs.declared.limits.TheConstants.{MOST_PREDICATES, MOST_BITS}
 use Rattle.obligations.specs.Choices.{most_choices, letter_bits}
 use Rattle.cobuchi_automata.specs.Refusals.{most_automaton_states, most_automaton_edges}
-use Rattle.tsl_tool.specs.declared.words.TheConstants.{DEFAULT_STATES, MOST_STATES, DEFAULT_BOUND, MOST_BOUND}
+use Rattle.tsl_tool.specs.declared.options.NumberOption.TheVariants.{States, Bound, Budget, Rounds}
+use Rattle.tsl_tool.specs.Options.{least_value, most_value, usual_value}
 use Rattle.tsl_tool.specs.declared.run.TheConstants.{MOST_CONFIGURATIONS}
-use Rattle.tsl_tool.specs.declared.words.Sizes.{Sizes}
-use Rattle.tsl_tool.specs.declared.words.Command.TheVariants.{Synth, Check, Run, Recheck}
+use Rattle.refinement_loop.specs.declared.outcome.Sizes.{Sizes}
+use Rattle.tsl_tool.specs.declared.words.QuestionSizes.{QuestionSizes}
+use Rattle.tsl_tool.specs.declared.words.Command.TheVariants.{Synth, Check, Run, Prove, Recheck}
 use Rattle.tsl_tool.specs.Commands.{most_bytes}
 
 pub record LimitsAreThese : Type 0 where
   -- bytes of what a command reads
   pub specification_bytes : (sizes : Sizes) → most_bytes (Synth sizes) ≡ 1048576
+  pub question_bytes : (sizes : QuestionSizes) → most_bytes (Prove sizes) ≡ 1048576
   pub check_bytes : (bound : ℕ) → most_bytes (Check bound) ≡ 16777216
   pub run_bytes : most_bytes Run ≡ 16777216
   pub log_bytes : most_bytes Recheck ≡ 268435456
-  -- states of a written program
-  pub usual_states : DEFAULT_STATES ≡ 2
-  pub most_states : MOST_STATES ≡ 8
+  -- the values of options: the states of a controller, the bound of an annotation, the clauses that are learnt, and the rounds
+  pub least_states : least_value States ≡ 1
+  pub most_states : most_value States ≡ 8
+  pub usual_states : usual_value States ≡ 2
+  pub least_bound : least_value Bound ≡ 0
+  pub largest_bound : most_value Bound ≡ 15
+  pub usual_bound : usual_value Bound ≡ 2
+  pub least_budget : least_value Budget ≡ 1
+  pub largest_budget : most_value Budget ≡ 1000000
+  pub usual_budget : usual_value Budget ≡ 20000
+  pub most_rounds : most_value Rounds ≡ 0
+  pub usual_rounds : usual_value Rounds ≡ 0
   -- a specification: levels, nodes of the whole formula, brackets of a term
   pub levels : deepest_level ≡ 200
   pub formula_nodes : most_formula_nodes ≡ 10000
@@ -34,21 +47,19 @@ pub record LimitsAreThese : Type 0 where
   pub windows : most_windows ≡ 64
   pub program_nodes : most_program_nodes ≡ 65536
   pub program_states : most_program_states ≡ 64
-  -- the letters of a specification, its automaton, and the bound of an annotation
+  -- the letters of a specification, and its automaton
   pub predicates : MOST_PREDICATES ≡ 10
   pub bits : MOST_BITS ≡ 64
   pub bits_of_letters : letter_bits ≡ 64
   pub choices : most_choices ≡ 65536
   pub automaton_states : most_automaton_states ≡ 4096
   pub automaton_edges : most_automaton_edges ≡ 200000
-  pub usual_bound : DEFAULT_BOUND ≡ 2
-  pub largest_bound : MOST_BOUND ≡ 15
   -- tables, inputs, and the configurations of a run
   pub values : MOST_VALUES ≡ 256
   pub entries : MOST_ENTRIES ≡ 65536
   pub rows : MOST_ROWS ≡ 65536
   pub configurations : MOST_CONFIGURATIONS ≡ 65536
-  -- numbers in formulas in conjunctive normal form and in logs, and what such a formula may have
+  -- numbers in formulas in conjunctive normal form and in logs, and what such a formula may have, be it read or be it that of a question
   pub digits : MOST_DIGITS ≡ 18
   pub variables : MOST_VARIABLES ≡ 1048576
   pub clauses : MOST_CLAUSES ≡ 2000000

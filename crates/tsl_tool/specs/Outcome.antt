@@ -3,13 +3,14 @@ use Rattle.std.specs.Prelude.{◌≡◌, ℕ, ◌<◌, ◌≤◌, List, length, 
 use Rattle.tsl_report.specs.declared.fault.LimitName.TheVariants.{Text}
 use Rattle.tsl_report.specs.declared.fault.Fault.TheVariants.{Usage, Read, Large}
 use Rattle.tsl_tool.specs.declared.words.Command.{Command}
-use Rattle.tsl_tool.specs.declared.words.Command.TheVariants.{Synth, Check, Run, Recheck}
+use Rattle.tsl_tool.specs.declared.words.Command.TheVariants.{Synth, Check, Run, Prove, Recheck}
 use Rattle.tsl_tool.specs.declared.reply.Reply.{Reply}
 use Rattle.tsl_tool.specs.Commands.{command_of, most_bytes}
 use Rattle.tsl_tool.specs.Replies.{fault_reply}
 use Rattle.tsl_tool.specs.Synth.{SynthOutcome}
 use Rattle.tsl_tool.specs.Check.{CheckOutcome}
 use Rattle.tsl_tool.specs.Run.{RunOutcome}
+use Rattle.tsl_tool.specs.Prove.{ProveOutcome}
 use Rattle.tsl_tool.specs.Recheck.{RecheckOutcome}
 
 -- what a command replies to bytes that are not too many
@@ -17,6 +18,7 @@ abbrev pub CommandOutcome : Command → List ℕ → Reply → Type 0
 CommandOutcome (Synth sizes) bytes reply = SynthOutcome sizes bytes reply
 CommandOutcome (Check bound) bytes reply = CheckOutcome bound bytes reply
 CommandOutcome Run bytes reply = RunOutcome bytes reply
+CommandOutcome (Prove sizes) bytes reply = ProveOutcome sizes bytes reply
 CommandOutcome Recheck bytes reply = RecheckOutcome bytes reply
 
 pub data Outcome (words : List (List ℕ)) (bytes : List ℕ) (reply : Reply) : Type 0 where

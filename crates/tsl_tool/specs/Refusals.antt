@@ -1,12 +1,18 @@
--- The fault that is answered where a text is refused as a specification.
+-- The faults that are answered where a text is refused as a specification, and where a limit of the work on it is passed.
 use Rattle.std.specs.Prelude.{◌≡◌, ℕ, ◌+◌, ◌-◌, ◌==◌, List, take, drop, count_by}
 use Rattle.tsl_text.specs.declared.places.Place.{Place}
 use Rattle.tsl_text.specs.Places.{IsColumn}
 use Rattle.tsl_reader.specs.declared.SpecError.{SpecError}
 use Rattle.tsl_reader.specs.declared.SpecError.TheVariants.{Byte, OpenComment, Form, Deep, Kind, Arity, Nodes, NoMemory}
-use Rattle.tsl_reader.specs.Spells.{most_formula_nodes}
+use Rattle.tsl_reader.specs.Spells.{HasCause, SpellsNoSpec, most_formula_nodes}
+use Rattle.letter_space.specs.declared.limits.TheConstants.{MOST_PREDICATES, MOST_BITS}
+use Rattle.obligations.specs.Choices.{most_choices}
+use Rattle.cobuchi_automata.specs.Refusals.{most_automaton_states, most_automaton_edges}
+use Rattle.refutation_check.specs.declared.dimacs.TheConstants.{MOST_CLAUSES}
+use Rattle.program_check.specs.declared.verdict.Limit.{Limit}
+use Rattle.program_check.specs.declared.verdict.Limit.TheVariants as limits
 use Rattle.tsl_report.specs.declared.fault.TokenPart.TheVariants.{Spec}
-use Rattle.tsl_report.specs.declared.fault.LimitName.TheVariants.{Nodes as NodesLimit}
+use Rattle.tsl_report.specs.declared.fault.LimitName.TheVariants.{Nodes as NodesLimit, Predicates, Bits, Choices, States, Edges, Clauses}
 use Rattle.tsl_report.specs.declared.fault.Fault.{Fault}
 use Rattle.tsl_report.specs.declared.fault.Fault.TheVariants.{Byte as ByteFault, Comment as CommentFault, Form as FormFault}
 use Rattle.tsl_report.specs.declared.fault.Fault.TheVariants.{Deep as DeepFault, Kind as KindFault, Arity as ArityFault, Large}
@@ -32,3 +38,19 @@ IsFaultOf text (Arity start end) fault =
     (place : Place) × IsPlaceOf text start place × (fault ≡ ArityFault place (name_between text start end))
 IsFaultOf text Nodes fault = fault ≡ Large NodesLimit most_formula_nodes
 IsFaultOf text NoMemory fault = ⊥
+
+-- the bytes spell no specification for a cause, and this is its fault
+pub record HasSpecFault (bytes : List ℕ) (fault : Fault) : Type 0 where
+  pub error : SpecError
+  pub cause : HasCause bytes error
+  pub spells_none : SpellsNoSpec bytes error
+  pub is_fault : IsFaultOf bytes error fault
+
+-- the fault of a limit that is passed
+abbrev pub fault_at_limit : Limit → Fault
+fault_at_limit limits.Predicates = Large Predicates MOST_PREDICATES
+fault_at_limit limits.Bits = Large Bits MOST_BITS
+fault_at_limit limits.Choices = Large Choices most_choices
+fault_at_limit limits.States = Large States most_automaton_states
+fault_at_limit limits.Edges = Large Edges most_automaton_edges
+fault_at_limit limits.Clauses = Large Clauses MOST_CLAUSES

@@ -31,10 +31,10 @@ use Rattle.tsl_tool.specs.declared.run.TheConstants.{MOST_CONFIGURATIONS}
 use Rattle.tsl_tool.specs.declared.status.Status.{Status}
 use Rattle.tsl_tool.specs.declared.status.Status.TheVariants.{Done, No}
 use Rattle.tsl_tool.specs.declared.reply.Reply.{Reply}
+use Rattle.tsl_tool.specs.Refusals.{HasSpecFault}
 use Rattle.tsl_tool.specs.Replies.{fault_reply}
 use Rattle.tsl_tool.specs.RunFaults.{IsProgramFault, IsTableFault, IsInputFault}
 use Rattle.tsl_tool.specs.RunParts.{RunParts, AreParts, LacksPart}
-use Rattle.tsl_tool.specs.Synth.{HasSpecFault}
 
 -- ---- what the parts spell
 

@@ -1,6 +1,6 @@
 pub mod CheckView
-pub mod FixedSlots
 pub mod RefusalPlaces
 pub mod RunFaultPlaces
 pub mod RunView
 pub mod Sending
+pub mod OptionReading

@@ -5,24 +5,20 @@ ghost use Rattle.tsl_terms.specs.SpecView.{spec_tree};
 ghost use Rattle.tsl_terms.specs.WellFormed.{SpecFits};
 ghost use Rattle.tsl_reader.specs.Spells.{Spells};
 ghost use Rattle.flow_program.specs.ProgramView.{program_tree};
-ghost use Rattle.tsl_tool.specs.Check.{CheckOutcome, TextsOutcome, VerdictOutcome, verdict_reply, refused_reply, fault_at_limit};
+ghost use Rattle.tsl_tool.specs.Check.{CheckOutcome, TextsOutcome, VerdictOutcome, verdict_reply, refused_reply};
 ghost use Rattle.tsl_tool.specs.internal.CheckView.{check_parts, AreShortTexts};
 
 use crate::head_lines::{PROGRAM_LINE, cut_before};
-use crate::refusal::fault_of;
+use crate::refusal::{fault_of, fault_of_limit};
 use crate::reply::Reply;
 use crate::run_faults::fault_of_program;
 use crate::status::Status;
-use cobuchi_automata::{MOST_AUTOMATON_EDGES, MOST_AUTOMATON_STATES};
 use flow_program::{Program, read_program};
-use letter_space::{MOST_BITS, MOST_PREDICATES};
-use obligations::MOST_CHOICES;
-use program_check::{CheckError, Limit, Verdict, accept};
-use refutation_check::MOST_CLAUSES;
+use program_check::{CheckError, Verdict, accept};
 use sequence::NoMemory;
 use std::alloc::Global;
 use tsl_reader::read_spec;
-use tsl_report::{Fault, Head, LimitName};
+use tsl_report::{Fault, Head};
 use tsl_terms::{Names, Spec};
 use tsl_text::{put_bytes, put_number};
 
@@ -146,18 +142,4 @@ fn refused_at(alloc: Global, what: &[u8], number: u32) -> Result<Reply, NoMemory
     put_number(&mut text, number as u64)?;
     put_bytes(&mut text, b"\n")?;
     Ok(Reply::new(Status::No, text))
-}
-
-/// The fault of a limit that is passed.
-fn fault_of_limit(limit: Limit) -> Fault
-    ensures { result ≡ fault_at_limit limit }
-{
-    match limit {
-        Limit::Predicates => Fault::Large(LimitName::Predicates, MOST_PREDICATES as u32),
-        Limit::Bits => Fault::Large(LimitName::Bits, MOST_BITS as u32),
-        Limit::Choices => Fault::Large(LimitName::Choices, MOST_CHOICES as u32),
-        Limit::States => Fault::Large(LimitName::States, MOST_AUTOMATON_STATES as u32),
-        Limit::Edges => Fault::Large(LimitName::Edges, MOST_AUTOMATON_EDGES as u32),
-        Limit::Clauses => Fault::Large(LimitName::Clauses, MOST_CLAUSES as u32),
-    }
 }

@@ -1,16 +1,21 @@
 //! Laws of the definitions that the contracts cite.
 
-ghost use Rattle.std.specs.Prelude.{◌≡◌, ◌↔◌, ℕ, List, Contains, false};
+ghost use Rattle.std.specs.Prelude.{◌≡◌, ◌≢◌, ◌↔◌, ℕ, List, Contains, false, None, IsTrue};
 ghost use Rattle.std.specs.List.{AllByRecursion};
 ghost use Rattle.refutation_check.specs.CnfText.{cnf_answer};
 ghost use Rattle.refutation_check.specs.LogText.{log_answer};
 ghost use Rattle.tsl_terms.specs.SpecTree.{SpecTree};
 ghost use Rattle.tsl_reader.specs.Spells.{Spells};
+ghost use Rattle.flow_program.specs.ProgramTree.{ProgramTree};
+ghost use Rattle.program_check.specs.declared.verdict.Limit.{Limit};
+ghost use Rattle.refinement_loop.specs.declared.outcome.Sizes.{Sizes};
+ghost use Rattle.refinement_loop.specs.Outcomes.{IsWrittenFor, IsLargeFor};
 ghost use Rattle.tsl_meaning.specs.Lasso.{Meets};
 ghost use Rattle.tsl_meaning.specs.RunLasso.{shape_of};
 ghost use Rattle.tsl_meaning.specs.RunTree.{RunTree};
 ghost use Rattle.tsl_tool.specs.declared.reply.Reply.{Reply};
 ghost use Rattle.tsl_tool.specs.declared.status.Status.{Status};
+ghost use Rattle.tsl_tool.specs.declared.words.QuestionSizes.{QuestionSizes};
 ghost use Rattle.tsl_tool.specs.Causes.{Causes};
 ghost use Rattle.tsl_tool.specs.Commands.{command_of};
 ghost use Rattle.tsl_io.specs.Effects.{Effect};
@@ -19,8 +24,11 @@ ghost use Rattle.tsl_tool.specs.Form.{SpellsUpdates};
 ghost use Rattle.tsl_tool.specs.Limits.{LimitsAreThese};
 ghost use Rattle.tsl_tool.specs.Outcome.{Outcome};
 ghost use Rattle.tsl_tool.specs.Promise.{Promise};
-ghost use Rattle.tsl_tool.specs.Recheck.{IsAccepted, IsRefused, parts_reply};
+ghost use Rattle.tsl_tool.specs.Prove.{IsProof, ProveOutcome};
+ghost use Rattle.tsl_tool.specs.Recheck.{IsAccepted, IsRefused, RecheckOutcome, parts_reply, verdict};
 ghost use Rattle.tsl_tool.specs.Run.{RunInput, lasso_of, judged_formulas, verdicts_of, run_reply};
+ghost use Rattle.tsl_tool.specs.Statuses.{is_answer};
+ghost use Rattle.tsl_tool.specs.Synth.{SynthOutcome};
 
 use crate::status::Status;
 
@@ -44,6 +52,44 @@ pub fn ends_have_causes()
 pub fn outcomes_keep_their_promise()
     ensures { (words : List (List ℕ)) (bytes : List ℕ) (reply : Reply) →
         Outcome words bytes reply → Promise (command_of words) reply.status bytes reply.text }
+{}
+
+/// Within the limits of the work, what is replied to a specification that is spelled is an answer: a
+/// program, that there is none, or a trace; and for `prove` a proof, that there is a program, or a trace.
+pub fn searches_are_answered()
+    ensures synth { (sizes : Sizes) (bytes : List ℕ) (spec : SpecTree) (reply : Reply) →
+        Spells bytes spec → ((limit : Limit) → IsLargeFor spec sizes.states sizes.bound limit → ⊥)
+        → SynthOutcome sizes bytes reply → IsTrue (is_answer reply.status) }
+    ensures prove { (sizes : QuestionSizes) (bytes : List ℕ) (spec : SpecTree) (reply : Reply) →
+        Spells bytes spec → ((limit : Limit) → IsLargeFor spec sizes.states sizes.bound limit → ⊥)
+        → ProveOutcome sizes bytes reply → IsTrue (is_answer reply.status) }
+{}
+
+/// Where a limit of the work is passed, that is what is told.
+pub fn limits_are_told()
+    ensures synth { (sizes : Sizes) (bytes : List ℕ) (spec : SpecTree) (reply : Reply) (limit : Limit) →
+        Spells bytes spec → IsLargeFor spec sizes.states sizes.bound limit
+        → SynthOutcome sizes bytes reply → reply.status ≡ Status.Large }
+    ensures prove { (sizes : QuestionSizes) (bytes : List ℕ) (spec : SpecTree) (reply : Reply) (limit : Limit) →
+        Spells bytes spec → IsLargeFor spec sizes.states sizes.bound limit
+        → ProveOutcome sizes bytes reply → reply.status ≡ Status.Large }
+{}
+
+/// Where a controller of the size gives a program of the specification, `synth` does not say that there
+/// is none, and `prove` does not prove it.
+pub fn programs_are_not_missed()
+    ensures synth { (sizes : Sizes) (bytes : List ℕ) (spec : SpecTree) (reply : Reply) (program : ProgramTree)
+        → Spells bytes spec → IsWrittenFor spec sizes.states sizes.bound program →
+        SynthOutcome sizes bytes reply → reply.status ≢ Status.No }
+    ensures prove { (sizes : QuestionSizes) (bytes : List ℕ) (spec : SpecTree) (reply : Reply)
+        (program : ProgramTree) → Spells bytes spec → IsWrittenFor spec sizes.states sizes.bound program →
+        ProveOutcome sizes bytes reply → reply.status ≢ Status.Done }
+{}
+
+/// `recheck` verifies each text that `prove` writes as a proof, where it reads so many bytes.
+pub fn proofs_are_verified()
+    ensures { (sizes : QuestionSizes) (spec : SpecTree) (text : List ℕ) → IsProof sizes spec text →
+        RecheckOutcome text (verdict None) }
 {}
 
 /// `recheck` says yes exactly where its parts are a formula and a log that is accepted, and no

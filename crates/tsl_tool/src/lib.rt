@@ -5,14 +5,15 @@
 //!
 //! 1. `Status` (`src/status.rt`): nine ways to end. `Done`, `No` and `Spent` are answers, whose
 //!    text goes to the first sink; the text of every other one goes to the second (`is_answer`).
-//! 2. `Command` (`src/words.rt`), with its options. `command_of` gives that of the words,
-//!    `most_bytes` what it reads at most, and `reads` says whether it reads at all
-//!    (`specs/Commands.antt`).
+//! 2. `Command` (`src/words.rt`), with the values of its options. `command_of` gives that of the
+//!    words, `most_bytes` what it reads at most, and `reads` says whether it reads at all
+//!    (`specs/Commands.antt`). Options are pairs of a name and a number, each with a range and a
+//!    usual value (`specs/Options.antt`).
 //! 3. `Reply` (`src/reply.rt`): a status and one text. `fault_reply` is that of a fault.
 //! 4. `Outcome words bytes reply` (`specs/Outcome.antt`): what the words and the bytes of the
 //!    source may lead to. For each command it goes on to `SynthOutcome` (`specs/Synth.antt`),
-//!    `CheckOutcome` (`specs/Check.antt`), `RunOutcome` (`specs/Run.antt`) or `RecheckOutcome`
-//!    (`specs/Recheck.antt`).
+//!    `CheckOutcome` (`specs/Check.antt`), `RunOutcome` (`specs/Run.antt`), `ProveOutcome`
+//!    (`specs/Prove.antt`) or `RecheckOutcome` (`specs/Recheck.antt`).
 //! 5. `Effect` (`specs/Effects.antt` of `tsl_io`): the bytes and the count of faults of a source
 //!    or a sink, before the run and after it, and what can be said of them: untouched, written
 //!    whole, cut off by a fault.
@@ -20,45 +21,56 @@
 //!    written whole, or it was cut off, or memory ran out. The reply is an outcome on the bytes of
 //!    the source: on those that the source tells, and on some bytes where it tells none, as
 //!    standard input does.
-//! 7. `Promise` (`specs/Promise.antt`): what the answer of each command promises. For `synth`, at
-//!    `Done` the text spells a program over the names of the specification that the bytes spell,
-//!    and every closed run of that program, under every finite interpretation and every input
-//!    loop, meets the specification's whole formula. For `check`, at `Done` the bytes spell a
-//!    specification and a program of which the same holds; at `No` the verdict that is written
-//!    applies. For `run`, at `Done` the text is the closed run of the program over the tables and
-//!    the inputs that the bytes spell, and the formula of each window and that of the
-//!    specification hold in it; at `No` one of them fails, or the program has other signals than
-//!    the specification. For `recheck`, at `Done` no assignment meets all clauses of the formula
-//!    that the bytes spell.
+//! 7. `Promise` (`specs/Promise.antt`): what the answer of each command promises of the bytes and
+//!    of the text that was written.
+//!    - `synth`, at `Done`: the text spells a program over the names of the specification that the
+//!      bytes spell, and every closed run of that program, under every finite interpretation and
+//!      every input loop, meets the specification's whole formula. At `No`: no controller of the
+//!      size that was asked for has an annotation. At `Spent`: the text tells the automaton of the
+//!      question, and clauses that are a trace of its encoding.
+//!    - `check`, at `Done`: the bytes spell a specification and a program of which the same holds
+//!      as of one that `synth` writes. At `No`: the verdict that is written applies.
+//!    - `run`, at `Done`: the text is the closed run of the program over the tables and the inputs
+//!      that the bytes spell, and the formula of each window and that of the specification hold in
+//!      it. At `No`: one of them fails, or the program has other signals than the specification.
+//!    - `prove`, at `Done`: the text spells a refutation of the encoding, which `recheck` verifies,
+//!      and no controller of the size has an annotation. At `No`: one has. At `Spent` as `synth`.
+//!    - `recheck`, at `Done`: no assignment meets all clauses of the formula that the bytes spell.
 //!
 //! The clauses of `tsl` say: the status and what stands in the sinks are those of an `Ends`; an
 //! answer keeps the `Promise` of its command; words that read nothing leave the source as it was;
-//! what was written was handed on. What follows from them is said by laws: `ends_have_causes` gives
-//! each status its cause and each counted fault its answer, and `outcomes_keep_their_promise` says
-//! the promise of the outcomes alone. `one_specification` says that a text spells at most one
-//! specification, `plain_updates_are_spelled` that a text of plain updates (`specs/Form.antt`),
-//! whose definition does not use the grammar, spells the same specification by the grammar, and
-//! `verdicts_are_those_of_logs` that `recheck` says yes exactly where the log is accepted and no
-//! exactly where it is refused. `verdicts_are_those_of_runs` says the same of `run` and the
-//! formulas that it judges. Definitions cite the limits of texts as the constants of the code;
-//! `limits_are_these` says which numbers they are.
+//! what was written was handed on. What follows from them is said by laws:
+//!
+//! - `ends_have_causes` gives each status its cause and each counted fault its answer, and
+//!   `outcomes_keep_their_promise` says the promise of the outcomes alone.
+//! - `searches_are_answered`: within the limits of the work `synth` and `prove` answer each text
+//!   that spells a specification. `limits_are_told`: where a limit is passed, that is told.
+//!   `programs_are_not_missed`: where there is a program of the size, neither says that there is
+//!   none. `proofs_are_verified`: `recheck` verifies what `prove` writes.
+//! - `one_specification` says that a text spells at most one specification, and
+//!   `plain_updates_are_spelled` that a text of plain updates (`specs/Form.antt`), whose definition
+//!   does not use the grammar, spells the same specification by the grammar.
+//! - `verdicts_are_those_of_logs` says that `recheck` says yes exactly where the log is accepted and
+//!   no exactly where it is refused; `verdicts_are_those_of_runs` says the same of `run` and the
+//!   formulas that it judges.
+//! - Definitions cite limits as the constants of the code; `limits_are_these` says which numbers
+//!   they are.
 //!
 //! `check` and `run` find the parts of their input by lines alone (`specs/Check.antt`,
-//! `specs/RunParts.antt`), and each refusal of a part has the line of its fault
+//! `specs/RunParts.antt`). Each refusal of a specification and each limit of the work on it has the
+//! line of its fault (`specs/Refusals.antt`), and so has each refusal of another part
 //! (`specs/RunFaults.antt`).
 //!
-//! What is built: `check`, `run`, `recheck`, and `synth` or `synth --states 1`. `synth` reads every
-//! specification of the grammar, and each refusal has the line of its fault
-//! (`specs/Refusals.antt`); it writes a program for specifications of fixed updates
-//! (`specs/Fixed.antt`), and every other one is `Reading`, with the line `fault unbuilt`. `check`
-//! answers the same line for programs with windows. A new command adds a variant, its words, a line
-//! of `CommandOutcome` with a relation of its own, and its lines of `Promise`.
+//! What is not built: `check` answers the line `fault unbuilt` for programs with windows, `synth`
+//! makes no rounds of refinement, and there is no generator. A new command adds a variant, its
+//! words, a line of `CommandOutcome` with a relation of its own, and its lines of `Promise`.
 #![tactic(auto)]
 
 mod check;
-mod fixed;
 mod head_lines;
 mod laws;
+mod options;
+mod prove;
 mod recheck;
 mod refusal;
 mod reply;
@@ -71,8 +83,10 @@ mod verdicts;
 mod words;
 
 pub use laws::{
-    ends_have_causes, limits_are_these, one_specification, outcomes_keep_their_promise,
-    plain_updates_are_spelled, verdicts_are_those_of_logs, verdicts_are_those_of_runs,
+    ends_have_causes, limits_are_these, limits_are_told, one_specification,
+    outcomes_keep_their_promise, plain_updates_are_spelled, programs_are_not_missed,
+    proofs_are_verified, searches_are_answered, verdicts_are_those_of_logs,
+    verdicts_are_those_of_runs,
 };
 pub use status::Status;
 pub use top::tsl;
@@ -81,5 +95,7 @@ pub use top::tsl;
 mod check_tests;
 #[cfg(test)]
 mod run_tests;
+#[cfg(test)]
+mod search_tests;
 #[cfg(test)]
 mod tests;

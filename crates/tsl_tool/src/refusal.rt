@@ -1,9 +1,14 @@
-//! The fault of each refusal of a specification.
+//! The fault of each refusal of a specification, and of each limit of the work on it.
 
 ghost use Rattle.std.specs.Prelude.{◌≡◌, ◌-◌, ◌<◌, ◌≤◌, ◌^◌, length, IfOk};
-ghost use Rattle.tsl_tool.specs.Refusals.{IsPlaceOf, IsFaultOf, name_between};
+ghost use Rattle.tsl_tool.specs.Refusals.{IsPlaceOf, IsFaultOf, name_between, fault_at_limit};
 ghost use Rattle.tsl_tool.specs.internal.RefusalPlaces.{StandsIn};
 
+use cobuchi_automata::{MOST_AUTOMATON_EDGES, MOST_AUTOMATON_STATES};
+use letter_space::{MOST_BITS, MOST_PREDICATES};
+use obligations::MOST_CHOICES;
+use program_check::Limit;
+use refutation_check::MOST_CLAUSES;
 use sequence::{NoMemory, Sequence};
 use std::alloc::Global;
 use tsl_reader::{MOST_NODES, SpecError};
@@ -56,4 +61,18 @@ pub(crate) fn name_between(
 {
     let name = Vec::from_slice(alloc, &text[start as usize..end as usize])?;
     Ok(Sequence::from_vec(name))
+}
+
+/// The fault of a limit that is passed.
+pub(crate) fn fault_of_limit(limit: Limit) -> Fault
+    ensures { result ≡ fault_at_limit limit }
+{
+    match limit {
+        Limit::Predicates => Fault::Large(LimitName::Predicates, MOST_PREDICATES as u32),
+        Limit::Bits => Fault::Large(LimitName::Bits, MOST_BITS as u32),
+        Limit::Choices => Fault::Large(LimitName::Choices, MOST_CHOICES as u32),
+        Limit::States => Fault::Large(LimitName::States, MOST_AUTOMATON_STATES as u32),
+        Limit::Edges => Fault::Large(LimitName::Edges, MOST_AUTOMATON_EDGES as u32),
+        Limit::Clauses => Fault::Large(LimitName::Clauses, MOST_CLAUSES as u32),
+    }
 }

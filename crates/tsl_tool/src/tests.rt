@@ -1,19 +1,17 @@
 //! Runs of the top call over memory.
 
+use crate::prove::whole_text;
 use crate::{Status, tsl};
-use sequence::NoMemory;
 use std::alloc::{AllocError, Global};
 use std::process::Abort;
 use std::test::Fail;
 use tsl_io::{MemorySink, MemorySource};
 use tsl_reader::read_spec;
-use tsl_report::formula_text;
-use tsl_terms::{Spec, whole};
 
 /// A text, and what a run says of it.
 type Case = (&'static [u8], &'static [u8]);
 
-const COPY: &[u8] = b"always guarantee { [y <- x]; }";
+pub(crate) const COPY: &[u8] = b"always guarantee { [y <- x]; }";
 
 const COPIED: &[u8] =
     b"tslprogram 1\ninput x\noutput y\nnode 0 set [y <- x] go 0\nstate 0 at 0\nend\n";
@@ -21,28 +19,61 @@ const COPIED: &[u8] =
 /// The program without signals.
 const EMPTY: &[u8] = b"tslprogram 1\nnode 0 set go 0\nstate 0 at 0\nend\n";
 
-const UNBUILT: &[u8] = b"fault unbuilt\n";
+/// That one state is too few.
+const NONE: &[u8] = b"none\nstates 1\nbound 2\nreason rounds 0\nend\n";
 
 /// A formula whose four clauses are all signs of two variables, and the line `lrat`.
 const SQUARE: &[u8] = b"p cnf 2 4\n1 2 0\n1 -2 0\n-1 2 0\n-1 -2 0\nlrat\n";
 
 /// Words that are no command's.
-static OTHER_WORDS: [&[&str]; 11] = [
+static OTHER_WORDS: [&[&str]; 31] = [
     &[],
     &["frob"],
-    &["synth", "--states", "9"],
+    &["synth", "x"],
     &["synth", "--states"],
+    &["synth", "--states", "0"],
+    &["synth", "--states", "9"],
+    &["synth", "--states", "01"],
+    &["synth", "--states", "+1"],
+    &["synth", "--states", ""],
+    &["synth", "--bound", "16"],
+    &["synth", "--budget", "0"],
+    &["synth", "--budget", "1000001"],
+    &["synth", "--rounds", "1"],
+    &["synth", "--depth", "2"],
+    &["synth", "states", "1"],
+    &["synth", "1", "--states"],
+    &["synth", "--states", "1", "--states", "1"],
+    &["synth", "--states", "1", "--bound"],
+    &["synth", "--states", "1", "--bound", "2", "x", "3"],
+    &["prove", "--rounds", "0"],
+    &["prove", "--states", "9"],
+    &["prove", "--budget", "2", "--bound", "3", "--budget", "2"],
     &["check", "x"],
+    &["check", "--states", "1"],
     &["check", "--bound"],
     &["check", "--bound", "16"],
     &["check", "--bound", "02"],
     &["run", "x"],
     &["recheck", "x"],
     &["recheck", "--states", "1"],
+    &["gen", "2"],
 ];
 
-/// Specifications of one update, without signals, and others that are built.
-static BUILT: [Case; 12] = [
+/// Words with which a source without a byte has the program without signals.
+static SYNTH_WORDS: [&[&str]; 6] = [
+    &["synth", "--states", "1"],
+    &["synth", "--states", "1", "--bound", "0"],
+    &["synth", "--bound", "15", "--states", "1"],
+    &["synth", "--rounds", "0", "--budget", "1", "--states", "1"],
+    &[
+        "synth", "--budget", "1000000", "--states", "1", "--rounds", "0", "--bound", "2",
+    ],
+    &["synth", "--states", "1", "--budget", "20000"],
+];
+
+/// Specifications for which a program of one state is enough, and that program.
+static BUILT: [Case; 18] = [
     (COPY, COPIED),
     (b"always guarantee { [y <- x]; } // copies", COPIED),
     (b"/* a /* b */ { */ always guarantee{[y<-/**/x];}", COPIED),
@@ -64,20 +95,26 @@ static BUILT: [Case; 12] = [
         b"always guarantee { [y <- f x (g y) c()]; }",
         b"tslprogram 1\ninput x\ncell y\nnode 0 set [y <- f x (g y) c()] go 0\nstate 0 at 0\nend\n",
     ),
-];
-
-/// Specifications that are not built.
-static OTHERS: [Case; 8] = [
-    (b"guarantee { a; }", UNBUILT),
-    (b"guarantee { [y <- x]; }", UNBUILT),
-    (b"assume { a; }", UNBUILT),
-    (b"always assume { [y <- x]; }", UNBUILT),
-    (b"always guarantee { true; }", UNBUILT),
-    (b"always guarantee { [y <- x]; [y <- z]; }", UNBUILT),
-    (b"always guarantee { [y <- x] && [z <- x]; }", UNBUILT),
+    (b"assume { false; } guarantee { false; }", EMPTY),
     (
-        b"always guarantee{[y<-x];}always guarantee{[y<-f x];}",
-        UNBUILT,
+        b"initially guarantee { [y <- x] } // last semicolon missing",
+        COPIED,
+    ),
+    (
+        b"guarantee { [y <- x]; } always guarantee { [y <- x] || [y <- x] && X false; }",
+        COPIED,
+    ),
+    (
+        b"assume { (a U b) && c; }",
+        b"tslprogram 1\ninput a\ninput b\ninput c\nnode 0 set go 0\nstate 0 at 0\nend\n",
+    ),
+    (
+        b"always guarantee { p x <-> [y <- x]; q y -> q y; }",
+        b"tslprogram 1\ninput x\ncell y\nnode 0 set [y <- x] go 0\nnode 1 set [y <- y] go 0\nnode 2 if p x then 0 else 1\nstate 0 at 2\nend\n",
+    ),
+    (
+        b"assume { false; p0 x; p1 x; p2 x; p3 x; p4 x; p5 x; p6 x; p7 x; p8 x; p9 x; }",
+        b"tslprogram 1\ninput x\nnode 0 set go 0\nstate 0 at 0\nend\n",
     ),
 ];
 
@@ -114,7 +151,6 @@ static REFUSED: [Case; 18] = [
         b"guarantee { p x; p x z; [y <- p]; }",
         b"fault spec 1:31 kind p\n",
     ),
-    // A refusal goes before what is not built.
     (b"guarantee { a; } guarantee {", b"fault spec 1:29 form\n"),
 ];
 
@@ -150,13 +186,13 @@ static LOGS: [Case; 10] = [
     (b"5 1 0 1 2 0\n6 0 5 3 4\n", b"fault log 2 form\n"),
 ];
 
-/// A piece, how often it comes in the braces of a section, an end, and what `synth` says.
+/// A piece, how often it comes in the braces of a section, an end, and what `synth` says for one state.
 static REPEATED: [(&[u8], u32, &[u8], &[u8]); 7] = [
     // Level 200 is read and level 201 is deep.
-    (b"!", 200, b"a; }", UNBUILT),
+    (b"!", 200, b"a; }", NONE),
     (b"!", 201, b"a; }", b"fault spec 1:213 deep\n"),
     // The conjunction, two nodes for each name and one for `true`: 10,000 nodes, and one more.
-    (b"a; ", 4_999, b"true; }", UNBUILT),
+    (b"a; ", 4_999, b"true; }", NONE),
     (b"a; ", 5_000, b"}", b"large nodes 10000\n"),
     // A fault of arity goes before too many nodes.
     (
@@ -174,7 +210,7 @@ static REPEATED: [(&[u8], u32, &[u8], &[u8]); 7] = [
 #[derive(Drop)]
 pub(crate) struct Ran {
     pub(crate) status: Status,
-    out: Vec<u8>,
+    pub(crate) out: Vec<u8>,
     err: Vec<u8>,
 }
 
@@ -226,7 +262,7 @@ pub(crate) fn run(
 fn status_of(says: &[u8]) -> Status {
     match says {
         [b't' | b'v', ..] => Status::Done,
-        [b'r', ..] => Status::No,
+        [b'r' | b'n', ..] => Status::No,
         [b'u', ..] => Status::Usage,
         [b'l', ..] => Status::Large,
         _ => Status::Reading,
@@ -237,7 +273,7 @@ fn status_of(says: &[u8]) -> Status {
 /// other.
 pub(crate) fn assert_says(rt: &impl Abort, ran: &Ran, status: Status, text: &[u8]) {
     let (out, err): (&[u8], &[u8]) = match status {
-        Status::Done | Status::No => (text, b""),
+        Status::Done | Status::No | Status::Spent => (text, b""),
         _ => (b"", text),
     };
     assert_eq!(rt; ran.status, status);
@@ -284,11 +320,23 @@ fn other_words_are_usage(rt: HostRuntime) -> Result<(), Fail> {
 }
 
 #[test]
-fn synth_says_of_each_specification(rt: HostRuntime) -> Result<(), Fail> {
-    assert_each(&rt, rt.alloc(), &["synth"], b"", &BUILT)?;
-    assert_each(&rt, rt.alloc(), &["synth"], b"", &OTHERS)?;
+fn options_come_in_any_order(rt: HostRuntime) -> Result<(), Fail> {
+    for words in SYNTH_WORDS {
+        assert_run(&rt, rt.alloc(), words, b"", EMPTY)?;
+    }
+    Ok(())
+}
+
+#[test]
+fn one_state_is_enough_for_each_specification(rt: HostRuntime) -> Result<(), Fail> {
+    assert_each(&rt, rt.alloc(), &["synth", "--states", "1"], b"", &BUILT)?;
+    Ok(())
+}
+
+#[test]
+fn each_refusal_has_its_place(rt: HostRuntime) -> Result<(), Fail> {
     assert_each(&rt, rt.alloc(), &["synth"], b"", &REFUSED)?;
-    assert_run(&rt, rt.alloc(), &["synth", "--states", "1"], COPY, COPIED)?;
+    assert_each(&rt, rt.alloc(), &["prove"], b"", &REFUSED)?;
     Ok(())
 }
 
@@ -313,16 +361,9 @@ fn repeated(alloc: Global, piece: &[u8], count: u32, end: &[u8]) -> Result<Vec<u
 fn limits_are_exact(rt: HostRuntime) -> Result<(), Fail> {
     for (piece, count, end, says) in REPEATED {
         let text = repeated(rt.alloc(), piece, count, end)?;
-        assert_run(&rt, rt.alloc(), &["synth"], &text, says)?;
+        assert_run(&rt, rt.alloc(), &["synth", "--states", "1"], &text, says)?;
     }
     Ok(())
-}
-
-/// The text of the whole formula of a specification.
-#[tactic(auto, using(crate::proofs::WholeTexts::spec_written))]
-fn whole_text(alloc: Global, spec: &Spec) -> Result<Vec<u8>, NoMemory> {
-    let formula = whole(alloc, spec)?;
-    formula_text(alloc, &spec.names, &formula)
 }
 
 #[test]
@@ -345,7 +386,7 @@ fn a_sink_that_fails_at_any_call_keeps_what_came_before(rt: HostRuntime) -> Resu
     // One byte a call: the writes are the calls 1 to 72, and the flush is the last.
     for fails_at in 1..=73u64 {
         let to = Device { piece: 1, fails_at };
-        let ran = run(alloc, &["synth"], COPY, PLAIN, to, PLAIN)?;
+        let ran = run(alloc, &["synth", "--states", "1"], COPY, PLAIN, to, PLAIN)?;
         assert_eq!(rt; ran.status, Status::WriteFault);
         assert_eq!(rt; ran.out.len() as u64, fails_at - 1);
         assert_eq!(rt; COPIED.starts_with(&ran.out), true);
@@ -368,7 +409,14 @@ fn a_source_that_fails_at_any_call_is_a_read_fault(rt: HostRuntime) -> Result<()
     // One byte a call: the text takes the calls 1 to 30, and the end the last.
     for fails_at in 1..=32u64 {
         let from = Device { piece: 1, fails_at };
-        let ran = run(rt.alloc(), &["synth"], COPY, from, PLAIN, PLAIN)?;
+        let ran = run(
+            rt.alloc(),
+            &["synth", "--states", "1"],
+            COPY,
+            from,
+            PLAIN,
+            PLAIN,
+        )?;
         if fails_at == 32 {
             assert_says(&rt, &ran, Status::Done, COPIED);
         } else {
@@ -390,25 +438,10 @@ fn chain(alloc: Global) -> Result<Vec<u8>, AllocError> {
     Ok(text)
 }
 
-/// The program of the chain: all but the last signal are read, and so cells.
-fn chained(alloc: Global) -> Result<Vec<u8>, AllocError> {
-    let mut text = Vec::from_slice(alloc, b"tslprogram 1\n")?;
-    for signal in 0..499u32 {
-        text.extend_from_slice(format!(in alloc; "cell s{}\n", signal)?.as_bytes())?;
-    }
-    text.extend_from_slice(b"output s499\nnode 0 set")?;
-    for signal in 0..500u32 {
-        let update = format!(in alloc; " [s{} <- s{}]", signal, signal.saturating_sub(1))?;
-        text.extend_from_slice(update.as_bytes())?;
-    }
-    text.extend_from_slice(b" go 0\nstate 0 at 0\nend\n")?;
-    Ok(text)
-}
-
 #[test]
-fn a_thousand_updates_over_five_hundred_signals(rt: HostRuntime) -> Result<(), Fail> {
+fn a_thousand_updates_have_too_many_bits(rt: HostRuntime) -> Result<(), Fail> {
     let alloc = rt.alloc();
-    let program = chained(alloc)?;
-    assert_run(&rt, alloc, &["synth"], &chain(alloc)?, &program)?;
+    assert_run(&rt, alloc, &["synth"], &chain(alloc)?, b"large bits 64\n")?;
+    assert_run(&rt, alloc, &["prove"], &chain(alloc)?, b"large bits 64\n")?;
     Ok(())
 }

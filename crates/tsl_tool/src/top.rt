@@ -11,6 +11,7 @@ ghost use Rattle.tsl_tool.specs.Statuses.{is_answer};
 ghost use Rattle.tsl_tool.specs.internal.Sending.{IsSent};
 
 use crate::check::check;
+use crate::prove::prove;
 use crate::recheck::recheck;
 use crate::reply::Reply;
 use crate::run::run;
@@ -53,21 +54,24 @@ fn reply_to_bytes(alloc: Global, command: Command, bytes: &[u8]) -> Result<Reply
         Command::Synth(sizes) => synth(alloc, sizes, bytes),
         Command::Check(bound) => check(alloc, bound, bytes),
         Command::Run => run(alloc, bytes),
+        Command::Prove(sizes) => prove(alloc, sizes, bytes),
         Command::Recheck => recheck(alloc, bytes),
     }
 }
 
 /// Runs `tsl` on the words after the program's name.
 ///
-/// The words are `synth`, `synth --states 1`, `check`, `check --bound K` with K from 0 to 15, `run`
-/// or `recheck`. For `synth` the source holds a specification of at most 1,048,576 bytes; for
+/// The words are a command and its options, each a name and a number, in any order: `synth` with
+/// `--states` from 1 to 8, `--bound` from 0 to 15, `--budget` from 1 to 1,000,000 and `--rounds 0`,
+/// `prove` with the first three, `check` with `--bound`, and `run` and `recheck` without options.
+/// For `synth` and `prove` the source holds a specification of at most 1,048,576 bytes; for
 /// `check` a specification and a program, and for `run` a specification or nothing, a program,
 /// tables and inputs, of at most 16,777,216 bytes together; for `recheck` a formula in conjunctive
 /// normal form, the line `lrat` and a log, of at most 268,435,456 bytes together. Each text is
-/// built whole before its first byte is written. At `Done` and `No` a program, a run or a verdict
-/// went to `out`. At `Usage`, `Reading`, `Large` and `ReadFault` one line went to `err`. At
-/// `WriteFault` some first bytes of the one text went to its sink, and at `Memory` nothing was
-/// written.
+/// built whole before its first byte is written. At `Done`, `No` and `Spent` a program, a proof, a
+/// run, a verdict or a trace went to `out`. At `Usage`, `Reading`, `Large` and `ReadFault` one line
+/// went to `err`. At `WriteFault` some first bytes of the one text went to its sink, and at `Memory`
+/// nothing was written.
 pub fn tsl<S: Source, O: Sink, E: Sink>(
     alloc: Global,
     words: &[String],

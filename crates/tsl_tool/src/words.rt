@@ -1,24 +1,26 @@
 //! The words after the program's name.
 
-ghost use Rattle.std.specs.Prelude.{◌≡◌, ◌≤◌, map, string_bytes, Some, option_map, option_and_then, IfSome};
-ghost use Rattle.std.specs.Str.{bytes_eq};
-ghost use Rattle.tsl_text.specs.Numbers.{plain_number_in};
-ghost use Rattle.tsl_tool.specs.declared.words.TheConstants.{MOST_BOUND};
-ghost use Rattle.tsl_tool.specs.Commands.{where_at_most, sizes_of, bound_of, without_options, command_of, IsInRange, most_bytes};
+ghost use Rattle.std.specs.Prelude.{◌≡◌, map, string_bytes, IfSome};
+ghost use Rattle.tsl_tool.specs.Commands.{synth_options, check_options, prove_options, with_options, synth_by, check_by, prove_by, without_options};
+ghost use Rattle.tsl_tool.specs.Commands.{command_of, IsInRange, most_bytes};
 
-use tsl_text::plain_number_in;
+use crate::options::{NumberOption, are_options, is_word};
+use refinement_loop::Sizes;
 
-/// The states of a program, where the words ask for no number.
-const DEFAULT_STATES: u32 = 2;
+/// The options of `synth`.
+const SYNTH_OPTIONS: [NumberOption; 4] = [
+    NumberOption::States,
+    NumberOption::Bound,
+    NumberOption::Budget,
+    NumberOption::Rounds,
+];
 
-/// The most states that the words can ask for.
-const MOST_STATES: u32 = 8;
-
-/// The bound of an annotation, where the words ask for no number.
-const DEFAULT_BOUND: u32 = 2;
-
-/// The largest bound that the words can ask for.
-const MOST_BOUND: u32 = 15;
+/// The options of `prove`.
+const PROVE_OPTIONS: [NumberOption; 3] = [
+    NumberOption::States,
+    NumberOption::Bound,
+    NumberOption::Budget,
+];
 
 /// The most bytes of a specification.
 const MOST_SPECIFICATION_BYTES: u32 = 1_048_576;
@@ -29,11 +31,15 @@ const MOST_RUN_BYTES: u32 = 16_777_216;
 /// The most bytes of a formula and a log together.
 const MOST_LOG_BYTES: u32 = 268_435_456;
 
-/// The sizes of what `synth` looks for.
+/// The sizes of the question that `prove` asks.
 #[derive(Clone, Copy, Debug, PartialEq, Eq)]
-pub(crate) struct Sizes {
-    /// The most states of the program, from 1 to 8.
+pub(crate) struct QuestionSizes {
+    /// The states of a controller, from 1 to 8.
     pub(crate) states: u32,
+    /// The bound of an annotation, from 0 to 15.
+    pub(crate) bound: u32,
+    /// How many clauses are learnt, from 1 to 1,000,000.
+    pub(crate) budget: u64,
 }
 
 /// What the tool is asked for, with its options.
@@ -45,6 +51,8 @@ pub(crate) enum Command {
     Check(u32),
     /// The run of a program over tables and inputs, and the verdicts on it.
     Run,
+    /// A proof that there is no program of some size for a specification.
+    Prove(QuestionSizes),
     /// A verdict on a formula and a log that is to refute it.
     Recheck,
 }
@@ -55,7 +63,7 @@ impl Command {
         ensures { result ≡ most_bytes self }
     {
         match self {
-            Command::Synth(_) => MOST_SPECIFICATION_BYTES,
+            Command::Synth(_) | Command::Prove(_) => MOST_SPECIFICATION_BYTES,
             Command::Check(_) | Command::Run => MOST_RUN_BYTES,
             Command::Recheck => MOST_LOG_BYTES,
         }
@@ -67,81 +75,86 @@ pub(crate) fn command_of(words: &[String]) -> Option<Command>
     ensures found { result ≡ command_of (map string_bytes words.now) }
     ensures in_range { IfSome result IsInRange }
 {
-    let [first, options @ ..] = words else {
+    let [first, rest @ ..] = words else {
         return None;
     };
     if is_word(first, b"synth") {
-        return synth_of(options);
+        return synth_of(rest);
     }
     if is_word(first, b"check") {
-        return check_of(options);
+        return check_of(rest);
     }
     if is_word(first, b"run") {
-        return without_options(Command::Run, options);
+        return without_options(Command::Run, rest);
+    }
+    if is_word(first, b"prove") {
+        return prove_of(rest);
     }
     if is_word(first, b"recheck") {
-        return without_options(Command::Recheck, options);
+        return without_options(Command::Recheck, rest);
     }
     None
 }
 
 /// `synth` with the sizes that these words ask for.
-fn synth_of(options: &[String]) -> Option<Command>
-    ensures found { result ≡ option_map Command.Synth (sizes_of (map string_bytes options.now)) }
+fn synth_of(words: &[String]) -> Option<Command>
+    ensures found { result ≡ with_options synth_options synth_by (map string_bytes words.now) }
     ensures in_range { IfSome result IsInRange }
 {
-    match options {
-        [] => Some(Command::Synth(Sizes {
-            states: DEFAULT_STATES,
-        })),
-        [option, value] if is_word(option, b"--states") && is_word(value, b"1") => {
-            Some(Command::Synth(Sizes { states: 1 }))
-        }
-        _ => None,
+    if !are_options(&SYNTH_OPTIONS, words) {
+        return None;
     }
+    let states = NumberOption::States.value_in(words)?;
+    let bound = NumberOption::Bound.value_in(words)?;
+    let budget = NumberOption::Budget.value_in(words)?;
+    let rounds = NumberOption::Rounds.value_in(words)?;
+    Some(Command::Synth(Sizes {
+        states,
+        bound,
+        rounds,
+        budget: u64::from(budget),
+    }))
+}
+
+/// `prove` with the sizes that these words ask for.
+fn prove_of(words: &[String]) -> Option<Command>
+    ensures found { result ≡ with_options prove_options prove_by (map string_bytes words.now) }
+    ensures in_range { IfSome result IsInRange }
+{
+    if !are_options(&PROVE_OPTIONS, words) {
+        return None;
+    }
+    let states = NumberOption::States.value_in(words)?;
+    let bound = NumberOption::Bound.value_in(words)?;
+    let budget = NumberOption::Budget.value_in(words)?;
+    Some(Command::Prove(QuestionSizes {
+        states,
+        bound,
+        budget: u64::from(budget),
+    }))
 }
 
 /// `check` with the bound that these words ask for.
-fn check_of(options: &[String]) -> Option<Command>
-    ensures found { result ≡ option_map Command.Check (bound_of (map string_bytes options.now)) }
+fn check_of(words: &[String]) -> Option<Command>
+    ensures found { result ≡ with_options check_options check_by (map string_bytes words.now) }
     ensures in_range { IfSome result IsInRange }
 {
-    match options {
-        [] => Some(Command::Check(DEFAULT_BOUND)),
-        [option, value] if is_word(option, b"--bound") => Some(Command::Check(bound_in(value)?)),
-        _ => None,
+    if !are_options(&[NumberOption::Bound], words) {
+        return None;
     }
-}
-
-/// The bound that a word means.
-fn bound_in(word: &String) -> Option<u32>
-    ensures found { result ≡ option_and_then (where_at_most MOST_BOUND) (plain_number_in (string_bytes word.now)) }
-    ensures in_range { IfSome result (λ bound. bound ≤ MOST_BOUND) }
-{
-    let number = plain_number_in(word.as_bytes())?;
-    if number <= MOST_BOUND as u64 {
-        Some(number as u32)
-    } else {
-        None
-    }
+    let bound = NumberOption::Bound.value_in(words)?;
+    Some(Command::Check(bound))
 }
 
 /// A command that has no options, where no word comes after it.
-fn without_options(command: Command, options: &[String]) -> Option<Command>
+fn without_options(command: Command, words: &[String]) -> Option<Command>
     requires in_range { IsInRange command }
-    ensures found { result ≡ without_options command (map string_bytes options.now) }
+    ensures found { result ≡ without_options command (map string_bytes words.now) }
     ensures in_range { IfSome result IsInRange }
 {
-    if options.is_empty() {
+    if words.is_empty() {
         Some(command)
     } else {
         None
     }
-}
-
-/// Whether a word has these bytes.
-fn is_word(word: &String, bytes: &[u8]) -> bool
-    ensures { result ≡ bytes_eq (string_bytes word.now) bytes.now }
-{
-    word.as_bytes() == bytes
 }

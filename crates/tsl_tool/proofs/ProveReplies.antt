@@ -1,0 +1,120 @@
+-- Which status and which text the replies of `prove` have, what they promise, and when there is one that is an answer.
+use Rattle.std.proofs.Common.{◌≡◌, ◌≢◌, ℕ, true, false, List, [], ap, sym, ◌∙◌, subst}
+use Rattle.std.specs.Prelude.{Some, None, codes}
+use Rattle.tsl_terms.specs.SpecTree.{SpecTree}
+use Rattle.tsl_reader.specs.Spells.{Spells}
+use Rattle.tsl_reader.proofs.Causes.{one_spec}
+use Rattle.flow_program.specs.ProgramTree.{ProgramTree}
+use Rattle.clause_core.specs.Literals.{Lit}
+use Rattle.program_check.specs.declared.verdict.Limit.{Limit}
+use Rattle.refutation_check.specs.LogText.{log_answer}
+use Rattle.refutation_text.specs.Parted.{SpellsRefutation}
+use Rattle.refinement_loop.specs.Outcomes.{IsWrittenFor, IsLargeFor}
+use Rattle.refinement_loop.proofs.OneAnswer.{not_both, not_answered}
+use Rattle.tsl_report.specs.declared.fault.Fault.{Fault}
+use Rattle.tsl_report.specs.SearchTexts.{spent_text}
+use Rattle.tsl_tool.specs.declared.words.QuestionSizes.{QuestionSizes}
+use Rattle.tsl_tool.specs.declared.words.Command.TheVariants.{Prove}
+use Rattle.tsl_tool.specs.declared.status.Status.{Status}
+use Rattle.tsl_tool.specs.declared.status.Status.TheVariants.{Done, No, Large, Spent}
+use Rattle.tsl_tool.specs.declared.reply.Reply.{Reply}
+use Rattle.tsl_tool.specs.Promise.{Promise}
+use Rattle.tsl_tool.specs.Prove.{proof_text, QuestionOutcome, proved, satisfiable, spent, too_large, ProveOutcome, refused, of_spec}
+use Rattle.tsl_tool.specs.Recheck.{RecheckOutcome, of_parts, verdict, parts_reply, log_reply, log_part}
+use Rattle.tsl_tool.specs.Refusals.{fault_at_limit}
+use Rattle.tsl_tool.specs.Statuses.{is_answer}
+use Rattle.tsl_tool.proofs.FaultPromises.{fault_keeps}
+use Rattle.tsl_tool.proofs.Statuses.{comes_of_bytes, status_of, refusal_comes, limit_comes, limit_is_large, limit_status, fault_says}
+use Rattle.tsl_tool.proofs.SynthReplies.{not_refused}
+
+-- ---- statuses
+
+pub prove_comes : (sizes : QuestionSizes) (bytes : List ℕ) (reply : Reply) → ProveOutcome sizes bytes reply →
+    comes_of_bytes reply.status ≡ true
+prove_comes sizes bytes reply (refused fault h is) = ap comes_of_bytes (status_of is) ∙ refusal_comes bytes h.error fault h.is_fault
+prove_comes sizes bytes reply (of_spec spec spells (proved done h)) = ap comes_of_bytes done
+prove_comes sizes bytes reply (of_spec spec spells (satisfiable is h)) = ap comes_of_bytes is
+prove_comes sizes bytes reply (of_spec spec spells (spent is h)) = ap comes_of_bytes is
+prove_comes sizes bytes reply (of_spec spec spells (too_large limit h is)) = ap comes_of_bytes (status_of is) ∙ limit_comes limit
+
+-- ---- texts
+
+pub prove_says : (sizes : QuestionSizes) (bytes : List ℕ) (reply : Reply) → ProveOutcome sizes bytes reply → reply.text ≢ []
+prove_says sizes bytes reply (refused fault h is) e = fault_says fault reply is e
+prove_says sizes bytes reply (of_spec spec spells (proved done h)) e =
+    let proof : proof_text spec h.question h.steps ≡ [] = sym h.text_is ∙ e in cc
+prove_says sizes bytes reply (of_spec spec spells (satisfiable is h)) e =
+    let says : codes "satisfiable\n" ≡ [] = sym h.text_is ∙ e in cc
+prove_says sizes bytes reply (of_spec spec spells (spent is h)) e =
+    let trace : spent_text sizes.states sizes.bound h.automaton_states h.edges h.clauses ≡ [] = sym h.text_is ∙ e in cc
+prove_says sizes bytes reply (of_spec spec spells (too_large limit h is)) e = fault_says (fault_at_limit limit) reply is e
+
+-- ---- promises
+
+pub prove_keeps : (sizes : QuestionSizes) (bytes : List ℕ) (reply : Reply) → ProveOutcome sizes bytes reply →
+    Promise (Some (Prove sizes)) reply.status bytes reply.text
+prove_keeps sizes bytes reply (refused fault h is) = fault_keeps (Some (Prove sizes)) fault bytes reply is
+prove_keeps sizes bytes reply (of_spec spec spells (proved done h)) =
+    subst (λ (s : Status). Promise (Some (Prove sizes)) s bytes reply.text) (sym done) (spec, spells, h)
+prove_keeps sizes bytes reply (of_spec spec spells (satisfiable is h)) =
+    subst (λ (s : Status). Promise (Some (Prove sizes)) s bytes reply.text) (sym is) (spec, spells, h)
+prove_keeps sizes bytes reply (of_spec spec spells (spent is h)) =
+    subst (λ (s : Status). Promise (Some (Prove sizes)) s bytes reply.text) (sym is) (spec, spells, h)
+prove_keeps sizes bytes reply (of_spec spec spells (too_large limit h is)) =
+    fault_keeps (Some (Prove sizes)) (fault_at_limit limit) bytes reply is
+
+-- ---- completeness
+
+pub question_answers : (sizes : QuestionSizes) (bytes : List ℕ) (spec : SpecTree) (reply : Reply) → Spells bytes spec →
+    ((limit : Limit) → IsLargeFor spec sizes.states sizes.bound limit → ⊥) → ProveOutcome sizes bytes reply → is_answer reply.status ≡ true
+question_answers sizes bytes spec reply spells within (refused fault h is) =
+    absurd (not_refused bytes spec h.error fault spells h.spells_none h.is_fault)
+question_answers sizes bytes spec reply spells within (of_spec other spelled (proved done h)) = ap is_answer done
+question_answers sizes bytes spec reply spells within (of_spec other spelled (satisfiable is h)) = ap is_answer is
+question_answers sizes bytes spec reply spells within (of_spec other spelled (spent is h)) = ap is_answer is
+question_answers sizes bytes spec reply spells within (of_spec other spelled (too_large limit h is)) =
+    absurd (within limit
+    (subst (λ (s : SpecTree). IsLargeFor s sizes.states sizes.bound limit) (one_spec bytes other spec spelled spells) h))
+
+-- where there is a program of the size, the answer is no proof
+pub program_not_refuted : (sizes : QuestionSizes) (bytes : List ℕ) (spec : SpecTree) (reply : Reply) (program : ProgramTree) →
+    Spells bytes spec → IsWrittenFor spec sizes.states sizes.bound program → ProveOutcome sizes bytes reply → reply.status ≡ Done → ⊥
+program_not_refuted sizes bytes spec reply program spells there (refused fault h is) done =
+    not_refused bytes spec h.error fault spells h.spells_none h.is_fault
+program_not_refuted sizes bytes spec reply program spells there (of_spec other spelled (proved is h)) done =
+    not_both other sizes.states sizes.bound program
+    (subst (λ (s : SpecTree). IsWrittenFor s sizes.states sizes.bound program) (one_spec bytes spec other spells spelled) there) h.none
+program_not_refuted sizes bytes spec reply program spells there (of_spec other spelled (satisfiable is h)) done =
+    let e : No ≡ Done = sym is ∙ done in cc
+program_not_refuted sizes bytes spec reply program spells there (of_spec other spelled (spent is h)) done =
+    let e : Spent ≡ Done = sym is ∙ done in cc
+program_not_refuted sizes bytes spec reply program spells there (of_spec other spelled (too_large limit h is)) done =
+    let e : false ≡ true = sym (limit_is_large limit) ∙ (sym (ap is_answer (status_of is)) ∙ ap is_answer done) in cc
+
+-- where a limit is passed, that is what is told
+pub question_is_large : (sizes : QuestionSizes) (bytes : List ℕ) (spec : SpecTree) (reply : Reply) (limit : Limit) → Spells bytes spec →
+    IsLargeFor spec sizes.states sizes.bound limit → ProveOutcome sizes bytes reply → reply.status ≡ Large
+question_is_large sizes bytes spec reply limit spells large (refused fault h is) =
+    absurd (not_refused bytes spec h.error fault spells h.spells_none h.is_fault)
+question_is_large sizes bytes spec reply limit spells large (of_spec other spelled (proved is h)) =
+    absurd (not_answered other sizes.states sizes.bound h.none.question limit h.none.asked h.none.few
+    (subst (λ (s : SpecTree). IsLargeFor s sizes.states sizes.bound limit) (one_spec bytes spec other spells spelled) large))
+question_is_large sizes bytes spec reply limit spells large (of_spec other spelled (satisfiable is h)) =
+    absurd (not_answered other sizes.states sizes.bound h.question limit h.asked h.few
+    (subst (λ (s : SpecTree). IsLargeFor s sizes.states sizes.bound limit) (one_spec bytes spec other spells spelled) large))
+question_is_large sizes bytes spec reply limit spells large (of_spec other spelled (spent is h)) =
+    absurd (not_answered other sizes.states sizes.bound h.spent.question limit h.spent.asked h.spent.few
+    (subst (λ (s : SpecTree). IsLargeFor s sizes.states sizes.bound limit) (one_spec bytes spec other spells spelled) large))
+question_is_large sizes bytes spec reply limit spells large (of_spec other spelled (too_large named h is)) =
+    status_of is ∙ limit_status named
+
+-- ---- what `recheck` says of a proof
+
+-- it verifies a text that spells a refutation
+pub spelled_verified : (text : List ℕ) (variables : ℕ) (clauses : List (List Lit)) → SpellsRefutation text variables clauses →
+    RecheckOutcome text (verdict None)
+spelled_verified text variables clauses h =
+    of_parts h.at (record { is_line = h.line; first = h.first })
+    (ap verdict (sym h.accepted)
+    ∙ (ap (log_reply variables clauses) (sym h.log)
+    ∙ ap (λ formula. parts_reply formula (log_answer (log_part text h.at))) (sym h.formula)))

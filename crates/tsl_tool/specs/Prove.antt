@@ -1,0 +1,69 @@
+-- What the command `prove` replies.
+use Rattle.std.specs.Prelude.{◌≡◌, ℕ, List, ◌++◌, codes, Option}
+use Rattle.tsl_terms.specs.SpecTree.{SpecTree, whole_formula}
+use Rattle.tsl_reader.specs.Spells.{Spells}
+use Rattle.machines.specs.MachineTree.{ControllerTree}
+use Rattle.program_check.specs.declared.verdict.Limit.{Limit}
+use Rattle.refutation_check.specs.declared.steps.Step.{Step}
+use Rattle.refutation_text.specs.Parted.{SpellsRefutation}
+use Rattle.refutation_text.specs.Written.{comment_text, refutation_text}
+use Rattle.bounded_encoding.specs.Question.{QuestionTree, IsSolution}
+use Rattle.bounded_encoding.specs.Variables.{variable_count}
+use Rattle.bounded_encoding.specs.Encoding.{encoding}
+use Rattle.refinement_loop.specs.Outcomes.{IsAsked, HasFewClauses, HasNoSolution, IsLargeFor}
+use Rattle.tsl_report.specs.declared.fault.Fault.{Fault}
+use Rattle.tsl_report.specs.FormulaText.{formula_text}
+use Rattle.tsl_tool.specs.declared.status.Status.TheVariants.{Done, No, Spent}
+use Rattle.tsl_tool.specs.declared.words.QuestionSizes.{QuestionSizes}
+use Rattle.tsl_tool.specs.declared.reply.Reply.{Reply}
+use Rattle.tsl_tool.specs.Refusals.{HasSpecFault, fault_at_limit}
+use Rattle.tsl_tool.specs.Replies.{fault_reply}
+use Rattle.tsl_tool.specs.Synth.{TellsSpent}
+
+-- the text of a proof for a question: the whole formula as a comment, the clauses that encode the question, and a log
+abbrev pub proof_text : SpecTree → QuestionTree → List Step → List ℕ
+proof_text spec question steps =
+    comment_text (formula_text spec.names (whole_formula spec))
+    ++ refutation_text (variable_count question) (encoding question) steps
+
+-- The text is that of a proof that no controller with so many states has an annotation within the bound. It spells a refutation of
+-- the clauses that encode the question, which `recheck` verifies, and there is no such controller.
+pub record IsProof (sizes : QuestionSizes) (spec : SpecTree) (text : List ℕ) : Type 0 where
+  pub question : QuestionTree
+  pub asked : IsAsked spec sizes.states sizes.bound question
+  pub steps : List Step
+  pub text_is : text ≡ proof_text spec question steps
+  pub spelled : SpellsRefutation text (variable_count question) (encoding question)
+  pub none : HasNoSolution spec sizes.states sizes.bound
+
+-- a controller with so many states has an annotation within the bound, and the text says so
+pub record TellsSatisfiable (sizes : QuestionSizes) (spec : SpecTree) (text : List ℕ) : Type 0 where
+  pub question : QuestionTree
+  pub asked : IsAsked spec sizes.states sizes.bound question
+  pub few : HasFewClauses question
+  pub controller : ControllerTree
+  pub number : ℕ → ℕ → Option ℕ
+  pub solution : IsSolution question controller number
+  pub text_is : text ≡ codes "satisfiable\n"
+
+-- what is said where there is one
+abbrev pub satisfiable_reply : Reply
+satisfiable_reply = record { status = No; text = codes "satisfiable\n" }
+
+-- what is replied to a specification
+pub data QuestionOutcome (sizes : QuestionSizes) (spec : SpecTree) (reply : Reply) : Type 0 where
+  -- there is no program of this size, by a proof
+  proved : reply.status ≡ Done → IsProof sizes spec reply.text → QuestionOutcome sizes spec reply
+  -- there is one
+  satisfiable : reply.status ≡ No → TellsSatisfiable sizes spec reply.text → QuestionOutcome sizes spec reply
+  -- the budget is spent
+  spent : reply.status ≡ Spent → TellsSpent spec sizes.states sizes.bound sizes.budget reply.text → QuestionOutcome sizes spec reply
+  -- a limit is passed
+  too_large : (limit : Limit) → IsLargeFor spec sizes.states sizes.bound limit → reply ≡ fault_reply (fault_at_limit limit) →
+      QuestionOutcome sizes spec reply
+
+pub data ProveOutcome (sizes : QuestionSizes) (bytes : List ℕ) (reply : Reply) : Type 0 where
+  -- the bytes are refused at a fault
+  refused : (fault : Fault) → HasSpecFault bytes fault → reply ≡ fault_reply fault → ProveOutcome sizes bytes reply
+  -- they spell a specification
+  of_spec : (spec : SpecTree) → Spells bytes spec → QuestionOutcome sizes spec reply → ProveOutcome sizes bytes reply
