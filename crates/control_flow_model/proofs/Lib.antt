@@ -15,3 +15,4 @@ pub mod OkAnswers
 pub mod NodeLemmas
 pub mod FitLemmas
 pub mod Examples
+pub mod FlowOnce

@@ -15,7 +15,7 @@ use Rattle.control_flow_model.specs.ControllerOf.{terms_picked, IsEntryOf, IsCon
 use Rattle.control_flow_model.proofs.PickedTerms.{picked_parts}
 
 -- terms are picked in one way
-one_pick : (cs : List ControlledTree) → ((i : ℕ) (c : ControlledTree) → slice_get cs i ≡ Some c → StandOnce c.choices) →
+pub one_pick : (cs : List ControlledTree) → ((i : ℕ) (c : ControlledTree) → slice_get cs i ≡ Some c → StandOnce c.choices) →
     (p q : List ℕ) (ts us : List TermTree) → ts ≡ us → terms_picked cs p ≡ Some ts → terms_picked cs q ≡ Some us → p ≡ q
 one_pick [] once [] [] ts us same left right = refl
 one_pick [] once [] (k ∷ q) ts us same left right = absurd (none-some us right)

@@ -3,12 +3,14 @@
 ghost use Rattle.std.specs.Prelude.{◌≡◌, ℕ, ◌*◌, ◌≤◌, List, ◌++◌, length, map, Some, slice_get};
 ghost use Rattle.loop_shape.specs.LoopShape.{LoopShape};
 ghost use Rattle.tsl_terms.specs.Value.{Meanings};
+ghost use Rattle.tsl_terms.specs.TermTree.{ProbeTree};
 ghost use Rattle.tsl_terms.specs.WindowTree.{WindowTree};
+ghost use Rattle.flow_program.specs.NodeTree.{branch};
 ghost use Rattle.flow_program.specs.ProgramTree.{ProgramTree};
 ghost use Rattle.tsl_meaning.specs.Interpretation.{InputRows};
 ghost use Rattle.tsl_meaning.specs.Run.{Closed};
 ghost use Rattle.ltl_formula.specs.LetterLoop.{LetterLoop};
-ghost use Rattle.letter_space.specs.SpaceTree.{SpaceTree, IsSpace};
+ghost use Rattle.letter_space.specs.SpaceTree.{SpaceTree, StandOnce, IsSpace};
 ghost use Rattle.letter_space.specs.Letters.{valuation_count};
 ghost use Rattle.machines.specs.MachineTree.{EntryTree, ControllerTree, IsController, controller_entry};
 ghost use Rattle.machines.specs.Moves.{FitsSpace};
@@ -61,4 +63,21 @@ pub fn flows_are_small()
     ensures nodes { (c : ControllerTree) (space : SpaceTree) (inputs cells outputs : List ℕ) (windows : List WindowTree)
         (program : ProgramTree) → IsFlowOf c space inputs cells outputs windows program →
         length program.nodes ≤ length program.states * (2 * valuation_count space) }
+{}
+
+/// No node of the program of a controller stands twice, and no test leads to one node on both sides.
+pub fn flows_repeat_nothing()
+    ensures once { (c : ControllerTree) (space : SpaceTree) (inputs cells outputs : List ℕ) (windows : List WindowTree)
+        (program : ProgramTree) → IsSpace space → IsFlowOf c space inputs cells outputs windows program →
+        StandOnce program.nodes }
+    ensures choose { (c : ControllerTree) (space : SpaceTree) (inputs cells outputs : List ℕ) (windows : List WindowTree)
+        (program : ProgramTree) → IsFlowOf c space inputs cells outputs windows program →
+        (i m n : ℕ) (t : ProbeTree) → slice_get program.nodes i ≡ Some (branch t m n) → m ≡ n → ⊥ }
+{}
+
+/// A controller has one program at most, over the bits of a space and for given signals and windows.
+pub fn one_flow()
+    ensures { (c : ControllerTree) (space : SpaceTree) (inputs cells outputs : List ℕ) (windows : List WindowTree)
+        (p q : ProgramTree) → IsFlowOf c space inputs cells outputs windows p →
+        IsFlowOf c space inputs cells outputs windows q → p ≡ q }
 {}

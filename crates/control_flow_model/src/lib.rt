@@ -8,7 +8,8 @@
 //!   reachable ones, and each has a reduced decision tree over the predicate terms (`specs/DecisionTree`),
 //!   whose equal parts are one node.
 //! - Laws of such a program: its walks give the controller's entries (`flows_walk_as_controllers`), it tests
-//!   predicate terms and assigns choices alone (`flows_have_bits`), and it is small (`flows_are_small`).
+//!   predicate terms and assigns choices alone (`flows_have_bits`), and it is small (`flows_are_small`). No
+//!   node of it stands twice (`flows_repeat_nothing`), and there is one such program at most (`one_flow`).
 //! - The law `closed_runs_have_letter_loops`: each closed run of the program has a letter loop of that
 //!   controller (`specs/RunLetters`). Its letters have the truths of the predicate terms and the assigned
 //!   terms, so each atom that has a bit holds in the run exactly where the letter has its bit.
@@ -25,8 +26,8 @@ mod sharing;
 pub use controlling::controller_of;
 pub use flowing::flow_of;
 pub use laws::{
-    closed_runs_have_letter_loops, flows_are_small, flows_have_bits, flows_walk_as_controllers,
-    one_controller,
+    closed_runs_have_letter_loops, flows_are_small, flows_have_bits, flows_repeat_nothing,
+    flows_walk_as_controllers, one_controller, one_flow,
 };
 
 #[cfg(test)]
