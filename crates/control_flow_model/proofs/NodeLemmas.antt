@@ -107,14 +107,6 @@ maps_back f g back (x ∷ xs) (y ∷ ys) same =
 
 -- ---- the trees of states
 
-pub no_shared : (space : SpaceTree) (c : ControllerTree) → AreShared space c [] [] []
-no_shared space c = record {
-  trees = [];
-  are_trees = refl;
-  are_keys = record { count = refl; each = λ n d at. absurd (none-some d at) };
-  are_roots = refl;
-}
-
 all_subtrees : (trees : List DecisionTree) (d : DecisionTree) → flat_map subtrees (trees ++ d ∷ []) ≡ flat_map subtrees trees ++ subtrees d
 all_subtrees trees d =
     flat_map-append subtrees trees (d ∷ []) ∙ ap (λ ts. flat_map subtrees trees ++ ts) (append-nil (subtrees d))

@@ -274,11 +274,6 @@ module _ (old middle last new : List PartKey) (a b : DecisionTree) (bit i j numb
 
 -- ---- the tree of a state
 
-pub decided_leaf : (c : ControllerTree) (state count bit valuation : ℕ) (old new : List PartKey) (e : EntryTree) (number : ℕ) → count ≡ 0 →
-    Some e ≡ controller_entry c state valuation → AddsTree old new (leaf e) number → AddsDecision c state count bit valuation old new number
-decided_leaf c state count bit valuation old new e number none entry adds = subst (λ n. AddsDecision c state n bit valuation old new number)
-    (sym none) (record { tree = leaf e; is_tree = ap (option_map leaf) (sym entry); adds = adds })
-
 pub decided_fork : (c : ControllerTree) (state count fewer bit next valuation more : ℕ) (old middle last new : List PartKey)
     (i j number : ℕ) → count ≡ suc fewer → next ≡ suc bit → more ≡ valuation + 2 ^ bit → AddsDecision c state fewer next more old middle i →
     AddsDecision c state fewer next valuation middle last j → (i ≡ j → (number ≡ i) × (new ≡ last)) →

@@ -133,11 +133,6 @@ module _ (c : ControllerTree) where
       let place = list_any_place (nat_eq q) found among in
       omega (arith, equal_numbers q place.1 place.3, reachable_below c is place.1 (are.reached place.0 place.1 place.2)))
 
-  pub all_found : (n : ℕ) (found : List ℕ) → length found ≤ n → AreFound c n found → AreFound c (length found) found
-  all_found n found past are =
-      let same : n ≡ length found = omega (arith, past, are.within) in
-      subst (λ k. AreFound c k found) same are
-
   -- ---- those found are the reachable ones
 
   module _ (is : IsController c) (found : List ℕ) (are : AreFound c (length found) found) where
