@@ -9,4 +9,7 @@ pub mod DualDemands
 pub mod EnvironmentDecoded
 pub mod EnvironmentEncoded
 pub mod DualRefuted
+pub mod Picking
+pub mod DualSizes
+pub mod DualOver
 mod Examples

@@ -6,7 +6,7 @@ use Rattle.letter_space.specs.Letters.{ArePicks}
 use Rattle.letter_space.specs.Vectors.{vector_count, picks_of}
 
 -- a product that is above something has no factor 0
-some_columns : (rows columns k : ℕ) → k < rows * columns → 0 < columns
+pub some_columns : (rows columns k : ℕ) → k < rows * columns → 0 < columns
 some_columns rows zero k below = let none : rows * zero ≡ 0 = grind arith in absurd (omega (arith, below, none))
 some_columns rows (suc columns) k below = omega arith
 

@@ -4,3 +4,4 @@ pub mod DualVariables
 pub mod DualEncoding
 pub mod DualDecoding
 pub mod DualAnswers
+pub mod internal

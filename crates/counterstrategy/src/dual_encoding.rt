@@ -1,16 +1,30 @@
 //! The question for an environment as clauses.
 
-ghost use Rattle.std.specs.Prelude.{◌≡◌, ◌≤◌, IfOk, IfErr};
+ghost use Rattle.std.specs.Prelude.{◌≡◌, ◌<◌, ◌≤◌, ◌*◌, length, IfOk, IfErr, OnOk};
+ghost use Rattle.letter_space.specs.declared.limits.TheConstants.{MOST_VECTORS};
+ghost use Rattle.letter_space.specs.Vectors.{vector_count};
+ghost use Rattle.letter_space.specs.SpaceView.{space_tree};
 ghost use Rattle.cobuchi_automata.specs.declared.build_error.TheConstants.{MOST_AUTOMATON_STATES};
+ghost use Rattle.refutation_check.specs.declared.dimacs.TheConstants.{MOST_CLAUSES};
 ghost use Rattle.bounded_encoding.specs.QuestionView.{question_of};
+ghost use Rattle.bounded_encoding.specs.Made.{with_clauses};
+ghost use Rattle.bounded_encoding.specs.Refusing.{Refuses};
+ghost use Rattle.bounded_encoding.specs.declared.errors.EncodeError.TheVariants.{Clauses};
 ghost use Rattle.counterstrategy.specs.DualVariables.{dual_variable_count};
-ghost use Rattle.counterstrategy.specs.DualEncoding.{dual_encoding};
+ghost use Rattle.counterstrategy.specs.DualEncoding.{dual_demands, dual_encoding};
 ghost use Rattle.counterstrategy.specs.DualAnswers.{IsAskable, HasDualCause};
+ghost use Rattle.counterstrategy.specs.internal.DualAsking.{dual_tree, IsDualCounted};
 
+use crate::dual_asking::{DualQuestion, dual_question_asked};
 use crate::dual_error::DualError;
+use crate::environment_clauses::{add_first_pair, add_pair_numbers, add_successors};
+use crate::step_clauses::add_steps;
+use crate::vector_letters::letters_of_vectors;
+use bounded_encoding::{Builder, EncodeError};
 use clause_core::Cnf;
 use cobuchi_automata::Automaton;
 use letter_space::Space;
+use refutation_check::MOST_CLAUSES;
 use std::alloc::Global;
 
 /// The clauses of the question for an environment with so many states and an annotation within a
@@ -31,5 +45,89 @@ pub fn encode_dual(
     ensures limits { IfOk result (λ cnf. IsAskable (question_of automaton.now space.now states bound)) }
     ensures cause { IfErr result (HasDualCause (question_of automaton.now space.now states bound)) }
 {
-    Err(DualError::NoMemory)
+    let Some(vectors) = space.vectors() else {
+        return Err(DualError::Vectors);
+    };
+    match encode_with(alloc, automaton, space, vectors, states, bound) {
+        Ok(cnf) => Ok(cnf),
+        Err(EncodeError::Clauses) => Err(DualError::Clauses),
+        Err(EncodeError::NoMemory) => Err(DualError::NoMemory),
+    }
+}
+
+/// The clauses of the question, where there are so many vectors.
+fn encode_with(
+    alloc: Global,
+    automaton: &Automaton,
+    space: &Space,
+    vectors: u32,
+    states: u32,
+    bound: u32,
+) -> Result<Cnf, EncodeError>
+    requires vectors { vectors ≡ vector_count (space_tree space.now).controlled }
+    requires few_vectors { vectors ≤ MOST_VECTORS }
+    requires has_state { 1 ≤ states }
+    requires few_states { states ≤ 8 }
+    requires few_automaton_states { automaton.now.states ≤ MOST_AUTOMATON_STATES }
+    ensures variables { IfOk result (λ cnf. cnf.variables ≡ dual_variable_count (question_of automaton.now space.now states bound)) }
+    ensures clauses { IfOk result (λ cnf. cnf.clauses ≡ dual_encoding (question_of automaton.now space.now states bound)) }
+    ensures few { IfOk result (λ cnf. length cnf.clauses ≤ MOST_CLAUSES) }
+    ensures refused { IfErr result (λ e. e ≡ Clauses →
+        MOST_CLAUSES < length (dual_encoding (question_of automaton.now space.now states bound))) }
+{
+    if falling_pairs(states, automaton.states, bound) > MOST_CLAUSES {
+        return Err(EncodeError::Clauses);
+    }
+    let letters = letters_of_vectors(alloc, space, vectors)?;
+    let question = dual_question_asked(
+        automaton,
+        space,
+        letters.as_slice(),
+        vectors,
+        states,
+        bound,
+    );
+    let mut out = Builder::new(alloc, MOST_CLAUSES);
+    add_dual_demands(alloc, &mut out, &question)?;
+    let variables = dual_variables_in_all(&question);
+    Ok(Cnf {
+        variables,
+        clauses: out.into_list(),
+    })
+}
+
+/// How many clauses say that numbers of pairs fall.
+fn falling_pairs(states: u32, automaton_states: u32, bound: u32) -> u64
+    requires few_states { states ≤ 8 }
+    requires few_automaton_states { automaton_states ≤ MOST_AUTOMATON_STATES }
+    ensures { result ≡ states * automaton_states * bound }
+{
+    u64::from(states) * u64::from(automaton_states) * u64::from(bound)
+}
+
+/// How many variables there are.
+fn dual_variables_in_all(question: &DualQuestion) -> u32
+    requires asked { IsDualCounted question.now }
+    ensures { result ≡ dual_variable_count (dual_tree question.now) }
+{
+    question.states * question.tests
+        + question.states * question.vectors * question.states
+        + question.states * question.automaton.states * (question.bound + 1)
+}
+
+/// Adds all clauses of a question.
+#[tactic(auto, using(bounded_encoding::proofs::Adding::adding))]
+fn add_dual_demands(
+    alloc: Global,
+    out: &mut Builder,
+    question: &DualQuestion,
+) -> Result<(), EncodeError>
+    requires asked { IsDualCounted question.now }
+    ensures added { OnOk result (out.new ≡ with_clauses out.old (dual_demands (dual_tree question.now))) }
+    ensures refused { Refuses result (with_clauses out.old (dual_demands (dual_tree question.now))) }
+{
+    add_successors(alloc, out, question)?;
+    add_first_pair(alloc, out, question)?;
+    add_pair_numbers(alloc, out, question)?;
+    add_steps(alloc, out, question)
 }

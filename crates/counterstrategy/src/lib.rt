@@ -11,10 +11,15 @@
 #![tactic(auto)]
 
 mod dual_answers;
+mod dual_asking;
 mod dual_encoding;
 mod dual_error;
+mod environment_clauses;
 mod environment_finding;
 mod laws;
+mod step_clauses;
+mod step_literals;
+mod vector_letters;
 
 pub use dual_answers::FoundDual;
 pub use dual_encoding::encode_dual;
