@@ -8,6 +8,7 @@ use Rattle.clause_core.specs.Literals.{Lit, negation, has}
 use Rattle.clause_core.specs.Clauses.{in_order, has_pair}
 use Rattle.clause_core.proofs.Sets.{has-in_order, pair_from, has_pair_from}
 use Rattle.bounded_encoding.specs.ClauseLists.{kept}
+use Rattle.bounded_encoding.proofs.Adding.{kept_both}
 
 -- a pair stands in each list that has the literals
 pair_moves : (small large : List Lit) → ((l : Lit) → has small l ≡ true → has large l ≡ true) → has_pair small ≡ true → has_pair large ≡ true
@@ -24,17 +25,8 @@ has_pair-in_order clause = same_tests (has_pair (in_order clause)) (has_pair cla
 abbrev pub kept_count : List (List Lit) → ℕ
 kept_count clauses = length (kept clauses)
 
-kept-append : (xs ys : List (List Lit)) → kept (xs ++ ys) ≡ kept xs ++ kept ys
-kept-append [] ys = refl
-kept-append (x ∷ xs) ys = by (has_pair (in_order x)) (kept-append xs ys)
-  where
-    by : (t : Bool) → kept (xs ++ ys) ≡ kept xs ++ kept ys →
-        cond (not t) (in_order x ∷ kept (xs ++ ys)) (kept (xs ++ ys)) ≡ cond (not t) (in_order x ∷ kept xs) (kept xs) ++ kept ys
-    by true rest = rest
-    by false rest = ap (λ zs. in_order x ∷ zs) rest
-
 pub count_joined : (xs ys : List (List Lit)) → kept_count (xs ++ ys) ≡ kept_count xs + kept_count ys
-count_joined xs ys = ap (λ zs. length zs) (kept-append xs ys) ∙ length-append (kept xs) (kept ys)
+count_joined xs ys = ap (λ zs. length zs) (kept_both xs ys) ∙ length-append (kept xs) (kept ys)
 
 pub count_of_all : {X : Type 0} (f : X → List (List Lit)) (xs : List X) → kept_count (flat_map f xs) ≡ sum_by (λ x. kept_count (f x)) xs
 count_of_all f [] = refl
