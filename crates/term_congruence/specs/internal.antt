@@ -1,0 +1,3 @@
+-- Words that only private functions use.
+pub mod Shapes
+pub mod ShapeView

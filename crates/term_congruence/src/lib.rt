@@ -1,0 +1,21 @@
+//! Windows whose two sides are equal whatever the symbols mean.
+//!
+//! A term unfolds at a step to a free term (`specs/Unfolded`): its leaves are signals at steps, and a cell whose
+//! update is listed at the step before is what the update's term unfolds to there. `classes_along` gives
+//! labels of terms at steps, which are equal exactly where the terms unfold to one free term; `congruent` says
+//! whether the two sides of a window unfold to the same (`specs/Congruence`).
+//!
+//! Neither call makes a free term. A label is the place of a shape in a set without repeats, and a shape names
+//! its parts by their labels, so the cost is that of the terms times the steps, however large they unfold.
+#![tactic(auto)]
+
+mod classes;
+mod congruence;
+mod labelling;
+mod shapes;
+
+pub use classes::{ClassTable, classes_along};
+pub use congruence::congruent;
+
+#[cfg(test)]
+mod tests;
