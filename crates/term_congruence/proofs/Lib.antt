@@ -4,3 +4,4 @@ pub mod Listing
 pub mod Cells
 pub mod Tables
 pub mod SameLabels
+mod Examples
