@@ -12,4 +12,5 @@ pub mod DualRefuted
 pub mod Picking
 pub mod DualSizes
 pub mod DualOver
+pub mod DualReadings
 mod Examples

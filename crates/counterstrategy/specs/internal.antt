@@ -1,1 +1,2 @@
 pub mod DualAsking
+pub mod DualReading

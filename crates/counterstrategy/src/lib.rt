@@ -16,6 +16,7 @@ mod dual_encoding;
 mod dual_error;
 mod environment_clauses;
 mod environment_finding;
+mod environment_reading;
 mod laws;
 mod step_clauses;
 mod step_literals;

@@ -3,7 +3,7 @@
 use Rattle.std.specs.Prelude.{◌≡◌, ◌<◌, ◌+◌, ◌^◌, ℕ, List, map}
 use Rattle.letter_space.specs.SpaceTree.{SpaceTree}
 use Rattle.letter_space.specs.Letters.{letter_of}
-use Rattle.letter_space.specs.Vectors.{vector_count, picks_of}
+use Rattle.letter_space.specs.Vectors.{picks_of}
 use Rattle.bounded_encoding.specs.ClauseLists.{below}
 use Rattle.bounded_encoding.specs.Question.{QuestionTree, IsPosed}
 use Rattle.bounded_encoding.specs.QuestionView.{question_of}

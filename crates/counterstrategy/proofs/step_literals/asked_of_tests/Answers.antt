@@ -7,7 +7,8 @@ use Rattle.counterstrategy.proofs.step_literals.asked_of_tests.Goals as goal
 
 pub loop-b-preserved : goal.loop-b-preserved
 loop-b-preserved c =
-    let is : c.literal-unwanted.result ≡ asked_test (dual_tree c.args.question.now) (edge_tree c.args.step.edge) c.args.step.state c.loop-b.b =
+    let is : c.literal-unwanted.result
+    ≡ asked_test (dual_tree c.args.question.now) (edge_tree c.args.step.edge) c.args.step.state c.loop-b.b =
     c.literal-unwanted.ensures
     ∙ (λ i. record { index = c.test_base-base.ensures.value i + c.loop-b.b; positive = not (c.has_bit.ensures i) }) in
     gathered _ _ _ _ _ (asks_test (edge_tree c.args.step.edge))

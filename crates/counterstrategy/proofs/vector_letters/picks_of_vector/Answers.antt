@@ -1,6 +1,6 @@
 use Rattle.std.proofs.Common.{◌/◌}
 use Rattle.std.proofs.Math.Nat.{mod-lt}
-use Rattle.counterstrategy.proofs.Picking.{left_next, picked_turn, picked_all}
+use Rattle.counterstrategy.proofs.Picking.{left_next, picked_turn}
 use Rattle.counterstrategy.proofs.vector_letters.picks_of_vector.Goals as goal
 
 pub loop-signal-preserved : goal.loop-signal-preserved

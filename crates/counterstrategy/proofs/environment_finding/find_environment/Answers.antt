@@ -1,0 +1,41 @@
+use Rattle.std.proofs.Common.{◌≡◌, false, List, All, sym, subst}
+use Rattle.std.proofs.lemmas.List.Elements.{All-from_recursion}
+use Rattle.clause_core.specs.Literals.{Lit}
+use Rattle.clause_core.specs.Clauses.{has_pair}
+use Rattle.refutation_check.proofs.Refuting.{accepted_refutes}
+use Rattle.sat_core.specs.Answers.{AreRefuting}
+use Rattle.bounded_encoding.specs.QuestionView.{question_of}
+use Rattle.bounded_encoding.proofs.Unpaired.{none_paired}
+use Rattle.bounded_encoding.proofs.Posed.{is_posed}
+use Rattle.counterstrategy.specs.DualVariables.{dual_variable_count}
+use Rattle.counterstrategy.specs.DualEncoding.{dual_demands, dual_encoding}
+use Rattle.counterstrategy.proofs.DualRefuted.{no_environment}
+use Rattle.counterstrategy.proofs.environment_finding.find_environment.Goals as goal
+
+pub solve-requires-clause-no_tautology : goal.solve-requires-clause-no_tautology
+solve-requires-clause-no_tautology c =
+    let q = question_of c.args.automaton.now c.args.space.now c.args.states c.args.bound in
+    subst (λ (cs : List (List Lit)). All (λ clause. has_pair clause ≡ false) cs) (sym c.in_ok-cnf.ensures.clauses)
+    (All-from_recursion (λ (clause : List Lit). has_pair clause ≡ false) (dual_encoding q) (none_paired (dual_demands q)))
+
+pub returns-in-Sat-clause-found : goal.returns-in-Sat-clause-found
+returns-in-Sat-clause-found c = record {
+  limits = c.in_ok-cnf.ensures.limits;
+  right = c.in_ok-answer_read-in-Sat.ensures c.args.budget;
+}
+
+pub returns-in-Unsat-clause-found : goal.returns-in-Unsat-clause-found
+returns-in-Unsat-clause-found c =
+    let q = question_of c.args.automaton.now c.args.space.now c.args.states c.args.bound in
+    let posed = is_posed c.args.automaton.now c.args.space.now c.args.states c.args.bound c.requires.has_state in
+    let answer : AreRefuting c.in_ok-cnf.cnf.variables c.in_ok-cnf.cnf.clauses c.in-Unsat.log.steps =
+    rw c.in-Unsat.is at c.in_ok-assignment.ensures in
+    let refuting : AreRefuting (dual_variable_count q) (dual_encoding q) c.in-Unsat.log.steps =
+    rw (c.in_ok-cnf.ensures.variables, c.in_ok-cnf.ensures.clauses) at answer in
+    record {
+      limits = c.in_ok-cnf.ensures.limits;
+      right = record {
+        refuting = refuting;
+        none = no_environment q posed (accepted_refutes (dual_variable_count q) (dual_encoding q) c.in-Unsat.log.steps refuting.accepted);
+      };
+    }
