@@ -60,7 +60,7 @@ def main():
             before = None
             for size in SIZES:
                 text = shape(size)
-                seconds, peak, status = measured(folder, text, [PROGRAM, "synth"], ("0", "3", "4"))
+                seconds, peak, status = measured(folder, text, [PROGRAM, "synth"], ("0", "1", "3", "4", "5"))
                 own = max(seconds - start, 1e-6)
                 growth = own / before if before and before > CLEAR else None
                 print(f"{len(text):9} {status:>6} {own:9.6f} {growth and f'{growth:.2f}' or '-':>7} {peak:9}")
