@@ -18,7 +18,6 @@ use Rattle.tsl_tool.specs.Check.{VerdictOutcome, unbuilt, too_large, judged, spe
 use Rattle.tsl_tool.specs.Check.{CheckOutcome, without_program, of_texts}
 use Rattle.tsl_tool.specs.Promise.{Promise}
 use Rattle.tsl_tool.specs.Refusals.{fault_at_limit}
-use Rattle.tsl_tool.specs.Replies.{fault_reply}
 use Rattle.tsl_tool.proofs.FaultPromises.{fault_keeps}
 use Rattle.tsl_tool.proofs.RunReplies.{program_fault_comes}
 use Rattle.tsl_tool.proofs.Statuses.{comes_of_bytes, status_of, text_of, refusal_comes, limit_comes, fault_says}

@@ -1,5 +1,5 @@
 -- The text of a formula over names that may be written has no line feed.
-use Rattle.std.proofs.Common.{◌≡◌, ℕ, Bool, true, false, not, ◌&&◌, eqb, List, [], ◌∷◌, ◌++◌, Option, Some, None, IsTrue, codes, refl, sym, ap, ◌∙◌, inl, inr}
+use Rattle.std.proofs.Common.{◌≡◌, ℕ, Bool, true, false, not, ◌&&◌, eqb, List, [], ◌++◌, Option, Some, None, IsTrue, codes, refl, sym, ap, ◌∙◌, inl, inr}
 use Rattle.std.specs.Prelude.{slice_get, if◌then◌else◌}
 use Rattle.std.specs.List.{list_all}
 use Rattle.std.specs.Option.{option_map_or}
@@ -22,7 +22,7 @@ use Rattle.tsl_terms.specs.Name.{Name, same_kind, question}
 use Rattle.tsl_terms.specs.TermTree.{TermTree, signal, apply, TermTrees, no_terms, more_terms, ProbeTree}
 use Rattle.tsl_terms.specs.FormulaTree.{Atom, test, update, FormulaTree, FormulaTrees, constant, atom, unary, binary, many, no_formulas, more_formulas}
 use Rattle.tsl_terms.specs.WellFormed.{name_fits, is_question}
-use Rattle.term_text.specs.TermText.{name_text, argument_text, applied_text, term_text, arguments_text, application_text, question_text, probe_text, update_text}
+use Rattle.term_text.specs.TermText.{name_text, argument_text, applied_text, term_text, arguments_text, application_text, question_text, probe_text}
 use Rattle.flow_program.proofs.WordsRead.{usable_run}
 use Rattle.tsl_report.specs.FormulaText.{constant_text, atom_text, unary_text, binary_text, many_text, formula_text, members_text, others_text}
 

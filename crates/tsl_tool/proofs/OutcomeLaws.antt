@@ -4,7 +4,6 @@ use Rattle.std.specs.Prelude.{Option, Some, None}
 use Rattle.refutation_check.specs.Checking.{Refusal, at_line, at_hint, unfinished, log_refusal}
 use Rattle.refutation_check.specs.CnfText.{CnfAnswer, is_cnf, form_at as cnf_form_at, too_many_variables, too_many_clauses, cnf_answer}
 use Rattle.refutation_check.specs.LogText.{LogAnswer, is_log, form_at as log_form_at, log_answer}
-use Rattle.tsl_report.specs.declared.fault.Fault.{Fault}
 use Rattle.tsl_report.specs.declared.fault.Fault.TheVariants.{Usage as WrongWords, Read, Parts, CnfForm, LogForm, Large as PastLimit}
 use Rattle.tsl_report.specs.declared.fault.Head.TheVariants.{Lrat}
 use Rattle.tsl_report.specs.declared.fault.LimitName.TheVariants.{Text, Variables, Clauses}
@@ -14,7 +13,6 @@ use Rattle.tsl_tool.specs.declared.words.Command.{Command}
 use Rattle.tsl_tool.specs.declared.words.Command.TheVariants.{Synth, Check, Run, Prove, Recheck}
 use Rattle.tsl_tool.specs.declared.reply.Reply.{Reply}
 use Rattle.tsl_tool.specs.Commands.{command_of, most_bytes}
-use Rattle.tsl_tool.specs.Replies.{fault_status, fault_reply}
 use Rattle.tsl_tool.specs.HeadLines.{IsFirstLineAt}
 use Rattle.tsl_tool.specs.Recheck.{without_log, of_parts, head_line, verdict, parts_reply}
 use Rattle.tsl_tool.specs.Recheck.{recheck_reply, cnf_part, log_part}

@@ -11,7 +11,6 @@ use Rattle.refutation_check.specs.LogText.{log_answer}
 use Rattle.refutation_text.specs.Parted.{SpellsRefutation}
 use Rattle.refinement_loop.specs.Outcomes.{IsWrittenFor, IsLargeFor}
 use Rattle.refinement_loop.proofs.OneAnswer.{not_both, not_answered}
-use Rattle.tsl_report.specs.declared.fault.Fault.{Fault}
 use Rattle.tsl_report.specs.SearchTexts.{spent_text}
 use Rattle.tsl_tool.specs.declared.words.QuestionSizes.{QuestionSizes}
 use Rattle.tsl_tool.specs.declared.words.Command.TheVariants.{Prove}
@@ -19,7 +18,7 @@ use Rattle.tsl_tool.specs.declared.status.Status.{Status}
 use Rattle.tsl_tool.specs.declared.status.Status.TheVariants.{Done, No, Large, Spent}
 use Rattle.tsl_tool.specs.declared.reply.Reply.{Reply}
 use Rattle.tsl_tool.specs.Promise.{Promise}
-use Rattle.tsl_tool.specs.Prove.{proof_text, QuestionOutcome, proved, satisfiable, spent, too_large, ProveOutcome, refused, of_spec}
+use Rattle.tsl_tool.specs.Prove.{proof_text, proved, satisfiable, spent, too_large, ProveOutcome, refused, of_spec}
 use Rattle.tsl_tool.specs.Recheck.{RecheckOutcome, of_parts, verdict, parts_reply, log_reply, log_part}
 use Rattle.tsl_tool.specs.Refusals.{fault_at_limit}
 use Rattle.tsl_tool.specs.Statuses.{is_answer}

@@ -5,7 +5,6 @@ use Rattle.tsl_terms.specs.SpecTree.{SpecTree, whole_formula}
 use Rattle.tsl_terms.specs.WellFormed.{SpecFits}
 use Rattle.tsl_reader.specs.declared.SpecError.{SpecError}
 use Rattle.tsl_reader.specs.Spells.{Spells, HasCause, SpellsNoSpec}
-use Rattle.cobuchi_automata.specs.Automata.{EdgeTree}
 use Rattle.machines.specs.MachineTree.{ControllerTree}
 use Rattle.annotation_check.specs.Annotations.{number_of_pair}
 use Rattle.clause_core.specs.Literals.{Lit}
@@ -28,7 +27,7 @@ use Rattle.tsl_tool.specs.declared.words.QuestionSizes.{QuestionSizes}
 use Rattle.tsl_tool.specs.declared.words.Command.TheVariants.{Prove}
 use Rattle.tsl_tool.specs.declared.status.Status.TheVariants.{Done}
 use Rattle.tsl_tool.specs.declared.reply.Reply.{Reply}
-use Rattle.tsl_tool.specs.Commands.{IsInRange}
+use Rattle.tsl_tool.specs.Commands.{HasItsValues}
 use Rattle.tsl_tool.specs.Prove.{IsProof, QuestionOutcome, proved, satisfiable, spent, too_large, satisfiable_reply}
 use Rattle.tsl_tool.specs.Prove.{ProveOutcome, refused, of_spec}
 use Rattle.tsl_tool.specs.Refusals.{IsFaultOf, fault_at_limit}
@@ -41,7 +40,7 @@ use Rattle.tsl_tool.proofs.SynthStages.{tells_spent}
 
 -- the text of a refutation of the question's clauses behind the whole formula is that of a proof
 is_proof : (sizes : QuestionSizes) (spec : SpecTree) (q : QuestionTree) (count : ℕ) (list : List (List Lit)) (steps : List Step)
-    (text : List ℕ) → IsInRange (Prove sizes) → SpecFits spec → IsAsked spec sizes.states sizes.bound q → length (encoding q) ≤ 2000000 →
+    (text : List ℕ) → HasItsValues (Prove sizes) → SpecFits spec → IsAsked spec sizes.states sizes.bound q → length (encoding q) ≤ 2000000 →
     IsRefuted q count list steps → length steps < 200000000000000000 →
     text ≡ comment_text (formula_text spec.names (whole_formula spec)) ++ refutation_text count list steps →
     All (IsClauseOver count) list → All (λ step. IsIncreasing step.clause) steps → IsProof sizes spec text
@@ -99,7 +98,7 @@ module _ {E : Type 0} (sizes : QuestionSizes) (spec : SpecTree) (q : QuestionTre
   })
   satisfiable_outcome c most numbers (Err e) few found is = tt
 
-  pub proved_outcome : (count : ℕ) (list : List (List Lit)) (steps : List Step) (r : Result Reply E) → IsInRange (Prove sizes) →
+  pub proved_outcome : (count : ℕ) (list : List (List Lit)) (steps : List Step) (r : Result Reply E) → HasItsValues (Prove sizes) →
       SpecFits spec → length (encoding q) ≤ 2000000 → IsRefuted q count list steps →
       IfOk r (λ reply. length steps < 200000000000000000) → IfOk r (λ reply. reply.status ≡ Done) →
       IfOk r (λ reply. reply.text ≡ comment_text (formula_text spec.names (whole_formula spec)) ++ refutation_text count list steps) →

@@ -1,17 +1,14 @@
 -- Where the refusals of tables and of inputs stand, and which outcomes their faults are.
-use Rattle.std.proofs.Common.{◌≡◌, ℕ, zero, suc, ◌+◌, ◌<◌, ◌≤◌, Bool, true, false, List, [], ◌∷◌, ◌++◌, length, refl}
-use Rattle.std.proofs.Common.{arith, ⊎_elim, subst, filter}
-use Rattle.std.specs.Prelude.{Some}
-use Rattle.std.specs.List.{list_all, find, AllByRecursion}
-use Rattle.std.proofs.lemmas.List.Elements.{recursion_from_All}
+use Rattle.std.proofs.Common.{◌≡◌, ℕ, ◌<◌, ◌≤◌, true, List, ◌∷◌, ◌++◌, length}
+use Rattle.std.proofs.Common.{arith, ⊎_elim, filter}
+use Rattle.std.specs.List.{list_all, AllByRecursion}
 use Rattle.sequence.specs.Numbers.{numbers_from}
-use Rattle.sequence.proofs.Each.{each_at, each_between, each_joined, each_left, each_right, each_filtered, each_map, each_weaker}
+use Rattle.sequence.proofs.Each.{each_at, each_joined, each_left, each_right, each_filtered, each_map, each_weaker}
 use Rattle.sequence.proofs.Passes.{each_from_list_all, within_from_test}
 use Rattle.sequence.proofs.Finds.{found_has}
 use Rattle.sequence.proofs.Numbers.{numbers_below}
 use Rattle.tsl_text.specs.declared.Token.{Token}
 use Rattle.tsl_text.specs.Division.{AreTokens, IsTokenOf}
-use Rattle.tsl_text.proofs.Parts.{each_token}
 use Rattle.tsl_terms.specs.declared.names.NameKind.TheVariants.{Signal}
 use Rattle.tsl_terms.specs.Name.{Name, is_name}
 use Rattle.table_interp.specs.declared.TableError.{TableError}

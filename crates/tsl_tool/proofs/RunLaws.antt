@@ -3,7 +3,6 @@
 use Rattle.std.proofs.Common.{◌≡◌, ℕ, ◌+◌, ◌<◌, ◌^◌, true, List, [], ◌∷◌, ◌++◌, length, map, refl, ap, sym, ◌∙◌, subst, arith}
 use Rattle.std.specs.Prelude.{Option, Some, None, Result, Ok, Err, IfOk, is_some, slice_get}
 use Rattle.std.specs.List.{list_all, flat_map, AllByRecursion}
-use Rattle.std.proofs.lemmas.Bool.{and_parts}
 use Rattle.std.proofs.lemmas.List.{length-append, length-map, map-id}
 use Rattle.std.proofs.lemmas.List.Elements.{recursion_from_All}
 use Rattle.sequence.proofs.Each.{each_at, each_joined, each_map, each_weaker}
@@ -14,25 +13,22 @@ use Rattle.tsl_meaning.proofs.PromisedFormulas.{whole_still_speaks}
 use Rattle.tsl_terms.specs.Name.{Name}
 use Rattle.tsl_terms.specs.FormulaTree.{FormulaTree}
 use Rattle.tsl_terms.specs.Atoms.{atoms}
-use Rattle.tsl_terms.specs.OnlyThese.{atom_reads_only, atom_updates_only}
 use Rattle.tsl_terms.specs.SpecTree.{SpecTree, whole_formula}
-use Rattle.tsl_terms.specs.WellFormed.{SpecFits, atom_fits}
+use Rattle.tsl_terms.specs.WellFormed.{SpecFits}
 use Rattle.tsl_terms.specs.Value.{Meanings}
 use Rattle.tsl_terms.specs.WindowTree.{window_formula_of}
-use Rattle.tsl_terms.proofs.SignalFacts.{whole_reads, whole_updates}
-use Rattle.tsl_terms.proofs.WholeAtoms.{whole_is_made_of}
 use Rattle.term_text.specs.TermText.{term_is_held}
 use Rattle.flow_program.specs.ProgramTree.{ProgramTree}
 use Rattle.flow_program.specs.Uses.{uses_of, entries_of_use}
 use Rattle.tsl_meaning.specs.declared.run.InputLoop.{InputLoop}
 use Rattle.tsl_meaning.specs.Interpretation.{InputRows, IsInterpretation, IsInputLoop, IsRow, meanings_in, rows_of}
 use Rattle.tsl_meaning.specs.Lasso.{meets}
-use Rattle.tsl_meaning.specs.OverNames.{term_is_over, atom_is_over, IsFormulaOver}
+use Rattle.tsl_meaning.specs.OverNames.{term_is_over, IsFormulaOver}
 use Rattle.tsl_meaning.specs.Run.{configuration_at, action_in}
 use Rattle.tsl_meaning.specs.RunTree.{PositionTree, RunTree}
 use Rattle.tsl_meaning.specs.RunLasso.{shape_of, IsJudged}
 use Rattle.tsl_meaning.specs.RunOf.{IsStepOf, configuration_of, IsRunOf, IsFirstRepetition, AreDifferent}
-use Rattle.tsl_meaning.proofs.Naming.{written_program, atom_over}
+use Rattle.tsl_meaning.proofs.Naming.{written_program}
 use Rattle.tsl_meaning.proofs.PromisedFormulas.{windows_speak}
 use Rattle.tsl_meaning.proofs.Runs.{step_there, atoms_decided, configuration_there, action_there, IsConfiguration}
 use Rattle.tsl_meaning.proofs.RunsOf.{run_means, decided_judged}

@@ -1,23 +1,18 @@
 -- Names and lists of signals of what `run` reads.
-use Rattle.std.proofs.Common.{◌≡◌, ℕ, zero, suc, ◌+◌, ◌≤◌, ◌==◌, true, false, ◌&&◌, List, [], ◌∷◌, ◌++◌, length, refl, ap, sym}
+use Rattle.std.proofs.Common.{◌≡◌, ℕ, suc, ◌≤◌, true, List, [], ◌∷◌, ◌++◌, length, refl, ap, sym}
 use Rattle.std.proofs.Common.{◌∙◌, arith, append_assoc}
-use Rattle.std.specs.Prelude.{Option, Some, None, option_map, slice_get}
-use Rattle.std.specs.Option.{option_map_or}
+use Rattle.std.specs.Prelude.{Option, Some, None}
 use Rattle.std.specs.List.{list_all}
 use Rattle.std.proofs.lemmas.Bool.{and_parts, and_from}
 use Rattle.std.proofs.lemmas.List.{append-nil}
 use Rattle.std.proofs.lemmas.List.Folds.{list_all-append}
 use Rattle.sequence.specs.Numbers.{IsDistinct}
-use Rattle.sequence.specs.Options.{all_there}
-use Rattle.sequence.proofs.Passes.{list_all_weaker, within_from_test}
-use Rattle.sequence.proofs.Places.{slice_get-front, slice_get_grown}
+use Rattle.sequence.proofs.Passes.{list_all_weaker}
 use Rattle.sequence.proofs.Numbers.{distinct_front, distinct_behind}
-use Rattle.tsl_terms.specs.declared.names.NameKind.{NameKind}
-use Rattle.tsl_terms.specs.declared.names.NameKind.TheVariants.{Signal, Function, Predicate}
-use Rattle.tsl_terms.specs.Name.{Name, is_name, same_kind, number_of}
+use Rattle.tsl_terms.specs.declared.names.NameKind.TheVariants.{Signal, Function}
+use Rattle.tsl_terms.specs.Name.{Name, is_name, number_of}
 use Rattle.tsl_terms.specs.Clashes.{added_unless_found, with_uses}
-use Rattle.tsl_terms.specs.TermTree.{TermTree, signal, apply, TermTrees, no_terms, more_terms, ProbeTree, count_of_terms}
-use Rattle.tsl_terms.specs.FormulaTree.{Atom, test, update}
+use Rattle.tsl_terms.specs.TermTree.{TermTree, signal, apply, TermTrees, no_terms, more_terms, count_of_terms}
 use Rattle.tsl_terms.specs.SpecTree.{SpecTree}
 use Rattle.term_text.specs.TermText.{is_held, term_is_held, terms_are_held}
 use Rattle.term_text.proofs.Held.{name_held}
@@ -27,7 +22,7 @@ use Rattle.tsl_reader.proofs.Counts.{uses_within}
 use Rattle.tsl_reader.proofs.NameBounds.{names_within}
 use Rattle.flow_program.specs.ProgramTree.{ProgramTree, controlled}
 use Rattle.flow_program.specs.ProgramText.{IsProgram, IsWritable, signal_fits}
-use Rattle.tsl_meaning.specs.OverNames.{term_is_over, terms_are_over, probe_is_over, atom_is_over}
+use Rattle.tsl_meaning.specs.OverNames.{term_is_over, terms_are_over}
 use Rattle.tsl_tool.specs.Run.{SpellsGiven, given_names}
 
 -- ---- how many names

@@ -1,12 +1,9 @@
 -- Which status and which text the replies of `run` have, and what they promise.
-use Rattle.std.proofs.Common.{◌≡◌, ◌≢◌, ℕ, Bool, true, false, List, [], ◌∷◌, ◌++◌, map, refl, ap, sym, ◌∙◌, subst, Contains, suc}
-use Rattle.std.specs.Prelude.{Some, is_some, slice_get, if◌then◌else◌}
-use Rattle.std.specs.List.{list_all, AllByRecursion}
-use Rattle.std.proofs.lemmas.Bool.{and_parts}
-use Rattle.sequence.proofs.Places.{contains_at}
+use Rattle.std.proofs.Common.{◌≡◌, ◌≢◌, ℕ, Bool, true, false, List, [], ◌++◌, refl, ap, sym, ◌∙◌, subst}
+use Rattle.std.specs.Prelude.{Some, is_some, if◌then◌else◌}
+use Rattle.std.specs.List.{list_all}
 use Rattle.sequence.proofs.Lists.{not_empty_before, not_empty_behind}
 use Rattle.tsl_terms.specs.Name.{Name}
-use Rattle.tsl_terms.specs.FormulaTree.{FormulaTree}
 use Rattle.tsl_meaning.specs.Lasso.{meets}
 use Rattle.tsl_meaning.specs.RunTree.{RunTree}
 use Rattle.tsl_meaning.specs.RunLasso.{shape_of}
@@ -22,7 +19,7 @@ use Rattle.table_interp.specs.declared.InputError.TheVariants.{Byte as InputByte
 use Rattle.table_interp.specs.declared.InputError.TheVariants.{Unknown as UnknownInput, Twice as SecondInput, Missing as MissingInput}
 use Rattle.table_interp.specs.declared.InputError.TheVariants.{Rows, Count as RowWidth, Range as RowValue, NoMemory as NoInputMemory}
 use Rattle.tsl_report.specs.declared.fault.Fault.{Fault}
-use Rattle.tsl_report.specs.declared.fault.Fault.TheVariants.{Usage, Read, Parts, Large}
+use Rattle.tsl_report.specs.declared.fault.Fault.TheVariants.{Parts, Large}
 use Rattle.tsl_report.specs.declared.fault.LimitName.TheVariants.{Run as RunLimit}
 use Rattle.tsl_report.specs.TraceText.{positions_text, loop_text, verdicts_text, trace_text}
 use Rattle.tsl_tool.specs.declared.words.Command.TheVariants.{Run}
@@ -30,7 +27,7 @@ use Rattle.tsl_tool.specs.declared.status.Status.{Status}
 use Rattle.tsl_tool.specs.declared.status.Status.TheVariants.{Done, No}
 use Rattle.tsl_tool.specs.declared.reply.Reply.{Reply}
 use Rattle.tsl_tool.specs.Promise.{Promise}
-use Rattle.tsl_tool.specs.Replies.{fault_status, fault_reply}
+use Rattle.tsl_tool.specs.Replies.{fault_status}
 use Rattle.tsl_tool.specs.RunFaults.{IsProgramFault, IsTableFault, IsInputFault}
 use Rattle.tsl_tool.specs.RunParts.{RunParts, AreParts}
 use Rattle.tsl_tool.specs.Run.{RunInput, SpellRunInput, HasGivenSignals, IsRunTrace, one_fails, signals_differ, judged_formulas}

@@ -9,7 +9,6 @@ use Rattle.tsl_terms.specs.FormulaTree.{FormulaTree}
 use Rattle.tsl_meaning.specs.Lasso.{meets, Meets}
 use Rattle.tsl_meaning.specs.RunLasso.{shape_of}
 use Rattle.tsl_meaning.specs.RunTree.{RunTree}
-use Rattle.tsl_tool.specs.declared.status.Status.{Status}
 use Rattle.tsl_tool.specs.declared.status.Status.TheVariants.{Done, No}
 use Rattle.tsl_tool.specs.Run.{RunInput, lasso_of, judged_formulas, verdicts_of, verdict_status, run_reply}
 

@@ -21,7 +21,7 @@ use Rattle.tsl_tool.specs.declared.reply.Reply.{Reply}
 use Rattle.tsl_tool.specs.Promise.{Promise}
 use Rattle.tsl_tool.specs.Refusals.{IsFaultOf, fault_at_limit}
 use Rattle.tsl_tool.specs.Statuses.{is_answer}
-use Rattle.tsl_tool.specs.Synth.{SearchOutcome, written, told_none, spent, too_large, SynthOutcome, refused, of_spec}
+use Rattle.tsl_tool.specs.Synth.{written, told_none, spent, too_large, SynthOutcome, refused, of_spec}
 use Rattle.tsl_tool.proofs.FaultPromises.{fault_keeps}
 use Rattle.tsl_tool.proofs.Statuses.{comes_of_bytes, status_of, refusal_comes, limit_comes, limit_is_large, limit_status, fault_says}
 

@@ -62,14 +62,14 @@ command_of (first ∷ words) =
     (cond (bytes_eq first (codes "prove")) (with_options prove_options prove_by words)
     (cond (bytes_eq first (codes "recheck")) (without_options Recheck words) None))))
 
--- each value is in the range of its option
-abbrev pub IsInRange : Command → Type 0
-IsInRange (Synth sizes) =
+-- each value of the command is in the range of its option
+abbrev pub HasItsValues : Command → Type 0
+HasItsValues (Synth sizes) =
     IsValueOf States sizes.states × IsValueOf Bound sizes.bound × IsValueOf Budget sizes.budget × IsValueOf Rounds sizes.rounds
-IsInRange (Check bound) = IsValueOf Bound bound
-IsInRange Run = Unit {0}
-IsInRange (Prove sizes) = IsValueOf States sizes.states × IsValueOf Bound sizes.bound × IsValueOf Budget sizes.budget
-IsInRange Recheck = Unit {0}
+HasItsValues (Check bound) = IsValueOf Bound bound
+HasItsValues Run = Unit {0}
+HasItsValues (Prove sizes) = IsValueOf States sizes.states × IsValueOf Bound sizes.bound × IsValueOf Budget sizes.budget
+HasItsValues Recheck = Unit {0}
 
 -- whether a run with this command reads its source
 abbrev pub reads : Option Command → Bool

@@ -2,7 +2,8 @@
 
 ghost use Rattle.std.specs.Prelude.{◌≡◌, map, string_bytes, IfSome};
 ghost use Rattle.std.specs.Str.{bytes_eq};
-ghost use Rattle.tsl_tool.specs.Options.{option_word, least_value, most_value, usual_value, IsValueOf, option_number, is_option, are_options, given_in, option_value};
+ghost use Rattle.tsl_tool.specs.Options.{option_word, least_value, most_value, usual_value, IsValueOf, option_number};
+ghost use Rattle.tsl_tool.specs.Options.{is_option, are_options, given_in, option_value};
 ghost use Rattle.tsl_tool.specs.internal.OptionReading.{value_with};
 
 use tsl_text::plain_number_in;

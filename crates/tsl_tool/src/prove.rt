@@ -11,7 +11,7 @@ ghost use Rattle.bounded_encoding.specs.Answers.{IsFound};
 ghost use Rattle.refinement_loop.specs.Outcomes.{IsAsked};
 ghost use Rattle.tsl_report.specs.FormulaText.{formula_text};
 ghost use Rattle.tsl_tool.specs.declared.words.Command.TheVariants.{Prove};
-ghost use Rattle.tsl_tool.specs.Commands.{IsInRange};
+ghost use Rattle.tsl_tool.specs.Commands.{HasItsValues};
 ghost use Rattle.tsl_tool.specs.Prove.{QuestionOutcome, ProveOutcome, satisfiable_reply};
 
 use crate::refusal::{fault_of, fault_of_limit};
@@ -34,7 +34,7 @@ use tsl_text::put_bytes;
 /// What `prove` replies to these bytes: a proof that there is no program of this size for their
 /// specification, or why there is none.
 pub(crate) fn prove(alloc: Global, sizes: QuestionSizes, bytes: &[u8]) -> Result<Reply, NoMemory>
-    requires in_range { IsInRange (Prove sizes) }
+    requires in_range { HasItsValues (Prove sizes) }
     requires few { length bytes.now < 2 ^ 32 - 1 }
     ensures { IfOk result (ProveOutcome sizes bytes.now) }
 {
@@ -49,7 +49,7 @@ pub(crate) fn prove(alloc: Global, sizes: QuestionSizes, bytes: &[u8]) -> Result
 
 /// What is replied to a specification: the question for a controller is asked once.
 fn reply_to_question(alloc: Global, sizes: &QuestionSizes, spec: &Spec) -> Result<Reply, NoMemory>
-    requires in_range { IsInRange (Prove sizes.now) }
+    requires in_range { HasItsValues (Prove sizes.now) }
     requires fits { SpecFits (spec_tree spec.now) }
     ensures { IfOk result (QuestionOutcome sizes.now (spec_tree spec.now)) }
 {
@@ -67,7 +67,7 @@ fn reply_to_answer(
     spec: &Spec,
     asked: &Asked,
 ) -> Result<Reply, NoMemory>
-    requires in_range { IsInRange (Prove sizes.now) }
+    requires in_range { HasItsValues (Prove sizes.now) }
     requires fits { SpecFits (spec_tree spec.now) }
     requires asked { IsAsked (spec_tree spec.now) sizes.now.states sizes.now.bound
         (question_of asked.now.automaton asked.now.space sizes.now.states sizes.now.bound) }

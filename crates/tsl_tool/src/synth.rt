@@ -7,7 +7,7 @@ ghost use Rattle.flow_program.specs.ProgramText.{IsWritable, ProgramText};
 ghost use Rattle.flow_program.specs.ProgramView.{program_tree};
 ghost use Rattle.cobuchi_automata.specs.Edges.{edge_trees};
 ghost use Rattle.tsl_tool.specs.declared.words.Command.TheVariants.{Synth};
-ghost use Rattle.tsl_tool.specs.Commands.{IsInRange};
+ghost use Rattle.tsl_tool.specs.Commands.{HasItsValues};
 ghost use Rattle.tsl_tool.specs.Synth.{SearchOutcome, SynthOutcome, none_reply, spent_reply};
 
 use crate::refusal::{fault_of, fault_of_limit};
@@ -25,7 +25,7 @@ use tsl_terms::Spec;
 
 /// What `synth` replies to these bytes: a program for their specification, or why there is none.
 pub(crate) fn synth(alloc: Global, sizes: Sizes, bytes: &[u8]) -> Result<Reply, NoMemory>
-    requires in_range { IsInRange (Synth sizes) }
+    requires in_range { HasItsValues (Synth sizes) }
     requires few { length bytes.now < 2 ^ 32 - 1 }
     ensures { IfOk result (SynthOutcome sizes bytes.now) }
 {
@@ -40,7 +40,7 @@ pub(crate) fn synth(alloc: Global, sizes: Sizes, bytes: &[u8]) -> Result<Reply, 
 
 /// What is replied to a specification: what the search for a program leads to.
 fn reply_to_search(alloc: Global, sizes: &Sizes, spec: &Spec) -> Result<Reply, NoMemory>
-    requires in_range { IsInRange (Synth sizes.now) }
+    requires in_range { HasItsValues (Synth sizes.now) }
     requires fits { SpecFits (spec_tree spec.now) }
     ensures { IfOk result (SearchOutcome sizes.now (spec_tree spec.now)) }
 {

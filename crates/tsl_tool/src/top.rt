@@ -2,7 +2,7 @@
 
 ghost use Rattle.std.specs.Prelude.{◌≡◌, ◌≢◌, ℕ, List, ◌≤◌, [], false, length, map, string_bytes, IsTrue, IfOk, OnOk};
 ghost use Rattle.tsl_io.specs.Told.{with_added};
-ghost use Rattle.tsl_tool.specs.Commands.{command_of, reads, IsInRange, most_bytes};
+ghost use Rattle.tsl_tool.specs.Commands.{command_of, reads, HasItsValues, most_bytes};
 ghost use Rattle.tsl_io.specs.Effects.{effect, AreTold};
 ghost use Rattle.tsl_tool.specs.Ends.{IsReplyTo, Ends, HandedOn};
 ghost use Rattle.tsl_tool.specs.Outcome.{CommandOutcome};
@@ -46,7 +46,7 @@ fn reply_to<S: Source>(alloc: Global, words: &[String], source: &mut S) -> Resul
 
 /// What a command replies to these bytes.
 fn reply_to_bytes(alloc: Global, command: Command, bytes: &[u8]) -> Result<Reply, NoMemory>
-    requires in_range { IsInRange command }
+    requires in_range { HasItsValues command }
     requires few { length bytes.now ≤ most_bytes command }
     ensures { IfOk result (CommandOutcome command bytes.now) }
 {

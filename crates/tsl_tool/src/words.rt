@@ -2,7 +2,7 @@
 
 ghost use Rattle.std.specs.Prelude.{◌≡◌, map, string_bytes, IfSome};
 ghost use Rattle.tsl_tool.specs.Commands.{synth_options, check_options, prove_options, with_options, synth_by, check_by, prove_by, without_options};
-ghost use Rattle.tsl_tool.specs.Commands.{command_of, IsInRange, most_bytes};
+ghost use Rattle.tsl_tool.specs.Commands.{command_of, HasItsValues, most_bytes};
 
 use crate::options::{NumberOption, are_options, is_word};
 use refinement_loop::Sizes;
@@ -73,7 +73,7 @@ impl Command {
 /// The command of these words with its options, or None where they are no command's.
 pub(crate) fn command_of(words: &[String]) -> Option<Command>
     ensures found { result ≡ command_of (map string_bytes words.now) }
-    ensures in_range { IfSome result IsInRange }
+    ensures in_range { IfSome result HasItsValues }
 {
     let [first, rest @ ..] = words else {
         return None;
@@ -99,7 +99,7 @@ pub(crate) fn command_of(words: &[String]) -> Option<Command>
 /// `synth` with the sizes that these words ask for.
 fn synth_of(words: &[String]) -> Option<Command>
     ensures found { result ≡ with_options synth_options synth_by (map string_bytes words.now) }
-    ensures in_range { IfSome result IsInRange }
+    ensures in_range { IfSome result HasItsValues }
 {
     if !are_options(&SYNTH_OPTIONS, words) {
         return None;
@@ -119,7 +119,7 @@ fn synth_of(words: &[String]) -> Option<Command>
 /// `prove` with the sizes that these words ask for.
 fn prove_of(words: &[String]) -> Option<Command>
     ensures found { result ≡ with_options prove_options prove_by (map string_bytes words.now) }
-    ensures in_range { IfSome result IsInRange }
+    ensures in_range { IfSome result HasItsValues }
 {
     if !are_options(&PROVE_OPTIONS, words) {
         return None;
@@ -137,7 +137,7 @@ fn prove_of(words: &[String]) -> Option<Command>
 /// `check` with the bound that these words ask for.
 fn check_of(words: &[String]) -> Option<Command>
     ensures found { result ≡ with_options check_options check_by (map string_bytes words.now) }
-    ensures in_range { IfSome result IsInRange }
+    ensures in_range { IfSome result HasItsValues }
 {
     if !are_options(&[NumberOption::Bound], words) {
         return None;
@@ -148,9 +148,9 @@ fn check_of(words: &[String]) -> Option<Command>
 
 /// A command that has no options, where no word comes after it.
 fn without_options(command: Command, words: &[String]) -> Option<Command>
-    requires in_range { IsInRange command }
+    requires in_range { HasItsValues command }
     ensures found { result ≡ without_options command (map string_bytes words.now) }
-    ensures in_range { IfSome result IsInRange }
+    ensures in_range { IfSome result HasItsValues }
 {
     if words.is_empty() {
         Some(command)

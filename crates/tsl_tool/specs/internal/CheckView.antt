@@ -1,6 +1,6 @@
 -- Internal: only private functions of this crate use these words.
 -- The texts that are checked.
-use Rattle.std.specs.Prelude.{ℕ, ◌^◌, ◌≤◌, length}
+use Rattle.std.specs.Prelude.{◌^◌, ◌≤◌, length}
 use Rattle.tsl_tool.specs.declared.check.Texts.{Texts}
 use Rattle.tsl_tool.specs.Check.{CheckParts}
 

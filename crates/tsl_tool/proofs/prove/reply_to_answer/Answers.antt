@@ -1,4 +1,4 @@
-use Rattle.std.proofs.Common.{◌≡◌, refl, sym, ap, ◌∙◌, subst}
+use Rattle.std.proofs.Common.{refl, subst}
 use Rattle.tsl_terms.specs.SpecView.{spec_tree}
 use Rattle.bounded_encoding.specs.declared.answers.Found.{Found}
 use Rattle.bounded_encoding.specs.QuestionView.{question_of}
