@@ -1,16 +1,17 @@
 -- Which status and which text the replies of `prove` have, what they promise, and when there is one that is an answer.
 use Rattle.std.proofs.Common.{◌≡◌, ◌≢◌, ℕ, true, false, List, [], ap, sym, ◌∙◌, subst}
-use Rattle.std.specs.Prelude.{Some, None, codes}
+use Rattle.std.specs.Prelude.{Option, Some, None, codes}
 use Rattle.tsl_terms.specs.SpecTree.{SpecTree}
 use Rattle.tsl_reader.specs.Spells.{Spells}
 use Rattle.tsl_reader.proofs.Causes.{one_spec}
-use Rattle.flow_program.specs.ProgramTree.{ProgramTree}
 use Rattle.clause_core.specs.Literals.{Lit}
+use Rattle.machines.specs.MachineTree.{ControllerTree}
 use Rattle.program_check.specs.declared.verdict.Limit.{Limit}
+use Rattle.bounded_encoding.specs.Question.{QuestionTree, IsSolution}
 use Rattle.refutation_check.specs.LogText.{log_answer}
 use Rattle.refutation_text.specs.Parted.{SpellsRefutation}
-use Rattle.refinement_loop.specs.Outcomes.{IsWrittenFor, IsLargeFor}
-use Rattle.refinement_loop.proofs.OneAnswer.{not_both, not_answered}
+use Rattle.refinement_loop.specs.Outcomes.{IsAsked, IsLargeFor}
+use Rattle.refinement_loop.proofs.OneAnswer.{not_answered}
 use Rattle.tsl_report.specs.SearchTexts.{spent_text}
 use Rattle.tsl_tool.specs.declared.words.QuestionSizes.{QuestionSizes}
 use Rattle.tsl_tool.specs.declared.words.Command.TheVariants.{Prove}
@@ -75,19 +76,21 @@ question_answers sizes bytes spec reply spells within (of_spec other spelled (to
     absurd (within limit
     (subst (λ (s : SpecTree). IsLargeFor s sizes.states sizes.bound limit) (one_spec bytes other spec spelled spells) h))
 
--- where there is a program of the size, the answer is no proof
-pub program_not_refuted : (sizes : QuestionSizes) (bytes : List ℕ) (spec : SpecTree) (reply : Reply) (program : ProgramTree) →
-    Spells bytes spec → IsWrittenFor spec sizes.states sizes.bound program → ProveOutcome sizes bytes reply → reply.status ≡ Done → ⊥
-program_not_refuted sizes bytes spec reply program spells there (refused fault h is) done =
+-- where a controller of the size has an annotation within the bound, the answer is no proof
+pub controller_not_refuted : (sizes : QuestionSizes) (bytes : List ℕ) (spec : SpecTree) (reply : Reply) (q : QuestionTree)
+    (c : ControllerTree) (number : ℕ → ℕ → Option ℕ) → Spells bytes spec → IsAsked spec sizes.states sizes.bound q →
+    IsSolution q c number → ProveOutcome sizes bytes reply → reply.status ≡ Done → ⊥
+controller_not_refuted sizes bytes spec reply q c number spells asked solution (refused fault h is) done =
     not_refused bytes spec h.error fault spells h.spells_none h.is_fault
-program_not_refuted sizes bytes spec reply program spells there (of_spec other spelled (proved is h)) done =
-    not_both other sizes.states sizes.bound program
-    (subst (λ (s : SpecTree). IsWrittenFor s sizes.states sizes.bound program) (one_spec bytes spec other spells spelled) there) h.none
-program_not_refuted sizes bytes spec reply program spells there (of_spec other spelled (satisfiable is h)) done =
+controller_not_refuted sizes bytes spec reply q c number spells asked solution (of_spec other spelled (proved is h)) done =
+    h.none.none q
+    (subst (λ (s : SpecTree). IsAsked s sizes.states sizes.bound q) (one_spec bytes spec other spells spelled) asked)
+    c number solution
+controller_not_refuted sizes bytes spec reply q c number spells asked solution (of_spec other spelled (satisfiable is h)) done =
     let e : No ≡ Done = sym is ∙ done in cc
-program_not_refuted sizes bytes spec reply program spells there (of_spec other spelled (spent is h)) done =
+controller_not_refuted sizes bytes spec reply q c number spells asked solution (of_spec other spelled (spent is h)) done =
     let e : Spent ≡ Done = sym is ∙ done in cc
-program_not_refuted sizes bytes spec reply program spells there (of_spec other spelled (too_large limit h is)) done =
+controller_not_refuted sizes bytes spec reply q c number spells asked solution (of_spec other spelled (too_large limit h is)) done =
     let e : false ≡ true = sym (limit_is_large limit) ∙ (sym (ap is_answer (status_of is)) ∙ ap is_answer done) in cc
 
 -- where a limit is passed, that is what is told

@@ -1,17 +1,18 @@
 -- Which status and which text the replies of `synth` have, what they promise, and when there is one that is an answer.
 use Rattle.std.proofs.Common.{◌≡◌, ◌≢◌, ℕ, true, false, List, [], ap, sym, ◌∙◌, subst}
-use Rattle.std.specs.Prelude.{Some}
+use Rattle.std.specs.Prelude.{Option, Some}
 use Rattle.tsl_terms.specs.SpecTree.{SpecTree}
 use Rattle.tsl_reader.specs.declared.SpecError.{SpecError}
 use Rattle.tsl_reader.specs.declared.SpecError.TheVariants.{Byte, OpenComment, Form, Deep, Kind, Arity, Nodes, NoMemory}
 use Rattle.tsl_reader.specs.Spells.{Spells, SpellsNoSpec}
 use Rattle.tsl_reader.proofs.Causes.{one_spec}
-use Rattle.flow_program.specs.ProgramTree.{ProgramTree}
 use Rattle.flow_program.specs.ProgramText.{program_text}
+use Rattle.machines.specs.MachineTree.{ControllerTree}
 use Rattle.program_check.specs.declared.verdict.Limit.{Limit}
+use Rattle.bounded_encoding.specs.Question.{QuestionTree, IsSolution}
 use Rattle.refinement_loop.specs.declared.outcome.Sizes.{Sizes}
-use Rattle.refinement_loop.specs.Outcomes.{IsWrittenFor, IsLargeFor}
-use Rattle.refinement_loop.proofs.OneAnswer.{not_both, not_answered}
+use Rattle.refinement_loop.specs.Outcomes.{IsAsked, IsLargeFor}
+use Rattle.refinement_loop.proofs.OneAnswer.{not_answered}
 use Rattle.tsl_report.specs.declared.fault.Fault.{Fault}
 use Rattle.tsl_report.specs.SearchTexts.{none_text, spent_text}
 use Rattle.tsl_tool.specs.declared.words.Command.TheVariants.{Synth}
@@ -85,16 +86,17 @@ module _ (sizes : Sizes) (bytes : List ℕ) (spec : SpecTree) (spells : Spells b
       absurd (within limit
       (subst (λ (s : SpecTree). IsLargeFor s sizes.states sizes.bound limit) (one_spec bytes other spec spelled spells) h))
 
-  -- where there is a program of the size, the answer is not that there is none
-  pub program_not_missed : (reply : Reply) (program : ProgramTree) → IsWrittenFor spec sizes.states sizes.bound program →
-      SynthOutcome sizes bytes reply → reply.status ≡ No → ⊥
-  program_not_missed reply program there (refused fault h is) told = not_refused bytes spec h.error fault spells h.spells_none h.is_fault
-  program_not_missed reply program there (of_spec other spelled (written done h)) told = let e : Done ≡ No = sym done ∙ told in cc
-  program_not_missed reply program there (of_spec other spelled (told_none is h)) told =
-      not_both other sizes.states sizes.bound program
-      (subst (λ (s : SpecTree). IsWrittenFor s sizes.states sizes.bound program) (one_spec bytes spec other spells spelled) there) h.none
-  program_not_missed reply program there (of_spec other spelled (spent is h)) told = let e : Spent ≡ No = sym is ∙ told in cc
-  program_not_missed reply program there (of_spec other spelled (too_large limit h is)) told =
+  -- where a controller of the size has an annotation within the bound, the answer is not that none has
+  pub controller_not_missed : (reply : Reply) (q : QuestionTree) (c : ControllerTree) (number : ℕ → ℕ → Option ℕ) →
+      IsAsked spec sizes.states sizes.bound q → IsSolution q c number → SynthOutcome sizes bytes reply → reply.status ≡ No → ⊥
+  controller_not_missed reply q c number asked solution (refused fault h is) told = not_refused bytes spec h.error fault spells h.spells_none h.is_fault
+  controller_not_missed reply q c number asked solution (of_spec other spelled (written done h)) told = let e : Done ≡ No = sym done ∙ told in cc
+  controller_not_missed reply q c number asked solution (of_spec other spelled (told_none is h)) told =
+      h.none.none q
+      (subst (λ (s : SpecTree). IsAsked s sizes.states sizes.bound q) (one_spec bytes spec other spells spelled) asked)
+      c number solution
+  controller_not_missed reply q c number asked solution (of_spec other spelled (spent is h)) told = let e : Spent ≡ No = sym is ∙ told in cc
+  controller_not_missed reply q c number asked solution (of_spec other spelled (too_large limit h is)) told =
       let e : false ≡ true = sym (limit_is_large limit) ∙ (sym (ap is_answer (status_of is)) ∙ ap is_answer told) in cc
 
   -- where a limit is passed, that is what is told

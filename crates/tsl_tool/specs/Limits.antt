@@ -36,6 +36,7 @@ pub record LimitsAreThese : Type 0 where
   pub least_budget : least_value Budget ≡ 1
   pub largest_budget : most_value Budget ≡ 1000000
   pub usual_budget : usual_value Budget ≡ 20000
+  pub least_rounds : least_value Rounds ≡ 0
   pub most_rounds : most_value Rounds ≡ 0
   pub usual_rounds : usual_value Rounds ≡ 0
   -- a specification: levels, nodes of the whole formula, brackets of a term

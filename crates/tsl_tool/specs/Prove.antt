@@ -46,15 +46,15 @@ pub record TellsSatisfiable (sizes : QuestionSizes) (spec : SpecTree) (text : Li
   pub solution : IsSolution question controller number
   pub text_is : text ≡ codes "satisfiable\n"
 
--- what is said where there is one
+-- what is said where a controller of the size has an annotation within the bound
 abbrev pub satisfiable_reply : Reply
 satisfiable_reply = record { status = No; text = codes "satisfiable\n" }
 
 -- what is replied to a specification
 pub data QuestionOutcome (sizes : QuestionSizes) (spec : SpecTree) (reply : Reply) : Type 0 where
-  -- there is no program of this size, by a proof
+  -- no controller of the size has an annotation within the bound, by a proof
   proved : reply.status ≡ Done → IsProof sizes spec reply.text → QuestionOutcome sizes spec reply
-  -- there is one
+  -- one has
   satisfiable : reply.status ≡ No → TellsSatisfiable sizes spec reply.text → QuestionOutcome sizes spec reply
   -- the budget is spent
   spent : reply.status ≡ Spent → TellsSpent spec sizes.states sizes.bound sizes.budget reply.text → QuestionOutcome sizes spec reply

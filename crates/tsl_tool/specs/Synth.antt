@@ -55,7 +55,7 @@ pub record TellsSpent (spec : SpecTree) (states bound budget : ℕ) (text : List
 pub data SearchOutcome (sizes : Sizes) (spec : SpecTree) (reply : Reply) : Type 0 where
   -- a program is written
   written : reply.status ≡ Done → IsWritten sizes spec reply.text → SearchOutcome sizes spec reply
-  -- there is no program of this size
+  -- no controller of this size has an annotation within the bound
   told_none : reply.status ≡ No → TellsNone sizes spec reply.text → SearchOutcome sizes spec reply
   -- the budget is spent
   spent : reply.status ≡ Spent → TellsSpent spec sizes.states sizes.bound sizes.budget reply.text → SearchOutcome sizes spec reply

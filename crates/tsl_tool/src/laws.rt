@@ -1,15 +1,16 @@
 //! Laws of the definitions that the contracts cite.
 
-ghost use Rattle.std.specs.Prelude.{◌≡◌, ◌≢◌, ◌↔◌, ℕ, List, Contains, false, None, IsTrue};
+ghost use Rattle.std.specs.Prelude.{◌≡◌, ◌≢◌, ◌↔◌, ℕ, List, Option, Contains, false, None, IsTrue};
 ghost use Rattle.std.specs.List.{AllByRecursion};
 ghost use Rattle.refutation_check.specs.CnfText.{cnf_answer};
 ghost use Rattle.refutation_check.specs.LogText.{log_answer};
 ghost use Rattle.tsl_terms.specs.SpecTree.{SpecTree};
 ghost use Rattle.tsl_reader.specs.Spells.{Spells};
-ghost use Rattle.flow_program.specs.ProgramTree.{ProgramTree};
+ghost use Rattle.machines.specs.MachineTree.{ControllerTree};
 ghost use Rattle.program_check.specs.declared.verdict.Limit.{Limit};
+ghost use Rattle.bounded_encoding.specs.Question.{QuestionTree, IsSolution};
 ghost use Rattle.refinement_loop.specs.declared.outcome.Sizes.{Sizes};
-ghost use Rattle.refinement_loop.specs.Outcomes.{IsWrittenFor, IsLargeFor};
+ghost use Rattle.refinement_loop.specs.Outcomes.{IsAsked, IsLargeFor};
 ghost use Rattle.tsl_meaning.specs.Lasso.{Meets};
 ghost use Rattle.tsl_meaning.specs.RunLasso.{shape_of};
 ghost use Rattle.tsl_meaning.specs.RunTree.{RunTree};
@@ -55,7 +56,8 @@ pub fn outcomes_keep_their_promise()
 {}
 
 /// Within the limits of the work, what is replied to a specification that is spelled is an answer: a
-/// program, that there is none, or a trace; and for `prove` a proof, that there is a program, or a trace.
+/// program, that no controller of the size has an annotation within the bound, or a trace; and for
+/// `prove` a proof of that, that one has, or a trace.
 pub fn searches_are_answered()
     ensures synth { (sizes : Sizes) (bytes : List ℕ) (spec : SpecTree) (reply : Reply) →
         Spells bytes spec → ((limit : Limit) → IsLargeFor spec sizes.states sizes.bound limit → ⊥)
@@ -75,15 +77,17 @@ pub fn limits_are_told()
         → ProveOutcome sizes bytes reply → reply.status ≡ Status.Large }
 {}
 
-/// Where a controller of the size gives a program of the specification, `synth` does not say that there
-/// is none, and `prove` does not prove it.
-pub fn programs_are_not_missed()
-    ensures synth { (sizes : Sizes) (bytes : List ℕ) (spec : SpecTree) (reply : Reply) (program : ProgramTree)
-        → Spells bytes spec → IsWrittenFor spec sizes.states sizes.bound program →
-        SynthOutcome sizes bytes reply → reply.status ≢ Status.No }
+/// Where a controller of the size has an annotation within the bound, `synth` does not say that there is
+/// none, and `prove` does not prove it.
+pub fn controllers_are_not_missed()
+    ensures synth { (sizes : Sizes) (bytes : List ℕ) (spec : SpecTree) (reply : Reply) (q : QuestionTree)
+        (c : ControllerTree) (number : ℕ → ℕ → Option ℕ) → Spells bytes spec
+        → IsAsked spec sizes.states sizes.bound q → IsSolution q c number
+        → SynthOutcome sizes bytes reply → reply.status ≢ Status.No }
     ensures prove { (sizes : QuestionSizes) (bytes : List ℕ) (spec : SpecTree) (reply : Reply)
-        (program : ProgramTree) → Spells bytes spec → IsWrittenFor spec sizes.states sizes.bound program →
-        ProveOutcome sizes bytes reply → reply.status ≢ Status.Done }
+        (q : QuestionTree) (c : ControllerTree) (number : ℕ → ℕ → Option ℕ) → Spells bytes spec
+        → IsAsked spec sizes.states sizes.bound q → IsSolution q c number
+        → ProveOutcome sizes bytes reply → reply.status ≢ Status.Done }
 {}
 
 /// `recheck` verifies each text that `prove` writes as a proof, where it reads so many bytes.

@@ -45,8 +45,9 @@
 //!   `outcomes_keep_their_promise` says the promise of the outcomes alone.
 //! - `searches_are_answered`: within the limits of the work `synth` and `prove` answer each text
 //!   that spells a specification. `limits_are_told`: where a limit is passed, that is told.
-//!   `programs_are_not_missed`: where there is a program of the size, neither says that there is
-//!   none. `proofs_are_verified`: `recheck` verifies what `prove` writes.
+//!   `controllers_are_not_missed`: where a controller of the size has an annotation within the
+//!   bound, neither says that none has. `proofs_are_verified`: `recheck` verifies what `prove`
+//!   writes.
 //! - `one_specification` says that a text spells at most one specification, and
 //!   `plain_updates_are_spelled` that a text of plain updates (`specs/Form.antt`), whose definition
 //!   does not use the grammar, spells the same specification by the grammar.
@@ -83,10 +84,9 @@ mod verdicts;
 mod words;
 
 pub use laws::{
-    ends_have_causes, limits_are_these, limits_are_told, one_specification,
-    outcomes_keep_their_promise, plain_updates_are_spelled, programs_are_not_missed,
-    proofs_are_verified, searches_are_answered, verdicts_are_those_of_logs,
-    verdicts_are_those_of_runs,
+    controllers_are_not_missed, ends_have_causes, limits_are_these, limits_are_told,
+    one_specification, outcomes_keep_their_promise, plain_updates_are_spelled, proofs_are_verified,
+    searches_are_answered, verdicts_are_those_of_logs, verdicts_are_those_of_runs,
 };
 pub use status::Status;
 pub use top::tsl;

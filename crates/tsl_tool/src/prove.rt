@@ -31,8 +31,8 @@ use tsl_report::formula_text;
 use tsl_terms::{Spec, whole};
 use tsl_text::put_bytes;
 
-/// What `prove` replies to these bytes: a proof that there is no program of this size for their
-/// specification, or why there is none.
+/// What `prove` replies to these bytes: a proof that no controller of this size has an annotation within
+/// the bound for their specification, or why there is none.
 pub(crate) fn prove(alloc: Global, sizes: QuestionSizes, bytes: &[u8]) -> Result<Reply, NoMemory>
     requires in_range { HasItsValues (Prove sizes) }
     requires few { length bytes.now < 2 ^ 32 - 1 }
@@ -91,7 +91,7 @@ fn reply_to_answer(
     }
 }
 
-/// That there is a program of this size.
+/// That a controller of this size has an annotation within the bound.
 fn satisfiable(alloc: Global) -> Result<Reply, NoMemory>
     ensures { IfOk result (λ reply. reply ≡ satisfiable_reply) }
 {

@@ -72,7 +72,7 @@ fn written(alloc: Global, spec: &Spec, program: &Program) -> Result<Reply, NoMem
     Ok(Reply::new(Status::Done, text))
 }
 
-/// That there is no program of this size.
+/// That no controller of this size has an annotation within the bound.
 fn none(alloc: Global, sizes: &Sizes) -> Result<Reply, NoMemory>
     ensures { IfOk result (λ reply. reply ≡ none_reply sizes.now) }
 {

@@ -51,7 +51,7 @@ pub(crate) enum Command {
     Check(u32),
     /// The run of a program over tables and inputs, and the verdicts on it.
     Run,
-    /// A proof that there is no program of some size for a specification.
+    /// A proof that no controller of some size has an annotation within a bound, for a specification.
     Prove(QuestionSizes),
     /// A verdict on a formula and a log that is to refute it.
     Recheck,

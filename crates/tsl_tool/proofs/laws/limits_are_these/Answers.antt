@@ -17,6 +17,7 @@ returns c = record {
   least_budget = refl;
   largest_budget = refl;
   usual_budget = refl;
+  least_rounds = refl;
   most_rounds = refl;
   usual_rounds = refl;
   levels = refl;
