@@ -38,5 +38,6 @@ module _ (q : QuestionTree) (a : ℕ → Bool) where
 pub successors_stay : (a : ℕ → Bool) (base states count : ℕ) (next : List ℕ) → next ≡ successors_from a base states count →
     1 ≤ states → NameStates states next
 successors_stay a base states count next is some i n at =
-    let found = slice_get_mapped (successor_numbered a base states) (below count) i n (sym (ap (λ (ns : List ℕ). slice_get ns i) is) ∙ at) in
+    let found = slice_get_mapped (successor_numbered a base states) (below count) i n
+    (sym (ap (λ (ns : List ℕ). slice_get ns i) is) ∙ at) in
     subst (λ m. m < states) found.2 (first_below (λ t. a (base + found.0 * states + t)) states some)

@@ -13,4 +13,5 @@ pub mod Picking
 pub mod DualSizes
 pub mod DualOver
 pub mod DualReadings
+pub mod DualLeftOut
 mod Examples

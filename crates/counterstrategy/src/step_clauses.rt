@@ -1,6 +1,6 @@
 //! The clauses of steps.
 
-ghost use Rattle.std.specs.Prelude.{◌≡◌, ◌<◌, ◌+◌, ◌∷◌, [], OnOk, All};
+ghost use Rattle.std.specs.Prelude.{◌≡◌, ◌<◌, ◌+◌, ◌∷◌, [], true, false, OnOk, All};
 ghost use Rattle.std.specs.List.{flat_map};
 ghost use Rattle.cobuchi_automata.specs.Edges.{edge_tree, IsBetween};
 ghost use Rattle.bounded_encoding.specs.Made.{with_clauses};
@@ -67,6 +67,38 @@ fn add_each_number(
     Ok(())
 }
 
+/// Whether a step to a state leads from a pair to itself by an edge that is not rejecting. Its clauses have
+/// literals with their negations.
+fn leads_to_itself(state: u32, edge: Edge, t: u32) -> bool
+    ensures { result ≡ true → (state ≡ t) × (edge.from ≡ edge.to) × (edge.rejecting ≡ false) }
+{
+    state == t && edge.from == edge.to && !edge.rejecting
+}
+
+/// Adds the clauses of a step to a state.
+fn add_steps_to(
+    alloc: Global,
+    out: &mut Builder,
+    question: &DualQuestion,
+    step: Step,
+    asked: &[Literal],
+    t: u32,
+) -> Result<(), EncodeError>
+    requires asked { IsDualCounted question.now }
+    requires within { IsStepWithin question.now step }
+    requires next { t < question.now.states }
+    requires literals { asked.now ≡ asked_of_tests (dual_tree question.now) (edge_tree step.edge) step.state }
+    ensures added { OnOk result (out.new ≡ with_clauses out.old
+        (steps_to (dual_tree question.now) step.state (edge_tree step.edge) step.vector t)) }
+    ensures refused { Refuses result (with_clauses out.old
+        (steps_to (dual_tree question.now) step.state (edge_tree step.edge) step.vector t)) }
+{
+    if leads_to_itself(step.state, step.edge, t) {
+        return Ok(());
+    }
+    add_each_number(alloc, out, question, step, asked, t)
+}
+
 /// Adds the clauses of a step to each state.
 #[tactic(auto, using(bounded_encoding::proofs::Adding::adding))]
 fn add_each_next(
@@ -86,7 +118,7 @@ fn add_each_next(
         (steps_under (dual_tree question.now) step.state (edge_tree step.edge) step.vector)) }
 {
     for t in 0..question.states {
-        add_each_number(alloc, out, question, step, asked, t)?;
+        add_steps_to(alloc, out, question, step, asked, t)?;
     }
     Ok(())
 }
@@ -153,6 +185,9 @@ fn add_steps_along(
     ensures added { OnOk result (out.new ≡ with_clauses out.old (steps_along (dual_tree question.now) s (edge_tree edge))) }
     ensures refused { Refuses result (with_clauses out.old (steps_along (dual_tree question.now) s (edge_tree edge))) }
 {
+    if question.states == 1 && leads_to_itself(s, edge, 0) {
+        return Ok(());
+    }
     let met = met_vectors(alloc, question, edge)?;
     add_each_vector(alloc, out, question, s, edge, met.as_slice())
 }

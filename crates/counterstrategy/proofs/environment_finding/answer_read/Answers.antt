@@ -36,7 +36,8 @@ returns c budget =
     let numbers : c.from_vec.result ≡ dual_numbers_read q a = c.from_vec.ensures ∙ c.in_ok-numbers.ensures ∙ pair_numbers_agree q a in
     let read = is_environment_solution q posed a (are_dual_met q a c.requires.satisfying.all_met) in
     record {
-      solution = subst (λ (t : EnvironmentTree). IsEnvironmentSolution q t (number_of_pair q.automaton_states c.from_vec.result)) (sym table)
+      solution = subst (λ (t : EnvironmentTree). IsEnvironmentSolution q t (number_of_pair q.automaton_states c.from_vec.result))
+          (sym table)
           (subst (λ (ns : List (Option ℕ)). IsEnvironmentSolution q (environment_read q a) (number_of_pair q.automaton_states ns))
           (sym numbers) read);
       bound = refl;
