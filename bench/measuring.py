@@ -44,3 +44,21 @@ def instructions(text, command):
     if not found:
         raise SystemExit("valgrind counted nothing")
     return int(found.group(1).replace(b",", b""))
+
+
+def spent_in(text, command, functions):
+    """How many instructions a run takes in all, and in each of these functions with what they call, as valgrind counts them; 0 for
+    one that is never called. None where valgrind is not installed."""
+    if not shutil.which("valgrind"):
+        return None
+    with tempfile.NamedTemporaryFile() as counts:
+        trace = ["valgrind", "--tool=callgrind", f"--callgrind-out-file={counts.name}"]
+        subprocess.run([*trace, *command], input=text, capture_output=True)
+        listed = ["callgrind_annotate", "--inclusive=yes", "--threshold=100", counts.name]
+        shown = subprocess.run(listed, capture_output=True, text=True).stdout
+    found = re.search(r"([\d,]+) \(100\.0%\) +PROGRAM TOTALS", shown)
+    if not found:
+        raise SystemExit("valgrind counted nothing")
+    number = lambda digits: int(digits.replace(",", ""))
+    one = lambda name: re.search(r"([\d,]+) \( ?[\d.]+%\) +[^ ]*:" + re.escape(name) + r" ", shown)
+    return number(found.group(1)), [number(one(name).group(1)) if one(name) else 0 for name in functions]

@@ -8,10 +8,12 @@ import subprocess
 import sys
 
 import plain
-from measuring import HERE, PROGRAM, built
+from measuring import HERE, PROGRAM, built, spent_in
 from solver import arbiter, conflicts, measured, programs
 
 BUDGET = 20_000
+PARTS = ("read", "automaton", "encoding", "solver", "text")
+STEPS = ["tsl_reader::read_spec", "refinement_loop::asking::ask", "program_check::accepting::automaton_of", "sat_core::solver::search"]
 CLEAR = 0.1  # seconds of minisat, from which on the whole is compared to it
 WRITTEN, NONE, SPENT = 0, 1, 5
 
@@ -87,6 +89,16 @@ def seconds_of(run):
     return f"{run[0]:9.4f}" if run else f"{'-':>9}"
 
 
+def parts_of(text, words):
+    """The shares of a run's instructions: reading, the automaton, the encoding with what is read off an assignment, the solver, and
+    the program or another text. None where valgrind is not installed."""
+    counted = spent_in(text.encode(), words, STEPS)
+    if counted is None:
+        return None
+    whole, (read, ask, automaton, solver) = counted
+    return [100 * part / whole for part in (read, automaton, ask - automaton - solver, solver, whole - read - ask)]
+
+
 def row(folder, name, text, states, bound, seconds, ratios):
     """One question: its sizes, what was answered, the times of the parts, and those of the other programs."""
     question = plain.Question(text, states, bound)
@@ -100,6 +112,8 @@ def row(folder, name, text, states, bound, seconds, ratios):
     sizes = f"{question.count:4} {len(question.edges):6} {question.variables:7} {len(clauses):8}"
     line = f"{name:>22} {states:2} {bound:2} {answer:>8} {sizes} {learnt:7} {seconds_of(least)} {seconds_of(before)} {seconds_of(whole)}"
     line += f" {whole[1] if whole else '-':>8}"
+    parts = parts_of(text, words_of("synth", states, bound))
+    line += "".join(f" {f'{part:.0f}%':>9}" for part in parts) if parts else f" {'-':>9}" * len(PARTS)
     cnf = plain.cnf_text(question.variables, clauses).encode()
     for tool, words in programs().items():
         if tool == "solve":
@@ -124,7 +138,7 @@ def main():
     others = [tool for tool in programs() if tool != "solve"]
     heads = "".join(f" {tool[:9]:>9}" + (f" {'conflicts':>9}" if tool == "minisat -no-pre" else "") for tool in others)
     print(f"{'question':>22} {'n':>2} {'k':>2} {'answer':>8} {'Q':>4} {'edges':>6} {'vars':>7} {'clauses':>8} {'learnt':>7}"
-          f" {'small':>9} {'before':>9} {'whole':>9} {'KiB':>8}{heads}")
+          f" {'small':>9} {'before':>9} {'whole':>9} {'KiB':>8}" + "".join(f" {part:>9}" for part in PARTS) + heads)
     with built() as folder:
         for name, text, states, bound in questions():
             if not wanted or any(part in name for part in wanted):
