@@ -10,7 +10,8 @@ use Rattle.ltl_formula.specs.LtlTree.{LtlTree}
 use Rattle.obligations.specs.Expansion.{ChoiceTree, choices}
 use Rattle.cobuchi_automata.specs.Automata.{StateTree, EdgeTree, untils_of, start_state, edge_of, IsReached, at_start, by_choice}
 use Rattle.cobuchi_automata.specs.Automata.{Leads, IsOfChoice, IsAutomaton}
-use Rattle.cobuchi_automata.specs.Refusals.{most_automaton_states, most_automaton_edges, StandsOnce, Transition, IsTransition}
+use Rattle.cobuchi_automata.specs.Refusals.{most_automaton_states, most_automaton_edges, Transition, IsTransition}
+use Rattle.sequence.specs.Once.{StandOnce}
 use Rattle.cobuchi_automata.specs.Refusals.{HasTooManyChoices, HasTooManyStates, HasTooManyEdges}
 use Rattle.cobuchi_automata.specs.Renumbering.{Joins, IsRenumbered}
 use Rattle.cobuchi_automata.proofs.OnceLemmas.{Stands, not_more}
@@ -80,10 +81,10 @@ module _ (f : LtlTree) (states : List StateTree) (edges : List EdgeTree) (automa
       let found = automaton.leads place.0 many.state place.1 in
       none-some found.0 (sym many.none ∙ found.1)
 
-  pub states_at_least : (more : List StateTree) → StandsOnce more → AllByRecursion (IsReached f) more → length more ≤ length states
+  pub states_at_least : (more : List StateTree) → StandOnce more → AllByRecursion (IsReached f) more → length more ≤ length states
   states_at_least more once reached = not_more states more once (each_weaker (IsReached f) (Stands states) has_state more reached)
 
-  pub edges_at_least : (more : List Transition) → StandsOnce more → AllByRecursion (IsTransition f) more → length more ≤ length edges
+  pub edges_at_least : (more : List Transition) → StandOnce more → AllByRecursion (IsTransition f) more → length more ≤ length edges
   edges_at_least more once each = omega (
     arith,
     not_more transitions more once (each_weaker (IsTransition f) (Stands transitions) transition_stands more each),

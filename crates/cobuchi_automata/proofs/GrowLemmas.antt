@@ -5,7 +5,7 @@ use Rattle.std.specs.List.{AllByRecursion}
 use Rattle.std.proofs.lemmas.Option.{none-some, slice_get-get_or}
 use Rattle.sequence.proofs.Each.{each_joined}
 use Rattle.sequence.proofs.Places.{contains_at, slice_get_grown, slice_get_push}
-use Rattle.cobuchi_automata.specs.Refusals.{StandsOnce}
+use Rattle.sequence.specs.Once.{StandOnce}
 use Rattle.cobuchi_automata.specs.internal.Exploring.{Grows}
 
 module _ {A : Type 0} where
@@ -34,10 +34,10 @@ module _ {A : Type 0} where
       by (inl same) = subst (AllByRecursion P) (sym same) each
       by (inr more) = subst (AllByRecursion P) (sym more.1) (each_joined P old (x ∷ []) each (here, tt))
 
-  pub once_grows : (old new : List A) (x : A) → Grows old x new → StandsOnce old → StandsOnce new
+  pub once_grows : (old new : List A) (x : A) → Grows old x new → StandOnce old → StandOnce new
   once_grows old new x grows once = by grows.grown
     where
-      pushed : ((k : ℕ) → slice_get old k ≡ Some x → ⊥) → StandsOnce (old ++ x ∷ [])
+      pushed : ((k : ℕ) → slice_get old k ≡ Some x → ⊥) → StandOnce (old ++ x ∷ [])
       pushed fresh i j y at_i at_j = on (slice_get_push old x i y at_i) (slice_get_push old x j y at_j)
         where
           on : ((i < length old) × (slice_get old i ≡ Some y)) ⊎ ((i ≡ length old) × (x ≡ y))
@@ -47,11 +47,11 @@ module _ {A : Type 0} where
           on (inr p) (inl q) = absurd (fresh j (q.1 ∙ ap Some (sym p.1)))
           on (inr p) (inr q) = p.0 ∙ sym q.0
 
-      by : (new ≡ old) ⊎ (((k : ℕ) → slice_get old k ≡ Some x → ⊥) × (new ≡ old ++ x ∷ [])) → StandsOnce new
-      by (inl same) = subst StandsOnce (sym same) once
-      by (inr more) = subst StandsOnce (sym more.1) (pushed more.0)
+      by : (new ≡ old) ⊎ (((k : ℕ) → slice_get old k ≡ Some x → ⊥) × (new ≡ old ++ x ∷ [])) → StandOnce new
+      by (inl same) = subst StandOnce (sym same) once
+      by (inr more) = subst StandOnce (sym more.1) (pushed more.0)
 
-  pub none_once : StandsOnce {A = A} []
+  pub none_once : StandOnce {A = A} []
   none_once i j x at_i at_j = absurd (none-some x at_i)
 
   pub first_grows : (x : A) → Grows [] x (x ∷ [])

@@ -5,7 +5,7 @@ use Rattle.std.proofs.lemmas.Bool.{eqb-true, false≢true, or_cases, ne_eqb}
 use Rattle.std.proofs.lemmas.Map.Steps.{length-le_from_distinct_below}
 use Rattle.std.proofs.lemmas.Option.{slice_get_within}
 use Rattle.sequence.proofs.Places.{slice_get_one}
-use Rattle.cobuchi_automata.specs.Refusals.{StandsOnce}
+use Rattle.sequence.specs.Once.{StandOnce}
 
 module _ {A : Type 0} (ys : List A) where
   -- a place at which a member stands
@@ -28,7 +28,7 @@ module _ {A : Type 0} (ys : List A) where
     others x i at xs each.1 (λ k z stands. differ (suc k) z stands),
   )
 
-  distinct : (xs : List A) (each : AllByRecursion Stands xs) → StandsOnce xs → IsDistinct eqb (places xs each)
+  distinct : (xs : List A) (each : AllByRecursion Stands xs) → StandOnce xs → IsDistinct eqb (places xs each)
   unfolding IsDistinct
   distinct [] each once = tt
   distinct (x ∷ xs) each once = (
@@ -45,7 +45,7 @@ module _ {A : Type 0} (ys : List A) where
         | inr s ↦ below xs each.1 q s
       ]
 
-  pub not_more : (xs : List A) → StandsOnce xs → AllByRecursion Stands xs → length xs ≤ length ys
+  pub not_more : (xs : List A) → StandOnce xs → AllByRecursion Stands xs → length xs ≤ length ys
   not_more xs once each = omega (
     arith,
     length-places xs each,

@@ -8,7 +8,8 @@ use Rattle.sequence.proofs.Places.{slice_get_mapped}
 use Rattle.ltl_formula.specs.LtlTree.{LtlTree}
 use Rattle.obligations.specs.Expansion.{choices}
 use Rattle.cobuchi_automata.specs.Automata.{StateTree, EdgeTree, untils_of, start_state, state_after, edge_of, IsReached, IsOfChoice}
-use Rattle.cobuchi_automata.specs.Refusals.{most_automaton_edges, StandsOnce, Transition, IsTransition, HasTooManyEdges}
+use Rattle.cobuchi_automata.specs.Refusals.{most_automaton_edges, Transition, IsTransition, HasTooManyEdges}
+use Rattle.sequence.specs.Once.{StandOnce}
 
 module _ (f : LtlTree) (states : List StateTree) where
   -- the state with a number
@@ -19,7 +20,7 @@ module _ (f : LtlTree) (states : List StateTree) where
   transition_at e = record { from = state_at e.from; care = e.care; want = e.want; to = state_at e.to; rejecting = e.rejecting }
 
 module _ (f : LtlTree) (states : List StateTree) (edges : List EdgeTree) (reached : AllByRecursion (IsReached f) states)
-    (once : StandsOnce states) (of_choices : AllByRecursion (IsOfChoice (untils_of f) states) edges) (edges_once : StandsOnce edges) where
+    (once : StandOnce states) (of_choices : AllByRecursion (IsOfChoice (untils_of f) states) edges) (edges_once : StandOnce edges) where
   abbrev at_edge : EdgeTree → Transition
   at_edge = transition_at f states
 
@@ -57,7 +58,7 @@ module _ (f : LtlTree) (states : List StateTree) (edges : List EdgeTree) (reache
       (first.there ∙ ap Some to) second.there in
       λ i. record { from = from_is i; care = (same i).care; want = (same i).want; to = to_is i; rejecting = (same i).rejecting }
 
-  pub transitions_once : StandsOnce (map at_edge edges)
+  pub transitions_once : StandOnce (map at_edge edges)
   transitions_once i j t at_i at_j =
       let d = slice_get_mapped at_edge edges i t at_i in
       let e = slice_get_mapped at_edge edges j t at_j in

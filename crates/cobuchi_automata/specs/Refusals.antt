@@ -1,6 +1,7 @@
 -- When a formula has no automaton within the limits.
 use Rattle.std.specs.Prelude.{◌≡◌, ℕ, suc, ⊤, Bool, List, length, None, Some, slice_get, Contains}
 use Rattle.std.specs.List.{AllByRecursion}
+use Rattle.sequence.specs.Once.{StandOnce}
 use Rattle.ltl_formula.specs.LtlTree.{LtlTree}
 use Rattle.obligations.specs.Expansion.{ChoiceTree, choices}
 use Rattle.obligations.specs.declared.step_error.StepError.{StepError}
@@ -22,10 +23,6 @@ abbrev pub build_error : StepError → BuildError
 build_error Choices = builds.Choices
 build_error NoMemory = builds.NoMemory
 
--- no member of a list stands at two places
-abbrev pub StandsOnce : {A : Type 0} → List A → Type 0
-StandsOnce {A = A} xs = (i j : ℕ) (x : A) → slice_get xs i ≡ Some x → slice_get xs j ≡ Some x → i ≡ j
-
 -- a reached state whose set has no choices, since a list that is formed on the way has too many members
 pub record HasTooManyChoices (f : LtlTree) : Type 0 where
   pub state : StateTree
@@ -37,7 +34,7 @@ pub record HasTooManyStates (f : LtlTree) : Type 0 where
   pub states : List StateTree
   pub many : length states ≡ suc most_automaton_states
   pub reached : AllByRecursion (IsReached f) states
-  pub once : StandsOnce states
+  pub once : StandOnce states
 
 -- an edge between states themselves, whatever their numbers
 pub record Transition : Type 0 where
@@ -71,7 +68,7 @@ pub record HasTooManyEdges (f : LtlTree) : Type 0 where
   pub transitions : List Transition
   pub many : length transitions ≡ suc most_automaton_edges
   pub of_choices : AllByRecursion (IsTransition f) transitions
-  pub once : StandsOnce transitions
+  pub once : StandOnce transitions
 
 -- what a refusal says: its limit is passed
 abbrev pub HasBuildCause : LtlTree → BuildError → Type 0

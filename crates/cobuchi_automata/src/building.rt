@@ -7,7 +7,7 @@ ghost use Rattle.obligations.specs.Obligations.{closure_of};
 ghost use Rattle.cobuchi_automata.specs.Automata.{StateTree, untils_of, IsAutomaton};
 ghost use Rattle.cobuchi_automata.specs.Edges.{edge_trees};
 ghost use Rattle.cobuchi_automata.specs.Refusals.{most_automaton_states, most_automaton_edges, HasBuildCause};
-ghost use Rattle.cobuchi_automata.specs.internal.Exploring.{state_keys, IsPlanInMemory, IsFound};
+ghost use Rattle.cobuchi_automata.specs.internal.Exploring.{state_keys, IsPlanInMemory, IsFoundSoFar};
 
 use crate::automaton::Automaton;
 use crate::build_error::BuildError;
@@ -21,7 +21,7 @@ use std::alloc::Global;
 /// The automaton of the states and edges that are found, where each state is expanded.
 fn automaton_of(alloc: Global, plan: &Plan, found: &Found) -> Result<Automaton, NoMemory>
     requires plan { IsPlanInMemory plan.now }
-    requires found { IsFound plan.now (length found.now.states.keys) found.now }
+    requires found { IsFoundSoFar plan.now (length found.now.states.keys) found.now }
     ensures automaton { IfOk result (λ made. (states : List StateTree) × (length states ≡ made.states)
         × IsAutomaton (ltl_tree plan.now.formula.now) states (edge_trees made.edges)) }
     ensures few_states { IfOk result (λ made. made.states ≤ most_automaton_states) }

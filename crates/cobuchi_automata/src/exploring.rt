@@ -10,7 +10,7 @@ ghost use Rattle.obligations.specs.Named.{formula_named, choice_named, IsWell};
 ghost use Rattle.obligations.specs.Numbers.{choice_key, choice_keys, lent_trees};
 ghost use Rattle.cobuchi_automata.specs.Edges.{edge_tree, edge_trees};
 ghost use Rattle.cobuchi_automata.specs.Refusals.{most_automaton_states, most_automaton_edges, HasBuildCause};
-ghost use Rattle.cobuchi_automata.specs.internal.Exploring.{state_key, state_keys, Takes, IsChoiceRefusal, IsPlanInMemory, IsFound};
+ghost use Rattle.cobuchi_automata.specs.internal.Exploring.{state_key, state_keys, Takes, IsChoiceRefusal, IsPlanInMemory, IsFoundSoFar};
 
 use crate::automaton::Edge;
 use crate::build_error::BuildError;
@@ -97,12 +97,12 @@ fn add_choices(
     list: &[NumberedChoice],
 ) -> Result<(), BuildError>
     requires plan { IsPlanInMemory plan.now }
-    requires found { IsFound plan.now from found.old }
+    requires found { IsFoundSoFar plan.now from found.old }
     requires here { slice_get (state_keys found.old.states.keys) from ≡ Some (state_key state.now) }
     requires choices { choices (map (formula_named (lent_trees plan.now.names.items)) state.now.members.items)
         ≡ Some (map (choice_named (lent_trees plan.now.names.items)) (choice_keys list.now)) }
     requires well { AllByRecursion (IsWell (lent_trees plan.now.names.items)) (choice_keys list.now) }
-    ensures found { OnOk result (IsFound plan.now (from + 1) found.new) }
+    ensures found { OnOk result (IsFoundSoFar plan.now (from + 1) found.new) }
     ensures refused { IfErr result (HasBuildCause (ltl_tree plan.now.formula.now)) }
 {
     for choice in list {
@@ -134,10 +134,10 @@ fn expand_state(
     requires plan { IsPlanInMemory plan.now }
     requires few { length plan.now.names.items < 2 ^ 32 }
     requires expansions { AreExpansions (lent_trees plan.now.names.items) expansions.old }
-    requires found { IsFound plan.now from found.old }
+    requires found { IsFoundSoFar plan.now from found.old }
     requires there { from < length found.old.states.keys }
     ensures expansions { AreExpansions (lent_trees plan.now.names.items) expansions.new }
-    ensures found { OnOk result (IsFound plan.now (from + 1) found.new) }
+    ensures found { OnOk result (IsFoundSoFar plan.now (from + 1) found.new) }
     ensures refused { IfErr result (HasBuildCause (ltl_tree plan.now.formula.now)) }
 {
     let state = copied_state(alloc, &found.states, from as usize)?;
@@ -155,8 +155,8 @@ pub(crate) fn explore(
     requires plan { IsPlanInMemory plan.now }
     requires few { length plan.now.names.items < 2 ^ 32 }
     requires expansions { AreExpansions (lent_trees plan.now.names.items) expansions.old }
-    requires found { IsFound plan.now 0 found.old }
-    ensures found { OnOk result (IsFound plan.now (length found.new.states.keys) found.new) }
+    requires found { IsFoundSoFar plan.now 0 found.old }
+    ensures found { OnOk result (IsFoundSoFar plan.now (length found.new.states.keys) found.new) }
     ensures refused { IfErr result (HasBuildCause (ltl_tree plan.now.formula.now)) }
 {
     let mut expanded = 0;
@@ -185,7 +185,7 @@ fn start_states(alloc: Global, number: u32) -> Result<IndexSet<State>, NoMemory>
 pub(crate) fn start_of(alloc: Global, plan: &Plan) -> Result<Found, NoMemory>
     requires plan { IsPlanInMemory plan.now }
     requires few { length plan.now.names.items < 2 ^ 32 }
-    ensures { IfOk result (IsFound plan.now 0) }
+    ensures { IfOk result (IsFoundSoFar plan.now 0) }
 {
     let states = start_states(alloc, number_of(&plan.names, plan.formula))?;
     let edges = IndexSet::new(alloc);

@@ -13,7 +13,8 @@ use Rattle.tsl_terms.specs.TermTree.{ProbeTree}
 use Rattle.tsl_terms.specs.WindowTree.{WindowTree}
 use Rattle.flow_program.specs.NodeTree.{NodeTree, branch, assign}
 use Rattle.flow_program.specs.ProgramTree.{ProgramTree}
-use Rattle.letter_space.specs.SpaceTree.{SpaceTree, StandOnce, IsSpace}
+use Rattle.letter_space.specs.SpaceTree.{SpaceTree, IsSpace}
+use Rattle.sequence.specs.Once.{StandOnce}
 use Rattle.machines.specs.MachineTree.{EntryTree, ControllerTree, controller_entry}
 use Rattle.control_flow_model.specs.DecisionTree.{DecisionTree, leaf, fork, same_decision, decision_tree, subtrees}
 use Rattle.control_flow_model.specs.Flow.{AreKept, state_tree, shared_trees, node_number, node_for, IsFlowOf}

@@ -24,7 +24,8 @@ use Rattle.tsl_terms.specs.TermTree.{term_tree}
 use Rattle.flow_program.specs.NodeTree.{NodeTree, branch}
 use Rattle.letter_space.specs.declared.controlled.Controlled.{Controlled}
 use Rattle.letter_space.specs.ControlledView.{controlled_tree}
-use Rattle.letter_space.specs.SpaceTree.{SpaceTree, StandOnce, IsSpace}
+use Rattle.letter_space.specs.SpaceTree.{SpaceTree, IsSpace}
+use Rattle.sequence.specs.Once.{StandOnce}
 use Rattle.letter_space.specs.Letters.{valuation_count, ArePicks}
 use Rattle.letter_space.proofs.Places.{position_tells}
 use Rattle.machines.specs.MachineTree.{EntryTree, ControllerTree, controller_entry}

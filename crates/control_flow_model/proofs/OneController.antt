@@ -9,7 +9,8 @@ use Rattle.sequence.proofs.Options.{one_value}
 use Rattle.tsl_terms.specs.TermTree.{TermTree}
 use Rattle.flow_program.specs.ProgramTree.{ProgramTree}
 use Rattle.flow_program.specs.Walk.{Action}
-use Rattle.letter_space.specs.SpaceTree.{ControlledTree, SpaceTree, StandOnce, IsSpace}
+use Rattle.letter_space.specs.SpaceTree.{ControlledTree, SpaceTree, IsSpace}
+use Rattle.sequence.specs.Once.{StandOnce}
 use Rattle.machines.specs.MachineTree.{EntryTree, ControllerTree}
 use Rattle.control_flow_model.specs.ControllerOf.{terms_picked, IsEntryOf, IsControllerOf}
 use Rattle.control_flow_model.proofs.PickedTerms.{picked_parts}

@@ -10,7 +10,7 @@ use Rattle.sequence.proofs.Booleans.{same_tests}
 use Rattle.sequence.proofs.Kept.{with_new-append, with_new-absent, with_new-present, with_new-from_none}
 use Rattle.sequence.proofs.Places.{slice_get_some, slice_get_one, slice_get_push, slice_get_grown, slice_get-behind}
 use Rattle.tsl_terms.specs.Distinct.{without_repeats}
-use Rattle.letter_space.specs.SpaceTree.{StandOnce}
+use Rattle.sequence.specs.Once.{StandOnce}
 use Rattle.letter_space.proofs.Once.{once_without_repeats}
 use Rattle.machines.specs.MachineTree.{EntryTree, ControllerTree, controller_entry}
 use Rattle.control_flow_model.specs.contracts.parting.PartPartialEq.TheImpl as impl

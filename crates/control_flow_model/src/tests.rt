@@ -7,7 +7,7 @@ ghost use Rattle.tsl_terms.specs.WindowTree.{window_tree};
 ghost use Rattle.letter_space.specs.ControlledView.{controlled_tree};
 ghost use Rattle.letter_space.specs.SpaceView.{space_tree};
 ghost use Rattle.machines.specs.MachineView.{entry_tree};
-ghost use Rattle.control_flow_model.specs.internal.Examples.{probe_of, example_space, IsExampleEntry};
+ghost use Rattle.control_flow_model.specs.internal.Examples.{probe_on, example_space, IsExampleEntry};
 
 use crate::flow_of;
 use flow_program::{Node, Program};
@@ -26,8 +26,8 @@ enum Row {
 }
 
 /// A predicate of a signal.
-fn probe_of(alloc: Global, predicate: u32, of: u32) -> Result<Probe, NoMemory>
-    ensures { IfOk result (λ probe. probe_tree probe ≡ probe_of predicate of) }
+fn probe_on(alloc: Global, predicate: u32, of: u32) -> Result<Probe, NoMemory>
+    ensures { IfOk result (λ probe. probe_tree probe ≡ probe_on predicate of) }
 {
     Ok(Probe {
         predicate,
@@ -40,10 +40,10 @@ fn probe_of(alloc: Global, predicate: u32, of: u32) -> Result<Probe, NoMemory>
 
 /// `p x` and `q y`.
 fn example_tests(alloc: Global) -> Result<Vec<Probe>, NoMemory>
-    ensures { IfOk result (λ tests. map probe_tree tests.items ≡ probe_of 3 1 ∷ probe_of 4 2 ∷ []) }
+    ensures { IfOk result (λ tests. map probe_tree tests.items ≡ probe_on 3 1 ∷ probe_on 4 2 ∷ []) }
 {
-    let first = probe_of(alloc, 3, 1)?;
-    let second = probe_of(alloc, 4, 2)?;
+    let first = probe_on(alloc, 3, 1)?;
+    let second = probe_on(alloc, 4, 2)?;
     Ok(vec![in alloc; first, second]?)
 }
 
@@ -115,15 +115,15 @@ fn example_signals(alloc: Global) -> Result<SignalLists, NoMemory>
 /// A window: now `p x` is as `q y` is.
 fn example_window(alloc: Global) -> Result<Window, NoMemory>
     ensures { IfOk result (λ window. window_tree window ≡ record {
-      left = probe_of 3 1;
+      left = probe_on 3 1;
       left_at = 0;
-      right = probe_of 4 2;
+      right = probe_on 4 2;
       length = 0;
       updates = [];
     }) }
 {
-    let left = probe_of(alloc, 3, 1)?;
-    let right = probe_of(alloc, 4, 2)?;
+    let left = probe_on(alloc, 3, 1)?;
+    let right = probe_on(alloc, 4, 2)?;
     Ok(Window {
         left,
         left_at: 0,

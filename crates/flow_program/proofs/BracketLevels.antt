@@ -4,22 +4,22 @@ use Rattle.flow_program.specs.declared.left.Misread.{Misread}
 use Rattle.flow_program.specs.declared.left.Misread.TheVariants.{Form, NoMemory}
 use Rattle.flow_program.specs.ListingTree.{PhraseTree}
 use Rattle.flow_program.specs.LineText.{Place}
-use Rattle.flow_program.specs.internal.LineReading.{IsMisread, from, past, phrase_with, only_applied, in_brackets}
+use Rattle.flow_program.specs.internal.LineReading.{IsMisread, from, past, phrase_with, only_applied, phrase_in_brackets}
 
-pub bracketed_zero : (room : ℕ) → room ≡ 0 → (p : Place) → in_brackets room p ≡ None
-unfolding in_brackets
-bracketed_zero room e p = ap (λ (r : ℕ). in_brackets r p) e
+pub bracketed_zero : (room : ℕ) → room ≡ 0 → (p : Place) → phrase_in_brackets room p ≡ None
+unfolding phrase_in_brackets
+bracketed_zero room e p = ap (λ (r : ℕ). phrase_in_brackets r p) e
 
 -- with a level left: a bracket, a phrase with arguments and the closing bracket
 pub bracketed_more : (room below : ℕ) → room ≡ suc below → (p : Place) (o : Option Place) → past (codes "(") p ≡ o →
-    in_brackets room p ≡ only_applied (from o (phrase_with (in_brackets below)))
-unfolding in_brackets
+    phrase_in_brackets room p ≡ only_applied (from o (phrase_with (phrase_in_brackets below)))
+unfolding phrase_in_brackets
 bracketed_more room below e p o f =
-    ap (λ (r : ℕ). in_brackets r p) e
-    ∙ ap (λ (m : Option Place). only_applied (from m (phrase_with (in_brackets below)))) f
+    ap (λ (r : ℕ). phrase_in_brackets r p) e
+    ∙ ap (λ (m : Option Place). only_applied (from m (phrase_with (phrase_in_brackets below)))) f
 
 pub bracketed_inner : (room below : ℕ) → room ≡ suc below → (p q : Place) → past (codes "(") p ≡ Some q →
-    (o : Option (PhraseTree × Place)) → phrase_with (in_brackets below) q ≡ o → in_brackets room p ≡ only_applied o
+    (o : Option (PhraseTree × Place)) → phrase_with (phrase_in_brackets below) q ≡ o → phrase_in_brackets room p ≡ only_applied o
 bracketed_inner room below e p q f o g = bracketed_more room below e p (Some q) f ∙ ap only_applied g
 
 -- where one reader fails another does

@@ -17,7 +17,7 @@ use Rattle.flow_program.specs.LineText.{phrase_brackets, phrases_brackets, is_sh
 use Rattle.flow_program.specs.internal.LineReading.{past, from, mapped, keep_before, begins, first_name, phrases_of, is_open}
 use Rattle.flow_program.specs.internal.LineReading.{number_follows, argument_begins, argument_follows, constant_or, short_after, short}
 use Rattle.flow_program.specs.internal.LineReading.{argument_phrase, spaced_argument, arguments, phrase_of, phrase_after, phrase_with}
-use Rattle.flow_program.specs.internal.LineReading.{has_arguments, only_applied, in_brackets, phrase}
+use Rattle.flow_program.specs.internal.LineReading.{has_arguments, only_applied, phrase_in_brackets, phrase}
 use Rattle.tsl_terms.specs.WellFormed.{deepest}
 use Rattle.flow_program.proofs.BracketLevels.{bracketed_zero, bracketed_more, bracketed_inner}
 use Rattle.flow_program.proofs.Strips.{after_found, after_none, after_sound}
@@ -100,10 +100,10 @@ argument_is_within room v = leb (own_brackets v) room
 
 -- what is read in brackets has arguments, and all that has them is read
 pub record ReadsBrackets (room : ℕ) : Type 0 where
-  pub sound : (p : Place) (v : PhraseTree) (q : Place) → in_brackets room p ≡ Some (v, q) →
+  pub sound : (p : Place) (v : PhraseTree) (q : Place) → phrase_in_brackets room p ≡ Some (v, q) →
       Stand (own_pieces v) p q × IsTrue (argument_is_within room v)
   pub complete : (p : Place) (v : PhraseTree) (q : Place) → has_arguments v ≡ true → Stand (own_pieces v) p q →
-      IsTrue (argument_is_within room v) → in_brackets room p ≡ Some (v, q)
+      IsTrue (argument_is_within room v) → phrase_in_brackets room p ≡ Some (v, q)
 
 -- an argument begins with a bracket or with a name that no number follows
 named_starts : (name rest bytes : List ℕ) → bytes ≡ name ++ rest → IsTrue (is_usable name) → NoLetter rest →
@@ -174,45 +174,45 @@ constant_is n p q s =
 -- ---- an argument
 
 module _ (room : ℕ) (h : ReadsBrackets room) where
-  argument_reads : Reads (argument_phrase (in_brackets room)) own_pieces (argument_is_within room) EndsArgument
+  argument_reads : Reads (argument_phrase (phrase_in_brackets room)) own_pieces (argument_is_within room) EndsArgument
   argument_reads = record { sound = sound; complete = complete } where
-    sound : (p : Place) (v : PhraseTree) (q : Place) → argument_phrase (in_brackets room) p ≡ Some (v, q) →
+    sound : (p : Place) (v : PhraseTree) (q : Place) → argument_phrase (phrase_in_brackets room) p ≡ Some (v, q) →
         Stand (own_pieces v) p q × IsTrue (argument_is_within room v)
     sound p v q e = by_test (begins is_open p.bytes) e where
-      by_test : (t : Bool) → cond t (in_brackets room p) (short p) ≡ Some (v, q) →
+      by_test : (t : Bool) → cond t (phrase_in_brackets room p) (short p) ≡ Some (v, q) →
           Stand (own_pieces v) p q × IsTrue (argument_is_within room v)
       by_test true f = h.sound p v q f
       by_test false f = short_sound room p v q f
 
     complete : (p : Place) (v : PhraseTree) (q : Place) → Stand (own_pieces v) p q → IsTrue (argument_is_within room v) →
-        EndsArgument q.bytes → argument_phrase (in_brackets room) p ≡ Some (v, q)
+        EndsArgument q.bytes → argument_phrase (phrase_in_brackets room) p ≡ Some (v, q)
     complete p (bare n) q s good ends =
         let shut : begins is_open p.bytes ≡ false = ap (begins is_open) s.2 ∙ letter_no_open s.0 s.1 s.3 in
-        cond-false (begins is_open p.bytes) (in_brackets room p) (short p) shut
+        cond-false (begins is_open p.bytes) (phrase_in_brackets room p) (short p) shut
         ∙ ap short_after (name_reads.complete p n q s refl (no_letter q.bytes ends))
         ∙ ap (λ (o : Option Place). constant_or n o (Some (bare n, q))) (no_constant q (no_open q.bytes ends))
     complete p (applied n no_phrases) q s good ends =
         let shut : begins is_open p.bytes ≡ false = ap (begins is_open) s.2 ∙ letter_no_open s.0 s.1 s.3 in
         let c = constant_is n p q s in
-        cond-false (begins is_open p.bytes) (in_brackets room p) (short p) shut
+        cond-false (begins is_open p.bytes) (phrase_in_brackets room p) (short p) shut
         ∙ ap short_after c.1
         ∙ ap (λ (o : Option Place). constant_or n o (Some (bare n, c.0))) c.2
     complete p (applied n (more_phrases v vs)) q s good ends =
-        cond-true (begins is_open p.bytes) (in_brackets room p) (short p) (ap (begins is_open) s.1)
+        cond-true (begins is_open p.bytes) (phrase_in_brackets room p) (short p) (ap (begins is_open) s.1)
         ∙ h.complete p (applied n (more_phrases v vs)) q refl s good
 
-  spaced_reads : Reads (spaced_argument (in_brackets room)) (λ v. word (codes " ") ∷ own_pieces v) (argument_is_within room) EndsArgument
+  spaced_reads : Reads (spaced_argument (phrase_in_brackets room)) (λ v. word (codes " ") ∷ own_pieces v) (argument_is_within room) EndsArgument
   spaced_reads = prefixed_reads (codes " ") argument_reads
 
   -- each takes its space at least
-  pub spaced_shrinks : Shrinks (spaced_argument (in_brackets room))
+  pub spaced_shrinks : Shrinks (spaced_argument (phrase_in_brackets room))
   spaced_shrinks p v q e =
       let s = (spaced_reads.sound p v q e).0 in
       let rest : length q.bytes ≤ length s.0 = stand_shorter (own_pieces v) (record { at = p.at + 1; bytes = s.0 }) q s.2 in
       let whole : length p.bytes ≡ suc (length s.0) = ap length s.1 in
       omega arith
 
-  arguments_read : Reads (arguments (in_brackets room)) (λ vs. flat_map (λ v. word (codes " ") ∷ own_pieces v) vs)
+  arguments_read : Reads (arguments (phrase_in_brackets room)) (λ vs. flat_map (λ v. word (codes " ") ∷ own_pieces v) vs)
       (λ vs. list_all (argument_is_within room) vs) EndsPhrase
   arguments_read = repeat_reads argument_follows spaced_reads spaced_shrinks
       (λ v p q s good ends. spaced_starts room v p q s good ends) ends_more
@@ -267,20 +267,20 @@ module _ (room : ℕ) (h : ReadsBrackets room) where
         list_within room (v ∷ vs) good,
       )
 
-  pub phrase_with_reads : Reads (phrase_with (in_brackets room)) phrase_pieces (is_within room) EndsPhrase
+  pub phrase_with_reads : Reads (phrase_with (phrase_in_brackets room)) phrase_pieces (is_within room) EndsPhrase
   phrase_with_reads = record { sound = sound; complete = complete } where
-    list_reads : Reads (arguments (in_brackets room)) (λ vs. flat_map spaced_pieces vs) (λ vs. list_all
+    list_reads : Reads (arguments (phrase_in_brackets room)) (λ vs. flat_map spaced_pieces vs) (λ vs. list_all
         (argument_is_within room) vs) EndsPhrase
     list_reads = arguments_read room h
 
-    sound : (p : Place) (v : PhraseTree) (q : Place) → phrase_with (in_brackets room) p ≡ Some (v, q) →
+    sound : (p : Place) (v : PhraseTree) (q : Place) → phrase_with (phrase_in_brackets room) p ≡ Some (v, q) →
         Stand (phrase_pieces v) p q × IsTrue (is_within room v)
     sound p v q e = by_name (first_name p) refl e where
-      by_name : (o : Option (Name × Place)) → first_name p ≡ o → phrase_after (in_brackets room) o ≡ Some (v, q) →
+      by_name : (o : Option (Name × Place)) → first_name p ≡ o → phrase_after (phrase_in_brackets room) o ≡ Some (v, q) →
           Stand (phrase_pieces v) p q × IsTrue (is_within room v)
       by_name None f g = absurd (none-some (v, q) g)
       by_name (Some (n, m)) f g = by_constant (past (codes "()") m) refl g where
-        by_list : (o : Option (List PhraseTree × Place)) → arguments (in_brackets room) m ≡ o → mapped (phrase_of n) o ≡ Some (v, q) →
+        by_list : (o : Option (List PhraseTree × Place)) → arguments (phrase_in_brackets room) m ≡ o → mapped (phrase_of n) o ≡ Some (v, q) →
             Stand (phrase_pieces v) p q × IsTrue (is_within room v)
         by_list None x y = absurd (none-some (v, q) y)
         by_list (Some (vs, k)) x y =
@@ -290,9 +290,9 @@ module _ (room : ℕ) (h : ReadsBrackets room) where
             (made_sound p m k n vs (name_reads.sound p n m f).0 inner.0 inner.1)
 
         by_constant : (o : Option Place) → past (codes "()") m ≡ o →
-            constant_or n o (mapped (phrase_of n) (arguments (in_brackets room) m)) ≡ Some (v, q) →
+            constant_or n o (mapped (phrase_of n) (arguments (phrase_in_brackets room) m)) ≡ Some (v, q) →
             Stand (phrase_pieces v) p q × IsTrue (is_within room v)
-        by_constant None x y = by_list (arguments (in_brackets room) m) refl y
+        by_constant None x y = by_list (arguments (phrase_in_brackets room) m) refl y
         by_constant (Some r) x y =
             let P : PhraseTree × Place → Type 0 = λ z. Stand (phrase_pieces z.0) p z.1 × IsTrue (is_within room z.0) in
             let found = after_sound (codes "()") m r x in
@@ -302,25 +302,25 @@ module _ (room : ℕ) (h : ReadsBrackets room) where
             )
 
     complete : (p : Place) (v : PhraseTree) (q : Place) → Stand (phrase_pieces v) p q → IsTrue (is_within room v) → EndsPhrase q.bytes →
-        phrase_with (in_brackets room) p ≡ Some (v, q)
+        phrase_with (phrase_in_brackets room) p ≡ Some (v, q)
     complete p (bare n) q s good ends =
         let ended : EndsArgument q.bytes = (ends_more q.bytes ends).1 in
-        ap (phrase_after (in_brackets room)) (name_reads.complete p n q s refl (no_letter q.bytes ended))
-        ∙ ap (λ (o : Option Place). constant_or n o (mapped (phrase_of n) (arguments (in_brackets room) q))) (no_constant q
+        ap (phrase_after (phrase_in_brackets room)) (name_reads.complete p n q s refl (no_letter q.bytes ended))
+        ∙ ap (λ (o : Option Place). constant_or n o (mapped (phrase_of n) (arguments (phrase_in_brackets room) q))) (no_constant q
         (no_open q.bytes ended))
         ∙ ap (mapped (phrase_of n)) (list_reads.complete q [] q refl refl ends)
     complete p (applied n no_phrases) q s good ends =
         let c = constant_is n p q s in
-        ap (phrase_after (in_brackets room)) c.1
-        ∙ ap (λ (o : Option Place). constant_or n o (mapped (phrase_of n) (arguments (in_brackets room) c.0))) c.2
+        ap (phrase_after (phrase_in_brackets room)) c.1
+        ∙ ap (λ (o : Option Place). constant_or n o (mapped (phrase_of n) (arguments (phrase_in_brackets room) c.0))) c.2
     complete p (applied n (more_phrases v vs)) q s good ends =
         let parts = stand_split (name_pieces n) (phrases_pieces (more_phrases v vs)) p q s in
         let m : Place = parts.0 in
         let P : List Piece → Type 0 = λ xs. Stand xs m q in
         let as_list : flat_map spaced_pieces (v ∷ phrases_in vs) ≡ phrases_pieces (more_phrases v vs) =
         pieces_of_list (v ∷ phrases_in vs) ∙ ap phrases_pieces (ap (more_phrases v) (in_of vs)) in
-        ap (phrase_after (in_brackets room)) (name_reads.complete p n m parts.1 refl (ap (begins is_name_byte) parts.2.1))
-        ∙ ap (λ (o : Option Place). constant_or n o (mapped (phrase_of n) (arguments (in_brackets room) m)))
+        ap (phrase_after (phrase_in_brackets room)) (name_reads.complete p n m parts.1 refl (ap (begins is_name_byte) parts.2.1))
+        ∙ ap (λ (o : Option Place). constant_or n o (mapped (phrase_of n) (arguments (phrase_in_brackets room) m)))
         (no_constant m (ap (begins is_open) parts.2.1))
         ∙ ap (mapped (phrase_of n))
         (list_reads.complete m (v ∷ phrases_in vs) q (subst P (sym as_list) parts.2) (within_list room (more_phrases v vs) good) ends)
@@ -336,26 +336,26 @@ has_brackets (applied n (more_phrases v vs)) h = (refl, refl)
 
 pub brackets_read : (room : ℕ) → ReadsBrackets room
 brackets_read zero = record { sound = sound; complete = complete } where
-  sound : (p : Place) (v : PhraseTree) (q : Place) → in_brackets 0 p ≡ Some (v, q) →
+  sound : (p : Place) (v : PhraseTree) (q : Place) → phrase_in_brackets 0 p ≡ Some (v, q) →
       Stand (own_pieces v) p q × IsTrue (argument_is_within 0 v)
   sound p v q e = absurd (none-some (v, q) (sym (bracketed_zero 0 refl p) ∙ e))
 
   complete : (p : Place) (v : PhraseTree) (q : Place) → has_arguments v ≡ true → Stand (own_pieces v) p q →
-      IsTrue (argument_is_within 0 v) → in_brackets 0 p ≡ Some (v, q)
+      IsTrue (argument_is_within 0 v) → phrase_in_brackets 0 p ≡ Some (v, q)
   complete p v q has s good =
       let level : own_brackets v ≤ 0 = leb-true (own_brackets v) 0 good in
       absurd (omega (arith, level, (has_brackets v has).1))
 brackets_read (suc room) = step room (phrase_with_reads room (brackets_read room)) where
-  step : (room : ℕ) → Reads (phrase_with (in_brackets room)) phrase_pieces (is_within room) EndsPhrase → ReadsBrackets (suc room)
+  step : (room : ℕ) → Reads (phrase_with (phrase_in_brackets room)) phrase_pieces (is_within room) EndsPhrase → ReadsBrackets (suc room)
   step room h = record { sound = sound; complete = complete } where
-    sound : (p : Place) (v : PhraseTree) (q : Place) → in_brackets (suc room) p ≡ Some (v, q) →
+    sound : (p : Place) (v : PhraseTree) (q : Place) → phrase_in_brackets (suc room) p ≡ Some (v, q) →
         Stand (own_pieces v) p q × IsTrue (argument_is_within (suc room) v)
     sound p v q e = by_open (past (codes "(") p) refl (sym (bracketed_more (suc room) room refl p (past (codes "(") p) refl) ∙ e) where
-      by_open : (o : Option Place) → past (codes "(") p ≡ o → only_applied (from o (phrase_with (in_brackets room))) ≡ Some (v, q) →
+      by_open : (o : Option Place) → past (codes "(") p ≡ o → only_applied (from o (phrase_with (phrase_in_brackets room))) ≡ Some (v, q) →
           Stand (own_pieces v) p q × IsTrue (argument_is_within (suc room) v)
       by_open None f g = absurd (none-some (v, q) g)
-      by_open (Some m) f g = by_phrase (phrase_with (in_brackets room) m) refl g where
-        by_phrase : (o : Option (PhraseTree × Place)) → phrase_with (in_brackets room) m ≡ o → only_applied o ≡ Some (v, q) →
+      by_open (Some m) f g = by_phrase (phrase_with (phrase_in_brackets room) m) refl g where
+        by_phrase : (o : Option (PhraseTree × Place)) → phrase_with (phrase_in_brackets room) m ≡ o → only_applied o ≡ Some (v, q) →
             Stand (own_pieces v) p q × IsTrue (argument_is_within (suc room) v)
         by_phrase None x y = absurd (none-some (v, q) y)
         by_phrase (Some (u, k)) x y = by_kind (has_arguments u) refl y where
@@ -387,7 +387,7 @@ brackets_read (suc room) = step room (phrase_with_reads room (brackets_read room
           by_kind true has b = by_close (past (codes ")") k) has refl b
 
     complete : (p : Place) (v : PhraseTree) (q : Place) → has_arguments v ≡ true → Stand (own_pieces v) p q →
-        IsTrue (argument_is_within (suc room) v) → in_brackets (suc room) p ≡ Some (v, q)
+        IsTrue (argument_is_within (suc room) v) → phrase_in_brackets (suc room) p ≡ Some (v, q)
     complete p v q has s good =
         let forms = has_brackets v has in
         let Q : List Piece → Type 0 = λ xs. Stand xs p q in
@@ -406,5 +406,5 @@ pub phrase_reads : Reads phrase phrase_pieces is_shallow EndsPhrase
 phrase_reads = phrase_with_reads deepest (brackets_read deepest)
 
 -- each argument takes a byte at least
-pub arguments_shrink : (room : ℕ) → Shrinks (spaced_argument (in_brackets room))
+pub arguments_shrink : (room : ℕ) → Shrinks (spaced_argument (phrase_in_brackets room))
 arguments_shrink room = spaced_shrinks room (brackets_read room)

@@ -180,11 +180,11 @@ module _ (names : List NameEntry) where
     arguments_occur no_terms front h = (codes "()" ++ h.0, h.1)
     arguments_occur (more_terms t ts) front h = h
 
-    in_brackets : (at : Name) (t : TermTree) (ts : TermTrees) (ps : PhraseTrees) (front bytes : List ℕ) → SameShape (more_terms t ts) ps →
+    phrase_in_brackets : (at : Name) (t : TermTree) (ts : TermTrees) (ps : PhraseTrees) (front bytes : List ℕ) → SameShape (more_terms t ts) ps →
         Run (phrase_pieces (applied at ps)) (front ++ codes "(") bytes →
         Run (argument_pieces (applied at ps) (phrase_pieces (applied at ps))) front (codes "(" ++ bytes ++ codes ")")
-    in_brackets at t ts no_phrases front bytes shape r = absurd shape
-    in_brackets at t ts (more_phrases p ps) front bytes shape r =
+    phrase_in_brackets at t ts no_phrases front bytes shape r = absurd shape
+    phrase_in_brackets at t ts (more_phrases p ps) front bytes shape r =
         run_append (word (codes "(") ∷ phrase_pieces (applied at (more_phrases p ps))) (word (codes ")") ∷ []) front (codes "("
         ++ bytes) (codes ")")
         (run_append (word (codes "(") ∷ []) (phrase_pieces (applied at (more_phrases p ps))) front (codes "(") bytes (run_word
@@ -262,7 +262,7 @@ module _ (names : List NameEntry) where
           ++ name_text names f) parts.1 reads rest in
           record {
             phrase = applied (name_at start (name_text names f)) p.phrases;
-            runs = in_brackets (name_at start (name_text names f)) t ts p.phrases front bytes p.shape
+            runs = phrase_in_brackets (name_at start (name_text names f)) t ts p.phrases front bytes p.shape
                 (application_runs f all start name.1 p);
             deep = deeper (name_at start (name_text names f)) f t ts p.phrases p.shape p.deep;
             held = λ line. (

@@ -6,7 +6,7 @@ ghost use Rattle.tsl_text.specs.Names.{is_name_start};
 ghost use Rattle.flow_program.specs.ListingTree.{phrase_tree};
 ghost use Rattle.flow_program.specs.internal.LineReading.{IsReadAs, IsUnread, begins, is_open, number_follows, argument_begins};
 ghost use Rattle.flow_program.specs.internal.LineReading.{argument_follows, short, argument_phrase, spaced_argument, arguments};
-ghost use Rattle.flow_program.specs.internal.LineReading.{phrase_of, phrase_with, has_arguments, only_applied, in_brackets, phrase};
+ghost use Rattle.flow_program.specs.internal.LineReading.{phrase_of, phrase_with, has_arguments, only_applied, phrase_in_brackets, phrase};
 
 use crate::left::{Left, Misread, Reading};
 use crate::listing::{Name, Phrase, PhraseList};
@@ -114,9 +114,9 @@ fn has_arguments(phrase: &Phrase) -> bool
 
 /// A phrase with arguments in brackets, where so many levels of brackets are left.
 #[cycle(phrase)]
-fn in_brackets(alloc: Global, room: u32, left: Left<'_>) -> Reading<'_, Phrase>
-    ensures ok { IfOk result (IsReadAs phrase_tree (in_brackets room) left.entry) }
-    ensures wrong { IfErr result (IsUnread (in_brackets room) left.entry) }
+fn phrase_in_brackets(alloc: Global, room: u32, left: Left<'_>) -> Reading<'_, Phrase>
+    ensures ok { IfOk result (IsReadAs phrase_tree (phrase_in_brackets room) left.entry) }
+    ensures wrong { IfErr result (IsUnread (phrase_in_brackets room) left.entry) }
 {
     let Some(below) = room_below(room) else {
         return Err(Misread::Form);
@@ -130,11 +130,11 @@ fn in_brackets(alloc: Global, room: u32, left: Left<'_>) -> Reading<'_, Phrase>
 #[cycle(phrase)]
 fn argument(alloc: Global, room: u32, left: Left<'_>) -> Reading<'_, Phrase>
     ensures ok { IfOk result
-        (IsReadAs phrase_tree (argument_phrase (in_brackets room)) left.entry) }
-    ensures wrong { IfErr result (IsUnread (argument_phrase (in_brackets room)) left.entry) }
+        (IsReadAs phrase_tree (argument_phrase (phrase_in_brackets room)) left.entry) }
+    ensures wrong { IfErr result (IsUnread (argument_phrase (phrase_in_brackets room)) left.entry) }
 {
     if begins_with_bracket(left.bytes) {
-        return in_brackets(alloc, room, left);
+        return phrase_in_brackets(alloc, room, left);
     }
     short(left)
 }
@@ -143,8 +143,8 @@ fn argument(alloc: Global, room: u32, left: Left<'_>) -> Reading<'_, Phrase>
 #[cycle(phrase)]
 fn spaced_argument(alloc: Global, room: u32, left: Left<'_>) -> Reading<'_, Phrase>
     ensures ok { IfOk result
-        (IsReadAs phrase_tree (spaced_argument (in_brackets room)) left.entry) }
-    ensures wrong { IfErr result (IsUnread (spaced_argument (in_brackets room)) left.entry) }
+        (IsReadAs phrase_tree (spaced_argument (phrase_in_brackets room)) left.entry) }
+    ensures wrong { IfErr result (IsUnread (spaced_argument (phrase_in_brackets room)) left.entry) }
 {
     let rest = expect(left, b" ")?;
     argument(alloc, room, rest)
@@ -154,8 +154,8 @@ fn spaced_argument(alloc: Global, room: u32, left: Left<'_>) -> Reading<'_, Phra
 #[cycle(phrase)]
 fn arguments(alloc: Global, room: u32, left: Left<'_>) -> Reading<'_, Vec<Phrase>>
     ensures ok { IfOk result
-        (IsReadAs (λ ps. map phrase_tree ps.items) (arguments (in_brackets room)) left.entry) }
-    ensures wrong { IfErr result (IsUnread (arguments (in_brackets room)) left.entry) }
+        (IsReadAs (λ ps. map phrase_tree ps.items) (arguments (phrase_in_brackets room)) left.entry) }
+    ensures wrong { IfErr result (IsUnread (arguments (phrase_in_brackets room)) left.entry) }
 {
     let mut found = Vec::new(alloc);
     let mut rest = left;
@@ -181,8 +181,8 @@ fn phrase_of(alloc: Global, name: Name, arguments: Vec<Phrase>) -> Result<Phrase
 /// A term or a test, where so many levels of brackets are left.
 #[cycle(phrase)]
 fn phrase_with(alloc: Global, room: u32, left: Left<'_>) -> Reading<'_, Phrase>
-    ensures ok { IfOk result (IsReadAs phrase_tree (phrase_with (in_brackets room)) left.entry) }
-    ensures wrong { IfErr result (IsUnread (phrase_with (in_brackets room)) left.entry) }
+    ensures ok { IfOk result (IsReadAs phrase_tree (phrase_with (phrase_in_brackets room)) left.entry) }
+    ensures wrong { IfErr result (IsUnread (phrase_with (phrase_in_brackets room)) left.entry) }
 {
     let (name, rest) = first_name(left)?;
     if let Some(rest) = past(rest, b"()") {

@@ -48,7 +48,8 @@ use Rattle.tsl_terms.specs.FormulaTree.{Atom, test, update}
 use Rattle.tsl_terms.specs.SameTree.{same_tree, same_probe_tree}
 use Rattle.tsl_terms.proofs.SameLemmas.{same_tree_is}
 use Rattle.ltl_formula.specs.Cubes.{has_bit}
-use Rattle.letter_space.specs.SpaceTree.{ControlledTree, SpaceTree, choice_count, bits_follow, StandOnce, IsSpace}
+use Rattle.letter_space.specs.SpaceTree.{ControlledTree, SpaceTree, choice_count, bits_follow, IsSpace}
+use Rattle.sequence.specs.Once.{StandOnce}
 use Rattle.letter_space.specs.Bits.{bit_of_probe, bit_of_choice, controlled_with, bit_of_atom}
 use Rattle.letter_space.specs.Letters.{
   valuation_count,

@@ -36,7 +36,7 @@ use Rattle.sequence.specs.Kept.{is_kept, with_new}
 use Rattle.sequence.proofs.Places.{slice_get_push}
 use Rattle.sequence.proofs.Kept.{with_new-from_none}
 use Rattle.tsl_terms.specs.Distinct.{without_repeats}
-use Rattle.letter_space.specs.SpaceTree.{StandOnce}
+use Rattle.sequence.specs.Once.{StandOnce}
 
 -- what some member passes
 pub any_at : {X : Type 0} (test : X → Bool) (xs : List X) (i : ℕ) (x : X) → slice_get xs i ≡ Some x → test x ≡ true →

@@ -76,7 +76,8 @@ use Rattle.tsl_terms.specs.Laws.{FormulasFit}
 use Rattle.tsl_terms.proofs.SameLemmas.{same_tree_is, same_tree_itself, same_probe_is, same_probe_itself}
 use Rattle.tsl_terms.proofs.SignalFacts.{distinct_signals, whole_updates}
 use Rattle.letter_space.specs.declared.limits.TheConstants.{MOST_PREDICATES, MOST_BITS}
-use Rattle.letter_space.specs.SpaceTree.{ControlledTree, choice_count, bit_count, bits_follow, has_choice, StandOnce, IsSpace}
+use Rattle.letter_space.specs.SpaceTree.{ControlledTree, choice_count, bit_count, bits_follow, has_choice, IsSpace}
+use Rattle.sequence.specs.Once.{StandOnce}
 use Rattle.letter_space.specs.SpecSpace.{controlled_from, spec_space}
 use Rattle.letter_space.specs.Bits.{bit_of_choice, controlled_with, bit_of_atom, HasBits}
 use Rattle.letter_space.proofs.Places.{position_tells}

@@ -3,6 +3,7 @@
 -- approximation in linear temporal logic. In which order bits stand is this project's own rule.
 use Rattle.std.specs.Prelude.{◌≡◌, ℕ, ◌+◌, ◌≤◌, ◌==◌, nat_lt, Bool, true, ◌&&◌, List, [], ◌∷◌, length, map, Some, slice_get, IsTrue}
 use Rattle.std.specs.List.{list_all}
+use Rattle.sequence.specs.Once.{StandOnce}
 use Rattle.tsl_terms.specs.TermTree.{TermTree, ProbeTree}
 use Rattle.letter_space.specs.declared.limits.TheConstants.{MOST_PREDICATES, MOST_BITS}
 
@@ -34,10 +35,6 @@ bits_follow first (c ∷ cs) = (c.first == first) && bits_follow (first + length
 -- whether a signal may take some term
 abbrev pub has_choice : ControlledTree → Bool
 has_choice c = nat_lt 0 (length c.choices)
-
--- no member stands twice
-abbrev pub StandOnce : {A : Type 0} → List A → Type 0
-StandOnce xs = (i j : ℕ) (x : _) → slice_get xs i ≡ Some x → slice_get xs j ≡ Some x → i ≡ j
 
 -- What holds of every space: it is within the limits, bits follow each other, each signal may take some term, and no predicate
 -- term, no signal and no choice of one signal stands twice.

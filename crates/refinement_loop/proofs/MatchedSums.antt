@@ -8,7 +8,7 @@ use Rattle.std.proofs.lemmas.List.Sums.{sum_by-append, sum_by-cons}
 use Rattle.std.proofs.lemmas.Option.{slice_get_within}
 use Rattle.sequence.proofs.Options.{one_value}
 use Rattle.sequence.proofs.Places.{split_at, slice_get_taken, slice_get_grown, slice_get-drop, slice_get-append}
-use Rattle.cobuchi_automata.specs.Refusals.{StandsOnce}
+use Rattle.sequence.specs.Once.{StandOnce}
 
 module _ {X Y : Type 0} (R : X → Y → Type 0) (alone : (x z : X) (y : Y) → R x y → R z y → x ≡ z) (f : X → ℕ) (g : Y → ℕ)
     (as_much : (x : X) (y : Y) → R x y → f x ≡ g y) where
@@ -46,7 +46,7 @@ module _ {X Y : Type 0} (R : X → Y → Type 0) (alone : (x z : X) (y : Y) → 
     ]
   ]
 
-  pub sum_matched : (xs : List X) (ys : List Y) → StandsOnce xs → ((i : ℕ) (x : X) → slice_get xs i ≡ Some x → HasMatch ys x) →
+  pub sum_matched : (xs : List X) (ys : List Y) → StandOnce xs → ((i : ℕ) (x : X) → slice_get xs i ≡ Some x → HasMatch ys x) →
       sum_by f xs ≤ sum_by g ys
   sum_matched [] ys once each = omega arith
   sum_matched (x ∷ xs) ys once each =

@@ -9,7 +9,7 @@ use Rattle.sat_trail.specs.States.{TrailState, IsSound, Propagates, up_to}
 use Rattle.sat_trail.proofs.Places.{place_found, place_from-front, place_from-after, place_here, unset_has}
 use Rattle.sat_core.specs.declared.heap.VariableHeap.{VariableHeap}
 use Rattle.sat_core.specs.declared.choices.Decisions.{Decisions}
-use Rattle.sat_core.specs.internal.Heaps.{IsHeap, variable_count, is_queued}
+use Rattle.sat_core.specs.internal.Heaps.{IsHeap, heap_variables, is_queued}
 use Rattle.sat_core.specs.internal.Decisions.{AreSet, AreDecisions}
 use Rattle.sat_core.proofs.HeapPlaces.{has_place}
 use Rattle.sat_core.proofs.Walking.{up_to_has}
@@ -56,11 +56,11 @@ pub none_unset : (variables : ℕ) (es : List Entry) (d : Decisions) → AreDeci
 none_unset variables es d are none = λ index below unset. true≢false (sym (are.queued index below unset) ∙ none index)
 
 -- a variable of the heap is one of them
-pub queued_below : (heap : VariableHeap) (variable : ℕ) → is_queued heap variable ≡ true → variable < variable_count heap
+pub queued_below : (heap : VariableHeap) (variable : ℕ) → is_queued heap variable ≡ true → variable < heap_variables heap
 queued_below heap variable h = let r = has_place heap.positions.items variable h in slice_get_within heap.positions.items variable (Some r.0) r.1
 
 module _ (variables : ℕ) (es : List Entry) (d : Decisions) (heap : VariableHeap) (index : ℕ) (are : AreDecisions variables es d)
-    (is_heap : IsHeap heap) (count : variable_count heap ≡ variable_count d.heap)
+    (is_heap : IsHeap heap) (count : heap_variables heap ≡ heap_variables d.heap)
     (others : (variable : ℕ) → is_queued heap variable ≡ (is_queued d.heap variable && not (eqb variable index))) where
   left : (other : ℕ) → other < variables → place_of es other ≡ None → (other ≡ index → ⊥) → is_queued heap other ≡ true
   left other below unset apart = others other ∙ and_from (is_queued d.heap other) (not (eqb other index)) (are.queued other below unset)
@@ -71,7 +71,7 @@ module _ (variables : ℕ) (es : List Entry) (d : Decisions) (heap : VariableHea
       AreDecisions variables es n
   decisions_popped set n is phases = record {
     heap = subst IsHeap (sym is) is_heap;
-    one_activity_each = ap variable_count is ∙ (count ∙ are.one_activity_each);
+    one_activity_each = ap heap_variables is ∙ (count ∙ are.one_activity_each);
     one_value_each = phases ∙ are.one_value_each;
     queued = λ other below unset. ap (λ (h : VariableHeap). is_queued h other) is
         ∙ left other below unset (λ same. set (ap (place_of es) (sym same) ∙ unset));
@@ -82,7 +82,7 @@ module _ (variables : ℕ) (es : List Entry) (d : Decisions) (heap : VariableHea
       (e : Entry) → e.literal.index ≡ index → AreDecisions variables (es ++ e ∷ []) n
   decisions_set none n is phases e here = record {
     heap = subst IsHeap (sym is) is_heap;
-    one_activity_each = ap variable_count is ∙ (count ∙ are.one_activity_each);
+    one_activity_each = ap heap_variables is ∙ (count ∙ are.one_activity_each);
     one_value_each = phases ∙ are.one_value_each;
     queued = λ other below unset. ap (λ (h : VariableHeap). is_queued h other) is
         ∙ left other below (unset_before es (e ∷ []) other unset)
@@ -107,7 +107,7 @@ given_more es last e before after at added given k d low at_k = elim (cases_eq k
 ]
 
 pub decisions_given : (variables : ℕ) (es : List Entry) (d n : Decisions) (index : ℕ) → AreDecisions variables es d → IsHeap n.heap →
-    variable_count n.heap ≡ variable_count d.heap → length n.phases.items ≡ length d.phases.items →
+    heap_variables n.heap ≡ heap_variables d.heap → length n.phases.items ≡ length d.phases.items →
     ((other : ℕ) → is_queued n.heap other ≡ (is_queued d.heap other || eqb other index)) → AreDecisions variables es n
 decisions_given variables es d n index are heap count phases added = record {
   heap = heap;

@@ -12,7 +12,7 @@ use Rattle.refutation_check.specs.Checking.{HintEffect, numbered_from, clause_na
 use Rattle.refutation_check.specs.Checking.HintEffect.{ends, makes, shows_nothing}
 use Rattle.sat_core.specs.declared.shelves.Shelf.{Shelf}
 use Rattle.sat_core.specs.internal.Hints.{AreHints}
-use Rattle.sat_core.specs.internal.Shelves.{log_number, log_hints, AreLogNumbers, AreFirst, AreKept}
+use Rattle.sat_core.specs.internal.Shelves.{log_number, log_hints, AreLogNumbers, AreFirst, AreShelved}
 use Rattle.sat_core.proofs.Hints.{named_one}
 
 -- the first clauses of a log
@@ -140,7 +140,7 @@ module _ (known clauses : List (List Lit)) (numbers : List ℕ) (are : AreLogNum
 
 -- a clause is left out
 pub kept_less : (formula clauses : List (List Lit)) (numbers : List ℕ) (place : ℕ) (kept : List (List Lit)) (shelf : Shelf) →
-    AreKept formula clauses numbers place kept shelf → AreKept formula clauses numbers (place + 1) kept shelf
+    AreShelved formula clauses numbers place kept shelf → AreShelved formula clauses numbers (place + 1) kept shelf
 kept_less formula clauses numbers place kept shelf are = record {
   others = are.others;
   stand = are.stand;
@@ -151,9 +151,9 @@ kept_less formula clauses numbers place kept shelf are = record {
 
 -- a clause is kept with its number
 pub kept_more : (formula clauses : List (List Lit)) (numbers : List ℕ) (place : ℕ) (kept : List (List Lit)) (shelf after : Shelf)
-    (clause : List Lit) (number : ℕ) → AreKept formula clauses numbers place kept shelf → slice_get clauses place ≡ Some clause →
+    (clause : List Lit) (number : ℕ) → AreShelved formula clauses numbers place kept shelf → slice_get clauses place ≡ Some clause →
     slice_get numbers place ≡ Some number → after.numbers.items ≡ shelf.numbers.items ++ number ∷ [] →
-    length after.uses.items ≡ length shelf.uses.items + 1 → AreKept formula clauses numbers (place + 1) (kept ++ clause ∷ []) after
+    length after.uses.items ≡ length shelf.uses.items + 1 → AreShelved formula clauses numbers (place + 1) (kept ++ clause ∷ []) after
 kept_more formula clauses numbers place kept shelf after clause number are at named numbers_are uses_are = record {
   others = are.others ++ clause ∷ [];
   stand = ap (λ (cs : List (List Lit)). cs ++ clause ∷ []) are.stand ∙ append_assoc formula are.others (clause ∷ []);
@@ -165,7 +165,7 @@ kept_more formula clauses numbers place kept shelf after clause number are at na
 
 -- the clauses of the formula alone
 pub first_kept : (formula clauses : List (List Lit)) (numbers : List ℕ) (count : ℕ) (kept : List (List Lit)) (shelf : Shelf) →
-    kept ≡ formula → count ≡ length formula → AreFirst count shelf → AreKept formula clauses numbers count kept shelf
+    kept ≡ formula → count ≡ length formula → AreFirst count shelf → AreShelved formula clauses numbers count kept shelf
 first_kept formula clauses numbers count kept shelf same is first = record {
   others = [];
   stand = same ∙ sym (append-nil formula);

@@ -37,7 +37,7 @@ use Rattle.refutation_check.specs.Checking.HintEffect.{makes, shows_nothing}
 use Rattle.refutation_check.specs.Checking.Refusal.{at_line, at_hint, unfinished}
 use Rattle.sat_core.specs.internal.Levels.{IsSetAt, AreQuietBelow}
 use Rattle.sat_core.specs.LogNumbers.{AreNumbered}
-use Rattle.sat_core.specs.internal.Lessons.{IsAsserting, IsLesson, learnt_step, clauses_of, HasLearnt, IsRefuted}
+use Rattle.sat_core.specs.internal.Lessons.{IsAsserting, IsLesson, learnt_step, clauses_of, HasLearnt, IsRefutingLog}
 use Rattle.sat_core.specs.internal.Decisions.{AreSet, AreVariableTruths}
 use Rattle.sat_core.specs.declared.answers.Answer.{Answer}
 use Rattle.sat_core.specs.declared.answers.Answer.TheVariants.{Sat, Unsat, Spent}
@@ -542,7 +542,7 @@ search_stays shortens wanted variables clauses t u journal after search uses sam
 
 pub search_refuted : (shortens : Bool) (variables : ℕ) (clauses : List (List Lit)) (t : TrailState) (journal : Journal) (log : Log) →
     IsSearch shortens variables clauses t journal.steps.items journal.shelf.numbers.items →
-    journal.next ≡ length clauses + length journal.steps.items + 1 → IsRefuted t.clauses journal log →
+    journal.next ≡ length clauses + length journal.steps.items + 1 → IsRefutingLog t.clauses journal log →
     AreRefuting variables clauses log.steps
 search_refuted shortens variables clauses t journal log search next_is refuted =
     subst (AreRefuting variables clauses) (sym refuted.steps_are) (record {

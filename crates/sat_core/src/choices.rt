@@ -3,7 +3,7 @@
 ghost use Rattle.std.specs.Prelude.{◌≡◌, ◌==◌, ◌||◌, ◌^◌, ◌<◌, ◌++◌, ◌∷◌, [], ℕ, List, length, true, false, All, MatchOption, IfSome, IfOk, OnOk};
 ghost use Rattle.sat_trail.specs.declared.entries.Entry.{Entry};
 ghost use Rattle.sat_trail.specs.States.{TrailState, IsSound, up_to};
-ghost use Rattle.sat_core.specs.internal.Heaps.{IsHeap, variable_count, is_queued};
+ghost use Rattle.sat_core.specs.internal.Heaps.{IsHeap, heap_variables, is_queued};
 ghost use Rattle.sat_core.specs.internal.Decisions.{AreSet, IsUnset, AreDecisions, Decides, AreVariableTruths};
 
 use crate::heap::VariableHeap;
@@ -151,10 +151,10 @@ impl Decisions {
     /// The variable of a literal that is set may be decided again, to the value that it has.
     fn give_back(&mut self, literal: Literal) -> Result<(), NoMemory>
         requires heap { IsHeap self.old.heap }
-        requires within { literal.index < variable_count self.old.heap }
-        requires phases { variable_count self.old.heap ≡ length self.old.phases.items }
+        requires within { literal.index < heap_variables self.old.heap }
+        requires phases { heap_variables self.old.heap ≡ length self.old.phases.items }
         ensures queued { OnOk result ((other : ℕ) → is_queued self.new.heap other ≡ (is_queued self.old.heap other || other == literal.index)) }
-        ensures count { OnOk result (variable_count self.new.heap ≡ variable_count self.old.heap) }
+        ensures count { OnOk result (heap_variables self.new.heap ≡ heap_variables self.old.heap) }
         ensures phases { length self.new.phases.items ≡ length self.old.phases.items }
         ensures heap { OnOk result (IsHeap self.new.heap) }
     {
@@ -165,7 +165,7 @@ impl Decisions {
     /// Makes these variables more active, and those of later conflicts more than these.
     pub fn bump(&mut self, variables: &[u32])
         requires heap { IsHeap self.old.heap }
-        requires within { All (λ variable. variable < variable_count self.old.heap) variables.now }
+        requires within { All (λ variable. variable < heap_variables self.old.heap) variables.now }
         ensures { (variables : ℕ) (entries : List Entry) → AreDecisions variables entries self.old → AreDecisions variables entries self.new }
     {
         for variable in variables {

@@ -1,7 +1,7 @@
 //! The variables that may be decided, the most active one first.
 
 ghost use Rattle.std.specs.Prelude.{◌≡◌, ◌==◌, ◌&&◌, ◌||◌, ◌⊎◌, ℕ, ◌+◌, ◌-◌, ◌*◌, ◌^◌, ◌<◌, ◌≤◌, false, true, not, cond, nat_lt, map, length, Some, slice_get, slice_index_or, MatchOption, IfOk, IfSome, OnOk};
-ghost use Rattle.sat_core.specs.internal.Heaps.{variable_count, is_queued, IsQueue, AreBounded, IsHeap, IsRearranged, IsActive, is_ahead, activity_of, scaled, limit};
+ghost use Rattle.sat_core.specs.internal.Heaps.{heap_variables, is_queued, IsQueue, AreBounded, IsHeap, IsRearranged, IsActive, is_ahead, activity_of, scaled, limit};
 
 use sequence::NoMemory;
 use std::alloc::Global;
@@ -34,7 +34,7 @@ impl VariableHeap {
     pub fn new(alloc: Global, variables: u32) -> Result<VariableHeap, NoMemory>
         requires { variables < 2 ^ 31 }
         ensures heap { IfOk result IsHeap }
-        ensures count { IfOk result (λ heap. variable_count heap ≡ variables) }
+        ensures count { IfOk result (λ heap. heap_variables heap ≡ variables) }
         ensures all { IfOk result (λ heap. (variable : ℕ) → variable < variables → is_queued heap variable ≡ true) }
     {
         let mut queue = Vec::with_capacity(alloc, variables as usize)?;
@@ -58,7 +58,7 @@ impl VariableHeap {
         ensures others { MatchOption result (self.new ≡ self.old) (λ first. (variable : ℕ) →
             is_queued self.new variable ≡ (is_queued self.old variable && not (variable == first))) }
         ensures fewer { IfSome result (λ _. length self.new.queue.items < length self.old.queue.items) }
-        ensures count { variable_count self.new ≡ variable_count self.old }
+        ensures count { heap_variables self.new ≡ heap_variables self.old }
         ensures heap { IsHeap self.new }
     {
         if self.queue.is_empty() {
@@ -75,9 +75,9 @@ impl VariableHeap {
     /// Puts a variable in, where it is not there. An `Err` says that memory ran out.
     pub fn push(&mut self, variable: u32) -> Result<(), NoMemory>
         requires heap { IsHeap self.old }
-        requires within { variable < variable_count self.old }
+        requires within { variable < heap_variables self.old }
         ensures pushed { OnOk result ((other : ℕ) → is_queued self.new other ≡ (is_queued self.old other || other == variable)) }
-        ensures count { OnOk result (variable_count self.new ≡ variable_count self.old) }
+        ensures count { OnOk result (heap_variables self.new ≡ heap_variables self.old) }
         ensures heap { OnOk result (IsHeap self.new) }
     {
         if self.positions[variable as usize].is_some() {
@@ -92,7 +92,7 @@ impl VariableHeap {
     /// Makes a variable more active.
     pub fn bump(&mut self, variable: u32)
         requires heap { IsHeap self.old }
-        requires within { variable < variable_count self.old }
+        requires within { variable < heap_variables self.old }
         ensures active { IsActive self.old variable (activity_of self.old variable + self.old.increment) self.new }
         ensures heap { IsHeap self.new }
     {
@@ -106,7 +106,7 @@ impl VariableHeap {
     /// Lets later bumps add more, so that what was bumped long ago counts less.
     pub fn grow(&mut self)
         requires { IsHeap self.old }
-        ensures count { variable_count self.new ≡ variable_count self.old }
+        ensures count { heap_variables self.new ≡ heap_variables self.old }
         ensures same { (other : ℕ) → is_queued self.new other ≡ is_queued self.old other }
         ensures heap { IsHeap self.new }
     {
@@ -119,7 +119,7 @@ impl VariableHeap {
     /// Sets the activity of a variable, and scales all where it has passed the limit.
     fn set_activity(&mut self, variable: u32, activity: u64)
         requires heap { IsHeap self.old }
-        requires within { variable < variable_count self.old }
+        requires within { variable < heap_variables self.old }
         requires bounded { activity ≤ 2 * limit }
         ensures active { IsActive self.old variable activity self.new }
         ensures heap { IsHeap self.new }
@@ -135,7 +135,7 @@ impl VariableHeap {
     fn scale(&mut self)
         requires queue { IsQueue self.old }
         requires bounded { AreBounded (2 * limit) self.old }
-        ensures count { variable_count self.new ≡ variable_count self.old }
+        ensures count { heap_variables self.new ≡ heap_variables self.old }
         ensures same { (other : ℕ) → is_queued self.new other ≡ is_queued self.old other }
         ensures activities { (variable : ℕ) → activity_of self.new variable ≡ scaled (activity_of self.old variable) }
         ensures increment { self.new.increment ≡ scaled self.old.increment }
@@ -255,7 +255,7 @@ impl VariableHeap {
         requires last { slice_get self.old.queue.items (length self.old.queue.items - 1) ≡ Some last }
         ensures fewer { length self.new.queue.items + 1 ≡ length self.old.queue.items }
         ensures dropped { (variable : ℕ) → is_queued self.new variable ≡ (is_queued self.old variable && not (variable == last)) }
-        ensures count { variable_count self.new ≡ variable_count self.old }
+        ensures count { heap_variables self.new ≡ heap_variables self.old }
         ensures activities { self.new.activities ≡ self.old.activities }
         ensures increment { self.new.increment ≡ self.old.increment }
         ensures queue { IsQueue self.new }
@@ -268,11 +268,11 @@ impl VariableHeap {
     /// Puts a variable behind the last one. An `Err` says that memory ran out.
     fn add_last(&mut self, variable: u32) -> Result<(), NoMemory>
         requires queue { IsQueue self.old }
-        requires within { variable < variable_count self.old }
+        requires within { variable < heap_variables self.old }
         requires new { is_queued self.old variable ≡ false }
         ensures added { OnOk result ((other : ℕ) → is_queued self.new other ≡ (is_queued self.old other || other == variable)) }
         ensures longer { OnOk result (length self.new.queue.items ≡ length self.old.queue.items + 1) }
-        ensures count { OnOk result (variable_count self.new ≡ variable_count self.old) }
+        ensures count { OnOk result (heap_variables self.new ≡ heap_variables self.old) }
         ensures activities { self.new.activities ≡ self.old.activities }
         ensures increment { self.new.increment ≡ self.old.increment }
         ensures queue { OnOk result (IsQueue self.new) }

@@ -3,7 +3,7 @@
 ghost use Rattle.std.specs.Prelude.{◌≡◌, ◌+◌, ◌<◌, ◌^◌, false, cond, All, length, IfOk, OnOk};
 ghost use Rattle.sat_trail.specs.States.{IsSound, IsFalseAt};
 ghost use Rattle.sat_core.specs.internal.Levels.{AreQuietBelow};
-ghost use Rattle.sat_core.specs.internal.Lessons.{IsLesson, HasLearnt, IsRefuted};
+ghost use Rattle.sat_core.specs.internal.Lessons.{IsLesson, HasLearnt, IsRefutingLog};
 ghost use Rattle.sat_core.specs.internal.ConflictWalks.{AreNoMarks};
 ghost use Rattle.sat_core.specs.internal.Decisions.{AreDecisions};
 
@@ -84,7 +84,7 @@ pub fn refute(
     requires next { journal.next + 1 < 2 ^ 64 }
     requires numbers { length journal.shelf.numbers.items ≡ length trail.now.clauses }
     requires uses { length journal.shelf.uses.items ≡ length trail.now.clauses }
-    ensures { IfOk result (IsRefuted trail.now.clauses journal) }
+    ensures { IfOk result (IsRefutingLog trail.now.clauses journal) }
 {
     let lesson = lesson_of(alloc, trail, walk, conflict)?;
     journal.add(alloc, lesson.clause, lesson.hints.as_slice())?;

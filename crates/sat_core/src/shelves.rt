@@ -5,7 +5,7 @@ ghost use Rattle.clause_core.specs.Literals.{Lit};
 ghost use Rattle.clause_core.specs.Clauses.{IsOver};
 ghost use Rattle.sat_trail.specs.States.{TrailState, IsSound};
 ghost use Rattle.sat_core.specs.internal.Hints.{AreHints};
-ghost use Rattle.sat_core.specs.internal.Shelves.{log_hints, AreFirst, AreKept};
+ghost use Rattle.sat_core.specs.internal.Shelves.{log_hints, AreFirst, AreShelved};
 
 use clause_core::{Clause, clause_of};
 use sat_trail::Trail;
@@ -108,7 +108,7 @@ impl Shelf {
         requires clauses { All (IsOver trail.now.variables) trail.now.clauses }
         requires numbers { length self.now.numbers.items ≡ length trail.now.clauses }
         requires uses { length self.now.uses.items ≡ length trail.now.clauses }
-        ensures kept { IfOk result (λ kept. AreKept formula.now trail.now.clauses self.now.numbers.items (length trail.now.clauses)
+        ensures kept { IfOk result (λ kept. AreShelved formula.now trail.now.clauses self.now.numbers.items (length trail.now.clauses)
             kept.clauses.items kept.shelf) }
         ensures over { IfOk result (λ kept. All (IsOver trail.now.variables) kept.clauses.items) }
     {
@@ -139,8 +139,8 @@ impl Shelf {
         requires clauses { All (IsOver trail.now.variables) trail.now.clauses }
         requires over { All (IsOver trail.now.variables) kept.old.clauses.items }
         ensures kept { (formula : List (List Lit)) →
-            AreKept formula trail.now.clauses self.now.numbers.items place kept.old.clauses.items kept.old.shelf →
-            OnOk result (AreKept formula trail.now.clauses self.now.numbers.items (place + 1) kept.new.clauses.items kept.new.shelf) }
+            AreShelved formula trail.now.clauses self.now.numbers.items place kept.old.clauses.items kept.old.shelf →
+            OnOk result (AreShelved formula trail.now.clauses self.now.numbers.items (place + 1) kept.new.clauses.items kept.new.shelf) }
         ensures over { OnOk result (All (IsOver trail.now.variables) kept.new.clauses.items) }
     {
         if self.uses[place] < from {

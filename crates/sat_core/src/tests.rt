@@ -1,6 +1,6 @@
 ghost use Rattle.std.specs.Prelude.{◌≡◌, ◌<◌, IfOk};
 ghost use Rattle.sat_core.specs.Answers.{IsRightAnswer};
-ghost use Rattle.sat_core.specs.internal.Heaps.{IsHeap, variable_count};
+ghost use Rattle.sat_core.specs.internal.Heaps.{IsHeap, heap_variables};
 
 use crate::heap::VariableHeap;
 use crate::restarts::Restarts;
@@ -279,8 +279,8 @@ fn random_formula(alloc: Global, variables: u32, seed: u64) -> Result<Cnf, Fail>
 /// Makes a variable more active so many times, each time by more.
 fn bump_growing(heap: &mut VariableHeap, variable: u32, times: u32)
     requires heap { IsHeap heap.old }
-    requires within { variable < variable_count heap.old }
-    ensures count { variable_count heap.new ≡ variable_count heap.old }
+    requires within { variable < heap_variables heap.old }
+    ensures count { heap_variables heap.new ≡ heap_variables heap.old }
     ensures heap { IsHeap heap.new }
 {
     for _ in 0..times {

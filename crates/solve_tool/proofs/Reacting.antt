@@ -17,7 +17,7 @@ use Rattle.solve_tool.specs.declared.request.Request.{Request}
 use Rattle.solve_tool.specs.declared.request.TheConstants.{MOST_BYTES}
 use Rattle.solve_tool.specs.Ends.{HasFailedFor, IsSolverReply, SolverEnds, answered, cut_off}
 use Rattle.solve_tool.specs.Numbers.{is_solved}
-use Rattle.solve_tool.specs.Outcome.{proper_clauses, TellsUnsatisfiable, IsSolution, IsReplyOn, SolverOutcome, usage, source_failed, too_long, on_bytes}
+use Rattle.solve_tool.specs.Outcome.{proper_clauses, TellsUnsatisfiable, IsRightReply, IsReplyOn, SolverOutcome, usage, source_failed, too_long, on_bytes}
 use Rattle.solve_tool.specs.Promise.{IsSolved}
 use Rattle.solve_tool.specs.Replies.{refusal_reply}
 use Rattle.solve_tool.specs.Requests.{request_of}
@@ -69,7 +69,7 @@ module _ {E : Type 0} (words : List (List ℕ)) (source : Effect) (r : Result Re
 
 -- a reply to bytes does not say that the source failed
 solution_counts : (source : Effect) (request : Request) (variables : ℕ) (clauses : List (List Lit)) (status : Status) (text : List ℕ) →
-    IsSolution request variables clauses status text → NeverFailed source → HasFailedFor status source
+    IsRightReply request variables clauses status text → NeverFailed source → HasFailedFor status source
 solution_counts source request variables clauses Satisfiable text h count = count
 solution_counts source request variables clauses Unsatisfiable text h count = count
 solution_counts source request variables clauses Unknown text h count = count
@@ -125,7 +125,7 @@ unsatisfiable_says false variables clauses text h e = let never : [] ≡ codes "
 unsatisfiable_says true variables clauses text h e = refutation_says text variables clauses h e
 
 solution_says : (request : Request) (variables : ℕ) (clauses : List (List Lit)) (status : Status) (text : List ℕ) →
-    IsSolution request variables clauses status text → text ≢ []
+    IsRightReply request variables clauses status text → text ≢ []
 solution_says request variables clauses Satisfiable text h e = let never = sym e ∙ h.2 in absurd cc
 solution_says request variables clauses Unsatisfiable text h e = unsatisfiable_says request.log variables (proper_clauses clauses) text h.1 e
 solution_says request variables clauses Unknown text h e = let never = sym e ∙ h.2 in absurd cc
@@ -185,7 +185,7 @@ record IsSolutionOf (words : List (List ℕ)) (told : Option (List ℕ)) (status
   variables : ℕ
   clauses : List (List Lit)
   spelled : cnf_answer bytes ≡ is_cnf variables clauses
-  solution : IsSolution request variables clauses status text
+  solution : IsRightReply request variables clauses status text
 
 never_solved : {X : Type 0} (refusal : Refusal) (reply : Reply) → reply ≡ refusal_reply refusal → is_solved reply.status ≡ true → X
 never_solved {X} refusal reply is solved = by_refusal refusal (sym (ap (λ (r : Reply). is_solved r.status) is) ∙ solved)
@@ -236,7 +236,7 @@ out_promises words source out reply result h solved (whole is sent) answer =
       clauses = s.clauses;
       spelled = s.spelled;
       text = reply.text;
-      solution = subst (λ (status : Status). IsSolution s.request s.variables s.clauses status reply.text) (sym is) s.solution;
+      solution = subst (λ (status : Status). IsRightReply s.request s.variables s.clauses status reply.text) (sym is) s.solution;
       added = sent.added;
     }
 out_promises words source out reply result h solved (in_part is part) answer =

@@ -12,7 +12,7 @@ use Rattle.sat_core.specs.Answers.{AreSatisfying, AreRefuting}
 use Rattle.solve_tool.specs.declared.status.Status.{Status}
 use Rattle.solve_tool.specs.declared.reply.Reply.{Reply}
 use Rattle.solve_tool.specs.declared.request.Request.{Request}
-use Rattle.solve_tool.specs.Outcome.{proper_clauses, IsSolution}
+use Rattle.solve_tool.specs.Outcome.{proper_clauses, IsRightReply}
 use Rattle.solve_tool.specs.Values.{satisfiable_text}
 use Rattle.solve_tool.specs.internal.Solutions.{IsSatisfiableReply, IsUnsatisfiableReply}
 use Rattle.solve_tool.proofs.Proper.{meets_rest, unmet_rest}
@@ -21,7 +21,7 @@ use Rattle.refutation_text.proofs.Readable.{are_readable}
 module _ {E : Type 0} (request : Request) (variables : ℕ) (clauses proper : List (List Lit)) (same : proper ≡ proper_clauses clauses)
     (r : Result Reply E) where
   abbrev Solves : Reply → Type 0
-  Solves reply = IsSolution request variables clauses reply.status reply.text
+  Solves reply = IsRightReply request variables clauses reply.status reply.text
 
   pub satisfiable_solves : (truths lent : List Bool) → lent ≡ truths → AreSatisfying variables proper truths →
       IfOk r (IsSatisfiableReply lent) → IfOk r Solves
@@ -36,7 +36,7 @@ module _ {E : Type 0} (request : Request) (variables : ℕ) (clauses proper : Li
       by_reply : (r : Result Reply E) → IfOk r (IsSatisfiableReply lent) → IfOk r Solves
       by_reply (Err e) h = tt
       by_reply (Ok reply) h =
-          subst (λ (s : Status). IsSolution request variables clauses s reply.text) (sym h.status)
+          subst (λ (s : Status). IsRightReply request variables clauses s reply.text) (sym h.status)
           (truths, satisfying, h.text ∙ ap satisfiable_text lend)
 
   pub unsatisfiable_solves : (steps : List Step) → AreRefuting variables proper steps →
@@ -50,7 +50,7 @@ module _ {E : Type 0} (request : Request) (variables : ℕ) (clauses proper : Li
           subst (λ (cs : List (List Lit)). IsUnsatisfiableReply request.log variables cs reply) same h in
           let accepted : AreRefuting variables (proper_clauses clauses) steps =
           subst (λ (cs : List (List Lit)). AreRefuting variables cs steps) same refuting in
-          subst (λ (s : Status). IsSolution request variables clauses s reply.text) (sym h.status)
+          subst (λ (s : Status). IsRightReply request variables clauses s reply.text) (sym h.status)
           (unmet_rest clauses (accepted_refutes variables (proper_clauses clauses) steps accepted.accepted), on_proper.tells)
 
 -- the text of a solver's log spells a refutation

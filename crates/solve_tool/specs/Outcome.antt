@@ -27,18 +27,18 @@ TellsUnsatisfiable true variables clauses text = SpellsRefutation text variables
 
 -- The status and the text are right for a formula. Where it is satisfiable, the text is that of an assignment that meets all
 -- clauses; where it is not, no assignment does; where nothing is known, as many clauses as the budget were learnt, which are a trace.
-abbrev pub IsSolution : Request → ℕ → List (List Lit) → Status → List ℕ → Type 0
-IsSolution request variables clauses Satisfiable text =
+abbrev pub IsRightReply : Request → ℕ → List (List Lit) → Status → List ℕ → Type 0
+IsRightReply request variables clauses Satisfiable text =
     (truths : List Bool) × AreSatisfying variables clauses truths × (text ≡ satisfiable_text truths)
-IsSolution request variables clauses Unsatisfiable text =
+IsRightReply request variables clauses Unsatisfiable text =
     AreUnsatisfiable clauses × TellsUnsatisfiable request.log variables (proper_clauses clauses) text
-IsSolution request variables clauses Unknown text =
+IsRightReply request variables clauses Unknown text =
     (trace : List (List Lit)) × IsWholeTrace variables (proper_clauses clauses) request.budget trace × (text ≡ codes "s UNKNOWN\n")
-IsSolution request variables clauses _ text = ⊥
+IsRightReply request variables clauses _ text = ⊥
 
 -- the reply is right for what a text is
 abbrev pub IsReplyOn : Request → CnfAnswer → Reply → Type 0
-IsReplyOn request (is_cnf variables clauses) reply = IsSolution request variables clauses reply.status reply.text
+IsReplyOn request (is_cnf variables clauses) reply = IsRightReply request variables clauses reply.status reply.text
 IsReplyOn request (form_at line) reply = reply ≡ refusal_reply (MalformedAt line)
 IsReplyOn request too_many_variables reply = reply ≡ refusal_reply (TooManyVariables MOST_VARIABLES)
 IsReplyOn request too_many_clauses reply = reply ≡ refusal_reply (TooManyClauses MOST_CLAUSES)

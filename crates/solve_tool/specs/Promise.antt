@@ -7,7 +7,7 @@ use Rattle.tsl_io.specs.Effects.{Effect, AreTold}
 use Rattle.solve_tool.specs.declared.status.Status.{Status}
 use Rattle.solve_tool.specs.declared.request.Request.{Request}
 use Rattle.solve_tool.specs.Requests.{request_of}
-use Rattle.solve_tool.specs.Outcome.{IsSolution}
+use Rattle.solve_tool.specs.Outcome.{IsRightReply}
 
 -- The words are a request, the bytes of the source spell a formula, and the text that was added is a solution of it by the status.
 pub record IsSolved (words : List (List ℕ)) (source out : Effect) (result : Status) : Type 0 where
@@ -19,5 +19,5 @@ pub record IsSolved (words : List (List ℕ)) (source out : Effect) (result : St
   pub clauses : List (List Lit)
   pub spelled : cnf_answer bytes ≡ is_cnf variables clauses
   pub text : List ℕ
-  pub solution : IsSolution request variables clauses result text
+  pub solution : IsRightReply request variables clauses result text
   pub added : out.new ≡ with_added text out.old

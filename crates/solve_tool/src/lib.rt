@@ -8,7 +8,7 @@
 //!    answers, whose text goes to the first sink (`specs/Numbers.antt`).
 //! 2. `Request` (`src/request.rt`): how many clauses may be learnt, and whether a log is wanted.
 //!    `request_of` gives that of the words (`specs/Requests.antt`).
-//! 3. `IsSolution` (`specs/Outcome.antt`): that a status and a text are right for a formula. Where it
+//! 3. `IsRightReply` (`specs/Outcome.antt`): that a status and a text are right for a formula. Where it
 //!    is satisfiable, the text is that of an assignment that meets all clauses (`specs/Values.antt`), which
 //!    tells the true literal of each variable (`assignments_are_told`);
 //!    where it is not, no assignment meets all clauses, and where a log was asked for, the text spells

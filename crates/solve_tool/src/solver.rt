@@ -5,7 +5,7 @@ ghost use Rattle.refutation_check.specs.CnfText.{cnf_answer};
 ghost use Rattle.sat_core.specs.Answers.{AreRefuting};
 ghost use Rattle.refutation_check.specs.declared.dimacs.TheConstants.{MOST_VARIABLES, MOST_CLAUSES};
 ghost use Rattle.refutation_text.specs.Parted.{SpellsRefutation};
-ghost use Rattle.solve_tool.specs.Outcome.{proper_clauses, IsSolution, IsReplyOn};
+ghost use Rattle.solve_tool.specs.Outcome.{proper_clauses, IsRightReply, IsReplyOn};
 ghost use Rattle.solve_tool.specs.internal.Solutions.{IsSatisfiableReply, IsUnsatisfiableReply, IsUnknownReply};
 
 use crate::refusal::Refusal;
@@ -48,7 +48,7 @@ fn reply_to_formula(alloc: Global, request: Request, cnf: Cnf) -> Result<Reply, 
     requires few_clauses { length cnf.clauses ≤ MOST_CLAUSES }
     requires some { 1 ≤ request.budget }
     requires few { request.budget ≤ 4000000000 }
-    ensures { IfOk result (λ reply. IsSolution request cnf.variables cnf.clauses reply.status reply.text) }
+    ensures { IfOk result (λ reply. IsRightReply request cnf.variables cnf.clauses reply.status reply.text) }
 {
     let cnf = without_tautologies(cnf);
     match solve(alloc, &cnf, request.budget)? {

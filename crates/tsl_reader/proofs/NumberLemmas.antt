@@ -19,7 +19,7 @@ use Rattle.tsl_terms.specs.TermTree.{TermTree, TermTrees, no_terms, more_terms, 
 use Rattle.tsl_reader.specs.Syntax.{TermSyntax, TermsSyntax, more_terms as another_term, FormulaSyntax, FormulasSyntax}
 use Rattle.tsl_reader.specs.Syntax.{more_formulas as another_formula, SectionSyntax}
 use Rattle.tsl_reader.specs.SyntaxView.{section_syntax}
-use Rattle.tsl_reader.specs.Numbering.{numbered_after, formulas_if}
+use Rattle.tsl_reader.specs.Numbering.{formulas_after, formulas_if}
 use Rattle.tsl_reader.specs.Naming.{numbered_term, numbered_terms, numbered_formula, numbered_members, numbered_list, same_part}
 use Rattle.tsl_reader.specs.Naming.{formulas_of_part}
 
@@ -68,9 +68,9 @@ members_all front all list h is = sym h ∙ ap Some (formulas_front_none front �
 -- the formulas of sections that go to one list
 
 numbered_append : (names : List Name) (fs gs : List FormulaSyntax) →
-    numbered_list names (fs ++ gs) ≡ option_and_then (λ trees. numbered_after trees (numbered_list names gs)) (numbered_list names fs)
+    numbered_list names (fs ++ gs) ≡ option_and_then (λ trees. formulas_after trees (numbered_list names gs)) (numbered_list names fs)
 numbered_append names [] gs = by (numbered_list names gs) where
-  by : (found : Option (List FormulaTree)) → found ≡ numbered_after [] found
+  by : (found : Option (List FormulaTree)) → found ≡ formulas_after [] found
   by None = refl
   by (Some trees) = refl
 numbered_append names (f ∷ fs) gs =
@@ -79,8 +79,8 @@ numbered_append names (f ∷ fs) gs =
     ∙ by (numbered_formula names f) (numbered_list names fs) (numbered_list names gs)
   where
     by : (first : Option FormulaTree) (left right : Option (List FormulaTree)) →
-        option_and_then (λ tree. option_map (λ trees. tree ∷ trees) (option_and_then (λ trees. numbered_after trees right) left)) first
-        ≡ option_and_then (λ trees. numbered_after trees right) (option_and_then (λ tree. option_map (λ trees. tree ∷ trees) left) first)
+        option_and_then (λ tree. option_map (λ trees. tree ∷ trees) (option_and_then (λ trees. formulas_after trees right) left)) first
+        ≡ option_and_then (λ trees. formulas_after trees right) (option_and_then (λ tree. option_map (λ trees. tree ∷ trees) left) first)
     by None left right = refl
     by (Some tree) None right = refl
     by (Some tree) (Some trees) None = refl
@@ -104,8 +104,8 @@ next_section part ss i d within =
     ∙ formulas_split part (section_syntax (get_or ss i d)) (map section_syntax (drop (i + 1) ss))
 
 after_first : (front : List FormulaTree) (left right : Option (List FormulaTree)) (all : List FormulaTree) →
-    numbered_after front left ≡ Some all →
-    numbered_after all right ≡ numbered_after front (option_and_then (λ trees. numbered_after trees right) left)
+    formulas_after front left ≡ Some all →
+    formulas_after all right ≡ formulas_after front (option_and_then (λ trees. formulas_after trees right) left)
 after_first front None right all h = cc
 after_first front (Some trees) None all h = refl
 after_first front (Some trees) (Some more) all h =
@@ -113,34 +113,34 @@ after_first front (Some trees) (Some more) all h =
     ap (λ ts. Some (ts ++ more)) (sym same) ∙ ap Some (append_assoc front trees more)
 
 some_first : (front : List FormulaTree) (left right : Option (List FormulaTree)) →
-    is_some (numbered_after front (option_and_then (λ trees. numbered_after trees right) left)) ≡ true → is_some left ≡ true
+    is_some (formulas_after front (option_and_then (λ trees. formulas_after trees right) left)) ≡ true → is_some left ≡ true
 some_first front None right h = h
 some_first front (Some trees) right h = refl
 
 -- a section's formulas have their numbers
 pub section_some : (names : List Name) (part : Part) (ss : List ReadSection) (i : ℕ) (d : ReadSection) (front : List FormulaTree)
     (all : Option (List FormulaTree)) → i < length ss →
-    numbered_after front (numbered_list names (formulas_of_part part (map section_syntax (drop i ss)))) ≡ all → is_some all ≡ true →
+    formulas_after front (numbered_list names (formulas_of_part part (map section_syntax (drop i ss)))) ≡ all → is_some all ≡ true →
     is_some (numbered_list names (formulas_if part (section_syntax (get_or ss i d)))) ≡ true
 section_some names part ss i d front all within h k =
     let first = formulas_if part (section_syntax (get_or ss i d)) in
     let rest = formulas_of_part part (map section_syntax (drop (i + 1) ss)) in
     some_first front (numbered_list names first) (numbered_list names rest)
-    (ap (λ found. is_some (numbered_after front found)) (sym (numbered_append names first rest)
+    (ap (λ found. is_some (formulas_after front found)) (sym (numbered_append names first rest)
     ∙ ap (numbered_list names) (sym (next_section part ss i d within)))
     ∙ ap is_some h ∙ k)
 
 -- one section more
 pub section_more : (names : List Name) (part : Part) (ss : List ReadSection) (i : ℕ) (d : ReadSection) (front more : List FormulaTree)
     (all : Option (List FormulaTree)) → i < length ss →
-    numbered_after front (numbered_list names (formulas_if part (section_syntax (get_or ss i d)))) ≡ Some more →
-    numbered_after front (numbered_list names (formulas_of_part part (map section_syntax (drop i ss)))) ≡ all →
-    numbered_after more (numbered_list names (formulas_of_part part (map section_syntax (drop (i + 1) ss)))) ≡ all
+    formulas_after front (numbered_list names (formulas_if part (section_syntax (get_or ss i d)))) ≡ Some more →
+    formulas_after front (numbered_list names (formulas_of_part part (map section_syntax (drop i ss)))) ≡ all →
+    formulas_after more (numbered_list names (formulas_of_part part (map section_syntax (drop (i + 1) ss)))) ≡ all
 section_more names part ss i d front more all within e h =
     let first = formulas_if part (section_syntax (get_or ss i d)) in
     let rest = formulas_of_part part (map section_syntax (drop (i + 1) ss)) in
     after_first front (numbered_list names first) (numbered_list names rest) more e
-    ∙ ap (numbered_after front) (sym (numbered_append names first rest) ∙ ap (numbered_list names) (sym (next_section part ss i d within)))
+    ∙ ap (formulas_after front) (sym (numbered_append names first rest) ∙ ap (numbered_list names) (sym (next_section part ss i d within)))
     ∙ h
 
 members_in_of : (fs : List FormulaTree) → members_in (formulas_of fs) ≡ fs
@@ -150,9 +150,9 @@ members_in_of (f ∷ fs) = ap (λ gs. f ∷ gs) (members_in_of fs)
 -- the sections are all
 pub sections_all : (names : List Name) (part : Part) (ss : List ReadSection) (i : ℕ) (front : List FormulaTree)
     (all : Option (List FormulaTree)) (list : FormulaTrees) → length ss ≤ i →
-    numbered_after front (numbered_list names (formulas_of_part part (map section_syntax (drop i ss)))) ≡ all → list ≡ formulas_of front →
+    formulas_after front (numbered_list names (formulas_of_part part (map section_syntax (drop i ss)))) ≡ all → list ≡ formulas_of front →
     all ≡ Some (members_in list)
 sections_all names part ss i front all list past h is =
-    sym (ap (λ rs. numbered_after front (numbered_list names (formulas_of_part part (map section_syntax rs)))) (sym
+    sym (ap (λ rs. formulas_after front (numbered_list names (formulas_of_part part (map section_syntax rs)))) (sym
     (drop_all i ss past)) ∙ h)
     ∙ ap Some (append-nil front ∙ sym (members_in_of front) ∙ ap members_in (sym is))

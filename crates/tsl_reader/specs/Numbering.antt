@@ -10,8 +10,8 @@ use Rattle.tsl_reader.specs.Syntax.{FormulaSyntax, SectionSyntax}
 use Rattle.tsl_reader.specs.Naming.{same_part, numbered_list}
 
 -- these formulas, and then those that get their numbers
-abbrev pub numbered_after : List FormulaTree → Option (List FormulaTree) → Option (List FormulaTree)
-numbered_after front rest = option_map (λ trees. front ++ trees) rest
+abbrev pub formulas_after : List FormulaTree → Option (List FormulaTree) → Option (List FormulaTree)
+formulas_after front rest = option_map (λ trees. front ++ trees) rest
 
 -- the formulas of a section, where they go to this list
 abbrev pub formulas_if : Part → SectionSyntax → List FormulaSyntax

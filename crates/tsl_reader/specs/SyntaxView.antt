@@ -102,8 +102,8 @@ HasFaultOfMember member (Deep left) = member ≡ Some (Err (deep left))
 HasFaultOfMember member NoMemory = Unit {0}
 
 -- the reserved words of one letter
-abbrev pub letter_of : List ℕ → Option Word
-letter_of text =
+abbrev pub letter_operator : List ℕ → Option Word
+letter_operator text =
     if bytes_eq text (codes "X") then Some X
     else (if bytes_eq text (codes "F") then Some F
     else (if bytes_eq text (codes "G") then Some G

@@ -10,7 +10,7 @@ ghost use Rattle.tsl_reader.specs.Naming.{numbered_term, numbered_terms, numbere
 ghost use Rattle.tsl_reader.specs.Naming.{numbered_members, numbered_list, same_part};
 ghost use Rattle.tsl_reader.specs.Naming.{formulas_of_part};
 ghost use Rattle.tsl_reader.specs.Syntax.{bare};
-ghost use Rattle.tsl_reader.specs.Numbering.{numbered_after, formulas_if};
+ghost use Rattle.tsl_reader.specs.Numbering.{formulas_after, formulas_if};
 ghost use Rattle.tsl_reader.specs.SyntaxView.{term_syntax, terms_syntax, formula_syntax};
 ghost use Rattle.tsl_reader.specs.SyntaxView.{formulas_syntax, section_syntax};
 
@@ -197,7 +197,7 @@ fn add_formulas(
 ) -> Result<(), NoMemory>
     requires { IsTrue (is_some (numbered_list names.now (map formula_syntax formulas.now))) }
     ensures { OnOk result
-        (numbered_after (map formula_tree trees.old.items)
+        (formulas_after (map formula_tree trees.old.items)
         (numbered_list names.now (map formula_syntax formulas.now))
         ≡ Some (map formula_tree trees.new.items)) }
 {
@@ -233,7 +233,7 @@ fn add_section(
     requires { IsTrue
         (is_some (numbered_list names.now (formulas_if part (section_syntax section.now)))) }
     ensures { OnOk result
-        (numbered_after (map formula_tree trees.old.items)
+        (formulas_after (map formula_tree trees.old.items)
         (numbered_list names.now (formulas_if part (section_syntax section.now)))
         ≡ Some (map formula_tree trees.new.items)) }
 {

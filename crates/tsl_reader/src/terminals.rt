@@ -4,7 +4,7 @@ ghost use Rattle.std.specs.Prelude.{◌≡◌, ◌≤◌, length, IfOk, All};
 ghost use Rattle.tsl_text.specs.Division.{IsTokenOf};
 ghost use Rattle.tsl_reader.specs.Syntax.{word_of, free_unless};
 ghost use Rattle.tsl_reader.specs.Spells.{terminals, terminal_at};
-ghost use Rattle.tsl_reader.specs.SyntaxView.{terminal_view, terminals_view, letter_of};
+ghost use Rattle.tsl_reader.specs.SyntaxView.{terminal_view, terminals_view, letter_operator};
 
 use crate::syntax::Word;
 use sequence::NoMemory;
@@ -45,13 +45,13 @@ fn word_of(text: &[u8]) -> Option<Word>
     } else if text == b"false".as_slice() {
         Some(Word::False)
     } else {
-        letter_of(text)
+        letter_operator(text)
     }
 }
 
 /// The reserved word with these bytes among those of one letter.
-fn letter_of(text: &[u8]) -> Option<Word>
-    ensures { result ≡ letter_of text.now }
+fn letter_operator(text: &[u8]) -> Option<Word>
+    ensures { result ≡ letter_operator text.now }
 {
     if text == b"X".as_slice() {
         Some(Word::X)

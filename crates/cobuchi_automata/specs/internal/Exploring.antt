@@ -16,7 +16,8 @@ use Rattle.cobuchi_automata.specs.declared.states.State.{State}
 use Rattle.cobuchi_automata.specs.Edges.{edge_trees}
 use Rattle.cobuchi_automata.specs.Counters.{passes_last, advanced}
 use Rattle.cobuchi_automata.specs.Automata.{StateTree, EdgeTree, untils_of, start_state, IsReached, Leads, IsOfChoice}
-use Rattle.cobuchi_automata.specs.Refusals.{most_automaton_states, most_automaton_edges, StandsOnce}
+use Rattle.cobuchi_automata.specs.Refusals.{most_automaton_states, most_automaton_edges}
+use Rattle.sequence.specs.Once.{StandOnce}
 
 -- a state over numbers
 pub record StateKey : Type 0 where
@@ -110,18 +111,18 @@ pub record IsExplored (f : LtlTree) (names : List LtlTree) (untils : List ℕ) (
   pub within : expanded ≤ length keys
   pub start : slice_get (states_named names keys) 0 ≡ Some (start_state f)
   pub reached : AllByRecursion (IsReached f) (states_named names keys)
-  pub once : StandsOnce (states_named names keys)
+  pub once : StandOnce (states_named names keys)
   pub leads : (i : ℕ) (s : StateTree) → i < expanded → slice_get (states_named names keys) i ≡ Some s
       → (cs : List ChoiceTree) × (choices s.set ≡ Some cs)
       × AllByRecursion (Leads (untils_of f) (states_named names keys) edges i s) cs
   pub of_choices : AllByRecursion (IsOfChoice (untils_of f) (states_named names keys)) edges
-  pub edges_once : StandsOnce edges
+  pub edges_once : StandOnce edges
 
 -- the same of a plan and of what is found as they lie in memory
 abbrev pub IsPlanInMemory : Plan → Type 0
 IsPlanInMemory plan = IsPlan (ltl_tree plan.formula.now) (lent_trees plan.names.items) plan.untils.items
 
-pub record IsFound (plan : Plan) (expanded : ℕ) (found : Found) : Type 0 where
+pub record IsFoundSoFar (plan : Plan) (expanded : ℕ) (found : Found) : Type 0 where
   pub explored : IsExplored (ltl_tree plan.formula.now) (lent_trees plan.names.items) plan.untils.items expanded
       (state_keys found.states.keys) (edge_trees found.edges.keys)
   pub few_states : length found.states.keys ≤ most_automaton_states

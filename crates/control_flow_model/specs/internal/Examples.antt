@@ -5,12 +5,12 @@ use Rattle.letter_space.specs.SpaceTree.{SpaceTree}
 use Rattle.machines.specs.MachineTree.{EntryTree}
 
 -- a predicate of a signal
-abbrev pub probe_of : ℕ → ℕ → ProbeTree
-probe_of predicate of = record { predicate = predicate; arguments = more_terms (signal of) no_terms }
+abbrev pub probe_on : ℕ → ℕ → ProbeTree
+probe_on predicate of = record { predicate = predicate; arguments = more_terms (signal of) no_terms }
 
 abbrev pub example_space : SpaceTree
 example_space = record {
-  predicates = probe_of 3 1 ∷ probe_of 4 2 ∷ [];
+  predicates = probe_on 3 1 ∷ probe_on 4 2 ∷ [];
   controlled = record { signal = 2; choices = signal 1 ∷ signal 2 ∷ []; first = 2 } ∷ [];
 }
 

@@ -229,26 +229,26 @@ short p = short_after (first_name p)
 
 -- an argument, where this reader reads those in brackets
 abbrev pub argument_phrase : LineReader PhraseTree → LineReader PhraseTree
-argument_phrase in_brackets p = if begins is_open p.bytes then in_brackets p else short p
+argument_phrase phrase_in_brackets p = if begins is_open p.bytes then phrase_in_brackets p else short p
 
 abbrev pub spaced_argument : LineReader PhraseTree → LineReader PhraseTree
-spaced_argument in_brackets = prefixed (codes " ") (argument_phrase in_brackets)
+spaced_argument phrase_in_brackets = prefixed (codes " ") (argument_phrase phrase_in_brackets)
 
 abbrev pub arguments : LineReader PhraseTree → LineReader (List PhraseTree)
-arguments in_brackets = repeat argument_follows (spaced_argument in_brackets)
+arguments phrase_in_brackets = repeat argument_follows (spaced_argument phrase_in_brackets)
 
 abbrev pub phrase_of : Name → List PhraseTree → PhraseTree
 phrase_of name [] = bare name
 phrase_of name (p ∷ ps) = applied name (phrases_of (p ∷ ps))
 
 abbrev pub phrase_after : LineReader PhraseTree → Option (Name × Place) → Option (PhraseTree × Place)
-phrase_after in_brackets None = None
-phrase_after in_brackets (Some (name, p)) =
-    constant_or name (past (codes "()") p) (mapped (phrase_of name) (arguments in_brackets p))
+phrase_after phrase_in_brackets None = None
+phrase_after phrase_in_brackets (Some (name, p)) =
+    constant_or name (past (codes "()") p) (mapped (phrase_of name) (arguments phrase_in_brackets p))
 
 -- a term or a test
 abbrev pub phrase_with : LineReader PhraseTree → LineReader PhraseTree
-phrase_with in_brackets p = phrase_after in_brackets (first_name p)
+phrase_with phrase_in_brackets p = phrase_after phrase_in_brackets (first_name p)
 
 -- a phrase that has arguments
 abbrev pub has_arguments : PhraseTree → Bool
@@ -260,12 +260,12 @@ only_applied None = None
 only_applied (Some (phrase, p)) = if has_arguments phrase then keep_before phrase (past (codes ")") p) else None
 
 -- a phrase with arguments in brackets, where so many levels of brackets are left
-unfoldable pub in_brackets : ℕ → LineReader PhraseTree
-in_brackets zero p = None
-in_brackets (suc room) p = only_applied (from (past (codes "(") p) (phrase_with (in_brackets room)))
+unfoldable pub phrase_in_brackets : ℕ → LineReader PhraseTree
+phrase_in_brackets zero p = None
+phrase_in_brackets (suc room) p = only_applied (from (past (codes "(") p) (phrase_with (phrase_in_brackets room)))
 
 abbrev pub phrase : LineReader PhraseTree
-phrase = phrase_with (in_brackets deepest)
+phrase = phrase_with (phrase_in_brackets deepest)
 
 -- ---- lines
 

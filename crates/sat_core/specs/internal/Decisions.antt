@@ -6,7 +6,7 @@ use Rattle.sat_trail.specs.declared.entries.Entry.{Entry}
 use Rattle.sat_trail.specs.Entries.{literals_of, place_of}
 use Rattle.sat_trail.specs.States.{TrailState, IsSound, decided}
 use Rattle.sat_core.specs.declared.choices.Decisions.{Decisions}
-use Rattle.sat_core.specs.internal.Heaps.{IsHeap, variable_count, is_queued}
+use Rattle.sat_core.specs.internal.Heaps.{IsHeap, heap_variables, is_queued}
 
 -- all of the first variables are set
 abbrev pub AreSet : List Entry → ℕ → Type 0
@@ -20,7 +20,7 @@ pub record IsUnset (entries : List Entry) (variables index : ℕ) : Type 0 where
 -- each of the variables has an activity and a value to be decided to, and is in the heap while it is not set
 pub record AreDecisions (variables : ℕ) (entries : List Entry) (d : Decisions) : Type 0 where
   pub heap : IsHeap d.heap
-  pub one_activity_each : variable_count d.heap ≡ variables
+  pub one_activity_each : heap_variables d.heap ≡ variables
   pub one_value_each : length d.phases.items ≡ variables
   pub queued : (index : ℕ) → index < variables → place_of entries index ≡ None → is_queued d.heap index ≡ true
 

@@ -6,12 +6,12 @@ use Rattle.sat_core.specs.declared.answers.Answer.{Answer}
 use Rattle.sat_core.specs.declared.answers.Answer.TheVariants.{Sat, Unsat, Spent}
 use Rattle.sat_core.specs.declared.journal.Journal.{Journal}
 use Rattle.sat_core.specs.Answers.{AreSatisfying, AreRefuting, IsWholeTrace}
-use Rattle.sat_core.specs.internal.Lessons.{clauses_of, IsRefuted}
+use Rattle.sat_core.specs.internal.Lessons.{clauses_of, IsRefutingLog}
 
 -- how the search ends where no more may be learnt, behind the clauses of a trail
 abbrev pub IsEnd : List (List Lit) → Journal → Answer → Type 0
 IsEnd clauses journal (Sat assignment) = ⊥
-IsEnd clauses journal (Unsat log) = IsRefuted clauses journal log
+IsEnd clauses journal (Unsat log) = IsRefutingLog clauses journal log
 IsEnd clauses journal (Spent trace) = (trace ≡ clauses_of journal.steps.items) × (ReachesFalse clauses [] → ⊥)
 
 -- What a search answers that may leave clauses out of its trail. If it does, a spent budget says nothing.

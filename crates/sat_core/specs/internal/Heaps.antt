@@ -5,8 +5,8 @@ use Rattle.std.specs.Prelude.{slice_index_or, is_some}
 use Rattle.sat_core.specs.declared.heap.VariableHeap.{VariableHeap}
 
 -- how many variables there are
-abbrev pub variable_count : VariableHeap → ℕ
-variable_count heap = length heap.positions.items
+abbrev pub heap_variables : VariableHeap → ℕ
+heap_variables heap = length heap.positions.items
 
 -- whether a variable is in the heap
 abbrev pub is_queued : VariableHeap → ℕ → Bool
@@ -15,8 +15,8 @@ is_queued heap variable = is_some (slice_index_or heap.positions.items variable 
 -- Each variable has a position or none, and an activity. The heap has each of its variables at that variable's position,
 -- and at no other.
 pub record IsQueue (heap : VariableHeap) : Type 0 where
-  pub few : variable_count heap < 2 ^ 31
-  pub one_each : length heap.activities.items ≡ variable_count heap
+  pub few : heap_variables heap < 2 ^ 31
+  pub one_each : length heap.activities.items ≡ heap_variables heap
   pub stands : (position variable : ℕ) → slice_get heap.queue.items position ≡ Some variable →
       slice_get heap.positions.items variable ≡ Some (Some position)
   pub placed : (variable position : ℕ) → slice_get heap.positions.items variable ≡ Some (Some position) →
@@ -42,7 +42,7 @@ pub record IsHeap (heap : VariableHeap) : Type 0 where
 
 -- the same variables are in the heap, as active as before
 pub record IsRearranged (old new : VariableHeap) : Type 0 where
-  pub same_count : variable_count new ≡ variable_count old
+  pub same_count : heap_variables new ≡ heap_variables old
   pub same_length : length new.queue.items ≡ length old.queue.items
   pub same_variables : (variable : ℕ) → is_queued new variable ≡ is_queued old variable
   pub same_activities : new.activities.items ≡ old.activities.items
@@ -65,7 +65,7 @@ beside activity number = cond (nat_lt limit activity) (scaled number) number
 
 -- this is the activity of one variable, and the others' are as before, but that all are scaled where it has passed the limit
 pub record IsActive (old : VariableHeap) (variable activity : ℕ) (new : VariableHeap) : Type 0 where
-  pub same_count : variable_count new ≡ variable_count old
+  pub same_count : heap_variables new ≡ heap_variables old
   pub same_variables : (other : ℕ) → is_queued new other ≡ is_queued old other
   pub here : activity_of new variable ≡ beside activity activity
   pub elsewhere : (other : ℕ) → (other ≡ variable → ⊥) → activity_of new other ≡ beside activity (activity_of old other)

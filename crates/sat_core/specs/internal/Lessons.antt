@@ -57,7 +57,7 @@ pub record HasLearnt (anew : Bool) (old : TrailState) (journal : Journal) (new :
   pub one_use_each : length after.shelf.uses.items ≡ length after.shelf.numbers.items
 
 -- a log of the steps and of one more with the empty clause, which hints show behind these clauses
-pub record IsRefuted (clauses : List (List Lit)) (journal : Journal) (log : Log) : Type 0 where
+pub record IsRefutingLog (clauses : List (List Lit)) (journal : Journal) (log : Log) : Type 0 where
   pub hints : List ℕ
   pub shown : refused_hint (numbered_from 1 clauses) [] 1 hints ≡ None
   pub few_hints : length hints + 1 < 2 ^ 32

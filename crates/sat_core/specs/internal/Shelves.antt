@@ -27,7 +27,7 @@ pub record AreFirst (count : ℕ) (shelf : Shelf) : Type 0 where
   pub upward : (place : ℕ) → place < count → slice_get shelf.numbers.items place ≡ Some (place + 1)
 
 -- So many clauses of a trail were looked at. Those of the formula are kept, and some of the others, with their numbers.
-pub record AreKept (formula clauses : List (List Lit)) (numbers : List ℕ) (looked : ℕ) (kept : List (List Lit)) (shelf : Shelf) :
+pub record AreShelved (formula clauses : List (List Lit)) (numbers : List ℕ) (looked : ℕ) (kept : List (List Lit)) (shelf : Shelf) :
     Type 0 where
   pub others : List (List Lit)
   pub stand : kept ≡ formula ++ others
@@ -40,7 +40,7 @@ pub record AreKept (formula clauses : List (List Lit)) (numbers : List ℕ) (loo
 pub record BeginsAnew (variables : ℕ) (formula : List (List Lit)) (old : TrailState) (numbers : List ℕ) (new : TrailState) (shelf : Shelf) :
     Type 0 where
   pub clauses : List (List Lit)
-  pub kept : AreKept formula old.clauses numbers (length old.clauses) clauses shelf
+  pub kept : AreShelved formula old.clauses numbers (length old.clauses) clauses shelf
   pub trail_is : new ≡ started variables clauses
 
 -- the trail stays as it is, or where it may be shortened it begins anew; the steps stay

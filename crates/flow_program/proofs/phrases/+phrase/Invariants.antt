@@ -1,6 +1,6 @@
 use Rattle.std.proofs.Common.{◌≡◌, ◌+◌, ◌*◌, length, map}
 use Rattle.flow_program.specs.ListingTree.{phrase_tree}
-use Rattle.flow_program.specs.internal.LineReading.{left_place, arguments, in_brackets}
+use Rattle.flow_program.specs.internal.LineReading.{left_place, arguments, phrase_in_brackets}
 use Rattle.flow_program.proofs.Repeats.{joined}
 use Rattle.flow_program.proofs.phrases.+phrase.Given as goal
 
@@ -18,14 +18,14 @@ decreases-spaced_argument l = l.room * 8 + 2
 abbrev pub decreases-argument : goal.decreases-argument
 decreases-argument l = l.room * 8 + 1
 
-abbrev pub decreases-in_brackets : goal.decreases-in_brackets
-decreases-in_brackets l = l.room * 8
+abbrev pub decreases-phrase_in_brackets : goal.decreases-phrase_in_brackets
+decreases-phrase_in_brackets l = l.room * 8
 
 -- the arguments so far, and then those that are left
 abbrev pub invariant-arguments-loop-alloc : goal.invariant-arguments-loop-alloc
 invariant-arguments-loop-alloc l =
-    joined (map phrase_tree l.found.items) (arguments (in_brackets l.room) (left_place l.rest))
-    ≡ arguments (in_brackets l.room) (left_place l.left)
+    joined (map phrase_tree l.found.items) (arguments (phrase_in_brackets l.room) (left_place l.rest))
+    ≡ arguments (phrase_in_brackets l.room) (left_place l.left)
 
 abbrev pub decreases-arguments-loop-alloc : goal.decreases-arguments-loop-alloc
 decreases-arguments-loop-alloc l = length l.rest.bytes.now

@@ -1,7 +1,7 @@
 use Rattle.std.proofs.Common.{◌≡◌, ℕ, ◌≤◌, All, false, length, ap, subst, sym, arith}
 use Rattle.std.specs.Prelude.{IfOk}
 use Rattle.clause_core.specs.Clauses.{has_pair}
-use Rattle.solve_tool.specs.Outcome.{IsSolution}
+use Rattle.solve_tool.specs.Outcome.{IsRightReply}
 use Rattle.solve_tool.proofs.Proper.{are_proper, few_proper}
 use Rattle.solve_tool.proofs.Solutions.{satisfiable_solves, unsatisfiable_solves}
 use Rattle.solve_tool.proofs.solver.reply_to_formula.Goals as goal
@@ -18,7 +18,7 @@ solve-requires-clause-few c =
 pub returns-in-Sat : goal.returns-in-Sat
 returns-in-Sat c =
     let cnf = c.without_tautologies-cnf.result in
-    subst (λ (v : ℕ). IfOk c.satisfiable.result (λ reply. IsSolution c.args.request v c.args.cnf.clauses reply.status reply.text))
+    subst (λ (v : ℕ). IfOk c.satisfiable.result (λ reply. IsRightReply c.args.request v c.args.cnf.clauses reply.status reply.text))
     c.without_tautologies-cnf.ensures.variables
     (satisfiable_solves c.args.request cnf.variables c.args.cnf.clauses cnf.clauses c.without_tautologies-cnf.ensures.clauses
     c.satisfiable.result c.in-Sat.assignment.truths c.as_slice.result.now c.as_slice.ensures
@@ -34,7 +34,7 @@ unsatisfiable-requires-clause-few_clauses c =
 pub returns-in-Unsat : goal.returns-in-Unsat
 returns-in-Unsat c =
     let cnf = c.without_tautologies-cnf.result in
-    subst (λ (v : ℕ). IfOk c.unsatisfiable.result (λ reply. IsSolution c.args.request v c.args.cnf.clauses reply.status reply.text))
+    subst (λ (v : ℕ). IfOk c.unsatisfiable.result (λ reply. IsRightReply c.args.request v c.args.cnf.clauses reply.status reply.text))
     c.without_tautologies-cnf.ensures.variables
     (unsatisfiable_solves c.args.request cnf.variables c.args.cnf.clauses cnf.clauses c.without_tautologies-cnf.ensures.clauses
     c.unsatisfiable.result c.in-Unsat.log.steps (rw c.in-Unsat.is at c.in_ok-assignment.ensures) c.unsatisfiable.ensures)

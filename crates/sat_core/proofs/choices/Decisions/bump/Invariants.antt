@@ -1,11 +1,11 @@
 use Rattle.std.proofs.Common.{◌≡◌, ℕ, length}
-use Rattle.sat_core.specs.internal.Heaps.{IsHeap, variable_count, is_queued}
+use Rattle.sat_core.specs.internal.Heaps.{IsHeap, heap_variables, is_queued}
 use Rattle.sat_core.proofs.choices.Decisions.bump.Given as goal
 
 abbrev pub invariant-loop-variable : goal.invariant-loop-variable
 invariant-loop-variable l = record {
   heap : IsHeap l.self.heap;
-  count : variable_count l.self.heap ≡ variable_count l.fn.self.heap;
+  count : heap_variables l.self.heap ≡ heap_variables l.fn.self.heap;
   phases : length l.self.phases.items ≡ length l.fn.self.phases.items;
   same : (variable : ℕ) → is_queued l.self.heap variable ≡ is_queued l.fn.self.heap variable;
 }

@@ -6,7 +6,7 @@ use Rattle.clause_core.specs.Literals.{Lit}
 use Rattle.sat_trail.specs.declared.entries.Entry.{Entry}
 use Rattle.sat_core.specs.declared.choices.Decisions.{Decisions}
 use Rattle.sat_core.specs.declared.heap.VariableHeap.{VariableHeap}
-use Rattle.sat_core.specs.internal.Heaps.{variable_count, is_queued}
+use Rattle.sat_core.specs.internal.Heaps.{heap_variables, is_queued}
 use Rattle.sat_core.proofs.Deciding.{AreGiven, given_more, decisions_given, decisions_repeated, decisions_freed}
 use Rattle.sat_core.proofs.choices.Decisions.take_all_back.Goals as goal
 
@@ -22,7 +22,7 @@ give_back-requires-clause-within c =
       (c.requires.sound.stand last r.0 r.1).over,
       ap (λ (l : Lit). l.index) is,
       c.loop-place.invariant.decisions.one_activity_each,
-      ap (λ (d : Decisions). variable_count d.heap) c.repeat_if.ensures,
+      ap (λ (d : Decisions). heap_variables d.heap) c.repeat_if.ensures,
     )
 
 pub loop-place-preserved : goal.loop-place-preserved

@@ -6,7 +6,7 @@ use Rattle.sequence.proofs.Places.{contains_at}
 use Rattle.sequence.proofs.Results.{on_ok_two}
 use Rattle.clause_core.specs.Literals.{Lit}
 use Rattle.clause_core.specs.Clauses.{IsOver}
-use Rattle.sat_core.specs.internal.Shelves.{AreKept}
+use Rattle.sat_core.specs.internal.Shelves.{AreShelved}
 use Rattle.sat_core.proofs.LogHints.{kept_more}
 use Rattle.sat_core.proofs.Searching.{copied}
 use Rattle.sat_core.proofs.shelves.Shelf.pass.Goals as goal
@@ -25,7 +25,7 @@ returns-clause-kept c = λ formula are.
     let at : slice_get self.numbers.items place ≡ Some number =
     slice_get_read self.numbers.items (length self.numbers.items) place number refl (omega (arith, c.requires.within, c.requires.numbers))
     c.index-2.ensures in
-    on_ok_two c.add.result (λ numbers uses. subst (λ (cs : List (List Lit)). AreKept formula t.clauses self.numbers.items (place + 1) cs
+    on_ok_two c.add.result (λ numbers uses. subst (λ (cs : List (List Lit)). AreShelved formula t.clauses self.numbers.items (place + 1) cs
     c.add.new.self) (sym grown) (kept_more formula t.clauses self.numbers.items place c.args.kept.now.clauses.items c.args.kept.now.shelf
     c.add.new.self clause number are c.clause.ensures at numbers uses)) c.add.ensures.numbers c.add.ensures.uses
 
