@@ -1,0 +1,91 @@
+-- The commands, their arguments, and what words ask for.
+use Rattle.std.specs.Prelude.{◌≡◌, ◌≤◌, ℕ, Bool, false, List, [], ◌∷◌, codes, Option, Some, None, if◌then◌else◌, ⊤}
+use Rattle.std.specs.Option.{option_map_or}
+use Rattle.std.specs.Str.{bytes_eq}
+use Rattle.clap.specs.Words.{App, Rule, Text}
+use Rattle.command_words.specs.Arguments.{command_with, given_number, number_option, number_positional, takes_words}
+use Rattle.command_words.specs.declared.command_word.CommandWord.{CommandWord}
+use Rattle.command_words.specs.declared.command_word.CommandWord.TheVariants as word
+use Rattle.command_words.specs.declared.asked.Asked.{Asked}
+use Rattle.command_words.specs.declared.asked.Asked.TheVariants as asks
+use Rattle.command_words.specs.declared.asked.SynthSizes.{SynthSizes}
+use Rattle.command_words.specs.declared.asked.ProveSizes.{ProveSizes}
+
+abbrev pub word_text : CommandWord → Text
+word_text word.Synth = codes "synth"
+word_text word.Check = codes "check"
+word_text word.Run = codes "run"
+word_text word.Prove = codes "prove"
+word_text word.Recheck = codes "recheck"
+word_text word.Gen = codes "gen"
+
+-- the arguments of a command: each with its name, its least and its greatest number and, for an option, its default
+abbrev pub arguments : CommandWord → List Rule
+arguments word.Synth =
+    number_option (codes "states") 1 8 (codes "2")
+    ∷ number_option (codes "bound") 0 15 (codes "2")
+    ∷ number_option (codes "env-states") 1 8 (codes "2")
+    ∷ number_option (codes "env-bound") 0 15 (codes "2")
+    ∷ number_option (codes "depth") 1 3 (codes "2")
+    ∷ number_option (codes "rounds") 0 64 (codes "8")
+    ∷ number_option (codes "budget") 1 1000000 (codes "20000") ∷ []
+arguments word.Check = number_option (codes "bound") 0 15 (codes "2") ∷ []
+arguments word.Run = []
+arguments word.Prove =
+    number_option (codes "states") 1 8 (codes "2")
+    ∷ number_option (codes "bound") 0 15 (codes "2")
+    ∷ number_option (codes "budget") 1 1000000 (codes "20000") ∷ []
+arguments word.Recheck = []
+arguments word.Gen = number_positional (codes "n") 1 5 ∷ []
+
+-- the simple command of `clap` that reads the words of a command
+abbrev pub command : CommandWord → App
+command w = command_with (word_text w) (arguments w)
+
+-- the command that a word names
+abbrev pub command_word : Text → Option CommandWord
+command_word text = if bytes_eq text (codes "synth") then Some word.Synth
+    else (if bytes_eq text (codes "check") then Some word.Check
+    else (if bytes_eq text (codes "run") then Some word.Run
+    else (if bytes_eq text (codes "prove") then Some word.Prove
+    else (if bytes_eq text (codes "recheck") then Some word.Recheck
+    else (if bytes_eq text (codes "gen") then Some word.Gen else None)))))
+
+-- the first word is a command, and `clap` takes the words for it
+abbrev pub are_taken : List Text → Bool
+are_taken [] = false
+are_taken (first ∷ rest) = option_map_or (λ w. takes_words (command w) (first ∷ rest)) (command_word first) false
+
+-- an argument has this number, which lies in its range
+abbrev pub IsGivenWithin : ℕ → ℕ → Option ℕ → ℕ → Type 0
+IsGivenWithin least most given n = (given ≡ Some n) × (least ≤ n) × (n ≤ most)
+
+pub record AreSynthSizes (given : Text → Option ℕ) (sizes : SynthSizes) : Type 0 where
+  pub states : IsGivenWithin 1 8 (given (codes "states")) sizes.states
+  pub bound : IsGivenWithin 0 15 (given (codes "bound")) sizes.bound
+  pub env_states : IsGivenWithin 1 8 (given (codes "env-states")) sizes.env_states
+  pub env_bound : IsGivenWithin 0 15 (given (codes "env-bound")) sizes.env_bound
+  pub depth : IsGivenWithin 1 3 (given (codes "depth")) sizes.depth
+  pub rounds : IsGivenWithin 0 64 (given (codes "rounds")) sizes.rounds
+  pub budget : IsGivenWithin 1 1000000 (given (codes "budget")) sizes.budget
+
+pub record AreProveSizes (given : Text → Option ℕ) (sizes : ProveSizes) : Type 0 where
+  pub states : IsGivenWithin 1 8 (given (codes "states")) sizes.states
+  pub bound : IsGivenWithin 0 15 (given (codes "bound")) sizes.bound
+  pub budget : IsGivenWithin 1 1000000 (given (codes "budget")) sizes.budget
+
+-- what a command asks for, with the numbers that its arguments have
+abbrev pub CommandAsks : CommandWord → (Text → Option ℕ) → Asked → Type 0
+CommandAsks word.Synth given (asks.Synth sizes) = AreSynthSizes given sizes
+CommandAsks word.Check given (asks.Check bound) = IsGivenWithin 0 15 (given (codes "bound")) bound
+CommandAsks word.Run given asks.Run = ⊤
+CommandAsks word.Prove given (asks.Prove sizes) = AreProveSizes given sizes
+CommandAsks word.Recheck given asks.Recheck = ⊤
+CommandAsks word.Gen given (asks.Gen n) = IsGivenWithin 1 5 (given (codes "n")) n
+CommandAsks _ _ _ = ⊥
+
+-- what words ask for: their first word is a command, which asks for this with the numbers that `clap` gives its arguments
+abbrev pub AsksFor : List Text → Asked → Type 0
+AsksFor [] asked = ⊥
+AsksFor (first ∷ rest) asked =
+    (w : CommandWord) × (command_word first ≡ Some w) × CommandAsks w (given_number (command w) (first ∷ rest)) asked

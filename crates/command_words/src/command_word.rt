@@ -1,0 +1,155 @@
+//! The words that name commands, and the arguments of each.
+
+ghost use Rattle.std.specs.Prelude.{◌≡◌, map, string_bytes};
+ghost use Rattle.std.specs.Str.{bytes_eq};
+ghost use Rattle.command_words.specs.Commands.{arguments, command_word, word_text};
+ghost use Rattle.command_words.specs.internal.Matches.{rule_for};
+
+use crate::number_argument::NumberArgument;
+
+/// A word that names a command.
+#[derive(Clone, Copy, Debug, PartialEq, Eq)]
+pub enum CommandWord {
+    /// `synth`
+    Synth,
+    /// `check`
+    Check,
+    /// `run`
+    Run,
+    /// `prove`
+    Prove,
+    /// `recheck`
+    Recheck,
+    /// `gen`
+    Gen,
+}
+
+const STATES: NumberArgument = NumberArgument {
+    name: "states",
+    least: 1,
+    most: 8,
+    default: Some("2"),
+};
+
+const BOUND: NumberArgument = NumberArgument {
+    name: "bound",
+    least: 0,
+    most: 15,
+    default: Some("2"),
+};
+
+const ENV_STATES: NumberArgument = NumberArgument {
+    name: "env-states",
+    least: 1,
+    most: 8,
+    default: Some("2"),
+};
+
+const ENV_BOUND: NumberArgument = NumberArgument {
+    name: "env-bound",
+    least: 0,
+    most: 15,
+    default: Some("2"),
+};
+
+const DEPTH: NumberArgument = NumberArgument {
+    name: "depth",
+    least: 1,
+    most: 3,
+    default: Some("2"),
+};
+
+const ROUNDS: NumberArgument = NumberArgument {
+    name: "rounds",
+    least: 0,
+    most: 64,
+    default: Some("8"),
+};
+
+const BUDGET: NumberArgument = NumberArgument {
+    name: "budget",
+    least: 1,
+    most: 1_000_000,
+    default: Some("20000"),
+};
+
+const NUMBER: NumberArgument = NumberArgument {
+    name: "n",
+    least: 1,
+    most: 5,
+    default: None,
+};
+
+static OF_SYNTH: [NumberArgument; 7] = [
+    STATES, BOUND, ENV_STATES, ENV_BOUND, DEPTH, ROUNDS, BUDGET,
+];
+
+static OF_CHECK: [NumberArgument; 1] = [BOUND];
+
+static OF_PROVE: [NumberArgument; 3] = [STATES, BOUND, BUDGET];
+
+static OF_GEN: [NumberArgument; 1] = [NUMBER];
+
+static NONE: [NumberArgument; 0] = [];
+
+impl CommandWord {
+    /// The command that a word names.
+    pub(crate) fn of_word(word: &String) -> Option<CommandWord>
+        ensures { result ≡ command_word (string_bytes word.now) }
+    {
+        if is(word, b"synth") {
+            return Some(CommandWord::Synth);
+        }
+        if is(word, b"check") {
+            return Some(CommandWord::Check);
+        }
+        if is(word, b"run") {
+            return Some(CommandWord::Run);
+        }
+        if is(word, b"prove") {
+            return Some(CommandWord::Prove);
+        }
+        if is(word, b"recheck") {
+            return Some(CommandWord::Recheck);
+        }
+        if is(word, b"gen") {
+            return Some(CommandWord::Gen);
+        }
+        None
+    }
+
+    /// The word.
+    pub(crate) fn text(self) -> &'static str
+        ensures { result.now ≡ word_text self }
+    {
+        match self {
+            CommandWord::Synth => "synth",
+            CommandWord::Check => "check",
+            CommandWord::Run => "run",
+            CommandWord::Prove => "prove",
+            CommandWord::Recheck => "recheck",
+            CommandWord::Gen => "gen",
+        }
+    }
+
+    /// The arguments of the command.
+    pub(crate) fn arguments(self) -> &'static [NumberArgument]
+        ensures { map rule_for result.now ≡ arguments self }
+    {
+        match self {
+            CommandWord::Synth => OF_SYNTH.as_slice(),
+            CommandWord::Check => OF_CHECK.as_slice(),
+            CommandWord::Run => NONE.as_slice(),
+            CommandWord::Prove => OF_PROVE.as_slice(),
+            CommandWord::Recheck => NONE.as_slice(),
+            CommandWord::Gen => OF_GEN.as_slice(),
+        }
+    }
+}
+
+/// Whether a word has these bytes.
+fn is(word: &String, bytes: &[u8]) -> bool
+    ensures { result ≡ bytes_eq (string_bytes word.now) bytes.now }
+{
+    word.as_bytes() == bytes
+}

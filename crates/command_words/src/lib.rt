@@ -1,0 +1,21 @@
+//! The words of the command line, read by `clap`.
+//!
+//! The first word names a command, and `clap` reads the others as the words of one simple command: an argument for
+//! each row of a table, with one whole number within a range for its value, and nothing else. `asked_by` gives what the
+//! words ask for.
+//!
+//! Its contract speaks in the words of `clap`'s own definitions. `command` is the command that `clap` is handed for a
+//! command word (`specs/Commands`, from the rows of `specs/Arguments`), `are_taken` says that no step of its parse
+//! fails, and `AsksFor` names each number as what `clap` gives that argument. So a refusal that is not for want of
+//! memory comes exactly where `clap` refuses the words, and a taken option has its number, or its default, within the
+//! range of its row.
+#![tactic(auto)]
+
+mod asked;
+mod command_word;
+mod number_argument;
+mod reading;
+
+pub use asked::{Asked, ProveSizes, SynthSizes, WordsError};
+pub use command_word::CommandWord;
+pub use reading::asked_by;

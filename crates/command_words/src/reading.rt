@@ -1,0 +1,98 @@
+//! What words ask for, by the matches of their parse.
+
+ghost use Rattle.std.specs.Prelude.{◌≡◌, ◌≢◌, ◌<◌, ◌^◌, ℕ, List, Some, IfOk, IfErr, true, false, map, string_bytes};
+ghost use Rattle.command_words.specs.Arguments.{given_number, takes_words};
+ghost use Rattle.command_words.specs.Commands.{AsksFor, CommandAsks, are_taken, command};
+ghost use Rattle.command_words.specs.internal.Matches.{ParsedBy, matched_number};
+
+use crate::asked::{Asked, ProveSizes, SynthSizes, WordsError};
+use crate::command_word::CommandWord;
+use crate::number_argument::command_of;
+use clap::ArgMatches;
+use clap::error::ErrorKind;
+use std::alloc::Global;
+
+/// What `clap` makes of the words, of which the first names the command.
+fn parsed<'a>(
+    alloc: Global,
+    word: CommandWord,
+    words: &'a [String],
+) -> Result<ArgMatches<'a>, WordsError>
+    ensures taken { IfOk result (λ matches. takes_words (command word) (map string_bytes words.now) ≡ true) }
+    ensures numbers { IfOk result (λ matches. (id : List ℕ) →
+        matched_number matches id ≡ given_number (command word) (map string_bytes words.now) id) }
+    ensures from { IfOk result (ParsedBy (command word)) }
+    ensures refused { IfErr result (λ e. e ≡ WordsError.Usage →
+        takes_words (command word) (map string_bytes words.now) ≡ false) }
+{
+    let command = command_of(alloc, word.text(), word.arguments())?;
+    match command.try_get_matches_from(words) {
+        Ok(matches) => Ok(matches),
+        Err(error) => Err(refusal(error.kind())),
+    }
+}
+
+/// What an error of `clap` is for the caller.
+fn refusal(kind: ErrorKind) -> WordsError
+    ensures { result ≡ WordsError.Usage → kind ≢ ErrorKind.OutOfMemory }
+{
+    match kind {
+        ErrorKind::OutOfMemory => WordsError::NoMemory,
+        _ => WordsError::Usage,
+    }
+}
+
+/// The number of an argument.
+fn number(matches: &ArgMatches<'_>, name: &str) -> u32
+    ensures { (n : ℕ) → matched_number matches.now name.now ≡ Some n → n < 2 ^ 32 → result ≡ n }
+{
+    matches.get_one::<u32>(name).unwrap_or(0)
+}
+
+/// What a command asks for by the matches of its words.
+fn asked_of(word: CommandWord, matches: &ArgMatches<'_>) -> Asked
+    requires { ParsedBy (command word) matches.now }
+    ensures { CommandAsks word (matched_number matches.now) result }
+{
+    match word {
+        CommandWord::Synth => Asked::Synth(SynthSizes {
+            states: number(matches, "states"),
+            bound: number(matches, "bound"),
+            env_states: number(matches, "env-states"),
+            env_bound: number(matches, "env-bound"),
+            depth: number(matches, "depth"),
+            rounds: number(matches, "rounds"),
+            budget: u64::from(number(matches, "budget")),
+        }),
+        CommandWord::Check => Asked::Check(number(matches, "bound")),
+        CommandWord::Run => Asked::Run,
+        CommandWord::Prove => Asked::Prove(ProveSizes {
+            states: number(matches, "states"),
+            bound: number(matches, "bound"),
+            budget: u64::from(number(matches, "budget")),
+        }),
+        CommandWord::Recheck => Asked::Recheck,
+        CommandWord::Gen => Asked::Gen(number(matches, "n")),
+    }
+}
+
+/// What the words after the program's name ask for: the first is a command word, and the others are read by `clap` as
+/// the words of that command.
+///
+/// # Errors
+///
+/// `Usage` where there is no first word, where it is no command, or where `clap` refuses the others. `NoMemory`.
+pub fn asked_by(alloc: Global, words: &[String]) -> Result<Asked, WordsError>
+    ensures taken { IfOk result (λ asked. are_taken (map string_bytes words.now) ≡ true) }
+    ensures asks { IfOk result (AsksFor (map string_bytes words.now)) }
+    ensures refused { IfErr result (λ e. e ≡ WordsError.Usage → are_taken (map string_bytes words.now) ≡ false) }
+{
+    let [first, ..] = words else {
+        return Err(WordsError::Usage);
+    };
+    let Some(word) = CommandWord::of_word(first) else {
+        return Err(WordsError::Usage);
+    };
+    let matches = parsed(alloc, word, words)?;
+    Ok(asked_of(word, &matches))
+}
