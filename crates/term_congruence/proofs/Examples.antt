@@ -2,9 +2,9 @@
 use Rattle.std.proofs.Common.{◌≡◌, [], ◌∷◌, List, refl}
 use Rattle.tsl_terms.specs.TermTree.{signal, apply, no_terms, more_terms}
 use Rattle.tsl_terms.specs.WindowTree.{ListedTree, WindowTree}
-use Rattle.term_congruence.specs.FreeTree.{leaf_at, applied, no_free, more_free}
-use Rattle.term_congruence.specs.Unfolded.{unfolded}
-use Rattle.term_congruence.specs.Congruence.{IsCongruent}
+use Rattle.tsl_terms.specs.FreeTree.{leaf_at, applied, no_free, more_free}
+use Rattle.tsl_terms.specs.Unfolding.{unfolded}
+use Rattle.tsl_terms.specs.Congruence.{IsCongruent}
 
 -- the cell takes a function of itself at both steps
 abbrev twice : List ListedTree

@@ -5,7 +5,7 @@ use Rattle.std.proofs.lemmas.Option.{none-some, same_Some, option_and_then_some}
 use Rattle.sequence.proofs.Places.{slice_get_push}
 use Rattle.tsl_terms.specs.TermTree.{TermTree, terms_of}
 use Rattle.tsl_terms.specs.WindowTree.{ListedTree}
-use Rattle.term_congruence.specs.Unfolded.{signal_unfolded, term_listed}
+use Rattle.tsl_terms.specs.Unfolding.{signal_unfolded, term_listed}
 use Rattle.term_congruence.specs.Classes.{label_at, updated_signals, IsClassTable}
 use Rattle.term_congruence.specs.internal.Shapes.{ShapeTree, IsLabelOf, AreLabelsOf, AreDifferent, KeepsShapes}
 use Rattle.term_congruence.specs.internal.Shapes.{unfolded_by, all_unfolded_by}

@@ -2,7 +2,7 @@
 use Rattle.std.specs.Prelude.{◌≡◌, ◌↔◌, ℕ, suc, List, length, map, Option, Some, slice_get, option_and_then}
 use Rattle.tsl_terms.specs.TermTree.{TermTree}
 use Rattle.tsl_terms.specs.WindowTree.{ListedTree}
-use Rattle.term_congruence.specs.Unfolded.{unfolded}
+use Rattle.tsl_terms.specs.Unfolding.{unfolded}
 
 -- the label of a term at a step, by the term's place
 abbrev pub label_at : List (List ℕ) → ℕ → ℕ → Option ℕ

@@ -1,5 +1,2 @@
-pub mod FreeTree
-pub mod Unfolded
-pub mod Congruence
 pub mod Classes
 pub mod internal

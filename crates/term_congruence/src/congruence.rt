@@ -3,7 +3,7 @@
 ghost use Rattle.std.specs.Prelude.{◌≡◌, ◌↔◌, map, IfOk, OnOk, IsTrue};
 ghost use Rattle.tsl_terms.specs.TermTree.{term_trees};
 ghost use Rattle.tsl_terms.specs.WindowTree.{listed_tree, window_tree};
-ghost use Rattle.term_congruence.specs.Congruence.{IsCongruent, UpdateCells};
+ghost use Rattle.tsl_terms.specs.Congruence.{IsCongruent, UpdateCells};
 ghost use Rattle.term_congruence.specs.internal.Shapes.{AreLabelsOf, KeepsShapes, all_unfolded_by};
 ghost use Rattle.term_congruence.specs.internal.ShapeView.{shape_trees};
 

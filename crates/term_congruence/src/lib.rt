@@ -1,9 +1,9 @@
 //! Windows whose two sides are equal whatever the symbols mean.
 //!
-//! A term unfolds at a step to a free term (`specs/Unfolded`): its leaves are signals at steps, and a cell whose
+//! A term unfolds at a step to a free term (`Unfolding` in `tsl_terms`): its leaves are signals at steps, and a cell whose
 //! update is listed at the step before is what the update's term unfolds to there. `classes_along` gives
 //! labels of terms at steps, which are equal exactly where the terms unfold to one free term; `congruent` says
-//! whether the two sides of a window unfold to the same (`specs/Congruence`).
+//! whether the two sides of a window unfold to the same (`Congruence` there).
 //!
 //! Neither call makes a free term. A label is the place of a shape in a set without repeats, and a shape names
 //! its parts by their labels, so the cost is that of the terms times the steps, however large they unfold.

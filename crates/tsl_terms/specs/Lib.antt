@@ -1,8 +1,10 @@
 pub mod AtomView
 pub mod Atoms
 pub mod Clashes
+pub mod Congruence
 pub mod Distinct
 pub mod FormulaTree
+pub mod FreeTree
 pub mod Laws
 pub mod Name
 pub mod Nodes
@@ -13,6 +15,7 @@ pub mod Signals
 pub mod SpecTree
 pub mod SpecView
 pub mod TermTree
+pub mod Unfolding
 pub mod Value
 pub mod WellFormed
 pub mod WindowTree

@@ -25,7 +25,7 @@ pub fn whole(alloc: Global, spec: &Spec) -> Result<Formula, NoMemory>
 }
 
 /// A formula under the conjunction of formulas, where there are some.
-fn under_assumptions(
+pub(crate) fn under_assumptions(
     alloc: Global,
     assumed: Vec<Formula>,
     guarantee: Formula,

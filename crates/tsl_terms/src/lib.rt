@@ -18,7 +18,8 @@
 //!   formula. What a formula reads, updates and is made of are folds of this list.
 //! - `whole` gives the formula that a specification stands for, `signals` its inputs, cells and outputs,
 //!   `choices` the terms that a signal may take, and `predicates` the probes, each exactly as defined.
-//! - `window_formula` gives the formula that holds in a run exactly where a window does.
+//! - `window_formula` gives the formula that holds in a run exactly where a window does, and `under` a
+//!   formula under the assumption of windows.
 //! - `node_count` counts nodes, and stops at the largest number; `whole_node_count` counts those of the
 //!   whole formula and makes no formula.
 //!
@@ -66,7 +67,7 @@ pub use signal_lists::{SignalLists, signals};
 pub use spec::Spec;
 pub use term::{DEEPEST_BRACKETS, Probe, Term, TermList};
 pub use window::{Listed, Window};
-pub use window_formulas::window_formula;
+pub use window_formulas::{under, window_formula};
 
 #[cfg(test)]
 mod tests;

@@ -1,12 +1,12 @@
-//! The formula of a window.
+//! The formula of a window, and a formula under windows.
 
 ghost use Rattle.std.specs.Prelude.{◌≡◌, map, IfOk};
 ghost use Rattle.tsl_terms.specs.FormulaTree.{formula_tree};
-ghost use Rattle.tsl_terms.specs.WindowTree.{window_tree, listed_tree, listed_formula, later, window_formula_of};
+ghost use Rattle.tsl_terms.specs.WindowTree.{window_tree, listed_tree, listed_formula, later, window_formula_of, under_windows};
 
 use crate::copy::{copy_probe, copy_term};
 use crate::formula::Formula;
-use crate::joining::conjunction;
+use crate::joining::{conjunction, under_assumptions};
 use crate::window::{Listed, Window};
 use sequence::NoMemory;
 use std::alloc::Global;
@@ -27,6 +27,28 @@ pub fn window_formula(alloc: Global, window: &Window) -> Result<Formula, NoMemor
     );
     let holds = Formula::Implies(Box::new(alloc, updates)?, Box::new(alloc, same)?);
     Ok(Formula::Globally(Box::new(alloc, holds)?))
+}
+
+/// A formula under the assumption of windows: their formulas in order are the premise, where there are
+/// some, and it is itself where there are none. An `Err` says that memory ran out.
+pub fn under(alloc: Global, windows: &[Window], formula: Formula) -> Result<Formula, NoMemory>
+    ensures { IfOk result
+        (λ f. formula_tree f ≡ under_windows (map window_tree windows.now) (formula_tree formula)) }
+{
+    let assumed = formulas_of_windows(alloc, windows)?;
+    under_assumptions(alloc, assumed, formula)
+}
+
+/// The formulas of windows, in order.
+fn formulas_of_windows(alloc: Global, windows: &[Window]) -> Result<Vec<Formula>, NoMemory>
+    ensures { IfOk result (λ formulas.
+        map formula_tree formulas.items ≡ map window_formula_of (map window_tree windows.now)) }
+{
+    let mut formulas = Vec::new(alloc);
+    for window in windows {
+        formulas.push(window_formula(alloc, window)?)?;
+    }
+    Ok(formulas)
 }
 
 /// The formulas of the updates that a window lists, in order.

@@ -3,8 +3,8 @@
 use Rattle.std.specs.Prelude.{◌≡◌, ℕ, zero, suc, ⊤, List, [], ◌∷◌, ◌++◌, map, Some, slice_get}
 use Rattle.tsl_terms.specs.TermTree.{TermTree, TermTrees, terms_of}
 use Rattle.tsl_terms.specs.WindowTree.{ListedTree}
-use Rattle.term_congruence.specs.FreeTree.{FreeTree, leaf_at, applied, FreeTrees, no_free, more_free}
-use Rattle.term_congruence.specs.Unfolded.{with_leaves, all_with_leaves, signal_unfolded, term_listed}
+use Rattle.tsl_terms.specs.FreeTree.{FreeTree, leaf_at, applied, FreeTrees, no_free, more_free}
+use Rattle.tsl_terms.specs.Unfolding.{with_leaves, all_with_leaves, signal_unfolded, term_listed}
 
 -- a signal at a step, or a function and the labels of its arguments
 pub data ShapeTree : Type 0 where

@@ -5,7 +5,7 @@ use Rattle.std.specs.Prelude.{◌≡◌, ℕ, true, List}
 use Rattle.std.specs.List.{AllByRecursion}
 use Rattle.sequence.specs.Numbers.{is_among}
 use Rattle.tsl_terms.specs.WindowTree.{ListedTree, WindowTree}
-use Rattle.term_congruence.specs.Unfolded.{all_unfolded}
+use Rattle.tsl_terms.specs.Unfolding.{all_unfolded}
 
 -- both probes have the same predicate, and their arguments unfold to the same free terms at their steps
 pub record IsCongruent (cells : List ℕ) (w : WindowTree) : Type 0 where

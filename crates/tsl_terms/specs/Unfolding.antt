@@ -6,7 +6,7 @@ use Rattle.std.specs.Prelude.{ℕ, zero, suc, ◌==◌, ◌&&◌, List, Option, 
 use Rattle.sequence.specs.Numbers.{is_among}
 use Rattle.tsl_terms.specs.TermTree.{TermTree, signal, apply, TermTrees, no_terms, more_terms}
 use Rattle.tsl_terms.specs.WindowTree.{ListedTree}
-use Rattle.term_congruence.specs.FreeTree.{FreeTree, leaf_at, applied, FreeTrees, no_free, more_free}
+use Rattle.tsl_terms.specs.FreeTree.{FreeTree, leaf_at, applied, FreeTrees, no_free, more_free}
 
 -- a term with a free term in place of each signal
 abbrev mutual
