@@ -9,3 +9,4 @@ pub mod SameLemmas
 pub mod SignalFacts
 pub mod TermLemmas
 pub mod WholeAtoms
+pub mod WindowAtoms

@@ -85,7 +85,7 @@ all_join_two_of : (fs : List FormulaTree) → all_join_two (formulas_of fs) ≡ 
 all_join_two_of [] = refl
 all_join_two_of (f ∷ fs) = ap (λ b. joins_two f && b) (all_join_two_of fs)
 
-conjunction_joins_two : (fs : List FormulaTree) → list_all joins_two fs ≡ true → joins_two (conjunction_of fs) ≡ true
+pub conjunction_joins_two : (fs : List FormulaTree) → list_all joins_two fs ≡ true → joins_two (conjunction_of fs) ≡ true
 conjunction_joins_two [] h = refl
 conjunction_joins_two (f ∷ []) h = (and_parts (joins_two f) true h).0
 conjunction_joins_two (f ∷ g ∷ fs) h = all_join_two_of (f ∷ g ∷ fs) ∙ h

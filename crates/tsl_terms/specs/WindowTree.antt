@@ -2,13 +2,13 @@
 -- every run.
 -- Source: Finkbeiner, Klein, Piskac, Santolucito: Temporal Stream Logic: Synthesis Beyond the Bools
 -- (CAV 2019), the refinement of the underapproximation.
-use Rattle.std.specs.Prelude.{ℕ, zero, suc, List, [], ◌∷◌, map}
+use Rattle.std.specs.Prelude.{ℕ, zero, suc, List, [], ◌∷◌, ◌++◌, map}
 use Rattle.tsl_terms.specs.declared.window.Listed.{Listed}
 use Rattle.tsl_terms.specs.declared.window.Window.{Window}
 use Rattle.tsl_terms.specs.TermTree.{TermTree, ProbeTree, term_tree, probe_tree}
 use Rattle.tsl_terms.specs.declared.operator.UnaryOperator.TheVariants.{Next, Globally}
 use Rattle.tsl_terms.specs.declared.operator.BinaryOperator.TheVariants.{Implication, Equivalence}
-use Rattle.tsl_terms.specs.FormulaTree.{FormulaTree, test, update, atom, unary, binary}
+use Rattle.tsl_terms.specs.FormulaTree.{Atom, FormulaTree, test, update, atom, unary, binary}
 use Rattle.tsl_terms.specs.SpecTree.{conjunction_of}
 
 -- an update that is listed at an offset from the window's first step
@@ -56,3 +56,7 @@ window_formula_of w = unary Globally (binary Implication
 abbrev pub under_windows : List WindowTree → FormulaTree → FormulaTree
 under_windows [] f = f
 under_windows (w ∷ ws) f = binary Implication (conjunction_of (map window_formula_of (w ∷ ws))) f
+
+-- what a window updates and tests: its listed updates in order, then its left and its right probe
+abbrev pub window_atoms : WindowTree → List Atom
+window_atoms w = map (λ u. update u.signal u.term) w.updates ++ test w.left ∷ test w.right ∷ []

@@ -1,8 +1,11 @@
 //! Laws about the definitions that contracts cite.
 
-ghost use Rattle.std.specs.Prelude.{◌≡◌, ◌↔◌, IsTrue};
+ghost use Rattle.std.specs.Prelude.{◌≡◌, ◌↔◌, List, ◌++◌, flat_map, IsTrue};
 ghost use Rattle.tsl_terms.specs.TermTree.{TermTree, ProbeTree};
 ghost use Rattle.tsl_terms.specs.SameTree.{same_tree, same_probe_tree};
+ghost use Rattle.tsl_terms.specs.FormulaTree.{FormulaTree};
+ghost use Rattle.tsl_terms.specs.Atoms.{atoms, joins_two};
+ghost use Rattle.tsl_terms.specs.WindowTree.{WindowTree, window_formula_of, window_atoms, under_windows};
 ghost use Rattle.tsl_terms.specs.Laws.{SignalsAreDistinct, SignalsAreInOrder, InputsAndCellsAreRead, CellsAndOutputsAreUpdated, WholeHasTheAtoms, WholeFits};
 
 /// Two terms pass the test `same_tree`, and two probes the test `same_probe_tree`, exactly where
@@ -17,6 +20,15 @@ pub fn same_tree_is_equality()
 pub fn whole_formula_has_the_atoms()
     ensures atoms { WholeHasTheAtoms }
     ensures fits { WholeFits }
+{}
+
+/// The atoms of a window's formula are the updates that the window lists, in order, and its left and its right
+/// probe; those of a formula under windows are those of the windows, one after another, and its own. Its
+/// conjunctions and disjunctions have two members or more where those of the formula itself do.
+pub fn windowed_formulas_have_the_atoms()
+    ensures window { (w : WindowTree) → atoms (window_formula_of w) ≡ window_atoms w }
+    ensures under { (ws : List WindowTree) (f : FormulaTree) → atoms (under_windows ws f) ≡ flat_map window_atoms ws ++ atoms f }
+    ensures joins { (ws : List WindowTree) (f : FormulaTree) → joins_two (under_windows ws f) ≡ joins_two f }
 {}
 
 /// No signal stands twice among inputs, cells and outputs, and each list is in the order of the names.

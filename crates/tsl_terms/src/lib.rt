@@ -23,7 +23,8 @@
 //! - `node_count` counts nodes, and stops at the largest number; `whole_node_count` counts those of the
 //!   whole formula and makes no formula.
 //!
-//! Laws: the atoms of a whole formula are those of the four lists, and it fits where they do; no signal is
+//! Laws: the atoms of a whole formula are those of the four lists, and it fits where they do; those of a
+//! formula under windows are those of the windows and its own; no signal is
 //! twice among inputs, cells and outputs, what is read is an input or a cell, and what is updated a cell
 //! or an output.
 //!
@@ -59,7 +60,10 @@ pub use counting::{node_count, whole_node_count};
 pub use formula::{Formula, FormulaList};
 pub use gathering::predicates;
 pub use joining::whole;
-pub use laws::{same_tree_is_equality, signals_are_told_apart, whole_formula_has_the_atoms};
+pub use laws::{
+    same_tree_is_equality, signals_are_told_apart, whole_formula_has_the_atoms,
+    windowed_formulas_have_the_atoms,
+};
 pub use names::{NameKind, Names};
 pub use operator::{BinaryOperator, ManyOperator, UnaryOperator};
 pub use same::{same_probe, same_term};

@@ -5,7 +5,7 @@ ghost use Rattle.tsl_terms.specs.WellFormed.{formulas_fit};
 
 use crate::{
     Formula, FormulaList, Listed, NameKind, Names, Probe, Spec, Term, TermList, Window, choices,
-    copy_formula, copy_term, copy_window, node_count, predicates, same_term, signals, whole,
+    copy_formula, copy_term, copy_window, node_count, predicates, same_term, signals, under, whole,
     window_formula,
 };
 use sequence::Sequence;
@@ -234,6 +234,45 @@ fn a_window_stands_for_its_formula(rt: HostRuntime) -> Result<(), Fail> {
         Next(Test(Probe { predicate: 2, arguments: More(Signal(1), Empty) })), \
         Next(Next(Test(Probe { predicate: 2, arguments: More(Signal(0), Empty) }))))))"
     );
+    Ok(())
+}
+
+/// `p` of one signal now, as of another at the next step.
+fn window_of(alloc: Global, left: u32, right: u32) -> Result<Window, AllocError> {
+    Ok(Window {
+        left: probe_of(alloc, left)?,
+        left_at: 0,
+        right: probe_of(alloc, right)?,
+        length: 1,
+        updates: Sequence::new(alloc),
+    })
+}
+
+#[test]
+fn a_formula_stands_under_windows(rt: HostRuntime) -> Result<(), Fail> {
+    let alloc = rt.alloc();
+    let windows = vec![in alloc; window_of(alloc, 0, 1)?, window_of(alloc, 2, 3)?]?;
+    let texts = [
+        "Update(4, Signal(5))",
+        "Implies(\
+        Globally(Implies(True, Iff(\
+        Test(Probe { predicate: 2, arguments: More(Signal(0), Empty) }), \
+        Next(Test(Probe { predicate: 2, arguments: More(Signal(1), Empty) }))))), \
+        Update(4, Signal(5)))",
+        "Implies(All(\
+        More(Globally(Implies(True, Iff(\
+        Test(Probe { predicate: 2, arguments: More(Signal(0), Empty) }), \
+        Next(Test(Probe { predicate: 2, arguments: More(Signal(1), Empty) }))))), \
+        More(Globally(Implies(True, Iff(\
+        Test(Probe { predicate: 2, arguments: More(Signal(2), Empty) }), \
+        Next(Test(Probe { predicate: 2, arguments: More(Signal(3), Empty) }))))), Empty))), \
+        Update(4, Signal(5)))",
+    ];
+    for (count, text) in texts.iter().enumerate() {
+        assert!(rt; count <= windows.len());
+        let formula = under(alloc, &windows.as_slice()[..count], update(4, 5))?;
+        assert_eq!(rt; format!(in alloc; "{formula:?}")?.as_str(), *text);
+    }
     Ok(())
 }
 
