@@ -12,6 +12,7 @@ use Rattle.tsl_terms.specs.SpecTree.{SpecTree, whole_formula}
 use Rattle.tsl_terms.specs.Signals.{cells_of, outputs_of, choices_of}
 use Rattle.tsl_terms.specs.Predicates.{predicates_of}
 use Rattle.tsl_terms.specs.WindowTree.{window_formula_of}
+use Rattle.tsl_terms.specs.Congruence.{IsCongruent}
 use Rattle.tsl_terms.specs.Laws.{FormulasFit}
 use Rattle.flow_program.specs.NodeTree.{NodeTree, branch, assign}
 use Rattle.flow_program.specs.ProgramTree.{ProgramTree}
@@ -76,6 +77,7 @@ module _ (spec : SpecTree) (program : ProgramTree) (bound : ℕ) where
             (whole_formula spec) found.question.states found.edges bound
             found.number (spec_is_space spec few.few_predicates few.few_bits) bits found.question.controller (spec_has_bits spec fits)
             found.question.automaton found.annotation spec.names;
+        congruent = subst (AllByRecursion (IsCongruent program.cells)) (sym none) tt;
         windows = subst (AllByRecursion (λ w. EveryRunMeets spec.names program (window_formula_of w))) (sym none) tt;
       }
 
