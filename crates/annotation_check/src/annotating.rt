@@ -3,14 +3,14 @@
 ghost use Rattle.std.specs.Prelude.{◌≡◌, ℕ, ◌*◌, length, Option, IfOk, IfSome, IfNone};
 ghost use Rattle.cobuchi_automata.specs.Edges.{edge_trees};
 ghost use Rattle.letter_space.specs.SpaceView.{space_tree};
-ghost use Rattle.machines.specs.MachineView.{controller_tree};
-ghost use Rattle.machines.specs.Moves.{FitsSpace, controller_moves};
+ghost use Rattle.machines.specs.MachineView.{controller_tree, environment_tree};
+ghost use Rattle.machines.specs.Moves.{FitsSpace, controller_moves, EnvironmentFits, environment_moves};
 ghost use Rattle.annotation_check.specs.Annotations.{edges_from, IsAnnotation, IsLeast, number_of_pair};
 
 use crate::pairing::controller_pairs;
 use cobuchi_automata::Automaton;
 use letter_space::Space;
-use machines::Controller;
+use machines::{Controller, Environment};
 use sequence::{NoMemory, Sequence};
 use std::alloc::Global;
 
@@ -52,4 +52,28 @@ pub fn annotate(
         bound,
         numbers: Sequence::from_vec(numbers),
     }))
+}
+
+/// The least annotation of an environment for an automaton, if one is within the bound.
+pub fn annotate_environment(
+    alloc: Global,
+    automaton: &Automaton,
+    space: &Space,
+    environment: &Environment,
+    bound: u32,
+) -> Result<Option<Annotation>, NoMemory>
+    requires fits { EnvironmentFits (space_tree space.now) (environment_tree environment.now) }
+    ensures annotation { IfOk result (λ found. IfSome found (λ a. IsAnnotation (edges_from (edge_trees automaton.now.edges))
+        (environment_moves (space_tree space.now) (environment_tree environment.now)) bound
+        (number_of_pair automaton.now.states a.numbers))) }
+    ensures least { IfOk result (λ found. IfSome found (λ a. IsLeast (edges_from (edge_trees automaton.now.edges))
+        (environment_moves (space_tree space.now) (environment_tree environment.now))
+        (number_of_pair automaton.now.states a.numbers))) }
+    ensures shape { IfOk result (λ found. IfSome found (λ a. (a.bound ≡ bound)
+        × (length a.numbers ≡ environment.now.states * automaton.now.states))) }
+    ensures none { IfOk result (λ found. IfNone found ((number : ℕ → ℕ → Option ℕ) →
+        IsAnnotation (edges_from (edge_trees automaton.now.edges))
+        (environment_moves (space_tree space.now) (environment_tree environment.now)) bound number → ⊥)) }
+{
+    Err(NoMemory)
 }

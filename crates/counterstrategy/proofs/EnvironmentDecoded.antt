@@ -13,7 +13,6 @@ use Rattle.letter_space.specs.Vectors.{picks_of}
 use Rattle.letter_space.proofs.LetterBits.{bit_below_picks}
 use Rattle.cobuchi_automata.specs.Automata.{EdgeTree}
 use Rattle.machines.specs.MachineTree.{IsEnvironment, successor_at}
-use Rattle.machines.specs.Moves.{MoveTree}
 use Rattle.annotation_check.specs.Annotations.{edges_from, IsAtLeast, after_edge}
 use Rattle.annotation_check.proofs.LeavingEdges.{passes_filtered}
 use Rattle.bounded_encoding.specs.Question.{QuestionTree, IsPosed, JoinsStates}
@@ -21,7 +20,7 @@ use Rattle.bounded_encoding.proofs.Ranges.{range_at, first_passes, first_below}
 use Rattle.bounded_encoding.proofs.CubeBits.{asked_bit}
 use Rattle.bounded_encoding.proofs.Tables.{table_length, table_cell}
 use Rattle.bounded_encoding.proofs.MovesHeld.{place_of}
-use Rattle.counterstrategy.specs.EnvironmentMoves.{EnvironmentFits, move_under, environment_move, environment_moves}
+use Rattle.machines.specs.Moves.{MoveTree, EnvironmentFits, move_under, environment_move, environment_moves}
 use Rattle.counterstrategy.specs.EnvironmentQuestion.{IsEnvironmentSolution}
 use Rattle.counterstrategy.specs.DualVariables.{holds_in, moves_to, has_number, tests_in_all, vectors_in_all, is_set_in}
 use Rattle.counterstrategy.specs.DualDecoding.{truths_read, successor_read, environment_read, dual_number_read}

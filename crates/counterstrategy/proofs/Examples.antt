@@ -7,7 +7,7 @@ use Rattle.clause_core.specs.Clauses.{meets_all}
 use Rattle.machines.specs.MachineTree.{EnvironmentTree}
 use Rattle.bounded_encoding.specs.Question.{QuestionTree}
 use Rattle.bounded_encoding.specs.Variables.{yes_at, no_at}
-use Rattle.counterstrategy.specs.EnvironmentMoves.{environment_moves}
+use Rattle.machines.specs.Moves.{environment_moves}
 use Rattle.counterstrategy.specs.DualVariables.{holds_in, moves_to, has_number, dual_index, dual_variable, dual_variable_count}
 use Rattle.counterstrategy.specs.DualEncoding.{met_vectors, dual_encoding}
 use Rattle.counterstrategy.specs.DualDecoding.{bits_passing, environment_read, dual_numbers_read, dual_number_read}

@@ -1,5 +1,4 @@
 pub mod RangeMembers
-pub mod VectorPicks
 pub mod PassingBits
 pub mod HighBits
 pub mod Implications

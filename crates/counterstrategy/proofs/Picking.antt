@@ -11,7 +11,7 @@ use Rattle.letter_space.specs.SpaceTree.{SpaceTree}
 use Rattle.letter_space.proofs.Bounds.{vectors_left, counted_next}
 use Rattle.bounded_encoding.proofs.Ranges.{range_at}
 use Rattle.counterstrategy.specs.internal.DualAsking.{vector_letter, vector_letters}
-use Rattle.counterstrategy.proofs.VectorPicks.{some_columns}
+use Rattle.letter_space.proofs.VectorPicks.{some_columns}
 
 module _ (xs : List Controlled) where
   abbrev pub picks_left : ℕ → ℕ → List ℕ

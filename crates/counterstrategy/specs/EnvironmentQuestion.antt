@@ -4,7 +4,7 @@ use Rattle.std.specs.Prelude.{◌≡◌, ℕ, Option}
 use Rattle.machines.specs.MachineTree.{EnvironmentTree, IsEnvironment}
 use Rattle.annotation_check.specs.Annotations.{edges_from, IsAnnotation}
 use Rattle.bounded_encoding.specs.Question.{QuestionTree}
-use Rattle.counterstrategy.specs.EnvironmentMoves.{EnvironmentFits, environment_moves}
+use Rattle.machines.specs.Moves.{EnvironmentFits, environment_moves}
 
 -- an environment with that many states that fits the space, and an annotation of it within the bound
 pub record IsEnvironmentSolution (q : QuestionTree) (e : EnvironmentTree) (number : ℕ → ℕ → Option ℕ) : Type 0 where

@@ -1,4 +1,3 @@
-pub mod EnvironmentMoves
 pub mod EnvironmentQuestion
 pub mod DualVariables
 pub mod DualEncoding

@@ -1,8 +1,7 @@
 //! The question for an environment: is there one with so many states that has an annotation within a bound?
 //!
 //! It is the dual of `bounded_encoding`'s question, asked of the automaton of the formula itself.
-//! `specs/EnvironmentMoves` says which letters an environment allows, and `specs/EnvironmentQuestion`
-//! what a solution is. `encode_dual` gives the question as clauses, exactly those of
+//! `specs/EnvironmentQuestion` says what a solution is. `encode_dual` gives the question as clauses, exactly those of
 //! `specs/DualEncoding`, or says that its vectors or its clauses are too many; `find_environment`
 //! answers it, by an environment with its annotation, by a refutation of the clauses, or by a trace
 //! where a budget of learnt clauses is spent (`specs/DualAnswers`). `specs/DualDecoding` says what an

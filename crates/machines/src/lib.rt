@@ -10,10 +10,14 @@
 mod controller;
 mod environment;
 mod moves;
+mod rounds;
+mod side;
 
 pub use controller::{Controller, Entry};
 pub use environment::Environment;
 pub use moves::Move;
+pub use rounds::Round;
+pub use side::Side;
 
 #[cfg(test)]
 mod tests;

@@ -4,7 +4,7 @@ use Rattle.letter_space.specs.SpaceView.{space_tree}
 use Rattle.letter_space.specs.Letters.{ArePicks, letter_of}
 use Rattle.letter_space.specs.Vectors.{picks_of}
 use Rattle.letter_space.specs.declared.controlled.Controlled.{Controlled}
-use Rattle.counterstrategy.proofs.VectorPicks.{vectors_pick}
+use Rattle.letter_space.proofs.VectorPicks.{vectors_pick}
 use Rattle.counterstrategy.proofs.vector_letters.letter_of_vector.Goals as goal
 
 pub letter-requires : goal.letter-requires
