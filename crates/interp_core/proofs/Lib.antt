@@ -1,2 +1,6 @@
 pub mod Besides
+pub mod FreeLists
+pub mod ImagesAreValues
+pub mod Rows
+pub mod SameFrees
 pub mod Total

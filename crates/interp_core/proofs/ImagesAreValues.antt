@@ -1,0 +1,43 @@
+-- Evaluating in free terms and taking the image is evaluating in the algebra.
+use Rattle.std.proofs.Common.{◌≡◌, ℕ, List, [], ◌∷◌, Option, Some, refl, ap}
+use Rattle.std.specs.Prelude.{option_map, option_and_then}
+use Rattle.tsl_terms.specs.TermTree.{TermTree, signal, apply, TermTrees, no_terms, more_terms}
+use Rattle.tsl_terms.specs.FreeTree.{FreeTree, FreeTrees, applied, no_free, more_free}
+use Rattle.tsl_terms.specs.Unfolding.{with_leaves, all_with_leaves}
+use Rattle.tsl_terms.specs.Value.{Meanings, value, values}
+use Rattle.interp_core.specs.FreeView.{frees_of}
+use Rattle.interp_core.specs.FreeMeanings.{free_meanings}
+use Rattle.interp_core.specs.Image.{image_of, images_of}
+
+-- the members of a list of free terms
+abbrev pub frees_in : FreeTrees → List FreeTree
+frees_in no_free = []
+frees_in (more_free x xs) = x ∷ frees_in xs
+
+pub frees_of_in : (xs : FreeTrees) → frees_of (frees_in xs) ≡ xs
+frees_of_in no_free = refl
+frees_of_in (more_free x xs) = ap (more_free x) (frees_of_in xs)
+
+module _ (cells : List ℕ) (leaves : ℕ → FreeTree) where
+  mutual
+    pub free_value : (t : TermTree) → value (free_meanings cells) (λ s. Some (leaves s)) t ≡ Some (with_leaves leaves t)
+    free_value (signal s) = refl
+    free_value (apply f ts) = rw (free_values ts) (ap (λ xs. Some (applied f xs)) (frees_of_in (all_with_leaves leaves ts)))
+
+    pub free_values : (ts : TermTrees) →
+        values (free_meanings cells) (λ s. Some (leaves s)) ts ≡ Some (frees_in (all_with_leaves leaves ts))
+    free_values no_terms = refl
+    free_values (more_terms t ts) = rw (free_value t, free_values ts) refl
+
+module _ {V : Type 0} (meanings : Meanings V) (at : ℕ → ℕ → Option V) (leaves : ℕ → FreeTree) where
+  mutual
+    pub image_is_value : (t : TermTree) →
+        image_of meanings at (with_leaves leaves t) ≡ value meanings (λ s. image_of meanings at (leaves s)) t
+    image_is_value (signal s) = refl
+    image_is_value (apply f ts) = ap (option_and_then (meanings.function f)) (images_are_values ts)
+
+    pub images_are_values : (ts : TermTrees) →
+        images_of meanings at (all_with_leaves leaves ts) ≡ values meanings (λ s. image_of meanings at (leaves s)) ts
+    images_are_values no_terms = refl
+    images_are_values (more_terms t ts) =
+        λ i. option_and_then (λ v. option_map (λ vs. v ∷ vs) (images_are_values ts i)) (image_is_value t i)
