@@ -1,5 +1,5 @@
 -- How watches stay what they are while literals are set and taken back.
-use Rattle.std.proofs.Common.{◌≡◌, ℕ, zero, suc, ◌+◌, ◌-◌, ◌*◌, ◌<◌, ◌≤◌, min, Bool, true, false, not, cond, List, [], ◌∷◌, ◌++◌, length}
+use Rattle.std.proofs.Common.{◌≡◌, ℕ, zero, suc, ◌+◌, ◌-◌, ◌*◌, ◌<◌, ◌≤◌, min, Bool, true, false, cond, List, [], ◌∷◌, ◌++◌, length}
 use Rattle.std.proofs.Common.{set, take, Option, Some, None, slice_get, get_or, leb, sym, ap, ◌∙◌, subst, refl, arith, inl, inr, ◌⊎◌}
 use Rattle.std.proofs.Common.{MatchOption, All, Contains}
 use Rattle.std.specs.Prelude.{nat_lt, option_map, is_some, Result, Ok, Err, OnOk, OnErr, IfOk}

@@ -1,7 +1,7 @@
 -- What a contract sees of a trail, and what the calls do to it.
 use Rattle.std.specs.Prelude.{◌≡◌, ℕ, ◌+◌, ◌^◌, ◌<◌, min, nat_le, Bool, false, List, [], ◌∷◌, ◌++◌, length, filter, take, Option, Some}
 use Rattle.std.specs.Prelude.{None, slice_get, IsSome, All}
-use Rattle.clause_core.specs.Literals.{Lit, has}
+use Rattle.clause_core.specs.Literals.{Lit}
 use Rattle.clause_core.specs.Clauses.{IsOver, has_pair}
 use Rattle.clause_core.specs.Propagation.{IsFalse, IsQuiet}
 use Rattle.sat_trail.specs.declared.entries.Entry.{Entry}

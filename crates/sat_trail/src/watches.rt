@@ -6,7 +6,7 @@ ghost use Rattle.clause_core.specs.Clauses.{IsOver};
 ghost use Rattle.sat_trail.specs.declared.entries.Entry.{Entry};
 ghost use Rattle.sat_trail.specs.Entries.{literals_of};
 ghost use Rattle.sat_trail.specs.States.{TrailState, IsSound, Propagates, IsFalseAt, EndsWith};
-ghost use Rattle.sat_trail.specs.internal.Watching.{HasList, TakesOut, AddsWatch, DropsWatch, IsOf, is_paired, IsExcused, AreWatched, IsVisit, AreDue, AreOthersFalse, CanForce, CanWatch, IsFalseBy, IsLater, IsBestOf, IsFree, AreFalseBetween, LooksAt};
+ghost use Rattle.sat_trail.specs.internal.Watching.{HasList, TakesOut, RenewsBlocker, AddsWatch, RenewsWatch, DropsWatch, IsOf, is_paired, IsExcused, AreWatched, IsVisit, AreDue, AreOthersFalse, CanForce, CanWatch, IsFalseBy, IsLater, IsBestOf, IsFree, AreFalseBetween, LooksAt};
 
 use crate::stack::Stack;
 use clause_core::Literal;
@@ -70,6 +70,14 @@ impl WatchList {
     {
         self.watches.push(watch)?;
         Ok(())
+    }
+
+    /// Gives the watch at an index another blocker.
+    fn renew(&mut self, index: usize, blocker: Literal)
+        requires { index < length self.old }
+        ensures { RenewsBlocker self.old index blocker self.new }
+    {
+        self.watches[index].blocker = blocker;
     }
 
     /// Takes the watch at an index out: the last one takes its place.
@@ -334,6 +342,15 @@ impl Watches {
         self.lists[literal.code()].push(Watch { clause, blocker })
     }
 
+    /// Gives a watch in a literal's list another blocker.
+    fn renew_watch(&mut self, literal: Literal, index: usize, blocker: Literal)
+        requires { HasList self.old.lists.items (code_of literal) (index + 1) }
+        ensures lists { RenewsWatch self.old.lists.items (code_of literal) index blocker self.new.lists.items }
+        ensures rest { self.new ≡ record self.old { lists = self.new.lists } }
+    {
+        self.lists[literal.code()].renew(index, blocker);
+    }
+
     /// Takes a watch out of a literal's list.
     fn drop_watch(&mut self, literal: Literal, index: usize)
         requires { HasList self.old.lists.items (code_of literal) (index + 1) }
@@ -404,6 +421,7 @@ impl Watches {
         };
         let other = pair.other(falsified);
         if stack.is_true(other) {
+            self.renew_watch(falsified, index, other);
             return Ok(None);
         }
         let literals = stack.clause(watch.clause).literals();

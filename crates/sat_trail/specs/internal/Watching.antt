@@ -34,10 +34,23 @@ pub record TakesOut (old : List Watch) (index : ℕ) (new : List Watch) : Type 0
   pub others : (k : ℕ) (watch : Watch) → (k ≡ index → ⊥) → slice_get old k ≡ Some watch → (j : ℕ) × (slice_get new j ≡ Some watch)
   pub no_more : (j : ℕ) (watch : Watch) → slice_get new j ≡ Some watch → (k : ℕ) × (slice_get old k ≡ Some watch)
 
+-- the watch at an index has another blocker
+pub record RenewsBlocker (old : List Watch) (index : ℕ) (blocker : Lit) (new : List Watch) : Type 0 where
+  pub all : length new ≡ length old
+  pub here : (watch : Watch) → slice_get old index ≡ Some watch → slice_get new index ≡ Some (record watch { blocker = blocker })
+  pub others : (k : ℕ) → (k ≡ index → ⊥) → slice_get new k ≡ slice_get old k
+
 -- one list has a watch more at its end
 pub record AddsWatch (old : List (List Watch)) (code : ℕ) (watch : Watch) (new : List (List Watch)) : Type 0 where
   pub all : length new ≡ length old
   pub here : (list : List Watch) → slice_get old code ≡ Some list → slice_get new code ≡ Some (list ++ watch ∷ [])
+  pub others : (other : ℕ) → (other ≡ code → ⊥) → slice_get new other ≡ slice_get old other
+
+-- a watch in one list has another blocker
+pub record RenewsWatch (old : List (List Watch)) (code index : ℕ) (blocker : Lit) (new : List (List Watch)) : Type 0 where
+  pub all : length new ≡ length old
+  pub here : (list : List Watch) → slice_get old code ≡ Some list →
+      (renewed : List Watch) × (slice_get new code ≡ Some renewed) × RenewsBlocker list index blocker renewed
   pub others : (other : ℕ) → (other ≡ code → ⊥) → slice_get new other ≡ slice_get old other
 
 -- one list has a watch less

@@ -1,4 +1,3 @@
-use Rattle.std.proofs.Common.{◌-◌, []}
 use Rattle.sat_trail.specs.Entries.{literals_of}
 use Rattle.sat_trail.proofs.Watching.{best_over}
 use Rattle.sat_trail.proofs.watches.best.Goals as goal

@@ -1,4 +1,4 @@
-use Rattle.std.proofs.Common.{◌-◌, true, [], sym, ap, subst, ◌∙◌}
+use Rattle.std.proofs.Common.{true, sym, ap, subst, ◌∙◌}
 use Rattle.std.proofs.lemmas.Bool.{true≢false}
 use Rattle.sat_trail.specs.States.{TrailState, IsSound}
 use Rattle.sat_trail.proofs.Soundness.{sound_broken}

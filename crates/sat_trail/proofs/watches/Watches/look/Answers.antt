@@ -1,4 +1,4 @@
-use Rattle.std.proofs.Common.{◌-◌, ◌<◌, true, List, [], sym, ap, subst, ◌∙◌}
+use Rattle.std.proofs.Common.{◌<◌, List, sym, ap, subst, ◌∙◌}
 use Rattle.std.proofs.lemmas.Option.{none-some}
 use Rattle.clause_core.specs.Literals.{Lit, has}
 use Rattle.clause_core.specs.Clauses.{IsOver}

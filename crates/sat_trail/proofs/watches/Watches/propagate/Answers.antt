@@ -1,4 +1,4 @@
-use Rattle.std.proofs.Common.{◌-◌, false, [], length, ap, arith, ◌∙◌}
+use Rattle.std.proofs.Common.{length, ap, arith, ◌∙◌}
 use Rattle.sat_trail.specs.States.{TrailState}
 use Rattle.sat_trail.proofs.TrailSteps.{propagates_after}
 use Rattle.sat_trail.proofs.Watching.{watched_quiet}

@@ -1,4 +1,4 @@
-use Rattle.std.proofs.Common.{◌≡◌, ◌+◌, ◌<◌, true, false, List, [], length, set, Some, slice_get, sym, ap, subst, refl, arith, ◌∙◌}
+use Rattle.std.proofs.Common.{◌≡◌, ◌+◌, ◌<◌, true, false, List, length, set, Some, slice_get, sym, ap, subst, refl, arith, ◌∙◌}
 use Rattle.std.proofs.lemmas.Option.{slice_get_within, get_or_from_slice_get}
 use Rattle.std.specs.Vec.{with_item}
 use Rattle.std.proofs.lemmas.Result.{on_ok_weaker}
@@ -10,6 +10,7 @@ use Rattle.sat_trail.specs.internal.Watching.{AreOthersFalse, IsPairOf}
 use Rattle.sat_trail.proofs.Watching.{due_excused, excused_now, due_other, due_forced, the_watch, the_pair, no_pair, pair_member}
 use Rattle.sat_trail.proofs.Watching.{blocker_over, pair_over, over_named, watched_propagated, visit_propagated, lists_have, literal_member}
 use Rattle.sat_trail.proofs.Watching.{free_differs, kept_list, watched_moved, due_moved, list_moved}
+use Rattle.sat_trail.proofs.Renewed.{watched_renewed, visit_renewed, list_renewed, due_renewed}
 use Rattle.sat_trail.proofs.watches.Watches.visit.Goals as goal
 
 pub is_true-requires : goal.is_true-requires
@@ -66,6 +67,39 @@ is_true-requires-2 c =
     pair_over c.args.stack.now c.args.self.now c.requires.sound c.requires.watched c.get-watch.result.clause c.in-Some.pair
     c.other-other.result at c.other-other.ensures.of
 
+pub returns-then-is_true-2-clause-watched : goal.returns-then-is_true-2-clause-watched
+returns-then-is_true-2-clause-watched c =
+    let there : slice_get c.requires.list.list c.args.index ≡ Some c.get-watch.result =
+    the_watch c.args.self.now.lists.items (code_of c.args.falsified) c.code.result c.args.index c.index.result.now c.get-watch.result
+    c.requires.list c.code.ensures c.index.ensures c.get-watch.ensures in
+    let within : c.get-watch.result.clause < length c.args.self.now.pairs.items =
+    (c.requires.watched.blocked (code_of c.args.falsified) c.args.index c.requires.list.list c.get-watch.result c.requires.list.listed
+    there).0 in
+    let at : IsPairOf c.args.self.now.pairs.items c.get-watch.result.clause c.in-Some.pair =
+    the_pair c.args.self.now.pairs.items c.get-watch.result.clause c.index-2.result.now c.in-Some.pair within c.index-2.ensures
+    c.in-Some.is in
+    watched_renewed c.args.stack.now c.args.self.now c.renew_watch.new.self c.args.falsified c.args.index c.requires.list.list
+    c.get-watch.result c.other-other.result c.requires.list.listed there c.renew_watch.ensures.lists c.renew_watch.ensures.rest c.requires.watched
+    (λ clause named. pair_member clause c.in-Some.pair c.other-other.result
+    (c.requires.watched.paired c.get-watch.result.clause clause c.in-Some.pair named at) c.other-other.ensures.of)
+
+pub returns-then-is_true-2-clause-visit : goal.returns-then-is_true-2-clause-visit
+returns-then-is_true-2-clause-visit c =
+    let there : slice_get c.requires.list.list c.args.index ≡ Some c.get-watch.result =
+    the_watch c.args.self.now.lists.items (code_of c.args.falsified) c.code.result c.args.index c.index.result.now c.get-watch.result
+    c.requires.list c.code.ensures c.index.ensures c.get-watch.ensures in
+    visit_renewed c.args.stack.now c.args.self.now c.renew_watch.new.self c.args.falsified c.args.index c.requires.list.list
+    c.get-watch.result c.other-other.result c.requires.list.listed there c.renew_watch.ensures.lists c.renew_watch.ensures.rest c.requires.visit
+
+pub returns-then-is_true-2-clause-list : goal.returns-then-is_true-2-clause-list
+returns-then-is_true-2-clause-list c =
+    let there : slice_get c.requires.list.list c.args.index ≡ Some c.get-watch.result =
+    the_watch c.args.self.now.lists.items (code_of c.args.falsified) c.code.result c.args.index c.index.result.now c.get-watch.result
+    c.requires.list c.code.ensures c.index.ensures c.get-watch.ensures in
+    list_renewed c.args.stack.now c.args.self.now c.renew_watch.new.self c.args.falsified c.args.index c.requires.list.list
+    c.get-watch.result c.other-other.result c.requires.list.listed there c.renew_watch.ensures.lists c.renew_watch.ensures.rest
+    (slice_get_within c.requires.list.list c.args.index c.get-watch.result there)
+
 pub returns-then-is_true-2-clause-ends : goal.returns-then-is_true-2-clause-ends
 returns-then-is_true-2-clause-ends c =
     let there : slice_get c.requires.list.list c.args.index ≡ Some c.get-watch.result =
@@ -77,9 +111,11 @@ returns-then-is_true-2-clause-ends c =
     let at : IsPairOf c.args.self.now.pairs.items c.get-watch.result.clause c.in-Some.pair =
     the_pair c.args.self.now.pairs.items c.get-watch.result.clause c.index-2.result.now c.in-Some.pair within c.index-2.ensures
     c.in-Some.is in
-    due_other c.args.stack.now c.args.self.now c.args.falsified c.args.index c.requires.list.list c.get-watch.result c.in-Some.pair
+    due_renewed c.args.stack.now c.args.self.now c.renew_watch.new.self c.args.falsified c.args.index c.requires.list.list
+    c.get-watch.result c.other-other.result c.requires.list.listed there c.renew_watch.ensures.lists c.renew_watch.ensures.rest
+    (due_other c.args.stack.now c.args.self.now c.args.falsified c.args.index c.requires.list.list c.get-watch.result c.in-Some.pair
     c.other-other.result c.requires.sound c.requires.watched c.requires.visit c.requires.due c.requires.list.listed there at
-    c.other-other.ensures.of (sym c.is_true-2.ensures ∙ c.if-is_true-2.true)
+    c.other-other.ensures.of (sym c.is_true-2.ensures ∙ c.if-is_true-2.true))
 
 pub clause-requires-clause-given : goal.clause-requires-clause-given
 clause-requires-clause-given c =
