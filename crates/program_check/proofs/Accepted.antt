@@ -1,31 +1,34 @@
 -- An accepted program realizes the specification.
-use Rattle.std.proofs.Common.{◌≡◌, ◌∙◌, ℕ, ◌+◌, ◌≤◌, true, not, List, [], ◌∷◌, ◌++◌, length, map, Option, Some, None, slice_get}
-use Rattle.std.proofs.Common.{refl, sym, ap, subst, inl, inr, arith}
+use Rattle.std.proofs.Common.{◌≡◌, ◌∙◌, ℕ, ◌≤◌, Bool, true, not, List, [], ◌∷◌, ◌++◌, length, Option, Some, None, slice_get}
+use Rattle.std.proofs.Common.{sym, ap, subst, inl, inr, arith}
 use Rattle.std.specs.List.{list_all, AllByRecursion, position}
 use Rattle.std.proofs.lemmas.List.{length-map}
 use Rattle.sequence.proofs.Booleans.{not_not}
+use Rattle.sequence.proofs.Each.{each_weaker}
 use Rattle.sequence.proofs.Finds.{find_none_at}
 use Rattle.sequence.proofs.Options.{none_never_some}
 use Rattle.sequence.proofs.Passes.{list_all_from_places}
-use Rattle.tsl_terms.specs.TermTree.{TermTree}
 use Rattle.tsl_terms.specs.SpecTree.{SpecTree, whole_formula}
 use Rattle.tsl_terms.specs.Signals.{cells_of, outputs_of, choices_of}
 use Rattle.tsl_terms.specs.Predicates.{predicates_of}
-use Rattle.tsl_terms.specs.WindowTree.{window_formula_of}
+use Rattle.tsl_terms.specs.WindowTree.{window_formula_of, under_windows}
 use Rattle.tsl_terms.specs.Congruence.{IsCongruent}
 use Rattle.tsl_terms.specs.Laws.{FormulasFit}
 use Rattle.flow_program.specs.NodeTree.{NodeTree, branch, assign}
 use Rattle.flow_program.specs.ProgramTree.{ProgramTree}
 use Rattle.flow_program.specs.ProgramText.{IsProgram}
+use Rattle.tsl_meaning.specs.Interpretation.{meanings_in}
+use Rattle.tsl_meaning.specs.Lasso.{closed_run, Meets}
 use Rattle.tsl_meaning.specs.Promise.{EveryRunMeets, Realizes}
-use Rattle.letter_space.specs.SpaceTree.{ControlledTree, SpaceTree}
-use Rattle.letter_space.specs.SpecSpace.{controlled_from, spec_space}
+use Rattle.letter_space.specs.SpaceTree.{SpaceTree}
+use Rattle.letter_space.specs.SpecSpace.{spec_space}
 use Rattle.letter_space.proofs.Places.{position_tells}
-use Rattle.letter_space.proofs.SpecSpaces.{spec_is_space, spec_has_bits}
+use Rattle.letter_space.proofs.SpecSpaces.{spec_is_space}
 use Rattle.cobuchi_automata.specs.declared.automaton.Edge.{Edge}
 use Rattle.cobuchi_automata.specs.Automata.{StateTree, IsAutomaton}
 use Rattle.cobuchi_automata.specs.Edges.{edge_tree, edge_trees}
 use Rattle.cobuchi_automata.specs.Refusals.{most_automaton_states, most_automaton_edges}
+use Rattle.machines.specs.declared.side.Side.TheVariants.{Controller}
 use Rattle.machines.specs.MachineTree.{ControllerTree}
 use Rattle.machines.specs.Moves.{controller_moves}
 use Rattle.annotation_check.specs.Annotations.{edges_from, IsAnnotation}
@@ -34,51 +37,57 @@ use Rattle.control_flow_model.specs.ControllerOf.{IsControllerOf}
 use Rattle.control_flow_model.proofs.OneController.{one_controller}
 use Rattle.program_check.specs.declared.verdict.Verdict.{Verdict}
 use Rattle.program_check.specs.Verdicts.{HasFewBits, HasSignals, IsOverBits, HasAnnotation, HasNoAnnotation, IsQuestion, IsVerdict}
-use Rattle.program_check.specs.Verdicts.{negated_form}
+use Rattle.program_check.specs.Verdicts.{window_has_bits, form_for}
 use Rattle.program_check.specs.internal.NodeVerdicts.{node_verdict, IsNodeVerdict}
 use Rattle.program_check.proofs.AnnotatedRuns.{annotated_program_meets}
 use Rattle.program_check.proofs.OtherNumbers.{annotated_there}
 use Rattle.program_check.proofs.ProgramNames.{program_over}
+use Rattle.program_check.proofs.SpaceTerms.{signals_of}
+use Rattle.term_congruence.proofs.CongruentWindows.{congruent_windows_hold}
+use Rattle.program_check.proofs.UnderWindows.{met_without, under_has_bits}
 
--- signals with their choices are these signals
-pub signals_of : (choices : ℕ → List TermTree) (first : ℕ) (signals : List ℕ) →
-    map (λ (c : ControlledTree). c.signal) (controlled_from choices first signals) ≡ signals
-signals_of choices first [] = refl
-signals_of choices first (s ∷ signals) = ap (λ rest. s ∷ rest) (signals_of choices (first + length (choices s)) signals)
+-- where none fails, each passes
+none_fails : {X : Type 0} (passes : X → Bool) (xs : List X) → position (λ x. not (passes x)) xs ≡ None → list_all passes xs ≡ true
+none_fails passes xs none = elim (position_tells (λ x. not (passes x)) xs) [
+  | inl found ↦ absurd (none_never_some _ found.0 none found.2)
+  | inr missing ↦ list_all_from_places passes xs (λ i x at.
+      sym (not_not (passes x)) ∙ ap not (find_none_at (λ y. not (passes y)) xs i x missing.1 at))
+]
 
 -- where no node is refused, the program has the bits of the specification
 pub over_bits : (spec : SpecTree) (program : ProgramTree) → IsOverBits spec program → ProgramHasBits (spec_space spec) program
 over_bits spec program over = record {
   signals = signals_of (choices_of spec) (length (predicates_of spec)) (cells_of spec ++ outputs_of spec)
       ∙ (λ i. sym over.signals.cells i ++ sym over.signals.outputs i);
-  nodes = none_refused program.nodes over.nodes;
+  nodes = none_fails (node_has_bits (spec_space spec)) program.nodes over.nodes;
 }
-  where
-    none_refused : (nodes : List NodeTree) → position (λ n. not (node_has_bits (spec_space spec) n)) nodes ≡ None →
-        list_all (node_has_bits (spec_space spec)) nodes ≡ true
-    none_refused nodes none = elim (position_tells (λ n. not (node_has_bits (spec_space spec) n)) nodes) [
-      | inl found ↦ absurd (none_never_some _ found.0 none found.2)
-      | inr missing ↦ list_all_from_places (node_has_bits (spec_space spec)) nodes (λ i n at.
-          sym (not_not (node_has_bits (spec_space spec) n))
-          ∙ ap not (find_none_at (λ m. not (node_has_bits (spec_space spec) m)) nodes i n missing.1 at))
-    ]
 
 module _ (spec : SpecTree) (program : ProgramTree) (bound : ℕ) where
-  pub realized : FormulasFit spec → IsProgram program → program.windows ≡ [] → HasFewBits spec → IsOverBits spec program →
+  pub realized : FormulasFit spec → IsProgram program → HasFewBits spec → IsOverBits spec program →
       HasAnnotation spec program bound → Realizes spec program
-  realized fits is_program none few over found =
+  realized fits is_program few over found =
       let bits = over_bits spec program over in
+      let windows = none_fails (window_has_bits (spec_space spec)) program.windows over.foreign in
+      let hold : AllByRecursion (λ w. EveryRunMeets spec.names program (window_formula_of w)) program.windows =
+      each_weaker (IsCongruent program.cells) (λ w. EveryRunMeets spec.names program (window_formula_of w))
+      (λ w. congruent_windows_hold spec.names program w is_program) program.windows over.sound in
       record {
-        over_names = program_over spec fits program is_program over.signals none bits.nodes;
+        over_names = program_over spec fits program is_program over.signals windows bits.nodes;
         inputs = over.signals.inputs;
         cells = over.signals.cells;
         outputs = over.signals.outputs;
-        runs = annotated_program_meets (spec_space spec) program found.controller
-            (whole_formula spec) found.question.states found.edges bound
-            found.number (spec_is_space spec few.few_predicates few.few_bits) bits found.question.controller (spec_has_bits spec fits)
-            found.question.automaton found.annotation spec.names;
-        congruent = subst (AllByRecursion (IsCongruent program.cells)) (sym none) tt;
-        windows = subst (AllByRecursion (λ w. EveryRunMeets spec.names program (window_formula_of w))) (sym none) tt;
+        runs = λ interpretation rows shape is is_rows closed.
+            let run = closed_run (meanings_in spec.names program interpretation) program rows shape in
+            met_without run 0 program.windows (whole_formula spec)
+            (each_weaker (λ w. EveryRunMeets spec.names program (window_formula_of w)) (λ w. Meets run (window_formula_of w) 0)
+            (λ w holds. holds interpretation rows shape is is_rows closed) program.windows hold)
+            (annotated_program_meets (spec_space spec) program found.controller
+            (under_windows program.windows (whole_formula spec)) found.question.states found.edges bound
+            found.number (spec_is_space spec few.few_predicates few.few_bits) bits found.question.controller
+            (under_has_bits spec fits program.windows windows) found.question.automaton found.annotation spec.names
+            interpretation rows shape is is_rows closed);
+        congruent = over.sound;
+        windows = hold;
       }
 
 -- the verdict on a node that lacks bits is that on the program
@@ -96,7 +105,7 @@ refused_verdict spec program bound verdict same refused =
 -- the question that is asked, and its answers
 module _ (spec : SpecTree) (program : ProgramTree) (space : SpaceTree) (same : space ≡ spec_space spec) (controller : ControllerTree)
     (is_controller : IsControllerOf space program controller) (states : List StateTree) (edges : List Edge) (count : ℕ)
-    (counted : length states ≡ count) (automaton : IsAutomaton (negated_form spec) states (edge_trees edges))
+    (counted : length states ≡ count) (automaton : IsAutomaton (form_for Controller spec program.windows) states (edge_trees edges))
     (few_states : count ≤ most_automaton_states) (few_edges : length edges ≤ most_automaton_edges) where
   question : IsQuestion spec program controller (edge_trees edges)
   question = record {
@@ -129,7 +138,7 @@ module _ (spec : SpecTree) (program : ProgramTree) (space : SpaceTree) (same : s
     none = λ found.
         let one = one_controller (spec_space spec) program found.controller controller
         (spec_is_space spec few.few_predicates few.few_bits) found.question.controller question.controller in
-        let there = annotated_there (negated_form spec) found.question.states found.edges found.question.automaton states
+        let there = annotated_there (form_for Controller spec program.windows) found.question.states found.edges found.question.automaton states
         (edge_trees edges) automaton (controller_moves (spec_space spec) found.controller) bound found.number found.annotation in
         none there.0 (subst (Annotates bound there.0) (sym same)
         (subst (λ c. IsAnnotation (edges_from (edge_trees edges)) (controller_moves (spec_space spec) c) bound there.0) one there.1));

@@ -2,6 +2,8 @@ pub mod AnnotatedRuns
 pub mod SpaceTerms
 pub mod ProgramNames
 pub mod OtherNumbers
+pub mod UnderWindows
+pub mod SoundWindows
 pub mod Accepted
 pub mod ChosenTerms
 pub mod OneVerdict

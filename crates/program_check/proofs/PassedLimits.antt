@@ -10,12 +10,15 @@ use Rattle.letter_space.specs.SpecSpace.{spec_space}
 use Rattle.cobuchi_automata.specs.Automata.{EdgeTree}
 use Rattle.cobuchi_automata.specs.Refusals.{most_automaton_states, most_automaton_edges}
 use Rattle.cobuchi_automata.proofs.AutomatonLemmas.{has_choices, passes_states, passes_edges}
+use Rattle.machines.specs.declared.side.Side.TheVariants.{Controller}
 use Rattle.machines.specs.MachineTree.{ControllerTree}
 use Rattle.program_check.specs.declared.verdict.Verdict.{Verdict}
 use Rattle.program_check.specs.declared.verdict.Verdict.TheVariants.{Signals, Test, Choice, Foreign, Unsound, NoAnnotation, Yes}
 use Rattle.program_check.specs.declared.verdict.Limit.{Limit}
-use Rattle.program_check.specs.declared.verdict.Limit.TheVariants.{Predicates, Bits, Choices, States, Edges, Clauses}
-use Rattle.program_check.specs.Verdicts.{HasFewBits, first_refused_node, negated_form, IsQuestion, IsOverBits, IsVerdict, IsPassed}
+use Rattle.program_check.specs.declared.verdict.Limit.TheVariants.{Predicates, Bits, Choices, States, Edges, Vectors, Clauses, Branches}
+use Rattle.program_check.specs.Verdicts.{HasFewBits, first_refused_node, first_foreign_window, form_for, IsQuestion, IsOverBits, IsVerdict}
+use Rattle.program_check.specs.Verdicts.{IsPassed}
+use Rattle.program_check.proofs.SoundWindows.{never_sound}
 
 module _ (spec : SpecTree) (program : ProgramTree) (bound : ℕ) where
   -- a program over the bits has no verdict where no question can be asked
@@ -24,8 +27,8 @@ module _ (spec : SpecTree) (program : ProgramTree) (bound : ℕ) where
   without_question over none Signals is = is over.signals
   without_question over none (Test i) is = none_never_some (first_refused_node spec program) i over.nodes is.1.first
   without_question over none (Choice i) is = none_never_some (first_refused_node spec program) i over.nodes is.1.first
-  without_question over none (Foreign i) is = is
-  without_question over none (Unsound i) is = is
+  without_question over none (Foreign i) is = none_never_some (first_foreign_window spec program) i over.foreign is.2
+  without_question over none (Unsound i) is = never_sound program i is.3 over.sound
   without_question over none NoAnnotation is = none is.1.controller is.1.edges is.1.question
   without_question over none Yes is = none is.1.controller is.1.edges is.1.question
 
@@ -41,17 +44,19 @@ module _ (spec : SpecTree) (program : ProgramTree) (bound : ℕ) where
       omega (arith, within, beyond)
   no_verdict Choices v few passed is =
       without_question passed.1 (λ c edges asked.
-      has_choices (negated_form spec) asked.states edges asked.automaton passed.2) v is
+      has_choices (form_for Controller spec program.windows) asked.states edges asked.automaton passed.2) v is
   no_verdict States v few passed is =
       without_question passed.1 (λ c edges asked.
       let within : length asked.states ≤ most_automaton_states = asked.few_states in
       let beyond : most_automaton_states < length asked.states =
-      passes_states (negated_form spec) asked.states edges asked.automaton passed.2 in
+      passes_states (form_for Controller spec program.windows) asked.states edges asked.automaton passed.2 in
       omega (arith, within, beyond)) v is
   no_verdict Edges v few passed is =
       without_question passed.1 (λ c edges asked.
       let within : length edges ≤ most_automaton_edges = asked.few_edges in
       let beyond : most_automaton_edges < length edges =
-      passes_edges (negated_form spec) asked.states edges asked.automaton passed.2 in
+      passes_edges (form_for Controller spec program.windows) asked.states edges asked.automaton passed.2 in
       omega (arith, within, beyond)) v is
+  no_verdict Vectors v few passed is = passed
   no_verdict Clauses v few passed is = passed
+  no_verdict Branches v few passed is = passed

@@ -1,22 +1,26 @@
--- A program with the signals of a specification, whose tests are predicate terms and whose terms are choices, is one over the
--- specification's names.
-use Rattle.std.proofs.Common.{◌≡◌, ◌∙◌, ℕ, Bool, true, false, cond, List, [], ◌∷◌, ◌++◌}
+-- A program with the signals of a specification, whose tests are predicate terms and whose terms are choices, in nodes and windows,
+-- is one over the specification's names.
+use Rattle.std.proofs.Common.{◌≡◌, ◌∙◌, ℕ, ◌==◌, Bool, true, false, cond, List, [], ◌∷◌, ◌++◌, length, map}
 use Rattle.std.proofs.Common.{refl, sym, ap, arith}
-use Rattle.std.specs.Prelude.{filter}
-use Rattle.std.specs.List.{list_all}
+use Rattle.std.specs.Prelude.{filter, is_some}
+use Rattle.std.specs.List.{list_all, AllByRecursion}
 use Rattle.std.proofs.lemmas.Bool.{and_parts, and_from, eqb-true, false≢true}
 use Rattle.std.proofs.lemmas.List.{length-map}
-use Rattle.sequence.proofs.Passes.{list_all_weaker, list_all_joined, passes_at, list_any_place}
+use Rattle.sequence.proofs.Each.{each_unmapped}
+use Rattle.sequence.proofs.Finds.{found_has, found_passes}
+use Rattle.sequence.proofs.Passes.{list_all_weaker, list_all_joined, passes_at, list_any_place, each_from_list_all}
 use Rattle.tsl_terms.specs.declared.names.NameKind.TheVariants.{Signal}
 use Rattle.tsl_terms.specs.declared.spec.Spec.{Spec}
 use Rattle.tsl_terms.specs.Name.{Name, is_name}
-use Rattle.tsl_terms.specs.TermTree.{TermTree}
+use Rattle.tsl_terms.specs.TermTree.{TermTree, ProbeTree}
 use Rattle.tsl_terms.specs.FormulaTree.{Atom, test, update}
 use Rattle.tsl_terms.specs.Atoms.{atoms}
 use Rattle.tsl_terms.specs.SpecTree.{SpecTree, whole_formula}
 use Rattle.tsl_terms.specs.SpecView.{spec_tree}
 use Rattle.tsl_terms.specs.Signals.{atom_updates, formula_updates, is_cell, is_output, is_input}
-use Rattle.tsl_terms.specs.Signals.{name_numbers, inputs_of, cells_of, outputs_of}
+use Rattle.tsl_terms.specs.Signals.{name_numbers, inputs_of, cells_of, outputs_of, choices_of}
+use Rattle.tsl_terms.specs.Predicates.{predicates_of}
+use Rattle.tsl_terms.specs.WindowTree.{WindowTree, ListedTree}
 use Rattle.tsl_terms.specs.WellFormed.{atom_fits, formula_fits}
 use Rattle.tsl_terms.specs.Laws.{FormulasFit}
 use Rattle.tsl_terms.proofs.WholeAtoms.{fits_all, whole_is_made_of}
@@ -25,12 +29,15 @@ use Rattle.flow_program.specs.NodeTree.{NodeTree, branch, assign, node_tree}
 use Rattle.flow_program.specs.ProgramTree.{ProgramTree}
 use Rattle.flow_program.specs.ProgramText.{IsProgram}
 use Rattle.flow_program.specs.ProgramView.{program_tree}
-use Rattle.tsl_meaning.specs.OverNames.{term_is_over, probe_is_over, window_is_over, node_is_over, atom_is_over, IsProgramOver}
+use Rattle.tsl_meaning.specs.OverNames.{term_is_over, probe_is_over, listed_is_over, window_is_over, node_is_over, atom_is_over}
+use Rattle.tsl_meaning.specs.OverNames.{IsProgramOver}
 use Rattle.tsl_meaning.proofs.Naming.{atom_over}
+use Rattle.letter_space.specs.SpaceTree.{ControlledTree}
+use Rattle.letter_space.specs.Bits.{bit_of_probe, bit_of_update}
 use Rattle.letter_space.specs.SpecSpace.{spec_space}
 use Rattle.control_flow_model.specs.ProgramBits.{node_has_bits}
-use Rattle.program_check.specs.Verdicts.{HasSignals}
-use Rattle.program_check.proofs.SpaceTerms.{node_passes, nodes_pass}
+use Rattle.program_check.specs.Verdicts.{HasSignals, window_has_bits}
+use Rattle.program_check.proofs.SpaceTerms.{node_passes, signals_of, updated_with_bit, probe_with_bit, update_with_bit, nodes_pass}
 
 -- the formulas of a specification fit its names
 pub spec_fits : (spec : Spec) → FormulasFit (spec_tree spec)
@@ -104,14 +111,52 @@ module _ (spec : SpecTree) (fits : FormulasFit spec) where
   node_over (branch t a b) over = over
   node_over (assign ts go) over = over
 
-  pub program_over : (program : ProgramTree) → IsProgram program → HasSignals spec program → program.windows ≡ [] →
+  -- windows
+  abbrev signal_named : ControlledTree → Type 0
+  signal_named c = is_name names c.signal Signal 0 ≡ true
+
+  each_named : AllByRecursion signal_named (spec_space spec).controlled
+  each_named =
+      each_unmapped (λ s. is_name names s Signal 0 ≡ true) (λ (c : ControlledTree). c.signal) (spec_space spec).controlled
+      (each_from_list_all (λ s. is_name names s Signal 0) (map (λ (c : ControlledTree). c.signal) (spec_space spec).controlled)
+      (ap (list_all (λ s. is_name names s Signal 0))
+      (signals_of (choices_of spec) (length (predicates_of spec)) (cells_of spec ++ outputs_of spec)) ∙ controlled_named))
+
+  listed_over : (u : ListedTree) → is_some (bit_of_update (spec_space spec) u.signal u.term) ≡ true → listed_is_over names u ≡ true
+  listed_over u has =
+      let found = updated_with_bit spec u.signal u.term has in
+      let c : ControlledTree = found.0 in
+      let named : signal_named c =
+      found_has (λ (d : ControlledTree). d.signal == u.signal) signal_named (spec_space spec).controlled c each_named found.1 in
+      let same : c.signal ≡ u.signal =
+      eqb-true c.signal u.signal (found_passes (λ (d : ControlledTree). d.signal == u.signal) (spec_space spec).controlled c found.1) in
+      and_from (is_name names u.signal Signal 0) (term_is_over names u.term)
+      (ap (λ s. is_name names s Signal 0) (sym same) ∙ named)
+      (update_with_bit spec (atom_is_over names) atoms_over (probe_is_over names) (λ p over. over) (term_is_over names) update_over
+      cell_named u.signal u.term has)
+
+  probe_over : (p : ProbeTree) → is_some (bit_of_probe (spec_space spec) p) ≡ true → probe_is_over names p ≡ true
+  probe_over =
+      probe_with_bit spec (atom_is_over names) atoms_over (probe_is_over names) (λ p over. over) (term_is_over names) update_over
+      cell_named
+
+  window_over : (w : WindowTree) → window_has_bits (spec_space spec) w ≡ true → window_is_over names w ≡ true
+  window_over w has =
+      let both = and_parts _ _ has in
+      let probes = and_parts _ _ both.0 in
+      and_from _ _ (and_from _ _ (probe_over w.left probes.0) (probe_over w.right probes.1))
+      (list_all_weaker (λ (u : ListedTree). is_some (bit_of_update (spec_space spec) u.signal u.term)) (listed_is_over names) listed_over
+      w.updates both.1)
+
+  pub program_over : (program : ProgramTree) → IsProgram program → HasSignals spec program →
+      list_all (window_has_bits (spec_space spec)) program.windows ≡ true →
       list_all (node_has_bits (spec_space spec)) program.nodes ≡ true → IsProgramOver names program
-  program_over program is_program same none bits = record {
+  program_over program is_program same windows bits = record {
     is_program = is_program;
     signals = (λ i. list_all (λ s. is_name names s Signal 0) (same.inputs i ++ (same.cells i ++ same.outputs i)))
         ∙ list_all_joined (λ s. is_name names s Signal 0) (inputs_of spec)
         (cells_of spec ++ outputs_of spec) inputs_named controlled_named;
-    windows = ap (list_all (window_is_over names)) none;
+    windows = list_all_weaker (window_has_bits (spec_space spec)) (window_is_over names) window_over program.windows windows;
     nodes = list_all_weaker (node_passes (probe_is_over names) (term_is_over names)) (node_is_over names) node_over program.nodes
         (nodes_pass spec (atom_is_over names) atoms_over (probe_is_over names) (λ p over. over) (term_is_over names) update_over cell_named
         program.nodes bits);

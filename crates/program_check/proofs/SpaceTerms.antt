@@ -1,10 +1,12 @@
--- What holds of the terms of a specification's atoms holds of its predicate terms and choices, and so of the nodes over its bits.
-use Rattle.std.proofs.Common.{◌≡◌, ℕ, ◌+◌, ◌==◌, Bool, true, false, not, cond, List, [], ◌∷◌, ◌++◌, length, refl, sym}
-use Rattle.std.specs.Prelude.{is_some, flat_map}
+-- What holds of the terms of a specification's atoms holds of its predicate terms and choices, and so of the nodes and windows over
+-- its bits.
+use Rattle.std.proofs.Common.{◌≡◌, ◌∙◌, ℕ, ◌+◌, ◌==◌, Bool, true, false, not, cond, List, [], ◌∷◌, ◌++◌, length, map, Some, refl, sym, ap}
+use Rattle.std.specs.Prelude.{is_some, flat_map, option_and_then}
 use Rattle.std.specs.List.{list_all, AllByRecursion}
 use Rattle.std.proofs.lemmas.Bool.{and_parts, and_from, false≢true}
 use Rattle.sequence.proofs.Each.{each_joined, each_filtered, each_flat_map, each_weaker}
-use Rattle.sequence.proofs.Options.{some_is}
+use Rattle.sequence.proofs.Finds.{found_has}
+use Rattle.sequence.proofs.Options.{some_is, there_before}
 use Rattle.sequence.proofs.Passes.{each_from_list_all, list_all_from_each, list_all_weaker, passes_at}
 use Rattle.tsl_terms.specs.TermTree.{TermTree, ProbeTree, signal}
 use Rattle.tsl_terms.specs.FormulaTree.{Atom, test, update}
@@ -16,7 +18,7 @@ use Rattle.tsl_terms.specs.Signals.{term_for, is_cell, cells_of, outputs_of, cho
 use Rattle.tsl_terms.specs.Predicates.{probe_of, predicates_of}
 use Rattle.flow_program.specs.NodeTree.{NodeTree, branch, assign}
 use Rattle.letter_space.specs.SpaceTree.{ControlledTree}
-use Rattle.letter_space.specs.Bits.{bit_of_probe, bit_of_choice}
+use Rattle.letter_space.specs.Bits.{bit_of_probe, bit_of_choice, controlled_with, bit_of_update}
 use Rattle.letter_space.specs.SpecSpace.{controlled_from, spec_space}
 use Rattle.control_flow_model.specs.ProgramBits.{are_terms_chosen, node_has_bits}
 use Rattle.control_flow_model.proofs.PickedTerms.{picked_place}
@@ -33,6 +35,19 @@ each_without_repeats : {X : Type 0} (P : X → Type 0) (same : X → X → Bool)
 each_without_repeats P same [] each = tt
 each_without_repeats P same (x ∷ xs) each =
     (each.0, each_filtered P (λ y. not (same x y)) (without_repeats same xs) (each_without_repeats P same xs each.1))
+
+-- signals with their choices are these signals
+pub signals_of : (choices : ℕ → List TermTree) (first : ℕ) (signals : List ℕ) →
+    map (λ (c : ControlledTree). c.signal) (controlled_from choices first signals) ≡ signals
+signals_of choices first [] = refl
+signals_of choices first (s ∷ signals) = ap (λ rest. s ∷ rest) (signals_of choices (first + length (choices s)) signals)
+
+-- the signal of an update that has a bit, with its choices
+pub updated_with_bit : (spec : SpecTree) (s : ℕ) (t : TermTree) → is_some (bit_of_update (spec_space spec) s t) ≡ true →
+    (c : ControlledTree) × (controlled_with (spec_space spec).controlled s ≡ Some c) × (is_some (bit_of_choice c t) ≡ true)
+updated_with_bit spec s t has =
+    let found = there_before (λ (c : ControlledTree). bit_of_choice c t) (controlled_with (spec_space spec).controlled s) has in
+    (found.0, found.1, (λ i. is_some (option_and_then (λ (c : ControlledTree). bit_of_choice c t) (sym found.1 i))) ∙ has)
 
 module _ (spec : SpecTree) (atom_passes : Atom → Bool) (all : list_all atom_passes (atoms (whole_formula spec)) ≡ true)
     (probe_passes : ProbeTree → Bool) (of_test : (p : ProbeTree) → atom_passes (test p) ≡ true → probe_passes p ≡ true)
@@ -95,11 +110,25 @@ module _ (spec : SpecTree) (atom_passes : Atom → Bool) (all : list_all atom_pa
       (passes_at term_passes (choices_of spec s) _ t (choices_pass s) (picked_place c t bit.0 (sym bit.1)))
       (terms_pass (first + length (choices_of spec s)) signals ts both.1)
 
+  -- a probe, or an update, that has a bit
+  pub probe_with_bit : (p : ProbeTree) → is_some (bit_of_probe (spec_space spec) p) ≡ true → probe_passes p ≡ true
+  probe_with_bit p has =
+      let bit = some_is (bit_of_probe (spec_space spec) p) has in
+      passes_at probe_passes (predicates_of spec) bit.0 p predicates_pass (probe_at_bit (spec_space spec) p bit.0 bit.1)
+
+  pub update_with_bit : (s : ℕ) (t : TermTree) → is_some (bit_of_update (spec_space spec) s t) ≡ true → term_passes t ≡ true
+  update_with_bit s t has =
+      let found = updated_with_bit spec s t has in
+      let c : ControlledTree = found.0 in
+      let bit = some_is (bit_of_choice c t) found.2 in
+      passes_at term_passes c.choices _ t
+      (found_has (λ (d : ControlledTree). d.signal == s) (λ (d : ControlledTree). list_all term_passes d.choices ≡ true)
+      (spec_space spec).controlled c (controlled_pass (length (predicates_of spec)) (cells_of spec ++ outputs_of spec)) found.1)
+      (picked_place c t bit.0 (sym bit.1))
+
   -- nodes over the bits
   node_passing : (n : NodeTree) → node_has_bits (spec_space spec) n ≡ true → node_passes probe_passes term_passes n ≡ true
-  node_passing (branch t a b) has =
-      let bit = some_is (bit_of_probe (spec_space spec) t) has in
-      passes_at probe_passes (predicates_of spec) bit.0 t predicates_pass (probe_at_bit (spec_space spec) t bit.0 bit.1)
+  node_passing (branch t a b) has = probe_with_bit t has
   node_passing (assign ts go) has = terms_pass (length (predicates_of spec)) (cells_of spec ++ outputs_of spec) ts has
 
   pub nodes_pass : (nodes : List NodeTree) → list_all (node_has_bits (spec_space spec)) nodes ≡ true →

@@ -33,8 +33,11 @@ const SAID: &[(&[u8], &[u8], u32, &str)] = &[
     (IN_TURN, TURNS, 0, "Ok(NoAnnotation)"),
     // a test with two branches
     (CHOOSING, CHOOSER, 0, "Ok(Yes)"),
-    // what holds only because equal terms have equal values is not seen
+    // what holds only because equal terms have equal values is not seen, unless a window says it
     (TWINS, TWIN, 2, "Ok(NoAnnotation)"),
+    (TWINS, SEEN_TWIN, 2, "Ok(Yes)"),
+    (TWINS, SEEN_TWIN, 1, "Ok(Yes)"),
+    (TWINS, SEEN_TWIN, 0, "Ok(NoAnnotation)"),
     // nothing to do
     (b"", NOTHING, 0, "Ok(Yes)"),
     (b"guarantee { false; }", NOTHING, 4, "Ok(NoAnnotation)"),
@@ -61,6 +64,11 @@ const TWINS: &[u8] =
 /// A program for that.
 const TWIN: &[u8] =
     b"tslprogram 1\ninput x\ncell y\ncell z\nnode 0 set [y <- f x] [z <- f x] go 0\nstate 0 at 0\nend\n";
+
+/// The same with a window.
+const SEEN_TWIN: &[u8] =
+    b"tslprogram 1\ninput x\ncell y\ncell z\nwindow p y at 1 is p z at 1 when [y <- f x] at 0 when [z <- f x] at 0\n\
+node 0 set [y <- f x] [z <- f x] go 0\nstate 0 at 0\nend\n";
 
 /// A program without signals.
 const NOTHING: &[u8] = b"tslprogram 1\nnode 0 set go 0\nstate 0 at 0\nend\n";
@@ -116,13 +124,90 @@ const FRONTS: &[(&[u8], &[u8], &str)] = &[
     (b"input x\ninput z\ncell y\n", b" [y <- x]", "Ok(Signals)"),
     // before nodes are looked at
     (b"input x\noutput y\n", b" [y <- f x]", "Ok(Signals)"),
-    // windows before all else
+    // before windows are
     (
-        b"input x\noutput y\nwindow p x at 0 is p x at 1\n",
+        b"input x\noutput y\nwindow r x at 0 is r x at 0\n",
         b" [y <- x]",
-        "Err(Unbuilt)",
+        "Ok(Signals)",
     ),
 ];
+
+/// Copies an input, and tests a cell.
+const COPY_AND_TEST: &[u8] = b"always guarantee { p x -> [y <- x]; p y -> [y <- y] || [y <- x]; }";
+
+/// The windows and the node of a program for that, and what is said of it with a bound of two.
+const WINDOWS: &[(&[u8], &[u8], &str)] = &[
+    (b"", COPYING, "Ok(Yes)"),
+    // a cell is what it took, and what it kept
+    (
+        b"window p x at 0 is p y at 1 when [y <- x] at 0\n",
+        COPYING,
+        "Ok(Yes)",
+    ),
+    (
+        b"window p y at 0 is p y at 2 when [y <- y] at 0 when [y <- y] at 1\n",
+        COPYING,
+        "Ok(Yes)",
+    ),
+    // an input at two steps, and a cell that nothing is known of
+    (b"window p x at 0 is p x at 1\n", COPYING, "Ok(Unsound(0))"),
+    (b"window p y at 0 is p y at 1\n", COPYING, "Ok(Unsound(0))"),
+    (
+        b"window p x at 0 is p y at 1 when [y <- y] at 0\n",
+        COPYING,
+        "Ok(Unsound(0))",
+    ),
+    // a probe on either side that is no predicate term, and an update that is no choice
+    (b"window r x at 0 is r x at 0\n", COPYING, "Ok(Foreign(0))"),
+    (b"window r x at 0 is p x at 0\n", COPYING, "Ok(Foreign(0))"),
+    (b"window p x at 0 is r x at 0\n", COPYING, "Ok(Foreign(0))"),
+    (
+        b"window p x at 1 is p x at 1 when [y <- f x] at 0\n",
+        COPYING,
+        "Ok(Foreign(0))",
+    ),
+    // later windows are looked at too, and all for bits before any for congruence
+    (
+        b"window p x at 0 is p x at 0\nwindow p x at 0 is p x at 1\n",
+        COPYING,
+        "Ok(Unsound(1))",
+    ),
+    (
+        b"window p x at 0 is p x at 1\nwindow p y at 0 is p y at 1\n",
+        COPYING,
+        "Ok(Unsound(0))",
+    ),
+    (
+        b"window p x at 0 is p x at 1\nwindow r x at 0 is r x at 0\n",
+        COPYING,
+        "Ok(Foreign(1))",
+    ),
+    // nodes before windows, and windows before annotations
+    (
+        b"window r x at 0 is r x at 0\n",
+        b"node 0 set [y <- f x] go 0\n",
+        "Ok(Choice(0))",
+    ),
+    (
+        b"window p x at 0 is p x at 1\n",
+        b"node 0 set [y <- f x] go 0\n",
+        "Ok(Choice(0))",
+    ),
+    (
+        b"window p x at 0 is p x at 1\n",
+        b"node 0 set [y <- y] go 0\n",
+        "Ok(Unsound(0))",
+    ),
+    // what a window says does not make another formula true
+    (
+        b"window p x at 0 is p y at 1 when [y <- x] at 0\n",
+        b"node 0 set [y <- y] go 0\n",
+        "Ok(NoAnnotation)",
+    ),
+];
+
+/// A node that copies.
+const COPYING: &[u8] = b"node 0 set [y <- x] go 0\n";
 
 /// A specification that a text spells.
 fn spec_of(rt: &impl Abort, alloc: Global, text: &[u8]) -> Result<Spec, Fail>
@@ -156,7 +241,7 @@ fn said(
 ) -> Result<String, Fail> {
     let spec = spec_of(rt, alloc, spec)?;
     let program = program_of(rt, alloc, program, spec.names.copy()?)?;
-    assert!(rt; program.nodes.len() < 100_000 && program.states.len() < 100_000);
+    assert!(rt; program.nodes.len() < 100_000 && program.states.len() < 100_000 && program.windows.len() < 100_000);
     let said: Result<Verdict, CheckError> = accept(alloc, &spec, &program, bound);
     Ok(format!(in alloc; "{said:?}")?)
 }
@@ -239,6 +324,19 @@ fn signals_are_compared_first(rt: HostRuntime) -> Result<(), Fail> {
         let program = joined(rt.alloc(), &front, updates, b" go 0\nstate 0 at 0\nend\n")?;
         assert_eq!(rt;
             said(&rt, rt.alloc(), COPY, &program, 2)?.as_str(),
+            expected
+        );
+    }
+    Ok(())
+}
+
+#[test]
+fn the_first_refused_window_is_named(rt: HostRuntime) -> Result<(), Fail> {
+    for &(windows, node, expected) in WINDOWS {
+        let front = joined(rt.alloc(), COPY_FRONT, windows, node)?;
+        let program = joined(rt.alloc(), &front, b"state 0 at 0\n", b"end\n")?;
+        assert_eq!(rt;
+            said(&rt, rt.alloc(), COPY_AND_TEST, &program, 2)?.as_str(),
             expected
         );
     }

@@ -38,9 +38,12 @@ pub enum Limit {
     States,
     /// The automaton has more than 200,000 edges.
     Edges,
-    /// The encoding of the question whether there is a controller has more than 2,000,000 clauses. No program is
-    /// refused for it.
+    /// The cells and outputs have more than 1,024 vectors of choices. No program is refused for it.
+    Vectors,
+    /// The encoding of a question has more than 2,000,000 clauses. No program is refused for it.
     Clauses,
+    /// A search for a window looks at more than 10,000,000 cases. No program is refused for it.
+    Branches,
 }
 
 /// Why nothing is said of a program.
@@ -52,9 +55,6 @@ pub enum CheckError {
     /// Memory ran out.
     #[error("out of memory")]
     NoMemory,
-    /// The program has windows, which are not built yet.
-    #[error("the program has windows")]
-    Unbuilt,
 }
 
 impl From<NoMemory> for CheckError {

@@ -2,7 +2,7 @@
 use Rattle.std.proofs.Common.{◌≡◌, ◌≢◌, ℕ, true, List, [], refl, ap, sym, ◌∙◌, subst}
 use Rattle.std.specs.Prelude.{Some}
 use Rattle.tsl_report.specs.declared.fault.Head.TheVariants.{Program}
-use Rattle.tsl_report.specs.declared.fault.Fault.TheVariants.{Parts, Unbuilt}
+use Rattle.tsl_report.specs.declared.fault.Fault.TheVariants.{Parts}
 use Rattle.tsl_meaning.specs.Promise.{Realizes}
 use Rattle.program_check.specs.declared.verdict.Verdict.{Verdict}
 use Rattle.program_check.specs.declared.verdict.Verdict.TheVariants.{Signals, Test, Choice, Foreign, Unsound, NoAnnotation, Yes}
@@ -14,7 +14,7 @@ use Rattle.tsl_tool.specs.declared.status.Status.{Status}
 use Rattle.tsl_tool.specs.declared.status.Status.TheVariants.{Done, No}
 use Rattle.tsl_tool.specs.declared.reply.Reply.{Reply}
 use Rattle.tsl_tool.specs.Check.{CheckParts, AreCheckParts, CheckInput, SpellCheckInput, verdict_reply}
-use Rattle.tsl_tool.specs.Check.{VerdictOutcome, unbuilt, too_large, judged, spec_refused, program_refused, both_spelled}
+use Rattle.tsl_tool.specs.Check.{VerdictOutcome, too_large, judged, spec_refused, program_refused, both_spelled}
 use Rattle.tsl_tool.specs.Check.{CheckOutcome, without_program, of_texts}
 use Rattle.tsl_tool.specs.Promise.{Promise}
 use Rattle.tsl_tool.specs.Refusals.{fault_at_limit}
@@ -35,9 +35,8 @@ verdict_comes bound Yes = refl
 
 both_come : (bound : ℕ) (spec : SpecTree) (program : ProgramTree) (reply : Reply) → VerdictOutcome bound spec program reply →
     comes_of_bytes reply.status ≡ true
-both_come bound spec program reply (unbuilt some is) = ap comes_of_bytes (status_of is)
-both_come bound spec program reply (too_large limit none passed is) = ap comes_of_bytes (status_of is) ∙ limit_comes limit
-both_come bound spec program reply (judged verdict none h realizes is) = ap comes_of_bytes (status_of is) ∙ verdict_comes bound verdict
+both_come bound spec program reply (too_large limit passed is) = ap comes_of_bytes (status_of is) ∙ limit_comes limit
+both_come bound spec program reply (judged verdict h realizes is) = ap comes_of_bytes (status_of is) ∙ verdict_comes bound verdict
 
 pub check_comes : (bound : ℕ) (bytes : List ℕ) (reply : Reply) → CheckOutcome bound bytes reply → comes_of_bytes reply.status ≡ true
 check_comes bound bytes reply (without_program none is) = ap comes_of_bytes (status_of is)
@@ -61,9 +60,8 @@ verdict_says bound Yes e = cc
 
 both_say : (bound : ℕ) (spec : SpecTree) (program : ProgramTree) (reply : Reply) → VerdictOutcome bound spec program reply →
     reply.text ≢ []
-both_say bound spec program reply (unbuilt some is) e = fault_says Unbuilt reply is e
-both_say bound spec program reply (too_large limit none passed is) e = fault_says (fault_at_limit limit) reply is e
-both_say bound spec program reply (judged verdict none h realizes is) e = verdict_says bound verdict (sym (text_of is) ∙ e)
+both_say bound spec program reply (too_large limit passed is) e = fault_says (fault_at_limit limit) reply is e
+both_say bound spec program reply (judged verdict h realizes is) e = verdict_says bound verdict (sym (text_of is) ∙ e)
 
 pub check_says : (bound : ℕ) (bytes : List ℕ) (reply : Reply) → CheckOutcome bound bytes reply → reply.text ≢ []
 check_says bound bytes reply (without_program none is) e = fault_says (Parts Program) reply is e
@@ -90,10 +88,10 @@ is_other bound verdict is same =
 
 module _ (bound : ℕ) (bytes : List ℕ) (parts : CheckParts) (are : AreCheckParts bytes parts) (input : CheckInput)
     (spells : SpellCheckInput parts input) where
-  judged_keeps : (verdict : Verdict) (status : Status) → input.program.windows ≡ [] → IsVerdict input.spec input.program bound verdict →
+  judged_keeps : (verdict : Verdict) (status : Status) → IsVerdict input.spec input.program bound verdict →
       (verdict ≡ Yes → Realizes input.spec input.program) → (verdict_reply bound verdict).status ≡ status →
       Promise (Some (Check bound)) status bytes (verdict_reply bound verdict).text
-  judged_keeps verdict Done none h realizes is = record {
+  judged_keeps verdict Done h realizes is = record {
     parts = parts;
     are_parts = are;
     input = input;
@@ -101,26 +99,24 @@ module _ (bound : ℕ) (bytes : List ℕ) (parts : CheckParts) (are : AreCheckPa
     realizes = realizes (is_yes bound verdict is);
     text_is = ap (λ (v : Verdict). (verdict_reply bound v).text) (is_yes bound verdict is);
   }
-  judged_keeps verdict No none h realizes is = record {
+  judged_keeps verdict No h realizes is = record {
     parts = parts;
     are_parts = are;
     input = input;
     spelled = spells;
-    windows = none;
     verdict = verdict;
     is_verdict = h;
     is_refused = is_other bound verdict is;
     text_is = refl;
   }
-  judged_keeps verdict _ none h realizes is = tt
+  judged_keeps verdict _ h realizes is = tt
 
   both_keep : (reply : Reply) → VerdictOutcome bound input.spec input.program reply →
       Promise (Some (Check bound)) reply.status bytes reply.text
-  both_keep reply (unbuilt some is) = fault_keeps (Some (Check bound)) Unbuilt bytes reply is
-  both_keep reply (too_large limit none passed is) = fault_keeps (Some (Check bound)) (fault_at_limit limit) bytes reply is
-  both_keep reply (judged verdict none h realizes is) =
+  both_keep reply (too_large limit passed is) = fault_keeps (Some (Check bound)) (fault_at_limit limit) bytes reply is
+  both_keep reply (judged verdict h realizes is) =
       subst (λ (r : Reply). Promise (Some (Check bound)) r.status bytes r.text) (sym is)
-      (judged_keeps verdict (verdict_reply bound verdict).status none h realizes refl)
+      (judged_keeps verdict (verdict_reply bound verdict).status h realizes refl)
 
 pub check_keeps : (bound : ℕ) (bytes : List ℕ) (reply : Reply) → CheckOutcome bound bytes reply →
     Promise (Some (Check bound)) reply.status bytes reply.text

@@ -1,5 +1,5 @@
 -- The outcomes of each stage of `check`.
-use Rattle.std.proofs.Common.{◌≡◌, ℕ, List, [], ap, ◌∙◌}
+use Rattle.std.proofs.Common.{◌≡◌, ℕ, List, ap, ◌∙◌}
 use Rattle.std.specs.Prelude.{Result, Ok, Err, IfOk}
 use Rattle.tsl_terms.specs.SpecTree.{SpecTree}
 use Rattle.flow_program.specs.ProgramTree.{ProgramTree}
@@ -55,11 +55,11 @@ module _ {E : Type 0} (bound : ℕ) where
   pub too_large_outcome : (spec : SpecTree) (program : ProgramTree) (limit : Limit) (fault : Fault) (r : Result Reply E) →
       HasCheckCause spec program (Large limit) → fault ≡ fault_at_limit limit → IfOk r (λ reply. reply ≡ fault_reply fault) →
       IfOk r (VerdictOutcome bound spec program)
-  too_large_outcome spec program limit fault (Ok reply) cause is_limit is = too_large limit cause.0 cause.1 (is ∙ ap fault_reply is_limit)
+  too_large_outcome spec program limit fault (Ok reply) cause is_limit is = too_large limit cause (is ∙ ap fault_reply is_limit)
   too_large_outcome spec program limit fault (Err e) cause is_limit is = tt
 
-  pub judged_outcome : (spec : SpecTree) (program : ProgramTree) (verdict : Verdict) (r : Result Reply E) → program.windows ≡ [] →
+  pub judged_outcome : (spec : SpecTree) (program : ProgramTree) (verdict : Verdict) (r : Result Reply E) →
       IsVerdict spec program bound verdict → (verdict ≡ Yes → Realizes spec program) →
       IfOk r (λ reply. reply ≡ verdict_reply bound verdict) → IfOk r (VerdictOutcome bound spec program)
-  judged_outcome spec program verdict (Ok reply) none h realizes is = judged verdict none h realizes is
-  judged_outcome spec program verdict (Err e) none h realizes is = tt
+  judged_outcome spec program verdict (Ok reply) h realizes is = judged verdict h realizes is
+  judged_outcome spec program verdict (Err e) h realizes is = tt

@@ -1,7 +1,7 @@
 -- The statuses and texts of replies.
 use Rattle.std.proofs.Common.{◌≡◌, ◌≢◌, ℕ, Bool, true, false, List, [], ◌∷◌, ◌++◌, refl, ap, sym, ◌∙◌}
 use Rattle.program_check.specs.declared.verdict.Limit.{Limit}
-use Rattle.program_check.specs.declared.verdict.Limit.TheVariants.{Predicates, Bits, Choices, States, Edges, Clauses}
+use Rattle.program_check.specs.declared.verdict.Limit.TheVariants.{Predicates, Bits, Choices, States, Edges, Vectors, Clauses, Branches}
 use Rattle.tsl_reader.specs.declared.SpecError.{SpecError}
 use Rattle.tsl_reader.specs.declared.SpecError.TheVariants.{Byte, OpenComment, Form, Deep, Kind, Arity, Nodes, NoMemory}
 use Rattle.tsl_report.specs.declared.fault.Fault.{Fault}
@@ -49,7 +49,9 @@ limit_comes Bits = refl
 limit_comes Choices = refl
 limit_comes States = refl
 limit_comes Edges = refl
+limit_comes Vectors = refl
 limit_comes Clauses = refl
+limit_comes Branches = refl
 
 pub limit_status : (limit : Limit) → fault_status (fault_at_limit limit) ≡ Large
 limit_status Predicates = refl
@@ -57,7 +59,9 @@ limit_status Bits = refl
 limit_status Choices = refl
 limit_status States = refl
 limit_status Edges = refl
+limit_status Vectors = refl
 limit_status Clauses = refl
+limit_status Branches = refl
 
 pub limit_is_large : (limit : Limit) → is_answer (fault_status (fault_at_limit limit)) ≡ false
 limit_is_large Predicates = refl
@@ -65,7 +69,9 @@ limit_is_large Bits = refl
 limit_is_large Choices = refl
 limit_is_large States = refl
 limit_is_large Edges = refl
+limit_is_large Vectors = refl
 limit_is_large Clauses = refl
+limit_is_large Branches = refl
 
 -- each reply has a text
 some_byte : (xs : List ℕ) (y : ℕ) → xs ++ y ∷ [] ≢ []

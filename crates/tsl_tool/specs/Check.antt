@@ -1,5 +1,5 @@
 -- What the command `check` replies.
-use Rattle.std.specs.Prelude.{◌≡◌, ◌≢◌, ℕ, List, [], ◌++◌, codes, decimal}
+use Rattle.std.specs.Prelude.{◌≡◌, ◌≢◌, ℕ, List, ◌++◌, codes, decimal}
 use Rattle.tsl_terms.specs.Name.{Name}
 use Rattle.tsl_terms.specs.SpecTree.{SpecTree}
 use Rattle.tsl_reader.specs.Spells.{Spells}
@@ -13,7 +13,7 @@ use Rattle.program_check.specs.declared.verdict.Limit.{Limit}
 use Rattle.program_check.specs.Verdicts.{IsVerdict, IsPassed}
 use Rattle.tsl_report.specs.declared.fault.Head.TheVariants.{Program}
 use Rattle.tsl_report.specs.declared.fault.Fault.{Fault}
-use Rattle.tsl_report.specs.declared.fault.Fault.TheVariants.{Parts, Unbuilt}
+use Rattle.tsl_report.specs.declared.fault.Fault.TheVariants.{Parts}
 use Rattle.tsl_tool.specs.declared.status.Status.TheVariants.{Done, No}
 use Rattle.tsl_tool.specs.declared.reply.Reply.{Reply}
 use Rattle.tsl_tool.specs.HeadLines.{HasNoLine, IsCutBefore}
@@ -63,14 +63,12 @@ verdict_reply bound NoAnnotation = refused_reply (codes "bound " ++ decimal boun
 
 -- what is replied to a specification and a program
 pub data VerdictOutcome (bound : ℕ) (spec : SpecTree) (program : ProgramTree) (reply : Reply) : Type 0 where
-  -- programs with windows are not built yet
-  unbuilt : (program.windows ≡ [] → ⊥) → reply ≡ fault_reply Unbuilt → VerdictOutcome bound spec program reply
   -- a limit is passed
-  too_large : (limit : Limit) → program.windows ≡ [] → IsPassed spec program limit → reply ≡ fault_reply (fault_at_limit limit) →
+  too_large : (limit : Limit) → IsPassed spec program limit → reply ≡ fault_reply (fault_at_limit limit) →
       VerdictOutcome bound spec program reply
   -- there is a verdict, and a program that is accepted realizes the specification
-  judged : (verdict : Verdict) → program.windows ≡ [] → IsVerdict spec program bound verdict →
-      (verdict ≡ Yes → Realizes spec program) → reply ≡ verdict_reply bound verdict → VerdictOutcome bound spec program reply
+  judged : (verdict : Verdict) → IsVerdict spec program bound verdict → (verdict ≡ Yes → Realizes spec program) →
+      reply ≡ verdict_reply bound verdict → VerdictOutcome bound spec program reply
 
 pub data TextsOutcome (bound : ℕ) (parts : CheckParts) (reply : Reply) : Type 0 where
   -- the specification is refused at a fault, or the program is
@@ -90,8 +88,8 @@ pub data CheckOutcome (bound : ℕ) (bytes : List ℕ) (reply : Reply) : Type 0 
 
 -- ---- what the answers promise
 
--- The bytes spell a specification and a program, and the program realizes the specification: every closed run of it, under every
--- finite interpretation and every input loop, meets the whole formula.
+-- The bytes spell a specification and a program, and the program realizes the specification: each of its windows is congruent, and
+-- every closed run of it, under every finite interpretation and every input loop, meets the formula of each window and the whole formula.
 pub record IsAcceptedProgram (bytes text : List ℕ) : Type 0 where
   pub parts : CheckParts
   pub are_parts : AreCheckParts bytes parts
@@ -106,7 +104,6 @@ pub record IsRefusedProgram (bound : ℕ) (bytes text : List ℕ) : Type 0 where
   pub are_parts : AreCheckParts bytes parts
   pub input : CheckInput
   pub spelled : SpellCheckInput parts input
-  pub windows : input.program.windows ≡ []
   pub verdict : Verdict
   pub is_verdict : IsVerdict input.spec input.program bound verdict
   pub is_refused : verdict ≢ Yes

@@ -8,7 +8,8 @@ use Rattle.flow_program.specs.Fits.{longest as longest_window}
 use Rattle.flow_program.specs.ProgramText.{most_windows, most_nodes as most_program_nodes, most_states as most_program_states}
 use Rattle.table_interp.specs.declared.TheConstants.{MOST_VALUES, MOST_ENTRIES, MOST_ROWS}
 use Rattle.refutation_check.specs.declared.dimacs.TheConstants.{MOST_VARIABLES, MOST_CLAUSES}
-use Rattle.letter_space.specs.declared.limits.TheConstants.{MOST_PREDICATES, MOST_BITS}
+use Rattle.letter_space.specs.declared.limits.TheConstants.{MOST_PREDICATES, MOST_BITS, MOST_VECTORS}
+use Rattle.branch_finder.specs.declared.limits.TheConstants.{MOST_BRANCHES}
 use Rattle.obligations.specs.Choices.{most_choices, letter_bits}
 use Rattle.cobuchi_automata.specs.Refusals.{most_automaton_states, most_automaton_edges}
 use Rattle.tsl_tool.specs.declared.options.NumberOption.TheVariants.{States, Bound, Budget, Rounds}
@@ -55,6 +56,9 @@ pub record LimitsAreThese : Type 0 where
   pub choices : most_choices ≡ 65536
   pub automaton_states : most_automaton_states ≡ 4096
   pub automaton_edges : most_automaton_edges ≡ 200000
+  -- the vectors of an environment, and the cases of a search for a window
+  pub vectors : MOST_VECTORS ≡ 1024
+  pub branches : MOST_BRANCHES ≡ 10000000
   -- tables, inputs, and the configurations of a run
   pub values : MOST_VALUES ≡ 256
   pub entries : MOST_ENTRIES ≡ 65536

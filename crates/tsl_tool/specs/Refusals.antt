@@ -5,14 +5,16 @@ use Rattle.tsl_text.specs.Places.{IsColumn}
 use Rattle.tsl_reader.specs.declared.SpecError.{SpecError}
 use Rattle.tsl_reader.specs.declared.SpecError.TheVariants.{Byte, OpenComment, Form, Deep, Kind, Arity, Nodes, NoMemory}
 use Rattle.tsl_reader.specs.Spells.{HasCause, SpellsNoSpec, most_formula_nodes}
-use Rattle.letter_space.specs.declared.limits.TheConstants.{MOST_PREDICATES, MOST_BITS}
+use Rattle.letter_space.specs.declared.limits.TheConstants.{MOST_PREDICATES, MOST_BITS, MOST_VECTORS}
 use Rattle.obligations.specs.Choices.{most_choices}
 use Rattle.cobuchi_automata.specs.Refusals.{most_automaton_states, most_automaton_edges}
 use Rattle.refutation_check.specs.declared.dimacs.TheConstants.{MOST_CLAUSES}
+use Rattle.branch_finder.specs.declared.limits.TheConstants.{MOST_BRANCHES}
 use Rattle.program_check.specs.declared.verdict.Limit.{Limit}
 use Rattle.program_check.specs.declared.verdict.Limit.TheVariants as limits
 use Rattle.tsl_report.specs.declared.fault.TokenPart.TheVariants.{Spec}
-use Rattle.tsl_report.specs.declared.fault.LimitName.TheVariants.{Nodes as NodesLimit, Predicates, Bits, Choices, States, Edges, Clauses}
+use Rattle.tsl_report.specs.declared.fault.LimitName.TheVariants.{Nodes as NodesLimit, Predicates, Bits, Choices, States, Edges, Vectors, Clauses}
+use Rattle.tsl_report.specs.declared.fault.LimitName.TheVariants.{Branches}
 use Rattle.tsl_report.specs.declared.fault.Fault.{Fault}
 use Rattle.tsl_report.specs.declared.fault.Fault.TheVariants.{Byte as ByteFault, Comment as CommentFault, Form as FormFault}
 use Rattle.tsl_report.specs.declared.fault.Fault.TheVariants.{Deep as DeepFault, Kind as KindFault, Arity as ArityFault, Large}
@@ -53,4 +55,6 @@ fault_at_limit limits.Bits = Large Bits MOST_BITS
 fault_at_limit limits.Choices = Large Choices most_choices
 fault_at_limit limits.States = Large States most_automaton_states
 fault_at_limit limits.Edges = Large Edges most_automaton_edges
+fault_at_limit limits.Vectors = Large Vectors MOST_VECTORS
 fault_at_limit limits.Clauses = Large Clauses MOST_CLAUSES
+fault_at_limit limits.Branches = Large Branches MOST_BRANCHES

@@ -90,12 +90,12 @@ fn reply_to_program(
 ) -> Result<Reply, NoMemory>
     requires few_nodes { length program.now.nodes < 2 ^ 32 }
     requires few_states { length program.now.states < 2 ^ 32 }
+    requires few_windows { length program.now.windows < 2 ^ 32 }
     ensures { IfOk result (VerdictOutcome bound (spec_tree spec.now) (program_tree program.now)) }
 {
     match accept(alloc, spec, program, bound) {
         Ok(verdict) => reply_of(alloc, bound, verdict),
         Err(CheckError::Large(limit)) => Reply::at_fault(alloc, &fault_of_limit(limit)),
-        Err(CheckError::Unbuilt) => Reply::at_fault(alloc, &Fault::Unbuilt),
         Err(CheckError::NoMemory) => Err(NoMemory),
     }
 }

@@ -29,6 +29,13 @@ const TESTED: &[u8] = b"always guarantee { p x <-> [y <- x]; q y -> q y; }\n";
 const TESTS: &[u8] =
     b"tslprogram 1\ninput x\ncell y\nnode 0 set [y <- x] go 0\nnode 1 set [y <- y] go 0\nnode 2 if p x then 0 else 1\nstate 0 at 2\nend\n";
 
+/// Two cells that take one term.
+const TWINS: &[u8] =
+    b"always guarantee { [y <- f x] && [z <- f x]; }\nguarantee { X (p y <-> p z); }\n";
+
+/// Copies an input to an output where it has a property.
+const COPY: &[u8] = b"always guarantee { p x -> [y <- x]; }\n";
+
 /// The arbiter and the program that grants in turn.
 const ACCEPTED: Pair = Pair {
     bound: "2",
@@ -39,7 +46,7 @@ const ACCEPTED: Pair = Pair {
 };
 
 /// Programs and the first verdict on each that applies.
-static VERDICTS: [Pair; 12] = [
+static VERDICTS: [Pair; 17] = [
     ACCEPTED,
     Pair {
         bound: "1",
@@ -64,12 +71,47 @@ static VERDICTS: [Pair; 12] = [
         says: b"refused bound 2\n",
         ..ACCEPTED
     },
-    // What terms mean would save it.
+    // What terms mean would save it, and does where a window says so.
     Pair {
-        spec: b"always guarantee { [y <- f x] && [z <- f x]; }\nguarantee { X (p y <-> p z); }\n",
+        spec: TWINS,
         program: b"tslprogram 1\ninput x\ncell y\ncell z\nnode 0 set [y <- f x] [z <- f x] go 0\nstate 0 at 0\nend\n",
         status: Status::No,
         says: b"refused bound 2\n",
+        ..ACCEPTED
+    },
+    Pair {
+        spec: TWINS,
+        program: b"tslprogram 1\ninput x\ncell y\ncell z\nwindow p y at 1 is p z at 1 when [y <- f x] at 0 when [z <- f x] at 0\nnode 0 set [y <- f x] [z <- f x] go 0\nstate 0 at 0\nend\n",
+        ..ACCEPTED
+    },
+    // A window that reads an input at two steps, also behind one that is congruent.
+    Pair {
+        spec: COPY,
+        program: b"tslprogram 1\ninput x\noutput y\nwindow p x at 0 is p x at 1\nnode 0 set [y <- x] go 0\nstate 0 at 0\nend\n",
+        status: Status::No,
+        says: b"refused window 0\n",
+        ..ACCEPTED
+    },
+    Pair {
+        spec: COPY,
+        program: b"tslprogram 1\ninput x\noutput y\nwindow p x at 0 is p x at 0\nwindow p x at 0 is p x at 1\nnode 0 set [y <- x] go 0\nstate 0 at 0\nend\n",
+        status: Status::No,
+        says: b"refused window 1\n",
+        ..ACCEPTED
+    },
+    // A window with a predicate that the specification lacks, which is said before congruence is looked at.
+    Pair {
+        spec: COPY,
+        program: b"tslprogram 1\ninput x\noutput y\nwindow q x at 0 is q x at 0\nnode 0 set [y <- x] go 0\nstate 0 at 0\nend\n",
+        status: Status::No,
+        says: b"refused foreign 0\n",
+        ..ACCEPTED
+    },
+    Pair {
+        spec: COPY,
+        program: b"tslprogram 1\ninput x\noutput y\nwindow p x at 0 is p x at 1\nwindow q x at 0 is q x at 0\nnode 0 set [y <- x] go 0\nstate 0 at 0\nend\n",
+        status: Status::No,
+        says: b"refused foreign 1\n",
         ..ACCEPTED
     },
     // Without any signal, and with those of another specification, though a test is refused too.
@@ -117,7 +159,7 @@ static VERDICTS: [Pair; 12] = [
 ];
 
 /// Texts without a verdict.
-static REFUSED: [Pair; 8] = [
+static REFUSED: [Pair; 9] = [
     Pair {
         program: b"tslprogram 2\n",
         status: Status::Reading,
@@ -153,12 +195,19 @@ static REFUSED: [Pair; 8] = [
         says: b"fault program 2 kind p\n",
         ..ACCEPTED
     },
-    // Windows are not built yet, which goes before every verdict.
+    // Behind a window line.
     Pair {
         spec: TESTED,
-        program: b"tslprogram 1\ninput x\ncell y\nwindow p x at 0 is p y at 1 when [y <- x] at 0\nnode 0 set [y <- f x] go 0\nstate 0 at 0\nend\n",
+        program: b"tslprogram 1\ninput x\ncell y\nwindow p x at 0 is p y at 1 when [y <- x] at 0\nnode 0 if p x then 0 else 0\nstate 0 at 0\nend\n",
         status: Status::Reading,
-        says: b"fault unbuilt\n",
+        says: b"fault program 5 order\n",
+        ..ACCEPTED
+    },
+    Pair {
+        spec: TESTED,
+        program: b"tslprogram 1\ninput x\ncell y\nwindow p x at 0 is p y at 1 when [y <- x] at 0\nnode 0 set go 0\nstate 0 at 0\nend\n",
+        status: Status::Reading,
+        says: b"fault program 5 updates\n",
         ..ACCEPTED
     },
     Pair {

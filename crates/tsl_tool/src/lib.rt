@@ -62,9 +62,9 @@
 //! line of its fault (`specs/Refusals.antt`), and so has each refusal of another part
 //! (`specs/RunFaults.antt`).
 //!
-//! What is not built: `check` answers the line `fault unbuilt` for programs with windows, `synth`
-//! makes no rounds of refinement, and there is no generator. A new command adds a variant, its
-//! words, a line of `CommandOutcome` with a relation of its own, and its lines of `Promise`.
+//! What is not built: `synth` makes no rounds of refinement, and there is no generator. A new command
+//! adds a variant, its words, a line of `CommandOutcome` with a relation of its own, and its lines of
+//! `Promise`.
 #![tactic(auto)]
 
 mod check;

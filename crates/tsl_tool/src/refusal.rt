@@ -4,8 +4,9 @@ ghost use Rattle.std.specs.Prelude.{◌≡◌, ◌-◌, ◌<◌, ◌≤◌, ◌^
 ghost use Rattle.tsl_tool.specs.Refusals.{IsPlaceOf, IsFaultOf, name_between, fault_at_limit};
 ghost use Rattle.tsl_tool.specs.internal.RefusalPlaces.{StandsIn};
 
+use branch_finder::MOST_BRANCHES;
 use cobuchi_automata::{MOST_AUTOMATON_EDGES, MOST_AUTOMATON_STATES};
-use letter_space::{MOST_BITS, MOST_PREDICATES};
+use letter_space::{MOST_BITS, MOST_PREDICATES, MOST_VECTORS};
 use obligations::MOST_CHOICES;
 use program_check::Limit;
 use refutation_check::MOST_CLAUSES;
@@ -73,6 +74,8 @@ pub(crate) fn fault_of_limit(limit: Limit) -> Fault
         Limit::Choices => Fault::Large(LimitName::Choices, MOST_CHOICES as u32),
         Limit::States => Fault::Large(LimitName::States, MOST_AUTOMATON_STATES as u32),
         Limit::Edges => Fault::Large(LimitName::Edges, MOST_AUTOMATON_EDGES as u32),
+        Limit::Vectors => Fault::Large(LimitName::Vectors, MOST_VECTORS),
         Limit::Clauses => Fault::Large(LimitName::Clauses, MOST_CLAUSES as u32),
+        Limit::Branches => Fault::Large(LimitName::Branches, MOST_BRANCHES as u32),
     }
 }

@@ -20,7 +20,7 @@ returns-in-Some-clause-verdict c =
       c.requires.over,
       annotated (spec_tree c.args.spec.now) (program_tree c.args.program.now) (space_tree c.args.space.now) c.requires.space
           (controller_tree c.in_ok-controller.controller) c.in_ok-controller.ensures made.automaton.0 c.in_ok-automaton.automaton.edges _
-          made.automaton.1 made.automaton.2 made.few_states made.few_edges c.args.bound _
+          made.automaton.1 automaton made.few_states made.few_edges c.args.bound _
           (rw c.in-Some.is at c.in_ok-annotation.ensures.annotation),
     )
 
@@ -40,6 +40,6 @@ returns-clause-verdict c =
       c.requires.over,
       not_annotated (spec_tree c.args.spec.now) (program_tree c.args.program.now) (space_tree c.args.space.now) c.requires.space
           (controller_tree c.in_ok-controller.controller) c.in_ok-controller.ensures made.automaton.0 c.in_ok-automaton.automaton.edges _
-          made.automaton.1 made.automaton.2 made.few_states made.few_edges c.args.bound c.requires.few_bits
+          made.automaton.1 automaton made.few_states made.few_edges c.args.bound c.requires.few_bits
           (rw c.in-None.is at c.in_ok-annotation.ensures.none),
     )

@@ -1,6 +1,5 @@
-use Rattle.std.proofs.Common.{ap, map, subst}
+use Rattle.std.proofs.Common.{subst}
 use Rattle.tsl_terms.specs.SpecView.{spec_tree}
-use Rattle.tsl_terms.specs.WindowTree.{window_tree}
 use Rattle.flow_program.specs.ProgramView.{program_tree}
 use Rattle.program_check.specs.declared.verdict.CheckError.{CheckError}
 use Rattle.program_check.specs.Verdicts.{HasCheckCause}
@@ -10,7 +9,7 @@ use Rattle.tsl_tool.proofs.check.reply_to_program.Goals as goal
 pub returns-in-Ok : goal.returns-in-Ok
 returns-in-Ok c =
     judged_outcome c.args.bound (spec_tree c.args.spec.now) (program_tree c.args.program.now) c.in-Ok.verdict c.reply_of.result
-    (ap (map window_tree) c.in-Ok.ensures.built) c.in-Ok.ensures.verdict c.in-Ok.ensures.realized c.reply_of.ensures
+    c.in-Ok.ensures.verdict c.in-Ok.ensures.realized c.reply_of.ensures
 
 pub returns-in-Err-Large : goal.returns-in-Err-Large
 returns-in-Err-Large c =

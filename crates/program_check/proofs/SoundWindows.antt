@@ -1,0 +1,94 @@
+-- Windows that are congruent: what a loop over them keeps, and that there is one first window that is not.
+use Rattle.std.proofs.Common.{◌≡◌, ◌∙◌, ℕ, ◌<◌, ◌≤◌, true, ◌&&◌, ◌+◌, ◌++◌, nat_le, nat_lt, List, length, map, take, get_or, Some, slice_get}
+use Rattle.std.proofs.Common.{inl, inr, sym, ap, subst, arith}
+use Rattle.std.specs.List.{list_all, AllByRecursion}
+use Rattle.std.proofs.lemmas.Bool.{and_parts, cases_lt}
+use Rattle.std.proofs.lemmas.Option.{slice_get-get_or}
+use Rattle.sequence.specs.Numbers.{is_among}
+use Rattle.sequence.proofs.Each.{each_at, each_weaker}
+use Rattle.sequence.proofs.Passes.{each_from_list_all, passes_at}
+use Rattle.sequence.proofs.Places.{slice_get_taken}
+use Rattle.tsl_terms.specs.declared.window.Window.{Window}
+use Rattle.tsl_terms.specs.WindowTree.{ListedTree, WindowTree, window_tree}
+use Rattle.tsl_terms.specs.Congruence.{IsCongruent, UpdateCells}
+use Rattle.flow_program.specs.Fits.{window_is_shaped, window_reads_only, window_fits, rises, longest}
+use Rattle.flow_program.specs.declared.program.Program.{Program}
+use Rattle.flow_program.specs.ProgramTree.{ProgramTree}
+use Rattle.flow_program.specs.ProgramView.{program_tree}
+use Rattle.annotation_check.proofs.EdgesFollowed.{image_at, each_image_next, each_image}
+use Rattle.program_check.specs.Verdicts.{AreSound, IsUnsoundAt}
+
+-- the listed updates of a window that fits are of cells
+pub cells_updated : (readable cells : List ℕ) (w : WindowTree) → window_fits readable cells w ≡ true → UpdateCells cells w.updates
+cells_updated readable cells w fits =
+    let shaped = (and_parts (window_is_shaped cells w) (window_reads_only readable w) fits).0 in
+    let updates = (and_parts (nat_le w.length longest && nat_le w.left_at w.length) _ shaped).1 in
+    let listed = (and_parts (list_all (λ (u : ListedTree). nat_lt u.offset w.length && is_among cells u.signal) w.updates) _ updates).0 in
+    each_weaker (λ (u : ListedTree). (nat_lt u.offset w.length && is_among cells u.signal) ≡ true)
+    (λ (u : ListedTree). is_among cells u.signal ≡ true)
+    (λ u both. (and_parts (nat_lt u.offset w.length) (is_among cells u.signal) both).1) w.updates
+    (each_from_list_all (λ (u : ListedTree). nat_lt u.offset w.length && is_among cells u.signal) w.updates listed)
+
+module _ (program : ProgramTree) where
+  pub never_sound : (i : ℕ) → IsUnsoundAt program i → AreSound program → ⊥
+  never_sound i at sound = at.unsound (each_at (IsCongruent program.cells) program.windows i at.window sound at.there)
+
+  -- a window before it is congruent
+  not_before : (i j : ℕ) → IsUnsoundAt program i → IsUnsoundAt program j → i < j → ⊥
+  not_before i j first second below =
+      first.unsound (each_at (IsCongruent program.cells) (take j program.windows) i first.window second.before
+      (slice_get_taken j program.windows i first.window below first.there))
+
+  pub one_unsound : (i j : ℕ) → IsUnsoundAt program i → IsUnsoundAt program j → i ≡ j
+  one_unsound i j first second = elim (cases_lt i j) [
+    | inl below ↦ absurd (not_before i j first second below)
+    | inr reached ↦ elim (cases_lt j i) [
+      | inl above ↦ absurd (not_before j i second first above)
+      | inr within ↦ omega (arith, reached, within)
+    ]
+  ]
+
+here : {X : Type 0} (xs : List X) (i : ℕ) (x : X) → i < length xs → x ≡ get_or xs i x → slice_get xs i ≡ Some x
+here xs i x within is = slice_get-get_or xs i x within ∙ ap Some (sym is)
+
+-- what a loop over the windows of a program keeps
+abbrev pub AreSoundBefore : List ℕ → List Window → ℕ → Type 0
+AreSoundBefore cells windows i = AllByRecursion (IsCongruent cells) (take i (map window_tree windows))
+
+module _ (program : Program) (cells : List ℕ) (same_cells : cells ≡ program.cells) (windows : List Window)
+    (same_windows : windows ≡ program.windows) where
+  stands : (i : ℕ) (w : Window) → i < length windows → w ≡ get_or windows i w →
+      slice_get (map window_tree program.windows) i ≡ Some (window_tree w)
+  stands i w within is =
+      image_at window_tree program.windows i w (ap (λ ws. slice_get ws i) (sym same_windows) ∙ here windows i w within is)
+
+  pub of_cells : (i : ℕ) (w : Window) → i < length windows → w ≡ get_or windows i w → UpdateCells cells (window_tree w).updates
+  of_cells i w within is =
+      subst (λ (cs : List ℕ). UpdateCells cs (window_tree w).updates) (sym same_cells)
+      (cells_updated (program.inputs ++ program.cells) program.cells (window_tree w)
+      (passes_at (window_fits (program.inputs ++ program.cells) program.cells) (map window_tree program.windows) i (window_tree w)
+      program.windows_fit (stands i w within is)))
+
+  of_program : (i : ℕ) → AreSoundBefore cells windows i → AreSoundBefore program.cells program.windows i
+  of_program i before =
+      subst (λ (cs : List ℕ). AreSoundBefore cs program.windows i) same_cells
+      (subst (λ (ws : List Window). AreSoundBefore cells ws i) same_windows before)
+
+  pub unsound_here : (i : ℕ) (w : Window) → i < length windows → w ≡ get_or windows i w → (IsCongruent cells (window_tree w) → ⊥) →
+      AreSoundBefore cells windows i → IsUnsoundAt (program_tree program) i
+  unsound_here i w within is fails before = record {
+    window = window_tree w;
+    there = stands i w within is;
+    unsound = λ holds. fails (subst (λ (cs : List ℕ). IsCongruent cs (window_tree w)) (sym same_cells) holds);
+    before = of_program i before;
+  }
+
+  pub sound_at_end : (i : ℕ) → length windows ≤ i → AreSoundBefore cells windows i → AreSound (program_tree program)
+  sound_at_end i past before =
+      each_image (IsCongruent program.cells) window_tree program.windows i
+      (subst (λ (ws : List Window). length ws ≤ i) same_windows past) (of_program i before)
+
+pub sound_next : (cells : List ℕ) (windows : List Window) (i : ℕ) (w : Window) → i < length windows → w ≡ get_or windows i w →
+    AreSoundBefore cells windows i → IsCongruent cells (window_tree w) → AreSoundBefore cells windows (i + 1)
+sound_next cells windows i w within is before holds =
+    each_image_next (IsCongruent cells) window_tree windows i w (here windows i w within is) before holds

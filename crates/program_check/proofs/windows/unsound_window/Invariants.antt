@@ -1,0 +1,6 @@
+-- The windows before this one are congruent.
+use Rattle.program_check.proofs.SoundWindows.{AreSoundBefore}
+use Rattle.program_check.proofs.windows.unsound_window.Given as goal
+
+abbrev pub invariant-loop-place : goal.invariant-loop-place
+invariant-loop-place l = AreSoundBefore l.cells l.window-items l.place

@@ -1,0 +1,62 @@
+//! Which window of a program is refused.
+
+ghost use Rattle.std.specs.Prelude.{◌≡◌, ◌<◌, ◌^◌, not, is_some, length, map, position, IfOk, IfSome, IfNone};
+ghost use Rattle.tsl_terms.specs.WindowTree.{listed_tree, window_tree};
+ghost use Rattle.flow_program.specs.ProgramView.{program_tree};
+ghost use Rattle.letter_space.specs.SpaceView.{space_tree};
+ghost use Rattle.letter_space.specs.Bits.{bit_of_update};
+ghost use Rattle.program_check.specs.Verdicts.{window_has_bits, AreSound, IsUnsoundAt};
+
+use flow_program::Program;
+use letter_space::Space;
+use sequence::NoMemory;
+use std::alloc::Global;
+use term_congruence::congruent;
+use tsl_terms::{Listed, Window};
+
+/// The first window with a probe that is no predicate term, or with an update that is no choice, if there is one.
+pub(crate) fn foreign_window(program: &Program, space: &Space) -> Option<u32>
+    requires { length program.now.windows < 2 ^ 32 }
+    ensures { result ≡ position (λ w. not (window_has_bits (space_tree space.now) w)) (map window_tree program.now.windows) }
+{
+    let place = first_foreign(program.windows.as_slice(), space)?;
+    Some(place as u32)
+}
+
+/// The place of the first window that lacks bits.
+fn first_foreign(windows: &[Window], space: &Space) -> Option<usize>
+    ensures { result ≡ position (λ w. not (window_has_bits (space_tree space.now) (window_tree w))) windows.now }
+{
+    windows.iter().position(|window| !has_bits(space, window))
+}
+
+/// Whether the probes of a window are predicate terms, and its updates choices.
+fn has_bits(space: &Space, window: &Window) -> bool
+    ensures { result ≡ window_has_bits (space_tree space.now) (window_tree window.now) }
+{
+    space.test_bit(&window.left).is_some()
+        && space.test_bit(&window.right).is_some()
+        && window.updates.as_slice().iter().all(|update| is_choice(space, update))
+}
+
+/// Whether a listed update is a choice.
+fn is_choice(space: &Space, update: &Listed) -> bool
+    ensures { result ≡ is_some (bit_of_update (space_tree space.now) (listed_tree update.now).signal (listed_tree update.now).term) }
+{
+    space.update_bit(update.signal, &update.term).is_some()
+}
+
+/// The first window that is not congruent, if there is one. An `Err` says that memory ran out.
+pub(crate) fn unsound_window(alloc: Global, program: &Program) -> Result<Option<u32>, NoMemory>
+    requires { length program.now.windows < 2 ^ 32 }
+    ensures none { IfOk result (λ found. IfNone found (AreSound (program_tree program.now))) }
+    ensures some { IfOk result (λ found. IfSome found (IsUnsoundAt (program_tree program.now))) }
+{
+    let cells = program.cells.as_slice();
+    for (place, window) in program.windows.as_slice().iter().enumerate() {
+        if !congruent(alloc, window, cells)? {
+            return Ok(Some(place as u32));
+        }
+    }
+    Ok(None)
+}
