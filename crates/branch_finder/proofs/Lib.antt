@@ -1,0 +1,2 @@
+pub mod MoreUpdates
+mod Examples

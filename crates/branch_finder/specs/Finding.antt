@@ -1,0 +1,48 @@
+-- What is found: a congruent spurious window of the least length that lists no update too many, or that there is none. And how many
+-- pairs of predicate terms on paths of vectors there may be.
+-- Source: Finkbeiner, Klein, Piskac, Santolucito: Temporal Stream Logic: Synthesis Beyond the Bools (CAV 2019), the refinement of
+-- the underapproximation. That a least one is found, and with which updates, is this project's own rule.
+use Rattle.std.specs.Prelude.{◌≡◌, ℕ, suc, ◌*◌, ◌^◌, ◌<◌, ◌≤◌, true, List, ◌++◌, map, take, drop, IsTrue}
+use Rattle.std.specs.Prelude.{length as count_of}
+use Rattle.std.specs.List.{AllByRecursion}
+use Rattle.sequence.specs.Numbers.{is_among}
+use Rattle.tsl_terms.specs.WindowTree.{WindowTree}
+use Rattle.tsl_terms.specs.Congruence.{IsCongruent}
+use Rattle.flow_program.specs.Fits.{window_is_shaped}
+use Rattle.letter_space.specs.SpaceTree.{SpaceTree}
+use Rattle.letter_space.specs.Vectors.{vector_count}
+use Rattle.machines.specs.MachineTree.{EnvironmentTree}
+use Rattle.branch_finder.specs.Spurious.{IsSpurious}
+
+-- each of these cells is a signal of the space
+abbrev pub AreControlled : SpaceTree → List ℕ → Type 0
+AreControlled space cells = AllByRecursion (λ cell. is_among (map (λ c. c.signal) space.controlled) cell ≡ true) cells
+
+-- A window is at most so long, its left probe stands within it, and its updates are of these cells, at offsets below its length.
+pub record IsWindowWithin (cells : List ℕ) (depth : ℕ) (w : WindowTree) : Type 0 where
+  pub short : w.length ≤ depth
+  pub left_within : w.left_at ≤ w.length
+  pub listed : AllByRecursion (λ u. (is_among cells u.signal ≡ true) × (u.offset < w.length)) w.updates
+
+-- no congruent window of at most this length is spurious
+abbrev pub HasNoSpuriousWindow : SpaceTree → EnvironmentTree → List ℕ → ℕ → Type 0
+HasNoSpuriousWindow space e cells depth =
+    (w : WindowTree) → IsWindowWithin cells depth w → IsCongruent cells w → IsSpurious space e w → ⊥
+
+-- a window without the update at a place
+abbrev pub without_update : ℕ → WindowTree → WindowTree
+without_update place w = record w { updates = take place w.updates ++ drop (suc place) w.updates }
+
+-- A window within the depth is congruent and spurious, no shorter one is, and no update can be left out with the window still
+-- congruent. Its updates stand in the order of programs: by offset, and then by the cell's place.
+pub record IsFoundWindow (space : SpaceTree) (e : EnvironmentTree) (cells : List ℕ) (depth : ℕ) (w : WindowTree) : Type 0 where
+  pub within : IsWindowWithin cells depth w
+  pub shaped : IsTrue (window_is_shaped cells w)
+  pub congruent : IsCongruent cells w
+  pub spurious : IsSpurious space e w
+  pub least : (shorter : ℕ) → shorter < w.length → HasNoSpuriousWindow space e cells shorter
+  pub needed : (place : ℕ) → place < count_of w.updates → IsCongruent cells (without_update place w) → ⊥
+
+-- how many pairs of predicate terms there are on the paths of so many vectors
+abbrev pub branch_count : SpaceTree → ℕ → ℕ
+branch_count space depth = count_of space.predicates ^ 2 * vector_count space.controlled ^ depth

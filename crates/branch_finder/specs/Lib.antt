@@ -1,0 +1,2 @@
+pub mod Spurious
+pub mod Finding
