@@ -24,7 +24,7 @@ use Rattle.machines.specs.Moves.{MoveTree, EnvironmentFits, move_under, environm
 use Rattle.counterstrategy.specs.EnvironmentQuestion.{IsEnvironmentSolution}
 use Rattle.counterstrategy.specs.DualVariables.{holds_in, moves_to, has_number, tests_in_all, vectors_in_all, is_set_in}
 use Rattle.counterstrategy.specs.DualDecoding.{truths_read, successor_read, environment_read, dual_number_read}
-use Rattle.counterstrategy.proofs.RangeMembers.{given_from}
+use Rattle.machines.proofs.RangeMembers.{given_from}
 use Rattle.counterstrategy.proofs.PassingBits.{passing_below, passing_bit}
 use Rattle.counterstrategy.proofs.HighBits.{choices_match}
 use Rattle.counterstrategy.proofs.LevelNumbers.{number_is, number_reaches}

@@ -24,7 +24,7 @@ use Rattle.counterstrategy.specs.EnvironmentQuestion.{IsEnvironmentSolution}
 use Rattle.counterstrategy.specs.DualVariables.{DualVariable, holds_in, moves_to, has_number, tests_in_all, vectors_in_all, IsDualVariable}
 use Rattle.counterstrategy.specs.DualVariables.{dual_variable, is_set_in}
 use Rattle.counterstrategy.specs.DualEncoding.{meets_choices}
-use Rattle.counterstrategy.proofs.RangeMembers.{given_to}
+use Rattle.machines.proofs.RangeMembers.{given_to}
 use Rattle.counterstrategy.proofs.HighBits.{match_from_halves}
 use Rattle.counterstrategy.proofs.DualNumbers.{variable_is}
 use Rattle.counterstrategy.proofs.DualDemands.{AreDualMet, AreTestsAsAsked, IsNumberedBehind}

@@ -1,4 +1,3 @@
-pub mod RangeMembers
 pub mod PassingBits
 pub mod HighBits
 pub mod Implications
@@ -8,7 +7,7 @@ pub mod DualDemands
 pub mod EnvironmentDecoded
 pub mod EnvironmentEncoded
 pub mod DualRefuted
-pub mod Picking
+pub mod VectorLetters
 pub mod DualSizes
 pub mod DualOver
 pub mod DualReadings

@@ -74,7 +74,7 @@ some_vector (c ∷ cs) all =
     let rest = some_vector cs parts.1 in
     mul-le 1 1 (length c.choices) (vector_count cs) here rest
 
-some_vector_left : (xs : List Controlled) (i : ℕ) → list_all has_choice (map controlled_tree xs) ≡ true →
+pub some_vector_left : (xs : List Controlled) (i : ℕ) → list_all has_choice (map controlled_tree xs) ≡ true →
     1 ≤ vector_count (map controlled_tree (drop i xs))
 some_vector_left xs zero all = some_vector (map controlled_tree xs) all
 some_vector_left [] (suc i) all = omega arith

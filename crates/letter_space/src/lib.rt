@@ -11,6 +11,7 @@
 //! - `test_bit` and `update_bit` give the bit of a probe and of an update, where it has one.
 //! - `valuations` and `vectors` count the ways in which the predicate terms may be true, and in
 //!   which each signal may take a choice; there may be too many vectors to count.
+//! - `picks` gives the choices that the vector with a number picks, whatever the number of vectors.
 //! - `letter` gives the letter of a valuation and a choice of each signal.
 //!
 //! Laws: each atom of a specification's whole formula has a bit, and a letter has the bit of an
@@ -23,6 +24,7 @@
 mod controlled;
 mod laws;
 mod limits;
+mod picking;
 mod space;
 mod space_error;
 mod spacing;

@@ -8,6 +8,7 @@ ghost use Rattle.letter_space.specs.ControlledView.{space_with};
 
 use crate::controlled::Controlled;
 use crate::limits::MOST_VECTORS;
+use crate::picking::{picks_of, vector_count};
 use sequence::{NoMemory, Sequence};
 use std::alloc::Global;
 use tsl_terms::{Probe, Term, same_probe};
@@ -59,7 +60,8 @@ impl Space {
         requires { vector < vector_count (space_tree self.now).controlled }
         ensures { IfOk result (λ picks. picks.items ≡ picks_of (space_tree self.now).controlled vector) }
     {
-        Err(NoMemory)
+        let signals = self.controlled.as_slice();
+        picks_of(alloc, signals, vector_count(signals), vector)
     }
 
     /// The bit of a probe: `None` where it is no predicate term. It takes no memory.

@@ -5,7 +5,7 @@ ghost use Rattle.tsl_terms.specs.TermTree.{signal, no_terms, more_terms, probe_t
 ghost use Rattle.tsl_terms.specs.FormulaTree.{atom, test, update, more_formulas, formula_tree, formula_trees};
 ghost use Rattle.tsl_terms.specs.WellFormed.{formulas_fit};
 
-use crate::space_of;
+use crate::{Space, space_of};
 use sequence::NoMemory;
 use std::alloc::Global;
 use std::test::Fail;
@@ -99,5 +99,25 @@ fn bits_go_to_tests_then_to_cells_and_then_to_outputs(rt: HostRuntime) -> Result
     assert_eq!(rt; space.update_bit(3, &Term::Signal(3)), Some(3));
     assert_eq!(rt; space.update_bit(0, &Term::Signal(1)), Some(4));
     assert_eq!(rt; space.update_bit(0, &Term::Signal(0)), None);
+    Ok(())
+}
+
+/// What a vector picks, if there is one with that number.
+fn picks_at(alloc: Global, space: &Space, vector: u32) -> Result<Option<Vec<u32>>, NoMemory> {
+    match space.vectors() {
+        Some(count) if vector < count => Ok(Some(space.picks(alloc, vector)?)),
+        _ => Ok(None),
+    }
+}
+
+#[test]
+fn vectors_pick_a_choice_of_each_signal(rt: HostRuntime) -> Result<(), Fail> {
+    let alloc = rt.alloc();
+    let space = space_of(alloc, &example(alloc)?)?;
+    let first = picks_at(alloc, &space, 0)?.ok_or("no vector")?;
+    assert_eq!(rt; first.as_slice(), [0, 0].as_slice());
+    let last = picks_at(alloc, &space, 1)?.ok_or("no vector")?;
+    assert_eq!(rt; last.as_slice(), [1, 0].as_slice());
+    assert!(rt; picks_at(alloc, &space, 2)?.is_none());
     Ok(())
 }

@@ -1,3 +1,5 @@
 pub mod ControllerTables
+pub mod EnvironmentTables
+pub mod RangeMembers
 pub mod MovesListed
 mod Examples

@@ -50,6 +50,15 @@ impl Environment {
         ensures { IfOk result (λ moves. map move_tree moves.items
             ≡ environment_moves (space_tree space.now) (environment_tree self.now) state) }
     {
-        Err(NoMemory)
+        let truths = self.truths.as_slice()[state as usize];
+        let mut moves = Vec::new(alloc);
+        for vector in 0..self.vectors {
+            let picks = space.picks(alloc, vector)?;
+            moves.push(Move {
+                letter: space.letter(truths, picks.as_slice()),
+                next: self.successor(state, vector),
+            })?;
+        }
+        Ok(moves)
     }
 }

@@ -2,7 +2,7 @@ use Rattle.std.proofs.Common.{◌<◌, ℕ, List, length, subst, sym, arith}
 use Rattle.std.proofs.lemmas.List.FromFn.{length-map-range_with_len}
 use Rattle.counterstrategy.specs.DualVariables.{vectors_in_all}
 use Rattle.counterstrategy.specs.internal.DualAsking.{dual_tree, vector_letter}
-use Rattle.counterstrategy.proofs.Picking.{letter_there}
+use Rattle.counterstrategy.proofs.VectorLetters.{letter_there}
 use Rattle.counterstrategy.proofs.step_literals.letter_at.Goals as goal
 
 pub bounds-question-u : goal.bounds-question-u

@@ -1,16 +1,12 @@
 -- A loop that picks the choices of a vector, one signal after another.
-use Rattle.std.proofs.Common.{◌≡◌, ◌∙◌, ℕ, ◌+◌, ◌*◌, ◌/◌, ◌%◌, ◌<◌, ◌≤◌, List, [], ◌∷◌, ◌++◌, length, map, drop, get_or, Some}
+use Rattle.std.proofs.Common.{◌≡◌, ◌∙◌, ℕ, ◌+◌, ◌*◌, ◌/◌, ◌%◌, ◌<◌, ◌≤◌, List, [], ◌∷◌, ◌++◌, length, map, drop, get_or}
 use Rattle.std.proofs.Common.{sym, ap, append-nil, append_assoc, arith}
 use Rattle.std.proofs.Math.Nat.{mul_comm, mul-div_cancel_left}
 use Rattle.std.proofs.lemmas.List.{drop_more, drop_all}
-use Rattle.std.proofs.lemmas.Option.{get_or_from_slice_get}
 use Rattle.letter_space.specs.declared.controlled.Controlled.{Controlled}
 use Rattle.letter_space.specs.ControlledView.{controlled_tree}
 use Rattle.letter_space.specs.Vectors.{picks_of}
-use Rattle.letter_space.specs.SpaceTree.{SpaceTree}
 use Rattle.letter_space.proofs.Bounds.{vectors_left, counted_next}
-use Rattle.bounded_encoding.proofs.Ranges.{range_at}
-use Rattle.counterstrategy.specs.internal.DualAsking.{vector_letter, vector_letters}
 use Rattle.letter_space.proofs.VectorPicks.{some_columns}
 
 module _ (xs : List Controlled) where
@@ -52,12 +48,3 @@ module _ (xs : List Controlled) where
   picked_all whole picks i rest past so_far =
       sym (append-nil picks)
       ∙ (ap (λ (ys : List Controlled). picks ++ picks_of (map controlled_tree ys) rest) (sym (drop_all i xs past)) ∙ so_far)
-
--- what stands in the table of letters
-pub letter_there : (space : SpaceTree) (n : ℕ) (letters : List ℕ) → letters ≡ vector_letters space n → (u : ℕ) → u < n →
-    get_or letters u 0 ≡ vector_letter space u
-letter_there space n letters is u below =
-    let place : 0 + u ≡ u = omega arith in
-    ap (λ (ls : List ℕ). get_or ls u 0) is
-    ∙ get_or_from_slice_get (vector_letters space n) u (vector_letter space u) 0
-    (range_at (vector_letter space) 0 n u below ∙ ap (λ k. Some (vector_letter space k)) place)
