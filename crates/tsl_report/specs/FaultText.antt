@@ -13,11 +13,11 @@ use Rattle.tsl_report.specs.declared.fault.ProgramRule.TheVariants.{Unknown as U
 use Rattle.tsl_report.specs.declared.fault.LimitName.{LimitName}
 use Rattle.tsl_report.specs.declared.fault.LimitName.TheVariants.{Text, Nodes, Clauses, Run, Domain, Entries, Rows}
 use Rattle.tsl_report.specs.declared.fault.LimitName.TheVariants.{Windows, ProgramNodes, ProgramStates, Variables}
-use Rattle.tsl_report.specs.declared.fault.LimitName.TheVariants.{Predicates, Bits, Choices, States, Edges}
+use Rattle.tsl_report.specs.declared.fault.LimitName.TheVariants.{Predicates, Bits, Choices, States, Edges, Vectors, Branches}
 use Rattle.tsl_report.specs.declared.fault.Fault.{Fault}
 use Rattle.tsl_report.specs.declared.fault.Fault.TheVariants.{Usage, Read, Parts, Byte, Comment, Form, Deep, Kind, Arity, Unknown, Twice}
 use Rattle.tsl_report.specs.declared.fault.Fault.TheVariants.{Missing, TableCount, TableRange, RowCount, RowRange, Program}
-use Rattle.tsl_report.specs.declared.fault.Fault.TheVariants.{CnfForm, LogForm, Large, Unbuilt}
+use Rattle.tsl_report.specs.declared.fault.Fault.TheVariants.{CnfForm, LogForm, Large}
 
 -- line and column, as `3:7`
 abbrev pub place_text : Place → List ℕ
@@ -69,6 +69,8 @@ limit_text Bits = codes "bits"
 limit_text Choices = codes "choices"
 limit_text States = codes "states"
 limit_text Edges = codes "edges"
+limit_text Vectors = codes "vectors"
+limit_text Branches = codes "branches"
 
 -- a part of this name, a place in it, and what is wrong there
 abbrev pub place_fault : List ℕ → Place → List ℕ → List ℕ
@@ -104,7 +106,6 @@ fault_line (Program line rule) = codes "fault program " ++ decimal line ++ codes
 fault_line (CnfForm line) = codes "fault cnf " ++ decimal line ++ codes " form"
 fault_line (LogForm line) = codes "fault log " ++ decimal line ++ codes " form"
 fault_line (Large name limit) = codes "large " ++ limit_text name ++ codes " " ++ decimal limit
-fault_line Unbuilt = codes "fault unbuilt"
 
 abbrev pub fault_text : Fault → List ℕ
 fault_text fault = fault_line fault ++ codes "\n"

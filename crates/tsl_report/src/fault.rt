@@ -91,12 +91,16 @@ pub enum LimitName {
     Predicates,
     /// The bits of a letter.
     Bits,
-    /// The vectors of one choice for each signal.
+    /// The choices of a set of formulas.
     Choices,
     /// The states of an automaton.
     States,
     /// The edges of an automaton.
     Edges,
+    /// The vectors of one choice for each signal.
+    Vectors,
+    /// The branches in which windows are looked for.
+    Branches,
 }
 
 /// Why a text or the words were refused.
@@ -142,8 +146,6 @@ pub enum Fault {
     LogForm(u32),
     /// More is counted than this limit.
     Large(LimitName, u32),
-    /// The command is not built for this text.
-    Unbuilt,
 }
 
 /// The line that says what the fault is, with its line feed. An `Err` says that memory ran out.
@@ -189,7 +191,6 @@ fn put_fault(out: &mut Vec<u8>, fault: &Fault) -> Result<(), NoMemory>
         Fault::CnfForm(line) => put_line_fault(out, b"fault cnf ", *line),
         Fault::LogForm(line) => put_line_fault(out, b"fault log ", *line),
         Fault::Large(name, limit) => put_large(out, *name, *limit),
-        Fault::Unbuilt => put_bytes(out, b"fault unbuilt"),
     }
 }
 
@@ -420,5 +421,7 @@ fn limit_text(name: LimitName) -> &'static [u8]
         LimitName::Choices => b"choices",
         LimitName::States => b"states",
         LimitName::Edges => b"edges",
+        LimitName::Vectors => b"vectors",
+        LimitName::Branches => b"branches",
     }
 }

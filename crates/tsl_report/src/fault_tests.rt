@@ -26,8 +26,7 @@ fn says(rt: &impl Abort, alloc: Global, fault: &Fault, line: &[u8]) -> Result<()
 fn faults_of_the_words_and_the_source(rt: HostRuntime) -> Result<(), Fail> {
     let usage = b"usage: tsl synth|check|run|prove|recheck|gen\n";
     says(&rt, rt.alloc(), &Fault::Usage, usage)?;
-    says(&rt, rt.alloc(), &Fault::Read, b"fault read\n")?;
-    says(&rt, rt.alloc(), &Fault::Unbuilt, b"fault unbuilt\n")
+    says(&rt, rt.alloc(), &Fault::Read, b"fault read\n")
 }
 
 #[test]
@@ -221,4 +220,13 @@ fn limits_of_automata_are_told(rt: HostRuntime) -> Result<(), Fail> {
     says(&rt, alloc, &states, b"large states 4096\n")?;
     let edges = Fault::Large(LimitName::Edges, 65_536);
     says(&rt, alloc, &edges, b"large edges 65536\n")
+}
+
+#[test]
+fn limits_of_rounds_are_told(rt: HostRuntime) -> Result<(), Fail> {
+    let alloc = rt.alloc();
+    let vectors = Fault::Large(LimitName::Vectors, 1_024);
+    says(&rt, alloc, &vectors, b"large vectors 1024\n")?;
+    let branches = Fault::Large(LimitName::Branches, 10_000_000);
+    says(&rt, alloc, &branches, b"large branches 10000000\n")
 }

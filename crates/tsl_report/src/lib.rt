@@ -3,9 +3,12 @@
 //! `fault_text` gives the line that says why a text or the words were refused: at Ok exactly the
 //! bytes that the definition of the same name gives for the fault, which is a table of its cases.
 //!
-//! `none_text` gives the text which says that no controller was found, and `spent_text` the one which
-//! says that the budget of a search was spent: at Ok exactly the bytes that the definitions of the
-//! same names give.
+//! `none_text` gives the text which says that no controller was found and why the search ended, and
+//! `spent_text` the one which says that the budget of a search was spent, both with the rounds that
+//! were made. `rounds_text` gives the text of these rounds alone, `environment_text` that of an
+//! environment, and `window_text` the line of a window: at Ok exactly the bytes that the definitions
+//! of the same names give. The conditions are that the names hold each number of the terms, and that
+//! environments fit the space.
 //!
 //! `trace_text` gives the text of a run that closes and of the verdicts on it: at Ok exactly the
 //! bytes that the definition of the same name gives. The one condition is that the names hold each
@@ -23,14 +26,18 @@ ghost use Rattle.tsl_terms.specs.FormulaTree.{formula_tree, formula_trees};
 ghost use Rattle.tsl_terms.specs.Atoms.{members_are_made_of};
 ghost use Rattle.tsl_report.specs.FormulaText.{formula_text, members_text, others_text, atom_is_held, can_be_written};
 
+mod environment;
 mod fault;
 mod laws;
+mod rounds;
 mod search;
 mod trace;
 
+pub use environment::environment_text;
 pub use fault::{DataPart, Fault, Head, LimitName, ProgramRule, TokenPart, fault_text};
 pub use laws::whole_formulas_can_be_written;
-pub use search::{none_text, spent_text};
+pub use rounds::{rounds_text, window_text};
+pub use search::{ReasonText, none_text, spent_text};
 use sequence::NoMemory;
 use std::alloc::Global;
 use term_text::{put_probe, put_update};

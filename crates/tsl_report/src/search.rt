@@ -1,72 +1,151 @@
-//! The texts of a search for a controller that finds none, or whose budget is spent.
+//! The texts of a search that finds no controller, or whose budget is spent.
 
-ghost use Rattle.std.specs.Prelude.{◌≡◌, ◌<◌, [], ◌∷◌, ◌++◌, map, flat_map, codes, IfOk, OnOk};
+ghost use Rattle.std.specs.Prelude.{◌≡◌, ◌<◌, [], ◌∷◌, ◌++◌, map, flat_map, codes, IsTrue, IfOk, OnOk};
 ghost use Rattle.tsl_text.specs.Written.{text_of_lines};
 ghost use Rattle.ltl_formula.specs.Cubes.{has_bit};
+ghost use Rattle.letter_space.specs.SpaceView.{space_tree};
 ghost use Rattle.cobuchi_automata.specs.Edges.{edge_tree, edge_trees};
+ghost use Rattle.machines.specs.MachineView.{round_tree};
 ghost use Rattle.refutation_text.specs.Written.{literal_word, clause_line};
-ghost use Rattle.tsl_report.specs.SearchTexts.{count_line, none_text, asked_literals, cube_literals, mark_text, edge_line, learnt_line, sizes_line};
-ghost use Rattle.tsl_report.specs.SearchTexts.{spent_text};
+ghost use Rattle.tsl_report.specs.EnvironmentText.{space_is_held};
+ghost use Rattle.tsl_report.specs.RoundTexts.{RoundsAreHeld};
+ghost use Rattle.tsl_report.specs.SearchTexts.{none_text, reason_text, reason_tree, asked_literals, cube_literals, edge_line};
+ghost use Rattle.tsl_report.specs.SearchTexts.{learnt_line, sizes_line, side_text, spent_text, ReasonFits};
 
+use crate::environment::{bit_text, put_count, put_environment};
+use crate::rounds::put_rounds;
 use clause_core::{Clause, Literal};
 use cobuchi_automata::{Automaton, Edge};
+use letter_space::Space;
 use ltl_formula::Cube;
+use machines::{Environment, Round, Side};
 use refutation_text::{put_clause, put_literal};
 use sequence::NoMemory;
 use std::alloc::Global;
+use tsl_terms::Names;
 use tsl_text::{put_bytes, put_number};
 
+/// Why a search ended without a controller.
+#[derive(Clone, Copy, Debug)]
+pub enum ReasonText<'a> {
+    /// So many rounds were made, as many as were allowed.
+    Rounds(u32),
+    /// No environment with so many states has an annotation within the bound.
+    NoCounter(u32, u32),
+    /// No window rules out this environment.
+    Genuine(&'a Environment),
+}
+
 /// The text which says that no controller with so many states has an annotation within the bound,
-/// and how many windows were added before. An `Err` says that memory ran out.
-pub fn none_text(alloc: Global, states: u32, bound: u32, rounds: u32) -> Result<Vec<u8>, NoMemory>
-    ensures { IfOk result (λ text. text.items ≡ none_text states bound rounds) }
+/// with the rounds that were made and why no more were. An `Err` says that memory ran out.
+///
+/// The names hold each number of the space's terms and of the windows, and each environment fits
+/// the space.
+pub fn none_text(
+    alloc: Global,
+    names: &Names,
+    space: &Space,
+    states: u32,
+    bound: u32,
+    rounds: &[Round],
+    reason: &ReasonText,
+) -> Result<Vec<u8>, NoMemory>
+    requires rounds { RoundsAreHeld names.now (space_tree space.now) (map round_tree rounds.now) }
+    requires reason { ReasonFits (space_tree space.now) (reason_tree reason.now) }
+    ensures { IfOk result (λ text. text.items ≡ none_text names.now (space_tree space.now) states bound
+        (map round_tree rounds.now) (reason_tree reason.now)) }
 {
     let mut out = Vec::new(alloc);
     put_bytes(&mut out, b"none\n")?;
-    put_count(&mut out, b"states", states)?;
-    put_count(&mut out, b"bound", bound)?;
-    put_count(&mut out, b"reason rounds", rounds)?;
+    put_count(&mut out, b"states", u64::from(states))?;
+    put_count(&mut out, b"bound", u64::from(bound))?;
+    put_rounds(&mut out, names, space, rounds)?;
+    put_reason(&mut out, names, space, reason)?;
     put_bytes(&mut out, b"end\n")?;
     Ok(out)
 }
 
-/// The text which says that the budget of a search was spent: the states and the bound that were
-/// asked for, the automaton, and the clauses that were learnt. An `Err` says that memory ran out.
+/// Appends why a search ended without a controller.
+fn put_reason(
+    out: &mut Vec<u8>,
+    names: &Names,
+    space: &Space,
+    reason: &ReasonText,
+) -> Result<(), NoMemory>
+    requires held { IsTrue (space_is_held names.now (space_tree space.now)) }
+    requires fits { ReasonFits (space_tree space.now) (reason_tree reason.now) }
+    ensures { OnOk result (out.new.items ≡ out.old.items
+        ++ reason_text names.now (space_tree space.now) (reason_tree reason.now)) }
+{
+    match reason {
+        ReasonText::Rounds(count) => put_count(out, b"reason rounds", u64::from(*count)),
+        ReasonText::NoCounter(states, bound) => {
+            put_sizes(out, b"reason nocounter", *states, *bound)
+        }
+        ReasonText::Genuine(environment) => {
+            put_bytes(out, b"reason genuine\n")?;
+            put_environment(out, names, space, environment)
+        }
+    }
+}
+
+/// The text which says that the budget of a search was spent: whose machine was searched for, the
+/// states and the bound that were asked for, the rounds that were made before, the automaton, and
+/// the clauses that were learnt. An `Err` says that memory ran out.
+///
+/// The names hold each number of the space's terms and of the windows, and each environment fits
+/// the space.
 pub fn spent_text(
     alloc: Global,
-    states: u32,
-    bound: u32,
+    names: &Names,
+    space: &Space,
+    side: Side,
+    sizes: (u32, u32),
+    rounds: &[Round],
     automaton: &Automaton,
     clauses: &[Clause],
 ) -> Result<Vec<u8>, NoMemory>
-    ensures { IfOk result (λ text. text.items
-        ≡ spent_text states bound automaton.now.states (edge_trees automaton.now.edges) clauses.now) }
+    requires { RoundsAreHeld names.now (space_tree space.now) (map round_tree rounds.now) }
+    ensures { IfOk result (λ text. text.items ≡ spent_text names.now (space_tree space.now) side sizes.0 sizes.1
+        (map round_tree rounds.now) automaton.now.states (edge_trees automaton.now.edges) clauses.now) }
 {
+    let (states, bound) = sizes;
     let mut out = Vec::new(alloc);
-    put_bytes(&mut out, b"spent controller\n")?;
-    put_sizes(&mut out, states, bound)?;
-    put_count(&mut out, b"automaton", automaton.states)?;
+    put_side(&mut out, side)?;
+    put_sizes(&mut out, b"sizes", states, bound)?;
+    put_rounds(&mut out, names, space, rounds)?;
+    put_count(&mut out, b"automaton", u64::from(automaton.states))?;
     put_edges(&mut out, automaton.edges.as_slice())?;
     put_learnt(&mut out, clauses)?;
     put_bytes(&mut out, b"end\n")?;
     Ok(out)
 }
 
-/// Appends a line of a word and a number.
-fn put_count(out: &mut Vec<u8>, word: &[u8], count: u32) -> Result<(), NoMemory>
-    ensures { OnOk result (out.new.items ≡ out.old.items ++ count_line word.now count) }
+/// Appends the line that says whose machine was searched for.
+fn put_side(out: &mut Vec<u8>, side: Side) -> Result<(), NoMemory>
+    ensures { OnOk result (out.new.items ≡ out.old.items ++ (codes "spent " ++ side_text side ++ codes "\n")) }
 {
-    put_bytes(out, word)?;
-    put_bytes(out, b" ")?;
-    put_number(out, u64::from(count))?;
+    put_bytes(out, b"spent ")?;
+    put_bytes(out, side_text(side))?;
     put_bytes(out, b"\n")
 }
 
-/// Appends the line of the sizes that were asked for.
-fn put_sizes(out: &mut Vec<u8>, states: u32, bound: u32) -> Result<(), NoMemory>
-    ensures { OnOk result (out.new.items ≡ out.old.items ++ sizes_line states bound) }
+/// The word for a side.
+fn side_text(side: Side) -> &'static [u8]
+    ensures { result.now ≡ side_text side }
 {
-    put_bytes(out, b"sizes ")?;
+    match side {
+        Side::Controller => b"controller",
+        Side::Environment => b"environment",
+    }
+}
+
+/// Appends a line of a word and two numbers.
+fn put_sizes(out: &mut Vec<u8>, word: &[u8], states: u32, bound: u32) -> Result<(), NoMemory>
+    ensures { OnOk result (out.new.items ≡ out.old.items ++ sizes_line word.now states bound) }
+{
+    put_bytes(out, word)?;
+    put_bytes(out, b" ")?;
     put_number(out, u64::from(states))?;
     put_bytes(out, b" ")?;
     put_number(out, u64::from(bound))?;
@@ -94,16 +173,9 @@ fn put_edge(out: &mut Vec<u8>, edge: &Edge) -> Result<(), NoMemory>
     put_bytes(out, b" ")?;
     put_number(out, u64::from(edge.to))?;
     put_bytes(out, b" ")?;
-    put_bytes(out, mark_text(edge.rejecting))?;
+    put_bytes(out, bit_text(edge.rejecting))?;
     put_bytes(out, b" ")?;
     put_cube(out, edge.cube)
-}
-
-/// The mark of an edge.
-fn mark_text(rejecting: bool) -> &'static [u8]
-    ensures { result.now ≡ mark_text rejecting }
-{
-    if rejecting { b"1" } else { b"0" }
 }
 
 /// Appends what a cube asks, by rising bit, and a 0.
