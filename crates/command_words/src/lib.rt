@@ -19,3 +19,6 @@ mod reading;
 pub use asked::{Asked, ProveSizes, SynthSizes, WordsError};
 pub use command_word::CommandWord;
 pub use reading::asked_by;
+
+#[cfg(test)]
+mod tests;
