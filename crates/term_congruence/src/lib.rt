@@ -12,10 +12,12 @@
 mod classes;
 mod congruence;
 mod labelling;
+mod laws;
 mod shapes;
 
 pub use classes::{ClassTable, classes_along};
 pub use congruence::congruent;
+pub use laws::congruent_windows_hold;
 
 #[cfg(test)]
 mod tests;
