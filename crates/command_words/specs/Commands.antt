@@ -1,5 +1,5 @@
 -- The commands, their arguments, and what words ask for.
-use Rattle.std.specs.Prelude.{◌≡◌, ◌≤◌, ℕ, Bool, false, List, [], ◌∷◌, codes, Option, Some, None, if◌then◌else◌, ⊤}
+use Rattle.std.specs.Prelude.{◌≡◌, ◌≤◌, ℕ, Bool, true, false, List, [], ◌∷◌, codes, Option, Some, None, if◌then◌else◌}
 use Rattle.std.specs.Option.{option_map_or}
 use Rattle.std.specs.Str.{bytes_eq}
 use Rattle.clap.specs.Words.{App, Rule, Text}
@@ -74,18 +74,28 @@ pub record AreProveSizes (given : Text → Option ℕ) (sizes : ProveSizes) : Ty
   pub bound : IsGivenWithin 0 15 (given (codes "bound")) sizes.bound
   pub budget : IsGivenWithin 1 1000000 (given (codes "budget")) sizes.budget
 
--- what a command asks for, with the numbers that its arguments have
-abbrev pub CommandAsks : CommandWord → (Text → Option ℕ) → Asked → Type 0
-CommandAsks word.Synth given (asks.Synth sizes) = AreSynthSizes given sizes
-CommandAsks word.Check given (asks.Check bound) = IsGivenWithin 0 15 (given (codes "bound")) bound
-CommandAsks word.Run given asks.Run = ⊤
-CommandAsks word.Prove given (asks.Prove sizes) = AreProveSizes given sizes
-CommandAsks word.Recheck given asks.Recheck = ⊤
-CommandAsks word.Gen given (asks.Gen n) = IsGivenWithin 1 5 (given (codes "n")) n
-CommandAsks _ _ _ = ⊥
+-- the command that is asked for
+abbrev pub asked_word : Asked → CommandWord
+asked_word (asks.Synth sizes) = word.Synth
+asked_word (asks.Check bound) = word.Check
+asked_word asks.Run = word.Run
+asked_word (asks.Prove sizes) = word.Prove
+asked_word asks.Recheck = word.Recheck
+asked_word (asks.Gen n) = word.Gen
 
--- what words ask for: their first word is a command, which asks for this with the numbers that `clap` gives its arguments
+-- its numbers are those that its arguments have
+abbrev pub AreItsNumbers : (Text → Option ℕ) → Asked → Type 0
+AreItsNumbers given (asks.Synth sizes) = AreSynthSizes given sizes
+AreItsNumbers given (asks.Check bound) = IsGivenWithin 0 15 (given (codes "bound")) bound
+AreItsNumbers given asks.Run = Unit {0}
+AreItsNumbers given (asks.Prove sizes) = AreProveSizes given sizes
+AreItsNumbers given asks.Recheck = Unit {0}
+AreItsNumbers given (asks.Gen n) = IsGivenWithin 1 5 (given (codes "n")) n
+
+-- The words ask for this: the first names its command, `clap` takes them for that command, and its numbers are those that `clap`
+-- gives the command's arguments.
 abbrev pub AsksFor : List Text → Asked → Type 0
 AsksFor [] asked = ⊥
 AsksFor (first ∷ rest) asked =
-    (w : CommandWord) × (command_word first ≡ Some w) × CommandAsks w (given_number (command w) (first ∷ rest)) asked
+    (command_word first ≡ Some (asked_word asked)) × (takes_words (command (asked_word asked)) (first ∷ rest) ≡ true)
+    × AreItsNumbers (given_number (command (asked_word asked)) (first ∷ rest)) asked

@@ -8,16 +8,18 @@
 //! command word (`specs/Commands`, from the rows of `specs/Arguments`), `are_taken` says that no step of its parse
 //! fails, and `AsksFor` names each number as what `clap` gives that argument. So a refusal that is not for want of
 //! memory comes exactly where `clap` refuses the words, and a taken option has its number, or its default, within the
-//! range of its row.
+//! range of its row. Words ask for at most one thing, by the law `words_ask_for_one_thing`.
 #![tactic(auto)]
 
 mod asked;
 mod command_word;
+mod laws;
 mod number_argument;
 mod reading;
 
 pub use asked::{Asked, ProveSizes, SynthSizes, WordsError};
 pub use command_word::CommandWord;
+pub use laws::words_ask_for_one_thing;
 pub use reading::asked_by;
 
 #[cfg(test)]

@@ -2,7 +2,7 @@
 
 ghost use Rattle.std.specs.Prelude.{◌≡◌, ◌≢◌, ◌<◌, ◌^◌, ℕ, List, Some, IfOk, IfErr, true, false, map, string_bytes};
 ghost use Rattle.command_words.specs.Arguments.{given_number, takes_words};
-ghost use Rattle.command_words.specs.Commands.{AsksFor, CommandAsks, are_taken, command};
+ghost use Rattle.command_words.specs.Commands.{AsksFor, AreItsNumbers, are_taken, command, asked_word};
 ghost use Rattle.command_words.specs.internal.Matches.{ParsedBy, matched_number};
 
 use crate::asked::{Asked, ProveSizes, SynthSizes, WordsError};
@@ -52,7 +52,8 @@ fn number(matches: &ArgMatches<'_>, name: &str) -> u32
 /// What a command asks for by the matches of its words.
 fn asked_of(word: CommandWord, matches: &ArgMatches<'_>) -> Asked
     requires { ParsedBy (command word) matches.now }
-    ensures { CommandAsks word (matched_number matches.now) result }
+    ensures command { asked_word result ≡ word }
+    ensures numbers { AreItsNumbers (matched_number matches.now) result }
 {
     match word {
         CommandWord::Synth => Asked::Synth(SynthSizes {

@@ -26,11 +26,11 @@ given : (w : CommandWord) (m : ArgMatches) → ParsedBy (command w) m
     → (x : ℕ) → ((n : ℕ) → matched_number m id ≡ Some n → n < 2 ^ 32 → x ≡ n) → IsGivenWithin low high (matched_number m id) x
 given w = option_in (word_text w) (arguments w) (is_ready_command w)
 
-pub returns-in-Synth : goal.returns-in-Synth
-returns-in-Synth c =
+pub returns-in-Synth-clause-numbers : goal.returns-in-Synth-clause-numbers
+returns-in-Synth-clause-numbers c =
     let m = c.args.matches.now in
     let p : ParsedBy (command word.Synth) m = rw c.in-Synth.is at c.requires in
-    rw c.in-Synth.is (record {
+    record {
       states = given word.Synth m p 0 (codes "states") 1 8 (codes "2") refl refl refl (omega arith) c.number.result c.number.ensures;
       bound = given word.Synth m p 1 (codes "bound") 0 15 (codes "2") refl refl refl (omega arith) c.number-in-Synth.result c.number-in-Synth.ensures;
       env_states = given word.Synth m p 2 (codes "env-states") 1 8 (codes "2") refl refl refl (omega arith) c.number-in-Synth-2.result c.number-in-Synth-2.ensures;
@@ -39,27 +39,27 @@ returns-in-Synth c =
       rounds = given word.Synth m p 5 (codes "rounds") 0 64 (codes "8") refl refl refl (omega arith) c.number-in-Synth-5.result c.number-in-Synth-5.ensures;
       budget = given word.Synth m p 6 (codes "budget") 1 1000000 (codes "20000") refl refl refl (omega arith) c.from.result
           (λ n is small. c.from.ensures ∙ c.number-in-Synth-6.ensures n is small);
-    })
+    }
 
-pub returns-in-Check : goal.returns-in-Check
-returns-in-Check c =
+pub returns-in-Check-clause-numbers : goal.returns-in-Check-clause-numbers
+returns-in-Check-clause-numbers c =
     let m = c.args.matches.now in
     let p : ParsedBy (command word.Check) m = rw c.in-Check.is at c.requires in
-    rw c.in-Check.is (given word.Check m p 0 (codes "bound") 0 15 (codes "2") refl refl refl (omega arith) c.number-in-Check.result c.number-in-Check.ensures)
+    given word.Check m p 0 (codes "bound") 0 15 (codes "2") refl refl refl (omega arith) c.number-in-Check.result c.number-in-Check.ensures
 
-pub returns-in-Prove : goal.returns-in-Prove
-returns-in-Prove c =
+pub returns-in-Prove-clause-numbers : goal.returns-in-Prove-clause-numbers
+returns-in-Prove-clause-numbers c =
     let m = c.args.matches.now in
     let p : ParsedBy (command word.Prove) m = rw c.in-Prove.is at c.requires in
-    rw c.in-Prove.is (record {
+    record {
       states = given word.Prove m p 0 (codes "states") 1 8 (codes "2") refl refl refl (omega arith) c.number-in-Prove.result c.number-in-Prove.ensures;
       bound = given word.Prove m p 1 (codes "bound") 0 15 (codes "2") refl refl refl (omega arith) c.number-in-Prove-2.result c.number-in-Prove-2.ensures;
       budget = given word.Prove m p 2 (codes "budget") 1 1000000 (codes "20000") refl refl refl (omega arith) c.from-in-Prove.result
           (λ n is small. c.from-in-Prove.ensures ∙ c.number-in-Prove-3.ensures n is small);
-    })
+    }
 
-pub returns-in-Gen : goal.returns-in-Gen
-returns-in-Gen c =
+pub returns-in-Gen-clause-numbers : goal.returns-in-Gen-clause-numbers
+returns-in-Gen-clause-numbers c =
     let m = c.args.matches.now in
     let p : ParsedBy (command word.Gen) m = rw c.in-Gen.is at c.requires in
-    rw c.in-Gen.is (positional_in (codes "gen") (arguments word.Gen) refl refl m p 0 (codes "n") 1 5 refl refl refl (omega arith) c.number-in-Gen.result c.number-in-Gen.ensures)
+    positional_in (codes "gen") (arguments word.Gen) refl refl m p 0 (codes "n") 1 5 refl refl refl (omega arith) c.number-in-Gen.result c.number-in-Gen.ensures

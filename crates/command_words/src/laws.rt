@@ -1,0 +1,11 @@
+//! Laws of what words ask for.
+
+ghost use Rattle.std.specs.Prelude.{◌≡◌, ℕ, true, List};
+ghost use Rattle.command_words.specs.Commands.{AsksFor, are_taken};
+ghost use Rattle.command_words.specs.declared.asked.Asked.{Asked};
+
+/// Words ask for at most one thing, and `clap` takes those that ask for something.
+pub fn words_ask_for_one_thing()
+    ensures taken { (words : List (List ℕ)) (asked : Asked) → AsksFor words asked → are_taken words ≡ true }
+    ensures one { (words : List (List ℕ)) (a b : Asked) → AsksFor words a → AsksFor words b → a ≡ b }
+{}
