@@ -6,5 +6,6 @@ pub mod Following
 pub mod EdgesFollowed
 pub mod LeastNumbers
 pub mod ListedByState
-pub mod AnnotationsMoved
+pub mod MovesStay
+pub mod OtherNumbers
 mod Examples

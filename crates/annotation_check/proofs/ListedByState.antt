@@ -1,25 +1,21 @@
 -- Moves and edges in lists by state are those of the state.
-use Rattle.std.proofs.Common.{◌≡◌, ◌∙◌, ℕ, zero, suc, ◌+◌, ◌*◌, ◌<◌, ◌≤◌, cond, eqb, List, [], ◌∷◌, ◌++◌, length, map, take, drop, set}
+use Rattle.std.proofs.Common.{◌≡◌, ◌∙◌, ℕ, zero, suc, ◌+◌, ◌<◌, ◌≤◌, cond, eqb, List, [], ◌∷◌, ◌++◌, length, map, take, set}
 use Rattle.std.proofs.Common.{get_or, Some, option_map, unwrap_or, slice_get, Contains, All, add-one, append-nil, refl, sym, ap, subst}
 use Rattle.std.proofs.Common.{arith, inl, inr}
 use Rattle.std.specs.List.{AllByRecursion}
-use Rattle.std.proofs.Math.Nat.{mul-le-mul_right}
-use Rattle.std.proofs.Math.Seq.{take-nil}
 use Rattle.std.proofs.lemmas.Bool.{cases_lt, ne_eqb, eq-eqb}
-use Rattle.std.proofs.lemmas.List.{drop_all, length-map, map-set, map_push, take-append-drop}
+use Rattle.std.proofs.lemmas.List.{length-map, map-set, map_push}
 use Rattle.std.proofs.lemmas.List.Elements.{recursion_from_All}
 use Rattle.std.proofs.lemmas.Option.{slice_get-map, slice_get_past, slice_get_read, get_or_from_slice_get}
 use Rattle.sequence.specs.Numbers.{numbers_from}
-use Rattle.sequence.proofs.Each.{each_from_places, each_contained, each_left, each_right, each_map}
+use Rattle.sequence.proofs.Each.{each_contained, each_map}
 use Rattle.sequence.proofs.Numbers.{numbers_more, numbers_at, length-numbers}
 use Rattle.sequence.proofs.Passes.{filter_push}
 use Rattle.sequence.proofs.Places.{take_next}
 use Rattle.cobuchi_automata.specs.Automata.{EdgeTree}
 use Rattle.cobuchi_automata.specs.Edges.{edge_tree, edge_trees, IsBetween}
 use Rattle.cobuchi_automata.specs.declared.automaton.Edge.{Edge}
-use Rattle.letter_space.specs.SpaceTree.{SpaceTree}
-use Rattle.machines.specs.MachineTree.{EntryTree, ControllerTree, IsController}
-use Rattle.machines.specs.Moves.{MoveTree, entries_of, moves_from, controller_moves}
+use Rattle.machines.specs.Moves.{MoveTree}
 use Rattle.annotation_check.specs.Annotations.{edges_from}
 use Rattle.annotation_check.specs.internal.Pairs.{with_edge}
 use Rattle.annotation_check.proofs.LeavingEdges.{passes_filtered}
@@ -143,42 +139,17 @@ edges_past n q edges between past = none_from n q (edge_trees edges) past (betwe
 
 -- ---- moves
 
-moves_of_each : (space : SpaceTree) (n v : ℕ) (es : List EntryTree) → AllByRecursion (λ e. e.next < n) es →
-    AllByRecursion (λ (m : MoveTree). m.next < n) (moves_from space v es)
-moves_of_each space n v [] each = tt
-moves_of_each space n v (e ∷ es) each = (each.0, moves_of_each space n (suc v) es each.1)
+-- the moves that are listed for a state are those in it
+module _ (moves : ℕ → List MoveTree) (states : ℕ) (past : (s : ℕ) → states ≤ s → moves s ≡ [])
+    (stay : (s : ℕ) (m : MoveTree) → Contains (moves s) m → m.next < states)
+    (lists : List (List MoveTree)) (are : lists ≡ map moves (numbers_from 0 states)) where
+  pub moves_are_listed : (s : ℕ) → unwrap_or (slice_get lists s) [] ≡ moves s
+  moves_are_listed s = ap (λ ls. unwrap_or (slice_get ls s) []) are ∙ listed moves states s past
 
-module _ (space : SpaceTree) (c : ControllerTree) (is : IsController c) where
-  pub moves_stay : (s : ℕ) (m : MoveTree) → Contains (controller_moves space c s) m → m.next < c.states
-  moves_stay s m stands =
-      let next : ℕ = s * c.valuations in
-      let all = each_from_places (λ (e : EntryTree). e.next < c.states) c.entries
-      (λ i e at. is.stays i e.next (slice_get-map (λ (e : EntryTree). e.next) c.entries i
-      ∙ ap (option_map (λ (e : EntryTree). e.next)) at)) in
-      let later = each_right (λ (e : EntryTree). e.next < c.states) (take (s * c.valuations) c.entries) (drop (s * c.valuations) c.entries)
-      (subst (AllByRecursion (λ e. e.next < c.states)) (sym (take-append-drop (s * c.valuations) c.entries)) all) in
-      let first = each_left (λ (e : EntryTree). e.next < c.states) (entries_of c s) (drop c.valuations (drop (s * c.valuations) c.entries))
-      (subst (AllByRecursion (λ e. e.next < c.states)) (sym (take-append-drop c.valuations (drop (s * c.valuations) c.entries))) later) in
-      each_contained (λ (m : MoveTree). m.next < c.states) (controller_moves space c s) m
-      (moves_of_each space c.states 0 (entries_of c s) first) stands
+  pub listed_moves_stay : (s : ℕ) (m : MoveTree) → Contains (unwrap_or (slice_get lists s) []) m → m.next < states
+  listed_moves_stay s m stands = stay s m (subst (λ ms. Contains ms m) (moves_are_listed s) stands)
 
-  -- no move is in a state that is none
-  pub moves_past : (s : ℕ) → c.states ≤ s → controller_moves space c s ≡ []
-  moves_past s past =
-      let far = mul-le-mul_right c.valuations past in
-      let size = is.has_entries in
-      let none = drop_all (s * c.valuations) c.entries (omega (arith, far, size)) in
-      ap (λ es. moves_from space 0 (take c.valuations es)) none ∙ ap (moves_from space 0) (take-nil c.valuations)
-
-  -- the moves that are listed for a state are those in it
-  pub moves_are_listed : (lists : List (List MoveTree)) → lists ≡ map (controller_moves space c) (numbers_from 0 c.states) → (s : ℕ) →
-      unwrap_or (slice_get lists s) [] ≡ controller_moves space c s
-  moves_are_listed lists are s =
-      ap (λ ls. unwrap_or (slice_get ls s) []) are ∙ listed (controller_moves space c) c.states s moves_past
-
-  pub listed_moves_stay : (lists : List (List MoveTree)) → lists ≡ map (controller_moves space c) (numbers_from 0 c.states) → (s : ℕ)
-      (m : MoveTree) → Contains (unwrap_or (slice_get lists s) []) m → m.next < c.states
-  listed_moves_stay lists are s m stands = moves_stay s m (subst (λ ms. Contains ms m) (moves_are_listed lists are s) stands)
+-- ---- edges that are listed
 
 -- the edges that are listed for a state are those from it
 module _ (n : ℕ) (edges : List Edge) (between : All (IsBetween n) edges) (lists : List (List EdgeTree))

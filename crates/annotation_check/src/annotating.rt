@@ -6,8 +6,11 @@ ghost use Rattle.letter_space.specs.SpaceView.{space_tree};
 ghost use Rattle.machines.specs.MachineView.{controller_tree, environment_tree};
 ghost use Rattle.machines.specs.Moves.{FitsSpace, controller_moves, EnvironmentFits, environment_moves};
 ghost use Rattle.annotation_check.specs.Annotations.{edges_from, IsAnnotation, IsLeast, number_of_pair};
+ghost use Rattle.annotation_check.specs.internal.PairsView.{pairs_tree};
+ghost use Rattle.annotation_check.specs.internal.Growth.{HasNone, HasAnnotation, HasLeast, HasShape};
 
-use crate::pairing::controller_pairs;
+use crate::growing::Pairs;
+use crate::pairing::{controller_pairs, environment_pairs};
 use cobuchi_automata::Automaton;
 use letter_space::Space;
 use machines::{Controller, Environment};
@@ -45,13 +48,7 @@ pub fn annotate(
         (controller_moves (space_tree space.now) (controller_tree controller.now)) bound number → ⊥)) }
 {
     let pairs = controller_pairs(alloc, automaton, space, controller, bound)?;
-    let Some(numbers) = pairs.least_numbers(alloc)? else {
-        return Ok(None);
-    };
-    Ok(Some(Annotation {
-        bound,
-        numbers: Sequence::from_vec(numbers),
-    }))
+    least_annotation(alloc, &pairs)
 }
 
 /// The least annotation of an environment for an automaton, if one is within the bound.
@@ -75,5 +72,22 @@ pub fn annotate_environment(
         IsAnnotation (edges_from (edge_trees automaton.now.edges))
         (environment_moves (space_tree space.now) (environment_tree environment.now)) bound number → ⊥)) }
 {
-    Err(NoMemory)
+    let pairs = environment_pairs(alloc, automaton, space, environment, bound)?;
+    least_annotation(alloc, &pairs)
+}
+
+/// The least annotation of a machine for an automaton by their pairs, if one is within the bound.
+fn least_annotation(alloc: Global, pairs: &Pairs) -> Result<Option<Annotation>, NoMemory>
+    ensures annotation { IfOk result (λ found. IfSome found (λ a. HasAnnotation (pairs_tree pairs.now) a.numbers)) }
+    ensures least { IfOk result (λ found. IfSome found (λ a. HasLeast (pairs_tree pairs.now) a.numbers)) }
+    ensures shape { IfOk result (λ found. IfSome found (λ a. HasShape (pairs_tree pairs.now) a.bound a.numbers)) }
+    ensures none { IfOk result (λ found. IfNone found (HasNone (pairs_tree pairs.now))) }
+{
+    let Some(numbers) = pairs.least_numbers(alloc)? else {
+        return Ok(None);
+    };
+    Ok(Some(Annotation {
+        bound: pairs.bound,
+        numbers: Sequence::from_vec(numbers),
+    }))
 }

@@ -2,8 +2,8 @@
 //! how many rejecting edges a path of the automaton passes along letters of the machine.
 //!
 //! `specs/Annotations` says what a numbering is, when it is an annotation within a bound, and what the
-//! least numbers are. `annotate` gives the least annotation of a controller, and none exactly where no
-//! annotation is within the bound. It lists the moves of each state once, and lets numbers grow from the
+//! least numbers are. `annotate` gives the least annotation of a controller, `annotate_environment` that of
+//! an environment, and none exactly where no annotation is within the bound. Both list the moves of each state once, and let numbers grow from the
 //! pair of both starts by a list of the pairs whose number rose: a pair is looked at again only when its
 //! number rose again. A law says what annotations are for: along each letter loop of the machine a path
 //! passes at most as many rejecting edges as the bound, so no formula whose automaton it is holds there.
@@ -14,7 +14,7 @@ mod growing;
 mod laws;
 mod pairing;
 
-pub use annotating::{Annotation, annotate};
+pub use annotating::{Annotation, annotate, annotate_environment};
 pub use laws::annotations_bound_paths;
 
 #[cfg(test)]

@@ -1,19 +1,19 @@
 //! Moves and edges by the states that they leave.
 
-ghost use Rattle.std.specs.Prelude.{◌≡◌, ◌<◌, ◌++◌, ◌∷◌, [], map, length, vec_len, IfOk, OnOk};
+ghost use Rattle.std.specs.Prelude.{◌≡◌, ◌<◌, ◌++◌, ◌∷◌, ℕ, [], map, length, vec_len, Contains, IfOk, OnOk};
 ghost use Rattle.sequence.specs.Numbers.{numbers_from};
 ghost use Rattle.cobuchi_automata.specs.Edges.{edge_tree, edge_trees};
 ghost use Rattle.letter_space.specs.SpaceView.{space_tree};
-ghost use Rattle.machines.specs.MachineView.{controller_tree, move_tree};
-ghost use Rattle.machines.specs.Moves.{FitsSpace, controller_moves};
+ghost use Rattle.machines.specs.MachineView.{controller_tree, environment_tree};
+ghost use Rattle.machines.specs.Moves.{MoveTree, FitsSpace, controller_moves, EnvironmentFits, environment_moves};
 ghost use Rattle.annotation_check.specs.Annotations.{edges_from};
-ghost use Rattle.annotation_check.specs.internal.Pairs.{move_lists, edge_lists, with_edge};
+ghost use Rattle.annotation_check.specs.internal.Pairs.{move_lists, edge_lists, moves_in, with_edge, pairs_between};
 ghost use Rattle.annotation_check.specs.internal.PairsView.{pairs_tree};
 
 use crate::growing::Pairs;
 use cobuchi_automata::{Automaton, Edge};
 use letter_space::Space;
-use machines::{Controller, Move};
+use machines::{Controller, Environment, Move};
 use sequence::NoMemory;
 use std::alloc::Global;
 
@@ -26,26 +26,57 @@ pub(crate) fn controller_pairs(
     bound: u32,
 ) -> Result<Pairs, NoMemory>
     requires fits { FitsSpace (space_tree space.now) (controller_tree controller.now) }
-    ensures edges { IfOk result (λ pairs. (pairs_tree pairs).edges ≡ edges_from (edge_trees automaton.now.edges)) }
-    ensures moves { IfOk result (λ pairs. (pairs_tree pairs).moves
-        ≡ controller_moves (space_tree space.now) (controller_tree controller.now)) }
-    ensures machine_states { IfOk result (λ pairs. pairs.machine_states ≡ controller.now.states) }
-    ensures automaton_states { IfOk result (λ pairs. pairs.automaton_states ≡ automaton.now.states) }
-    ensures bound { IfOk result (λ pairs. pairs.bound ≡ bound) }
+    ensures { IfOk result (λ pairs. pairs_tree pairs
+        ≡ pairs_between (controller_moves (space_tree space.now) (controller_tree controller.now)) (edge_trees automaton.now.edges)
+        controller.now.states automaton.now.states bound) }
 {
-    let moves = moves_by_state(alloc, space, controller)?;
+    let moves = controller_moves(alloc, space, controller)?;
+    machine_pairs(alloc, automaton, moves, controller.states, bound)
+}
+
+/// The pairs of an environment's and an automaton's states, with a bound on their numbers.
+pub(crate) fn environment_pairs(
+    alloc: Global,
+    automaton: &Automaton,
+    space: &Space,
+    environment: &Environment,
+    bound: u32,
+) -> Result<Pairs, NoMemory>
+    requires fits { EnvironmentFits (space_tree space.now) (environment_tree environment.now) }
+    ensures { IfOk result (λ pairs. pairs_tree pairs
+        ≡ pairs_between (environment_moves (space_tree space.now) (environment_tree environment.now)) (edge_trees automaton.now.edges)
+        environment.now.states automaton.now.states bound) }
+{
+    let moves = environment_moves(alloc, space, environment)?;
+    machine_pairs(alloc, automaton, moves, environment.states, bound)
+}
+
+/// The pairs of a machine's and an automaton's states, by the moves in each state of the machine.
+fn machine_pairs(
+    alloc: Global,
+    automaton: &Automaton,
+    moves: Vec<Vec<Move>>,
+    states: u32,
+    bound: u32,
+) -> Result<Pairs, NoMemory>
+    requires starts { 0 < states }
+    requires listed { vec_len moves ≡ states }
+    requires stay { (s : ℕ) (m : MoveTree) → Contains (moves_in moves.items s) m → m.next < states }
+    ensures { IfOk result (λ pairs. pairs_tree pairs
+        ≡ pairs_between (moves_in moves.items) (edge_trees automaton.now.edges) states automaton.now.states bound) }
+{
     let edges = edges_by_state(alloc, automaton)?;
     Ok(Pairs {
         moves,
         edges,
-        machine_states: controller.states,
+        machine_states: states,
         automaton_states: automaton.states,
         bound,
     })
 }
 
 /// The moves in each state of a controller.
-fn moves_by_state(
+fn controller_moves(
     alloc: Global,
     space: &Space,
     controller: &Controller,
@@ -57,6 +88,23 @@ fn moves_by_state(
     let mut table = Vec::new(alloc);
     for state in 0..controller.states {
         table.push(controller.moves(alloc, space, state)?)?;
+    }
+    Ok(table)
+}
+
+/// The moves in each state of an environment.
+fn environment_moves(
+    alloc: Global,
+    space: &Space,
+    environment: &Environment,
+) -> Result<Vec<Vec<Move>>, NoMemory>
+    requires fits { EnvironmentFits (space_tree space.now) (environment_tree environment.now) }
+    ensures { IfOk result (λ table. move_lists table.items
+        ≡ map (environment_moves (space_tree space.now) (environment_tree environment.now)) (numbers_from 0 environment.now.states)) }
+{
+    let mut table = Vec::new(alloc);
+    for state in 0..environment.states {
+        table.push(environment.moves(alloc, space, state)?)?;
     }
     Ok(table)
 }

@@ -7,7 +7,7 @@ use Rattle.ltl_formula.specs.Cubes.{cube_matches}
 use Rattle.cobuchi_automata.specs.Automata.{EdgeTree}
 use Rattle.machines.specs.Moves.{MoveTree}
 use Rattle.annotation_check.specs.declared.growing.Rise.{Rise}
-use Rattle.annotation_check.specs.Annotations.{IsAtLeast, after_edge, IsNumbering, IsAnnotation, number_of_pair}
+use Rattle.annotation_check.specs.Annotations.{IsAtLeast, after_edge, IsNumbering, IsAnnotation, IsLeast, number_of_pair}
 use Rattle.annotation_check.specs.internal.Higher.{is_higher}
 use Rattle.annotation_check.specs.internal.Pairs.{PairsTree}
 
@@ -47,6 +47,16 @@ module _ (p : PairsTree) where
   -- no numbering is within the bound
   abbrev pub HasNone : Type 0
   HasNone = (other : ℕ → ℕ → Option ℕ) → IsAnnotation p.edges p.moves p.bound other → ⊥
+
+  -- numbers in a list that are an annotation within the bound, that are the least ones, and one for each pair
+  abbrev pub HasAnnotation : List (Option ℕ) → Type 0
+  HasAnnotation numbers = IsAnnotation p.edges p.moves p.bound (number_of_pair p.automaton_states numbers)
+
+  abbrev pub HasLeast : List (Option ℕ) → Type 0
+  HasLeast numbers = IsLeast p.edges p.moves (number_of_pair p.automaton_states numbers)
+
+  abbrev pub HasShape : ℕ → List (Option ℕ) → Type 0
+  HasShape bound numbers = (bound ≡ p.bound) × (length numbers ≡ p.machine_states * p.automaton_states)
 
   -- a rise of a pair of states
   pub record IsOfPair (r : Rise) : Type 0 where

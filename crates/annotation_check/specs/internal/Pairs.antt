@@ -8,6 +8,7 @@ use Rattle.cobuchi_automata.specs.declared.automaton.Edge.{Edge}
 use Rattle.machines.specs.declared.moves.Move.{Move}
 use Rattle.machines.specs.Moves.{MoveTree}
 use Rattle.machines.specs.MachineView.{move_tree}
+use Rattle.annotation_check.specs.Annotations.{edges_from}
 
 -- the moves in each state of a machine, the edges from each state of an automaton, how many states these have, and a bound
 pub record PairsTree : Type 0 where
@@ -39,6 +40,16 @@ abbrev pub pairs_with : List (Vec Move Global) → List (Vec Edge Global) → �
 pairs_with moves edges machine_states automaton_states bound = record {
   moves = moves_in moves;
   edges = edges_in edges;
+  machine_states = machine_states;
+  automaton_states = automaton_states;
+  bound = bound;
+}
+
+-- the moves of a machine and the edges of an automaton as such a value
+abbrev pub pairs_between : (ℕ → List MoveTree) → List EdgeTree → ℕ → ℕ → ℕ → PairsTree
+pairs_between moves edges machine_states automaton_states bound = record {
+  moves = moves;
+  edges = edges_from edges;
   machine_states = machine_states;
   automaton_states = automaton_states;
   bound = bound;

@@ -4,7 +4,7 @@ use Rattle.letter_space.specs.SpaceView.{space_tree}
 use Rattle.machines.specs.MachineView.{controller_tree}
 use Rattle.machines.specs.Moves.{controller_moves}
 use Rattle.annotation_check.specs.internal.Pairs.{move_lists}
-use Rattle.annotation_check.proofs.pairing.moves_by_state.Given as goal
+use Rattle.annotation_check.proofs.pairing.controller_moves.Given as goal
 
 abbrev pub invariant-loop-state : goal.invariant-loop-state
 invariant-loop-state l =

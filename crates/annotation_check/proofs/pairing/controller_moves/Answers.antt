@@ -1,0 +1,13 @@
+use Rattle.std.proofs.Common.{◌∙◌, ap, map}
+use Rattle.letter_space.specs.SpaceView.{space_tree}
+use Rattle.machines.specs.MachineView.{controller_tree, move_tree}
+use Rattle.machines.specs.Moves.{controller_moves}
+use Rattle.annotation_check.specs.internal.Pairs.{move_lists}
+use Rattle.annotation_check.proofs.ListedByState.{listed_more}
+use Rattle.annotation_check.proofs.pairing.controller_moves.Goals as goal
+
+pub loop-state-preserved : goal.loop-state-preserved
+loop-state-preserved c =
+    ap move_lists c.in_ok-push.ensures.items
+    ∙ listed_more (λ ms. map move_tree ms.items) (controller_moves (space_tree c.args.space.now) (controller_tree c.args.controller.now))
+    c.loop-state.table.items c.in_ok-moves.field-0 c.loop-state.state c.in_ok-moves.ensures c.loop-state.invariant
