@@ -40,7 +40,7 @@ use Rattle.program_check.specs.Verdicts.{HasFewBits, HasSignals, IsOverBits, Has
 use Rattle.program_check.specs.Verdicts.{window_has_bits, form_for}
 use Rattle.program_check.specs.internal.NodeVerdicts.{node_verdict, IsNodeVerdict}
 use Rattle.program_check.proofs.AnnotatedRuns.{annotated_program_meets}
-use Rattle.program_check.proofs.OtherNumbers.{annotated_there}
+use Rattle.annotation_check.proofs.OtherNumbers.{annotated_there}
 use Rattle.program_check.proofs.ProgramNames.{program_over}
 use Rattle.program_check.proofs.SpaceTerms.{signals_of}
 use Rattle.term_congruence.proofs.CongruentWindows.{congruent_windows_hold}

@@ -1,7 +1,6 @@
 pub mod AnnotatedRuns
 pub mod SpaceTerms
 pub mod ProgramNames
-pub mod OtherNumbers
 pub mod UnderWindows
 pub mod SoundWindows
 pub mod Accepted

@@ -15,7 +15,7 @@ use Rattle.flow_program.specs.Fits.{window_is_shaped, window_reads_only, window_
 use Rattle.flow_program.specs.declared.program.Program.{Program}
 use Rattle.flow_program.specs.ProgramTree.{ProgramTree}
 use Rattle.flow_program.specs.ProgramView.{program_tree}
-use Rattle.annotation_check.proofs.EdgesFollowed.{image_at, each_image_next, each_image}
+use Rattle.annotation_check.proofs.EdgesFollowed.{image_at, each_image_next}
 use Rattle.program_check.specs.Verdicts.{AreSound, IsUnsoundAt}
 
 -- the listed updates of a window that fits are of cells
@@ -82,11 +82,6 @@ module _ (program : Program) (cells : List ℕ) (same_cells : cells ≡ program.
     unsound = λ holds. fails (subst (λ (cs : List ℕ). IsCongruent cs (window_tree w)) (sym same_cells) holds);
     before = of_program i before;
   }
-
-  pub sound_at_end : (i : ℕ) → length windows ≤ i → AreSoundBefore cells windows i → AreSound (program_tree program)
-  sound_at_end i past before =
-      each_image (IsCongruent program.cells) window_tree program.windows i
-      (subst (λ (ws : List Window). length ws ≤ i) same_windows past) (of_program i before)
 
 pub sound_next : (cells : List ℕ) (windows : List Window) (i : ℕ) (w : Window) → i < length windows → w ≡ get_or windows i w →
     AreSoundBefore cells windows i → IsCongruent cells (window_tree w) → AreSoundBefore cells windows (i + 1)

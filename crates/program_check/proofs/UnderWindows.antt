@@ -52,7 +52,7 @@ window_atoms_have_bits space w has =
     each_joined (HasBit space) (map (λ (u : ListedTree). update u.signal u.term) w.updates) (test w.left ∷ test w.right ∷ [])
     (each_map (HasBit space) (λ (u : ListedTree). update u.signal u.term) w.updates
     (each_from_list_all (λ (u : ListedTree). is_some (bit_of_update space u.signal u.term)) w.updates both.1))
-    (probes.0, probes.1, tt)
+    (probes.0, (probes.1, tt))
 
 pub under_has_bits : (spec : SpecTree) → FormulasFit spec → (ws : List WindowTree) → list_all (window_has_bits (spec_space spec)) ws ≡ true →
     HasBits (spec_space spec) (under_windows ws (whole_formula spec))

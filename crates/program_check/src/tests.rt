@@ -241,7 +241,11 @@ fn said(
 ) -> Result<String, Fail> {
     let spec = spec_of(rt, alloc, spec)?;
     let program = program_of(rt, alloc, program, spec.names.copy()?)?;
-    assert!(rt; program.nodes.len() < 100_000 && program.states.len() < 100_000 && program.windows.len() < 100_000);
+    assert!(rt;
+        program.nodes.len() < 100_000
+            && program.states.len() < 100_000
+            && program.windows.len() < 100_000
+    );
     let said: Result<Verdict, CheckError> = accept(alloc, &spec, &program, bound);
     Ok(format!(in alloc; "{said:?}")?)
 }

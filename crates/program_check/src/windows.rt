@@ -1,10 +1,12 @@
 //! Which window of a program is refused.
 
 ghost use Rattle.std.specs.Prelude.{◌≡◌, ◌<◌, ◌^◌, not, is_some, length, map, position, IfOk, IfSome, IfNone};
-ghost use Rattle.tsl_terms.specs.WindowTree.{listed_tree, window_tree};
+ghost use Rattle.std.specs.List.{list_all};
+ghost use Rattle.tsl_terms.specs.TermTree.{term_tree, probe_tree};
+ghost use Rattle.tsl_terms.specs.WindowTree.{window_tree};
 ghost use Rattle.flow_program.specs.ProgramView.{program_tree};
 ghost use Rattle.letter_space.specs.SpaceView.{space_tree};
-ghost use Rattle.letter_space.specs.Bits.{bit_of_update};
+ghost use Rattle.letter_space.specs.Bits.{bit_of_probe, bit_of_update};
 ghost use Rattle.program_check.specs.Verdicts.{window_has_bits, AreSound, IsUnsoundAt};
 
 use flow_program::Program;
@@ -12,7 +14,7 @@ use letter_space::Space;
 use sequence::NoMemory;
 use std::alloc::Global;
 use term_congruence::congruent;
-use tsl_terms::{Listed, Window};
+use tsl_terms::{Listed, Probe, Window};
 
 /// The first window with a probe that is no predicate term, or with an update that is no choice, if there is one.
 pub(crate) fn foreign_window(program: &Program, space: &Space) -> Option<u32>
@@ -34,14 +36,28 @@ fn first_foreign(windows: &[Window], space: &Space) -> Option<usize>
 fn has_bits(space: &Space, window: &Window) -> bool
     ensures { result ≡ window_has_bits (space_tree space.now) (window_tree window.now) }
 {
-    space.test_bit(&window.left).is_some()
-        && space.test_bit(&window.right).is_some()
-        && window.updates.as_slice().iter().all(|update| is_choice(space, update))
+    is_test(space, &window.left)
+        && is_test(space, &window.right)
+        && are_choices(space, window.updates.as_slice())
+}
+
+/// Whether a probe is a predicate term.
+fn is_test(space: &Space, probe: &Probe) -> bool
+    ensures { result ≡ is_some (bit_of_probe (space_tree space.now) (probe_tree probe.now)) }
+{
+    space.test_bit(probe).is_some()
+}
+
+/// Whether listed updates are choices.
+fn are_choices(space: &Space, updates: &[Listed]) -> bool
+    ensures { result ≡ list_all (λ u. is_some (bit_of_update (space_tree space.now) u.signal (term_tree u.term))) updates.now }
+{
+    updates.iter().all(|update| is_choice(space, update))
 }
 
 /// Whether a listed update is a choice.
 fn is_choice(space: &Space, update: &Listed) -> bool
-    ensures { result ≡ is_some (bit_of_update (space_tree space.now) (listed_tree update.now).signal (listed_tree update.now).term) }
+    ensures { result ≡ is_some (bit_of_update (space_tree space.now) update.now.signal (term_tree update.now.term)) }
 {
     space.update_bit(update.signal, &update.term).is_some()
 }
@@ -54,7 +70,8 @@ pub(crate) fn unsound_window(alloc: Global, program: &Program) -> Result<Option<
 {
     let cells = program.cells.as_slice();
     for (place, window) in program.windows.as_slice().iter().enumerate() {
-        if !congruent(alloc, window, cells)? {
+        let is_congruent = congruent(alloc, window, cells)?;
+        if !is_congruent {
             return Ok(Some(place as u32));
         }
     }
