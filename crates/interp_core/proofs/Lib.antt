@@ -1,6 +1,7 @@
 pub mod Besides
 pub mod FreeLists
 pub mod ImagesAreValues
+pub mod ImagesThere
 pub mod Rows
 pub mod SameFrees
 pub mod Total

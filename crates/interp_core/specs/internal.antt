@@ -1,2 +1,3 @@
 -- Words that only private functions use.
+pub mod LeavesWithin
 pub mod SameFree

@@ -25,7 +25,10 @@ pub fn image<A: Algebra>(
     ensures { IfOk result (λ v. image_of (A.meanings algebra.now) (row_value A.seen rows.now) (free_tree free.now) ≡ Some (A.seen v)) }
 {
     match free {
-        FreeTerm::Leaf(signal, step) => algebra.copy(alloc, value_in(rows, *signal, *step).unwrap()),
+        FreeTerm::Leaf(signal, step) => algebra.copy(
+            alloc,
+            value_in(rows, *signal, *step).unwrap(),
+        ),
         FreeTerm::Apply(function, arguments) => {
             let values = images(alloc, algebra, rows, arguments)?;
             algebra.apply(alloc, *function, values.as_slice())
