@@ -6,10 +6,10 @@ use Rattle.clap.specs.Words.{App, Rule, Text}
 use Rattle.command_words.specs.Arguments.{command_with, given_number, number_option, number_positional, takes_words}
 use Rattle.command_words.specs.declared.command_word.CommandWord.{CommandWord}
 use Rattle.command_words.specs.declared.command_word.CommandWord.TheVariants as word
-use Rattle.command_words.specs.declared.asked.Asked.{Asked}
-use Rattle.command_words.specs.declared.asked.Asked.TheVariants as asks
-use Rattle.command_words.specs.declared.asked.SynthSizes.{SynthSizes}
-use Rattle.command_words.specs.declared.asked.ProveSizes.{ProveSizes}
+use Rattle.command_words.specs.declared.task.Task.{Task}
+use Rattle.command_words.specs.declared.task.Task.TheVariants as task
+use Rattle.command_words.specs.declared.task.SynthSizes.{SynthSizes}
+use Rattle.command_words.specs.declared.task.ProveSizes.{ProveSizes}
 
 abbrev pub word_text : CommandWord → Text
 word_text word.Synth = codes "synth"
@@ -75,27 +75,27 @@ pub record AreProveSizes (given : Text → Option ℕ) (sizes : ProveSizes) : Ty
   pub budget : IsGivenWithin 1 1000000 (given (codes "budget")) sizes.budget
 
 -- the command that is asked for
-abbrev pub asked_word : Asked → CommandWord
-asked_word (asks.Synth sizes) = word.Synth
-asked_word (asks.Check bound) = word.Check
-asked_word asks.Run = word.Run
-asked_word (asks.Prove sizes) = word.Prove
-asked_word asks.Recheck = word.Recheck
-asked_word (asks.Gen n) = word.Gen
+abbrev pub task_word : Task → CommandWord
+task_word (task.Synth sizes) = word.Synth
+task_word (task.Check bound) = word.Check
+task_word task.Run = word.Run
+task_word (task.Prove sizes) = word.Prove
+task_word task.Recheck = word.Recheck
+task_word (task.Gen n) = word.Gen
 
 -- its numbers are those that its arguments have
-abbrev pub AreItsNumbers : (Text → Option ℕ) → Asked → Type 0
-AreItsNumbers given (asks.Synth sizes) = AreSynthSizes given sizes
-AreItsNumbers given (asks.Check bound) = IsGivenWithin 0 15 (given (codes "bound")) bound
-AreItsNumbers given asks.Run = Unit {0}
-AreItsNumbers given (asks.Prove sizes) = AreProveSizes given sizes
-AreItsNumbers given asks.Recheck = Unit {0}
-AreItsNumbers given (asks.Gen n) = IsGivenWithin 1 5 (given (codes "n")) n
+abbrev pub AreItsNumbers : (Text → Option ℕ) → Task → Type 0
+AreItsNumbers given (task.Synth sizes) = AreSynthSizes given sizes
+AreItsNumbers given (task.Check bound) = IsGivenWithin 0 15 (given (codes "bound")) bound
+AreItsNumbers given task.Run = Unit {0}
+AreItsNumbers given (task.Prove sizes) = AreProveSizes given sizes
+AreItsNumbers given task.Recheck = Unit {0}
+AreItsNumbers given (task.Gen n) = IsGivenWithin 1 5 (given (codes "n")) n
 
 -- The words ask for this: the first names its command, `clap` takes them for that command, and its numbers are those that `clap`
 -- gives the command's arguments.
-abbrev pub AsksFor : List Text → Asked → Type 0
-AsksFor [] asked = ⊥
-AsksFor (first ∷ rest) asked =
-    (command_word first ≡ Some (asked_word asked)) × (takes_words (command (asked_word asked)) (first ∷ rest) ≡ true)
-    × AreItsNumbers (given_number (command (asked_word asked)) (first ∷ rest)) asked
+abbrev pub AsksFor : List Text → Task → Type 0
+AsksFor [] task = ⊥
+AsksFor (first ∷ rest) task =
+    (command_word first ≡ Some (task_word task)) × (takes_words (command (task_word task)) (first ∷ rest) ≡ true)
+    × AreItsNumbers (given_number (command (task_word task)) (first ∷ rest)) task

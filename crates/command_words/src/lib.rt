@@ -1,7 +1,7 @@
 //! The words of the command line, read by `clap`.
 //!
 //! The first word names a command, and `clap` reads the others as the words of one simple command: an argument for
-//! each row of a table, with one whole number within a range for its value, and nothing else. `asked_by` gives what the
+//! each row of a table, with one whole number within a range for its value, and nothing else. `task_of` gives what the
 //! words ask for.
 //!
 //! Its contract speaks in the words of `clap`'s own definitions. `command` is the command that `clap` is handed for a
@@ -11,16 +11,16 @@
 //! range of its row. Words ask for at most one thing, by the law `words_ask_for_one_thing`.
 #![tactic(auto)]
 
-mod asked;
 mod command_word;
 mod laws;
 mod number_argument;
 mod reading;
+mod task;
 
-pub use asked::{Asked, ProveSizes, SynthSizes, WordsError};
 pub use command_word::CommandWord;
 pub use laws::words_ask_for_one_thing;
-pub use reading::asked_by;
+pub use reading::task_of;
+pub use task::{ProveSizes, SynthSizes, Task, WordsError};
 
 #[cfg(test)]
 mod tests;

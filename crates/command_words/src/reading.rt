@@ -2,12 +2,12 @@
 
 ghost use Rattle.std.specs.Prelude.{◌≡◌, ◌≢◌, ◌<◌, ◌^◌, ℕ, List, Some, IfOk, IfErr, true, false, map, string_bytes};
 ghost use Rattle.command_words.specs.Arguments.{given_number, takes_words};
-ghost use Rattle.command_words.specs.Commands.{AsksFor, AreItsNumbers, are_taken, command, asked_word};
+ghost use Rattle.command_words.specs.Commands.{AsksFor, AreItsNumbers, are_taken, command, task_word};
 ghost use Rattle.command_words.specs.internal.Matches.{ParsedBy, matched_number};
 
-use crate::asked::{Asked, ProveSizes, SynthSizes, WordsError};
 use crate::command_word::CommandWord;
 use crate::number_argument::command_of;
+use crate::task::{ProveSizes, SynthSizes, Task, WordsError};
 use clap::ArgMatches;
 use clap::error::ErrorKind;
 use std::alloc::Global;
@@ -50,13 +50,13 @@ fn number(matches: &ArgMatches<'_>, name: &str) -> u32
 }
 
 /// What a command asks for by the matches of its words.
-fn asked_of(word: CommandWord, matches: &ArgMatches<'_>) -> Asked
+fn task_by(word: CommandWord, matches: &ArgMatches<'_>) -> Task
     requires { ParsedBy (command word) matches.now }
-    ensures command { asked_word result ≡ word }
+    ensures command { task_word result ≡ word }
     ensures numbers { AreItsNumbers (matched_number matches.now) result }
 {
     match word {
-        CommandWord::Synth => Asked::Synth(SynthSizes {
+        CommandWord::Synth => Task::Synth(SynthSizes {
             states: number(matches, "states"),
             bound: number(matches, "bound"),
             env_states: number(matches, "env-states"),
@@ -65,15 +65,15 @@ fn asked_of(word: CommandWord, matches: &ArgMatches<'_>) -> Asked
             rounds: number(matches, "rounds"),
             budget: u64::from(number(matches, "budget")),
         }),
-        CommandWord::Check => Asked::Check(number(matches, "bound")),
-        CommandWord::Run => Asked::Run,
-        CommandWord::Prove => Asked::Prove(ProveSizes {
+        CommandWord::Check => Task::Check(number(matches, "bound")),
+        CommandWord::Run => Task::Run,
+        CommandWord::Prove => Task::Prove(ProveSizes {
             states: number(matches, "states"),
             bound: number(matches, "bound"),
             budget: u64::from(number(matches, "budget")),
         }),
-        CommandWord::Recheck => Asked::Recheck,
-        CommandWord::Gen => Asked::Gen(number(matches, "n")),
+        CommandWord::Recheck => Task::Recheck,
+        CommandWord::Gen => Task::Gen(number(matches, "n")),
     }
 }
 
@@ -83,8 +83,8 @@ fn asked_of(word: CommandWord, matches: &ArgMatches<'_>) -> Asked
 /// # Errors
 ///
 /// `Usage` where there is no first word, where it is no command, or where `clap` refuses the others. `NoMemory`.
-pub fn asked_by(alloc: Global, words: &[String]) -> Result<Asked, WordsError>
-    ensures taken { IfOk result (λ asked. are_taken (map string_bytes words.now) ≡ true) }
+pub fn task_of(alloc: Global, words: &[String]) -> Result<Task, WordsError>
+    ensures taken { IfOk result (λ task. are_taken (map string_bytes words.now) ≡ true) }
     ensures asks { IfOk result (AsksFor (map string_bytes words.now)) }
     ensures refused { IfErr result (λ e. e ≡ WordsError.Usage → are_taken (map string_bytes words.now) ≡ false) }
 {
@@ -95,5 +95,5 @@ pub fn asked_by(alloc: Global, words: &[String]) -> Result<Asked, WordsError>
         return Err(WordsError::Usage);
     };
     let matches = parsed(alloc, word, words)?;
-    Ok(asked_of(word, &matches))
+    Ok(task_by(word, &matches))
 }

@@ -1,6 +1,6 @@
 //! Lists of words, and what they ask for.
 
-use crate::{Asked, WordsError, asked_by};
+use crate::{Task, WordsError, task_of};
 use std::alloc::Global;
 use std::test::Fail;
 
@@ -188,8 +188,8 @@ fn words_of(alloc: Global, line: &str) -> Result<Vec<String>, Fail> {
 
 /// The command with its numbers in order, `refused` or `no memory`.
 fn told(alloc: Global, words: &[String]) -> Result<String, Fail> {
-    let text = match asked_by(alloc, words) {
-        Ok(Asked::Synth(sizes)) => format!(in alloc;
+    let text = match task_of(alloc, words) {
+        Ok(Task::Synth(sizes)) => format!(in alloc;
             "synth {} {} {} {} {} {} {}",
             sizes.states,
             sizes.bound,
@@ -199,13 +199,13 @@ fn told(alloc: Global, words: &[String]) -> Result<String, Fail> {
             sizes.rounds,
             sizes.budget
         )?,
-        Ok(Asked::Check(bound)) => format!(in alloc; "check {bound}")?,
-        Ok(Asked::Run) => String::from_str(alloc, "run")?,
-        Ok(Asked::Prove(sizes)) => {
+        Ok(Task::Check(bound)) => format!(in alloc; "check {bound}")?,
+        Ok(Task::Run) => String::from_str(alloc, "run")?,
+        Ok(Task::Prove(sizes)) => {
             format!(in alloc; "prove {} {} {}", sizes.states, sizes.bound, sizes.budget)?
         }
-        Ok(Asked::Recheck) => String::from_str(alloc, "recheck")?,
-        Ok(Asked::Gen(n)) => format!(in alloc; "gen {n}")?,
+        Ok(Task::Recheck) => String::from_str(alloc, "recheck")?,
+        Ok(Task::Gen(n)) => format!(in alloc; "gen {n}")?,
         Err(WordsError::Usage) => String::from_str(alloc, "refused")?,
         Err(WordsError::NoMemory) => String::from_str(alloc, "no memory")?,
     };

@@ -9,4 +9,5 @@ pub loop-argument-preserved : goal.loop-argument-preserved
 loop-argument-preserved c =
     c.in_ok-command.ensures.shape c.to_arg.ensures.local
     ∙ (ap₂ with_rule c.loop-argument.invariant c.to_arg.ensures.rule
-    ∙ ap (λ (rules : List Rule). command_with c.args.name.now rules) (sym (map_more rule_for c.args.arguments.now c.loop-argument.argument-index _ c.loop-argument-test.true)))
+    ∙ ap (λ (rules : List Rule). command_with c.args.name.now rules)
+    (sym (map_more rule_for c.args.arguments.now c.loop-argument.argument-index _ c.loop-argument-test.true)))

@@ -6,7 +6,8 @@ use Rattle.command_words.specs.Arguments.{command_with}
 use Rattle.command_words.specs.Commands.{command}
 use Rattle.command_words.specs.declared.command_word.CommandWord.{CommandWord}
 use Rattle.command_words.specs.declared.command_word.CommandWord.TheVariants as word
-use Rattle.command_words.proofs.NumberReads.{number_of_rows, refused_where, taken_where}
+use Rattle.command_words.proofs.NumbersRead.{number_of_rows}
+use Rattle.command_words.proofs.TakenWords.{refused_where, taken_where}
 use Rattle.command_words.proofs.reading.parsed.Goals as goal
 
 -- each command is simple
@@ -20,12 +21,15 @@ is_simple_command word.Gen = refl
 
 pub returns-in-Ok-clause-taken : goal.returns-in-Ok-clause-taken
 returns-in-Ok-clause-taken c =
-    let is : app_of c.in_ok-command.command ≡ command c.args.word = c.in_ok-command.ensures ∙ ap₂ command_with c.text.ensures c.arguments.ensures in
-    taken_where _ _ (map string_bytes c.args.words.now) is (c.in-Ok.ensures.kinds (ap is_simple_and_free is ∙ is_simple_command c.args.word))
+    let is : app_of c.in_ok-command.command ≡ command c.args.word = c.in_ok-command.ensures ∙ ap₂ command_with c.text.ensures
+    c.arguments.ensures in
+    taken_where _ _ (map string_bytes c.args.words.now) is
+    (c.in-Ok.ensures.kinds (ap is_simple_and_free is ∙ is_simple_command c.args.word))
 
 pub returns-in-Ok-clause-numbers : goal.returns-in-Ok-clause-numbers
 returns-in-Ok-clause-numbers c =
-    let is : app_of c.in_ok-command.command ≡ command c.args.word = c.in_ok-command.ensures ∙ ap₂ command_with c.text.ensures c.arguments.ensures in
+    let is : app_of c.in_ok-command.command ≡ command c.args.word = c.in_ok-command.ensures ∙ ap₂ command_with c.text.ensures
+    c.arguments.ensures in
     let words = map string_bytes c.args.words.now in
     let simple = (both _ _ (ap is_simple_and_free is ∙ is_simple_command c.args.word)).0 in
     number_of_rows (command c.args.word) words c.in-Ok.matches ((c.in-Ok.ensures.matches simple).0 ∙ ap (λ a. matches_of a words) is)
@@ -36,7 +40,8 @@ returns-in-Ok-clause-from c =
 
 pub returns-in-Err-clause-refused : goal.returns-in-Err-clause-refused
 returns-in-Err-clause-refused c = λ usage.
-    let is : app_of c.in_ok-command.command ≡ command c.args.word = c.in_ok-command.ensures ∙ ap₂ command_with c.text.ensures c.arguments.ensures in
+    let is : app_of c.in_ok-command.command ≡ command c.args.word = c.in_ok-command.ensures ∙ ap₂ command_with c.text.ensures
+    c.arguments.ensures in
     elim (c.in-Err.ensures.kinds (ap is_simple_and_free is ∙ is_simple_command c.args.word)) [
       | inl memory ↦ absurd (c.refusal.ensures usage (c.kind.ensures ∙ memory))
       | inr among ↦ refused_where _ _ (map string_bytes c.args.words.now) _ is among

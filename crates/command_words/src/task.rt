@@ -1,7 +1,7 @@
 //! What words ask for.
 
 ghost use Rattle.std.specs.Prelude.{◌≡◌};
-ghost use Rattle.command_words.specs.declared.asked.WordsError.TheVariants.{NoMemory};
+ghost use Rattle.command_words.specs.declared.task.WordsError.TheVariants.{NoMemory};
 
 use sequence::NoMemory;
 
@@ -54,7 +54,7 @@ pub struct ProveSizes {
 
 /// A command with its numbers.
 #[derive(Clone, Copy, Debug, PartialEq, Eq)]
-pub enum Asked {
+pub enum Task {
     /// A program for a specification.
     Synth(SynthSizes),
     /// A verdict on a program under a specification, by annotations within a bound, from 0 to 15.

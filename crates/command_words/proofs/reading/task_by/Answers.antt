@@ -8,8 +8,9 @@ use Rattle.command_words.specs.internal.Matches.{ParsedBy, matched_number}
 use Rattle.command_words.specs.Commands.{IsGivenWithin, arguments, command, word_text}
 use Rattle.command_words.specs.declared.command_word.CommandWord.{CommandWord}
 use Rattle.command_words.specs.declared.command_word.CommandWord.TheVariants as word
-use Rattle.command_words.proofs.NumberReads.{is_own, only_at, option_in, positional_in}
-use Rattle.command_words.proofs.reading.asked_of.Goals as goal
+use Rattle.command_words.proofs.ArgumentPlaces.{is_own, only_at}
+use Rattle.command_words.proofs.NumbersInRange.{option_in, positional_in}
+use Rattle.command_words.proofs.reading.task_by.Goals as goal
 
 is_ready_command : (w : CommandWord) → is_ready (command w).top ≡ true
 is_ready_command word.Synth = refl
@@ -32,11 +33,16 @@ returns-in-Synth-clause-numbers c =
     let p : ParsedBy (command word.Synth) m = rw c.in-Synth.is at c.requires in
     record {
       states = given word.Synth m p 0 (codes "states") 1 8 (codes "2") refl refl refl (omega arith) c.number.result c.number.ensures;
-      bound = given word.Synth m p 1 (codes "bound") 0 15 (codes "2") refl refl refl (omega arith) c.number-in-Synth.result c.number-in-Synth.ensures;
-      env_states = given word.Synth m p 2 (codes "env-states") 1 8 (codes "2") refl refl refl (omega arith) c.number-in-Synth-2.result c.number-in-Synth-2.ensures;
-      env_bound = given word.Synth m p 3 (codes "env-bound") 0 15 (codes "2") refl refl refl (omega arith) c.number-in-Synth-3.result c.number-in-Synth-3.ensures;
-      depth = given word.Synth m p 4 (codes "depth") 1 3 (codes "2") refl refl refl (omega arith) c.number-in-Synth-4.result c.number-in-Synth-4.ensures;
-      rounds = given word.Synth m p 5 (codes "rounds") 0 64 (codes "8") refl refl refl (omega arith) c.number-in-Synth-5.result c.number-in-Synth-5.ensures;
+      bound = given word.Synth m p 1 (codes "bound") 0 15 (codes "2") refl refl refl (omega arith) c.number-in-Synth.result
+          c.number-in-Synth.ensures;
+      env_states = given word.Synth m p 2 (codes "env-states") 1 8 (codes "2") refl refl refl (omega arith) c.number-in-Synth-2.result
+          c.number-in-Synth-2.ensures;
+      env_bound = given word.Synth m p 3 (codes "env-bound") 0 15 (codes "2") refl refl refl (omega arith) c.number-in-Synth-3.result
+          c.number-in-Synth-3.ensures;
+      depth = given word.Synth m p 4 (codes "depth") 1 3 (codes "2") refl refl refl (omega arith) c.number-in-Synth-4.result
+          c.number-in-Synth-4.ensures;
+      rounds = given word.Synth m p 5 (codes "rounds") 0 64 (codes "8") refl refl refl (omega arith) c.number-in-Synth-5.result
+          c.number-in-Synth-5.ensures;
       budget = given word.Synth m p 6 (codes "budget") 1 1000000 (codes "20000") refl refl refl (omega arith) c.from.result
           (λ n is small. c.from.ensures ∙ c.number-in-Synth-6.ensures n is small);
     }
@@ -45,15 +51,18 @@ pub returns-in-Check-clause-numbers : goal.returns-in-Check-clause-numbers
 returns-in-Check-clause-numbers c =
     let m = c.args.matches.now in
     let p : ParsedBy (command word.Check) m = rw c.in-Check.is at c.requires in
-    given word.Check m p 0 (codes "bound") 0 15 (codes "2") refl refl refl (omega arith) c.number-in-Check.result c.number-in-Check.ensures
+    given word.Check m p 0 (codes "bound") 0 15 (codes "2") refl refl refl (omega arith) c.number-in-Check.result
+    c.number-in-Check.ensures
 
 pub returns-in-Prove-clause-numbers : goal.returns-in-Prove-clause-numbers
 returns-in-Prove-clause-numbers c =
     let m = c.args.matches.now in
     let p : ParsedBy (command word.Prove) m = rw c.in-Prove.is at c.requires in
     record {
-      states = given word.Prove m p 0 (codes "states") 1 8 (codes "2") refl refl refl (omega arith) c.number-in-Prove.result c.number-in-Prove.ensures;
-      bound = given word.Prove m p 1 (codes "bound") 0 15 (codes "2") refl refl refl (omega arith) c.number-in-Prove-2.result c.number-in-Prove-2.ensures;
+      states = given word.Prove m p 0 (codes "states") 1 8 (codes "2") refl refl refl (omega arith) c.number-in-Prove.result
+          c.number-in-Prove.ensures;
+      bound = given word.Prove m p 1 (codes "bound") 0 15 (codes "2") refl refl refl (omega arith) c.number-in-Prove-2.result
+          c.number-in-Prove-2.ensures;
       budget = given word.Prove m p 2 (codes "budget") 1 1000000 (codes "20000") refl refl refl (omega arith) c.from-in-Prove.result
           (λ n is small. c.from-in-Prove.ensures ∙ c.number-in-Prove-3.ensures n is small);
     }
@@ -62,4 +71,5 @@ pub returns-in-Gen-clause-numbers : goal.returns-in-Gen-clause-numbers
 returns-in-Gen-clause-numbers c =
     let m = c.args.matches.now in
     let p : ParsedBy (command word.Gen) m = rw c.in-Gen.is at c.requires in
-    positional_in (codes "gen") (arguments word.Gen) refl refl m p 0 (codes "n") 1 5 refl refl refl (omega arith) c.number-in-Gen.result c.number-in-Gen.ensures
+    positional_in (codes "gen") (arguments word.Gen) refl refl m p 0 (codes "n") 1 5 refl refl refl (omega arith) c.number-in-Gen.result
+    c.number-in-Gen.ensures
