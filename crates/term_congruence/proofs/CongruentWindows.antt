@@ -1,7 +1,7 @@
 -- The formula of a congruent window holds in every closed run.
-use Rattle.std.proofs.Common.{◌≡◌, ◌∙◌, ℕ, zero, suc, ◌+◌, ◌&&◌, ◌||◌, ◌==◌, Bool, true, false, not, cond, List, [], ◌∷◌, ◌++◌, map}
-use Rattle.std.proofs.Common.{Option, Some, None, refl, sym, ap, arith}
-use Rattle.std.specs.Prelude.{option_map, option_and_then, find}
+use Rattle.std.proofs.Common.{◌≡◌, ◌∙◌, ℕ, zero, suc, ◌+◌, ◌&&◌, ◌||◌, ◌==◌, Bool, true, false, not, cond, List, [], ◌∷◌, map}
+use Rattle.std.proofs.Common.{Some, None, refl, sym, ap, arith}
+use Rattle.std.specs.Prelude.{option_and_then, find}
 use Rattle.std.specs.Option.{option_map_or}
 use Rattle.std.specs.List.{list_all, AllByRecursion}
 use Rattle.std.proofs.lemmas.Bool.{and_parts, eqb-true}
@@ -12,7 +12,7 @@ use Rattle.sequence.proofs.Each.{each_unmapped}
 use Rattle.loop_shape.specs.LoopShape.{LoopShape, IsPosition, after, steps_on}
 use Rattle.loop_shape.proofs.Steps.{list_all-positions}
 use Rattle.tsl_terms.specs.Name.{Name}
-use Rattle.tsl_terms.specs.TermTree.{TermTree, ProbeTree}
+use Rattle.tsl_terms.specs.TermTree.{TermTree}
 use Rattle.tsl_terms.specs.declared.operator.BinaryOperator.TheVariants.{Implication, Equivalence}
 use Rattle.tsl_terms.specs.FormulaTree.{FormulaTree, test, update, atom, binary, formulas_of}
 use Rattle.tsl_terms.specs.SpecTree.{conjunction_of}
@@ -26,7 +26,7 @@ use Rattle.flow_program.specs.ProgramText.{IsProgram}
 use Rattle.interp_core.specs.Image.{images_of}
 use Rattle.tsl_meaning.specs.Interpretation.{InputRows, meanings_in}
 use Rattle.tsl_meaning.specs.Run.{Closed, assigned_at}
-use Rattle.tsl_meaning.specs.Lasso.{Lasso, agree, meets, meet_each, holds_at, closed_run}
+use Rattle.tsl_meaning.specs.Lasso.{Lasso, agree, meets, meet_each, closed_run}
 use Rattle.tsl_meaning.specs.Promise.{EveryRunMeets}
 use Rattle.term_congruence.proofs.UnfoldingsAreValues.{value_on, unfolded_truth}
 
@@ -67,62 +67,64 @@ agree_where_same false true same = cc
 module _ {V : Type 0} (meanings : Meanings V) (program : ProgramTree) (rows : InputRows V) (shape : LoopShape)
     (closed : Closed meanings program rows shape) (is_program : IsProgram program) (w : WindowTree)
     (congruent : IsCongruent program.cells w) where
-  -- where each listed update holds, each cell takes what is listed for it
-  listed_taken : (i : ℕ) → AllByRecursion (λ u. meets (closed_run meanings program rows shape) (listed_formula u) i ≡ true) w.updates →
-      (offset s : ℕ) (t : TermTree) → term_taken_by_cell program.cells w.updates offset s ≡ Some t →
+  abbrev run : Lasso
+  run = closed_run meanings program rows shape
+
+  -- each listed update holds, counted from a position
+  abbrev AreMet : ℕ → Type 0
+  AreMet i = AllByRecursion (λ u. meets run (listed_formula u) i ≡ true) w.updates
+
+  -- then each cell takes what is listed for it
+  listed_taken : (i : ℕ) → AreMet i → (offset s : ℕ) (t : TermTree) → term_taken_by_cell program.cells w.updates offset s ≡ Some t →
       (is_among program.cells s ≡ true) × (assigned_at meanings program rows (steps_on shape offset i) s ≡ Some t)
   listed_taken i all offset s t taken =
       let listed = taken_is_listed program.cells w.updates offset s t taken in
-      let found = some_mapped (λ (u : ListedTree). u.term) (find (λ u. (u.signal == s) && (u.offset == offset)) w.updates) t listed.1 in
-      let holds = found_has (λ (u : ListedTree). (u.signal == s) && (u.offset == offset))
-      (λ u. meets (closed_run meanings program rows shape) (listed_formula u) i ≡ true) w.updates found.0 all found.1 in
-      let tested = and_parts (found.0.signal == s) (found.0.offset == offset)
-      (found_passes (λ (u : ListedTree). (u.signal == s) && (u.offset == offset)) w.updates found.0 found.1) in
-      let now = sym (meets_later (closed_run meanings program rows shape) found.0.offset i (atom (update found.0.signal found.0.term))) ∙ holds in
-      let assigned = some_passes _ _ now in
-      let same : assigned.0 ≡ t = same_tree_is assigned.0 found.0.term assigned.2 ∙ found.2 in
+      let is_it : ListedTree → Bool = λ u. (u.signal == s) && (u.offset == offset) in
+      let found = some_mapped (λ (u : ListedTree). u.term) (find is_it w.updates) t listed.1 in
+      let u : ListedTree = found.0 in
+      let holds = found_has is_it (λ v. meets run (listed_formula v) i ≡ true) w.updates u all found.1 in
+      let tested = and_parts (u.signal == s) (u.offset == offset) (found_passes is_it w.updates u found.1) in
+      let assigned = some_passes _ _ (sym (meets_later run u.offset i (atom (update u.signal u.term))) ∙ holds) in
       (
         listed.0,
-        (λ k. assigned_at meanings program rows (steps_on shape (sym (eqb-true found.0.offset offset tested.1) k) i)
-        (sym (eqb-true found.0.signal s tested.0) k)) ∙ assigned.1 ∙ ap Some same,
+        (λ k. assigned_at meanings program rows (steps_on shape (sym (eqb-true u.offset offset tested.1) k) i)
+        (sym (eqb-true u.signal s tested.0) k))
+        ∙ assigned.1 ∙ ap Some (same_tree_is assigned.0 u.term assigned.2 ∙ found.2),
       )
 
-  -- the two sides of the window have one truth there
-  one_truth : (i : ℕ) → IsPosition shape i →
-      AllByRecursion (λ u. meets (closed_run meanings program rows shape) (listed_formula u) i ≡ true) w.updates →
-      meets (closed_run meanings program rows shape) (later w.left_at (atom (test w.left))) i
-      ≡ meets (closed_run meanings program rows shape) (later w.length (atom (test w.right))) i
+  -- so the two sides of the window have one truth there
+  one_truth : (i : ℕ) → IsPosition shape i → AreMet i →
+      meets run (later w.left_at (atom (test w.left))) i ≡ meets run (later w.length (atom (test w.right))) i
   one_truth i position all =
+      let distinct = is_program.signals_distinct in
       let listed = listed_taken i all in
-      let left = unfolded_truth meanings program rows shape closed is_program.signals_distinct w.updates i position listed w.left_at w.left in
-      let right = unfolded_truth meanings program rows shape closed is_program.signals_distinct w.updates i position listed w.length w.right in
-      meets_later (closed_run meanings program rows shape) w.left_at i (atom (test w.left))
+      let images = images_of meanings (value_on meanings program rows shape closed distinct w.updates i position listed) in
+      meets_later run w.left_at i (atom (test w.left))
       ∙ ap (λ o. option_map_or (λ holds. holds) o false)
-      (left
-      ∙ (λ k. option_and_then (meanings.predicate (congruent.predicate k))
-      (images_of meanings (value_on meanings program rows shape closed is_program.signals_distinct w.updates i position listed) (congruent.arguments k)))
-      ∙ sym right)
-      ∙ sym (meets_later (closed_run meanings program rows shape) w.length i (atom (test w.right)))
+      (unfolded_truth meanings program rows shape closed distinct w.updates i position listed w.left_at w.left
+      ∙ (λ k. option_and_then (meanings.predicate (congruent.predicate k)) (images (congruent.arguments k)))
+      ∙ sym (unfolded_truth meanings program rows shape closed distinct w.updates i position listed w.length w.right))
+      ∙ sym (meets_later run w.length i (atom (test w.right)))
 
-  holds_here : (i : ℕ) → IsPosition shape i → meets (closed_run meanings program rows shape)
-      (binary Implication (conjunction_of (map listed_formula w.updates))
-      (binary Equivalence (later w.left_at (atom (test w.left))) (later w.length (atom (test w.right))))) i ≡ true
-  holds_here i position = by (meets (closed_run meanings program rows shape) (conjunction_of (map listed_formula w.updates)) i) refl
+  -- what the window says at each position
+  abbrev here : FormulaTree
+  here = binary Implication (conjunction_of (map listed_formula w.updates))
+      (binary Equivalence (later w.left_at (atom (test w.left))) (later w.length (atom (test w.right))))
+
+  holds_here : (i : ℕ) → IsPosition shape i → meets run here i ≡ true
+  holds_here i position = by (meets run (conjunction_of (map listed_formula w.updates)) i) refl
     where
-      by : (b : Bool) → meets (closed_run meanings program rows shape) (conjunction_of (map listed_formula w.updates)) i ≡ b →
-          (not b || agree (meets (closed_run meanings program rows shape) (later w.left_at (atom (test w.left))) i)
-          (meets (closed_run meanings program rows shape) (later w.length (atom (test w.right))) i)) ≡ true
+      by : (b : Bool) → meets run (conjunction_of (map listed_formula w.updates)) i ≡ b →
+          (not b || agree (meets run (later w.left_at (atom (test w.left))) i) (meets run (later w.length (atom (test w.right))) i)) ≡ true
       by false is = refl
       by true is = agree_where_same _ _ (one_truth i position
-          (each_unmapped (λ f. meets (closed_run meanings program rows shape) f i ≡ true) listed_formula w.updates
-          (conjunction_met (closed_run meanings program rows shape) i (map listed_formula w.updates) is)))
+          (each_unmapped (λ f. meets run f i ≡ true) listed_formula w.updates
+          (conjunction_met run i (map listed_formula w.updates) is)))
 
-  pub window_holds : meets (closed_run meanings program rows shape) (window_formula_of w) 0 ≡ true
+  pub window_holds : meets run (window_formula_of w) 0 ≡ true
   window_holds =
-      list_all-positions shape (meets (closed_run meanings program rows shape)
-      (binary Implication (conjunction_of (map listed_formula w.updates))
-      (binary Equivalence (later w.left_at (atom (test w.left))) (later w.length (atom (test w.right))))))
-      (suc (shape.start + shape.length)) 0 (record { goes_on = closed.goes_on; within = omega (arith, closed.goes_on) }) holds_here
+      list_all-positions shape (meets run here) (suc (shape.start + shape.length)) 0
+      (record { goes_on = closed.goes_on; within = omega (arith, closed.goes_on) }) holds_here
 
 pub congruent_windows_hold : (names : List Name) (program : ProgramTree) (w : WindowTree) → IsProgram program →
     IsCongruent program.cells w → EveryRunMeets names program (window_formula_of w)

@@ -7,6 +7,8 @@
 //!
 //! Neither call makes a free term. A label is the place of a shape in a set without repeats, and a shape names
 //! its parts by their labels, so the cost is that of the terms times the steps, however large they unfold.
+//!
+//! The law `congruent_windows_hold` says what this is for: a congruent window's formula holds in every closed run.
 #![tactic(auto)]
 
 mod classes;
