@@ -43,14 +43,14 @@ fn put_response(out: &mut Vec<u8>, i: u32) -> Result<(), NoMemory>
 pub fn summary_text(
     alloc: Global,
     n: u32,
-    predicates: u32,
-    updates: u32,
+    predicates: u64,
+    updates: u64,
     has_program: bool,
 ) -> Result<Vec<u8>, NoMemory>
     ensures { IfOk result (λ text. text.items ≡ summary_text n predicates updates has_program) }
 {
     let mut out = Vec::new(alloc);
-    put_count(&mut out, b"gen ", n)?;
+    put_count(&mut out, b"gen ", u64::from(n))?;
     put_count(&mut out, b"predicates ", predicates)?;
     put_count(&mut out, b"updates ", updates)?;
     put_bytes(&mut out, outcome_line(has_program))?;
@@ -69,11 +69,11 @@ fn outcome_line(has_program: bool) -> &'static [u8]
 }
 
 /// Appends a line of a word and a number.
-fn put_count(out: &mut Vec<u8>, word: &[u8], count: u32) -> Result<(), NoMemory>
+fn put_count(out: &mut Vec<u8>, word: &[u8], count: u64) -> Result<(), NoMemory>
     ensures { OnOk result (out.new.items ≡ out.old.items ++ (word.now ++ decimal count ++ codes "\n")) }
 {
     put_bytes(out, word)?;
-    put_number(out, u64::from(count))?;
+    put_number(out, count)?;
     put_bytes(out, b"\n")
 }
 
