@@ -1,5 +1,5 @@
 -- An accepted program realizes the specification.
-use Rattle.std.proofs.Common.{◌≡◌, ◌∙◌, ℕ, ◌≤◌, Bool, true, not, List, [], ◌∷◌, ◌++◌, length, Option, Some, None, slice_get}
+use Rattle.std.proofs.Common.{◌≡◌, ◌∙◌, ℕ, ◌≤◌, Bool, true, not, List, ◌++◌, length, Option, Some, None, slice_get}
 use Rattle.std.proofs.Common.{sym, ap, subst, inl, inr, arith}
 use Rattle.std.specs.List.{list_all, AllByRecursion, position}
 use Rattle.std.proofs.lemmas.List.{length-map}
@@ -138,8 +138,8 @@ module _ (spec : SpecTree) (program : ProgramTree) (space : SpaceTree) (same : s
     none = λ found.
         let one = one_controller (spec_space spec) program found.controller controller
         (spec_is_space spec few.few_predicates few.few_bits) found.question.controller question.controller in
-        let there = annotated_there (form_for Controller spec program.windows) found.question.states found.edges found.question.automaton states
-        (edge_trees edges) automaton (controller_moves (spec_space spec) found.controller) bound found.number found.annotation in
+        let there = annotated_there (form_for Controller spec program.windows) found.question.states found.edges found.question.automaton
+        states (edge_trees edges) automaton (controller_moves (spec_space spec) found.controller) bound found.number found.annotation in
         none there.0 (subst (Annotates bound there.0) (sym same)
         (subst (λ c. IsAnnotation (edges_from (edge_trees edges)) (controller_moves (spec_space spec) c) bound there.0) one there.1));
   }

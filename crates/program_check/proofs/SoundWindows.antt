@@ -1,9 +1,9 @@
 -- Windows that are congruent: what a loop over them keeps, and that there is one first window that is not.
-use Rattle.std.proofs.Common.{◌≡◌, ◌∙◌, ℕ, ◌<◌, ◌≤◌, true, ◌&&◌, ◌+◌, ◌++◌, nat_le, nat_lt, List, length, map, take, get_or, Some, slice_get}
-use Rattle.std.proofs.Common.{inl, inr, sym, ap, subst, arith}
+use Rattle.std.proofs.Common.{◌≡◌, ◌∙◌, ℕ, ◌<◌, true, ◌&&◌, ◌+◌, ◌++◌, nat_le, nat_lt, List, length}
+use Rattle.std.proofs.Common.{map, take, get_or, Some, slice_get, inl, inr, refl, sym, ap, subst, arith}
 use Rattle.std.specs.List.{list_all, AllByRecursion}
 use Rattle.std.proofs.lemmas.Bool.{and_parts, cases_lt}
-use Rattle.std.proofs.lemmas.Option.{slice_get-get_or}
+use Rattle.std.proofs.lemmas.Option.{slice_get_read}
 use Rattle.sequence.specs.Numbers.{is_among}
 use Rattle.sequence.proofs.Each.{each_at, each_weaker}
 use Rattle.sequence.proofs.Passes.{each_from_list_all, passes_at}
@@ -11,7 +11,7 @@ use Rattle.sequence.proofs.Places.{slice_get_taken}
 use Rattle.tsl_terms.specs.declared.window.Window.{Window}
 use Rattle.tsl_terms.specs.WindowTree.{ListedTree, WindowTree, window_tree}
 use Rattle.tsl_terms.specs.Congruence.{IsCongruent, UpdateCells}
-use Rattle.flow_program.specs.Fits.{window_is_shaped, window_reads_only, window_fits, rises, longest}
+use Rattle.flow_program.specs.Fits.{window_is_shaped, window_reads_only, window_fits, longest}
 use Rattle.flow_program.specs.declared.program.Program.{Program}
 use Rattle.flow_program.specs.ProgramTree.{ProgramTree}
 use Rattle.flow_program.specs.ProgramView.{program_tree}
@@ -48,9 +48,6 @@ module _ (program : ProgramTree) where
     ]
   ]
 
-here : {X : Type 0} (xs : List X) (i : ℕ) (x : X) → i < length xs → x ≡ get_or xs i x → slice_get xs i ≡ Some x
-here xs i x within is = slice_get-get_or xs i x within ∙ ap Some (sym is)
-
 -- what a loop over the windows of a program keeps
 abbrev pub AreSoundBefore : List ℕ → List Window → ℕ → Type 0
 AreSoundBefore cells windows i = AllByRecursion (IsCongruent cells) (take i (map window_tree windows))
@@ -60,7 +57,8 @@ module _ (program : Program) (cells : List ℕ) (same_cells : cells ≡ program.
   stands : (i : ℕ) (w : Window) → i < length windows → w ≡ get_or windows i w →
       slice_get (map window_tree program.windows) i ≡ Some (window_tree w)
   stands i w within is =
-      image_at window_tree program.windows i w (ap (λ ws. slice_get ws i) (sym same_windows) ∙ here windows i w within is)
+      image_at window_tree program.windows i w (ap (λ ws. slice_get ws i) (sym same_windows)
+      ∙ slice_get_read windows (length windows) i w refl within is)
 
   pub of_cells : (i : ℕ) (w : Window) → i < length windows → w ≡ get_or windows i w → UpdateCells cells (window_tree w).updates
   of_cells i w within is =
@@ -86,4 +84,4 @@ module _ (program : Program) (cells : List ℕ) (same_cells : cells ≡ program.
 pub sound_next : (cells : List ℕ) (windows : List Window) (i : ℕ) (w : Window) → i < length windows → w ≡ get_or windows i w →
     AreSoundBefore cells windows i → IsCongruent cells (window_tree w) → AreSoundBefore cells windows (i + 1)
 sound_next cells windows i w within is before holds =
-    each_image_next (IsCongruent cells) window_tree windows i w (here windows i w within is) before holds
+    each_image_next (IsCongruent cells) window_tree windows i w (slice_get_read windows (length windows) i w refl within is) before holds

@@ -1,6 +1,6 @@
 -- A formula under windows: where the formula of each window holds, it holds only if the formula itself does; and where the windows
 -- have bits, each of its atoms has one.
-use Rattle.std.proofs.Common.{◌≡◌, ◌∙◌, ℕ, true, not, ◌||◌, List, [], ◌∷◌, ◌++◌, map, flat_map, IsSome, refl, sym, ap, subst}
+use Rattle.std.proofs.Common.{◌≡◌, ◌∙◌, ℕ, true, not, ◌||◌, List, [], ◌∷◌, map, flat_map, IsSome, refl, sym, ap, subst}
 use Rattle.std.specs.Prelude.{is_some}
 use Rattle.std.specs.List.{list_all, AllByRecursion}
 use Rattle.std.proofs.lemmas.Bool.{and_parts, and_from}
@@ -54,8 +54,8 @@ window_atoms_have_bits space w has =
     (each_from_list_all (λ (u : ListedTree). is_some (bit_of_update space u.signal u.term)) w.updates both.1))
     (probes.0, (probes.1, tt))
 
-pub under_has_bits : (spec : SpecTree) → FormulasFit spec → (ws : List WindowTree) → list_all (window_has_bits (spec_space spec)) ws ≡ true →
-    HasBits (spec_space spec) (under_windows ws (whole_formula spec))
+pub under_has_bits : (spec : SpecTree) → FormulasFit spec → (ws : List WindowTree) →
+    list_all (window_has_bits (spec_space spec)) ws ≡ true → HasBits (spec_space spec) (under_windows ws (whole_formula spec))
 under_has_bits spec fits ws has =
     subst (AllByRecursion (HasBit (spec_space spec))) (sym (windowed_atoms ws (whole_formula spec)))
     (each_joined (HasBit (spec_space spec)) (flat_map window_atoms ws) (atoms (whole_formula spec))

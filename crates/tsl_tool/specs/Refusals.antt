@@ -13,8 +13,8 @@ use Rattle.branch_finder.specs.declared.limits.TheConstants.{MOST_BRANCHES}
 use Rattle.program_check.specs.declared.verdict.Limit.{Limit}
 use Rattle.program_check.specs.declared.verdict.Limit.TheVariants as limits
 use Rattle.tsl_report.specs.declared.fault.TokenPart.TheVariants.{Spec}
-use Rattle.tsl_report.specs.declared.fault.LimitName.TheVariants.{Nodes as NodesLimit, Predicates, Bits, Choices, States, Edges, Vectors, Clauses}
-use Rattle.tsl_report.specs.declared.fault.LimitName.TheVariants.{Branches}
+use Rattle.tsl_report.specs.declared.fault.LimitName.TheVariants.{Nodes as NodesLimit, Predicates, Bits, Choices, States, Edges}
+use Rattle.tsl_report.specs.declared.fault.LimitName.TheVariants.{Vectors, Clauses, Branches}
 use Rattle.tsl_report.specs.declared.fault.Fault.{Fault}
 use Rattle.tsl_report.specs.declared.fault.Fault.TheVariants.{Byte as ByteFault, Comment as CommentFault, Form as FormFault}
 use Rattle.tsl_report.specs.declared.fault.Fault.TheVariants.{Deep as DeepFault, Kind as KindFault, Arity as ArityFault, Large}

@@ -1,4 +1,4 @@
-use Rattle.std.proofs.Common.{◌≡◌, ◌∙◌, None, not, map, rules, sym, ap}
+use Rattle.std.proofs.Common.{◌≡◌, ◌∙◌, None, not, rules, sym, ap}
 use Rattle.std.specs.List.{position}
 use Rattle.tsl_terms.specs.WindowTree.{WindowTree, window_tree}
 use Rattle.letter_space.specs.SpaceView.{space_tree}
