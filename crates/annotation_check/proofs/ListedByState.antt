@@ -3,6 +3,8 @@ use Rattle.std.proofs.Common.{◌≡◌, ◌∙◌, ℕ, zero, suc, ◌+◌, ◌
 use Rattle.std.proofs.Common.{get_or, Some, option_map, unwrap_or, slice_get, Contains, All, add-one, append-nil, refl, sym, ap, subst}
 use Rattle.std.proofs.Common.{arith, inl, inr}
 use Rattle.std.specs.List.{AllByRecursion}
+use Rattle.std.specs.Prelude.{Vec, Result, IfOk}
+use Rattle.std.specs.declared.alloc.Global.{Global}
 use Rattle.std.proofs.lemmas.Bool.{cases_lt, ne_eqb, eq-eqb}
 use Rattle.std.proofs.lemmas.List.{length-map, map-set, map_push}
 use Rattle.std.proofs.lemmas.List.Elements.{recursion_from_All}
@@ -16,9 +18,14 @@ use Rattle.cobuchi_automata.specs.Automata.{EdgeTree}
 use Rattle.cobuchi_automata.specs.Edges.{edge_tree, edge_trees, IsBetween}
 use Rattle.cobuchi_automata.specs.declared.automaton.Edge.{Edge}
 use Rattle.machines.specs.Moves.{MoveTree}
+use Rattle.machines.specs.MachineView.{move_tree}
+use Rattle.machines.specs.declared.moves.Move.{Move}
 use Rattle.annotation_check.specs.Annotations.{edges_from}
-use Rattle.annotation_check.specs.internal.Pairs.{with_edge}
+use Rattle.annotation_check.specs.internal.Pairs.{move_lists, moves_in, with_edge, pairs_between}
+use Rattle.annotation_check.specs.internal.PairsView.{pairs_tree}
+use Rattle.annotation_check.specs.declared.growing.Pairs.{Pairs}
 use Rattle.annotation_check.proofs.LeavingEdges.{passes_filtered}
+use Rattle.annotation_check.proofs.MovesStay.{AreMovesOf}
 
 -- ---- lists by number
 
@@ -140,14 +147,24 @@ edges_past n q edges between past = none_from n q (edge_trees edges) past (betwe
 -- ---- moves
 
 -- the moves that are listed for a state are those in it
-module _ (moves : ℕ → List MoveTree) (states : ℕ) (past : (s : ℕ) → states ≤ s → moves s ≡ [])
-    (stay : (s : ℕ) (m : MoveTree) → Contains (moves s) m → m.next < states)
-    (lists : List (List MoveTree)) (are : lists ≡ map moves (numbers_from 0 states)) where
-  pub moves_are_listed : (s : ℕ) → unwrap_or (slice_get lists s) [] ≡ moves s
-  moves_are_listed s = ap (λ ls. unwrap_or (slice_get ls s) []) are ∙ listed moves states s past
+module _ (moves : ℕ → List MoveTree) (states : ℕ) (of : AreMovesOf states moves)
+    (table : List (Vec Move Global)) (are : move_lists table ≡ map moves (numbers_from 0 states)) where
+  moves_are_listed : (s : ℕ) → moves_in table s ≡ moves s
+  moves_are_listed s = ap (λ ls. unwrap_or (slice_get ls s) []) are ∙ listed moves states s of.past
 
-  pub listed_moves_stay : (s : ℕ) (m : MoveTree) → Contains (unwrap_or (slice_get lists s) []) m → m.next < states
-  listed_moves_stay s m stands = stay s m (subst (λ ms. Contains ms m) (moves_are_listed s) stands)
+  pub listed_moves_stay : (s : ℕ) (m : MoveTree) → Contains (moves_in table s) m → m.next < states
+  listed_moves_stay s m stands = of.stay s m (subst (λ ms. Contains ms m) (moves_are_listed s) stands)
+
+  pub listed_moves_length : length table ≡ states
+  listed_moves_length = listed_length (λ ms. map move_tree ms.items) moves table states are
+
+  -- so pairs that are made of them are those of the machine
+  pub pairs_of_listed : {E : Type 0} (edges : List EdgeTree) (automaton_states bound : ℕ) (made : Result Pairs E) →
+      IfOk made (λ pairs. pairs_tree pairs ≡ pairs_between (moves_in table) edges states automaton_states bound) →
+      IfOk made (λ pairs. pairs_tree pairs ≡ pairs_between moves edges states automaton_states bound)
+  pairs_of_listed edges automaton_states bound made is =
+      subst (λ (ms : ℕ → List MoveTree). IfOk made (λ pairs. pairs_tree pairs ≡ pairs_between ms edges states automaton_states bound))
+      (λ i s. moves_are_listed s i) is
 
 -- ---- edges that are listed
 

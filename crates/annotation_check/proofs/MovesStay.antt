@@ -18,10 +18,15 @@ moves_of_each : (space : SpaceTree) (n v : ℕ) (es : List EntryTree) → AllByR
 moves_of_each space n v [] each = tt
 moves_of_each space n v (e ∷ es) each = (each.0, moves_of_each space n (suc v) es each.1)
 
+-- what holds of the moves of a machine with so many states
+pub record AreMovesOf (states : ℕ) (moves : ℕ → List MoveTree) : Type 0 where
+  pub past : (s : ℕ) → states ≤ s → moves s ≡ []
+  pub stay : (s : ℕ) (m : MoveTree) → Contains (moves s) m → m.next < states
+
 -- ---- controllers
 
 module _ (space : SpaceTree) (c : ControllerTree) (is : IsController c) where
-  pub controller_moves_stay : (s : ℕ) (m : MoveTree) → Contains (controller_moves space c s) m → m.next < c.states
+  controller_moves_stay : (s : ℕ) (m : MoveTree) → Contains (controller_moves space c s) m → m.next < c.states
   controller_moves_stay s m stands =
       let all = each_from_places (λ (e : EntryTree). e.next < c.states) c.entries
       (λ i e at. is.stays i e.next (slice_get-map (λ (e : EntryTree). e.next) c.entries i
@@ -34,12 +39,15 @@ module _ (space : SpaceTree) (c : ControllerTree) (is : IsController c) where
       (moves_of_each space c.states 0 (entries_of c s) first) stands
 
   -- no move is in a state that is none
-  pub controller_moves_past : (s : ℕ) → c.states ≤ s → controller_moves space c s ≡ []
+  controller_moves_past : (s : ℕ) → c.states ≤ s → controller_moves space c s ≡ []
   controller_moves_past s past =
       let far = mul-le-mul_right c.valuations past in
       let size = is.has_entries in
       let none = drop_all (s * c.valuations) c.entries (omega (arith, far, size)) in
       ap (λ es. moves_from space 0 (take c.valuations es)) none ∙ ap (moves_from space 0) (take-nil c.valuations)
+
+  pub controller_moves_are : AreMovesOf c.states (controller_moves space c)
+  controller_moves_are = record { past = controller_moves_past; stay = controller_moves_stay }
 
 -- ---- environments
 
@@ -60,14 +68,17 @@ move_leads space e s u m is =
     mapped truths (Some next) moved = ap (λ (k : MoveTree). Some k.next) (same_Some (move_under space truths u next) m moved)
 
 module _ (space : SpaceTree) (e : EnvironmentTree) (is : IsEnvironment e) where
-  pub environment_moves_stay : (s : ℕ) (m : MoveTree) → Contains (environment_moves space e s) m → m.next < e.states
+  environment_moves_stay : (s : ℕ) (m : MoveTree) → Contains (environment_moves space e s) m → m.next < e.states
   environment_moves_stay s m stands =
       let found = given_from (environment_move space e s) 0 e.vectors m stands in
       let leads = move_leads space e s found.0 m found.3 in
       is.stays (s * e.vectors + found.0) m.next (cell_there e.vectors e.next s found.0 m.next leads)
 
-  pub environment_moves_past : (s : ℕ) → e.states ≤ s → environment_moves space e s ≡ []
+  environment_moves_past : (s : ℕ) → e.states ≤ s → environment_moves space e s ≡ []
   environment_moves_past s past =
       let none = slice_get_past e.truths s (let many = is.has_truths in omega (arith, past, many)) in
       none_given (environment_move space e s) (range_with_len 0 e.vectors)
       (λ u. ap (λ o. option_and_then (λ truths. option_map (move_under space truths u) (successor_at e s u)) o) none)
+
+  pub environment_moves_are : AreMovesOf e.states (environment_moves space e)
+  environment_moves_are = record { past = environment_moves_past; stay = environment_moves_stay }

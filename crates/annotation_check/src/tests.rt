@@ -19,10 +19,10 @@ use std::test::Fail;
 use tsl_terms::{Probe, Term, TermList};
 
 /// An edge: the states that it joins, what it asks of the letter, and whether it is rejecting.
-type Row = (u32, u64, u64, u32, bool);
+pub(crate) type Row = (u32, u64, u64, u32, bool);
 
 /// A space with at most one test, and a signal that takes one of two terms.
-fn small_space(alloc: Global, predicates: Vec<Probe>) -> Result<Space, Fail>
+pub(crate) fn small_space(alloc: Global, predicates: Vec<Probe>) -> Result<Space, Fail>
     ensures { IfOk result (λ space. space_tree space ≡ record {
       predicates = map probe_tree predicates.items;
       controlled = record { signal = 0; choices = signal 1 ∷ signal 2 ∷ []; first = length predicates.items } ∷ [];
@@ -45,7 +45,11 @@ fn small_space(alloc: Global, predicates: Vec<Probe>) -> Result<Space, Fail>
 }
 
 /// The automaton with these edges.
-fn table_automaton(alloc: Global, states: u32, table: &[Row]) -> Result<Automaton, Fail> {
+pub(crate) fn table_automaton(
+    alloc: Global,
+    states: u32,
+    table: &[Row],
+) -> Result<Automaton, Fail> {
     if states == 0 {
         return Err(Fail::new("an automaton has a state"));
     }
@@ -119,7 +123,7 @@ fn example(
 }
 
 /// Where one of bits 0 and 1 is not set from some position on: F (G not 0 or G not 1).
-const ONE_STOPS: [Row; 5] = [
+pub(crate) const ONE_STOPS: [Row; 5] = [
     (0, 1, 0, 1, true),
     (0, 2, 0, 2, true),
     (0, 0, 0, 0, false),
@@ -139,7 +143,9 @@ const LATER_HIGHER: [Row; 4] = [
 ];
 
 /// One test, without arguments.
-fn one_test(alloc: Global) -> Result<Vec<Probe>, Fail> {
+pub(crate) fn one_test(alloc: Global) -> Result<Vec<Probe>, Fail>
+    ensures { IfOk result (λ predicates. length predicates.items ≡ 1) }
+{
     let probe = Probe {
         predicate: 3,
         arguments: TermList::Empty,

@@ -1,14 +1,11 @@
-use Rattle.std.specs.Prelude.{IfOk}
-use Rattle.std.proofs.Common.{◌≡◌, ℕ, List, map, subst, arith}
+use Rattle.std.proofs.Common.{arith}
 use Rattle.cobuchi_automata.specs.Edges.{edge_trees}
 use Rattle.letter_space.specs.SpaceView.{space_tree}
-use Rattle.machines.specs.MachineView.{environment_tree, move_tree}
-use Rattle.machines.specs.Moves.{MoveTree, environment_moves}
+use Rattle.machines.specs.MachineView.{environment_tree}
+use Rattle.machines.specs.Moves.{environment_moves}
 use Rattle.machines.proofs.EnvironmentTables.{is_environment}
-use Rattle.annotation_check.specs.internal.Pairs.{move_lists, pairs_between}
-use Rattle.annotation_check.specs.internal.PairsView.{pairs_tree}
-use Rattle.annotation_check.proofs.ListedByState.{listed_length, moves_are_listed, listed_moves_stay}
-use Rattle.annotation_check.proofs.MovesStay.{environment_moves_stay, environment_moves_past}
+use Rattle.annotation_check.proofs.ListedByState.{listed_moves_length, listed_moves_stay, pairs_of_listed}
+use Rattle.annotation_check.proofs.MovesStay.{environment_moves_are}
 use Rattle.annotation_check.proofs.pairing.environment_pairs.Goals as goal
 
 pub machine_pairs-requires-clause-starts : goal.machine_pairs-requires-clause-starts
@@ -16,25 +13,23 @@ machine_pairs-requires-clause-starts c = let h = c.args.environment.now.has_stat
 
 pub machine_pairs-requires-clause-listed : goal.machine_pairs-requires-clause-listed
 machine_pairs-requires-clause-listed c =
-    let many = listed_length (λ ms. map move_tree ms.items) (environment_moves (space_tree c.args.space.now) (environment_tree c.args.environment.now))
-    c.in_ok-moves.moves.items c.args.environment.now.states c.in_ok-moves.ensures in
+    let space = space_tree c.args.space.now in
+    let machine = environment_tree c.args.environment.now in
+    let many = listed_moves_length (environment_moves space machine) machine.states (environment_moves_are space machine (is_environment c.args.environment.now))
+    c.in_ok-moves.moves.items c.in_ok-moves.ensures in
     omega (arith, many, c.in_ok-moves.moves.ok.0)
 
 pub machine_pairs-requires-clause-stay : goal.machine_pairs-requires-clause-stay
 machine_pairs-requires-clause-stay c =
     let space = space_tree c.args.space.now in
     let machine = environment_tree c.args.environment.now in
-    let is = is_environment c.args.environment.now in
-    listed_moves_stay (environment_moves space machine) machine.states (environment_moves_past space machine is)
-    (environment_moves_stay space machine is) (move_lists c.in_ok-moves.moves.items) c.in_ok-moves.ensures
+    listed_moves_stay (environment_moves space machine) machine.states (environment_moves_are space machine (is_environment c.args.environment.now))
+    c.in_ok-moves.moves.items c.in_ok-moves.ensures
 
 pub returns : goal.returns
 returns c =
     let space = space_tree c.args.space.now in
     let machine = environment_tree c.args.environment.now in
-    let is = is_environment c.args.environment.now in
-    subst (λ (moves : ℕ → List MoveTree). IfOk c.machine_pairs.result (λ pairs. pairs_tree pairs
-    ≡ pairs_between moves (edge_trees c.args.automaton.now.edges) machine.states c.args.automaton.now.states c.args.bound))
-    (λ i s. moves_are_listed (environment_moves space machine) machine.states (environment_moves_past space machine is)
-    (environment_moves_stay space machine is) (move_lists c.in_ok-moves.moves.items) c.in_ok-moves.ensures s i)
-    c.machine_pairs.ensures
+    pairs_of_listed (environment_moves space machine) machine.states (environment_moves_are space machine (is_environment c.args.environment.now))
+    c.in_ok-moves.moves.items c.in_ok-moves.ensures (edge_trees c.args.automaton.now.edges) c.args.automaton.now.states c.args.bound
+    c.machine_pairs.result c.machine_pairs.ensures
