@@ -2,5 +2,6 @@ pub mod FaultExamples
 pub mod TraceExamples
 pub mod SearchExamples
 pub mod EnvironmentExamples
-pub mod Ranges
+pub mod Pieces
+pub mod Picks
 pub mod Written

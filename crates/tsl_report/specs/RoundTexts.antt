@@ -28,6 +28,6 @@ pub record RoundIsHeld (names : List Name) (space : SpaceTree) (r : RoundTree) :
   pub window : IsTrue (window_is_held names r.window)
 
 -- rounds over a space can be written
-pub record RoundsAreHeld (names : List Name) (space : SpaceTree) (rounds : List RoundTree) : Type 0 where
+pub record RoundsAreHeld (names : List Name) (space : SpaceTree) (made : List RoundTree) : Type 0 where
   pub terms : IsTrue (space_is_held names space)
-  pub rounds : AllByRecursion (RoundIsHeld names space) rounds
+  pub rounds : AllByRecursion (RoundIsHeld names space) made

@@ -1,7 +1,8 @@
 //! The text of an environment.
 
-ghost use Rattle.std.specs.Prelude.{◌≡◌, ◌<◌, ◌++◌, ◌∷◌, [], length, map, flat_map, codes, decimal, IsTrue, IfOk, OnOk};
+ghost use Rattle.std.specs.Prelude.{◌≡◌, ◌<◌, ◌++◌, ◌∷◌, [], length, map, flat_map, slice_get, codes, decimal, IsTrue, IfOk, OnOk};
 ghost use Rattle.std.specs.List.{list_all, range_with_len};
+ghost use Rattle.std.specs.Option.{option_map_or};
 ghost use Rattle.tsl_terms.specs.TermTree.{probe_tree};
 ghost use Rattle.term_text.specs.TermText.{probe_is_held};
 ghost use Rattle.ltl_formula.specs.Cubes.{has_bit};
@@ -59,7 +60,15 @@ pub(crate) fn put_environment(
     put_count(out, b"environment", u64::from(environment.states))?;
     put_tests(out, names, space.predicates.as_slice())?;
     put_vectors(out, names, space, environment.vectors)?;
-    put_states(out, space.predicates.len() as u32, environment)
+    put_states(out, test_count(space), environment)
+}
+
+/// How many predicate terms there are.
+fn test_count(space: &Space) -> u32
+    ensures count { result ≡ length (space_tree space.now).predicates }
+    ensures few { result < 32 }
+{
+    space.predicates.len() as u32
 }
 
 /// Appends a line of a word and a number.
@@ -99,12 +108,7 @@ fn put_tests(out: &mut Vec<u8>, names: &Names, probes: &[Probe]) -> Result<(), N
 }
 
 /// Appends the line of a predicate term.
-fn put_test(
-    out: &mut Vec<u8>,
-    names: &Names,
-    number: usize,
-    probe: &Probe,
-) -> Result<(), NoMemory>
+fn put_test(out: &mut Vec<u8>, names: &Names, number: usize, probe: &Probe) -> Result<(), NoMemory>
     requires { IsTrue (probe_is_held names.now (probe_tree probe.now)) }
     ensures { OnOk result (out.new.items ≡ out.old.items ++ test_line names.now number (probe_tree probe.now)) }
 {
@@ -134,12 +138,7 @@ fn put_vectors(
 }
 
 /// Appends the line of a vector.
-fn put_vector(
-    out: &mut Vec<u8>,
-    names: &Names,
-    space: &Space,
-    vector: u32,
-) -> Result<(), NoMemory>
+fn put_vector(out: &mut Vec<u8>, names: &Names, space: &Space, vector: u32) -> Result<(), NoMemory>
     requires held { IsTrue (space_is_held names.now (space_tree space.now)) }
     requires below { vector < vector_count (space_tree space.now).controlled }
     ensures { OnOk result (out.new.items ≡ out.old.items
@@ -161,6 +160,7 @@ fn put_picks(
 ) -> Result<(), NoMemory>
     requires held { IsTrue (list_all (controlled_is_held names.now) (map controlled_tree controlled.now)) }
     requires picks { ArePicks (map controlled_tree controlled.now) picks.now }
+    requires counted { length picks.now ≡ length controlled.now }
     ensures { OnOk result (out.new.items ≡ out.old.items
         ++ picks_text names.now (map controlled_tree controlled.now) picks.now) }
 {
@@ -213,11 +213,26 @@ fn put_state(
 {
     put_bytes(out, b"state ")?;
     put_number(out, u64::from(state))?;
-    put_bytes(out, b" truths")?;
-    put_truths(out, tests, environment.truths.as_slice()[state as usize])?;
+    put_state_truths(out, tests, environment, state)?;
     put_bytes(out, b" to")?;
     put_successors(out, environment, state)?;
     put_bytes(out, b"\n")
+}
+
+/// Appends what is true in a state.
+fn put_state_truths(
+    out: &mut Vec<u8>,
+    tests: u32,
+    environment: &Environment,
+    state: u32,
+) -> Result<(), NoMemory>
+    requires tests { tests < 32 }
+    requires state { state < environment.now.states }
+    ensures { OnOk result (out.new.items ≡ out.old.items
+        ++ (codes " truths" ++ option_map_or (truths_text tests) (slice_get environment.now.truths state) [])) }
+{
+    put_bytes(out, b" truths")?;
+    put_truths(out, tests, environment.truths.as_slice()[state as usize])
 }
 
 /// Appends the truth of each predicate term.
@@ -226,18 +241,21 @@ fn put_truths(out: &mut Vec<u8>, tests: u32, truths: u32) -> Result<(), NoMemory
     ensures { OnOk result (out.new.items ≡ out.old.items ++ truths_text tests truths) }
 {
     for bit in 0..tests {
-        put_bytes(out, b" ")?;
-        put_bytes(out, bit_text(holds_in(truths, bit)))?;
+        put_truth(out, holds_in(truths, bit))?;
     }
     Ok(())
 }
 
+/// Appends a truth, with a space before it.
+fn put_truth(out: &mut Vec<u8>, holds: bool) -> Result<(), NoMemory>
+    ensures { OnOk result (out.new.items ≡ out.old.items ++ (codes " " ++ bit_text holds)) }
+{
+    put_bytes(out, b" ")?;
+    put_bytes(out, bit_text(holds))
+}
+
 /// Appends the state to go to under each vector.
-fn put_successors(
-    out: &mut Vec<u8>,
-    environment: &Environment,
-    state: u32,
-) -> Result<(), NoMemory>
+fn put_successors(out: &mut Vec<u8>, environment: &Environment, state: u32) -> Result<(), NoMemory>
     requires { state < environment.now.states }
     ensures { OnOk result (out.new.items ≡ out.old.items
         ++ flat_map (successor_text (environment_tree environment.now) state) (range_with_len 0 environment.now.vectors)) }
