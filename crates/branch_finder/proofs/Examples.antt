@@ -1,10 +1,10 @@
 -- Examples of the definitions: an input 0, a cell 1 that may keep itself or copy the input, and a predicate 3 of each.
-use Rattle.std.proofs.Common.{◌≡◌, ◌∙◌, ℕ, zero, suc, ◌<◌, [], ◌∷◌, List, Some, true, false, slice_get, refl, sym, ap, arith}
+use Rattle.std.proofs.Common.{◌≡◌, ◌∙◌, ℕ, zero, suc, ◌<◌, [], ◌∷◌, Option, Some, None, slice_get, refl, sym, ap, arith}
 use Rattle.std.proofs.lemmas.Bool.{false≢true}
-use Rattle.std.proofs.lemmas.Option.{same_Some}
-use Rattle.tsl_terms.specs.TermTree.{TermTree, signal, apply, TermTrees, no_terms, more_terms, ProbeTree}
+use Rattle.std.proofs.lemmas.Option.{none-some, same_Some}
+use Rattle.tsl_terms.specs.TermTree.{signal, apply, TermTrees, no_terms, more_terms, ProbeTree}
 use Rattle.tsl_terms.specs.WindowTree.{ListedTree, WindowTree}
-use Rattle.tsl_terms.specs.Congruence.{IsCongruent}
+use Rattle.ltl_formula.specs.Cubes.{has_bit}
 use Rattle.letter_space.specs.SpaceTree.{SpaceTree}
 use Rattle.machines.specs.MachineTree.{EnvironmentTree, successor_at}
 use Rattle.machines.specs.Visits.{at_start}
@@ -95,17 +95,40 @@ kept_is_spurious = record {
 }
 
 -- a probe that has no bit
+abbrev first_read : TermTrees → ℕ
+first_read (more_terms (signal s) ts) = s
+first_read (more_terms (apply f us) ts) = 0
+first_read no_terms = 0
+
+abbrev signal_read : Option ProbeTree → ℕ
+signal_read None = 0
+signal_read (Some p) = first_read p.arguments
+
 without_a_bit : (b : ℕ) → slice_get (space_of_two.predicates) b ≡ Some (probe_of 2) → ⊥
-without_a_bit zero is = cc
-without_a_bit (suc zero) is = cc
-without_a_bit (suc (suc b)) is = cc
+without_a_bit zero is = omega (arith, ap signal_read is)
+without_a_bit (suc zero) is = omega (arith, ap signal_read is)
+without_a_bit (suc (suc b)) is = none-some (probe_of 2) is
 
 no_bit : IsSpurious space_of_two unmoved (record copied { left = probe_of 2 }) → ⊥
 no_bit is = without_a_bit is.left_bit is.is_left
 
--- a path would end where it begins
-one_state : (left right b : ℕ) → slice_get (space_of_two.predicates) left ≡ Some (probe_of 0) → IsSpurious space_of_two unmoved (record kept { left_at = 1 }) → ⊥
-one_state left right b at is = ?
+-- the bit of the cell, and what is true in the one state
+bit_of_the_cell : (b : ℕ) → slice_get (space_of_two.predicates) b ≡ Some (probe_of 1) → b ≡ 1
+bit_of_the_cell zero is = absurd (omega (arith, ap signal_read is))
+bit_of_the_cell (suc zero) is = refl
+bit_of_the_cell (suc (suc b)) is = absurd (none-some (probe_of 1) is)
+
+-- with one state, what is true of the cell stays as it is
+kept_is_not_spurious : IsSpurious space_of_two unmoved kept → ⊥
+kept_is_not_spurious is =
+    let left = bit_of_the_cell is.left_bit is.is_left in
+    let right = bit_of_the_cell is.right_bit is.is_right in
+    is.differ (λ i. has_bit ((left ∙ sym right) i)
+    ((one_valuation (is.state 0) is.left_truths is.are_left ∙ sym (one_valuation (is.state 1) is.right_truths is.are_right)) i))
+  where
+    one_valuation : (s truths : ℕ) → slice_get (unmoved.truths) s ≡ Some truths → truths ≡ 1
+    one_valuation zero truths at = sym (same_Some 1 truths at)
+    one_valuation (suc s) truths at = absurd (none-some truths at)
 
 copied_is_within : IsWindowWithin (1 ∷ []) 1 copied
 copied_is_within = record { short = omega arith; left_within = omega arith; listed = ((refl, omega arith), tt) }

@@ -1,2 +1,13 @@
 pub mod MoreUpdates
+pub mod PathUpdates
+pub mod UpdateOrder
+pub mod PathCongruence
+pub mod VisitLemmas
+pub mod Taken
+pub mod Walks
+pub mod ProbeLabels
+pub mod LoopFacts
+pub mod Thinned
+pub mod Paths
+pub mod Found
 mod Examples

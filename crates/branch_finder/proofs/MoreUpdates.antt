@@ -35,14 +35,15 @@ Extends few more = (t s : ℕ) (x : TermTree) → few t s ≡ Some x → more t 
 module _ (few more : ℕ → ℕ → Option TermTree) (extends : Extends few more) where
   grafted_signal : (t s : ℕ) → grafted (λ r u. signal_unfolded more u r) (signal_unfolded few t s) ≡ signal_unfolded more t s
   grafted_signal zero s = refl
-  grafted_signal (suc t) s = by (few t s) refl
+  grafted_signal (suc t) s = by (λ r. grafted_signal t r) (few t s) refl
     where
-      by : (taken : Option TermTree) → few t s ≡ taken →
+      by : ((r : ℕ) → grafted (λ q u. signal_unfolded more u q) (signal_unfolded few t r) ≡ signal_unfolded more t r) →
+          (taken : Option TermTree) → few t s ≡ taken →
           grafted (λ r u. signal_unfolded more u r) (leaf_after (signal_unfolded few t) (suc t) s taken) ≡ signal_unfolded more (suc t) s
-      by None none = refl
-      by (Some x) some =
+      by before None none = refl
+      by before (Some x) some =
           grafted_leaves (λ r u. signal_unfolded more u r) (signal_unfolded few t) x
-          ∙ (λ i. with_leaves (λ r. grafted_signal t r i) x)
+          ∙ (λ i. with_leaves (λ r. before r i) x)
           ∙ ap (leaf_after (signal_unfolded more t) (suc t) s) (sym (extends t s x some))
 
   all_grafted_unfolded : (t : ℕ) (ts : TermTrees) →

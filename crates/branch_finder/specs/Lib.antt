@@ -1,2 +1,3 @@
 pub mod Spurious
 pub mod Finding
+pub mod internal

@@ -1,6 +1,7 @@
 //! The search for a spurious window.
 
-ghost use Rattle.std.specs.Prelude.{◌≡◌, ◌<◌, ◌≤◌, IfOk, IfErr, IfSome, IfNone};
+ghost use Rattle.std.specs.Prelude.{◌≡◌, ◌^◌, ◌<◌, ◌≤◌, length, IfOk, IfErr, IfSome, IfNone};
+ghost use Rattle.std.specs.List.{AllByRecursion};
 ghost use Rattle.sequence.specs.Numbers.{IsDistinct};
 ghost use Rattle.tsl_terms.specs.WindowTree.{window_tree};
 ghost use Rattle.letter_space.specs.SpaceView.{space_tree};
@@ -9,19 +10,92 @@ ghost use Rattle.machines.specs.Moves.{EnvironmentFits};
 ghost use Rattle.branch_finder.specs.declared.branch_error.BranchError.TheVariants.{Branches};
 ghost use Rattle.branch_finder.specs.declared.limits.TheConstants.{MOST_BRANCHES};
 ghost use Rattle.branch_finder.specs.Finding.{AreControlled, HasNoSpuriousWindow, IsFoundWindow, branch_count};
+ghost use Rattle.branch_finder.specs.internal.Looking.{IsSearch};
+ghost use Rattle.branch_finder.specs.internal.Finding.{IsFoundOf, HasNoneOn, HasNoneOf};
 
 use crate::branch_error::BranchError;
+use crate::counting::{are_too_many, count_paths, path_with};
+use crate::listing::{terms_of_probes, updates_along};
+use crate::looking::{Look, Search, seen_pair};
+use crate::thinning::needed_window;
+use crate::visiting::visited_states;
 use letter_space::Space;
 use machines::Environment;
+use sequence::NoMemory;
 use std::alloc::Global;
+use term_congruence::classes_along;
 use tsl_terms::Window;
+
+/// A congruent window along a path that is spurious by it, with the updates that it needs, if there is one.
+fn window_on_path(alloc: Global, search: &Search, path: &[u32]) -> Result<Option<Window>, NoMemory>
+    requires search { IsSearch search.now }
+    requires vectors { AllByRecursion (λ v. v < search.now.environment.now.vectors) path.now }
+    requires short { length path.now ≤ 3 }
+    ensures found { IfOk result (λ found. IfSome found (λ w. IsFoundOf (space_tree search.now.space.now)
+        (environment_tree search.now.environment.now) search.now.cells.now (length path.now) (window_tree w))) }
+    ensures none { IfOk result (λ found. IfNone found (HasNoneOn (space_tree search.now.space.now)
+        (environment_tree search.now.environment.now) search.now.cells.now path.now)) }
+{
+    let updates = updates_along(alloc, search.space, search.cells, path)?;
+    let table = classes_along(alloc, search.terms, updates.as_slice(), path.len() as u32)?;
+    let look = Look {
+        search: *search,
+        path,
+        rows: table.rows.as_slice(),
+    };
+    match seen_pair(&look) {
+        Some(pair) => Ok(Some(needed_window(alloc, &look, pair, updates)?)),
+        None => Ok(None),
+    }
+}
+
+/// A congruent spurious window of a length, with the updates that it needs, if there is one.
+fn window_of_length(alloc: Global, search: &Search, length: u32) -> Result<Option<Window>, NoMemory>
+    requires search { IsSearch search.now }
+    requires some { 1 ≤ search.now.environment.now.vectors }
+    requires few { search.now.environment.now.vectors ^ length ≤ MOST_BRANCHES }
+    requires short { length ≤ 3 }
+    ensures found { IfOk result (λ found. IfSome found (λ w. IsFoundOf (space_tree search.now.space.now)
+        (environment_tree search.now.environment.now) search.now.cells.now length (window_tree w))) }
+    ensures none { IfOk result (λ found. IfNone found (HasNoneOf (space_tree search.now.space.now)
+        (environment_tree search.now.environment.now) search.now.cells.now length)) }
+{
+    let vectors = search.environment.vectors;
+    for number in 0..count_paths(vectors, length) {
+        let path = path_with(alloc, vectors, length, number)?;
+        if let Some(window) = window_on_path(alloc, search, &path)? {
+            return Ok(Some(window));
+        }
+    }
+    Ok(None)
+}
+
+/// A congruent spurious window of the least length within the depth, with the updates that it needs, if there
+/// is one.
+fn least_window(alloc: Global, search: &Search, depth: u32) -> Result<Option<Window>, NoMemory>
+    requires search { IsSearch search.now }
+    requires some { 1 ≤ search.now.environment.now.vectors }
+    requires few { search.now.environment.now.vectors ^ depth ≤ MOST_BRANCHES }
+    requires short { depth ≤ 3 }
+    ensures found { IfOk result (λ found. IfSome found (λ w. IsFoundWindow (space_tree search.now.space.now)
+        (environment_tree search.now.environment.now) search.now.cells.now depth (window_tree w))) }
+    ensures none { IfOk result (λ found. IfNone found (HasNoSpuriousWindow (space_tree search.now.space.now)
+        (environment_tree search.now.environment.now) search.now.cells.now depth)) }
+{
+    for length in 0..depth + 1 {
+        if let Some(window) = window_of_length(alloc, search, length)? {
+            return Ok(Some(window));
+        }
+    }
+    Ok(None)
+}
 
 /// A congruent spurious window of the least length, at most the depth, that lists no update too many, in the
 /// order of programs; or none, where no congruent window of at most this length is spurious. It is refused
 /// with `Branches` exactly where the square of the number of predicate terms times the vectors to the depth is
 /// over 10,000,000. An `Err` may also say that memory ran out.
 pub fn find_window(
-    _alloc: Global,
+    alloc: Global,
     environment: &Environment,
     space: &Space,
     cells: &[u32],
@@ -38,5 +112,21 @@ pub fn find_window(
     ensures few { IfOk result (λ _. branch_count (space_tree space.now) depth ≤ MOST_BRANCHES) }
     ensures cause { IfErr result (λ e. e ≡ Branches → MOST_BRANCHES < branch_count (space_tree space.now) depth) }
 {
-    Err(BranchError::NoMemory)
+    let predicates = space.predicates.len() as u64;
+    if are_too_many(predicates, environment.vectors, depth) {
+        return Err(BranchError::Branches);
+    }
+    if predicates == 0 {
+        return Ok(None);
+    }
+    let visited = visited_states(alloc, environment)?;
+    let terms = terms_of_probes(alloc, space)?;
+    let search = Search {
+        environment,
+        space,
+        cells,
+        visited: &visited,
+        terms: &terms,
+    };
+    Ok(least_window(alloc, &search, depth)?)
 }

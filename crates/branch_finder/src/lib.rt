@@ -12,8 +12,13 @@
 #![tactic(auto)]
 
 mod branch_error;
+mod counting;
 mod finding;
 mod limits;
+mod listing;
+mod looking;
+mod thinning;
+mod visiting;
 
 pub use branch_error::BranchError;
 pub use finding::find_window;

@@ -1,0 +1,5 @@
+pub mod Paths
+pub mod Visiting
+pub mod Looking
+pub mod Thinning
+pub mod Finding

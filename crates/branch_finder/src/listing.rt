@@ -1,0 +1,123 @@
+//! The updates of cells along a path of vectors.
+
+ghost use Rattle.std.specs.Prelude.{◌≡◌, ◌++◌, ◌<◌, ◌≤◌, length, map, Some, None, IfOk, OnOk, IfSome, IfNone};
+ghost use Rattle.std.specs.List.{AllByRecursion};
+ghost use Rattle.tsl_terms.specs.TermTree.{term_tree, probe_tree};
+ghost use Rattle.tsl_terms.specs.WindowTree.{listed_tree};
+ghost use Rattle.letter_space.specs.ControlledView.{controlled_tree};
+ghost use Rattle.letter_space.specs.SpaceView.{space_tree};
+ghost use Rattle.letter_space.specs.Letters.{term_taken};
+ghost use Rattle.letter_space.specs.Vectors.{vector_count};
+ghost use Rattle.branch_finder.specs.internal.Paths.{update_to, updates_picked, updates_along, probe_term};
+
+use letter_space::{Controlled, Space};
+use sequence::NoMemory;
+use std::alloc::Global;
+use tsl_terms::{Listed, Probe, Term, copy_probe, copy_term};
+
+/// The term that a signal takes where so much is picked, if it takes one.
+fn term_taken<'a>(controlled: &'a [Controlled], picks: &[u32], signal: u32) -> Option<&'a Term>
+    requires picks { length picks.now ≡ length controlled.now }
+    ensures some { IfSome result (λ term. term_taken (map controlled_tree controlled.now) picks.now signal ≡ Some (term_tree term.now)) }
+    ensures none { IfNone result (term_taken (map controlled_tree controlled.now) picks.now signal ≡ None) }
+{
+    for (place, candidate) in controlled.iter().enumerate() {
+        if candidate.signal == signal {
+            return candidate.choices.as_slice().get(picks[place] as usize);
+        }
+    }
+    None
+}
+
+/// Adds the update of a signal to the term that it takes at an offset where so much is picked, if it takes one.
+fn add_update(
+    alloc: Global,
+    updates: &mut Vec<Listed>,
+    controlled: &[Controlled],
+    picks: &[u32],
+    offset: u32,
+    signal: u32,
+) -> Result<(), NoMemory>
+    requires picks { length picks.now ≡ length controlled.now }
+    ensures { OnOk result (map listed_tree updates.new.items ≡ map listed_tree updates.old.items
+        ++ update_to offset signal (term_taken (map controlled_tree controlled.now) picks.now signal)) }
+{
+    let Some(term) = term_taken(controlled, picks, signal) else {
+        return Ok(());
+    };
+    updates.push(Listed {
+        signal,
+        term: copy_term(alloc, term)?,
+        offset,
+    })?;
+    Ok(())
+}
+
+/// Adds the updates of cells at an offset, where so much is picked.
+fn add_updates(
+    alloc: Global,
+    updates: &mut Vec<Listed>,
+    controlled: &[Controlled],
+    picks: &[u32],
+    offset: u32,
+    cells: &[u32],
+) -> Result<(), NoMemory>
+    requires picks { length picks.now ≡ length controlled.now }
+    ensures { OnOk result (map listed_tree updates.new.items
+        ≡ map listed_tree updates.old.items ++ updates_picked (map controlled_tree controlled.now) picks.now offset cells.now) }
+{
+    for cell in cells {
+        add_update(alloc, updates, controlled, picks, offset, *cell)?;
+    }
+    Ok(())
+}
+
+/// The updates of cells along a path of vectors, by offset and then by the cell's place. An `Err` says that
+/// memory ran out.
+pub(crate) fn updates_along(
+    alloc: Global,
+    space: &Space,
+    cells: &[u32],
+    path: &[u32],
+) -> Result<Vec<Listed>, NoMemory>
+    requires vectors { AllByRecursion (λ v. v < vector_count (space_tree space.now).controlled) path.now }
+    requires short { length path.now ≤ 3 }
+    ensures { IfOk result (λ updates. map listed_tree updates.items
+        ≡ updates_along (space_tree space.now).controlled cells.now 0 path.now) }
+{
+    let mut updates = Vec::new(alloc);
+    for (offset, vector) in path.iter().enumerate() {
+        let picks = space.picks(alloc, *vector)?;
+        add_updates(
+            alloc,
+            &mut updates,
+            space.controlled.as_slice(),
+            &picks,
+            offset as u32,
+            cells,
+        )?;
+    }
+    Ok(updates)
+}
+
+/// A probe as a term: its predicate, as if it were a function, of its arguments.
+fn term_of_probe(alloc: Global, probe: &Probe) -> Result<Term, NoMemory>
+    ensures { IfOk result (λ term. term_tree term ≡ probe_term (probe_tree probe.now)) }
+{
+    let Probe {
+        predicate,
+        arguments,
+    } = copy_probe(alloc, probe)?;
+    Ok(Term::Apply(predicate, arguments))
+}
+
+/// The predicate terms of a space as terms. An `Err` says that memory ran out.
+pub(crate) fn terms_of_probes(alloc: Global, space: &Space) -> Result<Vec<Term>, NoMemory>
+    ensures { IfOk result (λ terms. map term_tree terms.items ≡ map probe_term (space_tree space.now).predicates) }
+{
+    let mut terms = Vec::new(alloc);
+    for probe in space.predicates.as_slice() {
+        terms.push(term_of_probe(alloc, probe)?)?;
+    }
+    Ok(terms)
+}
