@@ -15,7 +15,9 @@ use Rattle.cobuchi_automata.specs.Refusals.{Transition}
 use Rattle.cobuchi_automata.specs.Renumbering.{Joins}
 use Rattle.cobuchi_automata.proofs.AutomatonLemmas.{renumbered}
 use Rattle.tsl_terms.specs.SpecTree.{SpecTree}
-use Rattle.program_check.specs.Verdicts.{negated_form}
+use Rattle.tsl_terms.specs.WindowTree.{WindowTree}
+use Rattle.machines.specs.declared.side.Side.TheVariants.{Controller}
+use Rattle.program_check.specs.Verdicts.{form_for}
 use Rattle.clause_core.specs.Literals.{Lit}
 use Rattle.clause_core.specs.Clauses.{has_pair}
 use Rattle.bounded_encoding.specs.Question.{QuestionTree, JoinsStates}
@@ -26,7 +28,7 @@ use Rattle.bounded_encoding.specs.Encoding.{transitions_in, transition_clauses, 
 use Rattle.bounded_encoding.specs.Encoding.{encoding}
 use Rattle.bounded_encoding.proofs.MovesHeld.{place_of}
 use Rattle.bounded_encoding.proofs.Ranges.{filtered_in_range}
-use Rattle.refinement_loop.specs.Outcomes.{IsAsked}
+use Rattle.refinement_loop.specs.Questions.{IsAsked}
 use Rattle.refinement_loop.proofs.MatchedSums.{HasMatch, sum_matched}
 use Rattle.refinement_loop.proofs.KeptCounts.{kept_count, count_joined, count_of_all, same_counts, same_count_of_one}
 use Rattle.refinement_loop.proofs.LoopPairs.{AreAlike, pair_there}
@@ -193,14 +195,15 @@ module _ (q : QuestionTree) (f : LtlTree) (states : List StateTree) (edges : Lis
       behind_four (choice_clauses q) (next_clauses q) (start_clauses q) (number_clauses q) (transition_clauses (with_edges edges))
       (transition_clauses (with_edges more_edges)) as_many_transitions
 
--- the questions that are asked for a specification
-pub same_size : (spec : SpecTree) (states bound : ℕ) (p q : QuestionTree) → IsAsked spec states bound p → IsAsked spec states bound q →
+-- the questions that are asked for a controller
+pub same_size : (spec : SpecTree) (windows : List WindowTree) (states bound : ℕ) (p q : QuestionTree) →
+    IsAsked Controller spec windows states bound p → IsAsked Controller spec windows states bound q →
     length (encoding p) ≡ length (encoding q)
-same_size spec states bound p q first second =
+same_size spec windows states bound p q first second =
+    let form = form_for Controller spec windows in
     let count : q.automaton_states ≡ p.automaton_states =
     sym second.counted
-    ∙ sym (renumbered (negated_form spec) first.automaton_states p.edges second.automaton_states q.edges first.automaton
-    second.automaton).as_many_states
+    ∙ sym (renumbered form first.automaton_states p.edges second.automaton_states q.edges first.automaton second.automaton).as_many_states
     ∙ first.counted in
     let same : (record p { edges = q.edges }) ≡ q = λ i. record {
       space = (first.space ∙ sym second.space) i;
@@ -209,6 +212,6 @@ same_size spec states bound p q first second =
       states = (first.has_states ∙ sym second.has_states) i;
       bound = (first.has_bound ∙ sym second.has_bound) i;
     } in
-    as_many_clauses p (negated_form spec) first.automaton_states p.edges second.automaton_states q.edges first.automaton second.automaton
+    as_many_clauses p form first.automaton_states p.edges second.automaton_states q.edges first.automaton second.automaton
     first.counted (second.counted ∙ count)
     ∙ ap (λ r. length (encoding r)) same

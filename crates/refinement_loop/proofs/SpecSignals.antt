@@ -2,6 +2,9 @@
 use Rattle.std.proofs.Common.{◌≡◌, ◌∙◌, ℕ, true, List, ◌++◌, length, map, sym, ap, subst}
 use Rattle.std.proofs.lemmas.Bool.{and_parts}
 use Rattle.sequence.specs.Numbers.{is_among, IsDistinct}
+use Rattle.sequence.proofs.Each.{each_from_places}
+use Rattle.sequence.proofs.Numbers.{among_at, distinct_front, distinct_behind}
+use Rattle.sequence.proofs.Places.{slice_get_grown}
 use Rattle.tsl_terms.specs.TermTree.{ProbeTree}
 use Rattle.tsl_terms.specs.OnlyThese.{reads_only, read_only, atom_reads_only}
 use Rattle.tsl_terms.specs.SpecTree.{SpecTree, whole_formula}
@@ -12,9 +15,9 @@ use Rattle.tsl_terms.proofs.SignalFacts.{distinct_signals, read_is_input_or_cell
 use Rattle.letter_space.specs.SpaceTree.{ControlledTree, SpaceTree}
 use Rattle.letter_space.specs.SpecSpace.{spec_space}
 use Rattle.control_flow_model.specs.Flow.{SpaceReadsOnly}
-use Rattle.program_check.proofs.Accepted.{signals_of}
+use Rattle.branch_finder.specs.Finding.{AreControlled}
 use Rattle.program_check.proofs.ProgramNames.{cell_named}
-use Rattle.program_check.proofs.SpaceTerms.{predicates_pass, controlled_pass}
+use Rattle.program_check.proofs.SpaceTerms.{signals_of, predicates_pass, controlled_pass}
 
 module _ (spec : SpecTree) (inputs cells outputs : List ℕ) (are_inputs : inputs ≡ inputs_of spec) (are_cells : cells ≡ cells_of spec)
     (are_outputs : outputs ≡ outputs_of spec) where
@@ -27,6 +30,16 @@ module _ (spec : SpecTree) (inputs cells outputs : List ℕ) (are_inputs : input
       ap (λ (s : SpaceTree). map (λ (c : ControlledTree). c.signal) s.controlled) is
       ∙ signals_of (choices_of spec) (length (predicates_of spec)) (cells_of spec ++ outputs_of spec)
       ∙ (λ i. sym are_cells i ++ sym are_outputs i)
+
+  -- as a search for windows wants the cells
+  pub cells_distinct : IsDistinct cells
+  cells_distinct = distinct_behind inputs cells (distinct_front (inputs ++ cells) outputs are_distinct)
+
+  pub cells_controlled : (space : SpaceTree) → space ≡ spec_space spec → AreControlled space cells
+  cells_controlled space is =
+      each_from_places (λ cell. is_among (map (λ (c : ControlledTree). c.signal) space.controlled) cell ≡ true) cells
+      (λ i cell at. ap (λ ns. is_among ns cell) (are_controlled space is)
+      ∙ among_at (cells ++ outputs) i cell (slice_get_grown cells outputs i cell at))
 
   pub are_read : FormulasFit spec → (space : SpaceTree) → space ≡ spec_space spec → SpaceReadsOnly (inputs ++ cells) space
   are_read fit space is =

@@ -1,32 +1,37 @@
 -- The program of a controller that answers the question for a specification can be written over its names.
-use Rattle.std.proofs.Common.{◌≡◌, ℕ, ◌*◌, ◌≤◌, true, List, [], ◌++◌, length, refl, ap, arith}
-use Rattle.std.specs.List.{list_all}
+use Rattle.std.proofs.Common.{◌≡◌, ◌∙◌, ℕ, ◌*◌, ◌≤◌, true, List, [], ◌∷◌, ◌++◌, length, refl, ap, arith}
+use Rattle.std.specs.Prelude.{is_some}
+use Rattle.std.specs.List.{list_all, AllByRecursion}
 use Rattle.std.proofs.lemmas.Bool.{and_parts, and_from}
 use Rattle.std.proofs.Math.Nat.{mul-le-mul, pow-le-pow_right}
-use Rattle.sequence.proofs.Passes.{list_all_weaker}
+use Rattle.sequence.proofs.Each.{each_both}
+use Rattle.sequence.proofs.Passes.{each_from_list_all, list_all_from_each, list_all_weaker}
 use Rattle.tsl_terms.specs.declared.names.NameKind.TheVariants.{Signal}
 use Rattle.tsl_terms.specs.Name.{Name, is_name}
-use Rattle.tsl_terms.specs.TermTree.{TermTree, signal}
+use Rattle.tsl_terms.specs.TermTree.{TermTree, ProbeTree, signal}
 use Rattle.tsl_terms.specs.FormulaTree.{update}
 use Rattle.tsl_terms.specs.Atoms.{atoms}
 use Rattle.tsl_terms.specs.SpecTree.{SpecTree, whole_formula}
 use Rattle.tsl_terms.specs.Signals.{is_cell}
-use Rattle.tsl_terms.specs.WindowTree.{WindowTree}
+use Rattle.tsl_terms.specs.WindowTree.{ListedTree, WindowTree}
 use Rattle.tsl_terms.specs.WellFormed.{atom_fits, term_fits, SpecFits}
 use Rattle.tsl_terms.proofs.WholeAtoms.{whole_is_made_of}
 use Rattle.flow_program.specs.NodeTree.{NodeTree, branch, assign}
 use Rattle.flow_program.specs.ProgramTree.{ProgramTree, controlled}
-use Rattle.flow_program.specs.ProgramText.{IsProgram, IsWritable, signal_fits, term_is_writable, probe_is_writable, window_is_writable}
-use Rattle.flow_program.specs.ProgramText.{node_is_writable}
+use Rattle.flow_program.specs.ProgramText.{IsProgram, IsWritable, signal_fits, term_is_writable, probe_is_writable}
+use Rattle.flow_program.specs.ProgramText.{listed_is_writable, window_is_writable, node_is_writable}
+use Rattle.letter_space.specs.Bits.{bit_of_probe, bit_of_update}
 use Rattle.letter_space.specs.SpecSpace.{spec_space}
 use Rattle.letter_space.specs.Letters.{valuation_count}
 use Rattle.tsl_terms.specs.Signals.{inputs_of, cells_of, outputs_of}
 use Rattle.control_flow_model.proofs.FlowLemmas.{state_count, few_nodes, few_kept}
 use Rattle.program_check.proofs.ProgramNames.{program_over, cell_named}
-use Rattle.program_check.proofs.SpaceTerms.{node_passes, nodes_pass}
-use Rattle.refinement_loop.specs.Outcomes.{IsWrittenFor}
+use Rattle.program_check.proofs.SpaceTerms.{node_passes, probe_with_bit, update_with_bit, nodes_pass}
+use Rattle.program_check.specs.Verdicts.{window_has_bits}
+use Rattle.refinement_loop.specs.Questions.{IsWrittenFor}
+use Rattle.refinement_loop.proofs.RoundWindows.{IsKnown, listed_of_cell}
 use Rattle.refinement_loop.proofs.UsableSignals.{signal_fits_if_named}
-use Rattle.refinement_loop.proofs.WrittenPrograms.{has_bits, is_over}
+use Rattle.refinement_loop.proofs.WrittenPrograms.{has_bits, windows_have_bits, is_over}
 
 module _ (spec : SpecTree) (fits : SpecFits spec) where
   abbrev names : List Name
@@ -47,10 +52,45 @@ module _ (spec : SpecTree) (fits : SpecFits spec) where
   node_written (branch t a b) passes = passes
   node_written (assign ts go) passes = passes
 
-  module _ (states bound : ℕ) (program : ProgramTree) (written : IsWrittenFor spec states bound program) where
+  -- windows
+  probe_written : (p : ProbeTree) → is_some (bit_of_probe (spec_space spec) p) ≡ true → probe_is_writable names p ≡ true
+  probe_written =
+      probe_with_bit spec (atom_fits names) atoms_fit (probe_is_writable names) (λ p fit. fit) (term_is_writable names) term_written
+      cell_written
+
+  listed_written : (u : ListedTree) →
+      (is_cell spec u.signal ≡ true) × (is_some (bit_of_update (spec_space spec) u.signal u.term) ≡ true) →
+      listed_is_writable names u ≡ true
+  listed_written u is =
+      and_from (signal_fits names u.signal) (term_is_writable names u.term)
+      (signal_fits_if_named names u.signal fits.names (cell_named spec fits.formulas u.signal is.0))
+      (update_with_bit spec (atom_fits names) atoms_fit (probe_is_writable names) (λ p fit. fit) (term_is_writable names) term_written
+      cell_written u.signal u.term is.1)
+
+  window_written : (w : WindowTree) → IsKnown spec w → window_is_writable names w ≡ true
+  window_written w known =
+      let both = and_parts _ _ known.bits in
+      let probes = and_parts _ _ both.0 in
+      and_from _ _ (and_from _ _ (probe_written w.left probes.0) (probe_written w.right probes.1))
+      (list_all_from_each (listed_is_writable names) w.updates
+      (each_both (λ (u : ListedTree). is_cell spec u.signal ≡ true)
+      (λ (u : ListedTree). is_some (bit_of_update (spec_space spec) u.signal u.term) ≡ true)
+      (λ (u : ListedTree). listed_is_writable names u ≡ true) (λ u cell bit. listed_written u (cell, bit)) w.updates
+      (listed_of_cell spec w known.shaped)
+      (each_from_list_all (λ (u : ListedTree). is_some (bit_of_update (spec_space spec) u.signal u.term)) w.updates both.1)))
+
+  windows_written : (windows : List WindowTree) → AllByRecursion (IsKnown spec) windows →
+      list_all (window_is_writable names) windows ≡ true
+  windows_written [] known = refl
+  windows_written (w ∷ windows) known =
+      and_from (window_is_writable names w) (list_all (window_is_writable names) windows) (window_written w known.0)
+      (windows_written windows known.1)
+
+  module _ (windows : List WindowTree) (known : AllByRecursion (IsKnown spec) windows) (states bound : ℕ) (program : ProgramTree)
+      (written : IsWrittenFor spec windows states bound program) where
     few_states : length program.states ≤ states
     few_states =
-        let count = state_count written.controller (spec_space spec) (inputs_of spec) (cells_of spec) (outputs_of spec) [] program
+        let count = state_count written.controller (spec_space spec) (inputs_of spec) (cells_of spec) (outputs_of spec) windows program
         written.flow in
         let kept = few_kept written.controller written.solution.table written.flow.kept written.flow.are_kept in
         omega (arith, count, kept, written.solution.states, written.asked.has_states)
@@ -58,24 +98,25 @@ module _ (spec : SpecTree) (fits : SpecFits spec) where
     few_valuations : valuation_count (spec_space spec) ≤ 1024
     few_valuations = pow-le-pow_right {n = 2} (omega arith) written.asked.few_bits.few_predicates
 
-    pub is_writable : states ≤ 8 → IsProgram program → IsWritable names program
-    is_writable few is_program = record {
+    pub is_writable : states ≤ 8 → length windows ≤ 64 → IsProgram program → IsWritable names program
+    is_writable few few_windows is_program = record {
       signals = list_all_weaker (λ s. is_name names s Signal 0) (signal_fits names) (λ s named. signal_fits_if_named names s fits.names named)
           (program.inputs ++ controlled program)
-          (program_over spec fits.formulas program is_program (is_over spec states bound program written).signals written.flow.has_windows
-          (has_bits spec states bound program written).nodes).signals;
-      windows = ap (list_all (window_is_writable names)) written.flow.has_windows;
+          (program_over spec fits.formulas program is_program (is_over spec windows known states bound program written).signals
+          (windows_have_bits spec windows known states bound program written)
+          (has_bits spec windows known states bound program written).nodes).signals;
+      windows = ap (list_all (window_is_writable names)) written.flow.has_windows ∙ windows_written windows known;
       nodes = list_all_weaker (node_passes (probe_is_writable names) (term_is_writable names)) (node_is_writable names) node_written
           program.nodes (nodes_pass spec (atom_fits names) atoms_fit (probe_is_writable names) (λ p fit. fit) (term_is_writable names)
-          term_written cell_written program.nodes (has_bits spec states bound program written).nodes);
-      few_windows = omega (arith, ap (λ (ws : List WindowTree). length ws) written.flow.has_windows);
+          term_written cell_written program.nodes (has_bits spec windows known states bound program written).nodes);
+      few_windows = omega (arith, few_windows, ap (λ (ws : List WindowTree). length ws) written.flow.has_windows);
       few_nodes = omega (arith, nodes);
       few_states = omega (arith, few_states, few);
     }
       where
         nodes : length program.nodes ≤ 8 * 2048
         nodes =
-            let each = few_nodes written.controller (spec_space spec) (inputs_of spec) (cells_of spec) (outputs_of spec) [] program
+            let each = few_nodes written.controller (spec_space spec) (inputs_of spec) (cells_of spec) (outputs_of spec) windows program
             written.flow in
             let most : length program.states * (2 * valuation_count (spec_space spec)) ≤ 8 * 2048 =
             mul-le-mul {n₁ = length program.states} {m₁ = 2 * valuation_count (spec_space spec)} {n₂ = 8} {m₂ = 2048}

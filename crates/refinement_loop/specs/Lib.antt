@@ -1,2 +1,5 @@
+pub mod Questions
+pub mod Chains
 pub mod Outcomes
 pub mod Refusals
+pub mod internal

@@ -1,108 +1,205 @@
--- What is answered to a specification, and why nothing is: the program of a controller that answers the question of bounded
--- synthesis, that there is no such controller, or the trace on which a budget was spent.
+-- What is answered to a specification, and why nothing is. Every answer comes with the rounds that were made, which are a chain: the
+-- program of a controller under their windows; that there is no such controller, with the reason why no further round is made; or
+-- the trace on which a budget was spent.
 -- Source: Schewe, Finkbeiner: Bounded Synthesis (ATVA 2007); Finkbeiner, Klein, Piskac, Santolucito: Temporal Stream Logic:
--- Synthesis Beyond the Bools (CAV 2019), the approximation in linear temporal logic.
-use Rattle.std.specs.Prelude.{◌≡◌, ℕ, ◌<◌, ◌≤◌, List, [], length, Option, ⊤}
+-- Synthesis Beyond the Bools (CAV 2019), the approximation in linear temporal logic and its refinement.
+use Rattle.std.specs.Prelude.{◌≡◌, ℕ, ◌<◌, ◌≤◌, List, [], map, length, ⊤}
 use Rattle.tsl_terms.specs.SpecTree.{SpecTree}
-use Rattle.tsl_terms.specs.Signals.{inputs_of, cells_of, outputs_of}
+use Rattle.tsl_terms.specs.Signals.{cells_of}
+use Rattle.tsl_terms.specs.WindowTree.{WindowTree}
 use Rattle.flow_program.specs.ProgramTree.{ProgramTree}
 use Rattle.flow_program.specs.ProgramView.{program_tree}
 use Rattle.letter_space.specs.declared.space_error.SpaceError.TheVariants as spaces
 use Rattle.letter_space.specs.SpecSpace.{spec_space, HasSpaceCause}
-use Rattle.cobuchi_automata.specs.Automata.{StateTree, EdgeTree, IsAutomaton}
+use Rattle.cobuchi_automata.specs.Automata.{EdgeTree}
 use Rattle.cobuchi_automata.specs.Edges.{edge_trees}
-use Rattle.cobuchi_automata.specs.Refusals.{most_automaton_states, most_automaton_edges, HasTooManyChoices, HasTooManyStates}
-use Rattle.cobuchi_automata.specs.Refusals.{HasTooManyEdges}
-use Rattle.machines.specs.MachineTree.{ControllerTree}
-use Rattle.control_flow_model.specs.Flow.{IsFlowOf}
+use Rattle.cobuchi_automata.specs.Refusals.{HasTooManyChoices, HasTooManyStates, HasTooManyEdges}
+use Rattle.machines.specs.declared.side.Side.{Side}
+use Rattle.machines.specs.declared.side.Side.TheVariants.{Controller, Environment}
+use Rattle.machines.specs.MachineTree.{EnvironmentTree}
+use Rattle.machines.specs.MachineView.{environment_tree, round_tree}
+use Rattle.machines.specs.Rounds.{RoundTree, windows_of}
 use Rattle.program_check.specs.declared.verdict.Limit.{Limit}
-use Rattle.program_check.specs.declared.verdict.Limit.TheVariants.{Predicates, Bits, Choices, States, Edges, Clauses}
-use Rattle.program_check.specs.Verdicts.{HasFewBits, negated_form}
+use Rattle.program_check.specs.declared.verdict.Limit.TheVariants as limits
+use Rattle.program_check.specs.Verdicts.{HasFewBits, form_for}
 use Rattle.clause_core.specs.Literals.{Lit}
 use Rattle.refutation_check.specs.declared.dimacs.TheConstants.{MOST_CLAUSES}
 use Rattle.sat_core.specs.Answers.{IsWholeTrace}
-use Rattle.bounded_encoding.specs.Question.{QuestionTree, IsSolution, HasNoController}
+use Rattle.bounded_encoding.specs.Question.{QuestionTree}
 use Rattle.bounded_encoding.specs.Variables.{variable_count}
 use Rattle.bounded_encoding.specs.Encoding.{encoding}
+use Rattle.counterstrategy.specs.declared.dual_error.DualError.{DualError}
+use Rattle.counterstrategy.specs.declared.dual_error.DualError.TheVariants as duals
+use Rattle.counterstrategy.specs.DualVariables.{dual_variable_count}
+use Rattle.counterstrategy.specs.DualEncoding.{dual_encoding}
+use Rattle.counterstrategy.specs.DualAnswers.{HasDualCause}
+use Rattle.branch_finder.specs.Finding.{HasNoSpuriousWindow, branch_count}
+use Rattle.branch_finder.specs.declared.limits.TheConstants.{MOST_BRANCHES}
+use Rattle.refinement_loop.specs.Questions.{IsAsked, IsWithinLimits, HasNoSolution, IsWrittenFor, IsCounterstrategy}
+use Rattle.refinement_loop.specs.Questions.{HasNoCounterstrategy}
+use Rattle.refinement_loop.specs.Chains.{IsChain}
+use Rattle.refinement_loop.specs.declared.errors.AskError.{AskError}
+use Rattle.refinement_loop.specs.declared.errors.AskError.TheVariants as asks
 use Rattle.refinement_loop.specs.declared.errors.RefineError.{RefineError}
-use Rattle.refinement_loop.specs.declared.errors.RefineError.TheVariants.{Large, NoMemory}
+use Rattle.refinement_loop.specs.declared.errors.RefineError.TheVariants as refines
 use Rattle.refinement_loop.specs.declared.outcome.Sizes.{Sizes}
+use Rattle.refinement_loop.specs.declared.outcome.Reason.{Reason}
+use Rattle.refinement_loop.specs.declared.outcome.Reason.TheVariants.{Rounds, NoCounter, Genuine}
 use Rattle.refinement_loop.specs.declared.outcome.Outcome.{Outcome}
 use Rattle.refinement_loop.specs.declared.outcome.Outcome.TheVariants as outcomes
 
--- The question that is asked for a specification: whether a controller over its bits with so many states has an annotation within
--- a bound, for an automaton within the limits of the negation of the whole formula.
-pub record IsAsked (spec : SpecTree) (states bound : ℕ) (q : QuestionTree) : Type 0 where
-  pub few_bits : HasFewBits spec
-  pub space : q.space ≡ spec_space spec
-  pub automaton_states : List StateTree
-  pub automaton : IsAutomaton (negated_form spec) automaton_states q.edges
-  pub counted : length automaton_states ≡ q.automaton_states
-  pub few_automaton_states : q.automaton_states ≤ most_automaton_states
-  pub few_edges : length q.edges ≤ most_automaton_edges
-  pub has_states : q.states ≡ states
-  pub has_bound : q.bound ≡ bound
+-- how far a search may go: each size lies in its range
+pub record AreInRange (sizes : Sizes) : Type 0 where
+  pub has_state : 1 ≤ sizes.states
+  pub few_states : sizes.states ≤ 8
+  pub small_bound : sizes.bound ≤ 15
+  pub has_env_state : 1 ≤ sizes.env_states
+  pub few_env_states : sizes.env_states ≤ 8
+  pub small_env_bound : sizes.env_bound ≤ 15
+  pub has_depth : 1 ≤ sizes.depth
+  pub small_depth : sizes.depth ≤ 3
+  pub few_rounds : sizes.rounds ≤ 64
+  pub has_budget : 1 ≤ sizes.budget
+  pub small_budget : sizes.budget ≤ 1000000
 
--- the question has no more clauses than there may be
-abbrev pub HasFewClauses : QuestionTree → Type 0
-HasFewClauses q = length (encoding q) ≤ MOST_CLAUSES
+-- fewer windows were found than rounds may be made
+abbrev pub MayGoOn : Sizes → List WindowTree → Type 0
+MayGoOn sizes windows = length windows < sizes.rounds
 
--- the program is that of a controller that answers the question, with the signals of the specification and without windows
-pub record IsWrittenFor (spec : SpecTree) (states bound : ℕ) (program : ProgramTree) : Type 0 where
+-- no controller answers its question under the windows, and a further round may be made
+pub record GoesOn (spec : SpecTree) (sizes : Sizes) (windows : List WindowTree) : Type 0 where
+  pub none : HasNoSolution spec windows sizes.states sizes.bound
+  pub fewer : MayGoOn sizes windows
+
+-- such an environment has an annotation, and no congruent window that is short enough is spurious in it
+pub record IsGenuine (spec : SpecTree) (sizes : Sizes) (windows : List WindowTree) (e : EnvironmentTree) : Type 0 where
+  pub counterstrategy : IsCounterstrategy spec windows sizes.env_states sizes.env_bound e
+  pub no_window : HasNoSpuriousWindow (spec_space spec) e (cells_of spec) sizes.depth
+
+-- why no further round is made, where no controller answers its question: as many were made as may be; or fewer, and either there
+-- is no such environment, or there is one in which no window is spurious
+abbrev pub HasReason : SpecTree → Sizes → List WindowTree → Reason → Type 0
+HasReason spec sizes windows Rounds = length windows ≡ sizes.rounds
+HasReason spec sizes windows NoCounter = MayGoOn sizes windows × HasNoCounterstrategy spec windows sizes.env_states sizes.env_bound
+HasReason spec sizes windows (Genuine e) = MayGoOn sizes windows × IsGenuine spec sizes windows (environment_tree e)
+
+-- the clauses are a trace of so many that the encoding of the question of a side leads to
+abbrev pub IsTraceFor : Side → QuestionTree → ℕ → List (List Lit) → Type 0
+IsTraceFor Controller q budget clauses = IsWholeTrace (variable_count q) (encoding q) budget clauses
+IsTraceFor Environment q budget clauses = IsWholeTrace (dual_variable_count q) (dual_encoding q) budget clauses
+
+-- the question's automaton has so many states and these edges, and the clauses are a trace of its encoding
+pub record IsSpentOn (side : Side) (spec : SpecTree) (windows : List WindowTree) (states bound budget automaton_states : ℕ)
+    (edges : List EdgeTree) (clauses : List (List Lit)) : Type 0 where
   pub question : QuestionTree
-  pub asked : IsAsked spec states bound question
-  pub few : HasFewClauses question
-  pub controller : ControllerTree
-  pub number : ℕ → ℕ → Option ℕ
-  pub solution : IsSolution question controller number
-  pub flow : IsFlowOf controller (spec_space spec) (inputs_of spec) (cells_of spec) (outputs_of spec) [] program
-
--- the question can be asked, and no controller answers it, in whichever order the automaton's states and edges are numbered
-pub record HasNoSolution (spec : SpecTree) (states bound : ℕ) : Type 0 where
-  pub question : QuestionTree
-  pub asked : IsAsked spec states bound question
-  pub few : HasFewClauses question
-  pub none : (q : QuestionTree) → IsAsked spec states bound q → HasNoController q
-
--- the question's automaton has so many states and these edges, and the clauses are a trace of so many that the encoding leads to
-pub record IsSpentOn (spec : SpecTree) (states bound budget automaton_states : ℕ) (edges : List EdgeTree) (clauses : List (List Lit))
-    : Type 0 where
-  pub question : QuestionTree
-  pub asked : IsAsked spec states bound question
-  pub few : HasFewClauses question
+  pub asked : IsAsked side spec windows states bound question
+  pub limits : IsWithinLimits side question
   pub has_states : automaton_states ≡ question.automaton_states
   pub has_edges : edges ≡ question.edges
-  pub trace : IsWholeTrace (variable_count question) (encoding question) budget clauses
+  pub trace : IsTraceFor side question budget clauses
 
--- what each outcome says
-abbrev pub IsOutcome : SpecTree → Sizes → Outcome → Type 0
-IsOutcome spec sizes (outcomes.Written program) = IsWrittenFor spec sizes.states sizes.bound (program_tree program)
-IsOutcome spec sizes outcomes.None = HasNoSolution spec sizes.states sizes.bound
-IsOutcome spec sizes (outcomes.Spent automaton clauses) =
-    IsSpentOn spec sizes.states sizes.bound sizes.budget automaton.states (edge_trees automaton.edges) clauses
+-- the budget is spent on the question of a side: on that for an environment only where a further round may be made
+abbrev pub IsSpentIn : SpecTree → Sizes → List WindowTree → Side → ℕ → List EdgeTree → List (List Lit) → Type 0
+IsSpentIn spec sizes windows Controller automaton_states edges clauses =
+    IsSpentOn Controller spec windows sizes.states sizes.bound sizes.budget automaton_states edges clauses
+IsSpentIn spec sizes windows Environment automaton_states edges clauses =
+    GoesOn spec sizes windows
+    × IsSpentOn Environment spec windows sizes.env_states sizes.env_bound sizes.budget automaton_states edges clauses
+
+-- what each outcome says, where these windows were found
+abbrev pub IsAnswer : SpecTree → Sizes → List WindowTree → Outcome → Type 0
+IsAnswer spec sizes windows (outcomes.Written rounds program) =
+    IsWrittenFor spec windows sizes.states sizes.bound (program_tree program)
+IsAnswer spec sizes windows (outcomes.None rounds reason) =
+    HasNoSolution spec windows sizes.states sizes.bound × HasReason spec sizes windows reason
+IsAnswer spec sizes windows (outcomes.Spent rounds side automaton clauses) =
+    IsSpentIn spec sizes windows side automaton.states (edge_trees automaton.edges) clauses
+
+-- the rounds of an outcome
+abbrev pub rounds_of : Outcome → List RoundTree
+rounds_of (outcomes.Written rounds program) = map round_tree rounds
+rounds_of (outcomes.None rounds reason) = map round_tree rounds
+rounds_of (outcomes.Spent rounds side automaton clauses) = map round_tree rounds
+
+-- the rounds are a chain, no more than may be made, and under their windows the answer is right
+pub record IsOutcome (spec : SpecTree) (sizes : Sizes) (outcome : Outcome) : Type 0 where
+  pub chain : IsChain spec sizes (rounds_of outcome)
+  pub few_rounds : length (rounds_of outcome) ≤ sizes.rounds
+  pub answer : IsAnswer spec sizes (windows_of (rounds_of outcome)) outcome
+
+-- a program, or the trace of a budget that was spent on the question for a controller, before any round
+abbrev pub IsFirstAnswer : Outcome → Type 0
+IsFirstAnswer (outcomes.Written rounds program) = rounds ≡ []
+IsFirstAnswer (outcomes.None rounds reason) = ⊥
+IsFirstAnswer (outcomes.Spent rounds side automaton clauses) = (rounds ≡ []) × (side ≡ Controller)
 
 -- what holds of the program, where one is written
 abbrev pub IfWritten : Outcome → (ProgramTree → Type 0) → Type 0
-IfWritten (outcomes.Written program) P = P (program_tree program)
-IfWritten outcomes.None P = ⊤
-IfWritten (outcomes.Spent automaton clauses) P = ⊤
+IfWritten (outcomes.Written rounds program) P = P (program_tree program)
+IfWritten (outcomes.None rounds reason) P = ⊤
+IfWritten (outcomes.Spent rounds side automaton clauses) P = ⊤
 
--- the question has more clauses than there may be
-pub record HasTooManyClauses (spec : SpecTree) (states bound : ℕ) : Type 0 where
+-- the question for a controller has more clauses than there may be
+pub record HasTooManyClauses (spec : SpecTree) (windows : List WindowTree) (states bound : ℕ) : Type 0 where
   pub question : QuestionTree
-  pub asked : IsAsked spec states bound question
+  pub asked : IsAsked Controller spec windows states bound question
   pub many : MOST_CLAUSES < length (encoding question)
 
--- the first limit that is passed: those of bits before those of the automaton, and these before that of clauses
-abbrev pub IsLargeFor : SpecTree → ℕ → ℕ → Limit → Type 0
-IsLargeFor spec states bound Predicates = HasSpaceCause spec spaces.Predicates
-IsLargeFor spec states bound Bits = HasSpaceCause spec spaces.Bits
-IsLargeFor spec states bound Choices = HasFewBits spec × HasTooManyChoices (negated_form spec)
-IsLargeFor spec states bound States = HasFewBits spec × HasTooManyStates (negated_form spec)
-IsLargeFor spec states bound Edges = HasFewBits spec × HasTooManyEdges (negated_form spec)
-IsLargeFor spec states bound Clauses = HasTooManyClauses spec states bound
+-- The first limit of the question for a controller that is passed: those of bits before those of the automaton, and these before
+-- that of clauses.
+abbrev pub IsLargeFor : SpecTree → List WindowTree → ℕ → ℕ → Limit → Type 0
+IsLargeFor spec windows states bound limits.Predicates = HasSpaceCause spec spaces.Predicates
+IsLargeFor spec windows states bound limits.Bits = HasSpaceCause spec spaces.Bits
+IsLargeFor spec windows states bound limits.Choices = HasFewBits spec × HasTooManyChoices (form_for Controller spec windows)
+IsLargeFor spec windows states bound limits.States = HasFewBits spec × HasTooManyStates (form_for Controller spec windows)
+IsLargeFor spec windows states bound limits.Edges = HasFewBits spec × HasTooManyEdges (form_for Controller spec windows)
+IsLargeFor spec windows states bound limits.Clauses = HasTooManyClauses spec windows states bound
+IsLargeFor spec windows states bound limits.Vectors = ⊥
+IsLargeFor spec windows states bound limits.Branches = ⊥
 
--- why nothing is answered: a limit is passed, or memory ran out
-abbrev pub HasRefineCause : SpecTree → ℕ → ℕ → RefineError → Type 0
-HasRefineCause spec states bound (Large limit) = IsLargeFor spec states bound limit
-HasRefineCause spec states bound NoMemory = ⊤
+-- the question for an environment is refused
+pub record IsRefused (spec : SpecTree) (windows : List WindowTree) (states bound : ℕ) (cause : DualError) : Type 0 where
+  pub question : QuestionTree
+  pub asked : IsAsked Environment spec windows states bound question
+  pub refused : HasDualCause question cause
+
+-- there is an environment, and too many branches would have to be looked at for a window
+pub record HasTooManyBranches (spec : SpecTree) (sizes : Sizes) (windows : List WindowTree) : Type 0 where
+  pub environment : EnvironmentTree
+  pub counterstrategy : IsCounterstrategy spec windows sizes.env_states sizes.env_bound environment
+  pub many : MOST_BRANCHES < branch_count (spec_space spec) sizes.depth
+
+-- The first limit of a further round that is passed: those of the environment's automaton, then that of vectors, then that of
+-- clauses, and last that of branches.
+abbrev pub IsLargeFurther : SpecTree → Sizes → List WindowTree → Limit → Type 0
+IsLargeFurther spec sizes windows limits.Predicates = ⊥
+IsLargeFurther spec sizes windows limits.Bits = ⊥
+IsLargeFurther spec sizes windows limits.Choices = HasTooManyChoices (form_for Environment spec windows)
+IsLargeFurther spec sizes windows limits.States = HasTooManyStates (form_for Environment spec windows)
+IsLargeFurther spec sizes windows limits.Edges = HasTooManyEdges (form_for Environment spec windows)
+IsLargeFurther spec sizes windows limits.Clauses = IsRefused spec windows sizes.env_states sizes.env_bound duals.Clauses
+IsLargeFurther spec sizes windows limits.Vectors = IsRefused spec windows sizes.env_states sizes.env_bound duals.Vectors
+IsLargeFurther spec sizes windows limits.Branches = HasTooManyBranches spec sizes windows
+
+-- a limit that is passed where these windows were found
+pub data IsLargeIn (spec : SpecTree) (sizes : Sizes) (windows : List WindowTree) (limit : Limit) : Type 0 where
+  -- of the question for a controller
+  at_controller : IsLargeFor spec windows sizes.states sizes.bound limit → IsLargeIn spec sizes windows limit
+  -- of a further round, where there is no controller and such a round may be made
+  at_environment : GoesOn spec sizes windows → IsLargeFurther spec sizes windows limit → IsLargeIn spec sizes windows limit
+
+-- the rounds are a chain, no more than may be made, and under their windows the limit is passed
+pub record IsLargeAfter (spec : SpecTree) (sizes : Sizes) (rounds : List RoundTree) (limit : Limit) : Type 0 where
+  pub chain : IsChain spec sizes rounds
+  pub few_rounds : length rounds ≤ sizes.rounds
+  pub large : IsLargeIn spec sizes (windows_of rounds) limit
+
+-- why nothing is answered to a specification: a limit is passed, or memory ran out
+abbrev pub HasRefineCause : SpecTree → Sizes → RefineError → Type 0
+HasRefineCause spec sizes (refines.Large limit rounds) = IsLargeAfter spec sizes (map round_tree rounds) limit
+HasRefineCause spec sizes refines.NoMemory = ⊤
+
+-- why the question for a controller has no answer
+abbrev pub HasAskCause : SpecTree → List WindowTree → ℕ → ℕ → AskError → Type 0
+HasAskCause spec windows states bound (asks.Large limit) = IsLargeFor spec windows states bound limit
+HasAskCause spec windows states bound asks.NoMemory = ⊤

@@ -1,18 +1,28 @@
-//! The question for a controller of a specification.
+//! The questions of both sides for a specification.
 
-ghost use Rattle.std.specs.Prelude.{◌≤◌, IfOk, IfErr};
+ghost use Rattle.std.specs.Prelude.{◌≡◌, ◌≤◌, [], map, IfOk, IfErr};
 ghost use Rattle.tsl_terms.specs.SpecView.{spec_tree};
+ghost use Rattle.tsl_terms.specs.WindowTree.{window_tree};
+ghost use Rattle.letter_space.specs.SpaceView.{space_tree};
+ghost use Rattle.letter_space.specs.SpecSpace.{spec_space};
 ghost use Rattle.bounded_encoding.specs.QuestionView.{question_of};
 ghost use Rattle.bounded_encoding.specs.Answers.{IsFound};
-ghost use Rattle.refinement_loop.specs.Outcomes.{IsAsked, HasRefineCause};
+ghost use Rattle.counterstrategy.specs.DualAnswers.{IsFoundDual};
+ghost use Rattle.program_check.specs.Verdicts.{HasFewBits};
+ghost use Rattle.refinement_loop.specs.Questions.{IsAsked};
+ghost use Rattle.refinement_loop.specs.Outcomes.{AreInRange, HasAskCause};
+ghost use Rattle.refinement_loop.specs.internal.Turns.{HasFurtherCause};
 
-use crate::errors::RefineError;
-use crate::outcome::Asked;
-use bounded_encoding::find_controller;
-use letter_space::space_of;
-use program_check::automaton_of;
+use crate::errors::AskError;
+use crate::outcome::{Asked, Sizes};
+use bounded_encoding::{Found, find_controller};
+use cobuchi_automata::Automaton;
+use counterstrategy::{FoundDual, find_environment};
+use letter_space::{Space, space_of};
+use machines::Side;
+use program_check::automaton_for;
 use std::alloc::Global;
-use tsl_terms::Spec;
+use tsl_terms::{Spec, Window};
 
 /// Asks whether a controller over the bits of a specification with so many states has an annotation within a
 /// bound, where so many clauses may be learnt. `Large` comes exactly where a limit is passed: predicate terms
@@ -23,21 +33,96 @@ pub fn ask(
     states: u32,
     bound: u32,
     budget: u64,
-) -> Result<Asked, RefineError>
+) -> Result<Asked, AskError>
     requires has_state { 1 ≤ states }
     requires few_states { states ≤ 8 }
     requires has_budget { 1 ≤ budget }
     requires small_budget { budget ≤ 1000000 }
-    ensures asked { IfOk result (λ a. IsAsked (spec_tree spec.now) states bound (question_of a.automaton a.space states bound)) }
+    ensures asked { IfOk result (λ a. IsAsked Side.Controller (spec_tree spec.now) [] states bound
+        (question_of a.automaton a.space states bound)) }
     ensures found { IfOk result (λ a. IsFound (question_of a.automaton a.space states bound) budget a.found) }
-    ensures cause { IfErr result (HasRefineCause (spec_tree spec.now) states bound) }
+    ensures cause { IfErr result (HasAskCause (spec_tree spec.now) [] states bound) }
 {
     let space = space_of(alloc, spec)?;
-    let automaton = automaton_of(alloc, spec, &space)?;
-    let found = find_controller(alloc, &automaton, &space, states, bound, budget)?;
+    let ControllerAnswer { automaton, found } = controller_answer(
+        alloc,
+        spec,
+        &space,
+        &[],
+        states,
+        bound,
+        budget,
+    )?;
     Ok(Asked {
         space,
         automaton,
         found,
     })
+}
+
+/// The automaton of the question for a controller, and the answer to it.
+#[derive(Drop)]
+pub(crate) struct ControllerAnswer {
+    pub(crate) automaton: Automaton,
+    pub(crate) found: Found,
+}
+
+/// Asks whether there is a controller under windows.
+pub(crate) fn controller_answer(
+    alloc: Global,
+    spec: &Spec,
+    space: &Space,
+    windows: &[Window],
+    states: u32,
+    bound: u32,
+    budget: u64,
+) -> Result<ControllerAnswer, AskError>
+    requires space { space_tree space.now ≡ spec_space (spec_tree spec.now) }
+    requires has_state { 1 ≤ states }
+    requires few_states { states ≤ 8 }
+    requires has_budget { 1 ≤ budget }
+    requires small_budget { budget ≤ 1000000 }
+    ensures asked { IfOk result (λ a. IsAsked Side.Controller (spec_tree spec.now) (map window_tree windows.now) states bound
+        (question_of a.automaton space.now states bound)) }
+    ensures found { IfOk result (λ a. IsFound (question_of a.automaton space.now states bound) budget a.found) }
+    ensures cause { IfErr result (HasAskCause (spec_tree spec.now) (map window_tree windows.now) states bound) }
+{
+    let automaton = automaton_for(alloc, Side::Controller, spec, windows, space)?;
+    let found = find_controller(alloc, &automaton, space, states, bound, budget)?;
+    Ok(ControllerAnswer { automaton, found })
+}
+
+/// The automaton of the question for an environment, and the answer to it.
+#[derive(Drop)]
+pub(crate) struct EnvironmentAnswer {
+    pub(crate) automaton: Automaton,
+    pub(crate) found: FoundDual,
+}
+
+/// Asks whether there is an environment under windows.
+pub(crate) fn environment_answer(
+    alloc: Global,
+    spec: &Spec,
+    space: &Space,
+    windows: &[Window],
+    sizes: &Sizes,
+) -> Result<EnvironmentAnswer, AskError>
+    requires space { space_tree space.now ≡ spec_space (spec_tree spec.now) }
+    requires in_range { AreInRange sizes.now }
+    ensures asked { IfOk result (λ a. IsAsked Side.Environment (spec_tree spec.now) (map window_tree windows.now)
+        sizes.now.env_states sizes.now.env_bound (question_of a.automaton space.now sizes.now.env_states sizes.now.env_bound)) }
+    ensures found { IfOk result (λ a. IsFoundDual (question_of a.automaton space.now sizes.now.env_states sizes.now.env_bound)
+        sizes.now.budget a.found) }
+    ensures cause { IfErr result (HasFurtherCause (spec_tree spec.now) sizes.now (map window_tree windows.now)) }
+{
+    let automaton = automaton_for(alloc, Side::Environment, spec, windows, space)?;
+    let found = find_environment(
+        alloc,
+        &automaton,
+        space,
+        sizes.env_states,
+        sizes.env_bound,
+        sizes.budget,
+    )?;
+    Ok(EnvironmentAnswer { automaton, found })
 }

@@ -1,22 +1,33 @@
 //! Laws of outcomes: each function does nothing, and its contract is the law.
 
-ghost use Rattle.std.specs.Prelude.{ℕ};
+ghost use Rattle.std.specs.Prelude.{◌≡◌, ℕ, List, []};
 ghost use Rattle.tsl_terms.specs.SpecTree.{SpecTree};
+ghost use Rattle.tsl_terms.specs.WindowTree.{WindowTree};
 ghost use Rattle.flow_program.specs.ProgramTree.{ProgramTree};
+ghost use Rattle.machines.specs.Rounds.{RoundTree};
 ghost use Rattle.program_check.specs.declared.verdict.Limit.{Limit};
 ghost use Rattle.refinement_loop.specs.declared.outcome.Sizes.{Sizes};
 ghost use Rattle.refinement_loop.specs.declared.outcome.Outcome.{Outcome};
-ghost use Rattle.refinement_loop.specs.Outcomes.{IsWrittenFor, HasNoSolution, IsLargeFor, IsOutcome};
+ghost use Rattle.refinement_loop.specs.Questions.{HasSolution, HasNoSolution, IsWrittenFor};
+ghost use Rattle.refinement_loop.specs.Outcomes.{IsLargeFor, IsOutcome, IsLargeAfter, IsFirstAnswer};
 
-/// No program is written for a specification for which no controller answers the question.
+/// No program is written where no controller answers the question, under the same windows. Where one answers it
+/// without windows, no round is made: a program without windows is written, or the budget is spent on this
+/// question.
 pub fn written_or_none()
-    ensures { (spec : SpecTree) (states bound : ℕ) (program : ProgramTree) →
-        IsWrittenFor spec states bound program → HasNoSolution spec states bound → ⊥ }
+    ensures written { (spec : SpecTree) (windows : List WindowTree) (states bound : ℕ) (program : ProgramTree) →
+        IsWrittenFor spec windows states bound program → HasNoSolution spec windows states bound → ⊥ }
+    ensures without_rounds { (spec : SpecTree) (sizes : Sizes) (outcome : Outcome) →
+        HasSolution spec [] sizes.states sizes.bound → IsOutcome spec sizes outcome → IsFirstAnswer outcome }
 {}
 
-/// Where a limit is passed, nothing is answered. So `refine` answers within the limits, unless memory runs
-/// out, and tells a limit only where it is passed.
+/// Where a limit of the first question for a controller is passed, nothing is answered, and such a limit is told
+/// without rounds. So `refine` answers where the first question is within the limits, or tells a limit of a later
+/// one, unless memory runs out.
 pub fn limits_leave_no_outcome()
-    ensures { (spec : SpecTree) (sizes : Sizes) (limit : Limit) (outcome : Outcome) →
-        IsLargeFor spec sizes.states sizes.bound limit → IsOutcome spec sizes outcome → ⊥ }
+    ensures no_outcome { (spec : SpecTree) (sizes : Sizes) (limit : Limit) (outcome : Outcome) →
+        IsLargeFor spec [] sizes.states sizes.bound limit → IsOutcome spec sizes outcome → ⊥ }
+    ensures told { (spec : SpecTree) (sizes : Sizes) (limit other : Limit) (rounds : List RoundTree) →
+        IsLargeFor spec [] sizes.states sizes.bound limit → IsLargeAfter spec sizes rounds other →
+        (rounds ≡ []) × IsLargeFor spec [] sizes.states sizes.bound other }
 {}

@@ -1,13 +1,18 @@
-//! Bounded synthesis for specifications: the question for a controller, and the program of its answer.
+//! Bounded synthesis for specifications, with refinement.
 //!
 //! `ask` asks whether a controller over the bits of a specification, with so many states, has an annotation
-//! within a bound for the automaton of the negation of the whole formula. `refine` writes the program of a
+//! within a bound for an automaton of the negation of the whole formula. `refine` writes the program of a
 //! controller that is found: `accept` says yes to it with the same bound, and it realizes the specification.
-//! Where there is no such controller it says so, and where the budget of learnt clauses is spent it gives the
-//! automaton and the trace (`specs/Outcomes`). So far the question is asked once: no rounds are made.
+//! Where there is no such controller, it looks for an environment with an annotation for the formula itself, and
+//! for a window that is congruent, so that it holds in every run, and spurious, so that it does not in that
+//! environment. This is a round, and the questions are asked again under the windows of the rounds so far, each
+//! with `specs/Questions`. The answers come with their rounds, which are a chain (`specs/Chains`): a program, that
+//! there is no controller and why no further round is made, or the trace on which a budget of learnt clauses was
+//! spent (`specs/Outcomes`).
 //!
-//! Laws: no program is written where there is no such controller (`written_or_none`), and nothing is answered
-//! where a limit is passed (`limits_leave_no_outcome`).
+//! Laws: no program is written where there is no such controller, and no round is made where there is one without
+//! windows (`written_or_none`); nothing is answered where a limit of the first question is passed
+//! (`limits_leave_no_outcome`).
 #![tactic(auto)]
 
 mod asking;
@@ -15,11 +20,12 @@ mod errors;
 mod laws;
 mod outcome;
 mod refining;
+mod turning;
 
 pub use asking::ask;
-pub use errors::RefineError;
+pub use errors::{AskError, RefineError};
 pub use laws::{limits_leave_no_outcome, written_or_none};
-pub use outcome::{Asked, Outcome, Sizes};
+pub use outcome::{Asked, Outcome, Reason, Sizes};
 pub use refining::refine;
 
 #[cfg(test)]

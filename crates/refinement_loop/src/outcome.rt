@@ -5,6 +5,7 @@ use clause_core::Clause;
 use cobuchi_automata::Automaton;
 use flow_program::Program;
 use letter_space::Space;
+use machines::{Environment, Round, Side};
 use sequence::Sequence;
 
 /// How far the search for a program goes.
@@ -14,13 +15,19 @@ pub struct Sizes {
     pub states: u32,
     /// The largest number of its annotation: 0 to 15.
     pub bound: u32,
-    /// How many rounds may be made: none so far.
+    /// How many states an environment has: 1 to 8.
+    pub env_states: u32,
+    /// The largest number of its annotation: 0 to 15.
+    pub env_bound: u32,
+    /// The length of the longest window: 1 to 3.
+    pub depth: u32,
+    /// How many rounds may be made: 0 to 64.
     pub rounds: u32,
     /// How many clauses may be learnt for a question: 1 to 1,000,000.
     pub budget: u64,
 }
 
-/// The question for a controller, and the answer to it.
+/// The question for a controller without windows, and the answer to it.
 #[derive(Debug, Drop)]
 pub struct Asked {
     /// The bits of the specification.
@@ -31,16 +38,41 @@ pub struct Asked {
     pub found: Found,
 }
 
-/// What is answered to a specification.
+/// Why no further round is made, where there is no controller.
+#[derive(Debug, Drop)]
+pub enum Reason {
+    /// As many rounds were made as may be.
+    Rounds,
+    /// No environment with so many states has an annotation within its bound.
+    NoCounter,
+    /// This environment has one, and no congruent window up to the depth is spurious in it.
+    Genuine(Environment),
+}
+
+/// What is answered to a specification. The rounds are those that were made, in order.
 #[derive(Debug, Drop)]
 pub enum Outcome {
     /// A program that realizes it.
-    Written(Program),
-    /// No controller with so many states has an annotation within the bound.
-    None,
+    Written {
+        /// The rounds, whose windows are the program's.
+        rounds: Sequence<Round>,
+        /// The program.
+        program: Program,
+    },
+    /// No controller with so many states has an annotation within the bound, under the windows of the rounds.
+    None {
+        /// The rounds.
+        rounds: Sequence<Round>,
+        /// Why no further round is made.
+        reason: Reason,
+    },
     /// As many clauses as allowed were learnt.
     Spent {
-        /// The automaton of the negation of the whole formula.
+        /// The rounds.
+        rounds: Sequence<Round>,
+        /// Whose question it was.
+        side: Side,
+        /// The automaton of that question.
         automaton: Automaton,
         /// The clauses that were learnt, in order: a trace.
         clauses: Sequence<Clause>,

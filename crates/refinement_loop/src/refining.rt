@@ -1,78 +1,91 @@
-//! Programs for specifications.
+//! Programs for specifications: the loop of refinement.
 
-ghost use Rattle.std.specs.Prelude.{◌≡◌, ◌≤◌, [], IfOk, IfErr};
-ghost use Rattle.tsl_terms.specs.Signals.{inputs_of, cells_of, outputs_of};
+ghost use Rattle.std.specs.Prelude.{◌≡◌, IfOk, IfErr};
 ghost use Rattle.tsl_terms.specs.SpecView.{spec_tree};
 ghost use Rattle.tsl_terms.specs.WellFormed.{SpecFits};
 ghost use Rattle.flow_program.specs.ProgramText.{IsWritable};
-ghost use Rattle.flow_program.specs.ProgramView.{program_tree};
 ghost use Rattle.tsl_meaning.specs.Promise.{Realizes};
 ghost use Rattle.letter_space.specs.SpaceView.{space_tree};
 ghost use Rattle.letter_space.specs.SpecSpace.{spec_space};
-ghost use Rattle.machines.specs.MachineView.{controller_tree};
-ghost use Rattle.machines.specs.Moves.{FitsSpace};
-ghost use Rattle.control_flow_model.specs.Flow.{IsFlowOf};
 ghost use Rattle.program_check.specs.declared.verdict.Verdict.TheVariants.{Yes};
 ghost use Rattle.program_check.specs.Verdicts.{IsVerdict};
-ghost use Rattle.refinement_loop.specs.Outcomes.{IsOutcome, IfWritten, HasRefineCause};
+ghost use Rattle.refinement_loop.specs.declared.outcome.Sizes.{Sizes};
+ghost use Rattle.refinement_loop.specs.Outcomes.{AreInRange, IsOutcome, IfWritten, HasRefineCause};
+ghost use Rattle.refinement_loop.specs.internal.Turns.{refused_after};
 
-use crate::asking::ask;
-use crate::errors::RefineError;
-use crate::outcome::{Asked, Outcome, Sizes};
-use bounded_encoding::Found;
-use control_flow_model::flow_of;
-use flow_program::Program;
-use letter_space::Space;
-use machines::Controller;
-use sequence::NoMemory;
+use crate::errors::{AskError, RefineError};
+use crate::outcome::{Outcome, Sizes};
+use crate::turning::{Turn, next_turn};
+use letter_space::{Space, space_of};
+use machines::Round;
+use sequence::Sequence;
 use std::alloc::Global;
-use tsl_terms::{Spec, signals};
+use tsl_terms::Spec;
 
-/// The program of a controller that answers the question for a specification, or that there is none, or the
-/// trace on which the budget was spent. A program that is written is accepted with the same bound, realizes
-/// the specification, and can be written over its names where these can be written. `Large` comes exactly
-/// where a limit is passed, the first one as in `ask`.
+/// Looks for a program in rounds. Where a controller answers the question under the windows found so far, its
+/// program is written. Where there is none, an environment is looked for, and in it a window that is congruent
+/// and spurious, which makes a round. The other outcomes say why no further round is made, or that the budget
+/// is spent. A program that is written is accepted with the same bound, realizes the specification, and can be
+/// written over its names where these can be written. `Large` comes with the rounds that were made before a
+/// limit was passed.
 pub fn refine(alloc: Global, spec: &Spec, sizes: &Sizes) -> Result<Outcome, RefineError>
-    requires has_state { 1 ≤ sizes.now.states }
-    requires few_states { sizes.now.states ≤ 8 }
-    requires small_bound { sizes.now.bound ≤ 15 }
-    requires no_rounds { sizes.now.rounds ≡ 0 }
-    requires has_budget { 1 ≤ sizes.now.budget }
-    requires small_budget { sizes.now.budget ≤ 1000000 }
+    requires in_range { AreInRange sizes.now }
     ensures outcome { IfOk result (IsOutcome (spec_tree spec.now) sizes.now) }
     ensures accepted { IfOk result (λ o. IfWritten o (λ p. IsVerdict (spec_tree spec.now) p sizes.now.bound Yes)) }
     ensures realized { IfOk result (λ o. IfWritten o (Realizes (spec_tree spec.now))) }
     ensures writable { IfOk result (λ o. SpecFits (spec_tree spec.now) → IfWritten o (IsWritable spec.now.names)) }
-    ensures cause { IfErr result (HasRefineCause (spec_tree spec.now) sizes.now.states sizes.now.bound) }
+    ensures cause { IfErr result (HasRefineCause (spec_tree spec.now) sizes.now) }
 {
-    let Asked {
-        space,
-        automaton,
-        found,
-    } = ask(alloc, spec, sizes.states, sizes.bound, sizes.budget)?;
-    match found {
-        Found::Controller(controller, _) => {
-            let program = program_of(alloc, spec, &space, &controller)?;
-            Ok(Outcome::Written(program))
+    let space = bits_of(alloc, spec)?;
+    let mut rounds = Vec::new(alloc);
+    loop {
+        match next_turn(alloc, spec, &space, sizes, rounds.as_slice()) {
+            Ok(Turn::Further(round)) => rounds.push(round)?,
+            Ok(Turn::Written(program)) => {
+                let rounds = Sequence::from_vec(rounds);
+                return Ok(Outcome::Written { rounds, program });
+            }
+            Ok(Turn::None(reason)) => {
+                let rounds = Sequence::from_vec(rounds);
+                return Ok(Outcome::None { rounds, reason });
+            }
+            Ok(
+                Turn::Spent {
+                    side,
+                    automaton,
+                    clauses,
+                },
+            ) => {
+                let rounds = Sequence::from_vec(rounds);
+                return Ok(Outcome::Spent {
+                    rounds,
+                    side,
+                    automaton,
+                    clauses,
+                });
+            }
+            Err(error) => return Err(refused(error, rounds)),
         }
-        Found::None(_, _) => Ok(Outcome::None),
-        Found::Spent(clauses) => Ok(Outcome::Spent { automaton, clauses }),
     }
 }
 
-/// The program of a controller over the bits of a specification, with its signals and without windows.
-fn program_of(
-    alloc: Global,
-    spec: &Spec,
-    space: &Space,
-    controller: &Controller,
-) -> Result<Program, NoMemory>
-    requires space { space_tree space.now ≡ spec_space (spec_tree spec.now) }
-    requires fits { FitsSpace (space_tree space.now) (controller_tree controller.now) }
-    requires few_states { controller.now.states ≤ 64 }
-    ensures { IfOk result (λ p. IsFlowOf (controller_tree controller.now) (spec_space (spec_tree spec.now))
-        (inputs_of (spec_tree spec.now)) (cells_of (spec_tree spec.now)) (outputs_of (spec_tree spec.now)) [] (program_tree p)) }
+/// The bits of a specification. Where they are too many, no round was made.
+fn bits_of(alloc: Global, spec: &Spec) -> Result<Space, RefineError>
+    ensures space { IfOk result (λ space. space_tree space ≡ spec_space (spec_tree spec.now)) }
+    ensures cause { IfErr result (λ e. (sizes : Sizes) → HasRefineCause (spec_tree spec.now) sizes e) }
 {
-    let lists = signals(alloc, spec)?;
-    flow_of(alloc, controller, space, &lists, Vec::new(alloc))
+    match space_of(alloc, spec) {
+        Ok(space) => Ok(space),
+        Err(cause) => Err(refused(AskError::from(cause), Vec::new(alloc))),
+    }
+}
+
+/// A refusal after these rounds.
+fn refused(error: AskError, rounds: Vec<Round>) -> RefineError
+    ensures { result ≡ refused_after error rounds.items }
+{
+    match error {
+        AskError::Large(limit) => RefineError::Large(limit, Sequence::from_vec(rounds)),
+        AskError::NoMemory => RefineError::NoMemory,
+    }
 }

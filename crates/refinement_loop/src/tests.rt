@@ -1,6 +1,9 @@
 //! Specifications, and what is answered to them.
 
-use crate::{Outcome, RefineError, Sizes, ask, refine};
+ghost use Rattle.std.specs.Prelude.{IsTrue};
+ghost use Rattle.refinement_loop.specs.Outcomes.{AreInRange};
+
+use crate::{AskError, Outcome, Reason, RefineError, Sizes, ask, refine};
 use bounded_encoding::Found;
 use flow_program::Program;
 use program_check::{CheckError, Verdict, accept};
@@ -28,23 +31,87 @@ const THREE_IN_TURN: &[u8] = b"always guarantee { F [g <- a()]; F [g <- b()]; F 
 /// What no program does.
 const NEVER: &[u8] = b"guarantee { false; }";
 
+/// What a copied input keeps, and what the next one has.
+const NEXT: &[u8] = b"always guarantee { [y <- x]; } guarantee { p x -> X (p x && p y); }";
+
 /// Eleven predicate terms.
 const ELEVEN_TERMS: &[u8] =
     b"guarantee { p0 x; p1 x; p2 x; p3 x; p4 x; p5 x; p6 x; p7 x; p8 x; p9 x; p10 x; }";
 
-/// A specification, how many states and which bound and budget, and what is answered.
-const ANSWERS: &[(&[u8], u32, u32, u64, &str)] = &[
-    (COPY, 1, 0, 1_000, "written, Ok(Yes)"),
-    (CHOOSING, 1, 0, 1_000, "written, Ok(Yes)"),
-    (b"", 1, 0, 1_000, "written, Ok(Yes)"),
-    // more states than one are needed, and a bound that is large enough
-    (TWO_IN_TURN, 1, 2, 1_000, "none"),
-    (TWO_IN_TURN, 2, 0, 1_000, "none"),
-    (TWO_IN_TURN, 2, 1, 1_000, "written, Ok(Yes)"),
-    (EXAMPLE, 2, 2, 100_000, "none"),
-    (NEVER, 1, 3, 1_000, "none"),
-    (THREE_IN_TURN, 2, 2, 1, "spent 1"),
-    (ELEVEN_TERMS, 1, 0, 1_000, "Large(Predicates)"),
+/// Sizes that are asked for where nothing else is said.
+const USUAL: Sizes = Sizes {
+    states: 2,
+    bound: 2,
+    env_states: 2,
+    env_bound: 2,
+    depth: 2,
+    rounds: 8,
+    budget: 20_000,
+};
+
+/// A specification, sizes, and what is answered.
+const ANSWERS: &[(&[u8], Sizes, &str)] = &[
+    (
+        COPY,
+        Sizes {
+            states: 1,
+            bound: 0,
+            ..USUAL
+        },
+        "0 written, Ok(Yes)",
+    ),
+    (
+        CHOOSING,
+        Sizes {
+            states: 1,
+            bound: 0,
+            ..USUAL
+        },
+        "0 written, Ok(Yes)",
+    ),
+    (
+        b"",
+        Sizes {
+            states: 1,
+            bound: 0,
+            ..USUAL
+        },
+        "0 written, Ok(Yes)",
+    ),
+    (TWO_IN_TURN, USUAL, "0 written, Ok(Yes)"),
+    (EXAMPLE, USUAL, "1 written, Ok(Yes)"),
+    (
+        TWO_IN_TURN,
+        Sizes { states: 1, ..USUAL },
+        "0 none NoCounter",
+    ),
+    (
+        NEVER,
+        Sizes {
+            states: 1,
+            bound: 0,
+            env_states: 1,
+            ..USUAL
+        },
+        "0 none Genuine",
+    ),
+    (
+        NEXT,
+        Sizes {
+            states: 1,
+            env_states: 1,
+            rounds: 1,
+            ..USUAL
+        },
+        "none Rounds",
+    ),
+    (EXAMPLE, Sizes { rounds: 0, ..USUAL }, "0 none Rounds"),
+    (
+        THREE_IN_TURN,
+        Sizes { budget: 1, ..USUAL },
+        "0 spent Controller 1",
+    ),
+    (ELEVEN_TERMS, USUAL, "0 large Predicates"),
 ];
 
 /// A specification that a text spells.
@@ -65,44 +132,88 @@ fn said(
     bound: u32,
 ) -> Result<String, Fail> {
     assert!(rt; program.nodes.len() < 100_000 && program.states.len() < 100_000);
+    assert!(rt; program.windows.len() < 100_000);
     let said: Result<Verdict, CheckError> = accept(alloc, spec, program, bound);
-    Ok(format!(in alloc; "written, {said:?}")?)
+    Ok(format!(in alloc; "{said:?}")?)
 }
 
-/// What is answered to a specification.
-fn answered(
-    rt: &impl Abort,
-    alloc: Global,
-    text: &[u8],
-    states: u32,
-    bound: u32,
-    budget: u64,
-) -> Result<String, Fail> {
-    assert!(rt; 1 <= states && states <= 8 && bound <= 15 && 1 <= budget && budget <= 1_000_000);
+/// Why no further round is made.
+fn reason_said(reason: &Reason) -> &'static str {
+    match reason {
+        Reason::Rounds => "Rounds",
+        Reason::NoCounter => "NoCounter",
+        Reason::Genuine(_) => "Genuine",
+    }
+}
+
+/// Whether each size lies in its range.
+fn are_in_range(sizes: &Sizes) -> bool
+    ensures { IsTrue result → AreInRange sizes.now }
+{
+    let states = 1 <= sizes.states && sizes.states <= 8 && sizes.bound <= 15;
+    let env_states = 1 <= sizes.env_states && sizes.env_states <= 8 && sizes.env_bound <= 15;
+    let rounds = 1 <= sizes.depth && sizes.depth <= 3 && sizes.rounds <= 64;
+    states && env_states && rounds && 1 <= sizes.budget && sizes.budget <= 1_000_000
+}
+
+/// What is answered to a specification, and after how many rounds.
+fn answered(rt: &impl Abort, alloc: Global, text: &[u8], sizes: &Sizes) -> Result<String, Fail> {
+    assert!(rt; are_in_range(sizes));
     let spec = spec_of(rt, alloc, text)?;
-    let sizes = Sizes {
-        states,
-        bound,
-        rounds: 0,
-        budget,
-    };
-    match refine(alloc, &spec, &sizes) {
-        Ok(Outcome::Written(program)) => said(rt, alloc, &spec, &program, bound),
-        Ok(Outcome::None) => Ok(format!(in alloc; "none")?),
-        Ok(Outcome::Spent { clauses, .. }) => Ok(format!(in alloc; "spent {}", clauses.len())?),
-        Err(error) => Ok(format!(in alloc; "{error:?}")?),
+    match refine(alloc, &spec, sizes) {
+        Ok(Outcome::Written { rounds, program }) => {
+            let said = said(rt, alloc, &spec, &program, sizes.bound)?;
+            Ok(format!(in alloc; "{} written, {said}", rounds.len())?)
+        }
+        Ok(Outcome::None { rounds, reason }) => {
+            Ok(format!(in alloc; "{} none {}", rounds.len(), reason_said(&reason))?)
+        }
+        Ok(
+            Outcome::Spent {
+                rounds,
+                side,
+                clauses,
+                ..
+            },
+        ) => { Ok(format!(in alloc; "{} spent {side:?} {}", rounds.len(), clauses.len())?) }
+        Err(RefineError::Large(limit, rounds)) => {
+            Ok(format!(in alloc; "{} large {limit:?}", rounds.len())?)
+        }
+        Err(RefineError::NoMemory) => Err("memory ran out".into()),
     }
 }
 
 #[test]
-fn a_program_is_written_where_a_controller_is_found(rt: HostRuntime) -> Result<(), Fail> {
-    for &(spec, states, bound, budget, expected) in ANSWERS {
-        assert_eq!(rt;
-            answered(&rt, rt.alloc(), spec, states, bound, budget)?.as_str(),
-            expected
-        );
+fn what_is_answered_depends_on_the_sizes(rt: HostRuntime) -> Result<(), Fail> {
+    for (spec, sizes, expected) in ANSWERS {
+        assert_eq!(rt; answered(&rt, rt.alloc(), spec, sizes)?.as_str(), *expected);
     }
     Ok(())
+}
+
+/// The window of the running example: where the cell takes the input, it has at the next step what that has now.
+const EXAMPLE_WINDOW: &str = "";
+
+#[test]
+fn the_example_needs_one_window(rt: HostRuntime) -> Result<(), Fail> {
+    let spec = spec_of(&rt, rt.alloc(), EXAMPLE)?;
+    match refine(rt.alloc(), &spec, &USUAL) {
+        Ok(Outcome::Written { rounds, program }) => {
+            assert!(rt; rounds.len() == 1 && program.windows.len() == 1);
+            let window = &program.windows.as_slice()[0];
+            assert_eq!(rt;
+                format!(in rt.alloc(); "{window:?}")?.as_str(),
+                EXAMPLE_WINDOW
+            );
+            let window = &rounds.as_slice()[0].window;
+            assert_eq!(rt;
+                format!(in rt.alloc(); "{window:?}")?.as_str(),
+                EXAMPLE_WINDOW
+            );
+            Ok(())
+        }
+        _ => Err("no program is written".into()),
+    }
 }
 
 #[test]
@@ -113,8 +224,8 @@ fn the_question_is_asked_alone(rt: HostRuntime) -> Result<(), Fail> {
             assert!(rt; matches!(asked.found, Found::None(_, _)));
             assert!(rt; asked.space.predicates.len() == 2);
         }
-        Err(RefineError::Large(_)) => return Err("a limit is passed".into()),
-        Err(RefineError::NoMemory) => return Err("memory ran out".into()),
+        Err(AskError::Large(_)) => return Err("a limit is passed".into()),
+        Err(AskError::NoMemory) => return Err("memory ran out".into()),
     }
     Ok(())
 }

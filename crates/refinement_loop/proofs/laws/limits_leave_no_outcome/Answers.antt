@@ -1,5 +1,8 @@
-use Rattle.refinement_loop.proofs.OneAnswer.{no_outcome}
+use Rattle.refinement_loop.proofs.OneOutcome.{no_outcome, told_first}
 use Rattle.refinement_loop.proofs.laws.limits_leave_no_outcome.Goals as goal
 
-pub returns : goal.returns
-returns c = no_outcome
+pub returns-clause-no_outcome : goal.returns-clause-no_outcome
+returns-clause-no_outcome c = λ spec sizes limit outcome large is. no_outcome spec sizes limit large outcome is
+
+pub returns-clause-told : goal.returns-clause-told
+returns-clause-told c = λ spec sizes limit other rounds large after. told_first spec sizes limit large other rounds after

@@ -2,7 +2,7 @@ use Rattle.tsl_terms.specs.SpecView.{spec_tree}
 use Rattle.letter_space.specs.SpaceView.{space_tree}
 use Rattle.program_check.proofs.ProgramNames.{spec_fits}
 use Rattle.refinement_loop.proofs.SpecSignals.{are_distinct, are_controlled, are_read}
-use Rattle.refinement_loop.proofs.refining.program_of.Goals as goal
+use Rattle.refinement_loop.proofs.turning.program_of.Goals as goal
 
 pub flow_of-requires-clause-signals_distinct : goal.flow_of-requires-clause-signals_distinct
 flow_of-requires-clause-signals_distinct c =

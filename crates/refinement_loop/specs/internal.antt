@@ -1,0 +1,2 @@
+-- Words that only private functions use.
+pub mod Turns

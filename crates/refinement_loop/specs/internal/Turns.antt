@@ -1,0 +1,42 @@
+-- What a turn of the loop leads to, where these windows were found, and why to nothing.
+use Rattle.std.specs.Prelude.{List, ⊤}
+use Rattle.tsl_terms.specs.SpecTree.{SpecTree}
+use Rattle.tsl_terms.specs.WindowTree.{WindowTree}
+use Rattle.flow_program.specs.ProgramView.{program_tree}
+use Rattle.cobuchi_automata.specs.Edges.{edge_trees}
+use Rattle.machines.specs.declared.rounds.Round.{Round}
+use Rattle.machines.specs.MachineView.{round_tree}
+use Rattle.refinement_loop.specs.Questions.{HasNoSolution, IsWrittenFor}
+use Rattle.refinement_loop.specs.Chains.{IsRound}
+use Rattle.refinement_loop.specs.Outcomes.{MayGoOn, HasReason, IsSpentIn, IsLargeFurther, IsLargeIn}
+use Rattle.refinement_loop.specs.declared.errors.AskError.{AskError}
+use Rattle.refinement_loop.specs.declared.errors.AskError.TheVariants.{Large, NoMemory}
+use Rattle.refinement_loop.specs.declared.errors.RefineError.{RefineError}
+use Rattle.refinement_loop.specs.declared.errors.RefineError.TheVariants as refines
+use Rattle.refinement_loop.specs.declared.outcome.Sizes.{Sizes}
+use Rattle.refinement_loop.specs.declared.turning.Turn.{Turn}
+use Rattle.refinement_loop.specs.declared.turning.Turn.TheVariants.{Written, None, Spent, Further}
+
+-- what each turn says
+abbrev pub IsTurn : SpecTree → Sizes → List WindowTree → Turn → Type 0
+IsTurn spec sizes windows (Written program) = IsWrittenFor spec windows sizes.states sizes.bound (program_tree program)
+IsTurn spec sizes windows (None reason) =
+    HasNoSolution spec windows sizes.states sizes.bound × HasReason spec sizes windows reason
+IsTurn spec sizes windows (Spent side automaton clauses) =
+    IsSpentIn spec sizes windows side automaton.states (edge_trees automaton.edges) clauses
+IsTurn spec sizes windows (Further round) = MayGoOn sizes windows × IsRound spec sizes windows (round_tree round)
+
+-- why a question of a further round has no answer
+abbrev pub HasFurtherCause : SpecTree → Sizes → List WindowTree → AskError → Type 0
+HasFurtherCause spec sizes windows (Large limit) = IsLargeFurther spec sizes windows limit
+HasFurtherCause spec sizes windows NoMemory = ⊤
+
+-- why a turn leads to nothing
+abbrev pub HasTurnCause : SpecTree → Sizes → List WindowTree → AskError → Type 0
+HasTurnCause spec sizes windows (Large limit) = IsLargeIn spec sizes windows limit
+HasTurnCause spec sizes windows NoMemory = ⊤
+
+-- a refusal after these rounds
+abbrev pub refused_after : AskError → List Round → RefineError
+refused_after (Large limit) rounds = refines.Large limit rounds
+refused_after NoMemory rounds = refines.NoMemory
