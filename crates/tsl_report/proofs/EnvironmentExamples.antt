@@ -10,10 +10,10 @@ use Rattle.machines.specs.MachineTree.{EnvironmentTree}
 use Rattle.tsl_report.specs.EnvironmentText.{environment_text}
 
 -- without predicate terms and without signals there is one vector
-pub no_bits : SpaceTree
+unfoldable pub no_bits : SpaceTree
 no_bits = record { predicates = []; controlled = [] }
 
-pub alone : EnvironmentTree
+unfoldable pub alone : EnvironmentTree
 alone = record { states = 1; vectors = 1; truths = 0 ∷ []; next = 0 ∷ [] }
 
 -- no space stands after a word whose list is empty
@@ -22,24 +22,24 @@ unfolding digits no_bits alone
 empty_lists = refl
 
 -- an input, a cell, and a predicate
-pub three_names : List Name
+unfoldable pub three_names : List Name
 three_names = record { text = codes "y"; kind = Signal; arity = 0 } ∷ record { text = codes "x"; kind = Signal; arity = 0 }
     ∷ record { text = codes "p"; kind = Predicate; arity = 1 } ∷ []
 
-pub tested : ℕ → ProbeTree
+unfoldable pub tested : ℕ → ProbeTree
 tested s = record { predicate = 2; arguments = more_terms (signal s) no_terms }
 
-pub copying : SpaceTree
+unfoldable pub copying : SpaceTree
 copying = record {
   predicates = tested 1 ∷ tested 0 ∷ [];
   controlled = record { signal = 0; choices = signal 1 ∷ signal 0 ∷ []; first = 2 } ∷ [];
 }
 
 -- in state 0 the first predicate term is true, in state 1 the second one
-pub two_states : EnvironmentTree
+unfoldable pub two_states : EnvironmentTree
 two_states = record { states = 2; vectors = 2; truths = 1 ∷ 2 ∷ []; next = 1 ∷ 0 ∷ 0 ∷ 1 ∷ [] }
 
-pub copied : WindowTree
+unfoldable pub copied : WindowTree
 copied = record {
   left = tested 1;
   left_at = 0;
@@ -55,14 +55,14 @@ unfolding digits three_names tested copying two_states
 told = refl
 
 -- the first signal's choice is the leading digit of a vector's number
-pub two_cells : SpaceTree
+unfoldable pub two_cells : SpaceTree
 two_cells = record {
   predicates = [];
   controlled = record { signal = 0; choices = signal 1 ∷ signal 0 ∷ []; first = 0 }
       ∷ record { signal = 1; choices = signal 0 ∷ signal 1 ∷ []; first = 2 } ∷ [];
 }
 
-pub staying : EnvironmentTree
+unfoldable pub staying : EnvironmentTree
 staying = record { states = 1; vectors = 4; truths = 0 ∷ []; next = 0 ∷ 0 ∷ 0 ∷ 0 ∷ [] }
 
 leading_digit : environment_text three_names two_cells staying ≡

@@ -5,9 +5,10 @@ ghost use Rattle.tsl_text.specs.Written.{text_of_lines};
 ghost use Rattle.ltl_formula.specs.Cubes.{has_bit};
 ghost use Rattle.letter_space.specs.SpaceView.{space_tree};
 ghost use Rattle.cobuchi_automata.specs.Edges.{edge_tree, edge_trees};
-ghost use Rattle.machines.specs.MachineView.{round_tree};
+ghost use Rattle.machines.specs.MachineView.{environment_tree, round_tree};
+ghost use Rattle.machines.specs.Moves.{EnvironmentFits};
 ghost use Rattle.refutation_text.specs.Written.{literal_word, clause_line};
-ghost use Rattle.tsl_report.specs.EnvironmentText.{space_is_held};
+ghost use Rattle.tsl_report.specs.EnvironmentText.{environment_text, space_is_held};
 ghost use Rattle.tsl_report.specs.RoundTexts.{RoundsAreHeld};
 ghost use Rattle.tsl_report.specs.SearchTexts.{none_text, reason_text, reason_tree, asked_literals, cube_literals, edge_line};
 ghost use Rattle.tsl_report.specs.SearchTexts.{learnt_line, sizes_line, side_text, spent_text, ReasonFits};
@@ -82,11 +83,24 @@ fn put_reason(
         ReasonText::NoCounter(states, bound) => {
             put_sizes(out, b"reason nocounter", *states, *bound)
         }
-        ReasonText::Genuine(environment) => {
-            put_bytes(out, b"reason genuine\n")?;
-            put_environment(out, names, space, environment)
-        }
+        ReasonText::Genuine(environment) => put_genuine(out, names, space, environment),
     }
+}
+
+/// Appends that no window rules out this environment.
+fn put_genuine(
+    out: &mut Vec<u8>,
+    names: &Names,
+    space: &Space,
+    environment: &Environment,
+) -> Result<(), NoMemory>
+    requires held { IsTrue (space_is_held names.now (space_tree space.now)) }
+    requires fits { EnvironmentFits (space_tree space.now) (environment_tree environment.now) }
+    ensures { OnOk result (out.new.items ≡ out.old.items ++ (codes "reason genuine\n"
+        ++ environment_text names.now (space_tree space.now) (environment_tree environment.now))) }
+{
+    put_bytes(out, b"reason genuine\n")?;
+    put_environment(out, names, space, environment)
 }
 
 /// The text which says that the budget of a search was spent: whose machine was searched for, the

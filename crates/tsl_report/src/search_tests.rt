@@ -68,11 +68,11 @@ fn probe_of(alloc: Global, of: u32) -> Result<Probe, NoMemory>
 /// What is true of an input is true of the cell that takes it.
 fn copied(alloc: Global) -> Result<Window, NoMemory>
     ensures { IfOk result (λ w. window_tree w ≡ record {
-        left = record { predicate = 2; arguments = more_terms (signal 1) no_terms };
-        left_at = 0;
-        right = record { predicate = 2; arguments = more_terms (signal 0) no_terms };
-        length = 1;
-        updates = record { signal = 0; term = signal 1; offset = 0 } ∷ [];
+      left = record { predicate = 2; arguments = more_terms (signal 1) no_terms };
+      left_at = 0;
+      right = record { predicate = 2; arguments = more_terms (signal 0) no_terms };
+      length = 1;
+      updates = record { signal = 0; term = signal 1; offset = 0 } ∷ [];
     }) }
 {
     let update = Listed {
@@ -94,7 +94,10 @@ fn empty_lists_leave_no_space(rt: HostRuntime) -> Result<(), Fail> {
     let alloc = rt.alloc();
     let names = Names::new(alloc);
     let text = environment_text(alloc, &names, &no_bits(alloc), &alone(alloc)?)?;
-    assert_eq!(rt; text.as_slice(), b"environment 1\nvector 0\nstate 0 truths to 0\n".as_slice());
+    assert_eq!(rt;
+        text.as_slice(),
+        b"environment 1\nvector 0\nstate 0 truths to 0\n".as_slice()
+    );
     Ok(())
 }
 
@@ -103,7 +106,10 @@ fn rounds_have_an_environment_and_a_window(rt: HostRuntime) -> Result<(), Fail> 
     let alloc = rt.alloc();
     let names = three_names(alloc)?;
     let window = window_text(alloc, &names, &copied(alloc)?)?;
-    assert_eq!(rt; window.as_slice(), b"window p x at 0 is p y at 1 when [y <- x] at 0\n".as_slice());
+    assert_eq!(rt;
+        window.as_slice(),
+        b"window p x at 0 is p y at 1 when [y <- x] at 0\n".as_slice()
+    );
     let round = Round {
         environment: alone(alloc)?,
         window: copied(alloc)?,
@@ -125,13 +131,29 @@ fn that_there_is_no_controller_is_told_with_its_reason(rt: HostRuntime) -> Resul
         made.as_slice(),
         b"none\nstates 8\nbound 0\nreason rounds 64\nend\n".as_slice()
     );
-    let none = none_text(alloc, &names, &space, 1, 15, &[], &ReasonText::NoCounter(2, 3))?;
+    let none = none_text(
+        alloc,
+        &names,
+        &space,
+        1,
+        15,
+        &[],
+        &ReasonText::NoCounter(2, 3),
+    )?;
     assert_eq!(rt;
         none.as_slice(),
         b"none\nstates 1\nbound 15\nreason nocounter 2 3\nend\n".as_slice()
     );
     let environment = alone(alloc)?;
-    let won = none_text(alloc, &names, &space, 1, 0, &[], &ReasonText::Genuine(&environment))?;
+    let won = none_text(
+        alloc,
+        &names,
+        &space,
+        1,
+        0,
+        &[],
+        &ReasonText::Genuine(&environment),
+    )?;
     let wanted = b"none\nstates 1\nbound 0\nreason genuine\n\
         environment 1\nvector 0\nstate 0 truths to 0\nend\n";
     assert_eq!(rt; won.as_slice(), wanted.as_slice());
@@ -177,7 +199,16 @@ fn spent(
     clauses: &[Clause],
 ) -> Result<Vec<u8>, NoMemory> {
     let names = Names::new(alloc);
-    spent_text(alloc, &names, &no_bits(alloc), side, sizes, &[], automaton, clauses)
+    spent_text(
+        alloc,
+        &names,
+        &no_bits(alloc),
+        side,
+        sizes,
+        &[],
+        automaton,
+        clauses,
+    )
 }
 
 #[test]
