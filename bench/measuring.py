@@ -48,7 +48,7 @@ def instructions(text, command):
 
 def spent_in(text, command, functions):
     """How many instructions a run takes in all, and in each of these functions with what they call, as valgrind counts them; 0 for
-    one that is never called. None where valgrind is not installed."""
+    one that is never called. A function is named by its crate and its own name. None where valgrind is not installed."""
     if not shutil.which("valgrind"):
         return None
     with tempfile.NamedTemporaryFile() as counts:
@@ -60,5 +60,6 @@ def spent_in(text, command, functions):
     if not found:
         raise SystemExit("valgrind counted nothing")
     number = lambda digits: int(digits.replace(",", ""))
-    one = lambda name: re.search(r"([\d,]+) \( ?[\d.]+%\) +[^ ]*:" + re.escape(name) + r" ", shown)
+    path = lambda name: r"(?:::\w+)*::".join(map(re.escape, name.split("::")))
+    one = lambda name: re.search(r"([\d,]+) \( ?[\d.]+%\) +[^ ]*:" + path(name) + r" ", shown)
     return number(found.group(1)), [number(one(name).group(1)) if one(name) else 0 for name in functions]

@@ -1,12 +1,14 @@
-"""A plain reading of the definitions, from the text of a specification and of a program to the verdict of `check`
-on a program without windows. It is short and slow: each definition is written down as docs/DEFINITIONS.md says it, with
-Python's own sets, tuples and dictionaries. Nothing of the tool's code is used.
+"""A plain reading of the definitions, from the text of a specification and of a program to the verdict of `check`,
+and the question for a controller. Windows, environments and rounds stand in `rounds.py`. It is short and slow: each definition
+is written down as docs/DEFINITIONS.md says it, with Python's own sets, tuples and dictionaries. Nothing of the tool's code is used.
 
 A term is ("signal", name) or ("apply", name, terms). A formula is a tuple whose first member is its operator.
 A formula of linear temporal logic is a tuple as well, whose first member is the rank of its operator, so that Python's
 order of tuples is the order of formulas."""
 import itertools
 import re
+
+from windows import Window, is_congruent, under_windows
 
 RESERVED = "assume guarantee always initially true false X F G U W R A".split()
 
@@ -327,10 +329,11 @@ def automaton(formula):
 
 class Program:
     def __init__(self, text):
-        self.declared, self.nodes, self.states = {"input": [], "cell": [], "output": []}, [], []
+        self.declared, self.nodes, self.states, self.windows = {"input": [], "cell": [], "output": []}, [], [], []
         for line in text.splitlines():
             word = line.split()[0]
-            assert word != "window"
+            if word == "window":
+                self.windows.append(window_in(line))
             if word in self.declared:
                 self.declared[word].append(line.split()[1])
             elif word == "state":
@@ -352,8 +355,21 @@ class Program:
         return node
 
 
+def window_in(line):
+    """The window of a line."""
+    sides, *listed = line.removeprefix("window ").split(" when ")
+    (left, left_at), (right, length) = (side.rsplit(" at ", 1) for side in sides.split(" is "))
+    updates = [(Reader(text).formula(), int(offset)) for text, offset in (u.rsplit(" at ", 1) for u in listed)]
+    return Window(Reader(left).formula(), int(left_at), Reader(right).formula(), int(length), tuple(updates))
+
+
+def window_text(window):
+    listed = "".join(f" when {atom_text(update)} at {offset}" for update, offset in window.updates)
+    return f"window {atom_text(window.left)} at {window.left_at} is {atom_text(window.right)} at {window.length}{listed}"
+
+
 def verdict(spec_text, program_text, bound):
-    """The line that `check` says of a program without windows."""
+    """The line that `check` says of a program."""
     lists = Reader(spec_text).spec()
     formula, space, program = whole_formula(lists), Space(lists), Program(program_text)
     if [program.declared[kind] for kind in ("input", "cell", "output")] != [space.inputs, space.cells, space.outputs]:
@@ -363,8 +379,13 @@ def verdict(spec_text, program_text, bound):
             return f"refused test {number}"
         if len(node) == 2 and any(update not in space.bits for update in node[0]):
             return f"refused choice {number}"
-    count, edges = automaton(letters(("!", formula), space))
-    leaving = [[e for e in edges if e[0] == state] for state in range(count)]
+    for number, window in enumerate(program.windows):
+        if any(atom not in space.bits for atom in (window.left, window.right, *(u for u, _ in window.updates))):
+            return f"refused foreign {number}"
+    for number, window in enumerate(program.windows):
+        if not is_congruent(window):
+            return f"refused window {number}"
+    count, edges = automaton(letters(("!", under_windows(program.windows, formula)), space))
     steps = []
     for state in range(len(program.states)):
         of_state = []
@@ -376,6 +397,13 @@ def verdict(spec_text, program_text, bound):
             letter.update({bit: bit in chosen for a, bit in space.bits.items() if a[0] == "update"})
             of_state.append((letter, after))
         steps.append(of_state)
+    return "accepted" if least_annotation(steps, count, edges, bound) is not None else f"refused bound {bound}"
+
+
+def least_annotation(steps, count, edges, bound):
+    """The least numbers of the pairs of a machine's and an automaton's states, or None where one is above the bound. A machine is,
+    for each of its states, its letters with the states that they go to."""
+    leaving = [[e for e in edges if e[0] == state] for state in range(count)]
     numbers, work = {(0, 0): 0}, [(0, 0)]
     while work:
         state, at = work.pop()
@@ -385,10 +413,10 @@ def verdict(spec_text, program_text, bound):
                     least = numbers[state, at] + rejecting
                     if least > numbers.get((after, to), -1):
                         if least > bound:
-                            return f"refused bound {bound}"
+                            return None
                         numbers[after, to] = least
                         work.append((after, to))
-    return "accepted"
+    return numbers
 
 
 # ---- the search for a controller: its variables, its clauses, and what an assignment of them says ----
@@ -397,10 +425,11 @@ class Question:
     """Is there a controller with so many states that has an annotation within a bound? Variables have numbers from 1:
     `choice[s, v, bit]`, `after[s, v, t]` and `least[s, q, i]`, in this order, each kind by rising indices."""
 
-    def __init__(self, spec_text, states, bound):
+    def __init__(self, spec_text, states, bound, windows=()):
         lists = Reader(spec_text).spec()
         self.formula, self.space, self.states, self.bound = whole_formula(lists), Space(lists), states, bound
-        self.count, self.edges = automaton(letters(("!", self.formula), self.space))
+        self.windows = list(windows)
+        self.count, self.edges = automaton(letters(("!", under_windows(self.windows, self.formula)), self.space))
         self.tests = len(self.space.tests)
         self.groups = [[self.space.bits["update", signal, term] for term in self.space.choices[signal]]
                        for signal in self.space.controlled]
@@ -492,18 +521,9 @@ class Question:
         roots = [tree(s, 0, 0) for s in sorted(reachable)]
         declared = [("input", self.space.inputs), ("cell", self.space.cells), ("output", self.space.outputs)]
         return text_of(["tslprogram 1", *(f"{word} {name}" for word, names in declared for name in names),
+                        *map(window_text, self.windows),
                         *(f"node {i} {node}" for node, i in nodes.items()),
                         *(f"state {s} at {root}" for s, root in enumerate(roots)), "end"])
-
-    def spent_text(self, learnt):
-        """What is written where the budget is spent and these clauses were learnt."""
-        edges = [f"edge {q} {p} {int(rejecting)} " + line_of((b + 1 if wanted else -b - 1) for b, wanted in sorted(cube))
-                 for q, cube, p, rejecting in self.edges]
-        return text_of(["spent controller", f"sizes {self.states} {self.bound}", f"automaton {self.count}", *edges,
-                        *(f"clause {line_of(clause)}" for clause in learnt), "end"])
-
-    def none_text(self):
-        return text_of(["none", f"states {self.states}", f"bound {self.bound}", "reason rounds 0", "end"])
 
 
 def exactly_one(literals):

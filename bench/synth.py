@@ -1,75 +1,135 @@
 #!/usr/bin/env python3
 """Times `tsl synth` on the examples and on arbiters of growing size, and checks what it writes by the plain reading of the
-definitions in `plain.py`. Beside it stand `minisat` and `cadical` on the same clauses, where they are installed. The first
-argument is the most seconds of a run, 60 if there is none; parts of names may follow, and then only the questions whose names
-have one of them are asked."""
+definitions in `plain.py` and `rounds.py`. Beside it stand `minisat` and `cadical` on the clauses of the last question for a
+controller, where they are installed. The first argument is the most seconds of a run, 60 if there is none; parts of names may
+follow, and then only the questions whose names have one of them are asked."""
 import statistics
 import subprocess
 import sys
 
 import plain
-from measuring import HERE, PROGRAM, built, spent_in
+import rounds
+from measuring import HERE, PROGRAM, SOLVER, built, spent_in
 from solver import arbiter, conflicts, measured, programs
 
-BUDGET = 20_000
-PARTS = ("read", "automaton", "encoding", "solver", "text")
-STEPS = ["tsl_reader::read_spec", "refinement_loop::asking::ask", "program_check::accepting::automaton_of", "sat_core::solver::search"]
+USUAL = {"--states": 2, "--bound": 2, "--env-states": 2, "--env-bound": 2, "--depth": 2, "--rounds": 8, "--budget": 20_000}
+ASKS = ("--states", "--bound", "--budget")  # what `prove` takes
+PARTS = ("read", "automaton", "encoding", "solver", "windows", "rest")
+STEPS = ["tsl_reader::read_spec", "program_check::automaton_for", "bounded_encoding::find_controller",
+         "counterstrategy::find_environment", "sat_core::search", "branch_finder::find_window"]
 CLEAR = 0.1  # seconds of minisat, from which on the whole is compared to it
-WRITTEN, NONE, SPENT = 0, 1, 5
+WRITTEN, NONE, LARGE, SPENT = 0, 1, 4, 5
+HEADS = {WRITTEN: 0, NONE: 3, LARGE: 1, SPENT: 2}  # lines before those of rounds
 
 
 def questions():
-    """Name, specification, states and bound: the examples with the sizes of their words, arbiters of so many requests with as
-    many states, and one of six with two."""
+    """Name, specification and sizes: the examples with those of their words, arbiters of so many requests with as many states and
+    the same bound, and one of six with two, without rounds and with them."""
     for path in sorted((HERE.parent / "examples").glob("*.tsl")):
         words = path.with_suffix(".words").read_text().split()
-        sizes = dict(zip(words[1::2], map(int, words[2::2])))
-        yield path.stem, path.read_text(), sizes.get("--states", 2), sizes.get("--bound", 2)
+        yield path.stem, path.read_text(), USUAL | dict(zip(words[1::2], map(int, words[2::2])))
     for count in (3, 4, 5):
-        yield f"generator {count}", arbiter(count), count, count
-    yield "6 responses", arbiter(6), 2, 2
+        yield f"generator {count}", arbiter(count), USUAL | {"--states": count, "--bound": count, "--rounds": 0}
+    yield "6 responses", arbiter(6), USUAL | {"--rounds": 0}
+    yield "6 responses, rounds", arbiter(6), USUAL
 
 
-def words_of(command, states, bound, budget=BUDGET):
-    return [str(PROGRAM), command, "--states", str(states), "--bound", str(bound), "--budget", str(budget)]
+def words_of(command, sizes):
+    named = sizes if command == "synth" else {name: sizes[name] for name in ASKS}
+    return [str(PROGRAM), command, *(word for name, value in named.items() for word in (name, str(value)))]
 
 
 def asked(words, text):
-    """The status of a run, and what it writes."""
+    """The status of a run, and what it writes to both outputs."""
     done = subprocess.run(words, input=text, capture_output=True, text=True)
-    return done.returncode, done.stdout
+    return done.returncode, done.stdout + done.stderr
 
 
-def learnt_in(written):
-    return [[int(word) for word in line.split()[1:-1]] for line in written.splitlines() if line.startswith("clause ")]
+def learnt_in(lines):
+    return [[int(word) for word in line.split()[1:-1]] for line in lines if line.startswith("clause ")]
 
 
-def check(question, text, status, written):
-    """What `synth` writes is right by the plain reading: a program is accepted with the bound, and other texts are as they are
-    defined, a spent one with as many clauses as the budget."""
-    if status == WRITTEN:
-        assert plain.verdict(text, written, question.bound) == "accepted"
-    elif status == NONE:
-        assert written == question.none_text()
-    else:
-        assert status == SPENT and written == question.spent_text(learnt_in(written)) and len(learnt_in(written)) == BUDGET
+def has_assignment(question):
+    status = subprocess.run([str(SOLVER)], input=plain.cnf_text(question.variables, question.clauses()), capture_output=True, text=True)
+    assert status.returncode in (10, 20)
+    return status.returncode == 10
 
 
-def steps_of_log(question, text):
-    """How many clauses were learnt before the empty one, from what `prove` writes: its formula and its clauses are those of the
-    plain reading."""
-    status, written = asked(words_of("prove", question.states, question.bound), text)
-    formula, log = written.split("lrat\n")
+class Answer:
+    """What `synth` wrote, read: its windows, its rounds where it tells them, and the line of the reason."""
+
+    def __init__(self, text, sizes, status, written):
+        self.text, self.sizes, self.status, self.written = text, sizes, status, written
+        self.formula, self.space = rounds.spec_of(text)
+        self.left = [*written.splitlines()[HEADS[status]:], ""]
+        self.rounds = [] if status == WRITTEN else rounds.rounds_in(self.space, self.left)
+        self.windows = plain.Program(written).windows if status == WRITTEN else [window for _, window in self.rounds]
+        self.reason = self.left[0] if status == NONE else written.splitlines()[0]
+
+    def for_controller(self, count=None):
+        """Under so many windows, all where no number is given."""
+        return plain.Question(self.text, self.sizes["--states"], self.sizes["--bound"], self.windows[:count])
+
+    def for_environment(self, count=None):
+        return rounds.EnvironmentQuestion(self.formula, self.space, self.sizes["--env-states"], self.sizes["--env-bound"],
+                                          self.windows[:count])
+
+    def check(self):
+        """A program is accepted with the bound; the rounds are a chain; and other texts are as they are defined, and true."""
+        sizes = self.sizes
+        if self.status == WRITTEN:
+            assert plain.verdict(self.text, self.written, sizes["--bound"]) == "accepted"
+            return
+        for made, (environment, window) in enumerate(self.rounds):
+            assert not has_assignment(self.for_controller(made))
+            assert environment.has_annotation(self.space, self.for_environment(made).automaton, sizes["--env-bound"])
+            assert window.length <= sizes["--depth"] and rounds.is_needed(window, self.space.cells)
+            assert rounds.is_spurious(self.space, environment, window)
+            assert rounds.find_window(self.space, environment, self.space.cells, window.length - 1) is None
+        assert len(self.rounds) <= sizes["--rounds"]
+        if self.status == NONE:
+            self.check_none()
+        elif self.status == SPENT:
+            side = self.reason.split()[1]
+            question = self.for_controller() if side == "controller" else self.for_environment()
+            learnt = learnt_in(self.written.splitlines())
+            named = ("--states", "--bound") if side == "controller" else ("--env-states", "--env-bound")
+            automaton = question.count, question.edges
+            shown = rounds.spent_text(self.space, side, [sizes[n] for n in named], self.rounds, automaton, learnt)
+            assert self.written == shown and len(learnt) == sizes["--budget"]
+
+    def check_none(self):
+        sizes, reason = self.sizes, self.reason
+        assert not has_assignment(self.for_controller())
+        if reason == "reason genuine":
+            reason = rounds.environment_in(self.space, self.left[1:])
+            assert reason.has_annotation(self.space, self.for_environment().automaton, sizes["--env-bound"])
+            assert rounds.find_window(self.space, reason, self.space.cells, sizes["--depth"]) is None
+        elif reason.startswith("reason nocounter"):
+            assert reason == f"reason nocounter {sizes['--env-states']} {sizes['--env-bound']}"
+            assert not has_assignment(self.for_environment())
+        else:
+            assert reason == f"reason rounds {sizes['--rounds']}" and len(self.rounds) == sizes["--rounds"]
+        assert self.written == rounds.none_text(self.space, sizes["--states"], sizes["--bound"], self.rounds, reason)
+
+    def name(self):
+        return "program" if self.status == WRITTEN else self.reason.split()[1]
+
+
+def check_refutation(answer):
+    """What `prove` writes where there is no controller: its formula and its clauses are those of the plain reading."""
+    question = answer.for_controller(0)
+    status, written = asked(words_of("prove", answer.sizes), answer.text)
+    formula, _ = written.split("lrat\n")
     comment = f"c {plain.formula_text(question.formula)}\n"
     assert status == WRITTEN and formula == comment + plain.cnf_text(question.variables, question.clauses())
     assert asked([str(PROGRAM), "recheck"], written) == (0, "verified\n")
-    return log.count("\n") - 1
 
 
-def least_budget(question, text):
+def least_budget(text, sizes):
     """The least budget that is not spent."""
     def is_spent(budget):
-        return asked(words_of("synth", question.states, question.bound, budget), text)[0] == SPENT
+        return asked(words_of("synth", sizes | {"--budget": budget}), text)[0] == SPENT
     low, high = 0, 1
     while is_spent(high):
         low, high = high, 2 * high
@@ -79,40 +139,46 @@ def least_budget(question, text):
     return high
 
 
-def learnt_count(question, text, status):
-    if status == SPENT:
-        return BUDGET
-    return steps_of_log(question, text) if status == NONE else least_budget(question, text) - 1
-
-
 def seconds_of(run):
     return f"{run[0]:9.4f}" if run else f"{'-':>9}"
 
 
 def parts_of(text, words):
-    """The shares of a run's instructions: reading, the automaton, the encoding with what is read off an assignment, the solver, and
-    the program or another text. None where valgrind is not installed."""
+    """The shares of a run's instructions: reading, the automata, the encodings with what is read off an assignment, the solver, the
+    search for windows, and the program or another text. None where valgrind is not installed."""
     counted = spent_in(text.encode(), words, STEPS)
     if counted is None:
         return None
-    whole, (read, ask, automaton, solver) = counted
-    return [100 * part / whole for part in (read, automaton, ask - automaton - solver, solver, whole - read - ask)]
+    whole, (read, automaton, controller, environment, solver, windows) = counted
+    asking = controller + environment
+    rest = whole - read - automaton - asking - windows
+    return [100 * part / whole for part in (read, automaton, asking - solver, solver, windows, rest)]
 
 
-def row(folder, name, text, states, bound, seconds, ratios):
-    """One question: its sizes, what was answered, the times of the parts, and those of the other programs."""
-    question = plain.Question(text, states, bound)
+def run_within(folder, text, sizes, seconds):
+    return measured(folder, text.encode(), words_of("synth", sizes), seconds)
+
+
+def row(folder, name, text, sizes, seconds, ratios):
+    """One question: what was answered, the sizes of the last question for a controller, the times of the parts, and those of the other
+    programs on its clauses. Then a line for each round that was made. A limit that is passed has one line."""
+    status, written = asked(words_of("synth", sizes), text)
+    answer = Answer(text, sizes, status, written)
+    answer.check()
+    if status != WRITTEN:
+        check_refutation(answer)
+    if status == LARGE:
+        print(f"{name:>22} {sizes['--states']:2} {sizes['--bound']:2} {answer.reason}, rounds {len(answer.rounds)}", flush=True)
+        return
+    question = answer.for_controller()
     clauses = question.clauses()
-    status, written = asked(words_of("synth", states, bound), text)
-    check(question, text, status, written)
-    learnt = learnt_count(question, text, status)
-    whole, before, least = (measured(folder, text.encode(), words, seconds) for words in (
-        words_of("synth", states, bound), words_of("synth", states, bound, 1), words_of("synth", 1, 0, 1)))
-    answer = {WRITTEN: "program", NONE: "none", SPENT: "spent"}[status]
-    sizes = f"{question.count:4} {len(question.edges):6} {question.variables:7} {len(clauses):8}"
-    line = f"{name:>22} {states:2} {bound:2} {answer:>8} {sizes} {learnt:7} {seconds_of(least)} {seconds_of(before)} {seconds_of(whole)}"
-    line += f" {whole[1] if whole else '-':>8}"
-    parts = parts_of(text, words_of("synth", states, bound))
+    learnt = sizes["--budget"] if status == SPENT else least_budget(text, sizes) - 1
+    whole, before, least = (run_within(folder, text, sizes | changed, seconds) for changed in (
+        {}, {"--budget": 1}, {"--states": 1, "--bound": 0, "--rounds": 0, "--budget": 1}))
+    counts = f"{question.count:4} {len(question.edges):6} {question.variables:7} {len(clauses):8}"
+    line = f"{name:>22} {sizes['--states']:2} {sizes['--bound']:2} {answer.name():>9} {len(answer.windows):6} {counts} {learnt:7}"
+    line += f" {seconds_of(least)} {seconds_of(before)} {seconds_of(whole)} {whole[1] if whole else '-':>8}"
+    parts = parts_of(text, words_of("synth", sizes))
     line += "".join(f" {f'{part:.0f}%':>9}" for part in parts) if parts else f" {'-':>9}" * len(PARTS)
     cnf = plain.cnf_text(question.variables, clauses).encode()
     for tool, words in programs().items():
@@ -124,11 +190,27 @@ def row(folder, name, text, states, bound, seconds, ratios):
         if run and tool == "minisat -no-pre":
             count = conflicts(tool, words, cnf, run[2], seconds)
             line += f" {count:9}"
-            if count:
+            if count and not answer.windows:
                 ratios["learnt clauses to conflicts"].append(learnt / count)
         if run and whole and tool == "minisat" and run[0] > CLEAR:
             ratios["time of the whole"].append(whole[0] / run[0])
     print(line, flush=True)
+    print_rounds(folder, answer, seconds)
+
+
+def print_rounds(folder, answer, seconds):
+    """For each round: the seconds of it, as a search with so many rounds takes longer than one with a round less; the window's length;
+    and the sizes of the question for an environment that it asked, and of that for a controller after it."""
+    before = run_within(folder, answer.text, answer.sizes | {"--rounds": 0}, seconds)
+    for made, window in enumerate(answer.windows):
+        after = run_within(folder, answer.text, answer.sizes | {"--rounds": made + 1}, seconds)
+        spent = f"{max(after[0] - before[0], 0):9.4f}" if before and after else f"{'-':>9}"
+        sides = []
+        for question in (answer.for_environment(made), answer.for_controller(made + 1)):
+            sides.append(f"{question.count:4} {len(question.edges):6} {question.variables:7} {len(question.clauses()):8}")
+        line = f"{f'round {made}':>22} window of {window.length}, seconds {spent}, environment {sides[0]}, controller {sides[1]}"
+        print(line, flush=True)
+        before = after
 
 
 def main():
@@ -137,12 +219,12 @@ def main():
     ratios = {"learnt clauses to conflicts": [], "time of the whole": []}
     others = [tool for tool in programs() if tool != "solve"]
     heads = "".join(f" {tool[:9]:>9}" + (f" {'conflicts':>9}" if tool == "minisat -no-pre" else "") for tool in others)
-    print(f"{'question':>22} {'n':>2} {'k':>2} {'answer':>8} {'Q':>4} {'edges':>6} {'vars':>7} {'clauses':>8} {'learnt':>7}"
+    print(f"{'question':>22} {'n':>2} {'k':>2} {'answer':>9} {'rounds':>6} {'Q':>4} {'edges':>6} {'vars':>7} {'clauses':>8} {'learnt':>7}"
           f" {'small':>9} {'before':>9} {'whole':>9} {'KiB':>8}" + "".join(f" {part:>9}" for part in PARTS) + heads)
     with built() as folder:
-        for name, text, states, bound in questions():
+        for name, text, sizes in questions():
             if not wanted or any(part in name for part in wanted):
-                row(folder, name, text, states, bound, seconds, ratios)
+                row(folder, name, text, sizes, seconds, ratios)
     for title, members in ratios.items():
         if members:
             print(f"{title} of minisat: median {statistics.median(members):.2f}, most {max(members):.2f} of {len(members)}")
