@@ -39,7 +39,7 @@ pub fn one_verdict()
 {}
 
 /// Where a limit is passed, a program has no verdict within the limits of bits. So `accept` gives the
-/// verdict that a program has within these, unless the program has windows or memory runs out.
+/// verdict that a program has within these, unless memory runs out.
 pub fn limits_leave_no_verdict()
     ensures { (spec : SpecTree) (program : ProgramTree) (bound : ℕ) (limit : Limit) (v : Verdict) →
         HasFewBits spec → IsPassed spec program limit → IsVerdict spec program bound v → ⊥ }
