@@ -96,7 +96,7 @@ module _ (spec : SpecTree) (fits : FormulasFit spec) where
   inputs_named : list_all (λ s. is_name names s Signal 0) (inputs_of spec) ≡ true
   inputs_named = filtered_named (is_input spec) (λ s input. (and_parts (is_name names s Signal 0) _ input).0) (name_numbers spec)
 
-  controlled_named : list_all (λ s. is_name names s Signal 0) (cells_of spec ++ outputs_of spec) ≡ true
+  pub controlled_named : list_all (λ s. is_name names s Signal 0) (cells_of spec ++ outputs_of spec) ≡ true
   controlled_named =
       list_all_joined (λ s. is_name names s Signal 0) (cells_of spec) (outputs_of spec)
       (filtered_named (is_cell spec) cell_named (name_numbers spec))
