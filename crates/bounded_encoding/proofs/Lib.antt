@@ -18,6 +18,7 @@ pub mod Readings
 pub mod Signals
 pub mod Unpaired
 pub mod Adding
+pub mod Begun
 pub mod Sizes
 pub mod Placed
 pub mod LeftOut

@@ -6,6 +6,8 @@ pub mod Encoding
 pub mod Decoding
 pub mod Answers
 pub mod Made
+pub mod Begun
+pub mod Grids
 pub mod Refusing
 pub mod Reading
 pub mod internal

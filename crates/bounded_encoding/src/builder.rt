@@ -1,6 +1,6 @@
 //! Clauses made so far.
 
-ghost use Rattle.std.specs.Prelude.{◌≡◌, ◌≤◌, ◌∷◌, [], length, OnOk};
+ghost use Rattle.std.specs.Prelude.{◌≡◌, ◌≤◌, ◌∷◌, [], length, OnOk, OnErr};
 ghost use Rattle.bounded_encoding.specs.Made.{with_clauses};
 ghost use Rattle.bounded_encoding.specs.Refusing.{Refuses};
 
@@ -48,10 +48,12 @@ impl Builder {
         Sequence::from_vec(list)
     }
 
-    /// Adds the clause of these literals, but for one with a literal and its negation.
+    /// Adds the clause of these literals, but for one with a literal and its negation. Nothing is added at an
+    /// `Err`.
     pub fn add(&mut self, alloc: Global, literals: &[Literal]) -> Result<(), EncodeError>
         ensures added { OnOk result (self.new ≡ with_clauses self.old (literals.now ∷ [])) }
         ensures refused { Refuses result (with_clauses self.old (literals.now ∷ [])) }
+        ensures unchanged { OnErr result (self.new ≡ self.old) }
     {
         let clause = clause_of(alloc, literals)?;
         if is_tautology(&clause) {

@@ -4,16 +4,18 @@ ghost use Rattle.std.specs.Prelude.{◌≡◌, ◌<◌, OnOk, All};
 ghost use Rattle.std.specs.List.{flat_map};
 ghost use Rattle.letter_space.specs.ControlledView.{controlled_tree};
 ghost use Rattle.bounded_encoding.specs.Encoding.{signal_clauses, choices_under, choices_in, choice_clauses};
-ghost use Rattle.bounded_encoding.specs.Encoding.{nexts_under, nexts_in, next_clauses, start_clauses};
-ghost use Rattle.bounded_encoding.specs.Encoding.{numbers_at, numbers_in, number_clauses};
+ghost use Rattle.bounded_encoding.specs.Encoding.{next_clauses, start_clauses, number_clauses};
+ghost use Rattle.bounded_encoding.specs.Grids.{IsGrid};
 ghost use Rattle.bounded_encoding.specs.Made.{with_clauses};
 ghost use Rattle.bounded_encoding.specs.Refusing.{Refuses};
 ghost use Rattle.bounded_encoding.specs.internal.Asking.{tree_of, controlled_trees, IsPlaced, IsCounted};
+ghost use Rattle.bounded_encoding.specs.internal.QuestionGrids.{next_grid_of, number_grid_of};
 
-use crate::asking::{Question, choice_base, next_base, number_base};
+use crate::asking::{Question, choice_base, number_base};
 use crate::builder::Builder;
 use crate::errors::EncodeError;
-use crate::simple_clauses::{add_exactly_one, add_falling, add_true};
+use crate::grid::{Grid, add_falling_in_each, add_one_in_each};
+use crate::simple_clauses::{add_exactly_one, add_true};
 use letter_space::Controlled;
 use std::alloc::Global;
 
@@ -123,45 +125,21 @@ pub(crate) fn add_choices(
     Ok(())
 }
 
-/// Adds that a state has one next state under a valuation.
-fn add_nexts_under(
-    alloc: Global,
-    out: &mut Builder,
-    question: &Question,
-    s: u32,
-    v: u32,
-) -> Result<(), EncodeError>
+/// The variables of next states, by state and valuation.
+fn next_grid(question: &Question) -> Grid
     requires asked { IsCounted question.now }
-    requires state { s < question.now.states }
-    requires valuation { v < question.now.valuations }
-    ensures added { OnOk result (out.new ≡ with_clauses out.old (nexts_under (tree_of question.now) s v)) }
-    ensures refused { Refuses result (with_clauses out.old (nexts_under (tree_of question.now) s v)) }
+    ensures grid { IsGrid result }
+    ensures is { result ≡ next_grid_of (tree_of question.now) }
 {
-    let base = next_base(question, s, v);
-    add_exactly_one(alloc, out, base, 0, question.states)
-}
-
-/// Adds that a state has one next state under each valuation.
-#[tactic(auto, using(crate::proofs::Adding::adding))]
-fn add_nexts_in(
-    alloc: Global,
-    out: &mut Builder,
-    question: &Question,
-    s: u32,
-) -> Result<(), EncodeError>
-    requires asked { IsCounted question.now }
-    requires state { s < question.now.states }
-    ensures added { OnOk result (out.new ≡ with_clauses out.old (nexts_in (tree_of question.now) s)) }
-    ensures refused { Refuses result (with_clauses out.old (nexts_in (tree_of question.now) s)) }
-{
-    for v in 0..question.valuations {
-        add_nexts_under(alloc, out, question, s, v)?;
+    Grid {
+        base: question.states * question.valuations * question.choices,
+        rows: question.states,
+        columns: question.valuations,
+        width: question.states,
     }
-    Ok(())
 }
 
 /// Adds that each state has one next state under each valuation.
-#[tactic(auto, using(crate::proofs::Adding::adding))]
 pub(crate) fn add_nexts(
     alloc: Global,
     out: &mut Builder,
@@ -171,10 +149,7 @@ pub(crate) fn add_nexts(
     ensures added { OnOk result (out.new ≡ with_clauses out.old (next_clauses (tree_of question.now))) }
     ensures refused { Refuses result (with_clauses out.old (next_clauses (tree_of question.now))) }
 {
-    for s in 0..question.states {
-        add_nexts_in(alloc, out, question, s)?;
-    }
-    Ok(())
+    add_one_in_each(alloc, out, next_grid(question))
 }
 
 /// Adds that the pair of both starts is numbered.
@@ -191,45 +166,22 @@ pub(crate) fn add_start(
     add_true(alloc, out, base)
 }
 
-/// Adds that the numbers of a pair fall.
-fn add_numbers_of(
-    alloc: Global,
-    out: &mut Builder,
-    question: &Question,
-    s: u32,
-    p: u32,
-) -> Result<(), EncodeError>
+/// The variables of numbers, by state and state of the automaton.
+fn number_grid(question: &Question) -> Grid
     requires asked { IsCounted question.now }
-    requires state { s < question.now.states }
-    requires automaton_state { p < question.now.automaton.now.states }
-    ensures added { OnOk result (out.new ≡ with_clauses out.old (numbers_at (tree_of question.now) s p)) }
-    ensures refused { Refuses result (with_clauses out.old (numbers_at (tree_of question.now) s p)) }
+    ensures grid { IsGrid result }
+    ensures is { result ≡ number_grid_of (tree_of question.now) }
 {
-    let base = number_base(question, s, p);
-    add_falling(alloc, out, base, question.bound)
-}
-
-/// Adds that the numbers of each pair of a state fall.
-#[tactic(auto, using(crate::proofs::Adding::adding))]
-fn add_numbers_in(
-    alloc: Global,
-    out: &mut Builder,
-    question: &Question,
-    s: u32,
-) -> Result<(), EncodeError>
-    requires asked { IsCounted question.now }
-    requires state { s < question.now.states }
-    ensures added { OnOk result (out.new ≡ with_clauses out.old (numbers_in (tree_of question.now) s)) }
-    ensures refused { Refuses result (with_clauses out.old (numbers_in (tree_of question.now) s)) }
-{
-    for p in 0..question.automaton.states {
-        add_numbers_of(alloc, out, question, s, p)?;
+    Grid {
+        base: question.states * question.valuations * question.choices
+            + question.states * question.valuations * question.states,
+        rows: question.states,
+        columns: question.automaton.states,
+        width: question.bound + 1,
     }
-    Ok(())
 }
 
 /// Adds that the numbers of each pair fall.
-#[tactic(auto, using(crate::proofs::Adding::adding))]
 pub(crate) fn add_numbers(
     alloc: Global,
     out: &mut Builder,
@@ -239,8 +191,5 @@ pub(crate) fn add_numbers(
     ensures added { OnOk result (out.new ≡ with_clauses out.old (number_clauses (tree_of question.now))) }
     ensures refused { Refuses result (with_clauses out.old (number_clauses (tree_of question.now))) }
 {
-    for s in 0..question.states {
-        add_numbers_in(alloc, out, question, s)?;
-    }
-    Ok(())
+    add_falling_in_each(alloc, out, number_grid(question), question.bound)
 }

@@ -75,8 +75,8 @@ pub(crate) fn encode_within(
     })
 }
 
-/// How many clauses say that numbers fall.
-fn falling_count(states: u32, automaton_states: u32, bound: u32) -> u64
+/// How many clauses say that the numbers of pairs fall.
+pub fn falling_count(states: u32, automaton_states: u32, bound: u32) -> u64
     requires few_states { states ≤ 8 }
     requires few_automaton_states { automaton_states ≤ MOST_AUTOMATON_STATES }
     ensures { result ≡ states * automaton_states * bound }

@@ -1,9 +1,10 @@
 //! Clauses over the variables of a range of indices.
 
-ghost use Rattle.std.specs.Prelude.{◌≡◌, ◌<◌, ◌+◌, ◌^◌, ◌∷◌, [], OnOk};
+ghost use Rattle.std.specs.Prelude.{◌≡◌, ◌<◌, ◌+◌, ◌^◌, ◌∷◌, [], OnOk, OnErr};
 ghost use Rattle.bounded_encoding.specs.Variables.{yes_at, no_at};
 ghost use Rattle.bounded_encoding.specs.Encoding.{some_one, no_two_with, no_two, exactly_one, falling};
 ghost use Rattle.bounded_encoding.specs.Made.{with_clauses};
+ghost use Rattle.bounded_encoding.specs.Begun.{IsBegun};
 ghost use Rattle.bounded_encoding.specs.Refusing.{Refuses};
 
 use crate::builder::Builder;
@@ -30,6 +31,7 @@ fn add_some(
     requires { base + to < 2 ^ 31 }
     ensures added { OnOk result (out.new ≡ with_clauses out.old (some_one (λ x. base + x) from to)) }
     ensures refused { Refuses result (with_clauses out.old (some_one (λ x. base + x) from to)) }
+    ensures unchanged { OnErr result (out.new ≡ out.old) }
 {
     let mut literals = Vec::new(alloc);
     for x in from..to {
@@ -44,12 +46,12 @@ fn add_not_both(alloc: Global, out: &mut Builder, a: u32, b: u32) -> Result<(), 
     requires second { b + 1 < 2 ^ 31 }
     ensures added { OnOk result (out.new ≡ with_clauses out.old ((no_at a ∷ no_at b ∷ []) ∷ [])) }
     ensures refused { Refuses result (with_clauses out.old ((no_at a ∷ no_at b ∷ []) ∷ [])) }
+    ensures unchanged { OnErr result (out.new ≡ out.old) }
 {
     out.add(alloc, &[literal(a, false), literal(b, false)])
 }
 
 /// Adds for each later variable that it and this one are not both true.
-#[tactic(auto, using(crate::proofs::Adding::adding))]
 fn add_not_with(
     alloc: Global,
     out: &mut Builder,
@@ -61,6 +63,7 @@ fn add_not_with(
     requires inside { x < to }
     ensures added { OnOk result (out.new ≡ with_clauses out.old (no_two_with (λ x. base + x) x to)) }
     ensures refused { Refuses result (with_clauses out.old (no_two_with (λ x. base + x) x to)) }
+    ensures begun { OnErr result (IsBegun out.old (no_two_with (λ x. base + x) x to) out.new) }
 {
     for y in x + 1..to {
         add_not_both(alloc, out, base + x, base + y)?;
@@ -69,7 +72,6 @@ fn add_not_with(
 }
 
 /// Adds that no two of the variables are true.
-#[tactic(auto, using(crate::proofs::Adding::adding))]
 fn add_no_two(
     alloc: Global,
     out: &mut Builder,
@@ -80,6 +82,7 @@ fn add_no_two(
     requires { base + to < 2 ^ 31 }
     ensures added { OnOk result (out.new ≡ with_clauses out.old (no_two (λ x. base + x) from to)) }
     ensures refused { Refuses result (with_clauses out.old (no_two (λ x. base + x) from to)) }
+    ensures begun { OnErr result (IsBegun out.old (no_two (λ x. base + x) from to) out.new) }
 {
     for x in from..to {
         add_not_with(alloc, out, base, x, to)?;
@@ -99,6 +102,7 @@ pub fn add_exactly_one(
     requires { base + to < 2 ^ 31 }
     ensures added { OnOk result (out.new ≡ with_clauses out.old (exactly_one (λ x. base + x) from to)) }
     ensures refused { Refuses result (with_clauses out.old (exactly_one (λ x. base + x) from to)) }
+    ensures begun { OnErr result (IsBegun out.old (exactly_one (λ x. base + x) from to) out.new) }
 {
     add_some(alloc, out, base, from, to)?;
     add_no_two(alloc, out, base, from, to)
@@ -110,12 +114,12 @@ fn add_implies(alloc: Global, out: &mut Builder, a: u32, b: u32) -> Result<(), E
     requires second { b + 1 < 2 ^ 31 }
     ensures added { OnOk result (out.new ≡ with_clauses out.old ((no_at a ∷ yes_at b ∷ []) ∷ [])) }
     ensures refused { Refuses result (with_clauses out.old ((no_at a ∷ yes_at b ∷ []) ∷ [])) }
+    ensures unchanged { OnErr result (out.new ≡ out.old) }
 {
     out.add(alloc, &[literal(a, false), literal(b, true)])
 }
 
 /// Adds that the number of a pair is at least each number below one that it is at least.
-#[tactic(auto, using(crate::proofs::Adding::adding))]
 pub fn add_falling(
     alloc: Global,
     out: &mut Builder,
@@ -125,6 +129,7 @@ pub fn add_falling(
     requires { base + bound + 1 < 2 ^ 31 }
     ensures added { OnOk result (out.new ≡ with_clauses out.old (falling (λ i. base + i) bound)) }
     ensures refused { Refuses result (with_clauses out.old (falling (λ i. base + i) bound)) }
+    ensures begun { OnErr result (IsBegun out.old (falling (λ i. base + i) bound) out.new) }
 {
     for i in 1..bound + 1 {
         add_implies(alloc, out, base + i, base + (i - 1))?;
@@ -137,6 +142,7 @@ pub fn add_true(alloc: Global, out: &mut Builder, a: u32) -> Result<(), EncodeEr
     requires { a + 1 < 2 ^ 31 }
     ensures added { OnOk result (out.new ≡ with_clauses out.old ((yes_at a ∷ []) ∷ [])) }
     ensures refused { Refuses result (with_clauses out.old ((yes_at a ∷ []) ∷ [])) }
+    ensures unchanged { OnErr result (out.new ≡ out.old) }
 {
     out.add(alloc, &[literal(a, true)])
 }

@@ -70,7 +70,7 @@ fn add_each_number(
 
 /// Whether a transition to a state leads from a pair to itself by an edge that is not rejecting. Its clauses have
 /// literals with their negations.
-fn stays(state: u32, edge: Edge, t: u32) -> bool
+pub fn leads_to_itself(state: u32, edge: Edge, t: u32) -> bool
     ensures { result ≡ true → (state ≡ t) × (edge.from ≡ edge.to) × (edge.rejecting ≡ false) }
 {
     state == t && edge.from == edge.to && !edge.rejecting
@@ -95,7 +95,7 @@ fn add_transitions_to(
     ensures refused { Refuses result (with_clauses out.old
         (transitions_to (tree_of question.now) transition.state (edge_tree transition.edge) transition.valuation t)) }
 {
-    if stays(transition.state, transition.edge, t) {
+    if leads_to_itself(transition.state, transition.edge, t) {
         return Ok(());
     }
     add_each_number(alloc, out, question, transition, asked, t)
@@ -187,7 +187,7 @@ fn add_transitions_along(
     ensures added { OnOk result (out.new ≡ with_clauses out.old (transitions_along (tree_of question.now) s (edge_tree edge))) }
     ensures refused { Refuses result (with_clauses out.old (transitions_along (tree_of question.now) s (edge_tree edge))) }
 {
-    if question.states == 1 && stays(s, edge, 0) {
+    if question.states == 1 && leads_to_itself(s, edge, 0) {
         return Ok(());
     }
     let met = met_valuations(alloc, question, edge)?;

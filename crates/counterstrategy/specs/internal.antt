@@ -1,2 +1,3 @@
 pub mod DualAsking
 pub mod DualReading
+pub mod DualGrids

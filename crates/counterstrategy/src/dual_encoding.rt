@@ -20,7 +20,7 @@ use crate::dual_error::DualError;
 use crate::environment_clauses::{add_first_pair, add_pair_numbers, add_successors};
 use crate::step_clauses::add_steps;
 use crate::vector_letters::letters_of_vectors;
-use bounded_encoding::{Builder, EncodeError};
+use bounded_encoding::{Builder, EncodeError, falling_count};
 use clause_core::Cnf;
 use cobuchi_automata::Automaton;
 use letter_space::Space;
@@ -75,7 +75,7 @@ fn encode_with(
     ensures refused { IfErr result (λ e. e ≡ Clauses →
         MOST_CLAUSES < length (dual_encoding (question_of automaton.now space.now states bound))) }
 {
-    if falling_pairs(states, automaton.states, bound) > MOST_CLAUSES {
+    if falling_count(states, automaton.states, bound) > MOST_CLAUSES {
         return Err(EncodeError::Clauses);
     }
     let letters = letters_of_vectors(alloc, space, vectors)?;
@@ -94,15 +94,6 @@ fn encode_with(
         variables,
         clauses: out.into_list(),
     })
-}
-
-/// How many clauses say that numbers of pairs fall.
-fn falling_pairs(states: u32, automaton_states: u32, bound: u32) -> u64
-    requires few_states { states ≤ 8 }
-    requires few_automaton_states { automaton_states ≤ MOST_AUTOMATON_STATES }
-    ensures { result ≡ states * automaton_states * bound }
-{
-    u64::from(states) * u64::from(automaton_states) * u64::from(bound)
 }
 
 /// How many variables there are.

@@ -11,7 +11,7 @@ ghost use Rattle.counterstrategy.specs.internal.DualAsking.{dual_tree, IsDualCou
 
 use crate::dual_asking::DualQuestion;
 use crate::step_literals::{Step, asked_of_tests, met_vectors, step_literals};
-use bounded_encoding::{Builder, EncodeError};
+use bounded_encoding::{Builder, EncodeError, leads_to_itself};
 use clause_core::Literal;
 use cobuchi_automata::Edge;
 use std::alloc::Global;
@@ -65,14 +65,6 @@ fn add_each_number(
         add_step(alloc, out, question, step, asked, t, i)?;
     }
     Ok(())
-}
-
-/// Whether a step to a state leads from a pair to itself by an edge that is not rejecting. Its clauses have
-/// literals with their negations.
-fn leads_to_itself(state: u32, edge: Edge, t: u32) -> bool
-    ensures { result ≡ true → (state ≡ t) × (edge.from ≡ edge.to) × (edge.rejecting ≡ false) }
-{
-    state == t && edge.from == edge.to && !edge.rejecting
 }
 
 /// Adds the clauses of a step to a state.

@@ -1,13 +1,17 @@
-use Rattle.bounded_encoding.specs.Encoding.{nexts_in}
-use Rattle.bounded_encoding.specs.internal.Asking.{tree_of}
-use Rattle.bounded_encoding.proofs.Adding.{step, stop, passed_on}
+use Rattle.std.specs.Prelude.{OnOk}
+use Rattle.std.proofs.Common.{◌≡◌, subst}
+use Rattle.bounded_encoding.specs.declared.grid.Grid.{Grid}
+use Rattle.bounded_encoding.specs.Grids.{one_in_each}
+use Rattle.bounded_encoding.specs.Made.{with_clauses}
+use Rattle.bounded_encoding.specs.Refusing.{Refuses}
 use Rattle.bounded_encoding.proofs.controller_clauses.add_nexts.Goals as goal
 
-pub returns-in_err-add_nexts_in-clause-refused : goal.returns-in_err-add_nexts_in-clause-refused
-returns-in_err-add_nexts_in-clause-refused c = passed_on _ _ _ c.from_residual.ensures.1
-    (λ is. stop _ _ _ _ (nexts_in (tree_of c.args.question.now)) c.loop-s-test.true c.loop-s.invariant
-    (c.in_err-add_nexts_in.ensures.refused is))
+pub returns-clause-added : goal.returns-clause-added
+returns-clause-added c =
+    subst (λ (g : Grid). OnOk c.add_one_in_each.result (c.add_one_in_each.new.out ≡ with_clauses c.args.out.now (one_in_each g)))
+    c.next_grid.ensures.is c.add_one_in_each.ensures.added
 
-pub loop-s-preserved : goal.loop-s-preserved
-loop-s-preserved c = step _ _ _ _ _
-    (nexts_in (tree_of c.args.question.now)) c.loop-s-test.true c.loop-s.invariant c.in_ok-add_nexts_in.ensures.added
+pub returns-clause-refused : goal.returns-clause-refused
+returns-clause-refused c =
+    subst (λ (g : Grid). Refuses c.add_one_in_each.result (with_clauses c.args.out.now (one_in_each g))) c.next_grid.ensures.is
+    c.add_one_in_each.ensures.refused

@@ -1,10 +1,12 @@
-use Rattle.std.proofs.Common.{◌≡◌, ◌+◌, ◌-◌, [], ◌∷◌}
+use Rattle.std.proofs.Common.{◌+◌, ◌-◌, [], ◌∷◌}
 use Rattle.bounded_encoding.specs.ClauseLists.{each}
 use Rattle.bounded_encoding.specs.Variables.{yes_at, no_at}
 use Rattle.bounded_encoding.specs.Encoding.{falling}
-use Rattle.bounded_encoding.specs.Made.{with_clauses}
+use Rattle.bounded_encoding.proofs.Begun.{LeadsOn}
 use Rattle.bounded_encoding.proofs.simple_clauses.add_falling.Given as goal
 
 abbrev pub invariant-loop-i : goal.invariant-loop-i
-invariant-loop-i l = with_clauses l.out (each l.i (l.bound + 1) (λ i. (no_at (l.base + i) ∷ yes_at (l.base + (i - 1)) ∷ []) ∷ []))
-    ≡ with_clauses l.fn.out (falling (λ i. l.base + i) l.bound)
+invariant-loop-i l =
+    LeadsOn l.out (each l.i (l.bound + 1)
+    (λ i. (no_at (l.base + i) ∷ yes_at (l.base + (i - 1)) ∷ []) ∷ [])) l.fn.out
+    (falling (λ i. l.base + i) l.bound)

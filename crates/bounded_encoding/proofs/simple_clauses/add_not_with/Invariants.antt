@@ -1,10 +1,12 @@
-use Rattle.std.proofs.Common.{◌≡◌, ◌+◌, [], ◌∷◌}
+use Rattle.std.proofs.Common.{◌+◌, [], ◌∷◌}
 use Rattle.bounded_encoding.specs.ClauseLists.{each}
 use Rattle.bounded_encoding.specs.Variables.{no_at}
 use Rattle.bounded_encoding.specs.Encoding.{no_two_with}
-use Rattle.bounded_encoding.specs.Made.{with_clauses}
+use Rattle.bounded_encoding.proofs.Begun.{LeadsOn}
 use Rattle.bounded_encoding.proofs.simple_clauses.add_not_with.Given as goal
 
 abbrev pub invariant-loop-y : goal.invariant-loop-y
-invariant-loop-y l = with_clauses l.out (each l.y l.to (λ y. (no_at (l.base + l.x) ∷ no_at (l.base + y) ∷ []) ∷ []))
-    ≡ with_clauses l.fn.out (no_two_with (λ z. l.base + z) l.x l.to)
+invariant-loop-y l =
+    LeadsOn l.out (each l.y l.to
+    (λ y. (no_at (l.base + l.x) ∷ no_at (l.base + y) ∷ []) ∷ [])) l.fn.out
+    (no_two_with (λ z. l.base + z) l.x l.to)

@@ -6,9 +6,9 @@ use Rattle.bounded_encoding.proofs.Gathering.{all_met_below}
 use Rattle.bounded_encoding.proofs.LeftOut.{with_nothing, nothing_in_one_state}
 use Rattle.bounded_encoding.proofs.transition_clauses.add_transitions_along.Goals as goal
 
-pub returns-then-stays-clause-added : goal.returns-then-stays-clause-added
-returns-then-stays-clause-added c =
-    let is = c.stays.ensures c.if-stays.true in
+pub returns-then-leads_to_itself-clause-added : goal.returns-then-leads_to_itself-clause-added
+returns-then-leads_to_itself-clause-added c =
+    let is = c.leads_to_itself.ensures c.if-leads_to_itself.true in
     sym (with_nothing c.args.out.now (transitions_along (tree_of c.args.question.now) c.args.s (edge_tree c.args.edge))
     (nothing_in_one_state (tree_of c.args.question.now) (edge_tree c.args.edge) c.args.s c.if-question-eq1.true is.0 is.1 is.2))
 

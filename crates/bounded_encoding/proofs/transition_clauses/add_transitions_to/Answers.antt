@@ -5,9 +5,9 @@ use Rattle.bounded_encoding.specs.internal.Asking.{tree_of}
 use Rattle.bounded_encoding.proofs.LeftOut.{with_nothing, nothing_stays}
 use Rattle.bounded_encoding.proofs.transition_clauses.add_transitions_to.Goals as goal
 
-pub returns-then-stays-clause-added : goal.returns-then-stays-clause-added
-returns-then-stays-clause-added c =
-    let is = c.stays.ensures c.if-stays.true in
+pub returns-then-leads_to_itself-clause-added : goal.returns-then-leads_to_itself-clause-added
+returns-then-leads_to_itself-clause-added c =
+    let is = c.leads_to_itself.ensures c.if-leads_to_itself.true in
     sym (with_nothing c.args.out.now
     (transitions_to (tree_of c.args.question.now) c.args.transition.state
     (edge_tree c.args.transition.edge) c.args.transition.valuation c.args.t)

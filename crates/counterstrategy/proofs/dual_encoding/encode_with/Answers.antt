@@ -9,13 +9,13 @@ use Rattle.counterstrategy.specs.internal.DualAsking.{dual_tree}
 use Rattle.counterstrategy.proofs.DualOver.{dual_encoding_over, pair_numbers_within}
 use Rattle.counterstrategy.proofs.dual_encoding.encode_with.Goals as goal
 
-pub returns-then-falling_pairs-gt-MOST_CLAUSES-clause-refused : goal.returns-then-falling_pairs-gt-MOST_CLAUSES-clause-refused
-returns-then-falling_pairs-gt-MOST_CLAUSES-clause-refused c =
+pub returns-then-falling_count-gt-MOST_CLAUSES-clause-refused : goal.returns-then-falling_count-gt-MOST_CLAUSES-clause-refused
+returns-then-falling_count-gt-MOST_CLAUSES-clause-refused c =
     λ is. omega (
       arith,
       pair_numbers_within (question_of c.args.automaton.now c.args.space.now c.args.states c.args.bound),
-      c.falling_pairs.ensures,
-      c.if-falling_pairs-gt-MOST_CLAUSES.true,
+      c.falling_count.ensures,
+      c.if-falling_count-gt-MOST_CLAUSES.true,
     )
 
 pub invariant_of-result : goal.invariant_of-result
