@@ -49,70 +49,50 @@ const USUAL: Sizes = Sizes {
     budget: 20_000,
 };
 
-/// A specification, sizes, and what is answered.
-const ANSWERS: &[(&[u8], Sizes, &str)] = &[
-    (
-        COPY,
-        Sizes {
-            states: 1,
-            bound: 0,
-            ..USUAL
-        },
-        "0 written, Ok(Yes)",
-    ),
-    (
-        CHOOSING,
-        Sizes {
-            states: 1,
-            bound: 0,
-            ..USUAL
-        },
-        "0 written, Ok(Yes)",
-    ),
-    (
-        b"",
-        Sizes {
-            states: 1,
-            bound: 0,
-            ..USUAL
-        },
-        "0 written, Ok(Yes)",
-    ),
-    (TWO_IN_TURN, USUAL, "0 written, Ok(Yes)"),
-    (EXAMPLE, USUAL, "1 written, Ok(Yes)"),
+/// A specification; the states and the bound of controllers, those of environments, the depth and the rounds; the
+/// budget; and what is answered, with the rounds that were made.
+const ANSWERS: &[(&[u8], [u32; 6], u64, &str)] = &[
+    (COPY, [1, 0, 2, 2, 2, 8], 1_000, "0 written, Ok(Yes)"),
+    (CHOOSING, [1, 0, 2, 2, 2, 8], 1_000, "0 written, Ok(Yes)"),
+    (b"", [1, 0, 2, 2, 2, 8], 1_000, "0 written, Ok(Yes)"),
+    // more states than one are needed, and a bound that is large enough
+    (TWO_IN_TURN, [1, 2, 2, 2, 2, 8], 20_000, "0 none NoCounter"),
+    (TWO_IN_TURN, [2, 0, 2, 2, 2, 8], 20_000, "0 none NoCounter"),
     (
         TWO_IN_TURN,
-        Sizes { states: 1, ..USUAL },
-        "0 none NoCounter",
+        [2, 1, 2, 2, 2, 8],
+        20_000,
+        "0 written, Ok(Yes)",
     ),
+    // a window, where a round may be made
+    (EXAMPLE, [2, 2, 2, 2, 2, 8], 20_000, "1 written, Ok(Yes)"),
+    (EXAMPLE, [2, 2, 2, 2, 2, 0], 20_000, "0 none Rounds"),
+    (NEXT, [1, 2, 1, 2, 2, 1], 20_000, "1 none Rounds"),
+    (NEVER, [1, 0, 1, 2, 2, 8], 20_000, "0 none Genuine"),
+    // budgets of both sides
+    (THREE_IN_TURN, [2, 2, 2, 2, 2, 8], 1, "0 spent Controller 1"),
+    (TWO_IN_TURN, [1, 1, 2, 2, 1, 1], 1, "0 spent Environment 1"),
     (
-        NEVER,
-        Sizes {
-            states: 1,
-            bound: 0,
-            env_states: 1,
-            ..USUAL
-        },
-        "0 none Genuine",
+        ELEVEN_TERMS,
+        [2, 2, 2, 2, 2, 8],
+        20_000,
+        "0 large Predicates",
     ),
-    (
-        NEXT,
-        Sizes {
-            states: 1,
-            env_states: 1,
-            rounds: 1,
-            ..USUAL
-        },
-        "none Rounds",
-    ),
-    (EXAMPLE, Sizes { rounds: 0, ..USUAL }, "0 none Rounds"),
-    (
-        THREE_IN_TURN,
-        Sizes { budget: 1, ..USUAL },
-        "0 spent Controller 1",
-    ),
-    (ELEVEN_TERMS, USUAL, "0 large Predicates"),
 ];
+
+/// How far a search goes.
+fn sizes_of(numbers: [u32; 6], budget: u64) -> Sizes {
+    let [states, bound, env_states, env_bound, depth, rounds] = numbers;
+    Sizes {
+        states,
+        bound,
+        env_states,
+        env_bound,
+        depth,
+        rounds,
+        budget,
+    }
+}
 
 /// A specification that a text spells.
 fn spec_of(rt: &impl Abort, alloc: Global, text: &[u8]) -> Result<Spec, Fail> {
@@ -185,14 +165,51 @@ fn answered(rt: &impl Abort, alloc: Global, text: &[u8], sizes: &Sizes) -> Resul
 
 #[test]
 fn what_is_answered_depends_on_the_sizes(rt: HostRuntime) -> Result<(), Fail> {
-    for (spec, sizes, expected) in ANSWERS {
-        assert_eq!(rt; answered(&rt, rt.alloc(), spec, sizes)?.as_str(), *expected);
+    for &(spec, numbers, budget, expected) in ANSWERS {
+        assert_eq!(rt;
+            answered(&rt, rt.alloc(), spec, &sizes_of(numbers, budget))?.as_str(),
+            expected
+        );
+    }
+    Ok(())
+}
+
+/// What no program does, with so many outputs that six updates name each.
+fn never_with(alloc: Global, outputs: u32) -> Result<Vec<u8>, Fail> {
+    let mut text = Vec::from_slice(alloc, b"guarantee { false; p x; q x; ")?;
+    for output in 0..outputs {
+        for function in 0..6u32 {
+            text.extend_from_slice(format!(in alloc;
+                "[y{output} <- f{function} x]; "
+            )?.as_bytes())?;
+        }
+    }
+    text.push(b'}')?;
+    Ok(text)
+}
+
+#[test]
+fn vectors_and_branches_are_counted(rt: HostRuntime) -> Result<(), Fail> {
+    for (outputs, depth, expected) in [
+        (3, 2, "0 none Genuine"),
+        (3, 3, "0 large Branches"),
+        (4, 2, "0 large Vectors"),
+    ] {
+        let spec = never_with(rt.alloc(), outputs)?;
+        let sizes = sizes_of([1, 0, 1, 2, depth, 8], 1_000);
+        assert_eq!(rt;
+            answered(&rt, rt.alloc(), &spec, &sizes)?.as_str(),
+            expected
+        );
     }
     Ok(())
 }
 
 /// The window of the running example: where the cell takes the input, it has at the next step what that has now.
-const EXAMPLE_WINDOW: &str = "";
+const EXAMPLE_WINDOW: &str =
+    "Window { left: Probe { predicate: 2, arguments: More(Signal(1), Empty) }, left_at: 0, \
+right: Probe { predicate: 2, arguments: More(Signal(0), Empty) }, length: 1, \
+updates: Sequence { items: [Listed { signal: 0, term: Signal(1), offset: 0 }] } }";
 
 #[test]
 fn the_example_needs_one_window(rt: HostRuntime) -> Result<(), Fail> {
