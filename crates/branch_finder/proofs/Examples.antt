@@ -1,15 +1,19 @@
 -- Examples of the definitions: an input 0, a cell 1 that may keep itself or copy the input, and a predicate 3 of each.
-use Rattle.std.proofs.Common.{◌≡◌, ◌∙◌, ℕ, zero, suc, ◌<◌, [], ◌∷◌, Option, Some, None, slice_get, refl, sym, ap, arith}
+use Rattle.std.proofs.Common.{◌≡◌, ◌∙◌, ℕ, zero, suc, ◌<◌, List, [], ◌∷◌, Option, Some, None, slice_get, refl, sym, ap, arith}
 use Rattle.std.proofs.lemmas.Bool.{false≢true}
 use Rattle.std.proofs.lemmas.Option.{none-some, same_Some}
-use Rattle.tsl_terms.specs.TermTree.{signal, apply, TermTrees, no_terms, more_terms, ProbeTree}
+use Rattle.sequence.specs.Once.{StandOnce}
+use Rattle.tsl_terms.specs.TermTree.{TermTree, signal, apply, TermTrees, no_terms, more_terms, ProbeTree}
 use Rattle.tsl_terms.specs.WindowTree.{ListedTree, WindowTree}
+use Rattle.tsl_terms.specs.FreeTree.{FreeTree, leaf_at, applied, FreeTrees, no_free, more_free}
+use Rattle.tsl_terms.specs.Unfolding.{with_leaves, all_with_leaves, all_unfolded}
+use Rattle.tsl_terms.specs.Congruence.{IsCongruent}
 use Rattle.ltl_formula.specs.Cubes.{has_bit}
 use Rattle.letter_space.specs.SpaceTree.{SpaceTree}
 use Rattle.machines.specs.MachineTree.{EnvironmentTree, successor_at}
 use Rattle.machines.specs.Visits.{at_start}
 use Rattle.branch_finder.specs.Spurious.{IsOneOf, IsSpurious}
-use Rattle.branch_finder.specs.Finding.{IsWindowWithin, IsFoundWindow, branch_count}
+use Rattle.branch_finder.specs.Finding.{IsWindowWithin, HasNoSpuriousWindow, without_update, IsFoundWindow, branch_count}
 
 abbrev probe_of : ℕ → ProbeTree
 probe_of s = record { predicate = 3; arguments = more_terms (signal s) no_terms }
@@ -141,6 +145,107 @@ copied_is_too_long is = omega (arith, is.short)
 
 copied_is_of_no_cell : IsWindowWithin (0 ∷ []) 1 copied → ⊥
 copied_is_of_no_cell is = false≢true is.listed.0.0
+
+-- ---- what is found
+
+no_leaf : (s t f : ℕ) (xs : FreeTrees) → leaf_at s t ≡ applied f xs → ⊥
+no_leaf s t f xs e = cc
+
+none_is_some : (x : FreeTree) (xs : FreeTrees) → no_free ≡ more_free x xs → ⊥
+none_is_some x xs e = cc
+
+one_step : (r t s u : ℕ) → more_free (leaf_at r t) no_free ≡ more_free (leaf_at s u) no_free → t ≡ u
+one_step r t s u e = cc
+
+-- at the first step nothing has unfolded
+mutual
+  one_term : (t u : TermTree) → with_leaves (λ s. leaf_at s 0) t ≡ with_leaves (λ s. leaf_at s 0) u → t ≡ u
+  one_term (signal r) (signal s) e = let same : r ≡ s = cc in ap signal same
+  one_term (signal r) (apply g us) e = absurd (no_leaf r 0 g (all_with_leaves (λ s. leaf_at s 0) us) e)
+  one_term (apply f ts) (signal s) e = absurd (no_leaf s 0 f (all_with_leaves (λ s. leaf_at s 0) ts) (sym e))
+  one_term (apply f ts) (apply g us) e =
+      let function : f ≡ g = cc in
+      let arguments : all_with_leaves (λ s. leaf_at s 0) ts ≡ all_with_leaves (λ s. leaf_at s 0) us = cc in
+      let same = some_terms ts us arguments in
+      λ i. apply (function i) (same i)
+
+  some_terms : (ts us : TermTrees) → all_with_leaves (λ s. leaf_at s 0) ts ≡ all_with_leaves (λ s. leaf_at s 0) us → ts ≡ us
+  some_terms no_terms no_terms e = refl
+  some_terms no_terms (more_terms u us) e = absurd (none_is_some (with_leaves (λ s. leaf_at s 0) u) (all_with_leaves (λ s. leaf_at s 0) us) e)
+  some_terms (more_terms t ts) no_terms e =
+      absurd (none_is_some (with_leaves (λ s. leaf_at s 0) t) (all_with_leaves (λ s. leaf_at s 0) ts) (sym e))
+  some_terms (more_terms t ts) (more_terms u us) e =
+      let first : with_leaves (λ s. leaf_at s 0) t ≡ with_leaves (λ s. leaf_at s 0) u = cc in
+      let rest : all_with_leaves (λ s. leaf_at s 0) ts ≡ all_with_leaves (λ s. leaf_at s 0) us = cc in
+      let same = one_term t u first in
+      let others = some_terms ts us rest in
+      λ i. more_terms (same i) (others i)
+
+-- so a window of no step that is congruent compares a probe with itself
+no_window_of_no_step : (space : SpaceTree) (e : EnvironmentTree) (cells : List ℕ) → StandOnce space.predicates →
+    HasNoSpuriousWindow space e cells 0
+no_window_of_no_step space e cells once w within congruent spurious =
+    let last : w.length ≡ 0 = omega (arith, within.short) in
+    let first : w.left_at ≡ 0 = omega (arith, within.short, within.left_within) in
+    let unfolded : all_with_leaves (λ s. leaf_at s 0) w.left.arguments ≡ all_with_leaves (λ s. leaf_at s 0) w.right.arguments
+    = sym (ap (λ n. all_unfolded cells w.updates n w.left.arguments) first) ∙ congruent.arguments
+    ∙ ap (λ n. all_unfolded cells w.updates n w.right.arguments) last in
+    let arguments = some_terms w.left.arguments w.right.arguments unfolded in
+    let probe : w.left ≡ w.right = λ i. record { predicate = congruent.predicate i; arguments = arguments i } in
+    let bit = once spurious.left_bit spurious.right_bit w.left spurious.is_left (spurious.is_right ∙ ap Some (sym probe)) in
+    let truths = same_Some spurious.left_truths spurious.right_truths
+    (sym spurious.are_left ∙ ap (λ n. slice_get e.truths (spurious.state n)) (first ∙ sym last) ∙ spurious.are_right) in
+    spurious.differ (λ i. has_bit (bit i) (truths i))
+
+two_probes_once : StandOnce space_of_two.predicates
+two_probes_once zero zero p at too = refl
+two_probes_once zero (suc zero) p at too = absurd (omega (arith, ap signal_read (at ∙ sym too)))
+two_probes_once zero (suc (suc j)) p at too = absurd (none-some p too)
+two_probes_once (suc zero) zero p at too = absurd (omega (arith, ap signal_read (at ∙ sym too)))
+two_probes_once (suc zero) (suc zero) p at too = refl
+two_probes_once (suc zero) (suc (suc j)) p at too = absurd (none-some p too)
+two_probes_once (suc (suc i)) j p at too = absurd (none-some p at)
+
+-- no shorter window than one of one step
+least_of_one_step : (e : EnvironmentTree) (shorter : ℕ) → shorter < 1 → HasNoSpuriousWindow space_of_two e (1 ∷ []) shorter
+least_of_one_step e zero below = no_window_of_no_step space_of_two e (1 ∷ []) two_probes_once
+least_of_one_step e (suc n) below = absurd (omega (arith, below))
+
+copied_is_found : IsFoundWindow space_of_two unmoved (1 ∷ []) 1 copied
+copied_is_found = record {
+  within = copied_is_within;
+  shaped = refl;
+  congruent = record { predicate = refl; arguments = refl };
+  spurious = copied_is_spurious;
+  least = least_of_one_step unmoved;
+  needed = needs_it;
+}
+  where
+    needs_it : (place : ℕ) → place < 1 → IsCongruent (1 ∷ []) (without_update place copied) → ⊥
+    needs_it zero below is = omega (arith, one_step 0 0 1 1 is.arguments)
+    needs_it (suc n) below is = omega (arith, below)
+
+kept_is_found : IsFoundWindow space_of_two moved (1 ∷ []) 3 kept
+kept_is_found = record {
+  within = kept_is_within;
+  shaped = refl;
+  congruent = record { predicate = refl; arguments = refl };
+  spurious = kept_is_spurious;
+  least = least_of_one_step moved;
+  needed = needs_it;
+}
+  where
+    needs_it : (place : ℕ) → place < 1 → IsCongruent (1 ∷ []) (without_update place kept) → ⊥
+    needs_it zero below is = omega (arith, one_step 1 0 1 1 is.arguments)
+    needs_it (suc n) below is = omega (arith, below)
+
+-- there is one within the depth
+some_within_one_step : HasNoSpuriousWindow space_of_two unmoved (1 ∷ []) 1 → ⊥
+some_within_one_step none = none copied copied_is_within (record { predicate = refl; arguments = refl }) copied_is_spurious
+
+-- a window that is not spurious
+kept_is_not_found : IsFoundWindow space_of_two unmoved (1 ∷ []) 1 kept → ⊥
+kept_is_not_found is = kept_is_not_spurious is.spurious
 
 -- an update too many: the probes are the same without it
 abbrev known : WindowTree
