@@ -1,5 +1,5 @@
 -- What an answer to a question says of the specification that it was asked for.
-use Rattle.std.proofs.Common.{◌≡◌, ℕ, ◌<◌, ◌≤◌, List, [], length, subst, refl, arith}
+use Rattle.std.proofs.Common.{◌≡◌, ℕ, ◌<◌, ◌≤◌, List, length, subst, refl, arith}
 use Rattle.std.proofs.lemmas.List.{length-map}
 use Rattle.tsl_terms.specs.SpecTree.{SpecTree}
 use Rattle.tsl_terms.specs.Signals.{inputs_of, cells_of, outputs_of}

@@ -12,5 +12,5 @@ pub mod EncodingSizes
 pub mod OneAnswer
 pub mod Answered
 pub mod Chaining
-pub mod Turns
+pub mod GenuineEnvironments
 pub mod OneOutcome

@@ -1,7 +1,7 @@
 -- The windows of a chain: each is one of the specification's cells, congruent, and made of predicate terms and choices. So it reads
 -- the specification's signals alone, and can be written over its names.
-use Rattle.std.proofs.Common.{◌≡◌, ◌∙◌, ℕ, ◌+◌, ◌==◌, Bool, true, false, cond, ◌&&◌, List, [], ◌∷◌, ◌++◌, length, map, Option, None, Some}
-use Rattle.std.proofs.Common.{slice_get, nat_le, nat_lt, refl, sym, ap, IsTrue}
+use Rattle.std.proofs.Common.{◌≡◌, ◌∙◌, ℕ, ◌+◌, ◌==◌, Bool, true, false, cond, ◌&&◌, List, [], ◌∷◌, ◌++◌, Option, None, Some}
+use Rattle.std.proofs.Common.{slice_get, nat_le, nat_lt, refl, sym}
 use Rattle.std.specs.Prelude.{is_some, option_map, option_and_then, position}
 use Rattle.std.specs.List.{list_all, AllByRecursion}
 use Rattle.std.proofs.lemmas.Bool.{and_parts, and_from}

@@ -27,7 +27,6 @@ use Rattle.tsl_terms.specs.Signals.{inputs_of, cells_of, outputs_of}
 use Rattle.control_flow_model.proofs.FlowLemmas.{state_count, few_nodes, few_kept}
 use Rattle.program_check.proofs.ProgramNames.{program_over, cell_named}
 use Rattle.program_check.proofs.SpaceTerms.{node_passes, probe_with_bit, update_with_bit, nodes_pass}
-use Rattle.program_check.specs.Verdicts.{window_has_bits}
 use Rattle.refinement_loop.specs.Questions.{IsWrittenFor}
 use Rattle.refinement_loop.proofs.RoundWindows.{IsKnown, listed_of_cell}
 use Rattle.refinement_loop.proofs.UsableSignals.{signal_fits_if_named}

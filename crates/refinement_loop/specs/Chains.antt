@@ -2,7 +2,7 @@
 -- environment does what no run does. Each round is one under the windows of the rounds before it.
 -- Source: Finkbeiner, Klein, Piskac, Santolucito: Temporal Stream Logic: Synthesis Beyond the Bools (CAV 2019), the refinement of
 -- the underapproximation.
-use Rattle.std.specs.Prelude.{ℕ, ◌≤◌, List, [], ◌∷◌, ◌++◌, IsTrue, ⊤}
+use Rattle.std.specs.Prelude.{◌≤◌, List, [], ◌∷◌, ◌++◌, IsTrue, ⊤}
 use Rattle.tsl_terms.specs.SpecTree.{SpecTree}
 use Rattle.tsl_terms.specs.Signals.{cells_of}
 use Rattle.tsl_terms.specs.WindowTree.{WindowTree}
@@ -11,14 +11,18 @@ use Rattle.flow_program.specs.Fits.{window_is_shaped}
 use Rattle.letter_space.specs.SpecSpace.{spec_space}
 use Rattle.machines.specs.Rounds.{RoundTree}
 use Rattle.branch_finder.specs.Spurious.{IsSpurious}
+use Rattle.branch_finder.specs.Finding.{branch_count}
+use Rattle.branch_finder.specs.declared.limits.TheConstants.{MOST_BRANCHES}
 use Rattle.refinement_loop.specs.Questions.{HasNoSolution, IsCounterstrategy}
 use Rattle.refinement_loop.specs.declared.outcome.Sizes.{Sizes}
 
--- Under the windows there is no controller, the round's environment has an annotation, and the round's window is one of the
--- specification's cells that is short enough, congruent, and spurious in that environment.
+-- Under the windows there is no controller, the round's environment has an annotation, there are not too many branches to look for
+-- a window, and the round's window is one of the specification's cells that is short enough, congruent, and spurious in that
+-- environment.
 pub record IsRound (spec : SpecTree) (sizes : Sizes) (windows : List WindowTree) (round : RoundTree) : Type 0 where
   pub none : HasNoSolution spec windows sizes.states sizes.bound
   pub environment : IsCounterstrategy spec windows sizes.env_states sizes.env_bound round.environment
+  pub few_branches : branch_count (spec_space spec) sizes.depth ≤ MOST_BRANCHES
   pub shaped : IsTrue (window_is_shaped (cells_of spec) round.window)
   pub short : round.window.length ≤ sizes.depth
   pub congruent : IsCongruent (cells_of spec) round.window

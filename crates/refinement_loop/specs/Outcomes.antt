@@ -71,9 +71,11 @@ pub record GoesOn (spec : SpecTree) (sizes : Sizes) (windows : List WindowTree) 
   pub none : HasNoSolution spec windows sizes.states sizes.bound
   pub fewer : MayGoOn sizes windows
 
--- such an environment has an annotation, and no congruent window that is short enough is spurious in it
+-- such an environment has an annotation, there are not too many branches to look for a window, and no congruent window that is short
+-- enough is spurious in it
 pub record IsGenuine (spec : SpecTree) (sizes : Sizes) (windows : List WindowTree) (e : EnvironmentTree) : Type 0 where
   pub counterstrategy : IsCounterstrategy spec windows sizes.env_states sizes.env_bound e
+  pub few_branches : branch_count (spec_space spec) sizes.depth ≤ MOST_BRANCHES
   pub no_window : HasNoSpuriousWindow (spec_space spec) e (cells_of spec) sizes.depth
 
 -- why no further round is made, where no controller answers its question: as many were made as may be; or fewer, and either there

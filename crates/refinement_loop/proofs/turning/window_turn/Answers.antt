@@ -6,7 +6,7 @@ use Rattle.letter_space.specs.SpaceView.{space_tree}
 use Rattle.machines.specs.MachineView.{environment_tree}
 use Rattle.branch_finder.specs.Finding.{AreControlled}
 use Rattle.refinement_loop.proofs.SpecSignals.{cells_distinct, cells_controlled}
-use Rattle.refinement_loop.proofs.Turns.{no_window_found}
+use Rattle.refinement_loop.proofs.GenuineEnvironments.{is_genuine}
 use Rattle.refinement_loop.proofs.turning.window_turn.Goals as goal
 
 pub find_window-requires-clause-controlled : goal.find_window-requires-clause-controlled
@@ -26,7 +26,10 @@ pub returns-clause-turn : goal.returns-clause-turn
 returns-clause-turn c =
     let none = rw c.in-None.is at c.in_ok-window.ensures.none in (
       c.requires.goes_on.none,
-      no_window_found (spec_tree c.args.spec.now) c.args.sizes.now (map window_tree c.args.windows.now) c.requires.goes_on
-          (space_tree c.args.space.now) c.requires.space (environment_tree c.args.environment) c.requires.counterstrategy
-          c.as_slice-cells.result.now (c.as_slice-cells.ensures ∙ c.in_ok-lists.ensures.cells) none,
+      (
+        c.requires.goes_on.fewer,
+        is_genuine (spec_tree c.args.spec.now) c.args.sizes.now (map window_tree c.args.windows.now) (space_tree c.args.space.now)
+            c.requires.space (environment_tree c.args.environment) c.requires.counterstrategy c.as_slice-cells.result.now
+            (c.as_slice-cells.ensures ∙ c.in_ok-lists.ensures.cells) c.in_ok-window.ensures.few none,
+      ),
     )
