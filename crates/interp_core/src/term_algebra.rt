@@ -20,10 +20,12 @@ pub struct TermAlgebra {
 
 impl TermAlgebra {
     /// The algebra with these cells. It takes no memory.
-    pub fn new(cells: Sequence<u32>) -> TermAlgebra
-        ensures { result.cells ≡ cells }
+    pub fn new(cells: Vec<u32>) -> TermAlgebra
+        ensures { result.cells ≡ cells.items }
     {
-        TermAlgebra { cells }
+        TermAlgebra {
+            cells: Sequence::from_vec(cells),
+        }
     }
 }
 

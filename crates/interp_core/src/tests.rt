@@ -139,7 +139,7 @@ fn on_leaf(alloc: Global, function: u32, step: u32) -> Result<FreeTerm, NoMemory
     requires { IsTrue (leaves_within (3 ∷ 5 ∷ []) 2 (leaf_at 3 step)) }
     ensures { IfOk result (λ free. IsTrue (leaves_within (3 ∷ 5 ∷ []) 2 (free_tree free))) }
 {
-    let algebra = TermAlgebra::new(Sequence::new(alloc));
+    let algebra = TermAlgebra::new(Vec::new(alloc));
     algebra.apply(alloc, function, &[FreeTerm::Leaf(3, step)])
 }
 
@@ -168,7 +168,7 @@ fn both_sides_of_a_congruent_window_have_one_image(rt: HostRuntime) -> Result<()
 #[test]
 fn free_terms_are_the_same_where_they_are_equal(rt: HostRuntime) -> Result<(), Fail> {
     let alloc = rt.alloc();
-    let algebra = TermAlgebra::new(Sequence::from_vec(vec![in alloc; 5]?));
+    let algebra = TermAlgebra::new(vec![in alloc; 5]?);
     let left = on_leaf(alloc, 1, 0)?;
     assert!(rt; algebra.same(&left, &algebra.copy(alloc, &left)?));
     assert!(rt; !algebra.same(&left, &on_leaf(alloc, 1, 1)?));
@@ -191,7 +191,7 @@ fn many_leaves(alloc: Global) -> Result<FreeList, NoMemory> {
 #[test]
 fn lists_of_free_terms_may_be_long(rt: HostRuntime) -> Result<(), Fail> {
     let alloc = rt.alloc();
-    let algebra = TermAlgebra::new(Sequence::new(alloc));
+    let algebra = TermAlgebra::new(Vec::new(alloc));
     let long = FreeTerm::Apply(1, many_leaves(alloc)?);
     let copied = algebra.copy(alloc, &long)?;
     assert!(rt; algebra.same(&long, &copied));
