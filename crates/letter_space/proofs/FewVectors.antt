@@ -40,7 +40,8 @@ module _ (xs : List Controlled) where
   pub count_fits : (i count : ℕ) → choice_count (map controlled_tree xs) ≤ MOST_BITS →
       list_all has_choice (map controlled_tree xs) ≡ true → count * vectors_left xs i ≡ vectors_left xs 0 → count < 2 ^ 64
   count_fits i count few chosen whole =
-      let factor : count * 1 ≤ count * vectors_left xs i = mul-le count 1 count (vectors_left xs i) (omega arith) (some_vector_left xs i chosen) in
+      let factor : count * 1 ≤ count * vectors_left xs i = mul-le count 1 count (vectors_left xs i) (omega arith)
+      (some_vector_left xs i chosen) in
       omega (arith, factor, few_vectors (map controlled_tree xs) few, whole)
 
   pub counted_whole : (i count : ℕ) → length xs ≤ i → count * vectors_left xs i ≡ vectors_left xs 0 → count ≡ vectors_left xs 0

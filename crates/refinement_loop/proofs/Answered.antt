@@ -49,7 +49,8 @@ use Rattle.refinement_loop.proofs.OneAnswer.{none_of, no_environment_of}
 -- the question of a specification's bits and automaton is the one that is asked
 pub asked_of : (side : Side) (spec : SpecTree) (windows : List WindowTree) (space : Space) (automaton : Automaton) (states bound : ℕ) →
     space_tree space ≡ spec_space spec →
-    (made : List StateTree) × (length made ≡ automaton.states) × IsAutomaton (form_for side spec windows) made (edge_trees automaton.edges) →
+    (made : List StateTree) × (length made ≡ automaton.states)
+    × IsAutomaton (form_for side spec windows) made (edge_trees automaton.edges) →
     automaton.states ≤ most_automaton_states → length automaton.edges ≤ most_automaton_edges →
     IsAsked side spec windows states bound (question_of automaton space states bound)
 asked_of side spec windows space automaton states bound same made few_states few_edges = record {

@@ -1,6 +1,6 @@
 -- How many clauses the question for a specification has does not depend on how its automaton is numbered.
-use Rattle.std.proofs.Common.{◌≡◌, ◌∙◌, ℕ, zero, suc, ◌+◌, ◌-◌, ◌^◌, ◌%◌, ◌<◌, ◌≤◌, nat_le, Bool, true, false, cond, List, [], ◌∷◌, ◌++◌, length}
-use Rattle.std.proofs.Common.{Some, slice_get, refl, sym, ap, subst, arith}
+use Rattle.std.proofs.Common.{◌≡◌, ◌∙◌, ℕ, zero, suc, ◌+◌, ◌-◌, ◌^◌, ◌%◌, ◌<◌, ◌≤◌, nat_le, Bool, true, false, cond}
+use Rattle.std.proofs.Common.{List, [], ◌∷◌, ◌++◌, length, Some, slice_get, refl, sym, ap, subst, arith}
 use Rattle.std.specs.List.{flat_map, range_with_len, sum_by}
 use Rattle.std.proofs.lemmas.Option.{none-some, same_Some, slice_get_within}
 use Rattle.sequence.proofs.Booleans.{same_tests}
@@ -23,8 +23,9 @@ use Rattle.clause_core.specs.Clauses.{has_pair}
 use Rattle.bounded_encoding.specs.Question.{QuestionTree, JoinsStates}
 use Rattle.bounded_encoding.specs.ClauseLists.{between}
 use Rattle.bounded_encoding.specs.Variables.{valuations_of}
-use Rattle.bounded_encoding.specs.Encoding.{meeting, met_valuations, transition_clause, transitions_to, transitions_under, transitions_along}
-use Rattle.bounded_encoding.specs.Encoding.{transitions_in, transition_clauses, choice_clauses, next_clauses, start_clauses, number_clauses}
+use Rattle.bounded_encoding.specs.Encoding.{meeting, met_valuations, transition_clause, transitions_to, transitions_under}
+use Rattle.bounded_encoding.specs.Encoding.{transitions_along, transitions_in, transition_clauses}
+use Rattle.bounded_encoding.specs.Encoding.{choice_clauses, next_clauses, start_clauses, number_clauses}
 use Rattle.bounded_encoding.specs.Encoding.{encoding}
 use Rattle.bounded_encoding.proofs.MovesHeld.{place_of}
 use Rattle.bounded_encoding.proofs.Ranges.{filtered_in_range}
@@ -66,7 +67,8 @@ module _ (q : QuestionTree) (s : ℕ) (in_states : s < q.states) where
         (pair_there q s v t i in_states in_valuations to_states in_bound e d alike joins)
         (pair_there q s v t i in_states in_valuations to_states in_bound d e back joins_too))
 
-    as_many_to : (v t : ℕ) → v < valuations_of q → t < q.states → kept_count (transitions_to q s e v t) ≡ kept_count (transitions_to q s d v t)
+    as_many_to : (v t : ℕ) → v < valuations_of q → t < q.states →
+        kept_count (transitions_to q s e v t) ≡ kept_count (transitions_to q s d v t)
     as_many_to v t in_valuations to_states =
         same_counts (λ i. transition_clause q s e v t i ∷ []) (λ i. transition_clause q s d v t i ∷ []) (between 0 (q.bound + 1))
         (λ k i at. one_each v t i in_valuations to_states (below_count (q.bound + 1) k i at))
@@ -116,7 +118,8 @@ module _ (q : QuestionTree) (s : ℕ) (in_states : s < q.states) (f : LtlTree) (
       let same : t.to ≡ t.from = one_value (slice_get here e.from) t.to t.from (ap (slice_get here) (sym loop) ∙ left.to) left.from in
       once d.to d.from t.from (right.to ∙ ap Some same) right.from
 
-  as_much : (e d : EdgeTree) → IsMatched states more_states e d → kept_count (transitions_along q s e) ≡ kept_count (transitions_along q s d)
+  as_much : (e d : EdgeTree) → IsMatched states more_states e d →
+      kept_count (transitions_along q s e) ≡ kept_count (transitions_along q s d)
   as_much e d matched =
       let t = matched.transition in
       as_many_along q s in_states e d
@@ -168,7 +171,8 @@ module _ (q : QuestionTree) (f : LtlTree) (states : List StateTree) (edges : Lis
   abbrev with_edges : List EdgeTree → QuestionTree
   with_edges es = record q { edges = es }
 
-  as_many_in : (s : ℕ) → s < q.states → kept_count (transitions_in (with_edges edges) s) ≡ kept_count (transitions_in (with_edges more_edges) s)
+  as_many_in : (s : ℕ) → s < q.states →
+      kept_count (transitions_in (with_edges edges) s) ≡ kept_count (transitions_in (with_edges more_edges) s)
   as_many_in s in_states =
       let up = at_most q s in_states f states edges more_states more_edges one other count more_count in
       let down = at_most q s in_states f more_states more_edges states edges other one more_count count in

@@ -11,7 +11,8 @@ use Rattle.bounded_encoding.specs.ClauseLists.{kept}
 use Rattle.bounded_encoding.proofs.Adding.{kept_both}
 
 -- a pair stands in each list that has the literals
-pair_moves : (small large : List Lit) → ((l : Lit) → has small l ≡ true → has large l ≡ true) → has_pair small ≡ true → has_pair large ≡ true
+pair_moves : (small large : List Lit) → ((l : Lit) → has small l ≡ true → has large l ≡ true) → has_pair small ≡ true →
+    has_pair large ≡ true
 pair_moves small large all is =
     let pair = pair_from small is in
     has_pair_from large pair.literal (all pair.literal pair.one) (all (negation pair.literal) pair.other)
@@ -35,7 +36,8 @@ count_of_all f (x ∷ xs) =
 
 -- as many of the one list as of the other, for each member
 pub same_counts : {X : Type 0} (f g : X → List (List Lit)) (xs : List X) →
-    ((k : ℕ) (x : X) → slice_get xs k ≡ Some x → kept_count (f x) ≡ kept_count (g x)) → kept_count (flat_map f xs) ≡ kept_count (flat_map g xs)
+    ((k : ℕ) (x : X) → slice_get xs k ≡ Some x → kept_count (f x) ≡ kept_count (g x)) →
+    kept_count (flat_map f xs) ≡ kept_count (flat_map g xs)
 same_counts f g [] each = refl
 same_counts f g (x ∷ xs) each =
     count_joined (f x) (flat_map f xs)

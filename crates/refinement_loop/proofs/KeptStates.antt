@@ -64,7 +64,8 @@ module _ (space : SpaceTree) (c : ControllerTree) (is_table : IsController c) (f
   cell i v in_rows in_columns =
       let s = slice_get_some kept i in_rows in
       let place = place_within c.states c.valuations s.0 v (walking.below i s.0 s.1) in_columns in
-      let e = slice_get_some c.entries (s.0 * c.valuations + v) (subst (λ n. s.0 * c.valuations + v < n) (sym is_table.has_entries) place) in
+      let e = slice_get_some c.entries (s.0 * c.valuations + v)
+      (subst (λ n. s.0 * c.valuations + v < n) (sym is_table.has_entries) place) in
       let there : controller_entry c s.0 v ≡ Some e.0 = cell_in_row c.valuations c.entries s.0 v in_columns ∙ e.1 in
       let done = walking.walks i s.0 v e.0 s.1 there in
       record { state = s.0; is_state = s.1; entry = e.0; there = there; go = done.0; goes = done.1; does = done.2 }
@@ -97,7 +98,8 @@ module _ (space : SpaceTree) (c : ControllerTree) (is_table : IsController c) (f
     where
       moved : (i v : ℕ) (e : EntryTree) → controller_entry restricted i v ≡ Some e → IsMovedEntry c kept i v e
       moved i v e at =
-          let place = cell_within (length kept) c.valuations restricted.entries i v e (table_length entry_at (length kept) c.valuations) at in
+          let place = cell_within (length kept) c.valuations restricted.entries i v e
+          (table_length entry_at (length kept) c.valuations) at in
           let is = entry_is i v place.0 place.1 in
           let same : e ≡ made i v is.0 =
           one_value (controller_entry restricted i v) e (entry_at i v) at

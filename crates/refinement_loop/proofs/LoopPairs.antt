@@ -142,7 +142,8 @@ module _ (q : QuestionTree) (s v t i : ℕ) (in_states : s < q.states) (in_valua
     turned p n positive is (first here) other = absurd (false≢true (ap (λ (l : Lit). l.positive) here ∙ positive))
     turned p n positive is (second here) other = absurd (false≢true (ap (λ (l : Lit). l.positive) here ∙ positive))
     turned p n positive is (asked here) (first there) =
-        absurd (apart_from_numbers e p s e.from i from_inside here (sym (ap (λ (l : Lit). l.index) is) ∙ sym (ap (λ (l : Lit). l.index) there)))
+        absurd (apart_from_numbers e p s e.from i from_inside here
+        (sym (ap (λ (l : Lit). l.index) is) ∙ sym (ap (λ (l : Lit). l.index) there)))
     turned p n positive is (asked here) (second there) =
         absurd (apart_from_next e p here (sym (ap (λ (l : Lit). l.index) is) ∙ sym (ap (λ (l : Lit). l.index) there)))
     turned p n positive is (asked here) (asked there) =
@@ -158,12 +159,14 @@ module _ (q : QuestionTree) (s v t i : ℕ) (in_states : s < q.states) (in_valua
         let back : negation (after_literal d) ≡ from_literal d =
         (λ k. no q (is_numbered (both.0 k) (alike.loops both.1 k) ((sym same_after ∙ both.2) k))) in
         has_pair_from (clause d) (after_literal d) (has_last within)
-        (or_left (same (from_literal d) (negation (after_literal d))) _ (same_from (from_literal d) (negation (after_literal d)) (sym back)))
+        (or_left (same (from_literal d) (negation (after_literal d))) _
+        (same_from (from_literal d) (negation (after_literal d)) (sym back)))
     turned p n positive is (last within here) (second there) =
         let index : index_of q (goes_to s v t) ≡ index_of q (is_numbered t e.to (after_edge i e)) =
         ap (λ (l : Lit). l.index) there ∙ ap (λ (l : Lit). l.index) is ∙ ap (λ (l : Lit). l.index) (sym here) in
         absurd (not_numbered s v t t e.to (after_edge i e)
-        (one_index q (goes_to s v t) (is_numbered t e.to (after_edge i e)) (in_states, in_valuations, to_states) (number_inside within) index))
+        (one_index q (goes_to s v t) (is_numbered t e.to (after_edge i e)) (in_states, in_valuations, to_states) (number_inside within)
+        index))
     turned p n positive is (last within here) (asked there) =
         absurd (apart_from_numbers e n t e.to (after_edge i e) (number_inside within) there
         (ap (λ (l : Lit). l.index) is ∙ ap (λ (l : Lit). l.index) (sym here)))

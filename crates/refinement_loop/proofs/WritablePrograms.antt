@@ -99,8 +99,8 @@ module _ (spec : SpecTree) (fits : SpecFits spec) where
 
     pub is_writable : states ≤ 8 → length windows ≤ 64 → IsProgram program → IsWritable names program
     is_writable few few_windows is_program = record {
-      signals = list_all_weaker (λ s. is_name names s Signal 0) (signal_fits names) (λ s named. signal_fits_if_named names s fits.names named)
-          (program.inputs ++ controlled program)
+      signals = list_all_weaker (λ s. is_name names s Signal 0) (signal_fits names)
+          (λ s named. signal_fits_if_named names s fits.names named) (program.inputs ++ controlled program)
           (program_over spec fits.formulas program is_program (is_over spec windows known states bound program written).signals
           (windows_have_bits spec windows known states bound program written)
           (has_bits spec windows known states bound program written).nodes).signals;

@@ -94,7 +94,8 @@ module _ (spec : SpecTree) (windows : List WindowTree) (known : AllByRecursion (
     states = state_count c space (inputs_of spec) (cells_of spec) (outputs_of spec) windows program written.flow;
     below = kept_below c written.solution.table written.flow.kept written.flow.are_kept;
     walks = λ i s v e state entry.
-        flow_walks c space (inputs_of spec) (cells_of spec) (outputs_of spec) windows program written.flow is_space v fits i s e state entry;
+        flow_walks c space (inputs_of spec) (cells_of spec) (outputs_of spec) windows program written.flow is_space v fits i s e state
+        entry;
   }
 
   annotation : IsAnnotation (edges_from question.edges) (controller_moves space c) bound written.number

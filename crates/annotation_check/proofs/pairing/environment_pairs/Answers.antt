@@ -15,7 +15,8 @@ pub machine_pairs-requires-clause-listed : goal.machine_pairs-requires-clause-li
 machine_pairs-requires-clause-listed c =
     let space = space_tree c.args.space.now in
     let machine = environment_tree c.args.environment.now in
-    let many = listed_moves_length (environment_moves space machine) machine.states (environment_moves_are space machine (is_environment c.args.environment.now))
+    let many = listed_moves_length (environment_moves space machine) machine.states
+    (environment_moves_are space machine (is_environment c.args.environment.now))
     c.in_ok-moves.moves.items c.in_ok-moves.ensures in
     omega (arith, many, c.in_ok-moves.moves.ok.0)
 
@@ -23,13 +24,15 @@ pub machine_pairs-requires-clause-stay : goal.machine_pairs-requires-clause-stay
 machine_pairs-requires-clause-stay c =
     let space = space_tree c.args.space.now in
     let machine = environment_tree c.args.environment.now in
-    listed_moves_stay (environment_moves space machine) machine.states (environment_moves_are space machine (is_environment c.args.environment.now))
+    listed_moves_stay (environment_moves space machine) machine.states
+    (environment_moves_are space machine (is_environment c.args.environment.now))
     c.in_ok-moves.moves.items c.in_ok-moves.ensures
 
 pub returns : goal.returns
 returns c =
     let space = space_tree c.args.space.now in
     let machine = environment_tree c.args.environment.now in
-    pairs_of_listed (environment_moves space machine) machine.states (environment_moves_are space machine (is_environment c.args.environment.now))
+    pairs_of_listed (environment_moves space machine) machine.states
+    (environment_moves_are space machine (is_environment c.args.environment.now))
     c.in_ok-moves.moves.items c.in_ok-moves.ensures (edge_trees c.args.automaton.now.edges) c.args.automaton.now.states c.args.bound
     c.machine_pairs.result c.machine_pairs.ensures

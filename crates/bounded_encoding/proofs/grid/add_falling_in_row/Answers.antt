@@ -10,21 +10,25 @@ loop-column-init c = leads_first _ _
 
 pub returns-in_err-add_falling-clause-refused : goal.returns-in_err-add_falling-clause-refused
 returns-in_err-add_falling-clause-refused c = passed_on _ _ _ c.from_residual.ensures.1
-    (λ is. leads_refused _ _ _ _ _ (λ column. falling (cell_index c.args.grid c.args.row column) c.args.bound) c.loop-column.invariant c.loop-column-test.true _
+    (λ is. leads_refused _ _ _ _ _ (λ column. falling (cell_index c.args.grid c.args.row column) c.args.bound)
+    c.loop-column.invariant c.loop-column-test.true _
     (ap (λ (b : ℕ). falling (λ i. b + i) c.args.bound) c.cell_base-base.ensures.value)
     (c.in_err-add_falling.ensures.refused is))
 
 pub returns-in_err-add_falling-clause-begun : goal.returns-in_err-add_falling-clause-begun
 returns-in_err-add_falling-clause-begun c = passed_on _ _ _ c.from_residual.ensures.1
-    (leads_cut _ _ _ _ _ (λ column. falling (cell_index c.args.grid c.args.row column) c.args.bound) c.loop-column.invariant c.loop-column-test.true _
+    (leads_cut _ _ _ _ _ (λ column. falling (cell_index c.args.grid c.args.row column) c.args.bound)
+    c.loop-column.invariant c.loop-column-test.true _
     (ap (λ (b : ℕ). falling (λ i. b + i) c.args.bound) c.cell_base-base.ensures.value)
     _ (c.in_err-add_falling.ensures.begun))
 
 pub loop-column-preserved : goal.loop-column-preserved
 loop-column-preserved c =
-    leads_next _ _ _ _ _ (λ column. falling (cell_index c.args.grid c.args.row column) c.args.bound) c.loop-column.invariant c.loop-column-test.true _
+    leads_next _ _ _ _ _ (λ column. falling (cell_index c.args.grid c.args.row column) c.args.bound)
+    c.loop-column.invariant c.loop-column-test.true _
     (ap (λ (b : ℕ). falling (λ i. b + i) c.args.bound) c.cell_base-base.ensures.value)
     _ c.in_ok-add_falling.ensures.added
 
 pub returns-clause-added : goal.returns-clause-added
-returns-clause-added c = leads_end _ _ _ _ _ (λ column. falling (cell_index c.args.grid c.args.row column) c.args.bound) c.loop-column.invariant c.loop-column-test.false
+returns-clause-added c = leads_end _ _ _ _ _ (λ column. falling (cell_index c.args.grid c.args.row column) c.args.bound)
+    c.loop-column.invariant c.loop-column-test.false

@@ -9,18 +9,22 @@ loop-i-init c = leads_first _ _
 
 pub returns-in_err-add_implies-clause-refused : goal.returns-in_err-add_implies-clause-refused
 returns-in_err-add_implies-clause-refused c = passed_on _ _ _ c.from_residual.ensures.1
-    (λ is. leads_refused _ _ _ _ _ (λ i. (no_at (c.args.base + i) ∷ yes_at (c.args.base + (i - 1)) ∷ []) ∷ []) c.loop-i.invariant c.loop-i-test.true _ refl
+    (λ is. leads_refused _ _ _ _ _ (λ i. (no_at (c.args.base + i) ∷ yes_at (c.args.base + (i - 1)) ∷ []) ∷ [])
+    c.loop-i.invariant c.loop-i-test.true _ refl
     (c.in_err-add_implies.ensures.refused is))
 
 pub returns-in_err-add_implies-clause-begun : goal.returns-in_err-add_implies-clause-begun
 returns-in_err-add_implies-clause-begun c = passed_on _ _ _ c.from_residual.ensures.1
-    (leads_cut _ _ _ _ _ (λ i. (no_at (c.args.base + i) ∷ yes_at (c.args.base + (i - 1)) ∷ []) ∷ []) c.loop-i.invariant c.loop-i-test.true _ refl
+    (leads_cut _ _ _ _ _ (λ i. (no_at (c.args.base + i) ∷ yes_at (c.args.base + (i - 1)) ∷ []) ∷ [])
+    c.loop-i.invariant c.loop-i-test.true _ refl
     _ (begun_none _ _ _ c.in_err-add_implies.ensures.unchanged))
 
 pub loop-i-preserved : goal.loop-i-preserved
 loop-i-preserved c =
-    leads_next _ _ _ _ _ (λ i. (no_at (c.args.base + i) ∷ yes_at (c.args.base + (i - 1)) ∷ []) ∷ []) c.loop-i.invariant c.loop-i-test.true _ refl
+    leads_next _ _ _ _ _ (λ i. (no_at (c.args.base + i) ∷ yes_at (c.args.base + (i - 1)) ∷ []) ∷ [])
+    c.loop-i.invariant c.loop-i-test.true _ refl
     _ c.in_ok-add_implies.ensures.added
 
 pub returns-clause-added : goal.returns-clause-added
-returns-clause-added c = leads_end _ _ _ _ _ (λ i. (no_at (c.args.base + i) ∷ yes_at (c.args.base + (i - 1)) ∷ []) ∷ []) c.loop-i.invariant c.loop-i-test.false
+returns-clause-added c = leads_end _ _ _ _ _ (λ i. (no_at (c.args.base + i) ∷ yes_at (c.args.base + (i - 1)) ∷ []) ∷ [])
+    c.loop-i.invariant c.loop-i-test.false

@@ -8,10 +8,12 @@ use Rattle.counterstrategy.proofs.environment_clauses.add_pair_numbers.Goals as 
 
 pub returns-clause-added : goal.returns-clause-added
 returns-clause-added c =
-    subst (λ (g : Grid). OnOk c.add_falling_in_each.result (c.add_falling_in_each.new.out ≡ with_clauses c.args.out.now (falling_in_each g c.args.question.now.bound)))
+    subst (λ (g : Grid). OnOk c.add_falling_in_each.result (c.add_falling_in_each.new.out
+    ≡ with_clauses c.args.out.now (falling_in_each g c.args.question.now.bound)))
     c.pair_grid.ensures.is c.add_falling_in_each.ensures.added
 
 pub returns-clause-refused : goal.returns-clause-refused
 returns-clause-refused c =
-    subst (λ (g : Grid). Refuses c.add_falling_in_each.result (with_clauses c.args.out.now (falling_in_each g c.args.question.now.bound))) c.pair_grid.ensures.is
+    subst (λ (g : Grid). Refuses c.add_falling_in_each.result
+    (with_clauses c.args.out.now (falling_in_each g c.args.question.now.bound))) c.pair_grid.ensures.is
     c.add_falling_in_each.ensures.refused

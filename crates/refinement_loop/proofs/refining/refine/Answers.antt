@@ -58,8 +58,8 @@ returns-in-Ok-Written-clause-writable c =
       c.loop-round.invariant.few_rounds,
       c.requires.in_range.few_rounds,
     ) in
-    λ fits. is_writable spec fits (windows_of rounds) (each_known spec sizes [] rounds c.loop-round.invariant.chain) sizes.states sizes.bound
-    program
+    λ fits. is_writable spec fits (windows_of rounds) (each_known spec sizes [] rounds c.loop-round.invariant.chain) sizes.states
+    sizes.bound program
     (subst (λ rs. IsWrittenFor spec (windows_of (map round_tree rs)) sizes.states sizes.bound program) c.as_slice.ensures.value
     (rw c.in-Ok-Written.field-0-is at c.in-Ok-Written.ensures.turn))
     c.requires.in_range.few_states few (keeps c.in-Ok-Written.program)
