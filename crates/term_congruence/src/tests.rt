@@ -180,3 +180,40 @@ fn unfoldings_of_exponential_size_are_labelled(rt: HostRuntime) -> Result<(), Fa
     }
     Ok(())
 }
+
+/// A term of so many levels, each a function of a signal and of the level below.
+fn nested(alloc: Global, signal: u32, levels: u32) -> Result<Term, NoMemory> {
+    let mut term = Term::Signal(signal);
+    for _ in 0..levels {
+        let below = TermList::More(Box::new(alloc, term)?, Box::new(alloc, TermList::Empty)?);
+        let both = TermList::More(
+            Box::new(alloc, Term::Signal(signal))?,
+            Box::new(alloc, below)?,
+        );
+        term = Term::Apply(7, both);
+    }
+    Ok(term)
+}
+
+#[test]
+fn terms_of_200_levels_are_labelled_along_three_steps(rt: HostRuntime) -> Result<(), Fail> {
+    let alloc = rt.alloc();
+    let mut updates = Vec::new(alloc);
+    for offset in 0..3 {
+        updates.push(Listed {
+            signal: 0,
+            term: nested(alloc, 0, 200)?,
+            offset,
+        })?;
+    }
+    let terms = vec![in alloc; Term::Signal(0), nested(alloc, 0, 200)?]?;
+    let table = classes_along(alloc, terms.as_slice(), updates.as_slice(), 3)?;
+    let rows = table.rows.as_slice();
+    assert_eq!(rt; rows.len(), 4);
+    for step in 0..3 {
+        let before = label(&rt, rows, step, 1);
+        assert_eq!(rt; label(&rt, rows, step + 1, 0), before);
+        assert!(rt; label(&rt, rows, step, 0) != before);
+    }
+    Ok(())
+}
