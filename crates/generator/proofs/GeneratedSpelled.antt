@@ -1,5 +1,5 @@
 -- The generated texts spell specifications.
-use Rattle.std.proofs.Common.{◌≡◌, ℕ, zero, suc, ◌≤◌, true, List, [], ◌∷◌, ◌++◌, map, refl, arith}
+use Rattle.std.proofs.Common.{◌≡◌, ℕ, zero, suc, ◌≤◌, true, List, [], ◌∷◌, ◌++◌, length, map, refl, arith}
 use Rattle.std.specs.Prelude.{Some, codes, decimal, unwrap_or}
 use Rattle.std.specs.Fmt.{digits}
 use Rattle.std.specs.List.{list_all}
@@ -70,3 +70,34 @@ generated_is_spelled (suc (suc (suc zero))) some few = of_three
 generated_is_spelled (suc (suc (suc (suc zero)))) some few = of_four
 generated_is_spelled (suc (suc (suc (suc (suc zero))))) some few = of_five
 generated_is_spelled (suc (suc (suc (suc (suc (suc n)))))) some few = absurd (omega arith)
+
+-- ---- and they are short
+
+short_one : length (generated_text 1) ≡ 49
+unfolding digits
+short_one = refl
+
+short_two : length (generated_text 2) ≡ 77
+unfolding digits
+short_two = refl
+
+short_three : length (generated_text 3) ≡ 105
+unfolding digits
+short_three = refl
+
+short_four : length (generated_text 4) ≡ 133
+unfolding digits
+short_four = refl
+
+short_five : length (generated_text 5) ≡ 161
+unfolding digits
+short_five = refl
+
+pub generated_is_short : (n : ℕ) → 1 ≤ n → n ≤ 5 → length (generated_text n) ≤ 161
+generated_is_short zero some few = absurd (omega arith)
+generated_is_short (suc zero) some few = omega (arith, short_one)
+generated_is_short (suc (suc zero)) some few = omega (arith, short_two)
+generated_is_short (suc (suc (suc zero))) some few = omega (arith, short_three)
+generated_is_short (suc (suc (suc (suc zero)))) some few = omega (arith, short_four)
+generated_is_short (suc (suc (suc (suc (suc zero))))) some few = omega (arith, short_five)
+generated_is_short (suc (suc (suc (suc (suc (suc n)))))) some few = absurd (omega arith)

@@ -5,7 +5,7 @@
 //! of the same names give. `generated_texts_are_spelled` is the law that these texts spell specifications.
 #![tactic(auto)]
 
-ghost use Rattle.std.specs.Prelude.{◌≡◌, ◌++◌, ◌≤◌, ℕ, IfOk, OnOk, codes, decimal};
+ghost use Rattle.std.specs.Prelude.{◌≡◌, ◌++◌, ◌≤◌, ℕ, length, IfOk, OnOk, codes, decimal};
 ghost use Rattle.tsl_terms.specs.SpecTree.{SpecTree};
 ghost use Rattle.tsl_reader.specs.Spells.{Spells};
 ghost use Rattle.generator.specs.Generated.{generated_text, outcome_line, response_line, summary_text};
@@ -77,9 +77,10 @@ fn put_count(out: &mut Vec<u8>, word: &[u8], count: u64) -> Result<(), NoMemory>
     put_bytes(out, b"\n")
 }
 
-/// The texts of the numbers from 1 to 5 spell specifications.
+/// The texts of the numbers from 1 to 5 spell specifications, and have at most 161 bytes.
 pub fn generated_texts_are_spelled()
-    ensures { (n : ℕ) → 1 ≤ n → n ≤ 5 → (spec : SpecTree) × Spells (generated_text n) spec }
+    ensures short { (n : ℕ) → 1 ≤ n → n ≤ 5 → length (generated_text n) ≤ 161 }
+    ensures spelled { (n : ℕ) → 1 ≤ n → n ≤ 5 → (spec : SpecTree) × Spells (generated_text n) spec }
 {}
 
 #[cfg(test)]
