@@ -9,7 +9,7 @@ use Rattle.program_check.specs.declared.verdict.Verdict.TheVariants.{Signals, Te
 use Rattle.program_check.specs.Verdicts.{IsVerdict}
 use Rattle.tsl_terms.specs.SpecTree.{SpecTree}
 use Rattle.flow_program.specs.ProgramTree.{ProgramTree}
-use Rattle.tsl_tool.specs.declared.words.Command.TheVariants.{Check}
+use Rattle.command_words.specs.declared.task.Task.TheVariants.{Check}
 use Rattle.tsl_tool.specs.declared.status.Status.{Status}
 use Rattle.tsl_tool.specs.declared.status.Status.TheVariants.{Done, No}
 use Rattle.tsl_tool.specs.declared.reply.Reply.{Reply}
@@ -90,7 +90,7 @@ module _ (bound : ℕ) (bytes : List ℕ) (parts : CheckParts) (are : AreCheckPa
     (spells : SpellCheckInput parts input) where
   judged_keeps : (verdict : Verdict) (status : Status) → IsVerdict input.spec input.program bound verdict →
       (verdict ≡ Yes → Realizes input.spec input.program) → (verdict_reply bound verdict).status ≡ status →
-      Promise (Some (Check bound)) status bytes (verdict_reply bound verdict).text
+      Promise (Check bound) status bytes (verdict_reply bound verdict).text
   judged_keeps verdict Done h realizes is = record {
     parts = parts;
     are_parts = are;
@@ -112,17 +112,17 @@ module _ (bound : ℕ) (bytes : List ℕ) (parts : CheckParts) (are : AreCheckPa
   judged_keeps verdict _ h realizes is = tt
 
   both_keep : (reply : Reply) → VerdictOutcome bound input.spec input.program reply →
-      Promise (Some (Check bound)) reply.status bytes reply.text
-  both_keep reply (too_large limit passed is) = fault_keeps (Some (Check bound)) (fault_at_limit limit) bytes reply is
+      Promise (Check bound) reply.status bytes reply.text
+  both_keep reply (too_large limit passed is) = fault_keeps (Check bound) (fault_at_limit limit) bytes reply is
   both_keep reply (judged verdict h realizes is) =
-      subst (λ (r : Reply). Promise (Some (Check bound)) r.status bytes r.text) (sym is)
+      subst (λ (r : Reply). Promise (Check bound) r.status bytes r.text) (sym is)
       (judged_keeps verdict (verdict_reply bound verdict).status h realizes refl)
 
 pub check_keeps : (bound : ℕ) (bytes : List ℕ) (reply : Reply) → CheckOutcome bound bytes reply →
-    Promise (Some (Check bound)) reply.status bytes reply.text
-check_keeps bound bytes reply (without_program none is) = fault_keeps (Some (Check bound)) (Parts Program) bytes reply is
-check_keeps bound bytes reply (of_texts parts are (spec_refused fault h is)) = fault_keeps (Some (Check bound)) fault bytes reply is
+    Promise (Check bound) reply.status bytes reply.text
+check_keeps bound bytes reply (without_program none is) = fault_keeps (Check bound) (Parts Program) bytes reply is
+check_keeps bound bytes reply (of_texts parts are (spec_refused fault h is)) = fault_keeps (Check bound) fault bytes reply is
 check_keeps bound bytes reply (of_texts parts are (program_refused spec error fault spells cause h is)) =
-    fault_keeps (Some (Check bound)) fault bytes reply is
+    fault_keeps (Check bound) fault bytes reply is
 check_keeps bound bytes reply (of_texts parts are (both_spelled input spells outcome)) =
     both_keep bound bytes parts are input spells reply outcome

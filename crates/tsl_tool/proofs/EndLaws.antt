@@ -1,7 +1,7 @@
 -- How the reply of a run comes of its source, and how the run ends.
 use Rattle.std.proofs.Common.{◌≡◌, ◌≢◌, ℕ, ◌+◌, ◌≤◌, ◌⊎◌, Bool, true, false, List, [], length, refl, ap, sym, ◌∙◌, subst, inl}
 use Rattle.std.proofs.Common.{inr, arith}
-use Rattle.std.specs.Prelude.{Some, None, Result, IfOk, cond}
+use Rattle.std.specs.Prelude.{Option, Some, None, Result, IfOk, cond}
 use Rattle.std.proofs.lemmas.Result.{IfOk-weaker}
 use Rattle.tsl_io.specs.Told.{with_added, TakesFirst, WhereTold}
 use Rattle.tsl_io.proofs.Effects.{some_bytes, more_bytes}
@@ -9,25 +9,27 @@ use Rattle.tsl_report.specs.declared.fault.LimitName.TheVariants.{Text}
 use Rattle.tsl_report.specs.declared.fault.Fault.TheVariants.{Usage as WrongWords, Read, Large as PastLimit}
 use Rattle.tsl_tool.specs.declared.status.Status.{Status}
 use Rattle.tsl_tool.specs.declared.status.Status.TheVariants.{Done, No, Usage, Reading, Large, Spent, ReadFault, WriteFault, Memory}
-use Rattle.tsl_tool.specs.declared.words.Command.{Command}
+use Rattle.command_words.specs.declared.task.Task.{Task}
+use Rattle.command_words.specs.declared.task.Task.TheVariants.{Synth, Check, Run, Prove, Recheck, Gen}
+use Rattle.command_words.specs.Commands.{AsksFor, are_taken}
 use Rattle.tsl_tool.specs.declared.reply.Reply.{Reply}
 use Rattle.tsl_tool.specs.Causes.{Causes, Rises}
-use Rattle.tsl_tool.specs.Commands.{command_of, most_bytes}
+use Rattle.tsl_tool.specs.Tasks.{AreFewBytes, most_bytes}
 use Rattle.tsl_io.specs.Effects.{Effect, HasFailed, NeverFailed, IsUntouched, IsWhole, IsCutOff, AreTold}
 use Rattle.tsl_tool.specs.internal.Sending.{IsSent, sent_whole, sent_in_part}
 use Rattle.tsl_tool.specs.Ends.{sink_of, other_sink}
 use Rattle.tsl_tool.specs.Ends.{CountsReads, IsReplyTo, Ends, answered, cut_off, out_of_memory, HandedOn}
-use Rattle.tsl_tool.specs.Outcome.{CommandOutcome, usage, source_failed, too_long, on_bytes}
+use Rattle.tsl_tool.specs.Outcome.{TaskOutcome, usage, source_failed, too_long, on_bytes}
 use Rattle.tsl_tool.specs.Promise.{Promise}
 use Rattle.tsl_tool.specs.Replies.{fault_reply}
 use Rattle.tsl_tool.specs.Statuses.{is_answer}
 use Rattle.tsl_tool.proofs.Statuses.{comes_of_bytes}
-use Rattle.tsl_tool.proofs.OutcomeLaws.{command_comes, usage_of_words, words_to_usage, no_write_fault, no_memory}
+use Rattle.tsl_tool.proofs.OutcomeLaws.{task_comes, answer_to_task, usage_of_words, words_to_usage, no_write_fault, no_memory}
 use Rattle.tsl_tool.proofs.OutcomeLaws.{outcome_says, keeps_promise}
 
 module _ {E : Type 0} (words : List (List ℕ)) (source : Effect) (r : Result Reply E) where
-  -- the reply to the words of no command
-  pub usage_reply : command_of words ≡ None → NeverFailed source → IfOk r (λ reply. reply ≡ fault_reply WrongWords) →
+  -- the reply to words that are refused
+  pub usage_reply : are_taken words ≡ false → NeverFailed source → IfOk r (λ reply. reply ≡ fault_reply WrongWords) →
       IfOk r (IsReplyTo words source)
   usage_reply none count = IfOk-weaker r _ _ (λ reply is.
       let bytes = some_bytes source.old in record {
@@ -38,27 +40,26 @@ module _ {E : Type 0} (words : List (List ℕ)) (source : Effect) (r : Result Re
       })
 
   -- where a read failed
-  pub fault_reply_to : (command : Command) → command_of words ≡ Some command → HasFailed source →
+  pub fault_reply_to : (task : Task) → AsksFor words task → most_bytes task ≢ None → HasFailed source →
       IfOk r (λ reply. reply ≡ fault_reply Read) →
       IfOk r (IsReplyTo words source)
-  fault_reply_to command known fault = IfOk-weaker r _ _ (λ reply is.
+  fault_reply_to task asks reads fault = IfOk-weaker r _ _ (λ reply is.
       let bytes = some_bytes source.old in record {
         bytes = bytes.0;
         told = bytes.1;
-        outcome = source_failed command known is;
+        outcome = source_failed task asks reads is;
         count = subst (λ (r : Reply). CountsReads r.status source) (sym is) fault;
       })
 
   -- where there are too many bytes
-  pub large_reply : (command : Command) → command_of words ≡ Some command → NeverFailed source →
-      TakesFirst (most_bytes command + 1) source.old source.new →
-      IfOk r (λ reply. reply ≡ fault_reply (PastLimit Text (most_bytes command))) →
+  pub large_reply : (task : Task) (most : ℕ) → AsksFor words task → most_bytes task ≡ Some most → NeverFailed source →
+      TakesFirst (most + 1) source.old source.new → IfOk r (λ reply. reply ≡ fault_reply (PastLimit Text most)) →
       IfOk r (IsReplyTo words source)
-  large_reply command known count takes = IfOk-weaker r _ _ (λ reply is.
-      let bytes = more_bytes (most_bytes command) source.old source.new takes in record {
+  large_reply task most asks reads count takes = IfOk-weaker r _ _ (λ reply is.
+      let bytes = more_bytes most source.old source.new takes in record {
         bytes = bytes.0;
         told = bytes.1;
-        outcome = too_long command known bytes.2 is;
+        outcome = too_long task most asks reads bytes.2 is;
         count = subst (λ (r : Reply). CountsReads r.status source) (sym is) count;
       })
 
@@ -74,15 +75,37 @@ counted WriteFault source comes count = count
 counted Memory source comes count = count
 
 -- the reply to bytes that were read
-pub bytes_reply : {E : Type 0} (words : List (List ℕ)) (source : Effect) (r : Result Reply E) (command : Command) (text lent : List ℕ) →
-    command_of words ≡ Some command → NeverFailed source → WhereTold source.old (λ bytes. text ≡ bytes) → length text ≤ most_bytes command →
-    lent ≡ text → IfOk r (CommandOutcome command lent) → IfOk r (IsReplyTo words source)
-bytes_reply words source r command text lent known count told few same = IfOk-weaker r _ _ (λ reply outcome.
-    let on_text : CommandOutcome command text reply = subst (λ (b : List ℕ). CommandOutcome command b reply) same outcome in record {
+pub bytes_reply : {E : Type 0} (words : List (List ℕ)) (source : Effect) (r : Result Reply E) (task : Task) (most : ℕ)
+    (text lent : List ℕ) → AsksFor words task → most_bytes task ≡ Some most → NeverFailed source →
+    WhereTold source.old (λ bytes. text ≡ bytes) → length text ≤ most → lent ≡ text → IfOk r (TaskOutcome task lent) →
+    IfOk r (IsReplyTo words source)
+bytes_reply words source r task most text lent asks reads count told few same = IfOk-weaker r _ _ (λ reply outcome.
+    let on_text : TaskOutcome task text reply = subst (λ (b : List ℕ). TaskOutcome task b reply) same outcome in record {
       bytes = text;
       told = λ bytes is. sym (told bytes is);
-      outcome = on_bytes command known few on_text;
-      count = counted reply.status source (command_comes command text reply on_text) count;
+      outcome = on_bytes task asks (subst (λ (m : Option ℕ). AreFewBytes m text) (sym reads) few) on_text;
+      count = counted reply.status source (task_comes task text reply on_text) count;
+    })
+
+-- what reads nothing replies so whatever the bytes are
+pub on_any_bytes : (task : Task) (bytes other : List ℕ) (reply : Reply) → most_bytes task ≡ None → TaskOutcome task bytes reply →
+    TaskOutcome task other reply
+on_any_bytes (Synth sizes) bytes other reply reads outcome = cc
+on_any_bytes (Check bound) bytes other reply reads outcome = cc
+on_any_bytes Run bytes other reply reads outcome = cc
+on_any_bytes (Prove sizes) bytes other reply reads outcome = cc
+on_any_bytes Recheck bytes other reply reads outcome = cc
+on_any_bytes (Gen n) bytes other reply reads outcome = outcome
+
+pub unread_reply : {E : Type 0} (words : List (List ℕ)) (source : Effect) (r : Result Reply E) (task : Task) (lent : List ℕ) →
+    AsksFor words task → most_bytes task ≡ None → NeverFailed source → IfOk r (TaskOutcome task lent) → IfOk r (IsReplyTo words source)
+unread_reply words source r task lent asks reads count = IfOk-weaker r _ _ (λ reply outcome.
+    let bytes = some_bytes source.old in
+    let on_bytes_told : TaskOutcome task bytes.0 reply = on_any_bytes task lent bytes.0 reply reads outcome in record {
+      bytes = bytes.0;
+      told = bytes.1;
+      outcome = on_bytes task asks (subst (λ (m : Option ℕ). AreFewBytes m bytes.0) (sym reads) tt) on_bytes_told;
+      count = counted reply.status source (task_comes task bytes.0 reply on_bytes_told) count;
     })
 
 -- each reply has a text
@@ -112,15 +135,19 @@ module _ (words : List (List ℕ)) (source out err : Effect) (reply : Reply) (re
 
   -- and what it promises
   pub out_promises : IsReplyTo words source reply → IsSent reply out result → is_answer result ≡ true →
-      (bytes : List ℕ) × (text : List ℕ) × AreTold source.old bytes × Promise (command_of words) result bytes text ×
-      (out.new ≡ with_added text out.old)
-  out_promises h (sent_whole is whole) answer = (
-    h.bytes,
-    reply.text,
-    h.told,
-    subst (λ (s : Status). Promise (command_of words) s h.bytes reply.text) (sym is) (keeps_promise words h.bytes reply h.outcome),
-    whole.added,
-  )
+      (task : Task) × AsksFor words task × (bytes : List ℕ) × (text : List ℕ) × AreTold source.old bytes ×
+      Promise task result bytes text × (out.new ≡ with_added text out.old)
+  out_promises h (sent_whole is whole) answer =
+      let asked = answer_to_task words h.bytes reply h.outcome (sym (ap is_answer is) ∙ answer) in (
+        asked.0,
+        asked.1,
+        h.bytes,
+        reply.text,
+        h.told,
+        subst (λ (s : Status). Promise asked.0 s h.bytes reply.text) (sym is)
+            (keeps_promise words asked.0 h.bytes reply asked.1 h.outcome),
+        whole.added,
+      )
   out_promises h (sent_in_part is part) answer = let e : is_answer WriteFault ≡ true = sym (ap is_answer is) ∙ answer in cc
 
 -- what an end says of the sinks: one of them counted its fault, or none did
@@ -132,7 +159,7 @@ sinks_at status out err text whole other = by (is_answer status) whole other
     by true whole other = (whole.count, other.count)
     by false whole other = (other.count, whole.count)
 
-fault_at : (status : Status) (out err : Effect) (text : List ℕ) → IsCutOff text (sink_of status out err) → HasFailed out ⊎ HasFailed err
+pub fault_at : (status : Status) (out err : Effect) (text : List ℕ) → IsCutOff text (sink_of status out err) → HasFailed out ⊎ HasFailed err
 fault_at status out err text part = by (is_answer status) part
   where
     by : (answer : Bool) → IsCutOff text (cond answer out err) → HasFailed out ⊎ HasFailed err

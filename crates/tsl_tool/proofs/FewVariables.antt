@@ -1,5 +1,5 @@
 -- A question for a controller within the limits has no more variables than a formula that is read may have.
-use Rattle.std.proofs.Common.{ℕ, ◌+◌, ◌*◌, ◌≤◌, ◌^◌, inl, inr, length, ap, arith}
+use Rattle.std.proofs.Common.{ℕ, ◌+◌, ◌*◌, ◌≤◌, ◌^◌, [], inl, inr, length, ap, arith}
 use Rattle.std.proofs.lemmas.Bool.Decides.{leb_tells}
 use Rattle.std.proofs.lemmas.Nat.{mul-le}
 use Rattle.std.proofs.Math.Nat.{pow-le-pow_right}
@@ -7,7 +7,8 @@ use Rattle.tsl_terms.specs.SpecTree.{SpecTree}
 use Rattle.letter_space.specs.SpaceTree.{SpaceTree, choice_count, bit_count}
 use Rattle.bounded_encoding.specs.Question.{QuestionTree}
 use Rattle.bounded_encoding.specs.Variables.{variable_count}
-use Rattle.refinement_loop.specs.Outcomes.{IsAsked}
+use Rattle.machines.specs.declared.side.Side.TheVariants.{Controller}
+use Rattle.refinement_loop.specs.Questions.{IsAsked}
 
 -- with so many valuations, choices, states of an automaton and numbers at most
 few_by : (s v c p k most_v most_c : ℕ) → s ≤ 8 → v ≤ most_v → c ≤ most_c → p ≤ 4096 → k ≤ 16 →
@@ -23,7 +24,7 @@ few_by s v c p k most_v most_c few_s few_v few_c few_p few_k =
     sum_le : (a b c d e f : ℕ) → a ≤ d → b ≤ e → c ≤ f → (a + b) + c ≤ (d + e) + f
     sum_le a b c d e f first second third = omega (arith, first, second, third)
 
-pub few_variables : (spec : SpecTree) (states bound : ℕ) (q : QuestionTree) → states ≤ 8 → bound ≤ 15 → IsAsked spec states bound q →
+pub few_variables : (spec : SpecTree) (states bound : ℕ) (q : QuestionTree) → states ≤ 8 → bound ≤ 15 → IsAsked Controller spec [] states bound q →
     variable_count q ≤ 1048576
 few_variables spec states bound q few_states small_bound asked =
     let predicates : length q.space.predicates ≤ 10 = few_predicates in

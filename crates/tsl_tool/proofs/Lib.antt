@@ -1,8 +1,10 @@
+pub mod AnswersCome
 pub mod CheckReplies
 pub mod CheckStages
-pub mod CommandExamples
+pub mod EndExamples
 pub mod EndLaws
 pub mod FaultPromises
+pub mod OneInput
 pub mod OutcomeLaws
 pub mod PlainUpdates
 pub mod ProgramFaultLaws
@@ -21,7 +23,12 @@ pub mod FewVariables
 pub mod FormulaLines
 pub mod ProveReplies
 pub mod ProveStages
+pub mod HeldRounds
 pub mod SynthReplies
 pub mod SynthStages
+pub mod VerdictsCome
 pub mod WholeTexts
-pub mod OptionPairs
+pub mod GenReplies
+pub mod ChoiceCounts
+pub mod GenStages
+pub mod TaskFacts

@@ -5,16 +5,17 @@ use Rattle.tsl_terms.specs.SpecTree.{SpecTree}
 use Rattle.tsl_reader.specs.Spells.{Spells}
 use Rattle.tsl_reader.proofs.Causes.{one_spec}
 use Rattle.clause_core.specs.Literals.{Lit}
-use Rattle.machines.specs.MachineTree.{ControllerTree}
+use Rattle.letter_space.specs.SpecSpace.{spec_space}
+use Rattle.machines.specs.declared.side.Side.TheVariants.{Controller}
 use Rattle.program_check.specs.declared.verdict.Limit.{Limit}
-use Rattle.bounded_encoding.specs.Question.{QuestionTree, IsSolution}
 use Rattle.refutation_check.specs.LogText.{log_answer}
 use Rattle.refutation_text.specs.Parted.{SpellsRefutation}
-use Rattle.refinement_loop.specs.Outcomes.{IsAsked, IsLargeFor}
-use Rattle.refinement_loop.proofs.OneAnswer.{not_answered}
+use Rattle.refinement_loop.specs.Questions.{HasSolution}
+use Rattle.refinement_loop.specs.Outcomes.{IsLargeFor}
+use Rattle.refinement_loop.proofs.OneAnswer.{not_answered, not_both}
 use Rattle.tsl_report.specs.SearchTexts.{spent_text}
-use Rattle.tsl_tool.specs.declared.words.QuestionSizes.{QuestionSizes}
-use Rattle.tsl_tool.specs.declared.words.Command.TheVariants.{Prove}
+use Rattle.command_words.specs.declared.task.ProveSizes.{ProveSizes}
+use Rattle.command_words.specs.declared.task.Task.TheVariants.{Prove}
 use Rattle.tsl_tool.specs.declared.status.Status.{Status}
 use Rattle.tsl_tool.specs.declared.status.Status.TheVariants.{Done, No, Large, Spent}
 use Rattle.tsl_tool.specs.declared.reply.Reply.{Reply}
@@ -29,7 +30,7 @@ use Rattle.tsl_tool.proofs.SynthReplies.{not_refused}
 
 -- ---- statuses
 
-pub prove_comes : (sizes : QuestionSizes) (bytes : List ℕ) (reply : Reply) → ProveOutcome sizes bytes reply →
+pub prove_comes : (sizes : ProveSizes) (bytes : List ℕ) (reply : Reply) → ProveOutcome sizes bytes reply →
     comes_of_bytes reply.status ≡ true
 prove_comes sizes bytes reply (refused fault h is) = ap comes_of_bytes (status_of is) ∙ refusal_comes bytes h.error fault h.is_fault
 prove_comes sizes bytes reply (of_spec spec spells (proved done h)) = ap comes_of_bytes done
@@ -39,34 +40,35 @@ prove_comes sizes bytes reply (of_spec spec spells (too_large limit h is)) = ap 
 
 -- ---- texts
 
-pub prove_says : (sizes : QuestionSizes) (bytes : List ℕ) (reply : Reply) → ProveOutcome sizes bytes reply → reply.text ≢ []
+pub prove_says : (sizes : ProveSizes) (bytes : List ℕ) (reply : Reply) → ProveOutcome sizes bytes reply → reply.text ≢ []
 prove_says sizes bytes reply (refused fault h is) e = fault_says fault reply is e
 prove_says sizes bytes reply (of_spec spec spells (proved done h)) e =
     let proof : proof_text spec h.question h.steps ≡ [] = sym h.text_is ∙ e in cc
 prove_says sizes bytes reply (of_spec spec spells (satisfiable is h)) e =
     let says : codes "satisfiable\n" ≡ [] = sym h.text_is ∙ e in cc
 prove_says sizes bytes reply (of_spec spec spells (spent is h)) e =
-    let trace : spent_text sizes.states sizes.bound h.automaton_states h.edges h.clauses ≡ [] = sym h.text_is ∙ e in cc
+    let trace : spent_text spec.names (spec_space spec) Controller sizes.states sizes.bound [] h.automaton_states h.edges h.clauses ≡ []
+    = sym h.text_is ∙ e in cc
 prove_says sizes bytes reply (of_spec spec spells (too_large limit h is)) e = fault_says (fault_at_limit limit) reply is e
 
 -- ---- promises
 
-pub prove_keeps : (sizes : QuestionSizes) (bytes : List ℕ) (reply : Reply) → ProveOutcome sizes bytes reply →
-    Promise (Some (Prove sizes)) reply.status bytes reply.text
-prove_keeps sizes bytes reply (refused fault h is) = fault_keeps (Some (Prove sizes)) fault bytes reply is
+pub prove_keeps : (sizes : ProveSizes) (bytes : List ℕ) (reply : Reply) → ProveOutcome sizes bytes reply →
+    Promise (Prove sizes) reply.status bytes reply.text
+prove_keeps sizes bytes reply (refused fault h is) = fault_keeps (Prove sizes) fault bytes reply is
 prove_keeps sizes bytes reply (of_spec spec spells (proved done h)) =
-    subst (λ (s : Status). Promise (Some (Prove sizes)) s bytes reply.text) (sym done) (spec, spells, h)
+    subst (λ (s : Status). Promise (Prove sizes) s bytes reply.text) (sym done) (spec, spells, h)
 prove_keeps sizes bytes reply (of_spec spec spells (satisfiable is h)) =
-    subst (λ (s : Status). Promise (Some (Prove sizes)) s bytes reply.text) (sym is) (spec, spells, h)
+    subst (λ (s : Status). Promise (Prove sizes) s bytes reply.text) (sym is) (spec, spells, h)
 prove_keeps sizes bytes reply (of_spec spec spells (spent is h)) =
-    subst (λ (s : Status). Promise (Some (Prove sizes)) s bytes reply.text) (sym is) (spec, spells, h)
+    subst (λ (s : Status). Promise (Prove sizes) s bytes reply.text) (sym is) (spec, spells, h)
 prove_keeps sizes bytes reply (of_spec spec spells (too_large limit h is)) =
-    fault_keeps (Some (Prove sizes)) (fault_at_limit limit) bytes reply is
+    fault_keeps (Prove sizes) (fault_at_limit limit) bytes reply is
 
 -- ---- completeness
 
-pub question_answers : (sizes : QuestionSizes) (bytes : List ℕ) (spec : SpecTree) (reply : Reply) → Spells bytes spec →
-    ((limit : Limit) → IsLargeFor spec sizes.states sizes.bound limit → ⊥) → ProveOutcome sizes bytes reply → is_answer reply.status ≡ true
+pub question_answers : (sizes : ProveSizes) (bytes : List ℕ) (spec : SpecTree) (reply : Reply) → Spells bytes spec →
+    ((limit : Limit) → IsLargeFor spec [] sizes.states sizes.bound limit → ⊥) → ProveOutcome sizes bytes reply → is_answer reply.status ≡ true
 question_answers sizes bytes spec reply spells within (refused fault h is) =
     absurd (not_refused bytes spec h.error fault spells h.spells_none h.is_fault)
 question_answers sizes bytes spec reply spells within (of_spec other spelled (proved done h)) = ap is_answer done
@@ -74,39 +76,37 @@ question_answers sizes bytes spec reply spells within (of_spec other spelled (sa
 question_answers sizes bytes spec reply spells within (of_spec other spelled (spent is h)) = ap is_answer is
 question_answers sizes bytes spec reply spells within (of_spec other spelled (too_large limit h is)) =
     absurd (within limit
-    (subst (λ (s : SpecTree). IsLargeFor s sizes.states sizes.bound limit) (one_spec bytes other spec spelled spells) h))
+    (subst (λ (s : SpecTree). IsLargeFor s [] sizes.states sizes.bound limit) (one_spec bytes other spec spelled spells) h))
 
 -- where a controller of the size has an annotation within the bound, the answer is no proof
-pub controller_not_refuted : (sizes : QuestionSizes) (bytes : List ℕ) (spec : SpecTree) (reply : Reply) (q : QuestionTree)
-    (c : ControllerTree) (number : ℕ → ℕ → Option ℕ) → Spells bytes spec → IsAsked spec sizes.states sizes.bound q →
-    IsSolution q c number → ProveOutcome sizes bytes reply → reply.status ≡ Done → ⊥
-controller_not_refuted sizes bytes spec reply q c number spells asked solution (refused fault h is) done =
+pub controller_not_refuted : (sizes : ProveSizes) (bytes : List ℕ) (spec : SpecTree) (reply : Reply) → Spells bytes spec →
+    HasSolution spec [] sizes.states sizes.bound → ProveOutcome sizes bytes reply → reply.status ≡ Done → ⊥
+controller_not_refuted sizes bytes spec reply spells found (refused fault h is) done =
     not_refused bytes spec h.error fault spells h.spells_none h.is_fault
-controller_not_refuted sizes bytes spec reply q c number spells asked solution (of_spec other spelled (proved is h)) done =
-    h.none.none q
-    (subst (λ (s : SpecTree). IsAsked s sizes.states sizes.bound q) (one_spec bytes spec other spells spelled) asked)
-    c number solution
-controller_not_refuted sizes bytes spec reply q c number spells asked solution (of_spec other spelled (satisfiable is h)) done =
+controller_not_refuted sizes bytes spec reply spells found (of_spec other spelled (proved is h)) done =
+    not_both other [] sizes.states sizes.bound
+    (subst (λ (s : SpecTree). HasSolution s [] sizes.states sizes.bound) (one_spec bytes spec other spells spelled) found) h.none
+controller_not_refuted sizes bytes spec reply spells found (of_spec other spelled (satisfiable is h)) done =
     let e : No ≡ Done = sym is ∙ done in cc
-controller_not_refuted sizes bytes spec reply q c number spells asked solution (of_spec other spelled (spent is h)) done =
+controller_not_refuted sizes bytes spec reply spells found (of_spec other spelled (spent is h)) done =
     let e : Spent ≡ Done = sym is ∙ done in cc
-controller_not_refuted sizes bytes spec reply q c number spells asked solution (of_spec other spelled (too_large limit h is)) done =
+controller_not_refuted sizes bytes spec reply spells found (of_spec other spelled (too_large limit h is)) done =
     let e : false ≡ true = sym (limit_is_large limit) ∙ (sym (ap is_answer (status_of is)) ∙ ap is_answer done) in cc
 
 -- where a limit is passed, that is what is told
-pub question_is_large : (sizes : QuestionSizes) (bytes : List ℕ) (spec : SpecTree) (reply : Reply) (limit : Limit) → Spells bytes spec →
-    IsLargeFor spec sizes.states sizes.bound limit → ProveOutcome sizes bytes reply → reply.status ≡ Large
+pub question_is_large : (sizes : ProveSizes) (bytes : List ℕ) (spec : SpecTree) (reply : Reply) (limit : Limit) → Spells bytes spec →
+    IsLargeFor spec [] sizes.states sizes.bound limit → ProveOutcome sizes bytes reply → reply.status ≡ Large
 question_is_large sizes bytes spec reply limit spells large (refused fault h is) =
     absurd (not_refused bytes spec h.error fault spells h.spells_none h.is_fault)
 question_is_large sizes bytes spec reply limit spells large (of_spec other spelled (proved is h)) =
-    absurd (not_answered other sizes.states sizes.bound h.none.question limit h.none.asked h.none.few
-    (subst (λ (s : SpecTree). IsLargeFor s sizes.states sizes.bound limit) (one_spec bytes spec other spells spelled) large))
+    absurd (not_answered other [] sizes.states sizes.bound h.none.question limit h.none.asked h.none.few
+    (subst (λ (s : SpecTree). IsLargeFor s [] sizes.states sizes.bound limit) (one_spec bytes spec other spells spelled) large))
 question_is_large sizes bytes spec reply limit spells large (of_spec other spelled (satisfiable is h)) =
-    absurd (not_answered other sizes.states sizes.bound h.question limit h.asked h.few
-    (subst (λ (s : SpecTree). IsLargeFor s sizes.states sizes.bound limit) (one_spec bytes spec other spells spelled) large))
+    absurd (not_answered other [] sizes.states sizes.bound h.question limit h.asked h.few
+    (subst (λ (s : SpecTree). IsLargeFor s [] sizes.states sizes.bound limit) (one_spec bytes spec other spells spelled) large))
 question_is_large sizes bytes spec reply limit spells large (of_spec other spelled (spent is h)) =
-    absurd (not_answered other sizes.states sizes.bound h.spent.question limit h.spent.asked h.spent.few
-    (subst (λ (s : SpecTree). IsLargeFor s sizes.states sizes.bound limit) (one_spec bytes spec other spells spelled) large))
+    absurd (not_answered other [] sizes.states sizes.bound h.spent.question limit h.spent.asked h.spent.limits
+    (subst (λ (s : SpecTree). IsLargeFor s [] sizes.states sizes.bound limit) (one_spec bytes spec other spells spelled) large))
 question_is_large sizes bytes spec reply limit spells large (of_spec other spelled (too_large named h is)) =
     status_of is ∙ limit_status named
 

@@ -1,10 +1,13 @@
 -- The outcomes of each stage of `prove`.
-use Rattle.std.proofs.Common.{◌≡◌, ℕ, ◌<◌, ◌≤◌, List, ◌++◌, All, length, ap, sym, ◌∙◌, subst}
+use Rattle.std.proofs.Common.{◌≡◌, ℕ, ◌<◌, ◌≤◌, List, [], ◌++◌, All, length, ap, sym, ◌∙◌, subst}
 use Rattle.std.specs.Prelude.{Option, Result, Ok, Err, IfOk}
 use Rattle.tsl_terms.specs.SpecTree.{SpecTree, whole_formula}
 use Rattle.tsl_terms.specs.WellFormed.{SpecFits}
 use Rattle.tsl_reader.specs.declared.SpecError.{SpecError}
 use Rattle.tsl_reader.specs.Spells.{Spells, HasCause, SpellsNoSpec}
+use Rattle.letter_space.specs.SpaceTree.{SpaceTree}
+use Rattle.letter_space.specs.SpecSpace.{spec_space}
+use Rattle.machines.specs.declared.side.Side.TheVariants.{Controller}
 use Rattle.machines.specs.MachineTree.{ControllerTree}
 use Rattle.annotation_check.specs.Annotations.{number_of_pair}
 use Rattle.clause_core.specs.Literals.{Lit}
@@ -19,28 +22,27 @@ use Rattle.bounded_encoding.specs.Question.{QuestionTree}
 use Rattle.bounded_encoding.specs.Variables.{variable_count}
 use Rattle.bounded_encoding.specs.Encoding.{encoding}
 use Rattle.bounded_encoding.specs.Answers.{IsFoundController, IsRefuted}
-use Rattle.refinement_loop.specs.Outcomes.{IsAsked, HasFewClauses, IsSpentOn, IsLargeFor}
+use Rattle.refinement_loop.specs.Questions.{IsAsked, HasFewClauses}
+use Rattle.refinement_loop.specs.Outcomes.{IsSpentOn, IsLargeFor}
 use Rattle.refinement_loop.proofs.OneAnswer.{none_of}
 use Rattle.tsl_report.specs.declared.fault.Fault.{Fault}
 use Rattle.tsl_report.specs.FormulaText.{formula_text}
-use Rattle.tsl_tool.specs.declared.words.QuestionSizes.{QuestionSizes}
-use Rattle.tsl_tool.specs.declared.words.Command.TheVariants.{Prove}
-use Rattle.tsl_tool.specs.declared.status.Status.TheVariants.{Done}
+use Rattle.tsl_report.specs.SearchTexts.{spent_text}
+use Rattle.command_words.specs.declared.task.ProveSizes.{ProveSizes}
+use Rattle.tsl_tool.specs.declared.status.Status.TheVariants.{Done, Spent}
 use Rattle.tsl_tool.specs.declared.reply.Reply.{Reply}
-use Rattle.tsl_tool.specs.Commands.{HasItsValues}
+use Rattle.tsl_tool.specs.internal.TaskRanges.{IsQuestionInRange}
 use Rattle.tsl_tool.specs.Prove.{IsProof, QuestionOutcome, proved, satisfiable, spent, too_large, satisfiable_reply}
 use Rattle.tsl_tool.specs.Prove.{ProveOutcome, refused, of_spec}
 use Rattle.tsl_tool.specs.Refusals.{IsFaultOf, fault_at_limit}
 use Rattle.tsl_tool.specs.Replies.{fault_reply}
-use Rattle.tsl_tool.specs.Synth.{spent_reply}
 use Rattle.tsl_tool.proofs.FewVariables.{few_variables}
 use Rattle.tsl_tool.proofs.FormulaLines.{formula_in_line}
 use Rattle.tsl_tool.proofs.Statuses.{status_of, text_of}
-use Rattle.tsl_tool.proofs.SynthStages.{tells_spent}
 
 -- the text of a refutation of the question's clauses behind the whole formula is that of a proof
-is_proof : (sizes : QuestionSizes) (spec : SpecTree) (q : QuestionTree) (count : ℕ) (list : List (List Lit)) (steps : List Step)
-    (text : List ℕ) → HasItsValues (Prove sizes) → SpecFits spec → IsAsked spec sizes.states sizes.bound q → length (encoding q) ≤ 2000000 →
+is_proof : (sizes : ProveSizes) (spec : SpecTree) (q : QuestionTree) (count : ℕ) (list : List (List Lit)) (steps : List Step)
+    (text : List ℕ) → IsQuestionInRange sizes → SpecFits spec → IsAsked Controller spec [] sizes.states sizes.bound q → length (encoding q) ≤ 2000000 →
     IsRefuted q count list steps → length steps < 200000000000000000 →
     text ≡ comment_text (formula_text spec.names (whole_formula spec)) ++ refutation_text count list steps →
     All (IsClauseOver count) list → All (λ step. IsIncreasing step.clause) steps → IsProof sizes spec text
@@ -51,7 +53,7 @@ is_proof sizes spec q count list steps text ranges fits asked few refuted short 
     let each : All (IsClauseOver (variable_count q)) (encoding q) =
     subst (λ (v : ℕ). All (IsClauseOver v) (encoding q)) refuted.variables
     (subst (λ (cs : List (List Lit)). All (IsClauseOver count) cs) refuted.clauses over) in
-    let small : variable_count q ≤ 1048576 = few_variables spec sizes.states sizes.bound q ranges.0.1 ranges.1.1 asked in
+    let small : variable_count q ≤ 1048576 = few_variables spec sizes.states sizes.bound q ranges.few_states ranges.small_bound asked in
     record {
       question = q;
       asked = asked;
@@ -62,10 +64,10 @@ is_proof sizes spec q count list steps text ranges fits asked few refuted short 
           (record { few_variables = small; few_clauses = few; each = each })
           (are_readable (variable_count q) (encoding q) steps small few short refuted.refuting.numbered refuted.refuting.accepted rising)
           refuted.refuting.accepted);
-      none = none_of spec sizes.states sizes.bound q asked few refuted.none;
+      none = none_of spec [] sizes.states sizes.bound q asked few refuted.none;
     }
 
-module _ {E : Type 0} (sizes : QuestionSizes) where
+module _ {E : Type 0} (sizes : ProveSizes) where
   pub refused_outcome : (bytes : List ℕ) (error : SpecError) (fault : Fault) (r : Result Reply E) → HasCause bytes error →
       SpellsNoSpec bytes error → IsFaultOf bytes error fault → IfOk r (λ reply. reply ≡ fault_reply fault) →
       IfOk r (ProveOutcome sizes bytes)
@@ -79,12 +81,12 @@ module _ {E : Type 0} (sizes : QuestionSizes) where
   spec_outcome bytes spec (Err e) spells outcome = tt
 
   pub too_large_outcome : (spec : SpecTree) (limit : Limit) (fault : Fault) (r : Result Reply E) →
-      IsLargeFor spec sizes.states sizes.bound limit → fault ≡ fault_at_limit limit → IfOk r (λ reply. reply ≡ fault_reply fault) →
+      IsLargeFor spec [] sizes.states sizes.bound limit → fault ≡ fault_at_limit limit → IfOk r (λ reply. reply ≡ fault_reply fault) →
       IfOk r (QuestionOutcome sizes spec)
   too_large_outcome spec limit fault (Ok reply) large is_limit is = too_large limit large (is ∙ ap fault_reply is_limit)
   too_large_outcome spec limit fault (Err e) large is_limit is = tt
 
-module _ {E : Type 0} (sizes : QuestionSizes) (spec : SpecTree) (q : QuestionTree) (asked : IsAsked spec sizes.states sizes.bound q) where
+module _ {E : Type 0} (sizes : ProveSizes) (spec : SpecTree) (q : QuestionTree) (asked : IsAsked Controller spec [] sizes.states sizes.bound q) where
   pub satisfiable_outcome : (c : ControllerTree) (most : ℕ) (numbers : List (Option ℕ)) (r : Result Reply E) → HasFewClauses q →
       IsFoundController q c most numbers → IfOk r (λ reply. reply ≡ satisfiable_reply) → IfOk r (QuestionOutcome sizes spec)
   satisfiable_outcome c most numbers (Ok reply) few found is = satisfiable (status_of is) (record {
@@ -98,7 +100,7 @@ module _ {E : Type 0} (sizes : QuestionSizes) (spec : SpecTree) (q : QuestionTre
   })
   satisfiable_outcome c most numbers (Err e) few found is = tt
 
-  pub proved_outcome : (count : ℕ) (list : List (List Lit)) (steps : List Step) (r : Result Reply E) → HasItsValues (Prove sizes) →
+  pub proved_outcome : (count : ℕ) (list : List (List Lit)) (steps : List Step) (r : Result Reply E) → IsQuestionInRange sizes →
       SpecFits spec → length (encoding q) ≤ 2000000 → IsRefuted q count list steps →
       IfOk r (λ reply. length steps < 200000000000000000) → IfOk r (λ reply. reply.status ≡ Done) →
       IfOk r (λ reply. reply.text ≡ comment_text (formula_text spec.names (whole_formula spec)) ++ refutation_text count list steps) →
@@ -108,10 +110,18 @@ module _ {E : Type 0} (sizes : QuestionSizes) (spec : SpecTree) (q : QuestionTre
       proved done (is_proof sizes spec q count list steps reply.text ranges fits asked few refuted short is over rising)
   proved_outcome count list steps (Err e) ranges fits few refuted short done is over rising = tt
 
-  pub spent_outcome : (clauses : List (List Lit)) (r : Result Reply E) →
-      IsSpentOn spec sizes.states sizes.bound sizes.budget q.automaton_states q.edges clauses →
-      IfOk r (λ reply. reply ≡ spent_reply sizes.states sizes.bound q.automaton_states q.edges clauses) →
+  pub spent_outcome : (clauses : List (List Lit)) (space : SpaceTree) (r : Result Reply E) → space ≡ spec_space spec →
+      IsSpentOn Controller spec [] sizes.states sizes.bound sizes.budget q.automaton_states q.edges clauses →
+      IfOk r (λ reply. reply.status ≡ Spent) →
+      IfOk r (λ reply. reply.text
+      ≡ spent_text spec.names space Controller sizes.states sizes.bound [] q.automaton_states q.edges clauses) →
       IfOk r (QuestionOutcome sizes spec)
-  spent_outcome clauses (Ok reply) trace is = spent (status_of is)
-      (tells_spent spec sizes.states sizes.bound sizes.budget q.automaton_states q.edges clauses reply trace is)
-  spent_outcome clauses (Err e) trace is = tt
+  spent_outcome clauses space (Ok reply) same trace is says = spent is (record {
+    automaton_states = q.automaton_states;
+    edges = q.edges;
+    clauses = clauses;
+    spent = trace;
+    text_is = says
+        ∙ ap (λ (s : SpaceTree). spent_text spec.names s Controller sizes.states sizes.bound [] q.automaton_states q.edges clauses) same;
+  })
+  spent_outcome clauses space (Err e) same trace is says = tt

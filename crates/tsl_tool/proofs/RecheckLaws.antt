@@ -27,7 +27,7 @@ spelled_by cnf log too_many_variables steps is_formula is_steps h = cc
 spelled_by cnf log too_many_clauses steps is_formula is_steps h = cc
 
 -- and is their verdict
-is_verdict : {cnf log : List ℕ} (spelled : FormulaAndLog cnf log) → reply_on cnf log ≡ verdict (refusal_of spelled)
+pub is_verdict : {cnf log : List ℕ} (spelled : FormulaAndLog cnf log) → reply_on cnf log ≡ verdict (refusal_of spelled)
 is_verdict spelled = rw (spelled.formula, spelled.log)
 
 verdict_yes : (refusal : Option Refusal) → (verdict refusal).status ≡ Done → refusal ≡ None

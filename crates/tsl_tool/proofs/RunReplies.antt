@@ -22,7 +22,7 @@ use Rattle.tsl_report.specs.declared.fault.Fault.{Fault}
 use Rattle.tsl_report.specs.declared.fault.Fault.TheVariants.{Parts, Large}
 use Rattle.tsl_report.specs.declared.fault.LimitName.TheVariants.{Run as RunLimit}
 use Rattle.tsl_report.specs.TraceText.{positions_text, loop_text, verdicts_text, trace_text}
-use Rattle.tsl_tool.specs.declared.words.Command.TheVariants.{Run}
+use Rattle.command_words.specs.declared.task.Task.TheVariants.{Run}
 use Rattle.tsl_tool.specs.declared.status.Status.{Status}
 use Rattle.tsl_tool.specs.declared.status.Status.TheVariants.{Done, No}
 use Rattle.tsl_tool.specs.declared.reply.Reply.{Reply}
@@ -145,7 +145,7 @@ module _ (bytes : List ℕ) (parts : RunParts) (are : AreParts bytes parts) (inp
   }
 
   traced_keeps : (run : RunTree ℕ) (status : Status) → Closes input run → HasGivenSignals input.given input.program →
-      (run_reply input run).status ≡ status → Promise (Some Run) status bytes (run_reply input run).text
+      (run_reply input run).status ≡ status → Promise Run status bytes (run_reply input run).text
   traced_keeps run Done closes same is = record {
     trace = is_trace run closes same;
     all_hold = each_holds (judged_formulas input) (λ f. meets (lasso_of input (shape_of run)) f 0)
@@ -156,16 +156,16 @@ module _ (bytes : List ℕ) (parts : RunParts) (are : AreParts bytes parts) (inp
       (shape_of run)) is))
   traced_keeps run _ closes same is = tt
 
-  input_keeps : (reply : Reply) → InputOutcome input reply → Promise (Some Run) reply.status bytes reply.text
-  input_keeps reply (runs_on different is) = fault_keeps (Some Run) (Large RunLimit most_configurations) bytes reply is
+  input_keeps : (reply : Reply) → InputOutcome input reply → Promise Run reply.status bytes reply.text
+  input_keeps reply (runs_on different is) = fault_keeps Run (Large RunLimit most_configurations) bytes reply is
   input_keeps reply (other_signals run closes other is) =
-      subst (λ (r : Reply). Promise (Some Run) r.status bytes r.text) (sym is)
+      subst (λ (r : Reply). Promise Run r.status bytes r.text) (sym is)
       (signals_differ parts are input spells other refl)
   input_keeps reply (traced run closes same is) =
-      subst (λ (r : Reply). Promise (Some Run) r.status bytes r.text) (sym is)
+      subst (λ (r : Reply). Promise Run r.status bytes r.text) (sym is)
       (traced_keeps run (run_reply input run).status closes same refl)
 
-pub run_keeps : (bytes : List ℕ) (reply : Reply) → RunOutcome bytes reply → Promise (Some Run) reply.status bytes reply.text
-run_keeps bytes reply (missing head lacks is) = fault_keeps (Some Run) (Parts head) bytes reply is
-run_keeps bytes reply (of_all_parts parts are (part_refused fault h is)) = fault_keeps (Some Run) fault bytes reply is
+pub run_keeps : (bytes : List ℕ) (reply : Reply) → RunOutcome bytes reply → Promise Run reply.status bytes reply.text
+run_keeps bytes reply (missing head lacks is) = fault_keeps Run (Parts head) bytes reply is
+run_keeps bytes reply (of_all_parts parts are (part_refused fault h is)) = fault_keeps Run fault bytes reply is
 run_keeps bytes reply (of_all_parts parts are (spelled input h outcome)) = input_keeps bytes parts are input h reply outcome

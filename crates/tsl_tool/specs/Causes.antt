@@ -1,8 +1,8 @@
 -- What follows from how a run ends: when each status comes, and what a fault leads to.
-use Rattle.std.specs.Prelude.{◌≡◌, ℕ, ◌<◌, ◌⊎◌, List, None}
+use Rattle.std.specs.Prelude.{◌≡◌, ℕ, ◌<◌, ◌⊎◌, false, List}
+use Rattle.command_words.specs.Commands.{are_taken}
 use Rattle.tsl_tool.specs.declared.status.Status.{Status}
 use Rattle.tsl_tool.specs.declared.status.Status.TheVariants.{Usage, ReadFault, WriteFault, Memory}
-use Rattle.tsl_tool.specs.Commands.{command_of}
 use Rattle.tsl_io.specs.Effects.{Effect, HasFailed, IsUntouched}
 
 -- a fault was counted
@@ -10,9 +10,9 @@ abbrev pub Rises : Effect → Type 0
 Rises device = device.faults_old < device.faults_new
 
 pub record Causes (words : List (List ℕ)) (source out err : Effect) (result : Status) : Type 0 where
-  -- usage is answered to words of no command alone, and such words lead to nothing else
-  pub usage : result ≡ Usage → command_of words ≡ None
-  pub other_words : command_of words ≡ None → (result ≡ Usage) ⊎ ((result ≡ WriteFault) ⊎ (result ≡ Memory))
+  -- usage is answered to words that `clap` refuses alone, and such words lead to nothing else
+  pub usage : result ≡ Usage → are_taken words ≡ false
+  pub other_words : are_taken words ≡ false → (result ≡ Usage) ⊎ ((result ≡ WriteFault) ⊎ (result ≡ Memory))
   -- a fault is answered where one was counted
   pub read_fault : result ≡ ReadFault → HasFailed source
   pub write_fault : result ≡ WriteFault → HasFailed out ⊎ HasFailed err

@@ -1,6 +1,7 @@
+pub mod Answerable
 pub mod Causes
 pub mod Check
-pub mod Commands
+pub mod Gen
 pub mod Ends
 pub mod internal
 pub mod Form
@@ -17,4 +18,4 @@ pub mod RunParts
 pub mod Statuses
 pub mod Synth
 pub mod Limits
-pub mod Options
+pub mod Tasks

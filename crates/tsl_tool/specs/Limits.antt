@@ -1,6 +1,9 @@
 -- The limits of texts and of the work, in numbers. The definitions cite them as constants of the code, and here each constant has its
 -- number.
-use Rattle.std.specs.Prelude.{◌≡◌, ℕ}
+use Rattle.std.specs.Prelude.{◌≡◌, ℕ, Some, None}
+use Rattle.command_words.specs.declared.task.SynthSizes.{SynthSizes}
+use Rattle.command_words.specs.declared.task.ProveSizes.{ProveSizes}
+use Rattle.command_words.specs.declared.task.Task.TheVariants.{Synth, Check, Run, Prove, Recheck, Gen}
 use Rattle.tsl_text.specs.declared.numbers.TheConstants.{MOST_DIGITS}
 use Rattle.tsl_terms.specs.WellFormed.{deepest as deepest_brackets}
 use Rattle.tsl_reader.specs.Spells.{deepest_level, most_formula_nodes}
@@ -12,34 +15,17 @@ use Rattle.letter_space.specs.declared.limits.TheConstants.{MOST_PREDICATES, MOS
 use Rattle.branch_finder.specs.declared.limits.TheConstants.{MOST_BRANCHES}
 use Rattle.obligations.specs.Choices.{most_choices, letter_bits}
 use Rattle.cobuchi_automata.specs.Refusals.{most_automaton_states, most_automaton_edges}
-use Rattle.tsl_tool.specs.declared.options.NumberOption.TheVariants.{States, Bound, Budget, Rounds}
-use Rattle.tsl_tool.specs.Options.{least_value, most_value, usual_value}
 use Rattle.tsl_tool.specs.declared.run.TheConstants.{MOST_CONFIGURATIONS}
-use Rattle.refinement_loop.specs.declared.outcome.Sizes.{Sizes}
-use Rattle.tsl_tool.specs.declared.words.QuestionSizes.{QuestionSizes}
-use Rattle.tsl_tool.specs.declared.words.Command.TheVariants.{Synth, Check, Run, Prove, Recheck}
-use Rattle.tsl_tool.specs.Commands.{most_bytes}
+use Rattle.tsl_tool.specs.Tasks.{most_bytes}
 
 pub record LimitsAreThese : Type 0 where
-  -- bytes of what a command reads
-  pub specification_bytes : (sizes : Sizes) → most_bytes (Synth sizes) ≡ 1048576
-  pub question_bytes : (sizes : QuestionSizes) → most_bytes (Prove sizes) ≡ 1048576
-  pub check_bytes : (bound : ℕ) → most_bytes (Check bound) ≡ 16777216
-  pub run_bytes : most_bytes Run ≡ 16777216
-  pub log_bytes : most_bytes Recheck ≡ 268435456
-  -- the values of options: the states of a controller, the bound of an annotation, the clauses that are learnt, and the rounds
-  pub least_states : least_value States ≡ 1
-  pub most_states : most_value States ≡ 8
-  pub usual_states : usual_value States ≡ 2
-  pub least_bound : least_value Bound ≡ 0
-  pub largest_bound : most_value Bound ≡ 15
-  pub usual_bound : usual_value Bound ≡ 2
-  pub least_budget : least_value Budget ≡ 1
-  pub largest_budget : most_value Budget ≡ 1000000
-  pub usual_budget : usual_value Budget ≡ 20000
-  pub least_rounds : least_value Rounds ≡ 0
-  pub most_rounds : most_value Rounds ≡ 0
-  pub usual_rounds : usual_value Rounds ≡ 0
+  -- bytes of what is read; the numbers of options stand in the definition of their commands
+  pub specification_bytes : (sizes : SynthSizes) → most_bytes (Synth sizes) ≡ Some 1048576
+  pub question_bytes : (sizes : ProveSizes) → most_bytes (Prove sizes) ≡ Some 1048576
+  pub check_bytes : (bound : ℕ) → most_bytes (Check bound) ≡ Some 16777216
+  pub run_bytes : most_bytes Run ≡ Some 16777216
+  pub log_bytes : most_bytes Recheck ≡ Some 268435456
+  pub no_bytes : (n : ℕ) → most_bytes (Gen n) ≡ None
   -- a specification: levels, nodes of the whole formula, brackets of a term
   pub levels : deepest_level ≡ 200
   pub formula_nodes : most_formula_nodes ≡ 10000

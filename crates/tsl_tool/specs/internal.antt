@@ -3,4 +3,5 @@ pub mod RefusalPlaces
 pub mod RunFaultPlaces
 pub mod RunView
 pub mod Sending
-pub mod OptionReading
+pub mod SearchReasons
+pub mod TaskRanges

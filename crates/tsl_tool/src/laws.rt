@@ -1,31 +1,36 @@
 //! Laws of the definitions that the contracts cite.
 
-ghost use Rattle.std.specs.Prelude.{◌≡◌, ◌≢◌, ◌↔◌, ℕ, List, Option, Contains, false, None, IsTrue};
+ghost use Rattle.std.specs.Prelude.{◌≡◌, ◌≢◌, ◌↔◌, ◌⊎◌, ℕ, List, [], Contains, false, None, IsTrue};
 ghost use Rattle.std.specs.List.{AllByRecursion};
+ghost use Rattle.command_words.specs.declared.task.ProveSizes.{ProveSizes};
+ghost use Rattle.command_words.specs.declared.task.Task.{Task};
+ghost use Rattle.command_words.specs.Commands.{AsksFor};
+ghost use Rattle.generator.specs.Generated.{generated_text};
 ghost use Rattle.refutation_check.specs.CnfText.{cnf_answer};
 ghost use Rattle.refutation_check.specs.LogText.{log_answer};
 ghost use Rattle.tsl_terms.specs.SpecTree.{SpecTree};
 ghost use Rattle.tsl_reader.specs.Spells.{Spells};
-ghost use Rattle.machines.specs.MachineTree.{ControllerTree};
+ghost use Rattle.machines.specs.Rounds.{RoundTree};
 ghost use Rattle.program_check.specs.declared.verdict.Limit.{Limit};
-ghost use Rattle.bounded_encoding.specs.Question.{QuestionTree, IsSolution};
 ghost use Rattle.refinement_loop.specs.declared.outcome.Sizes.{Sizes};
-ghost use Rattle.refinement_loop.specs.Outcomes.{IsAsked, IsLargeFor};
+ghost use Rattle.refinement_loop.specs.Questions.{HasSolution};
+ghost use Rattle.refinement_loop.specs.Outcomes.{IsLargeFor, IsLargeAfter};
 ghost use Rattle.tsl_meaning.specs.Lasso.{Meets};
 ghost use Rattle.tsl_meaning.specs.RunLasso.{shape_of};
 ghost use Rattle.tsl_meaning.specs.RunTree.{RunTree};
 ghost use Rattle.tsl_tool.specs.declared.reply.Reply.{Reply};
 ghost use Rattle.tsl_tool.specs.declared.status.Status.{Status};
-ghost use Rattle.tsl_tool.specs.declared.words.QuestionSizes.{QuestionSizes};
 ghost use Rattle.tsl_tool.specs.Causes.{Causes};
-ghost use Rattle.tsl_tool.specs.Commands.{command_of};
 ghost use Rattle.tsl_io.specs.Effects.{Effect};
 ghost use Rattle.tsl_tool.specs.Ends.{Ends};
 ghost use Rattle.tsl_tool.specs.Form.{SpellsUpdates};
+ghost use Rattle.tsl_tool.specs.Gen.{GenOutcome};
 ghost use Rattle.tsl_tool.specs.Limits.{LimitsAreThese};
 ghost use Rattle.tsl_tool.specs.Outcome.{Outcome};
 ghost use Rattle.tsl_tool.specs.Promise.{Promise};
 ghost use Rattle.tsl_tool.specs.Prove.{IsProof, ProveOutcome};
+ghost use Rattle.tsl_tool.specs.Refusals.{fault_at_limit};
+ghost use Rattle.tsl_tool.specs.Replies.{fault_reply};
 ghost use Rattle.tsl_tool.specs.Recheck.{IsAccepted, IsRefused, RecheckOutcome, parts_reply, verdict};
 ghost use Rattle.tsl_tool.specs.Run.{RunInput, lasso_of, judged_formulas, verdicts_of, run_reply};
 ghost use Rattle.tsl_tool.specs.Statuses.{is_answer};
@@ -49,50 +54,64 @@ pub fn ends_have_causes()
         Ends words source out err result → Causes words source out err result }
 {}
 
-/// The reply of each outcome keeps the promise of its command.
+/// The reply of each outcome keeps the promise of the task that the words ask for.
 pub fn outcomes_keep_their_promise()
-    ensures { (words : List (List ℕ)) (bytes : List ℕ) (reply : Reply) →
-        Outcome words bytes reply → Promise (command_of words) reply.status bytes reply.text }
+    ensures { (words : List (List ℕ)) (task : Task) (bytes : List ℕ) (reply : Reply) → AsksFor words task →
+        Outcome words bytes reply → Promise task reply.status bytes reply.text }
 {}
 
 /// Within the limits of the work, what is replied to a specification that is spelled is an answer: a
 /// program, that no controller of the size has an annotation within the bound, or a trace; and for
-/// `prove` a proof of that, that one has, or a trace.
+/// `prove` a proof of that, that one has, or a trace. The limits of `synth` are those of each question
+/// that is asked after the rounds before it.
 pub fn searches_are_answered()
     ensures synth { (sizes : Sizes) (bytes : List ℕ) (spec : SpecTree) (reply : Reply) →
-        Spells bytes spec → ((limit : Limit) → IsLargeFor spec sizes.states sizes.bound limit → ⊥)
+        Spells bytes spec
+        → ((limit : Limit) (rounds : List RoundTree) → IsLargeAfter spec sizes rounds limit → ⊥)
         → SynthOutcome sizes bytes reply → IsTrue (is_answer reply.status) }
-    ensures prove { (sizes : QuestionSizes) (bytes : List ℕ) (spec : SpecTree) (reply : Reply) →
-        Spells bytes spec → ((limit : Limit) → IsLargeFor spec sizes.states sizes.bound limit → ⊥)
+    ensures prove { (sizes : ProveSizes) (bytes : List ℕ) (spec : SpecTree) (reply : Reply) →
+        Spells bytes spec → ((limit : Limit) → IsLargeFor spec [] sizes.states sizes.bound limit → ⊥)
         → ProveOutcome sizes bytes reply → IsTrue (is_answer reply.status) }
+    ensures generated { (n : ℕ) (spec : SpecTree) (reply : Reply) → Spells (generated_text n) spec
+        → ((limit : Limit) → IsLargeFor spec [] n n limit → ⊥) → GenOutcome n reply
+        → IsTrue (is_answer reply.status) }
 {}
 
-/// Where a limit of the work is passed, that is what is told.
+/// Where a limit of the first question is passed, one of its limits is told, by its line alone.
 pub fn limits_are_told()
     ensures synth { (sizes : Sizes) (bytes : List ℕ) (spec : SpecTree) (reply : Reply) (limit : Limit) →
-        Spells bytes spec → IsLargeFor spec sizes.states sizes.bound limit
-        → SynthOutcome sizes bytes reply → reply.status ≡ Status.Large }
-    ensures prove { (sizes : QuestionSizes) (bytes : List ℕ) (spec : SpecTree) (reply : Reply) (limit : Limit) →
-        Spells bytes spec → IsLargeFor spec sizes.states sizes.bound limit
+        Spells bytes spec → IsLargeFor spec [] sizes.states sizes.bound limit
+        → SynthOutcome sizes bytes reply
+        → (told : Limit) × IsLargeFor spec [] sizes.states sizes.bound told
+        × (reply ≡ fault_reply (fault_at_limit told)) }
+    ensures prove { (sizes : ProveSizes) (bytes : List ℕ) (spec : SpecTree) (reply : Reply) (limit : Limit) →
+        Spells bytes spec → IsLargeFor spec [] sizes.states sizes.bound limit
         → ProveOutcome sizes bytes reply → reply.status ≡ Status.Large }
+    ensures generated { (n : ℕ) (spec : SpecTree) (reply : Reply) (limit : Limit) → Spells (generated_text n) spec
+        → IsLargeFor spec [] n n limit → GenOutcome n reply → reply.status ≡ Status.Large }
 {}
 
-/// Where a controller of the size has an annotation within the bound, `synth` does not say that there is
-/// none, and `prove` does not prove it.
+/// Where a controller of the size has an annotation within the bound without windows, `synth` does not say
+/// that there is none, and `prove` does not prove it. Within the limits of that question `synth` writes a
+/// program, or its budget is spent.
 pub fn controllers_are_not_missed()
-    ensures synth { (sizes : Sizes) (bytes : List ℕ) (spec : SpecTree) (reply : Reply) (q : QuestionTree)
-        (c : ControllerTree) (number : ℕ → ℕ → Option ℕ) → Spells bytes spec
-        → IsAsked spec sizes.states sizes.bound q → IsSolution q c number
+    ensures synth { (sizes : Sizes) (bytes : List ℕ) (spec : SpecTree) (reply : Reply) →
+        Spells bytes spec → HasSolution spec [] sizes.states sizes.bound
         → SynthOutcome sizes bytes reply → reply.status ≢ Status.No }
-    ensures prove { (sizes : QuestionSizes) (bytes : List ℕ) (spec : SpecTree) (reply : Reply)
-        (q : QuestionTree) (c : ControllerTree) (number : ℕ → ℕ → Option ℕ) → Spells bytes spec
-        → IsAsked spec sizes.states sizes.bound q → IsSolution q c number
+    ensures found { (sizes : Sizes) (bytes : List ℕ) (spec : SpecTree) (reply : Reply) →
+        Spells bytes spec → HasSolution spec [] sizes.states sizes.bound
+        → ((limit : Limit) → IsLargeFor spec [] sizes.states sizes.bound limit → ⊥)
+        → SynthOutcome sizes bytes reply → (reply.status ≡ Status.Done) ⊎ (reply.status ≡ Status.Spent) }
+    ensures prove { (sizes : ProveSizes) (bytes : List ℕ) (spec : SpecTree) (reply : Reply) →
+        Spells bytes spec → HasSolution spec [] sizes.states sizes.bound
         → ProveOutcome sizes bytes reply → reply.status ≢ Status.Done }
+    ensures generated { (n : ℕ) (spec : SpecTree) (reply : Reply) → Spells (generated_text n) spec
+        → HasSolution spec [] n n → GenOutcome n reply → reply.status ≢ Status.No }
 {}
 
 /// `recheck` verifies each text that `prove` writes as a proof, where it reads so many bytes.
 pub fn proofs_are_verified()
-    ensures { (sizes : QuestionSizes) (spec : SpecTree) (text : List ℕ) → IsProof sizes spec text →
+    ensures { (sizes : ProveSizes) (spec : SpecTree) (text : List ℕ) → IsProof sizes spec text →
         RecheckOutcome text (verdict None) }
 {}
 

@@ -5,15 +5,17 @@
 //!
 //! 1. `Status` (`src/status.rt`): nine ways to end. `Done`, `No` and `Spent` are answers, whose
 //!    text goes to the first sink; the text of every other one goes to the second (`is_answer`).
-//! 2. `Command` (`src/words.rt`), with the values of its options. `command_of` gives that of the
-//!    words, `most_bytes` what it reads at most, and `reads` says whether it reads at all
-//!    (`specs/Commands.antt`). Options are pairs of a name and a number, each with a range and a
-//!    usual value (`specs/Options.antt`).
+//! 2. `Task` (`command_words`): a command with its numbers. `AsksFor words task` says that the words
+//!    ask for it: the first names its command, and its numbers are those that `clap`'s definition of
+//!    that command gives its arguments; `are_taken` says whether `clap` takes the words at all
+//!    (`specs/Commands.antt` of `command_words`). `most_bytes` is what a task reads at most, and
+//!    `ReadNothing` says that nothing is read (`specs/Tasks.antt`).
 //! 3. `Reply` (`src/reply.rt`): a status and one text. `fault_reply` is that of a fault.
 //! 4. `Outcome words bytes reply` (`specs/Outcome.antt`): what the words and the bytes of the
-//!    source may lead to. For each command it goes on to `SynthOutcome` (`specs/Synth.antt`),
+//!    source may lead to. For each task it goes on to `SynthOutcome` (`specs/Synth.antt`),
 //!    `CheckOutcome` (`specs/Check.antt`), `RunOutcome` (`specs/Run.antt`), `ProveOutcome`
-//!    (`specs/Prove.antt`) or `RecheckOutcome` (`specs/Recheck.antt`).
+//!    (`specs/Prove.antt`), `RecheckOutcome` (`specs/Recheck.antt`) or `GenOutcome`
+//!    (`specs/Gen.antt`).
 //! 5. `Effect` (`specs/Effects.antt` of `tsl_io`): the bytes and the count of faults of a source
 //!    or a sink, before the run and after it, and what can be said of them: untouched, written
 //!    whole, cut off by a fault.
@@ -21,7 +23,7 @@
 //!    written whole, or it was cut off, or memory ran out. The reply is an outcome on the bytes of
 //!    the source: on those that the source tells, and on some bytes where it tells none, as
 //!    standard input does.
-//! 7. `Promise` (`specs/Promise.antt`): what the answer of each command promises of the bytes and
+//! 7. `Promise` (`specs/Promise.antt`): what the answer to each task promises of the bytes and
 //!    of the text that was written.
 //!    - `synth`, at `Done`: the text spells a program over the names of the specification that the
 //!      bytes spell, and every closed run of that program, under every finite interpretation and
@@ -36,13 +38,21 @@
 //!    - `prove`, at `Done`: the text spells a refutation of the encoding, which `recheck` verifies,
 //!      and no controller of the size has an annotation. At `No`: one has. At `Spent` as `synth`.
 //!    - `recheck`, at `Done`: no assignment meets all clauses of the formula that the bytes spell.
+//!    - `gen`, at `Done`: the program of a controller with as many states as its number, which has an
+//!      annotation within the same bound, realizes the specification that the text of this number
+//!      spells. At `No`: no such controller has one. At `Spent` as `synth`.
 //!
 //! The clauses of `tsl` say: the status and what stands in the sinks are those of an `Ends`; an
-//! answer keeps the `Promise` of its command; words that read nothing leave the source as it was;
-//! what was written was handed on. What follows from them is said by laws:
+//! answer keeps the `Promise` of the task that the words ask for; where nothing is read the source is
+//! as it was; what was written was handed on. What follows from them is said by laws:
 //!
 //! - `ends_have_causes` gives each status its cause and each counted fault its answer, and
 //!   `outcomes_keep_their_promise` says the promise of the outcomes alone.
+//! - `answers_come` is completeness (`specs/Answerable.antt`): where the source tells bytes that spell
+//!   what the task asks for, no limit is passed and nothing fails, a run ends with an answer to the
+//!   task, or memory runs out; `check`, `run` and `recheck` end with yes or no then, and `synth` with
+//!   a program or a trace where a controller answers its first question. `inputs_get_verdicts` says
+//!   what `check`, `run` and `recheck` reply of the outcomes alone, and these laws what the others do:
 //! - `searches_are_answered`: within the limits of the work `synth` and `prove` answer each text
 //!   that spells a specification. `limits_are_told`: where a limit is passed, that is told.
 //!   `controllers_are_not_missed`: where a controller of the size has an annotation within the
@@ -68,9 +78,10 @@
 #![tactic(auto)]
 
 mod check;
+mod completeness;
+mod generating;
 mod head_lines;
 mod laws;
-mod options;
 mod prove;
 mod recheck;
 mod refusal;
@@ -79,10 +90,11 @@ mod run;
 mod run_faults;
 mod status;
 mod synth;
+mod tasks;
 mod top;
 mod verdicts;
-mod words;
 
+pub use completeness::{answers_come, inputs_get_verdicts};
 pub use laws::{
     controllers_are_not_missed, ends_have_causes, limits_are_these, limits_are_told,
     one_specification, outcomes_keep_their_promise, plain_updates_are_spelled, proofs_are_verified,
@@ -93,6 +105,8 @@ pub use top::tsl;
 
 #[cfg(test)]
 mod check_tests;
+#[cfg(test)]
+mod gen_tests;
 #[cfg(test)]
 mod run_tests;
 #[cfg(test)]

@@ -1,6 +1,6 @@
 //! The command `prove`.
 
-ghost use Rattle.std.specs.Prelude.{◌≡◌, ◌-◌, ◌<◌, ◌^◌, ◌++◌, All, length, IfOk, OnOk};
+ghost use Rattle.std.specs.Prelude.{◌≡◌, ◌-◌, ◌<◌, ◌^◌, [], ◌++◌, All, length, IfOk, OnOk};
 ghost use Rattle.tsl_terms.specs.SpecTree.{whole_formula};
 ghost use Rattle.tsl_terms.specs.SpecView.{spec_tree};
 ghost use Rattle.tsl_terms.specs.WellFormed.{SpecFits};
@@ -8,20 +8,21 @@ ghost use Rattle.clause_core.specs.Clauses.{IsIncreasing};
 ghost use Rattle.refutation_text.specs.Written.{IsClauseOver, comment_text, refutation_text};
 ghost use Rattle.bounded_encoding.specs.QuestionView.{question_of};
 ghost use Rattle.bounded_encoding.specs.Answers.{IsFound};
-ghost use Rattle.refinement_loop.specs.Outcomes.{IsAsked};
+ghost use Rattle.refinement_loop.specs.Questions.{IsAsked};
 ghost use Rattle.tsl_report.specs.FormulaText.{formula_text};
-ghost use Rattle.tsl_tool.specs.declared.words.Command.TheVariants.{Prove};
-ghost use Rattle.tsl_tool.specs.Commands.{HasItsValues};
+ghost use Rattle.command_words.specs.declared.task.Task.TheVariants.{Prove};
+ghost use Rattle.tsl_tool.specs.internal.TaskRanges.{IsQuestionInRange};
 ghost use Rattle.tsl_tool.specs.Prove.{QuestionOutcome, ProveOutcome, satisfiable_reply};
 
 use crate::refusal::{fault_of, fault_of_limit};
 use crate::reply::Reply;
 use crate::status::Status;
 use crate::synth::spent;
-use crate::words::QuestionSizes;
 use bounded_encoding::Found;
 use clause_core::Cnf;
-use refinement_loop::{Asked, RefineError, ask};
+use command_words::ProveSizes;
+use machines::Side;
+use refinement_loop::{AskError, Asked, ask};
 use refutation_check::Log;
 use refutation_text::put_refutation;
 use sequence::NoMemory;
@@ -33,8 +34,8 @@ use tsl_text::put_bytes;
 
 /// What `prove` replies to these bytes: a proof that no controller of this size has an annotation within
 /// the bound for their specification, or why there is none.
-pub(crate) fn prove(alloc: Global, sizes: QuestionSizes, bytes: &[u8]) -> Result<Reply, NoMemory>
-    requires in_range { HasItsValues (Prove sizes) }
+pub(crate) fn prove(alloc: Global, sizes: ProveSizes, bytes: &[u8]) -> Result<Reply, NoMemory>
+    requires in_range { IsQuestionInRange sizes }
     requires few { length bytes.now < 2 ^ 32 - 1 }
     ensures { IfOk result (ProveOutcome sizes bytes.now) }
 {
@@ -48,28 +49,28 @@ pub(crate) fn prove(alloc: Global, sizes: QuestionSizes, bytes: &[u8]) -> Result
 }
 
 /// What is replied to a specification: the question for a controller is asked once.
-fn reply_to_question(alloc: Global, sizes: &QuestionSizes, spec: &Spec) -> Result<Reply, NoMemory>
-    requires in_range { HasItsValues (Prove sizes.now) }
+fn reply_to_question(alloc: Global, sizes: &ProveSizes, spec: &Spec) -> Result<Reply, NoMemory>
+    requires in_range { IsQuestionInRange sizes.now }
     requires fits { SpecFits (spec_tree spec.now) }
     ensures { IfOk result (QuestionOutcome sizes.now (spec_tree spec.now)) }
 {
     match ask(alloc, spec, sizes.states, sizes.bound, sizes.budget) {
         Ok(asked) => reply_to_answer(alloc, sizes, spec, &asked),
-        Err(RefineError::Large(limit)) => Reply::at_fault(alloc, &fault_of_limit(limit)),
-        Err(RefineError::NoMemory) => Err(NoMemory),
+        Err(AskError::Large(limit)) => Reply::at_fault(alloc, &fault_of_limit(limit)),
+        Err(AskError::NoMemory) => Err(NoMemory),
     }
 }
 
 /// What is replied to the answer to the question.
 fn reply_to_answer(
     alloc: Global,
-    sizes: &QuestionSizes,
+    sizes: &ProveSizes,
     spec: &Spec,
     asked: &Asked,
 ) -> Result<Reply, NoMemory>
-    requires in_range { HasItsValues (Prove sizes.now) }
+    requires in_range { IsQuestionInRange sizes.now }
     requires fits { SpecFits (spec_tree spec.now) }
-    requires asked { IsAsked (spec_tree spec.now) sizes.now.states sizes.now.bound
+    requires asked { IsAsked Side.Controller (spec_tree spec.now) [] sizes.now.states sizes.now.bound
         (question_of asked.now.automaton asked.now.space sizes.now.states sizes.now.bound) }
     requires found { IsFound
         (question_of asked.now.automaton asked.now.space sizes.now.states sizes.now.bound)
@@ -82,8 +83,11 @@ fn reply_to_answer(
         Found::Spent(clauses) => {
             spent(
                 alloc,
-                sizes.states,
-                sizes.bound,
+                spec,
+                &asked.space,
+                Side::Controller,
+                (sizes.states, sizes.bound),
+                &[],
                 &asked.automaton,
                 clauses.as_slice(),
             )

@@ -41,13 +41,34 @@ always guarantee {
 const HEATED: &[u8] =
     b"tslprogram 1\ninput temp\ninput button\ncell goal\ncell last\noutput heat\noutput shown\n";
 
+/// What holds of an input is to hold of it and of the cell that took it, one step later.
+const KEEPING: &[u8] = b"always guarantee { [y <- x]; } guarantee { p x -> X (p x && p y); }";
+
+/// Ten tests and ten cells, which have 1,024 vectors: too many branches in which a window is looked for.
+const TEN_CELLS: &[u8] = b"guarantee { false;
+  [a <- x]; [b <- x]; [c <- x]; [d <- x]; [e <- x]; [f <- x]; [g <- x]; [h <- x]; [i <- x]; [j <- x];
+  p a; p b; p c; p d; p e; p f; p g; p h; p i; p j; }";
+
+/// An eleventh cell, with which they are 2,048.
+const ELEVEN_CELLS: &[u8] = b"guarantee { false;
+  [a <- x]; [b <- x]; [c <- x]; [d <- x]; [e <- x]; [f <- x]; [g <- x]; [h <- x]; [i <- x]; [j <- x]; [k <- k];
+  p a; p b; p c; p d; p e; p f; p g; p h; p i; p j; [k <- x]; }";
+
 /// Searches with one text each.
-static SEARCHES: [Search; 9] = [
+static SEARCHES: [Search; 13] = [
     (
-        &["synth", "--states", "1", "--bound", "0"],
+        &[
+            "synth",
+            "--states",
+            "1",
+            "--bound",
+            "0",
+            "--env-states",
+            "1",
+        ],
         b"guarantee { false; }",
         Status::No,
-        b"none\nstates 1\nbound 0\nreason rounds 0\nend\n",
+        b"none\nstates 1\nbound 0\nreason genuine\nenvironment 1\nvector 0\nstate 0 truths to 0\nend\n",
     ),
     (
         &["synth", "--rounds", "0"],
@@ -59,7 +80,37 @@ static SEARCHES: [Search; 9] = [
         &["synth", "--states", "1"],
         ARBITER,
         Status::No,
-        b"none\nstates 1\nbound 2\nreason rounds 0\nend\n",
+        b"none\nstates 1\nbound 2\nreason nocounter 2 2\nend\n",
+    ),
+    (
+        &[
+            "synth",
+            "--states",
+            "1",
+            "--env-states",
+            "3",
+            "--env-bound",
+            "1",
+        ],
+        ARBITER,
+        Status::No,
+        b"none\nstates 1\nbound 2\nreason nocounter 3 1\nend\n",
+    ),
+    (
+        &[
+            "synth",
+            "--states",
+            "1",
+            "--env-states",
+            "1",
+            "--rounds",
+            "1",
+        ],
+        KEEPING,
+        Status::No,
+        b"none\nstates 1\nbound 2\nround 0\nenvironment 1\ntest 0 p x\ntest 1 p y\n\
+        vector 0 [y <- x]\nvector 1 [y <- y]\nstate 0 truths 1 0 to 0 0\n\
+        window p x at 0 is p y at 1 when [y <- x] at 0\nreason rounds 1\nend\n",
     ),
     (
         &["prove", "--states", "1"],
@@ -75,6 +126,18 @@ static SEARCHES: [Search; 9] = [
     ),
     (&["synth"], ELEVEN, Status::Large, b"large predicates 10\n"),
     (&["prove"], ELEVEN, Status::Large, b"large predicates 10\n"),
+    (
+        &["synth", "--states", "1"],
+        TEN_CELLS,
+        Status::Large,
+        b"large branches 10000000\n",
+    ),
+    (
+        &["synth", "--states", "1"],
+        ELEVEN_CELLS,
+        Status::Large,
+        b"large vectors 1024\n",
+    ),
     (
         &["prove"],
         b"guarantee { a; } }",
@@ -156,6 +219,33 @@ fn a_spent_budget_tells_as_many_clauses(rt: HostRuntime) -> Result<(), Fail> {
     assert_eq!(rt; ran.out.ends_with(b"\nend\n"), true);
     let same = asked(rt.alloc(), &["prove", "--budget", "1"], text)?;
     assert_says(&rt, &same, Status::Spent, &ran.out);
+    Ok(())
+}
+
+#[test]
+fn what_crosses_a_step_is_found_by_a_window(rt: HostRuntime) -> Result<(), Fail> {
+    let alloc = rt.alloc();
+    let ran = asked(alloc, &["synth"], CROSSING)?;
+    assert_eq!(rt; ran.status, Status::Done);
+    assert_eq!(rt; lines_with(&ran.out, b"window"), 1);
+    let line = b"window p x at 0 is p y at 1 when [y <- x] at 0";
+    assert_eq!(rt; lines_with(&ran.out, line), 1);
+    assert_said_of(&rt, alloc, "check", CROSSING, &ran.out, b"accepted\n")?;
+    Ok(())
+}
+
+#[test]
+fn a_budget_is_spent_whole_or_there_is_an_answer(rt: HostRuntime) -> Result<(), Fail> {
+    let alloc = rt.alloc();
+    for budget in 1..65u32 {
+        let number = format!(in alloc; "{budget}")?;
+        let ran = asked(alloc, &["synth", "--budget", number.as_str()], CROSSING)?;
+        if ran.status == Status::Spent {
+            assert_eq!(rt; lines_with(&ran.out, b"clause "), budget as usize);
+        } else {
+            assert_eq!(rt; ran.status, Status::Done);
+        }
+    }
     Ok(())
 }
 

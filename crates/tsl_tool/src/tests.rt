@@ -25,22 +25,24 @@ const NONE: &[u8] = b"none\nstates 1\nbound 2\nreason rounds 0\nend\n";
 /// A formula whose four clauses are all signs of two variables, and the line `lrat`.
 const SQUARE: &[u8] = b"p cnf 2 4\n1 2 0\n1 -2 0\n-1 2 0\n-1 -2 0\nlrat\n";
 
-/// Words that are no command's.
-static OTHER_WORDS: [&[&str]; 31] = [
+/// Words that are refused.
+static OTHER_WORDS: [&[&str]; 35] = [
     &[],
     &["frob"],
     &["synth", "x"],
     &["synth", "--states"],
     &["synth", "--states", "0"],
     &["synth", "--states", "9"],
-    &["synth", "--states", "01"],
-    &["synth", "--states", "+1"],
+    &["synth", "--states", "-1"],
+    &["synth", "--states=9"],
     &["synth", "--states", ""],
     &["synth", "--bound", "16"],
     &["synth", "--budget", "0"],
     &["synth", "--budget", "1000001"],
-    &["synth", "--rounds", "1"],
-    &["synth", "--depth", "2"],
+    &["synth", "--rounds", "65"],
+    &["synth", "--depth", "4"],
+    &["synth", "--help"],
+    &["synth", "-h"],
     &["synth", "states", "1"],
     &["synth", "1", "--states"],
     &["synth", "--states", "1", "--states", "1"],
@@ -53,16 +55,21 @@ static OTHER_WORDS: [&[&str]; 31] = [
     &["check", "--states", "1"],
     &["check", "--bound"],
     &["check", "--bound", "16"],
-    &["check", "--bound", "02"],
+    &["check", "--bound", "full"],
     &["run", "x"],
     &["recheck", "x"],
     &["recheck", "--states", "1"],
-    &["gen", "2"],
+    &["gen"],
+    &["gen", "0"],
+    &["gen", "6"],
 ];
 
 /// Words with which a source without a byte has the program without signals.
-static SYNTH_WORDS: [&[&str]; 6] = [
+static SYNTH_WORDS: [&[&str]; 9] = [
     &["synth", "--states", "1"],
+    &["synth", "--states=1"],
+    &["synth", "--states", "01", "--"],
+    &["synth", "--depth=3", "--states", "+1", "--env-states", "8"],
     &["synth", "--states", "1", "--bound", "0"],
     &["synth", "--bound", "15", "--states", "1"],
     &["synth", "--rounds", "0", "--budget", "1", "--states", "1"],
@@ -218,8 +225,8 @@ pub(crate) struct Ran {
 /// fails.
 #[derive(Clone, Copy)]
 pub(crate) struct Device {
-    piece: usize,
-    fails_at: u64,
+    pub(crate) piece: usize,
+    pub(crate) fails_at: u64,
 }
 
 /// Takes or gives all bytes at once, and never fails.
@@ -361,7 +368,13 @@ fn repeated(alloc: Global, piece: &[u8], count: u32, end: &[u8]) -> Result<Vec<u
 fn limits_are_exact(rt: HostRuntime) -> Result<(), Fail> {
     for (piece, count, end, says) in REPEATED {
         let text = repeated(rt.alloc(), piece, count, end)?;
-        assert_run(&rt, rt.alloc(), &["synth", "--states", "1"], &text, says)?;
+        assert_run(
+            &rt,
+            rt.alloc(),
+            &["synth", "--states", "1", "--rounds", "0"],
+            &text,
+            says,
+        )?;
     }
     Ok(())
 }

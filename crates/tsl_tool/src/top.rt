@@ -1,23 +1,28 @@
 //! The top call.
 
-ghost use Rattle.std.specs.Prelude.{◌≡◌, ◌≢◌, ℕ, List, ◌≤◌, [], false, length, map, string_bytes, IsTrue, IfOk, OnOk};
+ghost use Rattle.std.specs.Prelude.{◌≡◌, ◌≢◌, ℕ, List, [], map, string_bytes, IsTrue, IfOk, Some};
+ghost use Rattle.command_words.specs.declared.task.Task.{Task};
+ghost use Rattle.command_words.specs.Commands.{AsksFor};
 ghost use Rattle.tsl_io.specs.Told.{with_added};
-ghost use Rattle.tsl_tool.specs.Commands.{command_of, reads, HasItsValues, most_bytes};
 ghost use Rattle.tsl_io.specs.Effects.{effect, AreTold};
 ghost use Rattle.tsl_tool.specs.Ends.{IsReplyTo, Ends, HandedOn};
-ghost use Rattle.tsl_tool.specs.Outcome.{CommandOutcome};
+ghost use Rattle.tsl_tool.specs.Outcome.{TaskOutcome};
 ghost use Rattle.tsl_tool.specs.Promise.{Promise};
 ghost use Rattle.tsl_tool.specs.Statuses.{is_answer};
+ghost use Rattle.tsl_tool.specs.Tasks.{AreFewBytes, ReadNothing, most_bytes};
+ghost use Rattle.tsl_tool.specs.internal.TaskRanges.{IsInRange};
 ghost use Rattle.tsl_tool.specs.internal.Sending.{IsSent};
 
 use crate::check::check;
+use crate::generating::generate;
 use crate::prove::prove;
 use crate::recheck::recheck;
 use crate::reply::Reply;
 use crate::run::run;
 use crate::status::Status;
 use crate::synth::synth;
-use crate::words::{Command, command_of};
+use crate::tasks::{most_bytes, search_sizes};
+use command_words::{Task, WordsError, task_of};
 use sequence::NoMemory;
 use std::alloc::Global;
 use tsl_io::{Failed, ReadError, Sink, Source, read_all, write_all_of};
@@ -27,15 +32,32 @@ use tsl_report::{Fault, LimitName};
 fn reply_to<S: Source>(alloc: Global, words: &[String], source: &mut S) -> Result<Reply, NoMemory>
     ensures replies { IfOk result
         (IsReplyTo (map string_bytes words.now) (effect S.left S.faults source.old source.new)) }
-    ensures unread { reads (command_of (map string_bytes words.now))
-        ≡ false → source.new ≡ source.old }
+    ensures unread { ReadNothing (map string_bytes words.now) → source.new ≡ source.old }
 {
-    let Some(command) = command_of(words) else {
-        return Reply::at_fault(alloc, &Fault::Usage);
+    match task_of(alloc, words) {
+        Ok(task) => reply_to_task(alloc, words, task, source),
+        Err(WordsError::Usage) => Reply::at_fault(alloc, &Fault::Usage),
+        Err(WordsError::NoMemory) => Err(NoMemory),
+    }
+}
+
+/// What is replied to a task that these words ask for.
+fn reply_to_task<S: Source>(
+    alloc: Global,
+    words: &[String],
+    task: Task,
+    source: &mut S,
+) -> Result<Reply, NoMemory>
+    requires { AsksFor (map string_bytes words.now) task }
+    ensures replies { IfOk result
+        (IsReplyTo (map string_bytes words.now) (effect S.left S.faults source.old source.new)) }
+    ensures unread { most_bytes task ≡ None → source.new ≡ source.old }
+{
+    let Some(most_bytes) = most_bytes(task) else {
+        return reply_to_bytes(alloc, task, &[]);
     };
-    let most_bytes = command.most_bytes();
     match read_all(alloc, source, most_bytes) {
-        Ok(bytes) => reply_to_bytes(alloc, command, &bytes),
+        Ok(bytes) => reply_to_bytes(alloc, task, &bytes),
         Err(ReadError::TooLong) => {
             Reply::at_fault(alloc, &Fault::Large(LimitName::Text, most_bytes))
         }
@@ -44,32 +66,35 @@ fn reply_to<S: Source>(alloc: Global, words: &[String], source: &mut S) -> Resul
     }
 }
 
-/// What a command replies to these bytes.
-fn reply_to_bytes(alloc: Global, command: Command, bytes: &[u8]) -> Result<Reply, NoMemory>
-    requires in_range { HasItsValues command }
-    requires few { length bytes.now ≤ most_bytes command }
-    ensures { IfOk result (CommandOutcome command bytes.now) }
+/// What is replied to a task and these bytes.
+fn reply_to_bytes(alloc: Global, task: Task, bytes: &[u8]) -> Result<Reply, NoMemory>
+    requires in_range { IsInRange task }
+    requires few { AreFewBytes (most_bytes task) bytes.now }
+    ensures { IfOk result (TaskOutcome task bytes.now) }
 {
-    match command {
-        Command::Synth(sizes) => synth(alloc, sizes, bytes),
-        Command::Check(bound) => check(alloc, bound, bytes),
-        Command::Run => run(alloc, bytes),
-        Command::Prove(sizes) => prove(alloc, sizes, bytes),
-        Command::Recheck => recheck(alloc, bytes),
+    match task {
+        Task::Synth(sizes) => synth(alloc, search_sizes(sizes), bytes),
+        Task::Check(bound) => check(alloc, bound, bytes),
+        Task::Run => run(alloc, bytes),
+        Task::Prove(sizes) => prove(alloc, sizes, bytes),
+        Task::Recheck => recheck(alloc, bytes),
+        Task::Gen(n) => generate(alloc, n),
     }
 }
 
 /// Runs `tsl` on the words after the program's name.
 ///
-/// The words are a command and its options, each a name and a number, in any order: `synth` with
-/// `--states` from 1 to 8, `--bound` from 0 to 15, `--budget` from 1 to 1,000,000 and `--rounds 0`,
-/// `prove` with the first three, `check` with `--bound`, and `run` and `recheck` without options.
+/// The first word names a command, and `clap` reads the others as its options, in any order: those
+/// of `synth` are `--states` and `--env-states` from 1 to 8, `--bound` and `--env-bound` from 0 to
+/// 15, `--depth` from 1 to 3, `--rounds` from 0 to 64 and `--budget` from 1 to 1,000,000; `prove` has
+/// `--states`, `--bound` and `--budget`, `check` has `--bound`, `run` and `recheck` have none, and
+/// `gen` has one number from 1 to 5 instead. `gen` reads nothing.
 /// For `synth` and `prove` the source holds a specification of at most 1,048,576 bytes; for
 /// `check` a specification and a program, and for `run` a specification or nothing, a program,
 /// tables and inputs, of at most 16,777,216 bytes together; for `recheck` a formula in conjunctive
 /// normal form, the line `lrat` and a log, of at most 268,435,456 bytes together. Each text is
 /// built whole before its first byte is written. At `Done`, `No` and `Spent` a program, a proof, a
-/// run, a verdict or a trace went to `out`. At `Usage`, `Reading`, `Large` and `ReadFault` one line
+/// run, a verdict, a summary or a trace went to `out`. At `Usage`, `Reading`, `Large` and `ReadFault` one line
 /// went to `err`. At `WriteFault` some first bytes of the one text went to its sink, and at `Memory`
 /// nothing was written.
 pub fn tsl<S: Source, O: Sink, E: Sink>(
@@ -86,14 +111,13 @@ pub fn tsl<S: Source, O: Sink, E: Sink>(
         (effect E.written E.faults err.old err.new) result }
 
     // What the answer promises of those bytes and of the text that was written: the headline.
-    ensures promises { IsTrue (is_answer result) →
-        (bytes : List ℕ) × (text : List ℕ) × AreTold (S.left source.old) bytes
-        × Promise (command_of (map string_bytes words.now)) result bytes text
+    ensures promises { IsTrue (is_answer result) → (task : Task) × AsksFor (map string_bytes words.now) task
+        × (bytes : List ℕ) × (text : List ℕ) × AreTold (S.left source.old) bytes
+        × Promise task result bytes text
         × (O.written out.new ≡ with_added text (O.written out.old)) }
 
-    // Words that read nothing leave the source as it was.
-    ensures unread { reads (command_of (map string_bytes words.now))
-        ≡ false → source.new ≡ source.old }
+    // Where nothing is read the source is left as it was.
+    ensures unread { ReadNothing (map string_bytes words.now) → source.new ≡ source.old }
 
     // What was written was handed on.
     ensures handed_on { HandedOn result (O.flushed out.new) (E.flushed err.new) }

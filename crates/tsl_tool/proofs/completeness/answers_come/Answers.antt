@@ -1,0 +1,8 @@
+use Rattle.tsl_tool.proofs.AnswersCome.{answers_come, program_or_spent}
+use Rattle.tsl_tool.proofs.completeness.answers_come.Goals as goal
+
+pub returns : goal.returns
+returns c = record {
+  answer = answers_come (record { tables = c.one_reading.ensures.tables; inputs = c.one_reading.ensures.inputs });
+  found = program_or_spent;
+}

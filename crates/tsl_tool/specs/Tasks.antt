@@ -1,0 +1,42 @@
+-- What tasks read, and how far their searches go.
+use Rattle.std.specs.Prelude.{◌≡◌, ℕ, ◌≤◌, ◌⊎◌, false, List, length, Option, Some, None}
+use Rattle.command_words.specs.declared.task.SynthSizes.{SynthSizes}
+use Rattle.command_words.specs.declared.task.Task.{Task}
+use Rattle.command_words.specs.declared.task.Task.TheVariants.{Synth, Check, Run, Prove, Recheck, Gen}
+use Rattle.command_words.specs.Commands.{AsksFor, are_taken}
+use Rattle.refinement_loop.specs.declared.outcome.Sizes.{Sizes}
+use Rattle.tsl_tool.specs.declared.tasks.TheConstants.{MOST_SPECIFICATION_BYTES, MOST_RUN_BYTES, MOST_LOG_BYTES}
+
+-- the most bytes that a task reads, where it reads any
+abbrev pub most_bytes : Task → Option ℕ
+most_bytes (Synth sizes) = Some MOST_SPECIFICATION_BYTES
+most_bytes (Check bound) = Some MOST_RUN_BYTES
+most_bytes Run = Some MOST_RUN_BYTES
+most_bytes (Prove sizes) = Some MOST_SPECIFICATION_BYTES
+most_bytes Recheck = Some MOST_LOG_BYTES
+most_bytes (Gen n) = None
+
+-- the bytes are no more than may be read, where any are
+abbrev pub AreFewBytes : Option ℕ → List ℕ → Type 0
+AreFewBytes (Some most) bytes = length bytes ≤ most
+AreFewBytes None bytes = Unit {0}
+
+-- nothing is read for these words: they are refused, or they ask for what reads nothing
+abbrev pub ReadNothing : List (List ℕ) → Type 0
+ReadNothing words = (are_taken words ≡ false) ⊎ ((task : Task) × AsksFor words task × (most_bytes task ≡ None))
+
+-- how far the search of `synth` goes
+abbrev pub search_sizes : SynthSizes → Sizes
+search_sizes sizes = record {
+  states = sizes.states;
+  bound = sizes.bound;
+  env_states = sizes.env_states;
+  env_bound = sizes.env_bound;
+  depth = sizes.depth;
+  rounds = sizes.rounds;
+  budget = sizes.budget;
+}
+
+-- how far the search for a generated specification goes: as many states as its number, within the same bound, and no round
+abbrev pub generated_sizes : ℕ → Sizes
+generated_sizes n = record { states = n; bound = n; env_states = 2; env_bound = 2; depth = 2; rounds = 0; budget = 20000 }

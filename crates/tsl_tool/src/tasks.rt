@@ -1,0 +1,59 @@
+//! What tasks read, and how far their searches go.
+
+ghost use Rattle.std.specs.Prelude.{◌≡◌};
+ghost use Rattle.tsl_tool.specs.Tasks.{generated_sizes, most_bytes, search_sizes};
+
+use command_words::{SynthSizes, Task};
+use refinement_loop::Sizes;
+
+/// The most bytes of a specification.
+const MOST_SPECIFICATION_BYTES: u32 = 1_048_576;
+
+/// The most bytes of a specification and a program, or of these with tables and inputs, together.
+const MOST_RUN_BYTES: u32 = 16_777_216;
+
+/// The most bytes of a formula and a log together.
+const MOST_LOG_BYTES: u32 = 268_435_456;
+
+/// The most bytes that a task reads. `None` where it reads nothing.
+pub(crate) fn most_bytes(task: Task) -> Option<u32>
+    ensures { result ≡ most_bytes task }
+{
+    match task {
+        Task::Synth(_) | Task::Prove(_) => Some(MOST_SPECIFICATION_BYTES),
+        Task::Check(_) | Task::Run => Some(MOST_RUN_BYTES),
+        Task::Recheck => Some(MOST_LOG_BYTES),
+        Task::Gen(_) => None,
+    }
+}
+
+/// How far the search of `synth` goes.
+pub(crate) fn search_sizes(sizes: SynthSizes) -> Sizes
+    ensures { result ≡ search_sizes sizes }
+{
+    Sizes {
+        states: sizes.states,
+        bound: sizes.bound,
+        env_states: sizes.env_states,
+        env_bound: sizes.env_bound,
+        depth: sizes.depth,
+        rounds: sizes.rounds,
+        budget: sizes.budget,
+    }
+}
+
+/// How far the search for a generated specification goes: as many states as its number, within the same bound, and no
+/// round.
+pub(crate) fn generated_sizes(n: u32) -> Sizes
+    ensures { result ≡ generated_sizes n }
+{
+    Sizes {
+        states: n,
+        bound: n,
+        env_states: 2,
+        env_bound: 2,
+        depth: 2,
+        rounds: 0,
+        budget: 20_000,
+    }
+}
