@@ -14,9 +14,9 @@ from solver import arbiter, conflicts, measured, programs
 
 USUAL = {"--states": 2, "--bound": 2, "--env-states": 2, "--env-bound": 2, "--depth": 2, "--rounds": 8, "--budget": 20_000}
 ASKS = ("--states", "--bound", "--budget")  # what `prove` takes
-PARTS = ("read", "automaton", "encoding", "solver", "windows", "rest")
-STEPS = ["tsl_reader::read_spec", "program_check::automaton_for", "bounded_encoding::find_controller",
-         "counterstrategy::find_environment", "sat_core::search", "branch_finder::find_window"]
+PARTS = ("read", "automaton", "questions", "solver", "rest")
+STEPS = ["tsl_reader::read_spec", "program_check::automaton_for", "refinement_loop::controller_answer",
+         "refinement_loop::environment_turn", "sat_core::search"]
 CLEAR = 0.1  # seconds of minisat, from which on the whole is compared to it
 WRITTEN, NONE, LARGE, SPENT = 0, 1, 4, 5
 HEADS = {WRITTEN: 0, NONE: 3, LARGE: 1, SPENT: 2}  # lines before those of rounds
@@ -144,15 +144,16 @@ def seconds_of(run):
 
 
 def parts_of(text, words):
-    """The shares of a run's instructions: reading, the automata, the encodings with what is read off an assignment, the solver, the
-    search for windows, and the program or another text. None where valgrind is not installed."""
+    """The shares of a run's instructions: reading, the automata, the questions without these and without the solver (the encodings,
+    what is read off an assignment, and the search for windows), the solver, and the program or another text. None where valgrind is
+    not installed."""
     counted = spent_in(text.encode(), words, STEPS)
     if counted is None:
         return None
-    whole, (read, automaton, controller, environment, solver, windows) = counted
-    asking = controller + environment
-    rest = whole - read - automaton - asking - windows
-    return [100 * part / whole for part in (read, automaton, asking - solver, solver, windows, rest)]
+    whole, (read, automaton, controller, environment, solver) = counted
+    questions = controller + environment - automaton - solver
+    rest = whole - read - automaton - questions - solver
+    return [100 * part / whole for part in (read, automaton, questions, solver, rest)]
 
 
 def run_within(folder, text, sizes, seconds):
