@@ -16,7 +16,7 @@ use Rattle.machines.specs.MachineTree.{EnvironmentTree, IsEnvironment, successor
 use Rattle.machines.specs.Visits.{IsVisited, at_start, by_vector}
 use Rattle.machines.specs.declared.environment.Environment.{Environment}
 use Rattle.machines.specs.MachineView.{environment_tree}
-use Rattle.branch_finder.specs.internal.Visiting.{AreFound, AreVisited}
+use Rattle.branch_finder.specs.internal.Visiting.{AreFoundUpTo, AreVisited}
 
 -- ---- successors
 
@@ -55,8 +55,8 @@ module _ (e : EnvironmentTree) where
       let same : n ≡ place.1 = equal_numbers n place.1 place.3 in
       false≢true (sym absent ∙ among_at ns place.0 n (place.2 ∙ ap Some (sym same)))))
 
-  pub found_first : (found : List ℕ) → found ≡ 0 ∷ [] → AreFound e 0 0 found
-  found_first found is = subst (AreFound e 0 0) (sym is) (record {
+  pub found_first : (found : List ℕ) → found ≡ 0 ∷ [] → AreFoundUpTo e 0 0 found
+  found_first found is = subst (AreFoundUpTo e 0 0) (sym is) (record {
     start = refl;
     once = distinct_more [] 0 none_twice refl;
     each = by_place;
@@ -74,7 +74,7 @@ module _ (e : EnvironmentTree) where
 
   -- one more vector of the state at the place
   pub found_one : (place s v t : ℕ) (found : List ℕ) → slice_get found place ≡ Some s → successor_at e s v ≡ Some t →
-      AreFound e place v found → AreFound e place (v + 1) (cond (is_among found t) found (found ++ t ∷ []))
+      AreFoundUpTo e place v found → AreFoundUpTo e place (v + 1) (cond (is_among found t) found (found ++ t ∷ []))
   found_one place s v t found here next are = by (is_among found t) refl
     where
       earlier : (i w : ℕ) → (i < place) ⊎ ((i ≡ place) × (w < v + 1)) → ((i < place) ⊎ ((i ≡ place) × (w < v))) ⊎ ((i ≡ place) × (w ≡ v))
@@ -102,7 +102,7 @@ module _ (e : EnvironmentTree) where
             (stands.0, stands.1 ∙ ap Some same)
       ]
 
-      by : (b : Bool) → is_among found t ≡ b → AreFound e place (v + 1) (cond b found (found ++ t ∷ []))
+      by : (b : Bool) → is_among found t ≡ b → AreFoundUpTo e place (v + 1) (cond b found (found ++ t ∷ []))
       by true among = record {
         start = are.start;
         once = are.once;
@@ -136,8 +136,8 @@ module _ (e : EnvironmentTree) where
               past i w (inr both) end = omega (arith, both.0, end, slice_get_within found place s here)
 
   -- all vectors of the state at the place
-  pub found_row : (place : ℕ) (vectors : ℕ) (found : List ℕ) → place < length found → e.vectors ≤ vectors → AreFound e place vectors found →
-      AreFound e (place + 1) 0 found
+  pub found_row : (place : ℕ) (vectors : ℕ) (found : List ℕ) → place < length found → e.vectors ≤ vectors →
+      AreFoundUpTo e place vectors found → AreFoundUpTo e (place + 1) 0 found
   found_row place vectors found inside past are = record {
     start = are.start;
     once = are.once;
@@ -157,13 +157,13 @@ module _ (e : EnvironmentTree) where
           by (inl before) = inl before
           by (inr here) = inr (here, omega (arith, within, past))
 
-  pub few_found : IsEnvironment e → (place vectors : ℕ) (found : List ℕ) → AreFound e place vectors found → length found ≤ e.states
+  pub few_found : IsEnvironment e → (place vectors : ℕ) (found : List ℕ) → AreFoundUpTo e place vectors found → length found ≤ e.states
   few_found is place vectors found are = length-le_from_distinct_below found e.states are.once (λ q among.
       let there = list_any_place (nat_eq q) found among in
       omega (arith, equal_numbers q there.1 there.3, visited_below is there.1 (are.each there.0 there.1 there.2)))
 
   -- ---- those found are the visited ones
-  module _ (found : List ℕ) (place : ℕ) (all_expanded : length found ≤ place) (are : AreFound e place 0 found) where
+  module _ (found : List ℕ) (place : ℕ) (all_expanded : length found ≤ place) (are : AreFoundUpTo e place 0 found) where
     found_if_visited : (s : ℕ) → IsVisited e s → (i : ℕ) × (slice_get found i ≡ Some s)
     found_if_visited _ at_start = (0, are.start)
     found_if_visited _ (by_vector s v t before at) =

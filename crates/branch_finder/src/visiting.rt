@@ -3,7 +3,7 @@
 ghost use Rattle.std.specs.Prelude.{◌≡◌, ◌∷◌, ◌++◌, ◌<◌, ◌+◌, [], length, if◌then◌else◌, IfOk, OnOk};
 ghost use Rattle.sequence.specs.Numbers.{is_among};
 ghost use Rattle.machines.specs.MachineView.{environment_tree};
-ghost use Rattle.branch_finder.specs.internal.Visiting.{AreFound, AreVisited};
+ghost use Rattle.branch_finder.specs.internal.Visiting.{AreFoundUpTo, AreVisited};
 
 use machines::Environment;
 use sequence::NoMemory;
@@ -33,9 +33,9 @@ fn add_successors(
     found: &mut Vec<u32>,
     place: usize,
 ) -> Result<(), NoMemory>
-    requires found { AreFound (environment_tree environment.now) place 0 found.old.items }
+    requires found { AreFoundUpTo (environment_tree environment.now) place 0 found.old.items }
     requires place { place < length found.old.items }
-    ensures { OnOk result (AreFound (environment_tree environment.now) (place + 1) 0 found.new.items) }
+    ensures { OnOk result (AreFoundUpTo (environment_tree environment.now) (place + 1) 0 found.new.items) }
 {
     let state = found[place];
     for vector in 0..environment.vectors {

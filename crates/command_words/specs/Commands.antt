@@ -20,8 +20,8 @@ word_text word.Recheck = codes "recheck"
 word_text word.Gen = codes "gen"
 
 -- the arguments of a command: each with its name, its least and its greatest number and, for an option, its default
-abbrev pub arguments : CommandWord → List Rule
-arguments word.Synth =
+abbrev pub command_arguments : CommandWord → List Rule
+command_arguments word.Synth =
     number_option (codes "states") 1 8 (codes "2")
     ∷ number_option (codes "bound") 0 15 (codes "2")
     ∷ number_option (codes "env-states") 1 8 (codes "2")
@@ -29,18 +29,18 @@ arguments word.Synth =
     ∷ number_option (codes "depth") 1 3 (codes "2")
     ∷ number_option (codes "rounds") 0 64 (codes "8")
     ∷ number_option (codes "budget") 1 1000000 (codes "20000") ∷ []
-arguments word.Check = number_option (codes "bound") 0 15 (codes "2") ∷ []
-arguments word.Run = []
-arguments word.Prove =
+command_arguments word.Check = number_option (codes "bound") 0 15 (codes "2") ∷ []
+command_arguments word.Run = []
+command_arguments word.Prove =
     number_option (codes "states") 1 8 (codes "2")
     ∷ number_option (codes "bound") 0 15 (codes "2")
     ∷ number_option (codes "budget") 1 1000000 (codes "20000") ∷ []
-arguments word.Recheck = []
-arguments word.Gen = number_positional (codes "n") 1 5 ∷ []
+command_arguments word.Recheck = []
+command_arguments word.Gen = number_positional (codes "n") 1 5 ∷ []
 
 -- the simple command of `clap` that reads the words of a command
 abbrev pub command : CommandWord → App
-command w = command_with (word_text w) (arguments w)
+command w = command_with (word_text w) (command_arguments w)
 
 -- the command that a word names
 abbrev pub command_word : Text → Option CommandWord

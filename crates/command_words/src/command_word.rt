@@ -2,7 +2,7 @@
 
 ghost use Rattle.std.specs.Prelude.{◌≡◌, map, string_bytes};
 ghost use Rattle.std.specs.Str.{bytes_eq};
-ghost use Rattle.command_words.specs.Commands.{arguments, command_word, word_text};
+ghost use Rattle.command_words.specs.Commands.{command_arguments, command_word, word_text};
 ghost use Rattle.command_words.specs.internal.Matches.{rule_for};
 
 use crate::number_argument::NumberArgument;
@@ -134,7 +134,7 @@ impl CommandWord {
 
     /// The arguments of the command.
     pub(crate) fn arguments(self) -> &'static [NumberArgument]
-        ensures { map rule_for result.now ≡ arguments self }
+        ensures { map rule_for result.now ≡ command_arguments self }
     {
         match self {
             CommandWord::Synth => OF_SYNTH.as_slice(),

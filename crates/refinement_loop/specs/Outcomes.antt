@@ -35,7 +35,7 @@ use Rattle.counterstrategy.specs.DualEncoding.{dual_encoding}
 use Rattle.counterstrategy.specs.DualAnswers.{HasDualCause}
 use Rattle.branch_finder.specs.Finding.{HasNoSpuriousWindow, branch_count}
 use Rattle.branch_finder.specs.declared.limits.TheConstants.{MOST_BRANCHES}
-use Rattle.refinement_loop.specs.Questions.{IsAsked, IsWithinLimits, HasNoSolution, IsWrittenFor, IsCounterstrategy}
+use Rattle.refinement_loop.specs.Questions.{IsAsked, IsEncodable, HasNoSolution, IsWrittenFor, IsCounterstrategy}
 use Rattle.refinement_loop.specs.Questions.{HasNoCounterstrategy}
 use Rattle.refinement_loop.specs.Chains.{IsChain}
 use Rattle.refinement_loop.specs.declared.errors.AskError.{AskError}
@@ -95,7 +95,7 @@ pub record IsSpentOn (side : Side) (spec : SpecTree) (windows : List WindowTree)
     (edges : List EdgeTree) (clauses : List (List Lit)) : Type 0 where
   pub question : QuestionTree
   pub asked : IsAsked side spec windows states bound question
-  pub limits : IsWithinLimits side question
+  pub limits : IsEncodable side question
   pub has_states : automaton_states ≡ question.automaton_states
   pub has_edges : edges ≡ question.edges
   pub trace : IsTraceFor side question budget clauses
@@ -109,12 +109,12 @@ IsSpentIn spec sizes windows Environment automaton_states edges clauses =
     × IsSpentOn Environment spec windows sizes.env_states sizes.env_bound sizes.budget automaton_states edges clauses
 
 -- what each outcome says, where these windows were found
-abbrev pub IsAnswer : SpecTree → Sizes → List WindowTree → Outcome → Type 0
-IsAnswer spec sizes windows (outcomes.Written rounds program) =
+abbrev pub IsRightUnder : SpecTree → Sizes → List WindowTree → Outcome → Type 0
+IsRightUnder spec sizes windows (outcomes.Written rounds program) =
     IsWrittenFor spec windows sizes.states sizes.bound (program_tree program)
-IsAnswer spec sizes windows (outcomes.None rounds reason) =
+IsRightUnder spec sizes windows (outcomes.None rounds reason) =
     HasNoSolution spec windows sizes.states sizes.bound × HasReason spec sizes windows reason
-IsAnswer spec sizes windows (outcomes.Spent rounds side automaton clauses) =
+IsRightUnder spec sizes windows (outcomes.Spent rounds side automaton clauses) =
     IsSpentIn spec sizes windows side automaton.states (edge_trees automaton.edges) clauses
 
 -- the rounds of an outcome
@@ -127,7 +127,7 @@ rounds_of (outcomes.Spent rounds side automaton clauses) = map round_tree rounds
 pub record IsOutcome (spec : SpecTree) (sizes : Sizes) (outcome : Outcome) : Type 0 where
   pub chain : IsChain spec sizes (rounds_of outcome)
   pub few_rounds : length (rounds_of outcome) ≤ sizes.rounds
-  pub answer : IsAnswer spec sizes (windows_of (rounds_of outcome)) outcome
+  pub answer : IsRightUnder spec sizes (windows_of (rounds_of outcome)) outcome
 
 -- a program, or the trace of a budget that was spent on the question for a controller, before any round
 abbrev pub IsFirstAnswer : Outcome → Type 0
@@ -160,7 +160,7 @@ IsLargeFor spec windows states bound limits.Vectors = ⊥
 IsLargeFor spec windows states bound limits.Branches = ⊥
 
 -- the question for an environment is refused
-pub record IsRefused (spec : SpecTree) (windows : List WindowTree) (states bound : ℕ) (cause : DualError) : Type 0 where
+pub record HasRefusedQuestion (spec : SpecTree) (windows : List WindowTree) (states bound : ℕ) (cause : DualError) : Type 0 where
   pub question : QuestionTree
   pub asked : IsAsked Environment spec windows states bound question
   pub refused : HasDualCause question cause
@@ -179,8 +179,8 @@ IsLargeFurther spec sizes windows limits.Bits = ⊥
 IsLargeFurther spec sizes windows limits.Choices = HasTooManyChoices (form_for Environment spec windows)
 IsLargeFurther spec sizes windows limits.States = HasTooManyStates (form_for Environment spec windows)
 IsLargeFurther spec sizes windows limits.Edges = HasTooManyEdges (form_for Environment spec windows)
-IsLargeFurther spec sizes windows limits.Clauses = IsRefused spec windows sizes.env_states sizes.env_bound duals.Clauses
-IsLargeFurther spec sizes windows limits.Vectors = IsRefused spec windows sizes.env_states sizes.env_bound duals.Vectors
+IsLargeFurther spec sizes windows limits.Clauses = HasRefusedQuestion spec windows sizes.env_states sizes.env_bound duals.Clauses
+IsLargeFurther spec sizes windows limits.Vectors = HasRefusedQuestion spec windows sizes.env_states sizes.env_bound duals.Vectors
 IsLargeFurther spec sizes windows limits.Branches = HasTooManyBranches spec sizes windows
 
 -- a limit that is passed where these windows were found

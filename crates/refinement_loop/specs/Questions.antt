@@ -40,9 +40,9 @@ abbrev pub HasFewClauses : QuestionTree → Type 0
 HasFewClauses q = length (encoding q) ≤ MOST_CLAUSES
 
 -- the question of a side is within the limits of its encoding
-abbrev pub IsWithinLimits : Side → QuestionTree → Type 0
-IsWithinLimits Controller q = HasFewClauses q
-IsWithinLimits Environment q = IsAskable q
+abbrev pub IsEncodable : Side → QuestionTree → Type 0
+IsEncodable Controller q = HasFewClauses q
+IsEncodable Environment q = IsAskable q
 
 -- a controller answers the question
 pub record HasSolution (spec : SpecTree) (windows : List WindowTree) (states bound : ℕ) : Type 0 where

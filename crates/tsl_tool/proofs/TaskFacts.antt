@@ -6,10 +6,10 @@ use Rattle.command_words.specs.declared.task.Task.TheVariants.{Synth, Check, Run
 use Rattle.command_words.specs.Commands.{AsksFor}
 use Rattle.command_words.proofs.OneTask.{asking_is_taken, one_task}
 use Rattle.tsl_tool.specs.Tasks.{ReadNothing, most_bytes}
-use Rattle.tsl_tool.specs.internal.TaskRanges.{IsInRange}
+use Rattle.tsl_tool.specs.internal.TaskRanges.{IsTaskInRange}
 
 -- its numbers lie in their ranges
-pub in_range : (words : List (List ℕ)) (task : Task) → AsksFor words task → IsInRange task
+pub in_range : (words : List (List ℕ)) (task : Task) → AsksFor words task → IsTaskInRange task
 in_range [] task asks = absurd asks
 in_range (first ∷ rest) (Synth sizes) asks = record {
   has_state = asks.2.states.1;

@@ -10,7 +10,7 @@ ghost use Rattle.tsl_tool.specs.Outcome.{TaskOutcome};
 ghost use Rattle.tsl_tool.specs.Promise.{Promise};
 ghost use Rattle.tsl_tool.specs.Statuses.{is_answer};
 ghost use Rattle.tsl_tool.specs.Tasks.{AreFewBytes, ReadNothing, most_bytes};
-ghost use Rattle.tsl_tool.specs.internal.TaskRanges.{IsInRange};
+ghost use Rattle.tsl_tool.specs.internal.TaskRanges.{IsTaskInRange};
 ghost use Rattle.tsl_tool.specs.internal.Sending.{IsSent};
 
 use crate::check::check;
@@ -68,7 +68,7 @@ fn reply_to_task<S: Source>(
 
 /// What is replied to a task and these bytes.
 fn reply_to_bytes(alloc: Global, task: Task, bytes: &[u8]) -> Result<Reply, NoMemory>
-    requires in_range { IsInRange task }
+    requires in_range { IsTaskInRange task }
     requires few { AreFewBytes (most_bytes task) bytes.now }
     ensures { IfOk result (TaskOutcome task bytes.now) }
 {

@@ -6,7 +6,7 @@ use Rattle.machines.specs.Visits.{IsVisited}
 
 -- The states that are found, where those before a place are expanded, and the one at the place under the vectors below a number: each
 -- is visited and stands once, and those that they go to are found.
-pub record AreFound (e : EnvironmentTree) (place vectors : ℕ) (found : List ℕ) : Type 0 where
+pub record AreFoundUpTo (e : EnvironmentTree) (place vectors : ℕ) (found : List ℕ) : Type 0 where
   pub start : slice_get found 0 ≡ Some 0
   pub once : IsDistinct nat_eq found
   pub each : (i s : ℕ) → slice_get found i ≡ Some s → IsVisited e s

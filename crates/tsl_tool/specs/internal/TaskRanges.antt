@@ -14,10 +14,10 @@ pub record IsQuestionInRange (sizes : ProveSizes) : Type 0 where
   pub has_budget : 1 ≤ sizes.budget
   pub small_budget : sizes.budget ≤ 1000000
 
-abbrev pub IsInRange : Task → Type 0
-IsInRange (Synth sizes) = AreInRange (search_sizes sizes)
-IsInRange (Check bound) = Unit {0}
-IsInRange Run = Unit {0}
-IsInRange (Prove sizes) = IsQuestionInRange sizes
-IsInRange Recheck = Unit {0}
-IsInRange (Gen n) = (1 ≤ n) × (n ≤ 5)
+abbrev pub IsTaskInRange : Task → Type 0
+IsTaskInRange (Synth sizes) = AreInRange (search_sizes sizes)
+IsTaskInRange (Check bound) = Unit {0}
+IsTaskInRange Run = Unit {0}
+IsTaskInRange (Prove sizes) = IsQuestionInRange sizes
+IsTaskInRange Recheck = Unit {0}
+IsTaskInRange (Gen n) = (1 ≤ n) × (n ≤ 5)

@@ -1,7 +1,7 @@
 use Rattle.std.proofs.Common.{◌≡◌, ◌+◌, length, Some, slice_get, sym, subst, arith, refl}
 use Rattle.std.proofs.lemmas.Option.{slice_get_read, slice_get_within}
 use Rattle.machines.specs.MachineView.{environment_tree}
-use Rattle.branch_finder.specs.internal.Visiting.{AreFound}
+use Rattle.branch_finder.specs.internal.Visiting.{AreFoundUpTo}
 use Rattle.branch_finder.proofs.VisitLemmas.{is_environment, visited_below, found_one, found_row, still_here}
 use Rattle.branch_finder.proofs.visiting.add_successors.Goals as goal
 
@@ -30,7 +30,7 @@ loop-vector-preserved c =
           subst (λ ns. slice_get ns c.args.place ≡ Some state) (sym c.in_ok-add_state.ensures)
           (still_here c.loop-vector.found.items c.args.place state c.successor.result c.loop-vector.invariant.here);
       found =
-          subst (AreFound e c.args.place (c.loop-vector.vector + 1)) (sym c.in_ok-add_state.ensures)
+          subst (AreFoundUpTo e c.args.place (c.loop-vector.vector + 1)) (sym c.in_ok-add_state.ensures)
           (found_one e c.args.place state c.loop-vector.vector c.successor.result c.loop-vector.found.items c.loop-vector.invariant.here
           (sym c.successor.ensures) c.loop-vector.invariant.found);
     }

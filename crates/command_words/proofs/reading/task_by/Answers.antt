@@ -5,7 +5,7 @@ use Rattle.clap.specs.Simple.{is_ready}
 use Rattle.clap.specs.declared.parser.matches.ArgMatches.{ArgMatches}
 use Rattle.command_words.specs.Arguments.{number_option}
 use Rattle.command_words.specs.internal.Matches.{ParsedBy, matched_number}
-use Rattle.command_words.specs.Commands.{IsGivenWithin, arguments, command, word_text}
+use Rattle.command_words.specs.Commands.{IsGivenWithin, command_arguments, command, word_text}
 use Rattle.command_words.specs.declared.command_word.CommandWord.{CommandWord}
 use Rattle.command_words.specs.declared.command_word.CommandWord.TheVariants as word
 use Rattle.command_words.proofs.ArgumentPlaces.{is_own, only_at}
@@ -22,10 +22,10 @@ is_ready_command word.Gen = refl
 
 -- the option at a place of a command's arguments
 given : (w : CommandWord) (m : ArgMatches) → ParsedBy (command w) m
-    → (k : ℕ) (id : Text) (low high : ℕ) (default : Text) → slice_get (arguments w) k ≡ Some (number_option id low high default)
-    → is_own id ≡ true → only_at id (arguments w) k ≡ true → high < 2 ^ 32
+    → (k : ℕ) (id : Text) (low high : ℕ) (default : Text) → slice_get (command_arguments w) k ≡ Some (number_option id low high default)
+    → is_own id ≡ true → only_at id (command_arguments w) k ≡ true → high < 2 ^ 32
     → (x : ℕ) → ((n : ℕ) → matched_number m id ≡ Some n → n < 2 ^ 32 → x ≡ n) → IsGivenWithin low high (matched_number m id) x
-given w = option_in (word_text w) (arguments w) (is_ready_command w)
+given w = option_in (word_text w) (command_arguments w) (is_ready_command w)
 
 pub returns-in-Synth-clause-numbers : goal.returns-in-Synth-clause-numbers
 returns-in-Synth-clause-numbers c =
@@ -71,5 +71,5 @@ pub returns-in-Gen-clause-numbers : goal.returns-in-Gen-clause-numbers
 returns-in-Gen-clause-numbers c =
     let m = c.args.matches.now in
     let p : ParsedBy (command word.Gen) m = rw c.in-Gen.is at c.requires in
-    positional_in (codes "gen") (arguments word.Gen) refl refl m p 0 (codes "n") 1 5 refl refl refl (omega arith) c.number-in-Gen.result
-    c.number-in-Gen.ensures
+    positional_in (codes "gen") (command_arguments word.Gen) refl refl m p 0 (codes "n") 1 5 refl refl refl (omega arith)
+    c.number-in-Gen.result c.number-in-Gen.ensures
