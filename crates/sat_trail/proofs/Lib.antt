@@ -1,5 +1,9 @@
 pub mod Places
 pub mod Soundness
 pub mod TrailSteps
-pub mod Watching
+pub mod WatchLists
+pub mod Stays
+pub mod Looks
+pub mod Visits
 pub mod Renewed
+pub mod Moved

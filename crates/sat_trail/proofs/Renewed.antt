@@ -1,23 +1,27 @@
 -- A watch that has another blocker of its clause is still a watch of it.
-use Rattle.std.proofs.Common.{◌≡◌, ℕ, ◌<◌, true, List, length, Some, slice_get, sym, ap, ◌∙◌, subst, arith, inl, inr, ◌⊎◌}
-use Rattle.std.proofs.lemmas.Option.{same_Some}
+use Rattle.std.proofs.Common.{◌≡◌, ℕ, List, Some, slice_get, sym, ap, ◌∙◌, subst, arith, inl, inr, ◌⊎◌}
+use Rattle.std.proofs.lemmas.Option.{same_Some, slice_get_within}
 use Rattle.std.proofs.lemmas.Bool.{cases_eq}
 use Rattle.clause_core.specs.Literals.{Lit, has, code_of}
 use Rattle.sat_trail.specs.States.{TrailState}
 use Rattle.sat_trail.specs.declared.watches.Watch.{Watch}
 use Rattle.sat_trail.specs.declared.watches.Watches.{Watches}
 use Rattle.sat_trail.specs.internal.Watching.{HasWatch, HasList, RenewsWatch, AreWatched, IsVisit, AreDue}
+use Rattle.sat_trail.proofs.WatchLists.{has_watch_same}
+use Rattle.sat_trail.proofs.Visits.{HasOther, other_in, clause_within}
 
-module _ (t : TrailState) (w v : Watches) (f : Lit) (index : ℕ) (list : List Watch) (watch : Watch) (blocker : Lit)
-    (listed : slice_get w.lists.items (code_of f) ≡ Some list) (there : slice_get list index ≡ Some watch)
+module _ {t : TrailState} {w v : Watches} {f : Lit} {index : ℕ} {watch : Watch} {blocker : Lit}
+    (o : HasOther t w f index watch blocker)
     (renews : RenewsWatch w.lists.items (code_of f) index blocker v.lists.items) (is : v ≡ record w { lists = v.lists }) where
+  open o.read use {watched, visit, list, listed, there}
+
   abbrev renewed : Watch
   renewed = record watch { blocker = blocker }
 
   -- each watch of a clause is still there
   has_renewed : (code number k : ℕ) → HasWatch w.lists.items code number k → HasWatch v.lists.items code number k
   has_renewed code number k h = elim (cases_eq code (code_of f)) [
-    | inr n ↦ record { list = h.list; watch = h.watch; listed = renews.others code n ∙ h.listed; there = h.there; names = h.names }
+    | inr n ↦ has_watch_same (renews.others code n) h
     | inl e ↦ (let r = renews.here list listed in
         let same : h.list ≡ list = same_Some h.list list (sym h.listed ∙ (ap (slice_get w.lists.items) e ∙ listed)) in
         let at : slice_get list k ≡ Some h.watch = ap (λ (xs : List Watch). slice_get xs k) (sym same) ∙ h.there in
@@ -53,21 +57,19 @@ module _ (t : TrailState) (w v : Watches) (f : Lit) (index : ℕ) (list : List W
         ])
   ]
 
-  pub watched_renewed : AreWatched t w → ((clause : List Lit) → slice_get t.clauses watch.clause ≡ Some clause → has clause blocker ≡ true) →
-      AreWatched t v
-  watched_renewed watched in_clause = subst (AreWatched t) (sym is) (record {
+  pub watched_renewed : AreWatched t v
+  watched_renewed = subst (AreWatched t) (sym is) (record {
     lists_all = renews.all ∙ watched.lists_all;
     pairs_few = watched.pairs_few;
     looked_few = watched.looked_few;
     head_few = watched.head_few;
     blocked = λ code k l x now at. elim (renewed_was code k l x now at) [
       | inl p ↦ watched.blocked code k p.0 x p.1 p.2
-      | inr e ↦ (let b = watched.blocked (code_of f) index list watch listed there in
-          let clause_is : watch.clause ≡ x.clause = ap (λ (y : Watch). y.clause) e in (
-            omega (arith, b.0, clause_is),
-            λ clause named. ap (has clause) (ap (λ (y : Watch). y.blocker) (sym e))
-                ∙ in_clause clause (ap (slice_get t.clauses) clause_is ∙ named),
-          ))
+      | inr e ↦ (let clause_is : watch.clause ≡ x.clause = ap (λ (y : Watch). y.clause) e in (
+        omega (arith, clause_within o.read, clause_is),
+        λ clause named. ap (has clause) (ap (λ (y : Watch). y.blocker) (sym e))
+            ∙ other_in o clause (ap (slice_get t.clauses) clause_is ∙ named),
+      ))
     ];
     paired = watched.paired;
     listed = λ number pair l at of. (let r = watched.listed number pair l at of in (r.0, has_renewed (code_of l) number r.0 r.1));
@@ -76,13 +78,13 @@ module _ (t : TrailState) (w v : Watches) (f : Lit) (index : ℕ) (list : List W
     short_excused = watched.short_excused;
   })
 
-  pub visit_renewed : IsVisit t w f → IsVisit t v f
-  visit_renewed visit = subst (λ (x : Watches). IsVisit t x f) (sym is)
+  pub visit_renewed : IsVisit t v f
+  visit_renewed = subst (λ (x : Watches). IsVisit t x f) (sym is)
       (record { entry = visit.entry; there = visit.there; is = visit.is; late = visit.late })
 
-  pub list_renewed : index < length list → HasList v.lists.items (code_of f) index
-  list_renewed within = let r = renews.here list listed in
-      record { list = r.0; listed = r.1; long = omega (arith, within, r.2.all) }
+  pub list_renewed : HasList v.lists.items (code_of f) index
+  list_renewed = let r = renews.here list listed in
+      record { list = r.0; listed = r.1; long = omega (arith, slice_get_within list index watch there, r.2.all) }
 
   pub due_renewed : AreDue t w f index → AreDue t v f index
   due_renewed due = subst (λ (x : Watches). AreDue t x f index) (sym is)

@@ -1,17 +1,18 @@
 -- What holds of every trail stays when it changes.
 use Rattle.std.proofs.Common.{◌≡◌, ℕ, zero, suc, ◌+◌, ◌<◌, ◌≤◌, ◌^◌, Bool, false, List, [], ◌∷◌, ◌++◌, length, take, Option, Some, None}
-use Rattle.std.proofs.Common.{slice_get, sym, ap, ◌∙◌, subst, refl, arith, inl, inr, MatchOption}
+use Rattle.std.proofs.Common.{slice_get, sym, ap, ◌∙◌, subst, refl, arith, inl, inr, MatchOption, true}
 use Rattle.std.proofs.lemmas.Option.{slice_get_within}
 use Rattle.std.proofs.lemmas.List.{take-append-le, take_all, take_at, take-take, length_push}
-use Rattle.std.proofs.lemmas.List.Elements.{All-push}
-use Rattle.std.proofs.lemmas.Bool.{cases_lt}
-use Rattle.sequence.proofs.Places.{take_next, slice_get_grown, slice_get_push, slice_get-take, slice_get_some}
-use Rattle.clause_core.specs.Literals.{Lit}
+use Rattle.std.proofs.lemmas.List.Elements.{All-push, All-contains}
+use Rattle.std.proofs.lemmas.Bool.{cases_lt, false_from_ne_true}
+use Rattle.sequence.proofs.Places.{take_next, slice_get_grown, slice_get_push, slice_get-take, slice_get_some, contains_at}
+use Rattle.clause_core.specs.Literals.{Lit, has, negation}
 use Rattle.clause_core.specs.Clauses.{IsOver, has_pair}
+use Rattle.clause_core.proofs.Sets.{Contains_from_has, negation_differs}
 use Rattle.sat_trail.specs.declared.entries.Entry.{Entry}
-use Rattle.sat_trail.specs.Entries.{last_level, level_of, IsForced, MayStand}
+use Rattle.sat_trail.specs.Entries.{literals_of, last_level, level_of, IsForced, MayStand}
 use Rattle.sat_trail.specs.States.{TrailState, IsSound, extended, with_clause}
-use Rattle.sat_trail.proofs.Places.{AreApart, few_entries}
+use Rattle.sat_trail.proofs.Places.{AreApart, few_entries, has_entry, one_entry}
 
 -- each entry may stand behind those at smaller places
 abbrev pub AllStand : ℕ → List (List Lit) → List Entry → Type 0
@@ -172,3 +173,28 @@ sound_broken t b sound = record {
   stand = sound.stand;
   level_reached = sound.level_reached;
 }
+
+-- ---- what is over, and what is true
+
+pub over_named : (t : TrailState) → IsSound t → (number : ℕ) (clause : List Lit) → slice_get t.clauses number ≡ Some clause →
+    IsOver t.variables clause
+over_named t sound number clause named = All-contains (IsOver t.variables) t.clauses clause sound.over
+    (contains_at t.clauses number clause named)
+
+pub over_literal : (t : TrailState) → IsSound t → (number : ℕ) (clause : List Lit) (l : Lit) → slice_get t.clauses number ≡ Some clause →
+    has clause l ≡ true → l.index < t.variables
+over_literal t sound number clause l named member = All-contains (λ m. m.index < t.variables) clause l
+    (over_named t sound number clause named) (Contains_from_has clause l member)
+
+-- a literal that is true is not false
+pub true_not_false : (t : TrailState) → IsSound t → (l : Lit) → has (literals_of t.entries) l ≡ true →
+    has (literals_of t.entries) (negation l) ≡ false
+true_not_false t sound l is_true = false_from_ne_true (has (literals_of t.entries) (negation l))
+    (λ h. clash (has_entry t.entries l is_true) (has_entry t.entries (negation l) h))
+  where
+    clash : (k : ℕ) × (e : Entry) × (slice_get t.entries k ≡ Some e) × (e.literal ≡ l) →
+        (k : ℕ) × (e : Entry) × (slice_get t.entries k ≡ Some e) × (e.literal ≡ negation l) → ⊥
+    clash a b =
+        let one = one_entry t.entries (apart_from t.variables t.clauses t.entries sound.stand) b.0 a.0 b.1 a.1 b.2 a.2
+        (ap (λ (z : Lit). z.index) b.3 ∙ ap (λ (z : Lit). z.index) (sym a.3)) in
+        negation_differs l (sym b.3 ∙ (ap (λ (x : Entry). x.literal) one.1 ∙ a.3))

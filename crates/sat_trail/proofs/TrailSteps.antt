@@ -12,6 +12,7 @@ use Rattle.std.proofs.lemmas.List.Elements.{All-push, All-nil, All-append, All-c
 use Rattle.std.proofs.lemmas.Bool.{or_cases, or_left, or_right, true≢false, false≢true, cases_lt, cases_Bool, le-leb, lt-leb, cond-true}
 use Rattle.std.proofs.lemmas.Bool.{cond-false}
 use Rattle.sequence.proofs.Places.{slice_get-behind, slice_get_some, contains_at, last_split}
+use Rattle.sat_trail.specs.declared.stack.Stack.TheInside.{Inside}
 use Rattle.sat_trail.specs.internal.Tables.{IsPlaceTable, AreTruths}
 use Rattle.clause_core.specs.Literals.{Lit, negation, same, has, code_of}
 use Rattle.clause_core.specs.Clauses.{IsIncreasing, in_order, IsOver, has_pair}
@@ -344,10 +345,14 @@ top_none (e ∷ es) level h = absurd (some_there (slice_get_some (e ∷ es) (suc
     some_there : (x : Entry) × (slice_get (e ∷ es) (suc (length es) - 1) ≡ Some x) → ⊥
     some_there r = none-some r.0 (sym h ∙ r.1)
 
-pub state_same : (v w : ℕ) (cs ds : List (List Lit)) (es fs : List Entry) (m n : ℕ) (a b : Bool) → v ≡ w → cs ≡ ds → es ≡ fs → m ≡ n →
+-- the trail that a stack's fields make
+abbrev pub seen : Inside → TrailState
+seen s = record { variables = s.variables; clauses = s.clauses.items; entries = s.entries.items; level = s.level; broken = s.broken }
+
+pub state_same : {v w : ℕ} {cs ds : List (List Lit)} {es fs : List Entry} {m n : ℕ} {a b : Bool} → v ≡ w → cs ≡ ds → es ≡ fs → m ≡ n →
     a ≡ b → ◌≡◌ {A = TrailState} (record { variables = v; clauses = cs; entries = es; level = m; broken = a })
     (record { variables = w; clauses = ds; entries = fs; level = n; broken = b })
-state_same v w cs ds es fs m n a b p q r s t = λ i. record { variables = p i; clauses = q i; entries = r i; level = s i; broken = t i }
+state_same p q r s t = λ i. record { variables = p i; clauses = q i; entries = r i; level = s i; broken = t i }
 
 pub sound_left : (t : TrailState) (level : ℕ) (es : List Entry) → IsSound t → es ≡ take (length es) t.entries →
     min level t.level ≡ level_of es → IsSound (record t { entries = es; level = min level t.level })

@@ -1,5 +1,5 @@
 use Rattle.sat_trail.specs.Entries.{literals_of}
-use Rattle.sat_trail.proofs.Watching.{best_over}
+use Rattle.sat_trail.proofs.Looks.{best_over}
 use Rattle.sat_trail.proofs.watches.best.Goals as goal
 
 pub better-found-requires-clause-found : goal.better-found-requires-clause-found

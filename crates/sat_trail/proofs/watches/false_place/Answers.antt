@@ -1,7 +1,7 @@
 use Rattle.std.proofs.Common.{ap, sym, ◌∙◌}
 use Rattle.clause_core.specs.Literals.{has}
 use Rattle.sat_trail.specs.Entries.{literals_of}
-use Rattle.sat_trail.proofs.Watching.{false_place_is}
+use Rattle.sat_trail.proofs.Looks.{false_place_is}
 use Rattle.sat_trail.proofs.watches.false_place.Goals as goal
 
 pub returns : goal.returns

@@ -1,5 +1,5 @@
 use Rattle.std.proofs.Common.{◌∙◌, sym}
-use Rattle.sat_trail.proofs.Watching.{force_over, force_stands}
+use Rattle.sat_trail.proofs.Looks.{force_over, force_stands}
 use Rattle.sat_trail.proofs.watches.force.Goals as goal
 
 pub is_true-requires : goal.is_true-requires

@@ -1,7 +1,7 @@
 use Rattle.std.proofs.Common.{◌<◌, ap, sym, subst, ◌∙◌}
 use Rattle.clause_core.specs.Literals.{Lit, has}
 use Rattle.sat_trail.specs.Entries.{literals_of}
-use Rattle.sat_trail.proofs.Watching.{force_over, force_fails}
+use Rattle.sat_trail.proofs.Looks.{force_over, force_fails}
 use Rattle.sat_trail.proofs.watches.force_or_fail.Goals as goal
 
 pub is_true-requires : goal.is_true-requires

@@ -1,5 +1,5 @@
 use Rattle.sat_trail.specs.Entries.{literals_of}
-use Rattle.sat_trail.proofs.Watching.{free_found}
+use Rattle.sat_trail.proofs.Looks.{free_found}
 use Rattle.sat_trail.proofs.watches.free_position.Goals as goal
 
 pub returns-in-None : goal.returns-in-None

@@ -1,4 +1,4 @@
-use Rattle.sat_trail.proofs.Watching.{rank_low}
+use Rattle.sat_trail.proofs.Looks.{rank_low}
 use Rattle.sat_trail.proofs.watches.rank.Goals as goal
 
 pub returns-in-Some : goal.returns-in-Some

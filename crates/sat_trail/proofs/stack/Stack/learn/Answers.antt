@@ -5,19 +5,13 @@ use Rattle.clause_core.specs.Literals.{Lit}
 use Rattle.clause_core.specs.Clauses.{IsOver}
 use Rattle.sat_trail.specs.States.{TrailState, IsSound}
 use Rattle.sat_trail.proofs.Soundness.{sound_broken, sound_clause}
+use Rattle.sat_trail.proofs.TrailSteps.{seen}
 use Rattle.sat_trail.proofs.stack.Stack.learn.Goals as goal
 
 pub invariant_of-self : goal.invariant_of-self
 invariant_of-self c =
     let inside = c.self.inside in
-    let t : TrailState = record {
-      variables = inside.variables;
-      clauses = inside.clauses.items;
-      entries = inside.entries.items;
-      level =
-          inside.level;
-      broken = inside.broken;
-    } in
+    let t = seen inside in
     let same : c.push.new.self.items ≡ inside.clauses.items = c.push.ensures.items
     ∙ cond-false (is_ok c.push.result) (inside.clauses.items ++ c.args.clause ∷ []) inside.clauses.items c.if-is_err.ensures.negation in (
       subst (λ (cs : List (List Lit)). IsSound (record t { clauses = cs; broken = true })) (sym same)
@@ -32,14 +26,7 @@ returns-then-is_err-clause-sound c = (invariant_of-self c).0
 pub invariant_of-self-else-is_err : goal.invariant_of-self-else-is_err
 invariant_of-self-else-is_err c =
     let inside = c.self.inside in
-    let t : TrailState = record {
-      variables = inside.variables;
-      clauses = inside.clauses.items;
-      entries = inside.entries.items;
-      level =
-          inside.level;
-      broken = inside.broken;
-    } in
+    let t = seen inside in
     let is : t ≡ c.args.self.now = c.self.view_is in
     let same : c.push.new.self.items ≡ inside.clauses.items ++ c.args.clause ∷ [] =
     c.push.ensures.items ∙ cond-true (is_ok c.push.result) (inside.clauses.items

@@ -7,6 +7,7 @@ use Rattle.sat_trail.specs.Entries.{entry_with, MayStand}
 use Rattle.sat_trail.specs.States.{TrailState, IsSound}
 use Rattle.sat_trail.proofs.Places.{table_push, truths_push}
 use Rattle.sat_trail.proofs.Soundness.{sound_broken, sound_extended, length_entries}
+use Rattle.sat_trail.proofs.TrailSteps.{seen}
 use Rattle.sat_trail.proofs.stack.Stack.set.Goals as goal
 
 pub overflow_cast-place : goal.overflow_cast-place
@@ -25,14 +26,7 @@ pub invariant_of-self : goal.invariant_of-self
 invariant_of-self c =
     let inside = c.self.inside in
     let e : Entry = entry_with c.args.literal c.args.level c.args.reason in
-    let t : TrailState = record {
-      variables = inside.variables;
-      clauses = inside.clauses.items;
-      entries = inside.entries.items;
-      level =
-          inside.level;
-      broken = inside.broken;
-    } in
+    let t = seen inside in
     let same : c.push.new.self.items ≡ inside.entries.items = c.push.ensures.items
     ∙ cond-false (is_ok c.push.result) (inside.entries.items ++ e ∷ []) inside.entries.items c.if-is_err.ensures.negation in (
       subst (λ (es : List Entry). IsSound (record t { entries = es; broken = true })) (sym same) (sound_broken t true c.self.invariant.0),
@@ -47,14 +41,7 @@ pub invariant_of-self-2 : goal.invariant_of-self-2
 invariant_of-self-2 c =
     let inside = c.self.inside in
     let e : Entry = entry_with c.args.literal c.args.level c.args.reason in
-    let t : TrailState = record {
-      variables = inside.variables;
-      clauses = inside.clauses.items;
-      entries = inside.entries.items;
-      level =
-          inside.level;
-      broken = inside.broken;
-    } in
+    let t = seen inside in
     let is : t ≡ c.args.self.now = c.self.view_is in
     let same : c.push.new.self.items ≡ inside.entries.items ++ e ∷ [] =
     c.push.ensures.items ∙ cond-true (is_ok c.push.result) (inside.entries.items

@@ -7,7 +7,7 @@ use Rattle.sat_trail.specs.Entries.{level_of}
 use Rattle.sat_trail.specs.States.{TrailState, IsSound, up_to, undone}
 use Rattle.sat_trail.proofs.Places.{truths_pop, code_inside}
 use Rattle.sat_trail.proofs.Soundness.{AllStand}
-use Rattle.sat_trail.proofs.TrailSteps.{TakesBack, takes_back, left_is, top_some, top_none, state_same, sound_left}
+use Rattle.sat_trail.proofs.TrailSteps.{TakesBack, takes_back, left_is, top_some, top_none, state_same, seen, sound_left}
 use Rattle.sat_trail.proofs.stack.Stack.undo_to.Goals as goal
 use Rattle.sat_trail.proofs.stack.Stack.undo_to.Goals.{After-index, in-Some+then-last-level, in_default}
 
@@ -97,30 +97,20 @@ invariant_of-self c =
     let start = c.self.inside in
     let now = c.loop-last.self-inside in
     let kept = c.loop-last.invariant in
-    let t : TrailState = record {
-      variables = start.variables;
-      clauses = start.clauses.items;
-      entries = start.entries.items;
-      level =
-          start.level;
-      broken = start.broken;
-    } in
+    let t = seen start in
     let reached : min c.args.level start.level ≡ level_of now.entries.items =
     ap (min c.args.level) c.self.invariant.0.level_reached ∙ (left c).1 in
-    let same = state_same now.variables start.variables now.clauses.items start.clauses.items now.entries.items now.entries.items
-    c.min-self-inside.result (min c.args.level start.level) now.broken start.broken kept.variables kept.clauses refl
-    (c.min-self-inside.ensures ∙ ap (min c.args.level) kept.level) kept.broken in
-    (subst IsSound (sym same) (sound_left t c.args.level now.entries.items c.self.invariant.0 kept.front reached), kept.table, kept.truths)
+    let level = c.min-self-inside.ensures ∙ ap (min c.args.level) kept.level in (
+      subst IsSound (sym (state_same kept.variables kept.clauses refl level kept.broken))
+          (sound_left t c.args.level now.entries.items c.self.invariant.0 kept.front reached),
+      kept.table,
+      kept.truths,
+    )
 
 pub returns-clause-value : goal.returns-clause-value
 returns-clause-value c =
-    let start = c.self.inside in
-    let now = c.loop-last.self-inside in
     let kept = c.loop-last.invariant in
-    state_same now.variables start.variables now.clauses.items start.clauses.items now.entries.items
-    (up_to c.args.level start.entries.items) c.min-self-inside.result
-    (min c.args.level start.level) now.broken start.broken kept.variables kept.clauses (left c).0
-    (c.min-self-inside.ensures ∙ ap (min c.args.level) kept.level) kept.broken
+    state_same kept.variables kept.clauses (left c).0 (c.min-self-inside.ensures ∙ ap (min c.args.level) kept.level) kept.broken
     ∙ ap (λ (t : TrailState). undone t c.args.level) c.self.view_is
 
 pub returns-clause-sound : goal.returns-clause-sound

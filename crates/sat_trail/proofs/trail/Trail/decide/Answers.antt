@@ -1,6 +1,6 @@
 use Rattle.std.proofs.Common.{◌≡◌, false, sym, subst}
 use Rattle.sat_trail.specs.States.{TrailState, decided}
-use Rattle.sat_trail.proofs.Watching.{answered, watched_decided}
+use Rattle.sat_trail.proofs.Stays.{answered, watched_decided}
 use Rattle.sat_trail.proofs.trail.Trail.decide.Goals as goal
 
 pub invariant_of-self : goal.invariant_of-self

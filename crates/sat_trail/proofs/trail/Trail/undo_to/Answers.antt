@@ -1,6 +1,6 @@
 use Rattle.std.proofs.Common.{◌≡◌, false, min, ℕ, sym, subst, ap, ◌∙◌}
 use Rattle.sat_trail.specs.States.{TrailState}
-use Rattle.sat_trail.proofs.Watching.{watched_undone}
+use Rattle.sat_trail.proofs.Stays.{watched_undone}
 use Rattle.sat_trail.proofs.trail.Trail.undo_to.Goals as goal
 
 pub invariant_of-self : goal.invariant_of-self

@@ -6,7 +6,9 @@ use Rattle.std.specs.Prelude.{nat_lt}
 use Rattle.sequence.proofs.Results.{on_ok_two}
 use Rattle.clause_core.specs.Literals.{Lit, negation}
 use Rattle.sat_trail.proofs.Places.{entry_has}
-use Rattle.sat_trail.proofs.Watching.{over_literal, true_not_false, excused_by_first, lowered_le}
+use Rattle.sat_trail.proofs.Soundness.{over_literal, true_not_false}
+use Rattle.sat_trail.proofs.Stays.{lowered_le}
+use Rattle.sat_trail.proofs.Looks.{excused_by_first}
 use Rattle.sat_trail.specs.internal.Watching.{IsExcused}
 use Rattle.sat_trail.proofs.watches.Watches.excuse.Goals as goal
 

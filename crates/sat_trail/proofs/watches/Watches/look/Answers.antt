@@ -3,7 +3,8 @@ use Rattle.std.proofs.lemmas.Option.{none-some}
 use Rattle.clause_core.specs.Literals.{Lit, has}
 use Rattle.clause_core.specs.Clauses.{IsOver}
 use Rattle.sat_trail.specs.Entries.{literals_of}
-use Rattle.sat_trail.proofs.Watching.{over_named, over_literal, false_all}
+use Rattle.sat_trail.proofs.Soundness.{over_named, over_literal}
+use Rattle.sat_trail.proofs.Looks.{false_all}
 use Rattle.sat_trail.proofs.watches.Watches.look.Goals as goal
 
 pub returns-in_default-clause-looks : goal.returns-in_default-clause-looks

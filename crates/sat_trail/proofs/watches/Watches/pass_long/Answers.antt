@@ -4,7 +4,8 @@ use Rattle.clause_core.specs.Literals.{code_of}
 use Rattle.sat_trail.specs.States.{TrailState}
 use Rattle.sat_trail.specs.declared.watches.Watches.{Watches}
 use Rattle.sat_trail.specs.internal.Watching.{AreWatched, AddsWatch, is_paired}
-use Rattle.sat_trail.proofs.Watching.{over_named, lists_have, watched_low, watched_propagated, watched_long}
+use Rattle.sat_trail.proofs.Stays.{lists_have, watched_low, watched_propagated}
+use Rattle.sat_trail.proofs.Looks.{watched_long}
 use Rattle.sat_trail.proofs.watches.Watches.pass_long.Goals as goal
 
 pub add_watch-requires : goal.add_watch-requires
@@ -42,7 +43,6 @@ overflow_add-self c =
 
 pub returns-clause-watched : goal.returns-clause-watched
 returns-clause-watched c =
-    let t = c.args.stack.now in
     let u = c.excuse.new.stack in
     let start = c.args.self.now in
     let w = c.excuse.new.self in
@@ -51,38 +51,19 @@ returns-clause-watched c =
     let l = c.requires.literals in
     let grows = c.in_ok-excuse.ensures.ok in
     let looked : w.looked ≡ start.looked = ap (λ (x : Watches). x.looked) c.excuse.ensures.rest in
-    let looked_b : b.looked ≡ w.looked = ap (λ (x : Watches). x.looked) c.add_watch-2.ensures.rest
-    ∙ ap (λ (x : Watches). x.looked) c.add_watch.ensures.rest in
+    let same : b ≡ record w { lists = b.lists } = c.add_watch-2.ensures.rest
+    ∙ ap (λ (x : Watches). record x { lists = b.lists }) c.add_watch.ensures.rest in
     let named : slice_get u.clauses w.looked ≡ Some l.clause = ap (slice_get u.clauses) looked
     ∙ (ap (λ (s : TrailState). slice_get s.clauses start.looked) grows.rest_stays ∙ l.named) in
-    let watched : AreWatched u w = watched_low u start w (watched_propagated t u start c.requires.watched grows) c.excuse.ensures.rest
-    c.excuse.ensures.low in
-    watched_long u w a b (record {
-      lists = b.lists;
-      pairs = c.push.new.self;
-      looked = b.looked + 1;
-      short = b.short;
-      head = b.head;
-      low = b.low;
-    }) c.args.first c.args.second 0 l.clause watched
+    let watched : AreWatched u w = watched_low u start w
+    (watched_propagated c.args.stack.now u start c.requires.watched grows) c.excuse.ensures.rest c.excuse.ensures.low in
+    watched_long 0 c.excuse.ensures.sound watched
     (subst (λ (x : Watches). is_paired (slice_get x.pairs.items x.looked) ≡ false) (sym c.excuse.ensures.rest) c.requires.unpaired)
-    named
-    (over_named u c.excuse.ensures.sound w.looked l.clause named)
-    l.member l.other l.apart c.in_ok-excuse.ensures.not_false
-    (c.in_ok-excuse.ensures.excused l.clause l.named)
-    c.add_watch.ensures.rest
+    named l.member l.other l.apart c.in_ok-excuse.ensures.not_false (c.in_ok-excuse.ensures.excused l.clause l.named)
     (subst (λ (n : ℕ). AddsWatch w.lists.items (code_of c.args.first) (record { clause = n; blocker = c.args.second }) a.lists.items)
     (sym looked) c.in_ok-add_watch.ensures.lists)
-    c.add_watch-2.ensures.rest
     (subst (λ (n : ℕ). AddsWatch a.lists.items (code_of c.args.second) (record { clause = n; blocker = c.args.first }) b.lists.items)
     (sym looked) c.in_ok-add_watch-2.ensures.lists)
-    (ap (λ (n : ℕ). record {
-      lists = b.lists;
-      pairs = c.push.new.self;
-      looked = n + 1;
-      short = b.short;
-      head = b.head;
-      low = b.low;
-    }) looked_b)
-    (c.in_ok-push.ensures.items ∙ ap (λ (ps : _). ps ++ Some (record { first = c.args.first; second = c.args.second; start = 0 }) ∷ [])
-    (ap (λ (x : Watches). x.pairs.items) c.add_watch-2.ensures.rest ∙ ap (λ (x : Watches). x.pairs.items) c.add_watch.ensures.rest))
+    (c.in_ok-push.ensures.items ∙ ap (λ (x : Watches). x.pairs.items
+    ++ Some (record { first = c.args.first; second = c.args.second; start = 0 }) ∷ []) same)
+    (ap (λ (x : Watches). record x { pairs = c.push.new.self; looked = x.looked + 1 }) same)

@@ -4,7 +4,8 @@ use Rattle.std.specs.Prelude.{nat_lt}
 use Rattle.clause_core.specs.Literals.{Lit, has}
 use Rattle.sat_trail.specs.States.{TrailState}
 use Rattle.sat_trail.specs.declared.watches.Watches.{Watches}
-use Rattle.sat_trail.proofs.Watching.{watched_propagated, watched_short}
+use Rattle.sat_trail.proofs.Stays.{watched_propagated}
+use Rattle.sat_trail.proofs.Looks.{watched_short}
 use Rattle.sat_trail.proofs.watches.Watches.pass_short.Goals as goal
 
 pub returns-clause-watched : goal.returns-clause-watched

@@ -1,7 +1,7 @@
 use Rattle.std.proofs.Common.{length, ap, arith, ◌∙◌}
 use Rattle.sat_trail.specs.States.{TrailState}
 use Rattle.sat_trail.proofs.TrailSteps.{propagates_after}
-use Rattle.sat_trail.proofs.Watching.{watched_quiet}
+use Rattle.sat_trail.proofs.Stays.{watched_quiet}
 use Rattle.sat_trail.proofs.watches.Watches.propagate.Goals as goal
 
 pub returns-then-not-branch-clause-ok : goal.returns-then-not-branch-clause-ok

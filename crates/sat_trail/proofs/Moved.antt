@@ -1,0 +1,219 @@
+-- A watch goes to another literal of its clause: what the visit keeps.
+use Rattle.std.proofs.Common.{◌≡◌, ℕ, ◌+◌, ◌<◌, true, false, List, length, set, Option, Some, None, slice_get, get_or, sym, ap, ◌∙◌, subst}
+use Rattle.std.proofs.Common.{arith, inl, inr}
+use Rattle.std.proofs.lemmas.Option.{slice_get_within, same_Some, none-some, get_or_from_slice_get}
+use Rattle.std.proofs.lemmas.List.{length-set}
+use Rattle.std.proofs.lemmas.Bool.{false≢true, cases_lt, cases_eq}
+use Rattle.sequence.proofs.Places.{slice_get_set, slice_get_set_same, contains_at}
+use Rattle.clause_core.specs.Literals.{Lit, negation, has, code_of}
+use Rattle.clause_core.proofs.Sets.{code_one, has_from_Contains}
+use Rattle.sat_trail.specs.declared.watches.Watch.{Watch}
+use Rattle.sat_trail.specs.declared.watches.Pair.{Pair}
+use Rattle.sat_trail.specs.declared.watches.Watches.{Watches}
+use Rattle.sat_trail.specs.Entries.{literals_of}
+use Rattle.sat_trail.specs.States.{TrailState}
+use Rattle.sat_trail.specs.internal.Watching.{HasWatch, HasList, TakesOut, AddsWatch, DropsWatch, IsOf, IsPairOf, IsPair, AreWatched}
+use Rattle.sat_trail.specs.internal.Watching.{IsVisit, AreDue, IsFree}
+use Rattle.sat_trail.proofs.Places.{entry_has}
+use Rattle.sat_trail.proofs.Stays.{lists_have}
+use Rattle.sat_trail.proofs.WatchLists.{has_watch_same, has_watch_more, has_watch_new, AreBlocked, blocked_one, blocked_within}
+use Rattle.sat_trail.proofs.WatchLists.{blocked_more, blocked_less}
+use Rattle.sat_trail.proofs.Visits.{HasOther, other_in}
+
+-- ---- the literal to which the watch goes
+
+-- it is of the clause, not false, and not the other one
+pub record IsFresh (trues clause : List Lit) (other first : Lit) : Type 0 where
+  pub member : has clause first ≡ true
+  pub free : has trues (negation first) ≡ false
+  pub apart : first ≡ other → ⊥
+
+pub fresh_read : {trues literals clause : List Lit} {other first : Lit} {position : ℕ} → IsFree trues literals other position →
+    first ≡ get_or literals position first → literals ≡ clause → IsFresh trues clause other first
+fresh_read {trues} {literals} {clause} {other} {first} {position} found read same =
+    let is : first ≡ found.literal = read ∙ get_or_from_slice_get literals position found.literal first found.there in
+    record {
+      member = ap (λ (ls : List Lit). has ls first) (sym same) ∙ (ap (has literals) is ∙ has_from_Contains literals found.literal
+          (contains_at literals position found.literal found.there));
+      free = ap (λ (l : Lit). has trues (negation l)) is ∙ found.not_false;
+      apart = λ e. found.apart (sym is ∙ e);
+    }
+
+-- it is not the one that is visited, which is false
+pub fresh_differs : {t : TrailState} {w : Watches} {f : Lit} {clause : List Lit} {other first : Lit} → IsVisit t w f →
+    IsFresh (literals_of t.entries) clause other first → first ≡ f → ⊥
+fresh_differs {t} {w} {f} visit fresh e = false≢true (sym fresh.free ∙ (ap (λ (l : Lit). has (literals_of t.entries) (negation l)) e
+    ∙ entry_has t.entries w.head visit.entry (negation f) visit.there visit.is))
+
+codes_differ : {t : TrailState} {w : Watches} {f : Lit} {clause : List Lit} {other first : Lit} → IsVisit t w f →
+    IsFresh (literals_of t.entries) clause other first → code_of f ≡ code_of first → ⊥
+codes_differ {t} {w} {f} {clause} {other} {first} visit fresh e = fresh_differs visit fresh (sym (code_one f first e))
+
+-- so the list of the one that is visited is as long as before
+pub list_kept : {t : TrailState} {w : Watches} {f : Lit} {clause : List Lit} {other first : Lit} {watch : Watch}
+    {more : List (List Watch)} {least : ℕ} → IsVisit t w f → IsFresh (literals_of t.entries) clause other first →
+    AddsWatch w.lists.items (code_of first) watch more → HasList w.lists.items (code_of f) least → HasList more (code_of f) least
+list_kept {t} {w} {f} visit fresh adds l = record {
+  list = l.list;
+  listed = adds.others (code_of f) (codes_differ visit fresh) ∙ l.listed;
+  long = l.long;
+}
+
+-- ---- the watch is moved
+
+-- a watch of the clause is added to the list of the first literal, and taken out of the list of the one that is visited
+pub record Moves (t : TrailState) (w v : Watches) (f : Lit) (index : ℕ) : Type 0 where
+  pub watch : Watch
+  pub other : Lit
+  pub first : Lit
+  pub clause : List Lit
+  pub start : ℕ
+  pub between : List (List Watch)
+  pub was_read : HasOther t w f index watch other
+  pub named : slice_get t.clauses watch.clause ≡ Some clause
+  pub fresh : IsFresh (literals_of t.entries) clause other first
+  pub adds : AddsWatch w.lists.items (code_of first) (record { clause = watch.clause; blocker = other }) between
+  pub drops : DropsWatch between (code_of f) index v.lists.items
+  pub pairs : v.pairs.items ≡ set w.pairs.items watch.clause (Some (record { first = first; second = other; start = start }))
+  pub rest : v ≡ record w { lists = v.lists; pairs = v.pairs }
+
+module _ {t : TrailState} {w v : Watches} {f : Lit} {index : ℕ} (m : Moves t w v f index) where
+  open m use {watch, other, first, clause, start, between, was_read, named, fresh, adds, drops, pairs, rest}
+  open m.was_read use {pair, at, of}
+  open m.was_read.read use {sound, watched, visit, due, list, listed, there}
+
+  abbrev new : Pair
+  new = record { first = first; second = other; start = start }
+
+  unlike : other ≡ f → ⊥
+  unlike = m.was_read.apart (watched.paired watch.clause clause pair named at).apart
+
+  in_other : has clause other ≡ true
+  in_other = other_in was_read clause named
+
+  first_within : code_of first < length w.lists.items
+  first_within = lists_have t w sound watched watch.clause clause first named fresh.member
+
+  count : length v.pairs.items ≡ length w.pairs.items
+  count = ap length pairs ∙ length-set w.pairs.items watch.clause (Some new)
+
+  -- the list from which the watch is taken is as before
+  list_between : slice_get between (code_of f) ≡ Some list
+  list_between = adds.others (code_of f) (codes_differ visit fresh) ∙ listed
+
+  less : (xs : List Watch) × (slice_get v.lists.items (code_of f) ≡ Some xs) × TakesOut list index xs
+  less = drops.here list list_between
+
+  -- in that list a watch of another clause stands at another index
+  elsewhere : (number i : ℕ) → (number ≡ watch.clause → ⊥) → (h : HasWatch w.lists.items (code_of f) number i) →
+      (slice_get list i ≡ Some h.watch) × (i ≡ index → ⊥)
+  elsewhere number i n h =
+      let same_list : h.list ≡ list = same_Some h.list list (sym h.listed ∙ listed) in
+      let at_i : slice_get list i ≡ Some h.watch = ap (λ (xs : List Watch). slice_get xs i) (sym same_list) ∙ h.there in (
+        at_i,
+        λ e. n (sym h.names ∙ ap (λ (x : Watch). x.clause) (same_Some h.watch watch (sym at_i ∙ (ap (slice_get list) e ∙ there)))),
+      )
+
+  -- and it stays in some list's place
+  stays : (code number i : ℕ) → (number ≡ watch.clause → ⊥) → HasWatch w.lists.items code number i →
+      (j : ℕ) × HasWatch v.lists.items code number j
+  stays code number i n has' = elim (cases_eq code (code_of f)) [
+    | inl e ↦ subst (λ k. (j : ℕ) × HasWatch v.lists.items k number j) (sym e)
+        (in_less (subst (λ k. HasWatch w.lists.items k number i) e has'))
+    | inr d ↦ (i, has_watch_same (drops.others code d) (has_watch_more adds has'))
+  ]
+    where
+      in_less : HasWatch w.lists.items (code_of f) number i → (j : ℕ) × HasWatch v.lists.items (code_of f) number j
+      in_less h =
+          let p = elsewhere number i n h in
+          let r = less.2.others i h.watch p.1 p.0 in
+          (r.0, record { list = less.0; watch = h.watch; listed = less.1; there = r.1; names = h.names })
+
+  was : (number : ℕ) (o : Option Pair) → (number ≡ watch.clause → ⊥) → slice_get v.pairs.items number ≡ Some o →
+      slice_get w.pairs.items number ≡ Some o
+  was number o n h = sym (slice_get_set w.pairs.items watch.clause number (Some new) n)
+      ∙ (ap (λ (ps : List (Option Pair)). slice_get ps number) (sym pairs) ∙ h)
+
+  is_new : (number : ℕ) (o : Option Pair) → number ≡ watch.clause → slice_get v.pairs.items number ≡ Some o → Some new ≡ o
+  is_new number o e h = same_Some (Some new) o (sym (slice_get_set_same w.pairs.items watch.clause (Some new)
+      (slice_get_within w.pairs.items watch.clause (Some pair) at))
+      ∙ (ap (λ (ps : List (Option Pair)). slice_get ps watch.clause) (sym pairs) ∙ (ap (slice_get v.pairs.items) (sym e) ∙ h)))
+
+  -- a literal of the moved pair is the first or the other one
+  of_new : (number : ℕ) (p : Pair) (l : Lit) → number ≡ watch.clause → IsPairOf v.pairs.items number p → IsOf p l → IsOf new l
+  of_new number p l e h of_l = subst (λ (q : Pair). IsOf q l) (sym (same_Some new p (is_new number (Some p) e h))) of_l
+
+  -- the literals of the new pair are watched
+  new_listed : (l : Lit) → IsOf new l → (j : ℕ) × HasWatch v.lists.items (code_of l) watch.clause j
+  new_listed l (inl e) = subst (λ (z : Lit). (j : ℕ) × HasWatch v.lists.items (code_of z) watch.clause j) e
+      (let n = has_watch_new adds first_within in
+      (n.0, has_watch_same (drops.others (code_of first) (λ k. codes_differ visit fresh (sym k))) n.1))
+  new_listed l (inr e) = subst (λ (z : Lit). (j : ℕ) × HasWatch v.lists.items (code_of z) watch.clause j) e
+      (let o = watched.listed watch.clause pair other at of in
+      (o.0, has_watch_same (drops.others (code_of other) (λ k. unlike (code_one other f k))) (has_watch_more adds o.1)))
+
+  new_blocked : AreBlocked t.clauses (length v.pairs.items) v.lists.items
+  new_blocked =
+      let within : watch.clause < length v.pairs.items = omega (arith, slice_get_within w.pairs.items watch.clause (Some pair) at, count) in
+      blocked_less t.clauses drops list_between (blocked_more t.clauses adds first_within
+      (blocked_one t.clauses other within named in_other) (blocked_within t.clauses w.lists.items (omega (arith, count)) watched.blocked))
+
+  pub watched_moved : AreWatched t v
+  watched_moved = subst (AreWatched t) (sym rest) (record {
+    lists_all = drops.all ∙ (adds.all ∙ watched.lists_all);
+    pairs_few = omega (arith, count, watched.pairs_few);
+    looked_few = omega (arith, count, watched.looked_few);
+    head_few = watched.head_few;
+    blocked = new_blocked;
+    paired = λ number c p named_c h. elim (cases_eq number watch.clause) [
+      | inl e ↦ (let c_is : clause ≡ c = same_Some clause c (sym named ∙ (ap (slice_get t.clauses) (sym e) ∙ named_c)) in
+          subst (λ (d : List Lit). IsPair d p) c_is (subst (IsPair clause) (same_Some new p (is_new number (Some p) e h))
+          (record { first = fresh.member; second = in_other; apart = fresh.apart })))
+      | inr n ↦ watched.paired number c p named_c (was number (Some p) n h)
+    ];
+    listed = λ number p l h of_l. elim (cases_eq number watch.clause) [
+      | inl e ↦ subst (λ n. (j : ℕ) × HasWatch v.lists.items (code_of l) n j) (sym e) (new_listed l (of_new number p l e h of_l))
+      | inr n ↦ (let r = watched.listed number p l (was number (Some p) n h) of_l in stays (code_of l) number r.0 n r.1)
+    ];
+    excused = λ number c p l named_c h of_l place e at_e false_by below. elim (cases_eq number watch.clause) [
+      | inr n ↦ watched.excused number c p l named_c (was number (Some p) n h) of_l place e at_e false_by below
+      | inl k ↦ elim (of_new number p l k h of_l) [
+        | inl g ↦ absurd (false≢true (sym fresh.free ∙ (ap (λ (z : Lit). has (literals_of t.entries) (negation z)) g
+            ∙ entry_has t.entries place e (negation l) at_e false_by)))
+        | inr g ↦ watched.excused number c pair l named_c (ap (slice_get w.pairs.items) k ∙ at) (subst (IsOf pair) g of) place e at_e
+            false_by below
+      ]
+    ];
+    short_is = λ number c named_c h. watched.short_is number c named_c (was number None (not_moved number h) h);
+    short_excused = λ number c named_c h. watched.short_excused number c named_c (was number None (not_moved number h) h);
+  })
+    where
+      not_moved : (number : ℕ) → slice_get v.pairs.items number ≡ Some None → number ≡ watch.clause → ⊥
+      not_moved number h e = none-some new (sym (is_new number None e h))
+
+  pub due_moved : AreDue t v f index
+  due_moved = subst (λ (x : Watches). AreDue t x f index) (sym rest) (λ number c p named_c h of_f.
+      elim (cases_eq number watch.clause) [
+        | inl e ↦ absurd (elim (of_new number p f e h of_f) [ inl k ↦ fresh_differs visit fresh k | inr k ↦ unlike k ])
+        | inr n ↦ elim (due number c p named_c (was number (Some p) n h) of_f) [
+          | inl x ↦ inl x
+          | inr r ↦ inr (earlier number r.0 r.1 r.2 n)
+        ]
+      ])
+    where
+      earlier : (number i : ℕ) → i < index + 1 → HasWatch w.lists.items (code_of f) number i → (number ≡ watch.clause → ⊥) →
+          (j : ℕ) × (j < index) × HasWatch v.lists.items (code_of f) number j
+      earlier number i below h n =
+          let p = elsewhere number i n h in
+          let less_i : i < index = elim (cases_lt i index) [ inl k ↦ k | inr k ↦ absurd (p.1 (omega arith)) ] in (
+            i,
+            less_i,
+            record { list = less.0; watch = h.watch; listed = less.1; there = less.2.before i less_i ∙ p.0; names = h.names },
+          )
+
+  pub list_moved : HasList v.lists.items (code_of f) index
+  list_moved = record {
+    list = less.0;
+    listed = less.1;
+    long = omega (arith, less.2.shorter, slice_get_within list index watch there);
+  }

@@ -1,0 +1,314 @@
+-- How watches stay what they are while literals are set and taken back.
+use Rattle.std.proofs.Common.{◌≡◌, ℕ, zero, suc, ◌+◌, ◌*◌, ◌<◌, ◌≤◌, min, Bool, true, false, cond, List, [], ◌∷◌, ◌++◌, length, take}
+use Rattle.std.proofs.Common.{Option, Some, None, slice_get, leb, sym, ap, ◌∙◌, subst, refl, arith, inl, inr, ◌⊎◌}
+use Rattle.std.specs.Prelude.{Result, Ok, Err, OnOk, OnErr}
+use Rattle.std.proofs.lemmas.Option.{slice_get_within, same_Some, none-some}
+use Rattle.std.proofs.lemmas.List.{length_push, length-append}
+use Rattle.std.proofs.lemmas.Bool.{true≢false, false≢true, cases_Bool, le-leb, leb-true}
+use Rattle.sequence.proofs.Places.{slice_get-front, slice_get_grown, slice_get_push, slice_get-take, slice_get_some}
+use Rattle.clause_core.specs.Literals.{Lit, negation, has, code_of}
+use Rattle.clause_core.specs.Propagation.{not_false, IsQuiet}
+use Rattle.clause_core.proofs.Sets.{code_within}
+use Rattle.sat_trail.specs.declared.entries.Entry.{Entry}
+use Rattle.sat_trail.specs.declared.watches.Watch.{Watch}
+use Rattle.sat_trail.specs.declared.watches.Pair.{Pair}
+use Rattle.sat_trail.specs.declared.watches.Watches.{Watches}
+use Rattle.sat_trail.specs.Entries.{literals_of}
+use Rattle.sat_trail.specs.States.{TrailState, IsSound, decided, with_clause, undone, up_to, Propagates}
+use Rattle.sat_trail.specs.internal.Watching.{HasWatch, IsOf, IsPairOf, IsExcused, AreWatched, IsVisit}
+use Rattle.sat_trail.proofs.Places.{has_entry, entry_has}
+use Rattle.sat_trail.proofs.Soundness.{level_within, over_literal, true_not_false}
+use Rattle.sat_trail.proofs.TrailSteps.{IsOpen, open_two, open_true, quiet_from, has_not_false, has_one}
+
+-- ---- what is true stays true
+
+pub excused_grown : (es more : List Entry) (clause : List Lit) (number limit level : ℕ) → IsExcused es clause number limit level →
+    IsExcused (es ++ more) clause number limit level
+excused_grown es more clause number limit level x = record {
+  place = x.place;
+  entry = x.entry;
+  there = slice_get_grown es more x.place x.entry x.there;
+  member = x.member;
+  in_time = x.in_time;
+}
+
+pub excused_lower : (es : List Entry) (clause : List Lit) (number limit less level : ℕ) → less ≤ limit →
+    IsExcused es clause number limit level → IsExcused es clause number less level
+excused_lower es clause number limit less level h x = record {
+  place = x.place;
+  entry = x.entry;
+  there = x.there;
+  member = x.member;
+  in_time = λ below. x.in_time (omega arith);
+}
+
+-- a literal of the clause is true, and the number is not below the limit or the present level is the one given
+pub excused_by : (t : TrailState) → IsSound t → (clause : List Lit) (l : Lit) (number limit level : ℕ) → has clause l ≡ true →
+    has (literals_of t.entries) l ≡ true → (number < limit → level ≡ t.level) → IsExcused t.entries clause number limit level
+excused_by t sound clause l number limit level member is_true late =
+    let r = has_entry t.entries l is_true in
+    record {
+      place = r.0;
+      entry = r.1;
+      there = r.2;
+      member = ap (has clause) r.3 ∙ member;
+      in_time = λ below. (let is = late below in
+          omega (arith, is, level_within t.variables t.clauses t.entries sound.stand r.0 r.1 r.2, sound.level_reached));
+    }
+
+-- ---- entries more
+
+watched_more : (t u : TrailState) (w : Watches) (more : List Entry) → AreWatched t w → u.variables ≡ t.variables → u.clauses ≡ t.clauses →
+    u.entries ≡ t.entries ++ more → AreWatched u w
+watched_more t u w more watched variables clauses entries = record {
+  lists_all = watched.lists_all ∙ ap (λ n. 2 * n) (sym variables);
+  pairs_few = omega (arith, watched.pairs_few, ap length clauses);
+  looked_few = watched.looked_few;
+  head_few = omega (arith, watched.head_few, ap length entries, length-append t.entries more);
+  blocked = λ code index list watch listed there. (let r = watched.blocked code index list watch listed there in
+      (r.0, λ clause named. r.1 clause (old watch.clause clause named)));
+  paired = λ number clause pair named is. watched.paired number clause pair (old number clause named) is;
+  listed = watched.listed;
+  excused = λ number clause pair l named is of place e there false_by below.
+      subst (λ (es : List Entry). IsExcused es clause place w.low e.level) (sym entries)
+      (excused_grown t.entries more clause place w.low e.level (watched.excused number clause pair l
+      (old number clause named) is of place e (before place e there (omega (arith, below, watched.head_few))) false_by below));
+  short_is = λ number clause named is. watched.short_is number clause (old number clause named) is;
+  short_excused = λ number clause named is below.
+      subst (λ (es : List Entry). IsExcused es clause number w.short 0) (sym entries)
+      (excused_grown t.entries more clause number w.short 0 (watched.short_excused number clause (old number clause named) is below));
+}
+  where
+    old : (number : ℕ) (clause : List Lit) → slice_get u.clauses number ≡ Some clause → slice_get t.clauses number ≡ Some clause
+    old number clause named = ap (λ (cs : List (List Lit)). slice_get cs number) (sym clauses) ∙ named
+
+    before : (place : ℕ) (e : Entry) → slice_get u.entries place ≡ Some e → place < length t.entries → slice_get t.entries place ≡ Some e
+    before place e there below = sym (slice_get-front t.entries more place below)
+        ∙ (ap (λ (es : List Entry). slice_get es place) (sym entries) ∙ there)
+
+pub watched_propagated : (t u : TrailState) (w : Watches) → AreWatched t w → Propagates t u → AreWatched u w
+watched_propagated t u w watched grows = watched_more t u w grows.added watched (ap (λ (s : TrailState). s.variables) grows.rest_stays)
+    (ap (λ (s : TrailState). s.clauses) grows.rest_stays) (ap (λ (s : TrailState). s.entries) grows.rest_stays)
+
+pub watched_decided : (t u : TrailState) (w : Watches) (l : Lit) → AreWatched t w → u ≡ decided t l → AreWatched u w
+watched_decided t u w l watched is = watched_more t u w (record { literal = l; level = t.level + 1; reason = None } ∷ []) watched
+    (ap (λ (s : TrailState). s.variables) is) (ap (λ (s : TrailState). s.clauses) is) (ap (λ (s : TrailState). s.entries) is)
+
+pub visit_propagated : (t u : TrailState) (w : Watches) (f : Lit) → IsVisit t w f → Propagates t u → IsVisit u w f
+visit_propagated t u w f visit grows = record {
+  entry = visit.entry;
+  there = ap (λ (s : TrailState). slice_get s.entries w.head) grows.rest_stays
+      ∙ slice_get_grown t.entries grows.added w.head visit.entry visit.there;
+  is = visit.is;
+  late = λ below. visit.late below ∙ ap (λ (s : TrailState). s.level) (sym grows.rest_stays);
+}
+
+-- ---- a clause more
+
+pub watched_learnt : (t u : TrailState) (w : Watches) (clause : List Lit) → AreWatched t w → u ≡ with_clause t clause → AreWatched u w
+watched_learnt t u w clause watched is = subst (λ (s : TrailState). AreWatched s w) (sym is) (record {
+  lists_all = watched.lists_all;
+  pairs_few = omega (arith, watched.pairs_few, length_push t.clauses clause);
+  looked_few = watched.looked_few;
+  head_few = watched.head_few;
+  blocked = λ code index list watch listed there. (let r = watched.blocked code index list watch listed there in
+      (r.0, λ c named. r.1 c (old watch.clause c r.0 named)));
+  paired = λ number c pair named at. watched.paired number c pair
+      (old number c (slice_get_within w.pairs.items number (Some pair) at) named) at;
+  listed = watched.listed;
+  excused = λ number c pair l named at. watched.excused number c pair l
+      (old number c (slice_get_within w.pairs.items number (Some pair) at) named) at;
+  short_is = λ number c named at. watched.short_is number c (old number c (slice_get_within w.pairs.items number None at) named) at;
+  short_excused = λ number c named at. watched.short_excused number c
+      (old number c (slice_get_within w.pairs.items number None at) named) at;
+})
+  where
+    old : (number : ℕ) (c : List Lit) → number < length w.pairs.items → slice_get (t.clauses ++ clause ∷ []) number ≡ Some c →
+        slice_get t.clauses number ≡ Some c
+    old number c below named = sym (slice_get-front t.clauses (clause ∷ []) number (omega (arith, below, watched.pairs_few))) ∙ named
+
+-- ---- taking back
+
+-- an entry up to the level stays, and those that stay are up to the level
+up_to_at : (level : ℕ) (es : List Entry) (k : ℕ) (e : Entry) → slice_get es k ≡ Some e → e.level ≤ level →
+    (j : ℕ) × (slice_get (up_to level es) j ≡ Some e)
+up_to_at level [] k e at h = absurd (none-some e at)
+up_to_at level (x ∷ es) zero e at h =
+    let is : x ≡ e = same_Some x e at in
+    let here : leb x.level level ≡ true = le-leb x.level level (omega (arith, ap (λ (z : Entry). z.level) is)) in
+    (0, ap (λ (b : Bool). slice_get (cond b (x ∷ up_to level es) (up_to level es)) 0) here ∙ ap Some is)
+up_to_at level (x ∷ es) (suc k) e at h = by_test (leb x.level level) (up_to_at level es k e at h)
+  where
+    by_test : (b : Bool) → (j : ℕ) × (slice_get (up_to level es) j ≡ Some e) →
+        (j : ℕ) × (slice_get (cond b (x ∷ up_to level es) (up_to level es)) j ≡ Some e)
+    by_test true r = (suc r.0, r.1)
+    by_test false r = r
+
+up_to_low : (level : ℕ) (es : List Entry) (k : ℕ) (e : Entry) → slice_get (up_to level es) k ≡ Some e → e.level ≤ level
+up_to_low level [] k e at = absurd (none-some e at)
+up_to_low level (x ∷ es) k e at = by_test (leb x.level level) refl k at (up_to_low level es)
+  where
+    by_test : (b : Bool) → leb x.level level ≡ b → (k : ℕ) → slice_get (cond b (x ∷ up_to level es) (up_to level es)) k ≡ Some e →
+        ((j : ℕ) (d : Entry) → slice_get (up_to level es) j ≡ Some d → d.level ≤ level) → e.level ≤ level
+    by_test true t zero h rest = omega (arith, leb-true x.level level t, ap (λ (z : Entry). z.level) (same_Some x e h))
+    by_test true t (suc k) h rest = rest k e h
+    by_test false t k h rest = rest k e h
+
+pub watched_undone : (t u : TrailState) (w v : Watches) (level : ℕ) → AreWatched t w → u ≡ undone t level →
+    u.entries ≡ take (length u.entries) t.entries → v.head ≡ min (min w.head w.low) (length u.entries) → v.looked ≡ min w.looked w.short →
+    v.lists.items ≡ w.lists.items → v.pairs.items ≡ w.pairs.items → AreWatched u v
+watched_undone t u w v level watched is front head looked lists pairs = record {
+  lists_all = ap length lists ∙ (watched.lists_all ∙ ap (λ (s : TrailState). 2 * s.variables) (sym is));
+  pairs_few = omega (arith, watched.pairs_few, ap length pairs, ap (λ (s : TrailState). length s.clauses) is);
+  looked_few = omega (arith, watched.looked_few, looked, ap length pairs);
+  head_few = omega (arith, head);
+  blocked = λ code index list watch listed there.
+      (let r = watched.blocked code index list watch (ap (λ (ls : List (List Watch)). slice_get ls code) (sym lists) ∙ listed) there in
+      (omega (arith, r.0, ap length pairs), λ clause named. r.1 clause (old watch.clause clause named)));
+  paired = λ number clause pair named at. watched.paired number clause pair (old number clause named) (was number (Some pair) at);
+  listed = λ number pair l at of. subst (λ (ls : List (List Watch)). (index : ℕ) × HasWatch ls (code_of l) number index) (sym lists)
+      (watched.listed number pair l (was number (Some pair) at) of);
+  excused = λ number clause pair l named at of place e there false_by below.
+      still clause place w.low v.low e.level (low_level place e there)
+      (watched.excused number clause pair l (old number clause named) (was number (Some pair) at) of place e
+      (before place e there) false_by (omega (arith, below, head))) (omega (arith, below, head));
+  short_is = λ number clause named at. watched.short_is number clause (old number clause named) (was number None at);
+  short_excused = λ number clause named at below.
+      still clause number w.short v.short 0 (omega arith) (watched.short_excused number clause (old number clause named)
+      (was number None at) (omega (arith, below, looked))) (omega (arith, below, looked));
+}
+  where
+    old : (number : ℕ) (clause : List Lit) → slice_get u.clauses number ≡ Some clause → slice_get t.clauses number ≡ Some clause
+    old number clause named = ap (λ (s : TrailState). slice_get s.clauses number) (sym is) ∙ named
+
+    was : (number : ℕ) (o : Option Pair) → slice_get v.pairs.items number ≡ Some o → slice_get w.pairs.items number ≡ Some o
+    was number o at = ap (λ (ps : List (Option Pair)). slice_get ps number) (sym pairs) ∙ at
+
+    before : (place : ℕ) (e : Entry) → slice_get u.entries place ≡ Some e → slice_get t.entries place ≡ Some e
+    before place e there = (slice_get-take (length u.entries) t.entries place e
+        (ap (λ (es : List Entry). slice_get es place) (sym front) ∙ there)).1
+
+    low_level : (place : ℕ) (e : Entry) → slice_get u.entries place ≡ Some e → e.level ≤ level
+    low_level place e there = up_to_low level t.entries place e (ap (λ (s : TrailState). slice_get s.entries place) (sym is) ∙ there)
+
+    still : (clause : List Lit) (number limit new_limit at_most : ℕ) → at_most ≤ level → IsExcused t.entries clause number limit at_most →
+        number < limit → IsExcused u.entries clause number new_limit at_most
+    still clause number limit new_limit at_most low x below =
+        let r = up_to_at level t.entries x.place x.entry x.there (omega (arith, x.in_time below, low)) in
+        record {
+          place = r.0;
+          entry = x.entry;
+          there = ap (λ (s : TrailState). slice_get s.entries r.0) is ∙ r.1;
+          member = x.member;
+          in_time = λ _. x.in_time below;
+        }
+
+-- ---- nothing is left to do
+
+pub watched_quiet : (t : TrailState) (w : Watches) → IsSound t → AreWatched t w → length t.clauses ≤ w.looked → length t.entries ≤ w.head →
+    IsQuiet t.clauses (literals_of t.entries)
+watched_quiet t w sound watched all_looked all_visited = quiet_from trues t.clauses
+    (λ k c named. each k c named (slice_get_some w.pairs.items k (omega (arith, slice_get_within t.clauses k c named, watched.looked_few))))
+  where
+    trues : List Lit
+    trues = literals_of t.entries
+
+    satisfied : (c : List Lit) (number limit level : ℕ) → IsExcused t.entries c number limit level → IsOpen trues c
+    satisfied c number limit level x =
+        let is_true : has trues x.entry.literal ≡ true = entry_has t.entries x.place x.entry x.entry.literal x.there refl in
+        open_true trues c x.entry.literal (has_not_false trues c x.entry.literal x.member (true_not_false t sound x.entry.literal is_true))
+        is_true
+
+    -- a watched literal is not false, or the clause is satisfied
+    watched_one : (k : ℕ) (c : List Lit) (pair : Pair) (l : Lit) → slice_get t.clauses k ≡ Some c → IsPairOf w.pairs.items k pair →
+        IsOf pair l → (has trues (negation l) ≡ false) ⊎ IsOpen trues c
+    watched_one k c pair l named at of = elim (cases_Bool (has trues (negation l))) [
+      | inl t' ↦ (let r = has_entry t.entries (negation l) t' in
+          inr (satisfied c r.0 w.low r.1.level (watched.excused k c pair l named at of r.0 r.1 r.2 r.3
+          (omega (arith, slice_get_within t.entries r.0 r.1 r.2)))))
+      | inr f ↦ inl f
+    ]
+
+    two : (c : List Lit) (a b : Lit) → (a ≡ b → ⊥) → has c a ≡ true → has c b ≡ true → has trues (negation a) ≡ false →
+        has trues (negation b) ≡ false → IsOpen trues c
+    two c a b differ in_a in_b free_a free_b = open_two trues c (by_list (not_false trues c) (has_not_false trues c a in_a free_a)
+        (has_not_false trues c b in_b free_b))
+      where
+        by_list : (ls : List Lit) → has ls a ≡ true → has ls b ≡ true → 1 < length ls
+        by_list [] h i = absurd (false≢true h)
+        by_list (x ∷ []) h i = absurd (differ (sym (has_one x a h) ∙ has_one x b i))
+        by_list (x ∷ y ∷ ls) h i = omega arith
+
+    each : (k : ℕ) (c : List Lit) → slice_get t.clauses k ≡ Some c → (o : Option Pair) × (slice_get w.pairs.items k ≡ Some o) →
+        IsOpen trues c
+    each k c named (None, at) = satisfied c k w.short 0 (watched.short_excused k c named at
+        (omega (arith, slice_get_within t.clauses k c named)))
+    each k c named (Some pair, at) =
+        let is = watched.paired k c pair named at in
+        elim (watched_one k c pair pair.first named at (inl refl)) [
+          | inr open' ↦ open'
+          | inl a ↦ elim (watched_one k c pair pair.second named at (inr refl)) [
+            | inr open' ↦ open'
+            | inl b ↦ two c pair.first pair.second is.apart is.first is.second a b
+          ]
+        ]
+
+-- ---- the limit of places falls
+
+pub watched_low : (t : TrailState) (w v : Watches) → AreWatched t w → v ≡ record w { low = v.low } → v.low ≤ w.low → AreWatched t v
+watched_low t w v watched is less = subst (AreWatched t) (sym is) (record {
+  lists_all = watched.lists_all;
+  pairs_few = watched.pairs_few;
+  looked_few = watched.looked_few;
+  head_few = watched.head_few;
+  blocked = watched.blocked;
+  paired = watched.paired;
+  listed = watched.listed;
+  excused = λ number clause pair l named at of place e there false_by below. excused_lower t.entries clause place w.low v.low e.level less
+      (watched.excused number clause pair l named at of place e there false_by below);
+  short_is = watched.short_is;
+  short_excused = watched.short_excused;
+})
+
+pub lowered_le : (b : Bool) (low place limit : ℕ) → limit ≡ cond b (min low place) low → limit ≤ low
+lowered_le true low place limit h = omega arith
+lowered_le false low place limit h = omega arith
+
+-- ---- what holds between the calls
+
+pub lists_have : (t : TrailState) (w : Watches) → IsSound t → AreWatched t w → (number : ℕ) (clause : List Lit) (l : Lit) →
+    slice_get t.clauses number ≡ Some clause → has clause l ≡ true → code_of l < length w.lists.items
+lists_have t w sound watched number clause l named member = omega
+    (arith, watched.lists_all, code_within t.variables l (over_literal t sound number clause l named member))
+
+-- an answer that is an error breaks the trail
+pub answered : {T E : Type 0} (r : Result T E) (P : Type 0) (b : Bool) → OnOk r P → OnErr r (b ≡ true) → b ≡ false → P
+answered (Ok x) P b ok err usable = ok
+answered (Err e) P b ok err usable = absurd (true≢false (sym err ∙ usable))
+
+-- ---- the beginning
+
+pub watched_started : (t : TrailState) (w : Watches) → length w.lists.items ≡ 2 * t.variables →
+    ((code : ℕ) (list : List Watch) → slice_get w.lists.items code ≡ Some list → list ≡ []) → w.pairs.items ≡ [] → w.looked ≡ 0 →
+    w.head ≡ 0 → AreWatched t w
+watched_started t w all empty pairs looked head = record {
+  lists_all = all;
+  pairs_few = omega (arith, ap length pairs);
+  looked_few = omega (arith, ap length pairs, looked);
+  head_few = omega (arith, head);
+  blocked = λ code index list watch listed there. absurd (none-some watch
+      (ap (λ (xs : List Watch). slice_get xs index) (sym (empty code list listed)) ∙ there));
+  paired = λ number clause pair named at. absurd (none number (Some pair) at);
+  listed = λ number pair l at. absurd (none number (Some pair) at);
+  excused = λ number clause pair l named at. absurd (none number (Some pair) at);
+  short_is = λ number clause named at. absurd (none number None at);
+  short_excused = λ number clause named at. absurd (none number None at);
+}
+  where
+    none : (number : ℕ) (o : Option Pair) → slice_get w.pairs.items number ≡ Some o → ⊥
+    none number o at = none-some o (ap (λ (ps : List (Option Pair)). slice_get ps number) (sym pairs) ∙ at)
+
+pub empty_more : (lists : List (List Watch)) (list : List Watch) → list ≡ [] →
+    ((code : ℕ) (xs : List Watch) → slice_get lists code ≡ Some xs → xs ≡ []) → (code : ℕ) (xs : List Watch) →
+    slice_get (lists ++ list ∷ []) code ≡ Some xs → xs ≡ []
+empty_more lists list is empty code xs at = elim (slice_get_push lists list code xs at) [ inl p ↦ empty code xs p.1 | inr p ↦ sym p.1 ∙ is ]
