@@ -17,7 +17,7 @@ use Rattle.refutation_check.specs.declared.steps.Step.{Step}
 use Rattle.sat_core.proofs.LogNumbers.{is_numbered}
 use Rattle.sat_core.specs.internal.Lessons.{learnt_step}
 use Rattle.sat_core.specs.declared.marks.Marks.{Marks}
-use Rattle.sat_core.specs.internal.ConflictWalks.{count_at, is_of_clause, AreMarks, must_go}
+use Rattle.sat_core.specs.internal.ConflictWalks.{count_at, is_of_clause, AreMarks, must_go, IsReplaced}
 use Rattle.sat_core.specs.Answers.{AreSatisfying, AreRefuting, IsWholeTrace}
 use Rattle.sat_core.proofs.Counting.{word, not_within}
 use Rattle.sat_core.proofs.Searching.{quiet_reaches}
@@ -211,10 +211,20 @@ are_marks m flags lowest waiting looked = record {
     among (suc (suc zero)) h = lit< tt
     among (suc (suc (suc place))) h = absurd (false≢true h)
 
--- an entry at level 0 gives way to its reason, and one at the present level where another one is marked
-at_start : must_go 1 1 0 ≡ true
-at_start = refl
+-- an entry at level 0 gives way to its reason, or to a clause of its literal alone, and to no clause of another literal
+to_reason : IsReplaced ((a ∷ b ∷ []) ∷ (a ∷ []) ∷ (b ∷ []) ∷ []) 1 1 (entry_with a 0 (Some 0)) 0
+to_reason = record { forces = inl refl; why = inl refl }
 
+to_alone : IsReplaced ((a ∷ b ∷ []) ∷ (a ∷ []) ∷ (b ∷ []) ∷ []) 1 1 (entry_with a 0 (Some 0)) 1
+to_alone = record { forces = inr refl; why = inl refl }
+
+to_other : IsReplaced ((a ∷ b ∷ []) ∷ (a ∷ []) ∷ (b ∷ []) ∷ []) 1 1 (entry_with a 0 (Some 0)) 2 → ⊥
+to_other r = elim r.forces [
+  | inl some ↦ (let e = same_Some 0 2 some in omega arith)
+  | inr alone ↦ (let e = ap (λ (ls : List Lit). has ls a) (same_Some (b ∷ []) (a ∷ []) alone) in false≢true e)
+]
+
+-- the reason of an entry at the present level takes its place where another one is marked there
 crowded : must_go 1 2 1 ≡ true
 crowded = refl
 

@@ -1,5 +1,7 @@
 pub mod Marking
 pub mod Hints
+pub mod Noting
+pub mod SearchNotes
 pub mod Stages
 pub mod Walking
 pub mod Counting

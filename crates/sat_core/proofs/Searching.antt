@@ -2,7 +2,7 @@
 use Rattle.std.proofs.Common.{◌≡◌, ℕ, zero, suc, ◌+◌, ◌-◌, ◌*◌, ◌<◌, ◌≤◌, ◌^◌, Bool, true, false, not, cond, ◌||◌, List, [], ◌∷◌, ◌++◌}
 use Rattle.std.proofs.Common.{length, map, filter, Option, Some, None, slice_get, sym, ap, ◌∙◌, subst, refl, arith, eqb, leb}
 use Rattle.std.proofs.Common.{inl, inr, Contains, All}
-use Rattle.std.specs.Prelude.{option_map, IsSome, slice_index_or}
+use Rattle.std.specs.Prelude.{option_map, IsSome, slice_index_or, min}
 use Rattle.std.specs.List.{AllByRecursion, list_any}
 use Rattle.std.proofs.lemmas.Bool.{true≢false, false≢true, or_left, or_right, cases_Bool, cases_lt, cond-true, cond-false}
 use Rattle.std.proofs.lemmas.Bool.{false_from_ne_true, lt-leb, leb-false, and_from}
@@ -41,7 +41,7 @@ use Rattle.sat_core.specs.internal.Lessons.{IsAsserting, IsLesson, learnt_step, 
 use Rattle.sat_core.specs.internal.Decisions.{AreSet, AreVariableTruths}
 use Rattle.sat_core.specs.declared.answers.Answer.{Answer}
 use Rattle.sat_core.specs.declared.answers.Answer.TheVariants.{Sat, Unsat, Spent}
-use Rattle.sat_core.specs.Answers.{AreSatisfying, AreRefuting, IsWholeTrace, IsRightAnswer}
+use Rattle.sat_core.specs.Answers.{AreSatisfying, AreRefuting, IsWholeTrace}
 use Rattle.sat_core.proofs.Hints.{has-map-negation}
 use Rattle.sat_core.proofs.LogNumbers.{is_numbered, numbered_more}
 use Rattle.sat_core.proofs.Walking.{up_to_has, up_to_from}
@@ -126,6 +126,12 @@ search_propagated shortens variables clauses t u steps numbers search grows soun
           (sym (up_to_added t.level level t.entries grows.added (recursion_from_All
           (λ (e : Entry). (e.level ≡ t.level) × IsSome e.reason) grows.added grows.forced) below)) (search.quiet level below);
     })
+
+-- only entries at the next places are new, and clauses
+pub record HasGrown (old new : TrailState) : Type 0 where
+  pub added : List Entry
+  pub same_variables : new.variables ≡ old.variables
+  pub entries_are : new.entries ≡ old.entries ++ added
 
 -- ---- a decision
 
@@ -394,6 +400,72 @@ search_numbered clauses steps numbered step is hints =
     numbered_more (length clauses + 1) steps step (length (known clauses steps) + 1) (omega (arith, known_long clauses steps)) numbered
     (is_numbered step (length (known clauses steps)) is hints)
 
+-- a clause that hints show stands at the end of the trail, and its step behind the others, with the next number
+module _ (shortens : Bool) (variables : ℕ) (clauses : List (List Lit)) (t : TrailState) (taken : List Step) (names : List ℕ) (next : ℕ)
+    (search : IsSearch shortens variables clauses t taken names) (next_is : next ≡ length clauses + length taken + 1)
+    (clause : List Lit) (hints : List ℕ) (over : IsOver t.variables clause) (no_pair : has_pair clause ≡ false)
+    (shown : refused_hint (numbered_from 1 t.clauses) (map negation clause) 1 hints ≡ None) (few_hints : length hints + 1 < 2 ^ 32)
+    (named : AreHints (length t.clauses) hints) (increasing : IsIncreasing clause) where
+  abbrev before : List (List Lit)
+  before = known clauses taken
+
+  next_number : next ≡ length before + 1
+  next_number = omega (arith, next_is, known_long clauses taken)
+
+  abbrev next_step : Step
+  next_step = learnt_step next clause (log_hints names hints)
+
+  all_push : (cs : List (List Lit)) → AllByRecursion IsIncreasing cs → AllByRecursion IsIncreasing (cs ++ clause ∷ [])
+  all_push [] all = (increasing, tt)
+  all_push (c ∷ cs) all = (all.0, all_push cs all.1)
+
+  accepted : step_refusal variables (length before) (numbered_from 1 before) next_step ≡ None
+  accepted = subst (λ (n : ℕ). step_refusal variables (length before) (numbered_from 1 before)
+      (learnt_step n clause (log_hints names hints)) ≡ None) (sym next_number) (step_accepted variables before clause (log_hints names hints)
+      (subst (λ (v : ℕ). IsOver v clause) search.same_variables over) no_pair
+      (shown_in_log before t.clauses names search.named hints named (map negation clause) shown))
+
+  follows : (later : List Step) → steps_refusal variables (length (before ++ clause ∷ [])) (numbered_from 1 (before ++ clause ∷ [])) later
+      ≡ None → steps_refusal variables (length before) (numbered_from 1 before) (next_step ∷ later) ≡ None
+  follows later h =
+      let rest : steps_refusal variables next (numbered_from 1 before
+      ++ record { number = next; clause = clause } ∷ []) later ≡ None = ap (λ (ks : List Numbered). steps_refusal variables next ks later)
+      (sym (numbered_push 1 before clause next (omega (arith, next_number))))
+      ∙ (ap (λ (n : ℕ). steps_refusal variables n (numbered_from 1 (before ++ clause ∷ [])) later)
+      (next_number ∙ sym (length_push before clause)) ∙ h) in
+      ap (λ (o : Option Refusal). first_of o (steps_refusal variables next
+      (numbered_from 1 before ++ record { number = next; clause = clause } ∷ []) later)) accepted ∙ rest
+
+  -- the trail may have gone back before
+  pub search_more : (es : List Entry) (level : ℕ) → IsSound (with_clause (record t { entries = es; level = level }) clause) →
+      (shortens ≡ false → (t.clauses ++ clause ∷ [] ≡ known clauses (taken ++ next_step ∷ []))
+      × ((later : List (List Lit)) → IsTrace variables (t.clauses ++ clause ∷ []) later →
+      IsTrace variables clauses (clauses_of (taken ++ next_step ∷ []) ++ later))) →
+      AreQuietBelow (with_clause (record t { entries = es; level = level }) clause) level →
+      IsSearch shortens variables clauses (with_clause (record t { entries = es; level = level }) clause) (taken ++ next_step ∷ [])
+      (names ++ next ∷ [])
+  search_more es level sound traced quiet = record {
+    usable = search.usable;
+    sound = sound;
+    same_variables = search.same_variables;
+    others = search.others ++ clause ∷ [];
+    stands = ap (λ (cs : List (List Lit)). cs ++ clause ∷ []) search.stands ∙ append_assoc clauses search.others (clause ∷ []);
+    fewer = omega (arith, search.fewer, length_push t.clauses clause, length_push taken next_step);
+    named = subst (λ (cs : List (List Lit)). AreLogNumbers cs (t.clauses ++ clause ∷ []) (names ++ next ∷ []))
+        (sym (known_push clauses taken next_step)) (named_next before t.clauses names clause next next_number search.named);
+    logged = λ later h. ap (λ (ss : List Step). steps_refusal variables (length clauses) (numbered_from 1 clauses) ss)
+        (append_assoc taken (next_step ∷ []) later) ∙ search.logged (next_step ∷ later) (follows later
+        (subst (λ (cs : List (List Lit)). steps_refusal variables (length cs) (numbered_from 1 cs) later ≡ None)
+        (known_push clauses taken next_step) h));
+    few_hints = All-push (λ (s : Step). length s.hints + 1 < 2 ^ 32) taken next_step search.few_hints
+        (subst (λ (n : ℕ). n + 1 < 2 ^ 32) (sym (length-map hints (log_number names))) few_hints);
+    numbered = search_numbered clauses taken search.numbered next_step next_number
+        (hints_in_log before t.clauses names search.named hints named);
+    traced = traced;
+    increasing = subst (AllByRecursion IsIncreasing) (sym (clauses_of_push taken next_step)) (all_push (clauses_of taken) search.increasing);
+    quiet = quiet;
+  }
+
 module _ (shortens : Bool) (variables : ℕ) (clauses : List (List Lit)) (anew : Bool) (t u : TrailState) (journal after : Journal)
     (search : IsSearch shortens variables clauses t journal.steps.items journal.shelf.numbers.items)
     (next_is : journal.next ≡ length clauses + length journal.steps.items + 1) (learnt : HasLearnt anew t journal u after)
@@ -410,9 +482,6 @@ module _ (shortens : Bool) (variables : ℕ) (clauses : List (List Lit)) (anew :
   abbrev taken : List Step
   taken = journal.steps.items
 
-  abbrev before : List (List Lit)
-  before = known clauses taken
-
   abbrev names : List ℕ
   names = journal.shelf.numbers.items
 
@@ -423,33 +492,8 @@ module _ (shortens : Bool) (variables : ℕ) (clauses : List (List Lit)) (anew :
   target_low true = omega arith
   target_low false = omega arith
 
-  next_number : journal.next ≡ length before + 1
-  next_number = omega (arith, next_is, known_long clauses taken)
-
   abbrev step : Step
   step = learnt_step journal.next clause (log_hints names hints)
-
-  all_push : (cs : List (List Lit)) → AllByRecursion IsIncreasing cs → AllByRecursion IsIncreasing (cs ++ clause ∷ [])
-  all_push [] all = (learnt.lesson.increasing, tt)
-  all_push (c ∷ cs) all = (all.0, all_push cs all.1)
-
-  accepted : step_refusal variables (length before) (numbered_from 1 before) step ≡ None
-  accepted = subst (λ (n : ℕ). step_refusal variables (length before) (numbered_from 1 before)
-      (learnt_step n clause (log_hints names hints)) ≡ None) (sym next_number) (step_accepted variables before clause (log_hints names hints)
-      (subst (λ (v : ℕ). IsOver v clause) search.same_variables (lesson_over t search.sound clause hints back learnt.lesson))
-      (lesson_no_pair t search.sound clause hints back learnt.lesson)
-      (shown_in_log before t.clauses names search.named hints learnt.lesson.named (map negation clause) learnt.lesson.shown))
-
-  follows : (later : List Step) → steps_refusal variables (length (before ++ clause ∷ [])) (numbered_from 1 (before ++ clause ∷ [])) later
-      ≡ None → steps_refusal variables (length before) (numbered_from 1 before) (step ∷ later) ≡ None
-  follows later h =
-      let rest : steps_refusal variables journal.next (numbered_from 1 before
-      ++ record { number = journal.next; clause = clause } ∷ []) later ≡ None = ap (λ (ks : List Numbered). steps_refusal variables journal.next ks later)
-      (sym (numbered_push 1 before clause journal.next (omega (arith, next_number))))
-      ∙ (ap (λ (n : ℕ). steps_refusal variables n (numbered_from 1 (before ++ clause ∷ [])) later)
-      (next_number ∙ sym (length_push before clause)) ∙ h) in
-      ap (λ (o : Option Refusal). first_of o (steps_refusal variables journal.next
-      (numbered_from 1 before ++ record { number = journal.next; clause = clause } ∷ []) later)) accepted ∙ rest
 
   still_traced : shortens ≡ false → (t.clauses ++ clause ∷ [] ≡ known clauses (taken ++ step ∷ []))
       × ((later : List (List Lit)) → IsTrace variables (t.clauses ++ clause ∷ []) later →
@@ -468,29 +512,13 @@ module _ (shortens : Bool) (variables : ℕ) (clauses : List (List Lit)) (anew :
       )
 
   one_more : IsSearch shortens variables clauses (with_clause (undone t target) clause) (taken ++ step ∷ []) (names ++ journal.next ∷ [])
-  one_more = record {
-    usable = search.usable;
-    sound = subst IsSound learnt.trail_is sound;
-    same_variables = search.same_variables;
-    others = search.others ++ clause ∷ [];
-    stands = ap (λ (cs : List (List Lit)). cs ++ clause ∷ []) search.stands ∙ append_assoc clauses search.others (clause ∷ []);
-    fewer = omega (arith, search.fewer, length_push t.clauses clause, length_push taken step);
-    named = subst (λ (cs : List (List Lit)). AreLogNumbers cs (t.clauses ++ clause ∷ []) (names ++ journal.next ∷ []))
-        (sym (known_push clauses taken step)) (named_next before t.clauses names clause journal.next next_number search.named);
-    logged = λ later h. ap (λ (ss : List Step). steps_refusal variables (length clauses) (numbered_from 1 clauses) ss)
-        (append_assoc taken (step ∷ []) later) ∙ search.logged (step ∷ later) (follows later
-        (subst (λ (cs : List (List Lit)). steps_refusal variables (length cs) (numbered_from 1 cs) later ≡ None)
-        (known_push clauses taken step) h));
-    few_hints = All-push (λ (s : Step). length s.hints + 1 < 2 ^ 32) taken step search.few_hints
-        (subst (λ (n : ℕ). n + 1 < 2 ^ 32) (sym (length-map hints (log_number names))) learnt.lesson.few_hints);
-    numbered = search_numbered clauses taken search.numbered step next_number
-        (hints_in_log before t.clauses names search.named hints learnt.lesson.named);
-    traced = still_traced;
-    increasing = subst (AllByRecursion IsIncreasing) (sym (clauses_of_push taken step)) (all_push (clauses_of taken) search.increasing);
-    quiet = λ level below. subst (λ (es : List Entry). IsQuiet (t.clauses ++ clause ∷ []) (literals_of es))
-        (sym (up_to-up_to level target t.entries (omega arith))) (lesson_quiet t search.sound clause hints back learnt.lesson
-        search.quiet above level (omega (arith, target_low anew)));
-  }
+  one_more = search_more shortens variables clauses t taken names journal.next search next_is clause hints
+      (lesson_over t search.sound clause hints back learnt.lesson) (lesson_no_pair t search.sound clause hints back learnt.lesson)
+      learnt.lesson.shown learnt.lesson.few_hints learnt.lesson.named learnt.lesson.increasing (up_to target t.entries) (min target t.level)
+      (subst IsSound learnt.trail_is sound) still_traced (λ level below. subst
+      (λ (es : List Entry). IsQuiet (t.clauses ++ clause ∷ []) (literals_of es))
+      (sym (up_to-up_to level target t.entries (omega arith))) (lesson_quiet t search.sound clause hints back learnt.lesson
+      search.quiet above level (omega (arith, target_low anew))))
 
   pub search_learnt : IsSearch shortens variables clauses u after.steps.items after.shelf.numbers.items
   search_learnt = subst (λ (s : TrailState). IsSearch shortens variables clauses s after.steps.items after.shelf.numbers.items)
@@ -669,30 +697,29 @@ search_satisfied shortens variables clauses t found of_trail truths search over 
 
 pub search_ended : (shortens : Bool) (variables : ℕ) (clauses : List (List Lit)) (t : TrailState) (journal : Journal) (budget : ℕ) →
     IsSearch shortens variables clauses t journal.steps.items journal.shelf.numbers.items →
-    journal.next ≡ length clauses + length journal.steps.items + 1 → length journal.steps.items ≡ budget → (answer : Answer) →
-    IsEnd t.clauses journal answer → IsSearchAnswer shortens variables clauses budget answer
+    journal.next ≡ length clauses + length journal.steps.items + 1 → (shortens ≡ false → length journal.steps.items ≡ budget) →
+    (answer : Answer) → IsEnd t.clauses journal answer → IsSearchAnswer shortens variables clauses budget answer
 search_ended shortens variables clauses t journal budget search next_is spent (Sat assignment) end' = absurd end'
 search_ended shortens variables clauses t journal budget search next_is spent (Unsat log) end' =
     search_refuted shortens variables clauses t journal log search next_is end'
-search_ended shortens variables clauses t journal budget search next_is spent (Spent trace) end' =
-    search_spent shortens variables clauses t journal.steps.items journal.shelf.numbers.items budget trace search spent end'.0 end'.1
+search_ended shortens variables clauses t journal budget search next_is spent (Spent trace) end' = λ keeps.
+    search_spent shortens variables clauses t journal.steps.items journal.shelf.numbers.items budget trace search (spent keeps) end'.0
+    end'.1 keeps
 
 -- ---- the measure
 
-pub decided_longer : (t u w : TrailState) (l : Lit) → Propagates t u → w ≡ decided u l → length t.entries < length w.entries
+pub decided_longer : (t u w : TrailState) (l : Lit) → HasGrown t u → w ≡ decided u l → length t.entries < length w.entries
 decided_longer t u w l grows is =
     omega (
       arith,
       ap (λ (s : TrailState). length s.entries) is,
       length_push u.entries (entry_with l (u.level + 1) None),
-      ap (λ (s : TrailState). length s.entries) grows.rest_stays,
+      ap (λ (es : List Entry). length es) grows.entries_are,
       length-append t.entries grows.added,
     )
 
-pub less_unset : (a v len more : ℕ) → len < more → more ≤ v → a + (v - more) < a + (v - len)
-less_unset a v len more h k = omega arith
+pub less_unset : (a b v len more : ℕ) → a ≡ b → len < more → more ≤ v → a + (v - more) < b + (v - len)
+less_unset a b v len more same h k = omega arith
 
-pub less_budget : (b n m v x y : ℕ) → n < b → m ≡ n + 1 → x ≤ v → (b - m) * (v + 1) + x < (b - n) * (v + 1) + y
-less_budget b n m v x y below is h =
-    let e : b - n ≡ (b - m) + 1 = omega arith in
-    omega (arith, ap (λ k. k * (v + 1)) e)
+pub less_budget : (m n v x y : ℕ) → m + 1 ≡ n → x ≤ v → m * (v + 1) + x < n * (v + 1) + y
+less_budget m n v x y is h = omega (arith, ap (λ k. k * (v + 1)) is)

@@ -1,8 +1,8 @@
 -- The clause of a walk has one literal of the present level in the end.
-use Rattle.std.proofs.Common.{◌≡◌, ℕ, suc, ◌+◌, ◌<◌, ◌≤◌, Bool, true, false, cond, ◌&&◌, ◌||◌, List, [], ◌∷◌, ◌++◌, take, Option, Some}
+use Rattle.std.proofs.Common.{◌≡◌, ℕ, suc, ◌+◌, ◌<◌, ◌≤◌, Bool, true, false, not, cond, ◌||◌, List, [], ◌∷◌, ◌++◌, take, Option, Some}
 use Rattle.std.proofs.Common.{None, slice_get, sym, ap, ◌∙◌, subst, refl, arith, eqb, ltb, inl, inr, ◌⊎◌, MatchOption, max}
-use Rattle.std.proofs.lemmas.Bool.{false≢true, or_cases, or_left, or_right, cases_Bool, cases_lt, eqb-true, eqb-false, ltb-true, ltb-false}
-use Rattle.std.proofs.lemmas.Bool.{le-ltb, lt-ltb, cond-true, cond-false}
+use Rattle.std.proofs.lemmas.Bool.{false≢true, or_cases, or_left, or_right, and_cases, and_parts, cases_Bool, cases_lt, eqb-true}
+use Rattle.std.proofs.lemmas.Bool.{eqb-false, ltb-true, ltb-false, le-ltb, lt-ltb, cond-true, cond-false}
 use Rattle.std.proofs.lemmas.Option.{same_Some}
 use Rattle.std.specs.Prelude.{nat_lt, IfSome}
 use Rattle.sequence.proofs.Places.{slice_get-take}
@@ -12,12 +12,12 @@ use Rattle.sat_trail.specs.declared.entries.Entry.{Entry}
 use Rattle.sat_trail.specs.Entries.{literals_of, level_of, place_of, IsForced}
 use Rattle.sat_trail.specs.States.{TrailState, IsSound}
 use Rattle.sat_trail.proofs.TrailSteps.{has_one, has_not_false}
-use Rattle.sat_trail.proofs.Places.{AreApart, place_of_entry, has_entry}
+use Rattle.sat_trail.proofs.Places.{AreApart, place_of_entry, has_entry, unset_has}
 use Rattle.sat_trail.proofs.Soundness.{apart_from, level_at_next, levels_rise, level_within}
 use Rattle.sat_core.specs.declared.walks.Walk.{Walk}
 use Rattle.sat_core.specs.internal.Levels.{IsSetAt}
-use Rattle.sat_core.specs.internal.ConflictWalks.{is_marked, is_of_clause, count_at, AreMarks, must_go, MayStay, IsReplaced, IsEarly}
-use Rattle.sat_core.specs.internal.ConflictWalks.{IsLate}
+use Rattle.sat_core.specs.internal.ConflictWalks.{is_marked, is_of_clause, count_at, AreMarks, must_go, MayStay, IsForcing, IsReplaced}
+use Rattle.sat_core.specs.internal.ConflictWalks.{IsEarly, IsLate}
 use Rattle.sat_core.proofs.Marking.{one_at, count_some, count_has, HasMarked, one_same, one_other, is_of_clause_from, without}
 use Rattle.sat_core.proofs.Marking.{without_other, without_from, count_without}
 
@@ -56,50 +56,54 @@ forced_by t sound k e reason at some =
     (λ number. (e.level ≡ level_of (take k t.entries)) × IsForced t.clauses (take k t.entries) number e.literal)) some
     (sound.stand k e at).cause).1
 
--- ---- which entries are replaced
-
-goes : (present waiting level : ℕ) → must_go present waiting level ≡ true → (level ≡ 0) ⊎ ((level ≡ present) × (1 < waiting))
-goes present waiting level h = by_tests (eqb level 0) (eqb level present) (ltb 1 waiting) refl refl refl h
-  where
-    by_tests : (a b c : Bool) → eqb level 0 ≡ a → eqb level present ≡ b → ltb 1 waiting ≡ c → (a || (b && c)) ≡ true →
-        (level ≡ 0) ⊎ ((level ≡ present) × (1 < waiting))
-    by_tests true b c p q r h = inl (eqb-true level 0 p)
-    by_tests false true true p q r h = inr (eqb-true level present q, ltb-true 1 waiting r)
-    by_tests false true false p q r h = absurd (false≢true h)
-    by_tests false false c p q r h = absurd (false≢true h)
-
-stays : (present waiting level : ℕ) → must_go present waiting level ≡ false →
-    (0 < level) × ((level ≡ present → ⊥) ⊎ (waiting ≤ 1))
-stays present waiting level h = by_tests (eqb level 0) (eqb level present) (ltb 1 waiting) refl refl refl h
-  where
-    positive : eqb level 0 ≡ false → 0 < level
-    positive p = let n : level ≡ 0 → ⊥ = eqb-false level 0 p in omega arith
-
-    by_tests : (a b c : Bool) → eqb level 0 ≡ a → eqb level present ≡ b → ltb 1 waiting ≡ c → (a || (b && c)) ≡ false →
-        (0 < level) × ((level ≡ present → ⊥) ⊎ (waiting ≤ 1))
-    by_tests true b c p q r h = absurd (false≢true (sym h))
-    by_tests false true true p q r h = absurd (false≢true (sym h))
-    by_tests false true false p q r h = (positive p, inr (ltb-false 1 waiting r))
-    by_tests false false c p q r h = (positive p, inl (eqb-false level present q))
-
--- the reason of an entry that must go
-pub replaced_there : (present waiting : ℕ) (e : Entry) → must_go present waiting e.level ≡ true → (o : Option ℕ) → e.reason ≡ o →
-    MatchOption o (MayStay present waiting e) (IsReplaced present waiting e)
-replaced_there present waiting e goes_away None is = inl is
-replaced_there present waiting e goes_away (Some reason) is = record {
-  has_reason = is;
-  why = elim (goes present waiting e.level goes_away) [ inl zero_level ↦ inl zero_level | inr crowded ↦ inr (inl crowded) ];
+-- an entry's literal is left of the clause that has it alone: its variable is not set before it
+alone_forces : (t : TrailState) → IsSound t → (k : ℕ) (e : Entry) (number : ℕ) → slice_get t.entries k ≡ Some e →
+    slice_get t.clauses number ≡ Some (e.literal ∷ []) → IsForced t.clauses (take k t.entries) number e.literal
+alone_forces t sound k e number at alone = record {
+  clause = e.literal ∷ [];
+  named = alone;
+  others_false = cond-true (not (has (literals_of (take k t.entries)) (negation e.literal))) (e.literal ∷ []) []
+      (ap not (unset_has 0 (take k t.entries) (negation e.literal) (sound.stand k e at).unset));
 }
 
+pub forced_from : (t : TrailState) → IsSound t → (k : ℕ) (e : Entry) (number : ℕ) → slice_get t.entries k ≡ Some e →
+    IsForcing t.clauses e number → IsForced t.clauses (take k t.entries) number e.literal
+forced_from t sound k e number at forces = elim forces
+    [ inl some ↦ forced_by t sound k e number at some | inr alone ↦ alone_forces t sound k e number at alone ]
+
+-- ---- which entries are replaced
+
+goes : (present waiting level : ℕ) → must_go present waiting level ≡ true → (level ≡ present) × (1 < waiting)
+goes present waiting level h =
+    let r = and_parts (eqb level present) (ltb 1 waiting) h in
+    (eqb-true level present r.0, ltb-true 1 waiting r.1)
+
+stays : (present waiting level : ℕ) → must_go present waiting level ≡ false → (level ≡ present → ⊥) ⊎ (waiting ≤ 1)
+stays present waiting level h = elim (and_cases (eqb level present) (ltb 1 waiting) h)
+    [ inl other ↦ inl (eqb-false level present other) | inr few ↦ inr (ltb-false 1 waiting few) ]
+
+-- a clause that forces an entry of level 0, or none
+pub replaced_at_start : (clauses : List (List Lit)) (present waiting : ℕ) (e : Entry) → e.level ≡ 0 → (o : Option ℕ) →
+    MatchOption o (e.reason ≡ None) (IsForcing clauses e) → MatchOption o (MayStay present waiting e) (IsReplaced clauses present waiting e)
+replaced_at_start clauses present waiting e start None h = inl h
+replaced_at_start clauses present waiting e start (Some number) h = record { forces = h; why = inl start }
+
+-- the reason of an entry that must go
+pub replaced_there : (clauses : List (List Lit)) (present waiting : ℕ) (e : Entry) → must_go present waiting e.level ≡ true →
+    (o : Option ℕ) → e.reason ≡ o → MatchOption o (MayStay present waiting e) (IsReplaced clauses present waiting e)
+replaced_there clauses present waiting e goes_away None is = inl is
+replaced_there clauses present waiting e goes_away (Some reason) is =
+    record { forces = inl is; why = inr (inl (goes present waiting e.level goes_away)) }
+
 -- the reason of an entry of a lower level, or none
-pub replaced_below : (present waiting : ℕ) (e : Entry) → must_go present waiting e.level ≡ false → e.level < present → (o : Option ℕ) →
-    IfSome o (λ reason. e.reason ≡ Some reason) → MatchOption o (MayStay present waiting e) (IsReplaced present waiting e)
-replaced_below present waiting e left low None h = inr (stays present waiting e.level left)
-replaced_below present waiting e left low (Some reason) h = record { has_reason = h; why = inr (inr low) }
+pub replaced_below : (clauses : List (List Lit)) (present waiting : ℕ) (e : Entry) → 0 < e.level → e.level < present → (o : Option ℕ) →
+    IfSome o (λ reason. e.reason ≡ Some reason) → MatchOption o (MayStay present waiting e) (IsReplaced clauses present waiting e)
+replaced_below clauses present waiting e positive low None h = inr (positive, inl (λ is. omega (arith, is, low)))
+replaced_below clauses present waiting e positive low (Some reason) h = record { forces = inl h; why = inr (inr low) }
 
 -- an entry that is alone at its level
-pub stays_there : (present waiting : ℕ) (e : Entry) → must_go present waiting e.level ≡ false → MayStay present waiting e
-stays_there present waiting e left = inr (stays present waiting e.level left)
+pub stays_there : (present waiting : ℕ) (e : Entry) → 0 < e.level → must_go present waiting e.level ≡ false → MayStay present waiting e
+stays_there present waiting e positive left = inr (positive, stays present waiting e.level left)
 
 -- ---- one entry is passed
 
@@ -274,8 +278,8 @@ pub stage_replaced : (t : TrailState) → IsSound t → (q : ℕ) (e : Entry) �
     AreMarks t w.marks → is_marked w.marks q ≡ true → ((k : ℕ) → is_marked w.marks k ≡ true → k < q + 1) → AreMarks t v.marks →
     (reason : ℕ) (forced : IsForced t.clauses (take q t.entries) reason e.literal) →
     ((k : ℕ) → is_marked v.marks k ≡ without (λ j. is_marked w.marks j || is_of_clause t.entries forced.clause j) q k) →
-    v.kept.items ≡ w.kept.items → v.back ≡ w.back → IsReplaced t.level w.marks.waiting e reason → IsEarly t w ⊎ IsLate t w →
-    IsEarly t v ⊎ IsLate t v
+    v.kept.items ≡ w.kept.items → v.back ≡ w.back → IsReplaced t.clauses t.level w.marks.waiting e reason →
+    IsEarly t w ⊎ IsLate t w → IsEarly t v ⊎ IsLate t v
 stage_replaced t sound q e at w v marks marked ahead after reason forced cleared kept back replaced stage = elim stage
     [ inl early ↦ inl (still early) | inr late ↦ inr (later late) ]
   where

@@ -24,7 +24,7 @@ use Rattle.sat_core.specs.internal.ConflictWalks.{is_marked, is_of_clause, AreMa
 use Rattle.sat_core.proofs.Marking.{count_has, count_some, without, without_other}
 use Rattle.sat_core.proofs.Hints.{false_by, opposites_differ, has-map-negation, shows_start, shows_kept, shows_replaced, has_without}
 use Rattle.sat_core.proofs.LogNumbers.{hints_push, hints_reversed}
-use Rattle.sat_core.proofs.Stages.{forced_by, entry_low, stage_kept, stage_replaced, ahead_cleared, ahead_replaced}
+use Rattle.sat_core.proofs.Stages.{forced_from, entry_low, stage_kept, stage_replaced, ahead_cleared, ahead_replaced}
 
 -- ---- levels of the trail
 
@@ -189,11 +189,11 @@ pub walk_replaced : (t : TrailState) → IsSound t → (q : ℕ) (e : Entry) →
     IsWalk t (q + 1) w → is_marked w.marks q ≡ true → AreMarks t v.marks →
     ((clause : List Lit) → slice_get t.clauses reason ≡ Some clause → (k : ℕ) →
     is_marked v.marks k ≡ without (λ j. is_marked w.marks j || is_of_clause t.entries clause j) q k) → v.kept.items ≡ w.kept.items →
-    v.hints.items ≡ w.hints.items ++ (reason + 1) ∷ [] → v.back ≡ w.back → IsReplaced t.level w.marks.waiting e reason →
+    v.hints.items ≡ w.hints.items ++ (reason + 1) ∷ [] → v.back ≡ w.back → IsReplaced t.clauses t.level w.marks.waiting e reason →
     IsWalk t q v
 walk_replaced t sound q e at reason w v walk marked after cleared kept hints back chosen =
     let why = chosen in
-    let forced = forced_by t sound q e reason at why.has_reason in
+    let forced = forced_from t sound q e reason at why.forces in
     let clear = cleared forced.clause forced.named in
     let turned : reverse v.hints.items ≡ (reason + 1) ∷ reverse w.hints.items =
     ap reverse hints ∙ reverse-append w.hints.items ((reason + 1) ∷ []) in

@@ -6,3 +6,4 @@ pub mod Decisions
 pub mod ConflictWalks
 pub mod Heaps
 pub mod Shelves
+pub mod Units

@@ -6,9 +6,11 @@ ghost use Rattle.sat_core.specs.internal.Levels.{AreQuietBelow};
 ghost use Rattle.sat_core.specs.internal.Lessons.{IsLesson, HasLearnt, IsRefutingLog};
 ghost use Rattle.sat_core.specs.internal.ConflictWalks.{AreNoMarks};
 ghost use Rattle.sat_core.specs.internal.Decisions.{AreDecisions};
+ghost use Rattle.sat_core.specs.internal.Units.{AreUnits};
 
 use crate::choices::Decisions;
 use crate::journal::Journal;
+use crate::units::Units;
 use crate::walks::Walk;
 use clause_core::{Clause, clause_of};
 use refutation_check::Log;
@@ -30,6 +32,7 @@ pub fn learn(
     alloc: Global,
     trail: &mut Trail,
     journal: &mut Journal,
+    units: &Units,
     walk: &mut Walk,
     decisions: &mut Decisions,
     conflict: u32,
@@ -42,6 +45,7 @@ pub fn learn(
     requires above { 0 < trail.old.level }
     requires few { length trail.old.clauses + 1 < 2 ^ 32 }
     requires marks { AreNoMarks trail.old.variables walk.old.marks }
+    requires units { AreUnits trail.old units.now }
     requires decisions { AreDecisions trail.old.variables trail.old.entries decisions.old }
     requires next { journal.old.next + 1 < 2 ^ 64 }
     requires numbers { length journal.old.shelf.numbers.items ≡ length trail.old.clauses }
@@ -49,9 +53,10 @@ pub fn learn(
     ensures learnt { OnOk result (HasLearnt anew trail.old journal.old trail.new journal.new) }
     ensures sound { OnOk result (IsSound trail.new) }
     ensures marks { OnOk result (AreNoMarks trail.new.variables walk.new.marks) }
+    ensures units { OnOk result (AreUnits trail.new units.now) }
     ensures decisions { OnOk result (AreDecisions trail.new.variables trail.new.entries decisions.new) }
 {
-    let lesson = lesson_of(alloc, trail, walk, conflict)?;
+    let lesson = lesson_of(alloc, trail, units, walk, conflict)?;
     let level = level_after(anew, lesson.back);
     decisions.bump(walk.marks.looked.as_slice());
     decisions.take_back(trail, level)?;
@@ -73,6 +78,7 @@ pub fn refute(
     alloc: Global,
     trail: &Trail,
     mut journal: Journal,
+    units: &Units,
     walk: &mut Walk,
     conflict: u32,
 ) -> Result<Log, NoMemory>
@@ -81,12 +87,13 @@ pub fn refute(
     requires conflict { IsFalseAt trail.now conflict }
     requires start { trail.now.level ≡ 0 }
     requires marks { AreNoMarks trail.now.variables walk.old.marks }
+    requires units { AreUnits trail.now units.now }
     requires next { journal.next + 1 < 2 ^ 64 }
     requires numbers { length journal.shelf.numbers.items ≡ length trail.now.clauses }
     requires uses { length journal.shelf.uses.items ≡ length trail.now.clauses }
     ensures { IfOk result (IsRefutingLog trail.now.clauses journal) }
 {
-    let lesson = lesson_of(alloc, trail, walk, conflict)?;
+    let lesson = lesson_of(alloc, trail, units, walk, conflict)?;
     journal.add(alloc, lesson.clause, lesson.hints.as_slice())?;
     Ok(journal.into_log())
 }
@@ -96,6 +103,7 @@ pub fn refute(
 fn lesson_of(
     alloc: Global,
     trail: &Trail,
+    units: &Units,
     walk: &mut Walk,
     conflict: u32,
 ) -> Result<Lesson, NoMemory>
@@ -104,11 +112,12 @@ fn lesson_of(
     requires conflict { IsFalseAt trail.now conflict }
     requires quiet { AreQuietBelow trail.now trail.now.level }
     requires marks { AreNoMarks trail.now.variables walk.old.marks }
+    requires units { AreUnits trail.now units.now }
     ensures lesson { IfOk result (λ lesson. IsLesson trail.now lesson.clause lesson.hints.items lesson.back) }
     ensures marks { OnOk result (AreNoMarks trail.now.variables walk.new.marks) }
     ensures looked { OnOk result (All (λ variable. variable < trail.now.variables) walk.new.marks.looked.items) }
 {
-    walk.run(trail, conflict)?;
+    walk.run(trail, units, conflict)?;
     let mut hints = walk.hints.as_slice().to_vec(alloc)?;
     hints.reverse();
     Ok(Lesson {

@@ -11,9 +11,13 @@
 //! anew at level 0, with what it has learnt. The hints of its log are the reasons of the entries that
 //! the clause was found by, in the order in which they were set.
 //!
+//! What is true at level 0 gets a clause of one literal, with a step of its own, which is no learnt clause and
+//! does not count in the budget. The hints of later steps name that one, and need not show it again.
+//!
 //! Clauses that were not used of late are left out of the trail, at the counts of `Drops`: the trail is made
 //! anew without them, and the same decisions are taken again. What is learnt then is a refutation, but no trace,
-//! since a clause may be learnt twice. So a search whose budget is spent is followed by one that keeps all.
+//! since a clause may be learnt twice. So a search whose budget is spent is followed by one that keeps all
+//! and adds no clauses of one literal.
 #![tactic(auto)]
 
 mod answers;
@@ -26,6 +30,7 @@ mod marks;
 mod restarts;
 mod shelves;
 mod solver;
+mod units;
 mod walks;
 
 pub use answers::Answer;

@@ -1,9 +1,10 @@
 //! The search.
 
-ghost use Rattle.std.specs.Prelude.{◌≡◌, ◌+◌, ◌-◌, ◌^◌, ◌<◌, ◌≤◌, false, length, All, IfOk};
+ghost use Rattle.std.specs.Prelude.{◌≡◌, ◌+◌, ◌-◌, ◌^◌, ◌<◌, ◌≤◌, ℕ, false, length, All, IfOk, OnOk};
 ghost use Rattle.clause_core.specs.Clauses.{has_pair};
 ghost use Rattle.sat_core.specs.Answers.{IsRightAnswer};
-ghost use Rattle.sat_trail.specs.States.{IsSound};
+ghost use Rattle.sat_trail.specs.States.{IsSound, EndsWith};
+ghost use Rattle.sat_core.specs.internal.Units.{AreUnits, HasPropagated};
 ghost use Rattle.sat_core.specs.internal.Decisions.{AreDecisions};
 ghost use Rattle.sat_core.specs.internal.Ends.{IsEnd, IsSearchAnswer};
 ghost use Rattle.sat_core.specs.internal.Lessons.{clauses_of};
@@ -17,6 +18,7 @@ use crate::journal::Journal;
 use crate::lessons::{learn, refute};
 use crate::restarts::Restarts;
 use crate::shelves::Kept;
+use crate::units::Units;
 use crate::walks::Walk;
 use clause_core::{Clause, Cnf};
 use refutation_check::Log;
@@ -54,10 +56,11 @@ fn search(alloc: Global, cnf: &Cnf, budget: u64, shortens: bool) -> Result<Answe
     let mut journal = Journal::new(alloc, cnf.clauses.len() as u32)?;
     let mut walk = Walk::new(alloc, cnf.variables)?;
     let mut decisions = Decisions::new(alloc, cnf.variables)?;
+    let mut units = Units::new(alloc, cnf.variables, most_units(cnf, budget, shortens))?;
     let mut restarts = Restarts::new();
     let mut drops = Drops::new(shortens, cnf.clauses.len() as u64);
     loop {
-        let Some(conflict) = trail.propagate()? else {
+        let Some(conflict) = propagate(alloc, &mut trail, &mut journal, &mut units)? else {
             if decisions.decide(&mut trail)? {
                 continue;
             }
@@ -65,24 +68,79 @@ fn search(alloc: Global, cnf: &Cnf, budget: u64, shortens: bool) -> Result<Answe
             return Ok(Answer::Sat(assignment));
         };
         if trail.level() == 0 {
-            let log = refute(alloc, &trail, journal, &mut walk, conflict)?;
+            let log = refute(alloc, &trail, journal, &units, &mut walk, conflict)?;
             return Ok(Answer::Unsat(log));
         }
-        if journal.len() == budget {
-            return end(alloc, trail, journal, walk);
+        let learnt = journal.len() - u64::from(units.added);
+        if learnt == budget {
+            return end(alloc, trail, journal, &units, walk);
         }
-        let anew = restarts.is_due(journal.len() + 1);
+        let anew = restarts.is_due(learnt + 1);
         learn(
             alloc,
             &mut trail,
             &mut journal,
+            &units,
             &mut walk,
             &mut decisions,
             conflict,
             anew,
         )?;
-        trail = shortened(alloc, cnf, trail, &mut journal, &mut decisions, &mut drops)?;
+        trail = shortened(
+            alloc,
+            cnf,
+            trail,
+            &mut journal,
+            &mut units,
+            &mut decisions,
+            &mut drops,
+        )?;
     }
+}
+
+/// How many clauses of one literal may be added to the trail of a search: none where the learnt clauses are to
+/// be a trace, and otherwise as many as leave numbers for those that may be learnt.
+fn most_units(cnf: &Cnf, budget: u64, shortens: bool) -> u32
+    requires few { length cnf.now.clauses + budget < 2 ^ 32 - 1 }
+    ensures room { length cnf.now.clauses + budget + result < 2 ^ 32 - 1 }
+    ensures none { shortens ≡ false → result ≡ 0 }
+{
+    if shortens {
+        u32::MAX - 1 - cnf.clauses.len() as u32 - budget as u32
+    } else {
+        0
+    }
+}
+
+/// Propagates until no clause is unit or a clause is false: then it answers that clause's number. At level 0 what
+/// is true then gets clauses of one literal. An `Err` says that memory ran out.
+fn propagate(
+    alloc: Global,
+    trail: &mut Trail,
+    journal: &mut Journal,
+    units: &mut Units,
+) -> Result<Option<u32>, NoMemory>
+    requires usable { trail.old.broken ≡ false }
+    requires sound { IsSound trail.old }
+    requires units { AreUnits trail.old units.old }
+    requires added { units.old.added ≤ units.old.most }
+    requires few { length trail.old.clauses + (units.old.most - units.old.added) + 1 < 2 ^ 32 }
+    requires next { journal.old.next + units.old.most + 1 < 2 ^ 64 }
+    requires numbers { length journal.old.shelf.numbers.items ≡ length trail.old.clauses }
+    requires uses { length journal.old.shelf.uses.items ≡ length trail.old.clauses }
+    ensures propagated { OnOk result ((count : ℕ) × HasPropagated count trail.old journal.old trail.new journal.new × (units.new.added ≡ units.old.added + count)) }
+    ensures ends { IfOk result (λ answer. EndsWith answer trail.new) }
+    ensures units { OnOk result (AreUnits trail.new units.new) }
+    ensures added { units.new.added ≤ units.new.most }
+    ensures most { units.new.most ≡ units.old.most }
+    ensures sound { OnOk result (IsSound trail.new) }
+{
+    let conflict = trail.propagate()?;
+    if conflict.is_some() || trail.level() > 0 || !units.are_due(trail) {
+        return Ok(conflict);
+    }
+    units.note_all(alloc, trail, journal)?;
+    Ok(trail.propagate()?)
 }
 
 /// The trail, or where clauses are to be left out one that begins anew without them. An `Err` says that
@@ -92,6 +150,7 @@ fn shortened(
     cnf: &Cnf,
     trail: Trail,
     journal: &mut Journal,
+    units: &mut Units,
     decisions: &mut Decisions,
     drops: &mut Drops,
 ) -> Result<Trail, NoMemory>
@@ -101,9 +160,13 @@ fn shortened(
     requires formula { length cnf.now.clauses ≤ length trail.clauses }
     requires numbers { length journal.old.shelf.numbers.items ≡ length trail.clauses }
     requires uses { length journal.old.shelf.uses.items ≡ length trail.clauses }
+    requires units { AreUnits trail units.old }
     requires decisions { AreDecisions trail.variables trail.entries decisions.old }
     ensures trail { IfOk result (λ new. IsShortened drops.old.wanted cnf.now.variables cnf.now.clauses trail journal.old new journal.new) }
     ensures journal { journal.new ≡ record journal.old { shelf = journal.new.shelf } }
+    ensures units { IfOk result (λ new. AreUnits new units.new) }
+    ensures added { units.new.added ≡ units.old.added }
+    ensures most { units.new.most ≡ units.old.most }
     ensures drops { drops.new.wanted ≡ drops.old.wanted }
     ensures decisions { IfOk result (λ new. AreDecisions new.variables new.entries decisions.new) }
     ensures sound { IfOk result IsSound }
@@ -125,6 +188,7 @@ fn shortened(
         return Err(NoMemory);
     };
     journal.shelf = shelf;
+    units.renew(&new, journal.shelf.uses.len() as u32);
     Ok(new)
 }
 
@@ -134,10 +198,12 @@ fn end(
     alloc: Global,
     mut trail: Trail,
     journal: Journal,
+    units: &Units,
     mut walk: Walk,
 ) -> Result<Answer, NoMemory>
     requires usable { trail.broken ≡ false }
     requires marks { AreNoMarks trail.variables walk.marks }
+    requires units { AreUnits trail units.now }
     requires next { journal.next + 1 < 2 ^ 64 }
     requires numbers { length journal.shelf.numbers.items ≡ length trail.clauses }
     requires uses { length journal.shelf.uses.items ≡ length trail.clauses }
@@ -146,7 +212,7 @@ fn end(
     trail.undo_to(0);
     match trail.propagate()? {
         Some(conflict) => {
-            let log = refute(alloc, &trail, journal, &mut walk, conflict)?;
+            let log = refute(alloc, &trail, journal, units, &mut walk, conflict)?;
             Ok(Answer::Unsat(log))
         }
         None => Ok(Answer::Spent(learnt_clauses(alloc, journal.into_log())?)),

@@ -233,6 +233,43 @@ fn has_accepted_log(alloc: Global, cnf: &Cnf) -> Result<bool, Fail> {
     }
 }
 
+/// The clauses behind a chain of so many new first variables: the first one is true, and each makes the next one
+/// true. The last one of them false would meet each of the clauses.
+fn behind_chain(alloc: Global, length: u32, cnf: &Cnf) -> Result<Cnf, Fail> {
+    let mut clauses = Vec::new(alloc);
+    clauses.push(clause_of(alloc, &[literal(1, true)?])?)?;
+    for variable in 1..length {
+        let pair = [
+            literal(variable, false)?,
+            literal(variable.wrapping_add(1), true)?,
+        ];
+        clauses.push(clause_of(alloc, &pair)?)?;
+    }
+    for clause in cnf.clauses.as_slice() {
+        let mut literals = vec![in alloc; literal(length, false)?]?;
+        for old in clause.literals() {
+            literals.push(literal(old.variable().wrapping_add(length), old.is_positive())?)?;
+        }
+        clauses.push(clause_of(alloc, literals.as_slice())?)?;
+    }
+    formula(cnf.variables.wrapping_add(length), clauses)
+}
+
+/// How many hints the log of a refutation has. It is an error if the answer is no log that is accepted.
+fn hint_count(alloc: Global, cnf: &Cnf) -> Result<u64, Fail> {
+    let Answer::Unsat(log) = answer(alloc, cnf, 1000)? else {
+        return Err("no refutation".into());
+    };
+    if check(alloc, cnf, &log).is_err() {
+        return Err("a log that is refused".into());
+    }
+    let mut count: u64 = 0;
+    for step in log.steps.as_slice() {
+        count = count.wrapping_add(step.hints.len() as u64);
+    }
+    Ok(count)
+}
+
 /// Whether the answer for these clauses over three variables is a log of one step.
 fn is_refuted_at_once(alloc: Global, lists: &[&[i32]]) -> Result<bool, Fail> {
     let cnf = formula(3, clauses(alloc, lists)?)?;
@@ -403,6 +440,17 @@ fn the_log_of_a_refutation_is_accepted(rt: HostRuntime) -> Result<(), Fail> {
     for holes in 1..=6 {
         assert!(rt; has_accepted_log(alloc, &pigeons(alloc, holes)?)?);
     }
+    Ok(())
+}
+
+#[test]
+fn what_is_true_at_level_0_is_shown_once(rt: HostRuntime) -> Result<(), Fail> {
+    let alloc = rt.alloc();
+    let core = pigeons(alloc, 3)?;
+    let alone = hint_count(alloc, &core)?;
+    let behind = hint_count(alloc, &behind_chain(alloc, 100, &core)?)?;
+    // two for each variable of the chain, and few for each step behind it
+    assert!(rt; behind < alone.saturating_add(250));
     Ok(())
 }
 

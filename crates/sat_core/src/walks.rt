@@ -1,13 +1,15 @@
 //! The walk along a trail, from its end, that finds what a conflict teaches.
 
-ghost use Rattle.std.specs.Prelude.{◌≡◌, ◌==◌, ◌&&◌, ◌||◌, ℕ, ◌+◌, ◌<◌, max, cond, nat_lt, false, true, not, List, [], ◌∷◌, ◌++◌, length, Some, slice_get, MatchOption, IfSome, OnOk, IfOk};
+ghost use Rattle.std.specs.Prelude.{◌≡◌, ◌==◌, ◌&&◌, ◌||◌, ℕ, ◌+◌, ◌<◌, max, cond, nat_lt, false, true, not, List, [], ◌∷◌, ◌++◌, length, Some, None, slice_get, MatchOption, IfSome, OnOk, IfOk};
 ghost use Rattle.clause_core.specs.Literals.{Lit, negation};
 ghost use Rattle.sat_trail.specs.declared.entries.Entry.{Entry};
 ghost use Rattle.sat_trail.specs.States.{IsSound, IsFalseAt};
 ghost use Rattle.sat_core.specs.internal.Levels.{AreQuietBelow};
-ghost use Rattle.sat_core.specs.internal.ConflictWalks.{is_marked, is_of_clause, AreMarks, AreNoMarks, IsWalk, HasWalked, must_go, MayStay, IsReplaced};
+ghost use Rattle.sat_core.specs.internal.Units.{AreUnits};
+ghost use Rattle.sat_core.specs.internal.ConflictWalks.{is_marked, is_of_clause, AreMarks, AreNoMarks, IsWalk, HasWalked, must_go, MayStay, IsForcing, IsReplaced};
 
 use crate::marks::Marks;
+use crate::units::Units;
 use clause_core::Literal;
 use sat_trail::Trail;
 use sequence::NoMemory;
@@ -40,9 +42,10 @@ impl Walk {
     }
 
     /// Walks from a clause that is false over all entries. An `Err` says that memory ran out.
-    pub fn run(&mut self, trail: &Trail, conflict: u32) -> Result<(), NoMemory>
+    pub fn run(&mut self, trail: &Trail, units: &Units, conflict: u32) -> Result<(), NoMemory>
         requires usable { trail.now.broken ≡ false }
         requires sound { IsSound trail.now }
+        requires units { AreUnits trail.now units.now }
         requires conflict { IsFalseAt trail.now conflict }
         requires quiet { AreQuietBelow trail.now trail.now.level }
         requires marks { AreNoMarks trail.now.variables self.old.marks }
@@ -52,7 +55,7 @@ impl Walk {
         let mut place = trail.set_count();
         while place > self.marks.lowest {
             place -= 1;
-            self.step(trail, place)?;
+            self.step(trail, units, place)?;
         }
         Ok(())
     }
@@ -76,15 +79,16 @@ impl Walk {
     }
 
     /// Passes an entry. An `Err` says that memory ran out.
-    fn step(&mut self, trail: &Trail, place: u32) -> Result<(), NoMemory>
+    fn step(&mut self, trail: &Trail, units: &Units, place: u32) -> Result<(), NoMemory>
         requires usable { trail.now.broken ≡ false }
         requires sound { IsSound trail.now }
+        requires units { AreUnits trail.now units.now }
         requires within { place < length trail.now.entries }
         requires walk { IsWalk trail.now (place + 1) self.old }
         ensures { OnOk result (IsWalk trail.now place self.new) }
     {
         if self.marks.is_marked(place) {
-            self.pass(trail, place)
+            self.pass(trail, units, place)
         } else {
             Ok(())
         }
@@ -92,30 +96,35 @@ impl Walk {
 
     /// Passes a marked entry: its reason takes its place in the clause, or the opposite of its literal
     /// stays. An `Err` says that memory ran out.
-    fn pass(&mut self, trail: &Trail, place: u32) -> Result<(), NoMemory>
+    fn pass(&mut self, trail: &Trail, units: &Units, place: u32) -> Result<(), NoMemory>
         requires usable { trail.now.broken ≡ false }
         requires sound { IsSound trail.now }
+        requires units { AreUnits trail.now units.now }
         requires within { place < length trail.now.entries }
         requires marked { is_marked self.old.marks place ≡ true }
         requires walk { IsWalk trail.now (place + 1) self.old }
         ensures { OnOk result (IsWalk trail.now place self.new) }
     {
-        match self.replacement(trail, place) {
+        match self.replacement(trail, units, place) {
             Some(reason) => self.replace(trail, place, reason),
             None => self.keep(trail, place),
         }
     }
 
     /// The number of the clause that takes an entry's place; none where its literal's opposite stays.
-    fn replacement(&self, trail: &Trail, place: u32) -> Option<u32>
+    fn replacement(&self, trail: &Trail, units: &Units, place: u32) -> Option<u32>
         requires usable { trail.now.broken ≡ false }
         requires sound { IsSound trail.now }
+        requires units { AreUnits trail.now units.now }
         requires within { place < length trail.now.entries }
         requires marks { AreMarks trail.now self.now.marks }
         ensures { (entry : Entry) → slice_get trail.now.entries place ≡ Some entry → MatchOption result
-            (MayStay trail.now.level self.now.marks.waiting entry) (IsReplaced trail.now.level self.now.marks.waiting entry) }
+            (MayStay trail.now.level self.now.marks.waiting entry) (IsReplaced trail.now.clauses trail.now.level self.now.marks.waiting entry) }
     {
         let level = trail.level_at(place);
+        if level == 0 {
+            return start_reason(trail, units, place);
+        }
         if self.must_go(trail, level) {
             return trail.reason_at(place);
         }
@@ -125,12 +134,12 @@ impl Walk {
         self.covered_reason(trail, place)
     }
 
-    /// Whether the reason of an entry of this level must take its place.
+    /// Whether the reason of an entry of this level, above 0, must take its place.
     fn must_go(&self, trail: &Trail, level: u32) -> bool
         requires { trail.now.broken ≡ false }
         ensures { result ≡ must_go trail.now.level self.now.marks.waiting level }
     {
-        level == 0 || (level == trail.level() && self.marks.is_crowded())
+        level == trail.level() && self.marks.is_crowded()
     }
 
     /// The number of an entry's reason, where the entries of its variables are marked or of level 0: the
@@ -193,5 +202,19 @@ impl Walk {
         }
         self.kept.push(trail.set_at(place).negated())?;
         Ok(())
+    }
+}
+
+/// Of an entry of level 0 the number of a clause that has its literal alone, or else of its reason.
+fn start_reason(trail: &Trail, units: &Units, place: u32) -> Option<u32>
+    requires usable { trail.now.broken ≡ false }
+    requires sound { IsSound trail.now }
+    requires units { AreUnits trail.now units.now }
+    requires within { place < length trail.now.entries }
+    ensures { (entry : Entry) → slice_get trail.now.entries place ≡ Some entry → MatchOption result (entry.reason ≡ None) (IsForcing trail.now.clauses entry) }
+{
+    match units.number_of(trail, trail.set_at(place)) {
+        Some(number) => Some(number),
+        None => trail.reason_at(place),
     }
 }

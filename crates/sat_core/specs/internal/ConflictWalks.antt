@@ -64,15 +64,19 @@ is_covered_at entries marks (Some place) = is_marked marks place || is_of_start 
 abbrev pub are_covered : List Entry → Marks → List Lit → Bool
 are_covered entries marks clause = list_all (λ l. is_covered_at entries marks (place_of entries l.index)) clause
 
--- whether the reason of an entry of this level must take its place: at level 0, and at the present level while another
--- entry there is marked
+-- whether the reason of an entry of this level above 0 must take its place: at the present level while another entry
+-- there is marked
 abbrev pub must_go : ℕ → ℕ → ℕ → Bool
-must_go present waiting level = (level == 0) || ((level == present) && nat_lt 1 waiting)
+must_go present waiting level = (level == present) && nat_lt 1 waiting
 
--- this reason takes an entry's place in the clause: at level 0, at the present level while another one there is marked,
+-- the clause of this number is the entry's reason, or has its literal alone
+abbrev pub IsForcing : List (List Lit) → Entry → ℕ → Type 0
+IsForcing clauses e number = (e.reason ≡ Some number) ⊎ (slice_get clauses number ≡ Some (e.literal ∷ []))
+
+-- this clause takes an entry's place in the clause: at level 0, at the present level while another one there is marked,
 -- or at a lower one
-pub record IsReplaced (present waiting : ℕ) (e : Entry) (reason : ℕ) : Type 0 where
-  pub has_reason : e.reason ≡ Some reason
+pub record IsReplaced (clauses : List (List Lit)) (present waiting : ℕ) (e : Entry) (reason : ℕ) : Type 0 where
+  pub forces : IsForcing clauses e reason
   pub why : (e.level ≡ 0) ⊎ (((e.level ≡ present) × (1 < waiting)) ⊎ (e.level < present))
 
 -- an entry that stays was decided, or is above level 0 and either of a lower level or alone at the present one

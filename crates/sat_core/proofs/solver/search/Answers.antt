@@ -1,6 +1,7 @@
-use Rattle.std.proofs.Common.{◌≡◌, ◌+◌, ◌-◌, ◌<◌, ◌≤◌, ℕ, Bool, false, List, [], Option, length, ap, sym, subst, ◌∙◌, arith}
+use Rattle.std.proofs.Common.{◌≡◌, ◌+◌, ◌-◌, ◌*◌, ◌<◌, ◌≤◌, ℕ, false, List, [], Option, length, ap, sym, subst, ◌∙◌, arith}
 use Rattle.std.proofs.lemmas.Result.{IfOk-weaker}
-use Rattle.std.proofs.lemmas.List.{length_push}
+use Rattle.std.proofs.lemmas.List.{length_push, length-append}
+use Rattle.clause_core.specs.Literals.{Lit}
 use Rattle.sat_core.specs.internal.Ends.{IsEnd, IsSearchAnswer}
 use Rattle.clause_core.specs.Propagation.{IsQuiet}
 use Rattle.refutation_check.specs.declared.steps.Step.{Step}
@@ -11,196 +12,451 @@ use Rattle.sat_core.specs.declared.journal.Journal.{Journal}
 use Rattle.sat_core.specs.internal.Decisions.{AreSet, AreDecisions, AreVariableTruths, HasDecided, Decides}
 use Rattle.sat_core.specs.internal.ConflictWalks.{AreNoMarks}
 use Rattle.sat_core.specs.internal.Shelves.{log_hints, AreFirst}
-use Rattle.sat_core.proofs.Deciding.{decisions_propagated}
 use Rattle.sat_core.specs.internal.Lessons.{learnt_step}
-use Rattle.sat_core.proofs.Searching.{IsSearch, search_begins, search_propagated, search_decided, search_learnt, search_stays}
+use Rattle.sat_core.proofs.Searching.{search_begins, search_decided, search_learnt, search_stays}
 use Rattle.sat_core.proofs.Searching.{search_satisfied, search_refuted, search_ended, decided_longer, less_unset, less_budget}
+use Rattle.sat_core.proofs.SearchNotes.{searching_propagated}
 use Rattle.sat_core.proofs.solver.search.Goals as goal
 
-pub loop-decisions-init : goal.loop-decisions-init
-loop-decisions-init c =
+pub loop-units-init : goal.loop-units-init
+loop-units-init c =
     let cnf = c.args.cnf.now in
     let journal = c.in_ok-journal.journal in
+    let units = c.in_ok-units.ensures in
     let search = search_begins c.args.shortens cnf.variables cnf.clauses c.in-Ok.trail journal.steps.items journal.shelf
     c.in-Ok.ensures.ok c.in-Ok.ensures.sound c.in_ok-journal.ensures.steps
     (subst (λ (n : ℕ). AreFirst n journal.shelf) c.len.ensures c.in_ok-journal.ensures.shelf) in
     record {
-      search = search;
-      decisions = subst (λ (s : TrailState). AreDecisions s.variables s.entries c.in_ok-decisions.decisions) (sym c.in-Ok.ensures.ok)
-          (c.in_ok-decisions.ensures []);
-      marks = subst (λ (s : TrailState). AreNoMarks s.variables c.in_ok-walk.walk.marks) (sym c.in-Ok.ensures.ok) c.in_ok-walk.ensures;
-      within = omega (arith, ap length c.in_ok-journal.ensures.steps);
-      next = omega (arith, c.in_ok-journal.ensures.next, c.len.ensures, ap length c.in_ok-journal.ensures.steps);
-      uses = omega (
-        arith,
-        c.in_ok-journal.ensures.shelf.one_use_each,
-        c.len.ensures,
-        ap (λ (s : TrailState). length s.clauses) c.in-Ok.ensures.ok,
-      );
+      searching = record {
+        logged = record {
+          search = search;
+          next = omega (arith, c.in_ok-journal.ensures.next, c.len.ensures, ap length c.in_ok-journal.ensures.steps);
+          uses = omega (
+            arith,
+            c.in_ok-journal.ensures.shelf.one_use_each,
+            c.len.ensures,
+            ap (λ (s : TrailState). length s.clauses) c.in-Ok.ensures.ok,
+          );
+        };
+        order = subst (λ (s : TrailState). AreDecisions s.variables s.entries c.in_ok-decisions.decisions) (sym c.in-Ok.ensures.ok)
+            (c.in_ok-decisions.ensures []);
+        unmarked = subst (λ (s : TrailState). AreNoMarks s.variables c.in_ok-walk.walk.marks) (sym c.in-Ok.ensures.ok)
+            c.in_ok-walk.ensures;
+        table = units.units c.in-Ok.trail search.same_variables;
+        within = omega (arith, ap length c.in_ok-journal.ensures.steps);
+        counted = omega (arith, units.added);
+        few = omega (arith, units.added);
+        room = omega (arith, units.most, c.most_units.ensures.room);
+        only = λ keeps. units.most ∙ c.most_units.ensures.none keeps;
+      };
       wanted = c.new-drops.ensures;
     }
 
+pub decide-requires-clause-usable : goal.decide-requires-clause-usable
+decide-requires-clause-usable c =
+    let e = c.in_ok-conflict.ensures in
+    let p = searching_propagated c.loop-units.invariant.searching e.propagated e.units e.added e.most e.sound in
+    p.0.logged.search.usable
+
 pub decide-requires-clause-decisions : goal.decide-requires-clause-decisions
-decide-requires-clause-decisions c = decisions_propagated c.loop-decisions.trail c.propagate.new.self c.loop-decisions.decisions
-    c.in_ok-conflict.ensures.ok c.loop-decisions.invariant.decisions
+decide-requires-clause-decisions c =
+    let e = c.in_ok-conflict.ensures in
+    let p = searching_propagated c.loop-units.invariant.searching e.propagated e.units e.added e.most e.sound in
+    p.0.order
+
+pub assignment_of-requires-clause-usable : goal.assignment_of-requires-clause-usable
+assignment_of-requires-clause-usable c =
+    let e = c.in_ok-conflict.ensures in
+    let p = searching_propagated c.loop-units.invariant.searching e.propagated e.units e.added e.most e.sound in
+    let u = c.propagate.new.trail in
+    let w = c.decide.new.trail in
+    let all : Decides u w c.decide.new.self false =
+    subst (Decides u w c.decide.new.self) c.if-branch.false c.in_ok-decide.ensures in
+    ap (λ (s : TrailState). s.broken) all.1 ∙ p.0.logged.search.usable
+
+pub assignment_of-requires-clause-variables : goal.assignment_of-requires-clause-variables
+assignment_of-requires-clause-variables c =
+    let e = c.in_ok-conflict.ensures in
+    let p = searching_propagated c.loop-units.invariant.searching e.propagated e.units e.added e.most e.sound in
+    let u = c.propagate.new.trail in
+    let w = c.decide.new.trail in
+    let all : Decides u w c.decide.new.self false =
+    subst (Decides u w c.decide.new.self) c.if-branch.false c.in_ok-decide.ensures in
+    sym (ap (λ (s : TrailState). s.variables) all.1 ∙ p.0.logged.search.same_variables)
 
 pub returns-in_default-2 : goal.returns-in_default-2
 returns-in_default-2 c =
-    let cnf = c.args.cnf.now in
-    let u = c.propagate.new.self in
+    let e = c.in_ok-conflict.ensures in
+    let p = searching_propagated c.loop-units.invariant.searching e.propagated e.units e.added e.most e.sound in
+    let u = c.propagate.new.trail in
     let w = c.decide.new.trail in
-    let journal = c.loop-decisions.journal in
-    let search = search_propagated c.args.shortens cnf.variables cnf.clauses c.loop-decisions.trail u journal.steps.items
-    journal.shelf.numbers.items c.loop-decisions.invariant.search c.in_ok-conflict.ensures.ok c.in_ok-conflict.ensures.sound in
-    let quiet : IsQuiet u.clauses (literals_of u.entries) = subst
-    (λ (o : Option ℕ). EndsWith o u) c.in_default-2.is c.in_ok-conflict.ensures.ends in
     let all : Decides u w c.decide.new.self false =
     subst (Decides u w c.decide.new.self) c.if-branch.false c.in_ok-decide.ensures in
+    let cnf = c.args.cnf.now in
+    let journal = c.propagate.new.journal in
+    let quiet : IsQuiet u.clauses (literals_of u.entries) = subst (λ (o : Option ℕ). EndsWith o u) c.in_default-2.is e.ends in
     search_satisfied c.args.shortens cnf.variables cnf.clauses u journal.steps.items journal.shelf.numbers.items
-    c.in_ok-assignment.assignment.truths search cnf.over quiet (subst (AreSet u.entries) search.same_variables all.0) (subst
-    (λ (s : TrailState). AreVariableTruths s.entries cnf.variables c.in_ok-assignment.assignment.truths) all.1
+    c.in_ok-assignment.assignment.truths p.0.logged.search cnf.over quiet
+    (subst (AreSet u.entries) p.0.logged.search.same_variables all.0)
+    (subst (λ (s : TrailState). AreVariableTruths s.entries cnf.variables c.in_ok-assignment.assignment.truths) all.1
     c.in_ok-assignment.ensures)
 
-pub loop-decisions-preserved-then-branch : goal.loop-decisions-preserved-then-branch
-loop-decisions-preserved-then-branch c =
-    let cnf = c.args.cnf.now in
-    let u = c.propagate.new.self in
+pub loop-units-preserved-then-branch : goal.loop-units-preserved-then-branch
+loop-units-preserved-then-branch c =
+    let e = c.in_ok-conflict.ensures in
+    let p = searching_propagated c.loop-units.invariant.searching e.propagated e.units e.added e.most e.sound in
+    let u = c.propagate.new.trail in
     let w = c.decide.new.trail in
-    let i = c.loop-decisions.invariant in
-    let journal = c.loop-decisions.journal in
-    let search = search_propagated c.args.shortens cnf.variables cnf.clauses c.loop-decisions.trail u journal.steps.items
-    journal.shelf.numbers.items i.search c.in_ok-conflict.ensures.ok c.in_ok-conflict.ensures.sound in
-    let quiet : IsQuiet u.clauses (literals_of u.entries) = subst
-    (λ (o : Option ℕ). EndsWith o u) c.in_default-2.is c.in_ok-conflict.ensures.ends in
     let decided : HasDecided u w c.decide.new.self =
     subst (Decides u w c.decide.new.self) c.if-branch.true c.in_ok-decide.ensures in
+    let cnf = c.args.cnf.now in
+    let journal = c.propagate.new.journal in
+    let quiet : IsQuiet u.clauses (literals_of u.entries) = subst (λ (o : Option ℕ). EndsWith o u) c.in_default-2.is e.ends in
+    let variables : w.variables ≡ u.variables = ap (λ (s : TrailState). s.variables) decided.trail_is in
+    let clauses : length w.clauses ≡ length u.clauses = ap (λ (s : TrailState). length s.clauses) decided.trail_is in
     record {
-      search = search_decided c.args.shortens cnf.variables cnf.clauses u w journal.steps.items journal.shelf.numbers.items decided.literal
-          search quiet decided.trail_is decided.sound;
-      decisions = decided.decisions;
-      marks = subst (λ (n : ℕ). AreNoMarks n c.loop-decisions.walk.marks) (sym (ap (λ (s : TrailState). s.variables) decided.trail_is
-          ∙ ap (λ (s : TrailState). s.variables) c.in_ok-conflict.ensures.ok.rest_stays)) i.marks;
-      within = i.within;
-      next = i.next;
-      uses = i.uses ∙ sym (ap (λ (s : TrailState). length s.clauses) decided.trail_is
-          ∙ ap (λ (s : TrailState). length s.clauses) c.in_ok-conflict.ensures.ok.rest_stays);
-      wanted = i.wanted;
+      searching = record {
+        logged = record {
+          search = search_decided c.args.shortens cnf.variables cnf.clauses u w journal.steps.items journal.shelf.numbers.items
+              decided.literal p.0.logged.search quiet decided.trail_is decided.sound;
+          next = p.0.logged.next;
+          uses = p.0.logged.uses ∙ sym clauses;
+        };
+        order = decided.decisions;
+        unmarked = subst (λ (n : ℕ). AreNoMarks n c.loop-units.walk.marks) (sym variables) p.0.unmarked;
+        table = record {
+          one_each = p.0.table.one_each ∙ sym variables;
+          within = omega (arith, p.0.table.within, clauses);
+        };
+        within = p.0.within;
+        counted = p.0.counted;
+        few = p.0.few;
+        room = p.0.room;
+        only = p.0.only;
+      };
+      wanted = c.loop-units.invariant.wanted;
     }
 
-pub loop-decisions-smaller-then-branch : goal.loop-decisions-smaller-then-branch
-loop-decisions-smaller-then-branch c =
-    let cnf = c.args.cnf.now in
-    let u = c.propagate.new.self in
+pub loop-units-smaller-then-branch : goal.loop-units-smaller-then-branch
+loop-units-smaller-then-branch c =
+    let e = c.in_ok-conflict.ensures in
+    let p = searching_propagated c.loop-units.invariant.searching e.propagated e.units e.added e.most e.sound in
+    let u = c.propagate.new.trail in
     let w = c.decide.new.trail in
     let decided : HasDecided u w c.decide.new.self =
     subst (Decides u w c.decide.new.self) c.if-branch.true c.in_ok-decide.ensures in
-    let longer = decided_longer c.loop-decisions.trail u w decided.literal c.in_ok-conflict.ensures.ok decided.trail_is in
-    let same : w.variables ≡ cnf.variables = ap (λ (s : TrailState). s.variables) decided.trail_is
-    ∙ (ap (λ (s : TrailState). s.variables) c.in_ok-conflict.ensures.ok.rest_stays
-    ∙ c.loop-decisions.invariant.search.same_variables) in
+    let cnf = c.args.cnf.now in
+    let after = c.propagate.new.journal in
+    let longer = decided_longer c.loop-units.trail u w decided.literal p.1 decided.trail_is in
+    let same : w.variables ≡ cnf.variables = ap (λ (s : TrailState). s.variables) decided.trail_is ∙ p.0.logged.search.same_variables in
     let short : length w.entries ≤ cnf.variables =
     omega (arith, length_entries w.variables w.clauses w.entries decided.sound.stand, same) in
-    less_unset _ cnf.variables (length c.loop-decisions.trail.entries) (length w.entries) longer short
+    less_unset _ _ cnf.variables (length c.loop-units.trail.entries) (length w.entries)
+    (ap (λ (n : ℕ). n * (cnf.variables + 1)) p.2) longer short
+
+pub level-requires : goal.level-requires
+level-requires c =
+    let e = c.in_ok-conflict.ensures in
+    let p = searching_propagated c.loop-units.invariant.searching e.propagated e.units e.added e.most e.sound in
+    p.0.logged.search.usable
+
+pub refute-requires-clause-usable : goal.refute-requires-clause-usable
+refute-requires-clause-usable c =
+    let e = c.in_ok-conflict.ensures in
+    let p = searching_propagated c.loop-units.invariant.searching e.propagated e.units e.added e.most e.sound in
+    p.0.logged.search.usable
+
+pub end-requires-clause-usable : goal.end-requires-clause-usable
+end-requires-clause-usable c =
+    let e = c.in_ok-conflict.ensures in
+    let p = searching_propagated c.loop-units.invariant.searching e.propagated e.units e.added e.most e.sound in
+    p.0.logged.search.usable
+
+pub learn-requires-clause-usable : goal.learn-requires-clause-usable
+learn-requires-clause-usable c =
+    let e = c.in_ok-conflict.ensures in
+    let p = searching_propagated c.loop-units.invariant.searching e.propagated e.units e.added e.most e.sound in
+    p.0.logged.search.usable
+
+pub refute-requires-clause-marks : goal.refute-requires-clause-marks
+refute-requires-clause-marks c =
+    let e = c.in_ok-conflict.ensures in
+    let p = searching_propagated c.loop-units.invariant.searching e.propagated e.units e.added e.most e.sound in
+    p.0.unmarked
+
+pub refute-requires-clause-next : goal.refute-requires-clause-next
+refute-requires-clause-next c =
+    let e = c.in_ok-conflict.ensures in
+    let p = searching_propagated c.loop-units.invariant.searching e.propagated e.units e.added e.most e.sound in
+    omega (arith, p.0.logged.next, p.0.within, p.0.few, p.0.room)
+
+pub refute-requires-clause-numbers : goal.refute-requires-clause-numbers
+refute-requires-clause-numbers c =
+    let e = c.in_ok-conflict.ensures in
+    let p = searching_propagated c.loop-units.invariant.searching e.propagated e.units e.added e.most e.sound in
+    p.0.logged.search.named.one_each
+
+pub refute-requires-clause-uses : goal.refute-requires-clause-uses
+refute-requires-clause-uses c =
+    let e = c.in_ok-conflict.ensures in
+    let p = searching_propagated c.loop-units.invariant.searching e.propagated e.units e.added e.most e.sound in
+    p.0.logged.uses
+
+pub end-requires-clause-marks : goal.end-requires-clause-marks
+end-requires-clause-marks c =
+    let e = c.in_ok-conflict.ensures in
+    let p = searching_propagated c.loop-units.invariant.searching e.propagated e.units e.added e.most e.sound in
+    p.0.unmarked
+
+pub end-requires-clause-next : goal.end-requires-clause-next
+end-requires-clause-next c =
+    let e = c.in_ok-conflict.ensures in
+    let p = searching_propagated c.loop-units.invariant.searching e.propagated e.units e.added e.most e.sound in
+    omega (arith, p.0.logged.next, p.0.within, p.0.few, p.0.room)
+
+pub end-requires-clause-numbers : goal.end-requires-clause-numbers
+end-requires-clause-numbers c =
+    let e = c.in_ok-conflict.ensures in
+    let p = searching_propagated c.loop-units.invariant.searching e.propagated e.units e.added e.most e.sound in
+    p.0.logged.search.named.one_each
+
+pub end-requires-clause-uses : goal.end-requires-clause-uses
+end-requires-clause-uses c =
+    let e = c.in_ok-conflict.ensures in
+    let p = searching_propagated c.loop-units.invariant.searching e.propagated e.units e.added e.most e.sound in
+    p.0.logged.uses
+
+pub learn-requires-clause-marks : goal.learn-requires-clause-marks
+learn-requires-clause-marks c =
+    let e = c.in_ok-conflict.ensures in
+    let p = searching_propagated c.loop-units.invariant.searching e.propagated e.units e.added e.most e.sound in
+    p.0.unmarked
+
+pub learn-requires-clause-next : goal.learn-requires-clause-next
+learn-requires-clause-next c =
+    let e = c.in_ok-conflict.ensures in
+    let p = searching_propagated c.loop-units.invariant.searching e.propagated e.units e.added e.most e.sound in
+    omega (arith, p.0.logged.next, p.0.within, p.0.few, p.0.room)
+
+pub learn-requires-clause-numbers : goal.learn-requires-clause-numbers
+learn-requires-clause-numbers c =
+    let e = c.in_ok-conflict.ensures in
+    let p = searching_propagated c.loop-units.invariant.searching e.propagated e.units e.added e.most e.sound in
+    p.0.logged.search.named.one_each
+
+pub learn-requires-clause-uses : goal.learn-requires-clause-uses
+learn-requires-clause-uses c =
+    let e = c.in_ok-conflict.ensures in
+    let p = searching_propagated c.loop-units.invariant.searching e.propagated e.units e.added e.most e.sound in
+    p.0.logged.uses
 
 pub returns-then-level-eq0 : goal.returns-then-level-eq0
 returns-then-level-eq0 c =
+    let e = c.in_ok-conflict.ensures in
+    let p = searching_propagated c.loop-units.invariant.searching e.propagated e.units e.added e.most e.sound in
     let cnf = c.args.cnf.now in
-    let u = c.propagate.new.self in
-    let journal = c.loop-decisions.journal in
-    let search = search_propagated c.args.shortens cnf.variables cnf.clauses c.loop-decisions.trail u journal.steps.items
-    journal.shelf.numbers.items c.loop-decisions.invariant.search c.in_ok-conflict.ensures.ok c.in_ok-conflict.ensures.sound in
-    search_refuted c.args.shortens cnf.variables cnf.clauses u journal c.in_ok-log.log search c.loop-decisions.invariant.next
-    c.in_ok-log.ensures
+    search_refuted c.args.shortens cnf.variables cnf.clauses c.propagate.new.trail c.propagate.new.journal c.in_ok-log.log
+    p.0.logged.search p.0.logged.next c.in_ok-log.ensures
 
-pub returns-then-len-budget : goal.returns-then-len-budget
-returns-then-len-budget c =
+pub overflow_sub-learnt : goal.overflow_sub-learnt
+overflow_sub-learnt c =
+    let e = c.in_ok-conflict.ensures in
+    let p = searching_propagated c.loop-units.invariant.searching e.propagated e.units e.added e.most e.sound in
+    omega (arith, p.0.counted, c.len-in-loop-units.ensures)
+
+pub returns-then-learnt-budget : goal.returns-then-learnt-budget
+returns-then-learnt-budget c =
+    let e = c.in_ok-conflict.ensures in
+    let p = searching_propagated c.loop-units.invariant.searching e.propagated e.units e.added e.most e.sound in
     let cnf = c.args.cnf.now in
-    let u = c.propagate.new.self in
-    let journal = c.loop-decisions.journal in
-    let search = search_propagated c.args.shortens cnf.variables cnf.clauses c.loop-decisions.trail u journal.steps.items
-    journal.shelf.numbers.items c.loop-decisions.invariant.search c.in_ok-conflict.ensures.ok c.in_ok-conflict.ensures.sound in
-    let spent : length journal.steps.items ≡ c.args.budget = omega (arith, c.len-in-loop-decisions.ensures, c.if-len-budget.true) in
+    let u = c.propagate.new.trail in
+    let journal = c.propagate.new.journal in
     IfOk-weaker c.end.result (IsEnd u.clauses journal) (IsSearchAnswer c.args.shortens cnf.variables cnf.clauses c.args.budget)
-    (search_ended c.args.shortens cnf.variables cnf.clauses u journal c.args.budget search c.loop-decisions.invariant.next spent)
+    (search_ended c.args.shortens cnf.variables cnf.clauses u journal c.args.budget p.0.logged.search p.0.logged.next
+    (λ keeps. omega (arith, p.0.only keeps, p.0.few, p.0.counted, c.len-in-loop-units.ensures, c.if-learnt-budget.true)))
     c.end.ensures
+
+pub is_due-anew-requires : goal.is_due-anew-requires
+is_due-anew-requires c =
+    let e = c.in_ok-conflict.ensures in
+    let p = searching_propagated c.loop-units.invariant.searching e.propagated e.units e.added e.most e.sound in
+    omega (arith, p.0.within, p.0.room, c.len-in-loop-units.ensures)
 
 pub learn-requires-clause-quiet : goal.learn-requires-clause-quiet
 learn-requires-clause-quiet c =
-    let cnf = c.args.cnf.now in
-    let journal = c.loop-decisions.journal in
-    (search_propagated c.args.shortens cnf.variables cnf.clauses c.loop-decisions.trail c.propagate.new.self journal.steps.items
-    journal.shelf.numbers.items c.loop-decisions.invariant.search c.in_ok-conflict.ensures.ok c.in_ok-conflict.ensures.sound).quiet
+    let e = c.in_ok-conflict.ensures in
+    let p = searching_propagated c.loop-units.invariant.searching e.propagated e.units e.added e.most e.sound in
+    p.0.logged.search.quiet
+
+pub learn-requires-clause-few : goal.learn-requires-clause-few
+learn-requires-clause-few c =
+    let e = c.in_ok-conflict.ensures in
+    let p = searching_propagated c.loop-units.invariant.searching e.propagated e.units e.added e.most e.sound in
+    omega (arith, p.0.logged.search.fewer, p.0.within, p.0.few, p.0.room)
 
 pub learn-requires-clause-decisions : goal.learn-requires-clause-decisions
-learn-requires-clause-decisions c = decisions_propagated c.loop-decisions.trail c.propagate.new.self c.loop-decisions.decisions
-    c.in_ok-conflict.ensures.ok c.loop-decisions.invariant.decisions
+learn-requires-clause-decisions c =
+    let e = c.in_ok-conflict.ensures in
+    let p = searching_propagated c.loop-units.invariant.searching e.propagated e.units e.added e.most e.sound in
+    p.0.order
 
-pub loop-decisions-smaller : goal.loop-decisions-smaller
-loop-decisions-smaller c =
+pub shortened-requires-clause-usable : goal.shortened-requires-clause-usable
+shortened-requires-clause-usable c =
+    let e = c.in_ok-conflict.ensures in
+    let p = searching_propagated c.loop-units.invariant.searching e.propagated e.units e.added e.most e.sound in
+    let cnf = c.args.cnf.now in
+    let u = c.propagate.new.trail in
+    let w = c.learn.new.trail in
+    let journal = c.propagate.new.journal in
+    let middle = c.learn.new.journal in
     let learnt = c.in_ok-learn.ensures.learnt in
-    let journal = c.loop-decisions.journal in
+    let above : 0 < u.level = omega (arith, c.level.ensures.value, c.if-level-eq0.false) in
+    let more = search_learnt c.args.shortens cnf.variables cnf.clauses c.is_due-anew.result u w journal middle p.0.logged.search
+    p.0.logged.next learnt c.in_ok-learn.ensures.sound above in
+    more.usable
+
+pub shortened-requires-clause-variables : goal.shortened-requires-clause-variables
+shortened-requires-clause-variables c =
+    let e = c.in_ok-conflict.ensures in
+    let p = searching_propagated c.loop-units.invariant.searching e.propagated e.units e.added e.most e.sound in
+    let cnf = c.args.cnf.now in
+    let u = c.propagate.new.trail in
+    let w = c.learn.new.trail in
+    let journal = c.propagate.new.journal in
+    let middle = c.learn.new.journal in
+    let learnt = c.in_ok-learn.ensures.learnt in
+    let above : 0 < u.level = omega (arith, c.level.ensures.value, c.if-level-eq0.false) in
+    let more = search_learnt c.args.shortens cnf.variables cnf.clauses c.is_due-anew.result u w journal middle p.0.logged.search
+    p.0.logged.next learnt c.in_ok-learn.ensures.sound above in
+    sym more.same_variables
+
+pub shortened-requires-clause-formula : goal.shortened-requires-clause-formula
+shortened-requires-clause-formula c =
+    let e = c.in_ok-conflict.ensures in
+    let p = searching_propagated c.loop-units.invariant.searching e.propagated e.units e.added e.most e.sound in
+    let cnf = c.args.cnf.now in
+    let u = c.propagate.new.trail in
+    let w = c.learn.new.trail in
+    let journal = c.propagate.new.journal in
+    let middle = c.learn.new.journal in
+    let learnt = c.in_ok-learn.ensures.learnt in
+    let above : 0 < u.level = omega (arith, c.level.ensures.value, c.if-level-eq0.false) in
+    let more = search_learnt c.args.shortens cnf.variables cnf.clauses c.is_due-anew.result u w journal middle p.0.logged.search
+    p.0.logged.next learnt c.in_ok-learn.ensures.sound above in
+    omega (arith, ap (λ (cs : List (List Lit)). length cs) more.stands, length-append cnf.clauses more.others)
+
+pub shortened-requires-clause-numbers : goal.shortened-requires-clause-numbers
+shortened-requires-clause-numbers c =
+    let e = c.in_ok-conflict.ensures in
+    let p = searching_propagated c.loop-units.invariant.searching e.propagated e.units e.added e.most e.sound in
+    let cnf = c.args.cnf.now in
+    let u = c.propagate.new.trail in
+    let w = c.learn.new.trail in
+    let journal = c.propagate.new.journal in
+    let middle = c.learn.new.journal in
+    let learnt = c.in_ok-learn.ensures.learnt in
+    let above : 0 < u.level = omega (arith, c.level.ensures.value, c.if-level-eq0.false) in
+    let more = search_learnt c.args.shortens cnf.variables cnf.clauses c.is_due-anew.result u w journal middle p.0.logged.search
+    p.0.logged.next learnt c.in_ok-learn.ensures.sound above in
+    more.named.one_each
+
+pub shortened-requires-clause-uses : goal.shortened-requires-clause-uses
+shortened-requires-clause-uses c =
+    let e = c.in_ok-conflict.ensures in
+    let p = searching_propagated c.loop-units.invariant.searching e.propagated e.units e.added e.most e.sound in
+    let cnf = c.args.cnf.now in
+    let u = c.propagate.new.trail in
+    let w = c.learn.new.trail in
+    let journal = c.propagate.new.journal in
+    let middle = c.learn.new.journal in
+    let learnt = c.in_ok-learn.ensures.learnt in
+    let above : 0 < u.level = omega (arith, c.level.ensures.value, c.if-level-eq0.false) in
+    let more = search_learnt c.args.shortens cnf.variables cnf.clauses c.is_due-anew.result u w journal middle p.0.logged.search
+    p.0.logged.next learnt c.in_ok-learn.ensures.sound above in
+    learnt.one_use_each ∙ more.named.one_each
+
+pub loop-units-smaller : goal.loop-units-smaller
+loop-units-smaller c =
+    let e = c.in_ok-conflict.ensures in
+    let p = searching_propagated c.loop-units.invariant.searching e.propagated e.units e.added e.most e.sound in
+    let cnf = c.args.cnf.now in
+    let journal = c.propagate.new.journal in
+    let learnt = c.in_ok-learn.ensures.learnt in
     let after = c.shortened.new.journal in
-    let more : length after.steps.items ≡ length journal.steps.items + 1 = omega (
+    let count : length after.steps.items ≡ length journal.steps.items + 1 = omega (
       arith,
       ap (λ (j : Journal). length j.steps.items) c.shortened.ensures.journal,
       ap (λ (ss : List Step). length ss) learnt.steps_are,
       length_push journal.steps.items (learnt_step journal.next learnt.clause (log_hints journal.shelf.numbers.items learnt.hints)),
     ) in
-    let below : length journal.steps.items < c.args.budget = omega (
+    let left : c.args.budget + c.shortened.new.units.added - length after.steps.items + 1
+    ≡ c.args.budget + c.loop-units.units.added - length c.loop-units.journal.steps.items = omega (
       arith,
-      c.loop-decisions.invariant.within,
-      c.len-in-loop-decisions.ensures,
-      c.if-len-budget.false,
+      count,
+      c.shortened.ensures.added,
+      p.2,
+      p.0.within,
+      p.0.counted,
+      c.len-in-loop-units.ensures,
+      c.if-learnt-budget.false,
     ) in
-    less_budget c.args.budget (length journal.steps.items) (length after.steps.items) c.args.cnf.now.variables
-    (c.args.cnf.now.variables - length c.in_ok-trail.trail.entries)
-    (c.args.cnf.now.variables - length c.loop-decisions.trail.entries) below more (omega arith)
+    less_budget _ _ cnf.variables (cnf.variables - length c.in_ok-trail.trail.entries)
+    (cnf.variables - length c.loop-units.trail.entries) left (omega arith)
 
-pub loop-decisions-preserved : goal.loop-decisions-preserved
-loop-decisions-preserved c =
+pub loop-units-preserved : goal.loop-units-preserved
+loop-units-preserved c =
+    let e = c.in_ok-conflict.ensures in
+    let p = searching_propagated c.loop-units.invariant.searching e.propagated e.units e.added e.most e.sound in
     let cnf = c.args.cnf.now in
-    let u = c.propagate.new.self in
+    let u = c.propagate.new.trail in
     let w = c.learn.new.trail in
-    let i = c.loop-decisions.invariant in
-    let journal = c.loop-decisions.journal in
+    let journal = c.propagate.new.journal in
     let middle = c.learn.new.journal in
-    let after = c.shortened.new.journal in
-    let kept = c.in_ok-trail.trail in
-    let search = search_propagated c.args.shortens cnf.variables cnf.clauses c.loop-decisions.trail u journal.steps.items
-    journal.shelf.numbers.items i.search c.in_ok-conflict.ensures.ok c.in_ok-conflict.ensures.sound in
     let learnt = c.in_ok-learn.ensures.learnt in
     let above : 0 < u.level = omega (arith, c.level.ensures.value, c.if-level-eq0.false) in
-    let more = search_learnt c.args.shortens cnf.variables cnf.clauses c.is_due-anew.result u w journal middle search i.next learnt
-    c.in_ok-learn.ensures.sound above in
-    let stays = search_stays c.args.shortens c.loop-decisions.drops.wanted cnf.variables cnf.clauses w kept middle after more
-    (learnt.one_use_each ∙ more.named.one_each) i.wanted c.in_ok-trail.ensures.sound c.shortened.ensures.journal
-    c.in_ok-trail.ensures.trail in
-    let count : length middle.steps.items ≡ length journal.steps.items + 1 = omega (
+    let more = search_learnt c.args.shortens cnf.variables cnf.clauses c.is_due-anew.result u w journal middle p.0.logged.search
+    p.0.logged.next learnt c.in_ok-learn.ensures.sound above in
+    let after = c.shortened.new.journal in
+    let count : length after.steps.items ≡ length journal.steps.items + 1 = omega (
       arith,
+      ap (λ (j : Journal). length j.steps.items) c.shortened.ensures.journal,
       ap (λ (ss : List Step). length ss) learnt.steps_are,
       length_push journal.steps.items (learnt_step journal.next learnt.clause (log_hints journal.shelf.numbers.items learnt.hints)),
     ) in
+    let kept = c.in_ok-trail.trail in
+    let stays = search_stays c.args.shortens c.loop-units.drops.wanted cnf.variables cnf.clauses w kept middle after more
+    (learnt.one_use_each ∙ more.named.one_each) c.loop-units.invariant.wanted c.in_ok-trail.ensures.sound c.shortened.ensures.journal
+    c.in_ok-trail.ensures.trail in
     record {
-      search = stays.0;
-      decisions = c.in_ok-trail.ensures.decisions;
-      marks = subst (λ (n : ℕ). AreNoMarks n c.learn.new.walk.marks) (more.same_variables ∙ sym stays.0.same_variables)
-          c.in_ok-learn.ensures.marks;
-      within = omega (
-        arith,
-        count,
-        ap (λ (j : Journal). length j.steps.items) c.shortened.ensures.journal,
-        i.within,
-        c.len-in-loop-decisions.ensures,
-        c.if-len-budget.false,
-      );
-      next = omega (
-        arith,
-        count,
-        ap (λ (j : Journal). length j.steps.items) c.shortened.ensures.journal,
-        ap (λ (j : Journal). j.next) c.shortened.ensures.journal,
-        learnt.next_is,
-        i.next,
-      );
-      uses = stays.1;
-      wanted = c.shortened.ensures.drops ∙ i.wanted;
+      searching = record {
+        logged = record {
+          search = stays.0;
+          next = omega (
+            arith,
+            count,
+            ap (λ (j : Journal). j.next) c.shortened.ensures.journal,
+            learnt.next_is,
+            p.0.logged.next,
+          );
+          uses = stays.1;
+        };
+        order = c.in_ok-trail.ensures.decisions;
+        unmarked = subst (λ (n : ℕ). AreNoMarks n c.learn.new.walk.marks) (more.same_variables ∙ sym stays.0.same_variables)
+            c.in_ok-learn.ensures.marks;
+        table = c.in_ok-trail.ensures.units;
+        within = omega (
+          arith,
+          count,
+          c.shortened.ensures.added,
+          p.0.within,
+          p.0.counted,
+          c.len-in-loop-units.ensures,
+          c.if-learnt-budget.false,
+        );
+        counted = omega (arith, count, c.shortened.ensures.added, p.0.counted);
+        few = omega (arith, c.shortened.ensures.added, c.shortened.ensures.most, p.0.few);
+        room = omega (arith, c.shortened.ensures.most, p.0.room);
+        only = λ keeps. c.shortened.ensures.most ∙ p.0.only keeps;
+      };
+      wanted = c.shortened.ensures.drops ∙ c.loop-units.invariant.wanted;
     }

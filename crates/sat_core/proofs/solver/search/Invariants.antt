@@ -1,19 +1,13 @@
-use Rattle.std.proofs.Common.{◌≡◌, ◌+◌, ◌-◌, ◌*◌, ◌≤◌, length}
-use Rattle.sat_core.specs.internal.Decisions.{AreDecisions}
-use Rattle.sat_core.specs.internal.ConflictWalks.{AreNoMarks}
-use Rattle.sat_core.proofs.Searching.{IsSearch}
+use Rattle.std.proofs.Common.{◌≡◌, ◌+◌, ◌-◌, ◌*◌, length}
+use Rattle.sat_core.proofs.SearchNotes.{IsSearching}
 use Rattle.sat_core.proofs.solver.search.Given as goal
 
-abbrev pub invariant-loop-decisions : goal.invariant-loop-decisions
-invariant-loop-decisions l = record {
-  search : IsSearch l.shortens l.cnf.variables l.cnf.clauses l.trail l.journal.steps.items l.journal.shelf.numbers.items;
-  decisions : AreDecisions l.trail.variables l.trail.entries l.decisions;
-  marks : AreNoMarks l.trail.variables l.walk.marks;
-  within : length l.journal.steps.items ≤ l.budget;
-  next : l.journal.next ≡ length l.cnf.clauses + length l.journal.steps.items + 1;
-  uses : length l.journal.shelf.uses.items ≡ length l.trail.clauses;
+abbrev pub invariant-loop-units : goal.invariant-loop-units
+invariant-loop-units l = record {
+  searching : IsSearching l.shortens l.cnf.variables l.cnf.clauses l.budget l.trail l.journal l.units l.decisions l.walk.marks;
   wanted : l.drops.wanted ≡ l.shortens;
 }
 
-abbrev pub decreases-loop-decisions : goal.decreases-loop-decisions
-decreases-loop-decisions l = (l.budget - length l.journal.steps.items) * (l.cnf.variables + 1) + (l.cnf.variables - length l.trail.entries)
+abbrev pub decreases-loop-units : goal.decreases-loop-units
+decreases-loop-units l = (l.budget + l.units.added - length l.journal.steps.items) * (l.cnf.variables + 1)
+    + (l.cnf.variables - length l.trail.entries)

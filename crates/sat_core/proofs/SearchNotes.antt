@@ -1,0 +1,189 @@
+-- Clauses of one literal, in a search that may leave clauses out of its trail.
+use Rattle.std.proofs.Common.{◌≡◌, ℕ, ◌+◌, ◌-◌, ◌<◌, ◌≤◌, ◌^◌, Bool, true, false, ◌||◌, List, [], ◌∷◌, ◌++◌}
+use Rattle.std.proofs.Common.{length, sym, ap, ◌∙◌, subst, refl, arith, inl, inr}
+use Rattle.std.proofs.lemmas.Bool.{true≢false, cases_Bool, false_from_ne_true}
+use Rattle.std.proofs.lemmas.List.{append_assoc, length_push}
+use Rattle.std.proofs.lemmas.List.Elements.{All-push, All-nil}
+use Rattle.clause_core.specs.Literals.{Lit, negation, has}
+use Rattle.clause_core.specs.Clauses.{has_pair}
+use Rattle.clause_core.proofs.Sets.{negation_differs}
+use Rattle.sat_trail.specs.declared.entries.Entry.{Entry}
+use Rattle.sat_trail.specs.States.{TrailState, IsSound, with_clause}
+use Rattle.sat_trail.proofs.TrailSteps.{has_one}
+use Rattle.refutation_check.specs.declared.steps.Step.{Step}
+use Rattle.sat_core.specs.declared.journal.Journal.{Journal}
+use Rattle.sat_core.specs.declared.units.Units.{Units}
+use Rattle.sat_core.specs.declared.choices.Decisions.{Decisions}
+use Rattle.sat_core.specs.declared.marks.Marks.{Marks}
+use Rattle.sat_core.specs.internal.Decisions.{AreDecisions}
+use Rattle.sat_core.specs.internal.ConflictWalks.{AreNoMarks}
+use Rattle.sat_core.specs.internal.Shelves.{log_hints}
+use Rattle.sat_core.specs.internal.Lessons.{learnt_step}
+use Rattle.sat_core.specs.internal.Units.{AreUnits, HasNoted, HaveNoted, HasPropagated}
+use Rattle.sat_core.specs.internal.Units.HaveNoted.{none, more}
+use Rattle.sat_core.proofs.Searching.{IsSearch, HasGrown, search_propagated, search_more}
+use Rattle.sat_core.proofs.Deciding.{decisions_grown}
+
+-- a search with its log, whose steps have the next numbers
+pub record IsLogged (shortens : Bool) (variables : ℕ) (clauses : List (List Lit)) (t : TrailState) (journal : Journal) : Type 0 where
+  pub search : IsSearch shortens variables clauses t journal.steps.items journal.shelf.numbers.items
+  pub next : journal.next ≡ length clauses + length journal.steps.items + 1
+  pub uses : length journal.shelf.uses.items ≡ length t.clauses
+
+one_no_pair : (l : Lit) → has_pair (l ∷ []) ≡ false
+one_no_pair l = ap (λ (b : Bool). b || false) (false_from_ne_true (has (l ∷ []) (negation l))
+    (λ h. negation_differs l (sym (has_one l (negation l) h))))
+
+module _ (variables : ℕ) (clauses : List (List Lit)) (shortens : Bool) (is : shortens ≡ true) where
+  search_noted : (t u : TrailState) (journal after : Journal) → IsLogged shortens variables clauses t journal →
+      HasNoted t journal u after → IsLogged shortens variables clauses u after × (length after.steps.items ≡ length journal.steps.items + 1)
+  search_noted t u journal after logged noted = (
+    record {
+      search = search;
+      next = omega (arith, logged.next, noted.next_is, count);
+      uses = noted.one_use_each ∙ search.named.one_each;
+    },
+    count,
+  )
+    where
+      clause : List Lit
+      clause = noted.literal ∷ []
+
+      step : Step
+      step = learnt_step journal.next clause (log_hints journal.shelf.numbers.items noted.hints)
+
+      count : length after.steps.items ≡ length journal.steps.items + 1
+      count = ap (λ (ss : List Step). length ss) noted.steps_are ∙ length_push journal.steps.items step
+
+      one_more : IsSearch shortens variables clauses (with_clause t clause) (journal.steps.items ++ step ∷ [])
+          (journal.shelf.numbers.items ++ journal.next ∷ [])
+      one_more = search_more shortens variables clauses t journal.steps.items journal.shelf.numbers.items journal.next logged.search
+          logged.next clause noted.hints (All-push (λ (l : Lit). l.index < t.variables) [] noted.literal
+          (All-nil (λ (l : Lit). l.index < t.variables)) noted.over) (one_no_pair noted.literal) noted.shown noted.few_hints noted.named
+          (tt, tt) t.entries t.level (subst IsSound noted.trail_is noted.sound) (λ none. absurd (true≢false (sym is ∙ none)))
+          (λ level below. absurd (omega (arith, noted.start)))
+
+      search : IsSearch shortens variables clauses u after.steps.items after.shelf.numbers.items
+      search = subst (λ (s : TrailState). IsSearch shortens variables clauses s after.steps.items after.shelf.numbers.items)
+          (sym noted.trail_is) (subst (λ (ss : List Step). IsSearch shortens variables clauses (with_clause t clause) ss
+          after.shelf.numbers.items) (sym noted.steps_are) (subst (λ (ns : List ℕ). IsSearch shortens variables clauses
+          (with_clause t clause) (journal.steps.items ++ step ∷ []) ns) (sym noted.numbers_are) one_more))
+
+  pub search_have_noted : (count : ℕ) (t u : TrailState) (journal after : Journal) → IsLogged shortens variables clauses t journal →
+      HaveNoted count t journal u after → IsLogged shortens variables clauses u after
+      × (length after.steps.items ≡ length journal.steps.items + count)
+  search_have_noted count t u journal after logged none = (logged, omega arith)
+  search_have_noted count t u journal after logged (more {count = n} {middle = m} {between = b} before noted) =
+      let r = search_have_noted n t m journal b logged before in
+      let s = search_noted m u b after r.0 noted in
+      (s.0, omega (arith, r.1, s.1))
+
+-- where no clause is added nothing changes
+none_noted : (variables : ℕ) (clauses : List (List Lit)) (shortens : Bool) (count : ℕ) (t u : TrailState) (journal after : Journal) →
+    IsLogged shortens variables clauses t journal → HaveNoted count t journal u after → count ≡ 0 →
+    IsLogged shortens variables clauses u after × (length after.steps.items ≡ length journal.steps.items + count)
+none_noted variables clauses shortens count t u journal after logged none h = (logged, omega arith)
+none_noted variables clauses shortens count t u journal after logged (more {count = n} before noted) h = absurd (omega (arith, h))
+
+-- clauses alone are new
+pub noted_rest : (count : ℕ) (t u : TrailState) (journal after : Journal) → HaveNoted count t journal u after →
+    u ≡ record t { clauses = u.clauses }
+noted_rest count t u journal after none = refl
+noted_rest count t u journal after (more {count = n} {middle = m} {between = b} before noted) = noted.trail_is
+    ∙ (ap (λ (s : TrailState). with_clause s (noted.literal ∷ [])) (noted_rest n t m journal b before)
+    ∙ sym (ap (λ (s : TrailState). record t { clauses = s.clauses }) noted.trail_is))
+
+module _ (count : ℕ) (t u : TrailState) (journal after : Journal) (has_propagated : HasPropagated count t journal u after) where
+  abbrev found : TrailState
+  found = has_propagated.found
+
+  abbrev noted : TrailState
+  noted = has_propagated.noted
+
+  rest : noted ≡ record found { clauses = noted.clauses }
+  rest = noted_rest count found noted journal after has_propagated.clauses
+
+  pub propagated_grown : HasGrown t u
+  propagated_grown = record {
+    added = has_propagated.first.added ++ has_propagated.last.added;
+    same_variables = ap (λ (s : TrailState). s.variables) has_propagated.last.rest_stays ∙ (ap (λ (s : TrailState). s.variables) rest
+        ∙ ap (λ (s : TrailState). s.variables) has_propagated.first.rest_stays);
+    entries_are = ap (λ (s : TrailState). s.entries) has_propagated.last.rest_stays
+        ∙ (ap (λ (s : TrailState). s.entries ++ has_propagated.last.added) rest
+        ∙ (ap (λ (s : TrailState). s.entries ++ has_propagated.last.added) has_propagated.first.rest_stays
+        ∙ append_assoc t.entries has_propagated.first.added has_propagated.last.added));
+  }
+
+  module _ (shortens : Bool) (variables : ℕ) (clauses : List (List Lit)) (only : shortens ≡ false → count ≡ 0) (sound : IsSound u)
+      (logged : IsLogged shortens variables clauses t journal) where
+    first_logged : IsLogged shortens variables clauses found journal
+    first_logged = record {
+      search = search_propagated shortens variables clauses t found journal.steps.items journal.shelf.numbers.items logged.search
+          has_propagated.first has_propagated.first_sound;
+      next = logged.next;
+      uses = logged.uses ∙ sym (ap (λ (s : TrailState). length s.clauses) has_propagated.first.rest_stays);
+    }
+
+    noted_logged : IsLogged shortens variables clauses noted after × (length after.steps.items ≡ length journal.steps.items + count)
+    noted_logged = elim (cases_Bool shortens) [
+      | inl is ↦ search_have_noted variables clauses shortens is count found noted journal after first_logged has_propagated.clauses
+      | inr not' ↦ none_noted variables clauses shortens count found noted journal after first_logged has_propagated.clauses (only not')
+    ]
+
+    pub search_propagates : IsLogged shortens variables clauses u after
+        × (length after.steps.items ≡ length journal.steps.items + count)
+    search_propagates = (
+      record {
+        search = search_propagated shortens variables clauses noted u after.steps.items after.shelf.numbers.items noted_logged.0.search
+            has_propagated.last sound;
+        next = noted_logged.0.next;
+        uses = noted_logged.0.uses ∙ sym (ap (λ (s : TrailState). length s.clauses) has_propagated.last.rest_stays);
+      },
+      noted_logged.1,
+    )
+
+-- ---- the search between its steps
+
+-- What holds between the decisions of a search that may learn so many clauses. Its steps are those of learnt clauses and
+-- of clauses of one literal, and these are added only where the trail may be shortened.
+pub record IsSearching (shortens : Bool) (variables : ℕ) (clauses : List (List Lit)) (budget : ℕ) (t : TrailState) (journal : Journal)
+    (units : Units) (decisions : Decisions) (marks : Marks) : Type 0 where
+  pub logged : IsLogged shortens variables clauses t journal
+  pub order : AreDecisions t.variables t.entries decisions
+  pub unmarked : AreNoMarks t.variables marks
+  pub table : AreUnits t units
+  pub within : length journal.steps.items ≤ budget + units.added
+  pub counted : units.added ≤ length journal.steps.items
+  pub few : units.added ≤ units.most
+  pub room : length clauses + budget + units.most < 2 ^ 32 - 1
+  pub only : shortens ≡ false → units.most ≡ 0
+
+-- it holds behind a propagation, the entries have grown, and as many steps are left
+pub searching_propagated : {shortens : Bool} → {variables : ℕ} → {clauses : List (List Lit)} → {budget : ℕ} → {t u : TrailState} →
+    {journal after : Journal} → {units later : Units} → {decisions : Decisions} → {marks : Marks} →
+    IsSearching shortens variables clauses budget t journal units decisions marks →
+    ((count : ℕ) × HasPropagated count t journal u after × (later.added ≡ units.added + count)) → AreUnits u later →
+    later.added ≤ later.most → later.most ≡ units.most → IsSound u →
+    IsSearching shortens variables clauses budget u after later decisions marks × HasGrown t u
+    × (budget + later.added - length after.steps.items ≡ budget + units.added - length journal.steps.items)
+searching_propagated {shortens = shortens} {variables = variables} {clauses = clauses} {budget = budget} {t = t} {u = u}
+    {journal = journal} {after = after} {units = units} {later = later} {decisions = decisions} {marks = marks} i p table few same sound =
+    let grown : HasGrown t u = propagated_grown p.0 t u journal after p.1 in
+    let r = search_propagates p.0 t u journal after p.1 shortens variables clauses
+    (λ keeps. omega (arith, i.only keeps, few, same, p.2)) sound i.logged in (
+      record {
+        logged = r.0;
+        order = subst (λ (n : ℕ). AreDecisions n u.entries decisions) (sym grown.same_variables)
+            (subst (λ (es : List Entry). AreDecisions t.variables es decisions) (sym grown.entries_are)
+            (decisions_grown t.variables t.entries grown.added decisions i.order));
+        unmarked = subst (λ (n : ℕ). AreNoMarks n marks) (sym grown.same_variables) i.unmarked;
+        table = table;
+        within = omega (arith, i.within, r.1, p.2);
+        counted = omega (arith, i.counted, r.1, p.2);
+        few = few;
+        room = omega (arith, i.room, same);
+        only = λ keeps. omega (arith, i.only keeps, same);
+      },
+      grown,
+      omega (arith, r.1, p.2),
+    )
