@@ -1,5 +1,5 @@
 #!/usr/bin/env python3
-"""Times `solve` on pigeons, parities, random formulas and encodings, beside `minisat`, `cadical` and `picosat` where they are
+"""Times `solve` on pigeons, chains before them, parities, random formulas and encodings, beside `minisat`, `cadical` and `picosat` where they are
 installed. The first argument is the most seconds of a run, 20 if there is none; families may be named after it."""
 import os
 import random
@@ -49,6 +49,16 @@ def parity(count):
     return text_of(fresh, clauses)
 
 
+def behind_chain(holes, length):
+    """The pigeons, behind a chain of so many variables, each of which follows from the one before."""
+    first, *rest = pigeons(holes).decode().splitlines()
+    taken, count = map(int, first.split()[2:])
+    chain = [[taken + 1]] + [[-v, v + 1] for v in range(taken + 1, taken + length)]
+    clauses = [[int(word) for word in line.split()[:-1]] for line in rest]
+    clauses = [clause + [-taken - length] if clause[0] > 0 else clause for clause in clauses]
+    return text_of(taken + length, chain + clauses)
+
+
 def threshold(count, seed):
     """Clauses of three different variables, 4.26 for each variable."""
     chance = random.Random(1000 * count + seed)
@@ -68,6 +78,7 @@ def arbiter(count):
 
 def families():
     yield "pigeons", [(f"pigeons {n}", pigeons(n)) for n in range(5, 9)]
+    yield "chains", [(f"chain {length} {n}", behind_chain(n, length)) for n, length in ((5, 5000), (6, 20000))]
     yield "parity", [(f"parity {n}", parity(n)) for n in range(9, 16)]
     yield "random", [(f"random {n} {seed}", threshold(n, seed)) for n in (50, 75, 100, 125, 150, 175, 200) for seed in range(3)]
     yield "encodings", [
@@ -89,6 +100,19 @@ def programs():
     return found
 
 
+def learnt(formula, log):
+    """How many clauses of a log were learnt: not the empty one, nor those of one literal that propagation shows, from such clauses and one more."""
+    sizes = {number: len(line.split()) - 1 for number, line in enumerate(formula.splitlines())}
+    count = -1
+    for line in log.splitlines():
+        number, *rest = map(int, line.split())
+        end = rest.index(0)
+        hints = rest[end + 1:-1]
+        sizes[number] = end
+        count += end != 1 or any(sizes[hint] != 1 for hint in hints[:-1])
+    return count
+
+
 def conflicts(name, words, text, status, seconds):
     """How many conflicts a program had. Of `solve` it is the number of learnt clauses, where it writes a log."""
     if name == "solve":
@@ -97,7 +121,7 @@ def conflicts(name, words, text, status, seconds):
         words = words + ["--log"]
     done = subprocess.run(words, input=text, capture_output=True, timeout=10 * seconds).stdout.decode()
     if name == "solve":
-        return done.split("\nlrat\n")[1].count("\n") - 1
+        return learnt(*done.split("\nlrat\n"))
     number = re.search(r"conflicts *: *(\d+)|(\d+) conflicts", done)
     return int(number.group(1) or number.group(2)) if number else None
 
