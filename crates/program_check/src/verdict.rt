@@ -46,7 +46,7 @@ pub enum Limit {
     Branches,
 }
 
-/// Why nothing is said of a program.
+/// Why nothing is said of a program, or why a question has no answer.
 #[derive(Clone, Copy, Debug, PartialEq, Eq, Error)]
 pub enum CheckError {
     /// A limit is passed.

@@ -6,10 +6,10 @@ use Rattle.tsl_terms.specs.WindowTree.{WindowTree}
 use Rattle.machines.specs.declared.rounds.Round.{Round}
 use Rattle.machines.specs.MachineView.{round_tree}
 use Rattle.machines.specs.Rounds.{RoundTree, windows_of}
+use Rattle.program_check.specs.declared.verdict.CheckError.{CheckError}
+use Rattle.program_check.specs.declared.verdict.CheckError.TheVariants.{Large, NoMemory}
 use Rattle.refinement_loop.specs.Chains.{IsRound, IsChainFrom, IsChain}
 use Rattle.refinement_loop.specs.Outcomes.{MayGoOn, IsLargeIn, HasRefineCause}
-use Rattle.refinement_loop.specs.declared.errors.AskError.{AskError}
-use Rattle.refinement_loop.specs.declared.errors.AskError.TheVariants.{Large, NoMemory}
 use Rattle.refinement_loop.specs.declared.outcome.Sizes.{Sizes}
 use Rattle.refinement_loop.specs.internal.Turns.{HasTurnCause, refused_after}
 
@@ -54,7 +54,7 @@ module _ (spec : SpecTree) (sizes : Sizes) where
       map_push (r ∷ rs) = ap (λ ts. round_tree r ∷ ts) (map_push rs)
 
   -- a refusal after these rounds
-  pub refused_cause : (rounds slice : List Round) (error : AskError) → slice ≡ rounds → IsChain spec sizes (map round_tree rounds) →
+  pub refused_cause : (rounds slice : List Round) (error : CheckError) → slice ≡ rounds → IsChain spec sizes (map round_tree rounds) →
       length rounds ≤ sizes.rounds → HasTurnCause spec sizes (windows_of (map round_tree slice)) error →
       HasRefineCause spec sizes (refused_after error rounds)
   refused_cause rounds slice (Large limit) same chain few cause = record {

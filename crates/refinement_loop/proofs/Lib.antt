@@ -12,5 +12,4 @@ pub mod EncodingSizes
 pub mod OneAnswer
 pub mod Answered
 pub mod Chaining
-pub mod GenuineEnvironments
 pub mod OneOutcome

@@ -19,6 +19,8 @@ use Rattle.machines.specs.declared.side.Side.TheVariants.{Controller, Environmen
 use Rattle.machines.specs.MachineTree.{EnvironmentTree}
 use Rattle.machines.specs.MachineView.{environment_tree, round_tree}
 use Rattle.machines.specs.Rounds.{RoundTree, windows_of}
+use Rattle.program_check.specs.declared.verdict.CheckError.{CheckError}
+use Rattle.program_check.specs.declared.verdict.CheckError.TheVariants as checks
 use Rattle.program_check.specs.declared.verdict.Limit.{Limit}
 use Rattle.program_check.specs.declared.verdict.Limit.TheVariants as limits
 use Rattle.program_check.specs.Verdicts.{HasFewBits, form_for}
@@ -38,8 +40,6 @@ use Rattle.branch_finder.specs.declared.limits.TheConstants.{MOST_BRANCHES}
 use Rattle.refinement_loop.specs.Questions.{IsAsked, IsEncodable, HasNoSolution, IsWrittenFor, IsCounterstrategy}
 use Rattle.refinement_loop.specs.Questions.{HasNoCounterstrategy}
 use Rattle.refinement_loop.specs.Chains.{IsChain}
-use Rattle.refinement_loop.specs.declared.errors.AskError.{AskError}
-use Rattle.refinement_loop.specs.declared.errors.AskError.TheVariants as asks
 use Rattle.refinement_loop.specs.declared.errors.RefineError.{RefineError}
 use Rattle.refinement_loop.specs.declared.errors.RefineError.TheVariants as refines
 use Rattle.refinement_loop.specs.declared.outcome.Sizes.{Sizes}
@@ -202,6 +202,6 @@ HasRefineCause spec sizes (refines.Large limit rounds) = IsLargeAfter spec sizes
 HasRefineCause spec sizes refines.NoMemory = ⊤
 
 -- why the question for a controller has no answer
-abbrev pub HasAskCause : SpecTree → List WindowTree → ℕ → ℕ → AskError → Type 0
-HasAskCause spec windows states bound (asks.Large limit) = IsLargeFor spec windows states bound limit
-HasAskCause spec windows states bound asks.NoMemory = ⊤
+abbrev pub HasAskCause : SpecTree → List WindowTree → ℕ → ℕ → CheckError → Type 0
+HasAskCause spec windows states bound (checks.Large limit) = IsLargeFor spec windows states bound limit
+HasAskCause spec windows states bound checks.NoMemory = ⊤

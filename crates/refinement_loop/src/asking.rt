@@ -13,14 +13,14 @@ ghost use Rattle.refinement_loop.specs.Questions.{IsAsked};
 ghost use Rattle.refinement_loop.specs.Outcomes.{AreInRange, HasAskCause};
 ghost use Rattle.refinement_loop.specs.internal.Turns.{HasFurtherCause};
 
-use crate::errors::AskError;
+use crate::errors::{refused_dual, refused_encoding};
 use crate::outcome::{Asked, Sizes};
 use bounded_encoding::{Found, find_controller};
 use cobuchi_automata::Automaton;
 use counterstrategy::{FoundDual, find_environment};
 use letter_space::{Space, space_of};
 use machines::Side;
-use program_check::automaton_for;
+use program_check::{CheckError, automaton_for};
 use std::alloc::Global;
 use tsl_terms::{Spec, Window};
 
@@ -33,7 +33,7 @@ pub fn ask(
     states: u32,
     bound: u32,
     budget: u64,
-) -> Result<Asked, AskError>
+) -> Result<Asked, CheckError>
     requires has_state { 1 ≤ states }
     requires few_states { states ≤ 8 }
     requires has_budget { 1 ≤ budget }
@@ -76,7 +76,7 @@ pub(crate) fn controller_answer(
     states: u32,
     bound: u32,
     budget: u64,
-) -> Result<ControllerAnswer, AskError>
+) -> Result<ControllerAnswer, CheckError>
     requires space { space_tree space.now ≡ spec_space (spec_tree spec.now) }
     requires has_state { 1 ≤ states }
     requires few_states { states ≤ 8 }
@@ -88,8 +88,10 @@ pub(crate) fn controller_answer(
     ensures cause { IfErr result (HasAskCause (spec_tree spec.now) (map window_tree windows.now) states bound) }
 {
     let automaton = automaton_for(alloc, Side::Controller, spec, windows, space)?;
-    let found = find_controller(alloc, &automaton, space, states, bound, budget)?;
-    Ok(ControllerAnswer { automaton, found })
+    match find_controller(alloc, &automaton, space, states, bound, budget) {
+        Ok(found) => Ok(ControllerAnswer { automaton, found }),
+        Err(cause) => Err(refused_encoding(cause)),
+    }
 }
 
 /// The automaton of the question for an environment, and the answer to it.
@@ -106,7 +108,7 @@ pub(crate) fn environment_answer(
     space: &Space,
     windows: &[Window],
     sizes: &Sizes,
-) -> Result<EnvironmentAnswer, AskError>
+) -> Result<EnvironmentAnswer, CheckError>
     requires space { space_tree space.now ≡ spec_space (spec_tree spec.now) }
     requires in_range { AreInRange sizes.now }
     ensures asked { IfOk result (λ a. IsAsked Side.Environment (spec_tree spec.now) (map window_tree windows.now)
@@ -116,13 +118,15 @@ pub(crate) fn environment_answer(
     ensures cause { IfErr result (HasFurtherCause (spec_tree spec.now) sizes.now (map window_tree windows.now)) }
 {
     let automaton = automaton_for(alloc, Side::Environment, spec, windows, space)?;
-    let found = find_environment(
+    match find_environment(
         alloc,
         &automaton,
         space,
         sizes.env_states,
         sizes.env_bound,
         sizes.budget,
-    )?;
-    Ok(EnvironmentAnswer { automaton, found })
+    ) {
+        Ok(found) => Ok(EnvironmentAnswer { automaton, found }),
+        Err(cause) => Err(refused_dual(cause)),
+    }
 }

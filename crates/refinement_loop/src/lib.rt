@@ -23,7 +23,7 @@ mod refining;
 mod turning;
 
 pub use asking::ask;
-pub use errors::{AskError, RefineError};
+pub use errors::RefineError;
 pub use laws::{limits_leave_no_outcome, written_or_none};
 pub use outcome::{Asked, Outcome, Reason, Sizes};
 pub use refining::refine;

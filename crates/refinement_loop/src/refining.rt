@@ -13,11 +13,12 @@ ghost use Rattle.refinement_loop.specs.declared.outcome.Sizes.{Sizes};
 ghost use Rattle.refinement_loop.specs.Outcomes.{AreInRange, IsOutcome, IfWritten, HasRefineCause};
 ghost use Rattle.refinement_loop.specs.internal.Turns.{refused_after};
 
-use crate::errors::{AskError, RefineError};
+use crate::errors::RefineError;
 use crate::outcome::{Outcome, Sizes};
 use crate::turning::{Turn, next_turn};
 use letter_space::{Space, space_of};
 use machines::Round;
+use program_check::CheckError;
 use sequence::Sequence;
 use std::alloc::Global;
 use tsl_terms::Spec;
@@ -76,16 +77,16 @@ fn bits_of(alloc: Global, spec: &Spec) -> Result<Space, RefineError>
 {
     match space_of(alloc, spec) {
         Ok(space) => Ok(space),
-        Err(cause) => Err(refused(AskError::from(cause), Vec::new(alloc))),
+        Err(cause) => Err(refused(CheckError::from(cause), Vec::new(alloc))),
     }
 }
 
 /// A refusal after these rounds.
-fn refused(error: AskError, rounds: Vec<Round>) -> RefineError
+fn refused(error: CheckError, rounds: Vec<Round>) -> RefineError
     ensures { result ≡ refused_after error rounds.items }
 {
     match error {
-        AskError::Large(limit) => RefineError::Large(limit, Sequence::from_vec(rounds)),
-        AskError::NoMemory => RefineError::NoMemory,
+        CheckError::Large(limit) => RefineError::Large(limit, Sequence::from_vec(rounds)),
+        CheckError::NoMemory => RefineError::NoMemory,
     }
 }

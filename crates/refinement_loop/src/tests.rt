@@ -3,7 +3,7 @@
 ghost use Rattle.std.specs.Prelude.{IsTrue};
 ghost use Rattle.refinement_loop.specs.Outcomes.{AreInRange};
 
-use crate::{AskError, Outcome, Reason, RefineError, Sizes, ask, refine};
+use crate::{Outcome, Reason, RefineError, Sizes, ask, refine};
 use bounded_encoding::Found;
 use flow_program::Program;
 use program_check::{CheckError, Verdict, accept};
@@ -241,8 +241,8 @@ fn the_question_is_asked_alone(rt: HostRuntime) -> Result<(), Fail> {
             assert!(rt; matches!(asked.found, Found::None(_, _)));
             assert!(rt; asked.space.predicates.len() == 2);
         }
-        Err(AskError::Large(_)) => return Err("a limit is passed".into()),
-        Err(AskError::NoMemory) => return Err("memory ran out".into()),
+        Err(CheckError::Large(_)) => return Err("a limit is passed".into()),
+        Err(CheckError::NoMemory) => return Err("memory ran out".into()),
     }
     Ok(())
 }

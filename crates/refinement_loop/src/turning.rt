@@ -19,7 +19,7 @@ ghost use Rattle.refinement_loop.specs.Outcomes.{AreInRange, GoesOn};
 ghost use Rattle.refinement_loop.specs.internal.Turns.{IsTurn, HasTurnCause};
 
 use crate::asking::{ControllerAnswer, EnvironmentAnswer, controller_answer, environment_answer};
-use crate::errors::AskError;
+use crate::errors::refused_branches;
 use crate::outcome::{Reason, Sizes};
 use bounded_encoding::Found;
 use branch_finder::find_window;
@@ -30,6 +30,7 @@ use counterstrategy::FoundDual;
 use flow_program::Program;
 use letter_space::Space;
 use machines::{Controller, Environment, Round, Side};
+use program_check::CheckError;
 use sequence::{NoMemory, Sequence};
 use std::alloc::Global;
 use tsl_terms::{Spec, Window, copy_window, signals};
@@ -59,7 +60,7 @@ pub(crate) fn next_turn(
     space: &Space,
     sizes: &Sizes,
     rounds: &[Round],
-) -> Result<Turn, AskError>
+) -> Result<Turn, CheckError>
     requires space { space_tree space.now ≡ spec_space (spec_tree spec.now) }
     requires in_range { AreInRange sizes.now }
     requires chain { IsChain (spec_tree spec.now) sizes.now (map round_tree rounds.now) }
@@ -105,7 +106,7 @@ fn environment_turn(
     space: &Space,
     sizes: &Sizes,
     windows: &[Window],
-) -> Result<Turn, AskError>
+) -> Result<Turn, CheckError>
     requires space { space_tree space.now ≡ spec_space (spec_tree spec.now) }
     requires in_range { AreInRange sizes.now }
     requires goes_on { GoesOn (spec_tree spec.now) sizes.now (map window_tree windows.now) }
@@ -137,7 +138,7 @@ fn window_turn(
     sizes: &Sizes,
     windows: &[Window],
     environment: Environment,
-) -> Result<Turn, AskError>
+) -> Result<Turn, CheckError>
     requires space { space_tree space.now ≡ spec_space (spec_tree spec.now) }
     requires in_range { AreInRange sizes.now }
     requires goes_on { GoesOn (spec_tree spec.now) sizes.now (map window_tree windows.now) }
@@ -148,12 +149,13 @@ fn window_turn(
 {
     let lists = signals(alloc, spec)?;
     let cells = lists.cells.as_slice();
-    match find_window(alloc, &environment, space, cells, sizes.depth)? {
-        Some(window) => Ok(Turn::Further(Round {
+    match find_window(alloc, &environment, space, cells, sizes.depth) {
+        Ok(Some(window)) => Ok(Turn::Further(Round {
             environment,
             window,
         })),
-        None => Ok(Turn::None(Reason::Genuine(environment))),
+        Ok(None) => Ok(Turn::None(Reason::Genuine(environment))),
+        Err(cause) => Err(refused_branches(cause)),
     }
 }
 

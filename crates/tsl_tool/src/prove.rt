@@ -22,7 +22,8 @@ use bounded_encoding::Found;
 use clause_core::Cnf;
 use command_words::ProveSizes;
 use machines::Side;
-use refinement_loop::{AskError, Asked, ask};
+use program_check::CheckError;
+use refinement_loop::{Asked, ask};
 use refutation_check::Log;
 use refutation_text::put_refutation;
 use sequence::NoMemory;
@@ -56,8 +57,8 @@ fn reply_to_question(alloc: Global, sizes: &ProveSizes, spec: &Spec) -> Result<R
 {
     match ask(alloc, spec, sizes.states, sizes.bound, sizes.budget) {
         Ok(asked) => reply_to_answer(alloc, sizes, spec, &asked),
-        Err(AskError::Large(limit)) => Reply::at_fault(alloc, &fault_of_limit(limit)),
-        Err(AskError::NoMemory) => Err(NoMemory),
+        Err(CheckError::Large(limit)) => Reply::at_fault(alloc, &fault_of_limit(limit)),
+        Err(CheckError::NoMemory) => Err(NoMemory),
     }
 }
 

@@ -6,11 +6,11 @@ use Rattle.flow_program.specs.ProgramView.{program_tree}
 use Rattle.cobuchi_automata.specs.Edges.{edge_trees}
 use Rattle.machines.specs.declared.rounds.Round.{Round}
 use Rattle.machines.specs.MachineView.{round_tree}
+use Rattle.program_check.specs.declared.verdict.CheckError.{CheckError}
+use Rattle.program_check.specs.declared.verdict.CheckError.TheVariants.{Large, NoMemory}
 use Rattle.refinement_loop.specs.Questions.{HasNoSolution, IsWrittenFor}
 use Rattle.refinement_loop.specs.Chains.{IsRound}
 use Rattle.refinement_loop.specs.Outcomes.{MayGoOn, HasReason, IsSpentIn, IsLargeFurther, IsLargeIn}
-use Rattle.refinement_loop.specs.declared.errors.AskError.{AskError}
-use Rattle.refinement_loop.specs.declared.errors.AskError.TheVariants.{Large, NoMemory}
 use Rattle.refinement_loop.specs.declared.errors.RefineError.{RefineError}
 use Rattle.refinement_loop.specs.declared.errors.RefineError.TheVariants as refines
 use Rattle.refinement_loop.specs.declared.outcome.Sizes.{Sizes}
@@ -27,16 +27,16 @@ IsTurn spec sizes windows (Spent side automaton clauses) =
 IsTurn spec sizes windows (Further round) = MayGoOn sizes windows × IsRound spec sizes windows (round_tree round)
 
 -- why a question of a further round has no answer
-abbrev pub HasFurtherCause : SpecTree → Sizes → List WindowTree → AskError → Type 0
+abbrev pub HasFurtherCause : SpecTree → Sizes → List WindowTree → CheckError → Type 0
 HasFurtherCause spec sizes windows (Large limit) = IsLargeFurther spec sizes windows limit
 HasFurtherCause spec sizes windows NoMemory = ⊤
 
 -- why a turn leads to nothing
-abbrev pub HasTurnCause : SpecTree → Sizes → List WindowTree → AskError → Type 0
+abbrev pub HasTurnCause : SpecTree → Sizes → List WindowTree → CheckError → Type 0
 HasTurnCause spec sizes windows (Large limit) = IsLargeIn spec sizes windows limit
 HasTurnCause spec sizes windows NoMemory = ⊤
 
 -- a refusal after these rounds
-abbrev pub refused_after : AskError → List Round → RefineError
+abbrev pub refused_after : CheckError → List Round → RefineError
 refused_after (Large limit) rounds = refines.Large limit rounds
 refused_after NoMemory rounds = refines.NoMemory

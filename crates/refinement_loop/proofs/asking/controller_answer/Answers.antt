@@ -1,16 +1,14 @@
-use Rattle.std.specs.Prelude.{map}
-use Rattle.sequence.proofs.Results.{handed_on}
+use Rattle.std.proofs.Common.{map, sym, subst}
 use Rattle.tsl_terms.specs.SpecView.{spec_tree}
 use Rattle.tsl_terms.specs.WindowTree.{window_tree}
 use Rattle.machines.specs.declared.side.Side.TheVariants.{Controller}
 use Rattle.bounded_encoding.specs.QuestionView.{question_of}
 use Rattle.refinement_loop.specs.Outcomes.{HasAskCause}
-use Rattle.refinement_loop.specs.Refusals.{refused_encoding}
 use Rattle.refinement_loop.proofs.Answered.{asked_of, refused_question}
 use Rattle.refinement_loop.proofs.asking.controller_answer.Goals as goal
 
-pub returns-in_err-found-clause-cause : goal.returns-in_err-found-clause-cause
-returns-in_err-found-clause-cause c =
+pub returns-in-Err-clause-cause : goal.returns-in-Err-clause-cause
+returns-in-Err-clause-cause c =
     let spec = spec_tree c.args.spec.now in
     let windows = map window_tree c.args.windows.now in
     let space = c.args.space.now in
@@ -18,7 +16,6 @@ returns-in_err-found-clause-cause c =
     let made = c.in_ok-automaton.ensures in
     let asked = asked_of Controller spec windows space automaton c.args.states c.args.bound c.requires.space made.automaton made.few_states
     made.few_edges in
-    handed_on c.from_residual-in_err-found.result (refused_encoding c.in_err-found.field-0.0)
-    (HasAskCause spec windows c.args.states c.args.bound) c.from_residual-in_err-found.ensures.1
+    subst (HasAskCause spec windows c.args.states c.args.bound) (sym c.refused_encoding.ensures)
     (refused_question spec windows c.args.states c.args.bound (question_of automaton space c.args.states c.args.bound) asked
-    c.in_err-found.field-0.0 c.in_err-found.ensures.refused)
+    c.in-Err.cause c.in-Err.ensures.refused)
