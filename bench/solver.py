@@ -1,6 +1,7 @@
 #!/usr/bin/env python3
-"""Times `solve` on pigeons, chains before them, parities, random formulas and encodings, beside `minisat`, `cadical` and `picosat` where they are
-installed. The first argument is the most seconds of a run, 20 if there is none; families may be named after it."""
+"""Times `solve` on pigeons, parities, random formulas and encodings, beside `minisat`, `cadical` and `picosat` where they are
+installed. The first argument is the most seconds of a run, 20 if there is none; families may be named after it, and then `chains` too: pigeons behind a chain of
+variables, for what is true at level 0."""
 import os
 import random
 import re
@@ -14,6 +15,7 @@ import plain
 from measuring import SOLVER, built
 
 LEAST = 0.005
+STANDARD = ("pigeons", "parity", "random", "encodings")
 
 
 def text_of(variables, clauses):
@@ -155,7 +157,7 @@ def main():
     print(f"{'formula':20} " + " ".join(f"{'seconds':>9} {'conflicts':>9} {'KiB':>8}" for _ in tools))
     with built(SOLVER, "./solve < examples/stairs.cnf") as folder:
         for family, formulas in families():
-            if wanted and family not in wanted:
+            if family not in (wanted or STANDARD):
                 continue
             for name, text in formulas:
                 runs, answers = {}, set()
