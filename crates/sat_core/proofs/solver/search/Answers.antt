@@ -6,17 +6,37 @@ use Rattle.sat_core.specs.internal.Ends.{IsEnd, IsSearchAnswer}
 use Rattle.clause_core.specs.Propagation.{IsQuiet}
 use Rattle.refutation_check.specs.declared.steps.Step.{Step}
 use Rattle.sat_trail.specs.Entries.{literals_of}
-use Rattle.sat_trail.specs.States.{TrailState, EndsWith}
+use Rattle.sat_trail.specs.States.{TrailState, IsSound, EndsWith}
 use Rattle.sat_trail.proofs.Soundness.{length_entries}
 use Rattle.sat_core.specs.declared.journal.Journal.{Journal}
 use Rattle.sat_core.specs.internal.Decisions.{AreSet, AreDecisions, AreVariableTruths, HasDecided, Decides}
 use Rattle.sat_core.specs.internal.ConflictWalks.{AreNoMarks}
 use Rattle.sat_core.specs.internal.Shelves.{log_hints, AreFirst}
-use Rattle.sat_core.specs.internal.Lessons.{learnt_step}
-use Rattle.sat_core.proofs.Searching.{search_begins, search_decided, search_learnt, search_stays}
+use Rattle.sat_core.specs.internal.Lessons.{learnt_step, HasLearnt}
+use Rattle.sat_core.proofs.Searching.{IsSearch, search_begins, search_decided, search_learnt, search_stays}
 use Rattle.sat_core.proofs.Searching.{search_satisfied, search_refuted, search_ended, decided_longer, less_unset, less_budget}
-use Rattle.sat_core.proofs.SearchNotes.{searching_propagated}
+use Rattle.sat_core.proofs.SearchNotes.{IsSearching, searching_propagated}
 use Rattle.sat_core.proofs.solver.search.Goals as goal
+use Rattle.sat_core.proofs.solver.search.Goals.{After-level, After-learn}
+
+-- what holds of the search where a conflict was found
+conflicted : (c : After-level) → IsSearching c.args.shortens c.args.cnf.now.variables c.args.cnf.now.clauses c.args.budget
+    c.propagate.new.trail c.propagate.new.journal c.propagate.new.units c.loop-units.decisions c.loop-units.walk.marks
+conflicted c =
+    let e = c.in_ok-conflict.ensures in
+    (searching_propagated c.loop-units.invariant.searching e.propagated e.units e.added e.most e.sound).0
+
+-- and where a clause was learnt from it
+taught : (c : After-learn) →
+    HasLearnt c.is_due-anew.result c.propagate.new.trail c.propagate.new.journal c.learn.new.trail c.learn.new.journal →
+    IsSound c.learn.new.trail → IsSearch c.args.shortens c.args.cnf.now.variables c.args.cnf.now.clauses c.learn.new.trail
+    c.learn.new.journal.steps.items c.learn.new.journal.shelf.numbers.items
+taught c learnt sound =
+    let e = c.in_ok-conflict.ensures in
+    let p = searching_propagated c.loop-units.invariant.searching e.propagated e.units e.added e.most e.sound in
+    let above : 0 < c.propagate.new.trail.level = omega (arith, c.level.ensures.value, c.if-level-eq0.false) in
+    search_learnt c.args.shortens c.args.cnf.now.variables c.args.cnf.now.clauses c.is_due-anew.result c.propagate.new.trail
+    c.learn.new.trail c.propagate.new.journal c.learn.new.journal p.0.logged.search p.0.logged.next learnt sound above
 
 pub loop-units-init : goal.loop-units-init
 loop-units-init c =
@@ -161,219 +181,116 @@ level-requires c =
     p.0.logged.search.usable
 
 pub refute-requires-clause-usable : goal.refute-requires-clause-usable
-refute-requires-clause-usable c =
-    let e = c.in_ok-conflict.ensures in
-    let p = searching_propagated c.loop-units.invariant.searching e.propagated e.units e.added e.most e.sound in
-    p.0.logged.search.usable
+refute-requires-clause-usable c = (conflicted (goal.at.refute-requires-clause-usable c).After-level).logged.search.usable
 
 pub end-requires-clause-usable : goal.end-requires-clause-usable
-end-requires-clause-usable c =
-    let e = c.in_ok-conflict.ensures in
-    let p = searching_propagated c.loop-units.invariant.searching e.propagated e.units e.added e.most e.sound in
-    p.0.logged.search.usable
+end-requires-clause-usable c = (conflicted (goal.at.end-requires-clause-usable c).After-level).logged.search.usable
 
 pub learn-requires-clause-usable : goal.learn-requires-clause-usable
-learn-requires-clause-usable c =
-    let e = c.in_ok-conflict.ensures in
-    let p = searching_propagated c.loop-units.invariant.searching e.propagated e.units e.added e.most e.sound in
-    p.0.logged.search.usable
+learn-requires-clause-usable c = (conflicted (goal.at.learn-requires-clause-usable c).After-level).logged.search.usable
 
 pub refute-requires-clause-marks : goal.refute-requires-clause-marks
-refute-requires-clause-marks c =
-    let e = c.in_ok-conflict.ensures in
-    let p = searching_propagated c.loop-units.invariant.searching e.propagated e.units e.added e.most e.sound in
-    p.0.unmarked
+refute-requires-clause-marks c = (conflicted (goal.at.refute-requires-clause-marks c).After-level).unmarked
 
 pub refute-requires-clause-next : goal.refute-requires-clause-next
 refute-requires-clause-next c =
-    let e = c.in_ok-conflict.ensures in
-    let p = searching_propagated c.loop-units.invariant.searching e.propagated e.units e.added e.most e.sound in
-    omega (arith, p.0.logged.next, p.0.within, p.0.few, p.0.room)
+    let p = conflicted (goal.at.refute-requires-clause-next c).After-level in
+    omega (arith, p.logged.next, p.within, p.few, p.room)
 
 pub refute-requires-clause-numbers : goal.refute-requires-clause-numbers
-refute-requires-clause-numbers c =
-    let e = c.in_ok-conflict.ensures in
-    let p = searching_propagated c.loop-units.invariant.searching e.propagated e.units e.added e.most e.sound in
-    p.0.logged.search.named.one_each
+refute-requires-clause-numbers c = (conflicted (goal.at.refute-requires-clause-numbers c).After-level).logged.search.named.one_each
 
 pub refute-requires-clause-uses : goal.refute-requires-clause-uses
-refute-requires-clause-uses c =
-    let e = c.in_ok-conflict.ensures in
-    let p = searching_propagated c.loop-units.invariant.searching e.propagated e.units e.added e.most e.sound in
-    p.0.logged.uses
+refute-requires-clause-uses c = (conflicted (goal.at.refute-requires-clause-uses c).After-level).logged.uses
 
 pub end-requires-clause-marks : goal.end-requires-clause-marks
-end-requires-clause-marks c =
-    let e = c.in_ok-conflict.ensures in
-    let p = searching_propagated c.loop-units.invariant.searching e.propagated e.units e.added e.most e.sound in
-    p.0.unmarked
+end-requires-clause-marks c = (conflicted (goal.at.end-requires-clause-marks c).After-level).unmarked
 
 pub end-requires-clause-next : goal.end-requires-clause-next
 end-requires-clause-next c =
-    let e = c.in_ok-conflict.ensures in
-    let p = searching_propagated c.loop-units.invariant.searching e.propagated e.units e.added e.most e.sound in
-    omega (arith, p.0.logged.next, p.0.within, p.0.few, p.0.room)
+    let p = conflicted (goal.at.end-requires-clause-next c).After-level in
+    omega (arith, p.logged.next, p.within, p.few, p.room)
 
 pub end-requires-clause-numbers : goal.end-requires-clause-numbers
-end-requires-clause-numbers c =
-    let e = c.in_ok-conflict.ensures in
-    let p = searching_propagated c.loop-units.invariant.searching e.propagated e.units e.added e.most e.sound in
-    p.0.logged.search.named.one_each
+end-requires-clause-numbers c = (conflicted (goal.at.end-requires-clause-numbers c).After-level).logged.search.named.one_each
 
 pub end-requires-clause-uses : goal.end-requires-clause-uses
-end-requires-clause-uses c =
-    let e = c.in_ok-conflict.ensures in
-    let p = searching_propagated c.loop-units.invariant.searching e.propagated e.units e.added e.most e.sound in
-    p.0.logged.uses
+end-requires-clause-uses c = (conflicted (goal.at.end-requires-clause-uses c).After-level).logged.uses
 
 pub learn-requires-clause-marks : goal.learn-requires-clause-marks
-learn-requires-clause-marks c =
-    let e = c.in_ok-conflict.ensures in
-    let p = searching_propagated c.loop-units.invariant.searching e.propagated e.units e.added e.most e.sound in
-    p.0.unmarked
+learn-requires-clause-marks c = (conflicted (goal.at.learn-requires-clause-marks c).After-level).unmarked
 
 pub learn-requires-clause-next : goal.learn-requires-clause-next
 learn-requires-clause-next c =
-    let e = c.in_ok-conflict.ensures in
-    let p = searching_propagated c.loop-units.invariant.searching e.propagated e.units e.added e.most e.sound in
-    omega (arith, p.0.logged.next, p.0.within, p.0.few, p.0.room)
+    let p = conflicted (goal.at.learn-requires-clause-next c).After-level in
+    omega (arith, p.logged.next, p.within, p.few, p.room)
 
 pub learn-requires-clause-numbers : goal.learn-requires-clause-numbers
-learn-requires-clause-numbers c =
-    let e = c.in_ok-conflict.ensures in
-    let p = searching_propagated c.loop-units.invariant.searching e.propagated e.units e.added e.most e.sound in
-    p.0.logged.search.named.one_each
+learn-requires-clause-numbers c = (conflicted (goal.at.learn-requires-clause-numbers c).After-level).logged.search.named.one_each
 
 pub learn-requires-clause-uses : goal.learn-requires-clause-uses
-learn-requires-clause-uses c =
-    let e = c.in_ok-conflict.ensures in
-    let p = searching_propagated c.loop-units.invariant.searching e.propagated e.units e.added e.most e.sound in
-    p.0.logged.uses
+learn-requires-clause-uses c = (conflicted (goal.at.learn-requires-clause-uses c).After-level).logged.uses
 
 pub returns-then-level-eq0 : goal.returns-then-level-eq0
 returns-then-level-eq0 c =
-    let e = c.in_ok-conflict.ensures in
-    let p = searching_propagated c.loop-units.invariant.searching e.propagated e.units e.added e.most e.sound in
+    let p = conflicted (goal.at.returns-then-level-eq0 c).After-level in
     let cnf = c.args.cnf.now in
     search_refuted c.args.shortens cnf.variables cnf.clauses c.propagate.new.trail c.propagate.new.journal c.in_ok-log.log
-    p.0.logged.search p.0.logged.next c.in_ok-log.ensures
+    p.logged.search p.logged.next c.in_ok-log.ensures
 
 pub overflow_sub-learnt : goal.overflow_sub-learnt
-overflow_sub-learnt c =
-    let e = c.in_ok-conflict.ensures in
-    let p = searching_propagated c.loop-units.invariant.searching e.propagated e.units e.added e.most e.sound in
-    omega (arith, p.0.counted, c.len-in-loop-units.ensures)
+overflow_sub-learnt c = omega (arith, (conflicted (goal.at.overflow_sub-learnt c).After-level).counted, c.len-in-loop-units.ensures)
 
 pub returns-then-learnt-budget : goal.returns-then-learnt-budget
 returns-then-learnt-budget c =
-    let e = c.in_ok-conflict.ensures in
-    let p = searching_propagated c.loop-units.invariant.searching e.propagated e.units e.added e.most e.sound in
+    let p = conflicted (goal.at.returns-then-learnt-budget c).After-level in
     let cnf = c.args.cnf.now in
     let u = c.propagate.new.trail in
     let journal = c.propagate.new.journal in
     IfOk-weaker c.end.result (IsEnd u.clauses journal) (IsSearchAnswer c.args.shortens cnf.variables cnf.clauses c.args.budget)
-    (search_ended c.args.shortens cnf.variables cnf.clauses u journal c.args.budget p.0.logged.search p.0.logged.next
-    (λ keeps. omega (arith, p.0.only keeps, p.0.few, p.0.counted, c.len-in-loop-units.ensures, c.if-learnt-budget.true)))
+    (search_ended c.args.shortens cnf.variables cnf.clauses u journal c.args.budget p.logged.search p.logged.next
+    (λ keeps. omega (arith, p.only keeps, p.few, p.counted, c.len-in-loop-units.ensures, c.if-learnt-budget.true)))
     c.end.ensures
 
 pub is_due-anew-requires : goal.is_due-anew-requires
 is_due-anew-requires c =
-    let e = c.in_ok-conflict.ensures in
-    let p = searching_propagated c.loop-units.invariant.searching e.propagated e.units e.added e.most e.sound in
-    omega (arith, p.0.within, p.0.room, c.len-in-loop-units.ensures)
+    let p = conflicted (goal.at.is_due-anew-requires c).After-level in
+    omega (arith, p.within, p.room, c.len-in-loop-units.ensures)
 
 pub learn-requires-clause-quiet : goal.learn-requires-clause-quiet
-learn-requires-clause-quiet c =
-    let e = c.in_ok-conflict.ensures in
-    let p = searching_propagated c.loop-units.invariant.searching e.propagated e.units e.added e.most e.sound in
-    p.0.logged.search.quiet
+learn-requires-clause-quiet c = (conflicted (goal.at.learn-requires-clause-quiet c).After-level).logged.search.quiet
 
 pub learn-requires-clause-few : goal.learn-requires-clause-few
 learn-requires-clause-few c =
-    let e = c.in_ok-conflict.ensures in
-    let p = searching_propagated c.loop-units.invariant.searching e.propagated e.units e.added e.most e.sound in
-    omega (arith, p.0.logged.search.fewer, p.0.within, p.0.few, p.0.room)
+    let p = conflicted (goal.at.learn-requires-clause-few c).After-level in
+    omega (arith, p.logged.search.fewer, p.within, p.few, p.room)
 
 pub learn-requires-clause-decisions : goal.learn-requires-clause-decisions
-learn-requires-clause-decisions c =
-    let e = c.in_ok-conflict.ensures in
-    let p = searching_propagated c.loop-units.invariant.searching e.propagated e.units e.added e.most e.sound in
-    p.0.order
+learn-requires-clause-decisions c = (conflicted (goal.at.learn-requires-clause-decisions c).After-level).order
 
 pub shortened-requires-clause-usable : goal.shortened-requires-clause-usable
 shortened-requires-clause-usable c =
-    let e = c.in_ok-conflict.ensures in
-    let p = searching_propagated c.loop-units.invariant.searching e.propagated e.units e.added e.most e.sound in
-    let cnf = c.args.cnf.now in
-    let u = c.propagate.new.trail in
-    let w = c.learn.new.trail in
-    let journal = c.propagate.new.journal in
-    let middle = c.learn.new.journal in
-    let learnt = c.in_ok-learn.ensures.learnt in
-    let above : 0 < u.level = omega (arith, c.level.ensures.value, c.if-level-eq0.false) in
-    let more = search_learnt c.args.shortens cnf.variables cnf.clauses c.is_due-anew.result u w journal middle p.0.logged.search
-    p.0.logged.next learnt c.in_ok-learn.ensures.sound above in
-    more.usable
+    (taught (goal.at.shortened-requires-clause-usable c).After-learn c.in_ok-learn.ensures.learnt c.in_ok-learn.ensures.sound).usable
 
 pub shortened-requires-clause-variables : goal.shortened-requires-clause-variables
 shortened-requires-clause-variables c =
-    let e = c.in_ok-conflict.ensures in
-    let p = searching_propagated c.loop-units.invariant.searching e.propagated e.units e.added e.most e.sound in
-    let cnf = c.args.cnf.now in
-    let u = c.propagate.new.trail in
-    let w = c.learn.new.trail in
-    let journal = c.propagate.new.journal in
-    let middle = c.learn.new.journal in
-    let learnt = c.in_ok-learn.ensures.learnt in
-    let above : 0 < u.level = omega (arith, c.level.ensures.value, c.if-level-eq0.false) in
-    let more = search_learnt c.args.shortens cnf.variables cnf.clauses c.is_due-anew.result u w journal middle p.0.logged.search
-    p.0.logged.next learnt c.in_ok-learn.ensures.sound above in
-    sym more.same_variables
+    sym (taught (goal.at.shortened-requires-clause-variables c).After-learn
+    c.in_ok-learn.ensures.learnt c.in_ok-learn.ensures.sound).same_variables
 
 pub shortened-requires-clause-formula : goal.shortened-requires-clause-formula
 shortened-requires-clause-formula c =
-    let e = c.in_ok-conflict.ensures in
-    let p = searching_propagated c.loop-units.invariant.searching e.propagated e.units e.added e.most e.sound in
-    let cnf = c.args.cnf.now in
-    let u = c.propagate.new.trail in
-    let w = c.learn.new.trail in
-    let journal = c.propagate.new.journal in
-    let middle = c.learn.new.journal in
-    let learnt = c.in_ok-learn.ensures.learnt in
-    let above : 0 < u.level = omega (arith, c.level.ensures.value, c.if-level-eq0.false) in
-    let more = search_learnt c.args.shortens cnf.variables cnf.clauses c.is_due-anew.result u w journal middle p.0.logged.search
-    p.0.logged.next learnt c.in_ok-learn.ensures.sound above in
-    omega (arith, ap (λ (cs : List (List Lit)). length cs) more.stands, length-append cnf.clauses more.others)
+    let more = taught (goal.at.shortened-requires-clause-formula c).After-learn c.in_ok-learn.ensures.learnt c.in_ok-learn.ensures.sound in
+    omega (arith, ap (λ (cs : List (List Lit)). length cs) more.stands, length-append c.args.cnf.now.clauses more.others)
 
 pub shortened-requires-clause-numbers : goal.shortened-requires-clause-numbers
 shortened-requires-clause-numbers c =
-    let e = c.in_ok-conflict.ensures in
-    let p = searching_propagated c.loop-units.invariant.searching e.propagated e.units e.added e.most e.sound in
-    let cnf = c.args.cnf.now in
-    let u = c.propagate.new.trail in
-    let w = c.learn.new.trail in
-    let journal = c.propagate.new.journal in
-    let middle = c.learn.new.journal in
-    let learnt = c.in_ok-learn.ensures.learnt in
-    let above : 0 < u.level = omega (arith, c.level.ensures.value, c.if-level-eq0.false) in
-    let more = search_learnt c.args.shortens cnf.variables cnf.clauses c.is_due-anew.result u w journal middle p.0.logged.search
-    p.0.logged.next learnt c.in_ok-learn.ensures.sound above in
-    more.named.one_each
+    (taught (goal.at.shortened-requires-clause-numbers c).After-learn
+    c.in_ok-learn.ensures.learnt c.in_ok-learn.ensures.sound).named.one_each
 
 pub shortened-requires-clause-uses : goal.shortened-requires-clause-uses
 shortened-requires-clause-uses c =
-    let e = c.in_ok-conflict.ensures in
-    let p = searching_propagated c.loop-units.invariant.searching e.propagated e.units e.added e.most e.sound in
-    let cnf = c.args.cnf.now in
-    let u = c.propagate.new.trail in
-    let w = c.learn.new.trail in
-    let journal = c.propagate.new.journal in
-    let middle = c.learn.new.journal in
-    let learnt = c.in_ok-learn.ensures.learnt in
-    let above : 0 < u.level = omega (arith, c.level.ensures.value, c.if-level-eq0.false) in
-    let more = search_learnt c.args.shortens cnf.variables cnf.clauses c.is_due-anew.result u w journal middle p.0.logged.search
-    p.0.logged.next learnt c.in_ok-learn.ensures.sound above in
-    learnt.one_use_each ∙ more.named.one_each
+    c.in_ok-learn.ensures.learnt.one_use_each ∙ (taught (goal.at.shortened-requires-clause-uses c).After-learn
+    c.in_ok-learn.ensures.learnt c.in_ok-learn.ensures.sound).named.one_each
 
 pub loop-units-smaller : goal.loop-units-smaller
 loop-units-smaller c =
@@ -408,14 +325,11 @@ loop-units-preserved c =
     let e = c.in_ok-conflict.ensures in
     let p = searching_propagated c.loop-units.invariant.searching e.propagated e.units e.added e.most e.sound in
     let cnf = c.args.cnf.now in
-    let u = c.propagate.new.trail in
     let w = c.learn.new.trail in
     let journal = c.propagate.new.journal in
     let middle = c.learn.new.journal in
     let learnt = c.in_ok-learn.ensures.learnt in
-    let above : 0 < u.level = omega (arith, c.level.ensures.value, c.if-level-eq0.false) in
-    let more = search_learnt c.args.shortens cnf.variables cnf.clauses c.is_due-anew.result u w journal middle p.0.logged.search
-    p.0.logged.next learnt c.in_ok-learn.ensures.sound above in
+    let more = taught (goal.at.loop-units-preserved c).After-learn c.in_ok-learn.ensures.learnt c.in_ok-learn.ensures.sound in
     let after = c.shortened.new.journal in
     let count : length after.steps.items ≡ length journal.steps.items + 1 = omega (
       arith,
