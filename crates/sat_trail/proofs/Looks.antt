@@ -1,7 +1,7 @@
 -- What a look at the next clause keeps, and which literals it chooses.
 use Rattle.std.proofs.Common.{◌≡◌, ℕ, zero, suc, ◌+◌, ◌-◌, ◌<◌, ◌≤◌, min, Bool, true, false, cond, List, [], ◌∷◌, ◌++◌, length, take}
 use Rattle.std.proofs.Common.{Option, Some, None, slice_get, sym, ap, ◌∙◌, subst, refl, arith, inl, inr, ◌⊎◌, MatchOption, Contains}
-use Rattle.std.specs.Prelude.{nat_lt}
+use Rattle.std.specs.Prelude.{nat_lt, not}
 use Rattle.std.proofs.lemmas.Option.{slice_get_within, same_Some, none-some, slice_get-get_or}
 use Rattle.std.proofs.lemmas.List.{length_push}
 use Rattle.std.proofs.lemmas.List.Elements.{All-contains}
@@ -138,7 +138,7 @@ pub watched_long : {t : TrailState} {w v : Watches} {first second : Lit} (start 
     IsExcused t.entries clause place w.low e.level) →
     AddsWatch w.lists.items (code_of first) (record { clause = w.looked; blocker = second }) between →
     AddsWatch between (code_of second) (record { clause = w.looked; blocker = first }) v.lists.items →
-    v.pairs.items ≡ w.pairs.items ++ Some (record { first = first; second = second; start = start }) ∷ [] →
+    v.pairs.items ≡ w.pairs.items ++ Some (record { first = first; second = second; spare = first; start = start }) ∷ [] →
     v ≡ record w { lists = v.lists; pairs = v.pairs; looked = w.looked + 1 } → AreWatched t v
 watched_long {t} {w} {v} {first} {second} start {clause} {between} sound watched unpaired named in_first in_second apart free excused
     adds_first adds_second pairs rest = subst (AreWatched t) (sym rest) (record {
@@ -150,7 +150,7 @@ watched_long {t} {w} {v} {first} {second} start {clause} {between} sound watched
       paired = λ number c pair named' at. elim (was number (Some pair) at) [
         | inl p ↦ watched.paired number c pair named' p
         | inr p ↦ subst (IsPair c) (same_Some new pair p.1) (subst (λ (d : List Lit). IsPair d new) (clause_is number c p.0 named')
-            (record { first = in_first; second = in_second; apart = λ e. apart (sym e) }))
+            (record { first = in_first; second = in_second; spare = in_first; apart = λ e. apart (sym e) }))
       ];
       listed = λ number pair l at of. elim (was number (Some pair) at) [
         | inl p ↦ (let r = watched.listed number pair l p of in (r.0, has_watch_more adds_second (has_watch_more adds_first r.1)))
@@ -172,7 +172,7 @@ watched_long {t} {w} {v} {first} {second} start {clause} {between} sound watched
     })
   where
     new : Pair
-    new = record { first = first; second = second; start = start }
+    new = record { first = first; second = second; spare = first; start = start }
 
     -- the clause was not looked at before: it has more than one literal
     next : length w.pairs.items ≡ w.looked
@@ -405,6 +405,17 @@ has-take (suc n) (x ∷ xs) l h = elim (or_cases (same x l) (has (take n xs) l) 
   | inl t ↦ or_left (same x l) (has xs l) t
   | inr t ↦ or_right (same x l) (has xs l) (has-take n xs l t)
 ]
+
+-- no literal is better than one that is not false
+pub best_settled : (trues : List Lit) (n : ℕ) (literals : List Lit) (except found : Option Lit) (b : Bool) →
+    MatchOption found (b ≡ false) (λ l. b ≡ not (has trues (negation l))) → b ≡ true → IsBestOf trues (take n literals) except found →
+    IsBestOf trues literals except found
+best_settled trues n literals except None b is free best = absurd (false≢true (sym is ∙ free))
+best_settled trues n literals except (Some l) b is free best = record {
+  member = has-take n literals l best.member;
+  apart = best.apart;
+  best = λ l_false m h d. absurd (false≢true (ap not (sym l_false) ∙ (sym is ∙ free)));
+}
 
 pub best_over : (variables n : ℕ) (trues literals : List Lit) (except found : Option Lit) → IsOver variables literals →
     IsBestOf trues (take n literals) except found → (l : Lit) → found ≡ Some l → l.index < variables

@@ -1,5 +1,5 @@
 -- A watch goes to another literal of its clause: what the visit keeps.
-use Rattle.std.proofs.Common.{◌≡◌, ℕ, ◌+◌, ◌<◌, true, false, List, length, set, Option, Some, None, slice_get, get_or, sym, ap, ◌∙◌, subst}
+use Rattle.std.proofs.Common.{◌≡◌, ℕ, ◌+◌, ◌<◌, true, false, List, length, set, Option, Some, None, slice_get, get_or, sym, ap, ◌∙◌, subst, refl}
 use Rattle.std.proofs.Common.{arith, inl, inr}
 use Rattle.std.proofs.lemmas.Option.{slice_get_within, same_Some, none-some, get_or_from_slice_get}
 use Rattle.std.proofs.lemmas.List.{length-set}
@@ -11,51 +11,62 @@ use Rattle.sat_trail.specs.declared.watches.Watch.{Watch}
 use Rattle.sat_trail.specs.declared.watches.Pair.{Pair}
 use Rattle.sat_trail.specs.declared.watches.Watches.{Watches}
 use Rattle.sat_trail.specs.Entries.{literals_of}
-use Rattle.sat_trail.specs.States.{TrailState}
+use Rattle.sat_trail.specs.States.{TrailState, IsSound}
 use Rattle.sat_trail.specs.internal.Watching.{HasWatch, HasList, TakesOut, AddsWatch, DropsWatch, IsOf, IsPairOf, IsPair, AreWatched}
-use Rattle.sat_trail.specs.internal.Watching.{IsVisit, AreDue, IsFree}
+use Rattle.sat_trail.specs.internal.Watching.{IsVisit, AreDue, IsFree, IsPairIn, IsNextPair}
+use Rattle.sat_trail.proofs.Soundness.{over_literal}
 use Rattle.sat_trail.proofs.Places.{entry_has}
 use Rattle.sat_trail.proofs.Stays.{lists_have}
 use Rattle.sat_trail.proofs.WatchLists.{has_watch_same, has_watch_more, has_watch_new, AreBlocked, blocked_one, blocked_within}
 use Rattle.sat_trail.proofs.WatchLists.{blocked_more, blocked_less}
-use Rattle.sat_trail.proofs.Visits.{HasOther, other_in}
+use Rattle.sat_trail.proofs.Visits.{HasOther, other_in, of_clause}
+
+-- ---- the pair that is watched next
+
+pub spare_over : (t : TrailState) → IsSound t → (number : ℕ) (pair : Pair) → IsPairIn t number pair → pair.spare.index < t.variables
+spare_over t sound number pair h = over_literal t sound number h.clause pair.spare h.named h.is.spare
+
+module _ {t : TrailState} {number : ℕ} {pair : Pair} {other spare first : Lit} (start : ℕ) (h : IsPairIn t number pair)
+    (of : IsOf pair other) (of_spare : IsOf pair spare) where
+  next_of : has h.clause first ≡ true → (first ≡ other → ⊥) → has (literals_of t.entries) (negation first) ≡ false →
+      IsNextPair t number other (record { first = first; second = other; spare = spare; start = start })
+  next_of member apart not_false = record {
+    clause = h.clause;
+    named = h.named;
+    is = record { first = member; second = of_clause h.is of; spare = of_clause h.is of_spare; apart = apart };
+    second = refl;
+    not_false = not_false;
+  }
+
+  -- the first literal stands at a position in the clause
+  pub next_found : {literals clause : List Lit} {position : ℕ} → slice_get t.clauses number ≡ Some clause → literals ≡ clause →
+      IsFree (literals_of t.entries) literals other position → first ≡ get_or literals position first →
+      IsNextPair t number other (record { first = first; second = other; spare = spare; start = start })
+  next_found {literals} {clause} {position} named same found read =
+      let is : first ≡ found.literal = read ∙ get_or_from_slice_get literals position found.literal first found.there in
+      next_of (ap (λ (ls : List Lit). has ls first) (same_Some h.clause clause (sym h.named ∙ named) ∙ sym same)
+      ∙ (ap (has literals) is ∙ has_from_Contains literals found.literal (contains_at literals position found.literal found.there)))
+      (λ e. found.apart (sym is ∙ e)) (ap (λ (l : Lit). has (literals_of t.entries) (negation l)) is ∙ found.not_false)
 
 -- ---- the literal to which the watch goes
 
--- it is of the clause, not false, and not the other one
-pub record IsFresh (trues clause : List Lit) (other first : Lit) : Type 0 where
-  pub member : has clause first ≡ true
-  pub free : has trues (negation first) ≡ false
-  pub apart : first ≡ other → ⊥
-
-pub fresh_read : {trues literals clause : List Lit} {other first : Lit} {position : ℕ} → IsFree trues literals other position →
-    first ≡ get_or literals position first → literals ≡ clause → IsFresh trues clause other first
-fresh_read {trues} {literals} {clause} {other} {first} {position} found read same =
-    let is : first ≡ found.literal = read ∙ get_or_from_slice_get literals position found.literal first found.there in
-    record {
-      member = ap (λ (ls : List Lit). has ls first) (sym same) ∙ (ap (has literals) is ∙ has_from_Contains literals found.literal
-          (contains_at literals position found.literal found.there));
-      free = ap (λ (l : Lit). has trues (negation l)) is ∙ found.not_false;
-      apart = λ e. found.apart (sym is ∙ e);
-    }
-
 -- it is not the one that is visited, which is false
-pub fresh_differs : {t : TrailState} {w : Watches} {f : Lit} {clause : List Lit} {other first : Lit} → IsVisit t w f →
-    IsFresh (literals_of t.entries) clause other first → first ≡ f → ⊥
-fresh_differs {t} {w} {f} visit fresh e = false≢true (sym fresh.free ∙ (ap (λ (l : Lit). has (literals_of t.entries) (negation l)) e
+fresh_differs : {t : TrailState} {w : Watches} {f : Lit} (first : Lit) → IsVisit t w f → has (literals_of t.entries) (negation first) ≡ false →
+    first ≡ f → ⊥
+fresh_differs {t} {w} {f} first visit not_false e = false≢true (sym not_false ∙ (ap (λ (l : Lit). has (literals_of t.entries) (negation l)) e
     ∙ entry_has t.entries w.head visit.entry (negation f) visit.there visit.is))
 
-codes_differ : {t : TrailState} {w : Watches} {f : Lit} {clause : List Lit} {other first : Lit} → IsVisit t w f →
-    IsFresh (literals_of t.entries) clause other first → code_of f ≡ code_of first → ⊥
-codes_differ {t} {w} {f} {clause} {other} {first} visit fresh e = fresh_differs visit fresh (sym (code_one f first e))
+codes_differ : {t : TrailState} {w : Watches} {f : Lit} (first : Lit) → IsVisit t w f → has (literals_of t.entries) (negation first) ≡ false →
+    code_of f ≡ code_of first → ⊥
+codes_differ {t} {w} {f} first visit not_false e = fresh_differs first visit not_false (sym (code_one f first e))
 
 -- so the list of the one that is visited is as long as before
-pub list_kept : {t : TrailState} {w : Watches} {f : Lit} {clause : List Lit} {other first : Lit} {watch : Watch}
-    {more : List (List Watch)} {least : ℕ} → IsVisit t w f → IsFresh (literals_of t.entries) clause other first →
-    AddsWatch w.lists.items (code_of first) watch more → HasList w.lists.items (code_of f) least → HasList more (code_of f) least
-list_kept {t} {w} {f} visit fresh adds l = record {
+pub list_kept : {t : TrailState} {w : Watches} {f : Lit} (first : Lit) {watch : Watch} {more : List (List Watch)} {least : ℕ} → IsVisit t w f →
+    has (literals_of t.entries) (negation first) ≡ false → AddsWatch w.lists.items (code_of first) watch more →
+    HasList w.lists.items (code_of f) least → HasList more (code_of f) least
+list_kept {t} {w} {f} first visit not_false adds l = record {
   list = l.list;
-  listed = adds.others (code_of f) (codes_differ visit fresh) ∙ l.listed;
+  listed = adds.others (code_of f) (codes_differ first visit not_false) ∙ l.listed;
   long = l.long;
 }
 
@@ -65,25 +76,19 @@ list_kept {t} {w} {f} visit fresh adds l = record {
 pub record Moves (t : TrailState) (w v : Watches) (f : Lit) (index : ℕ) : Type 0 where
   pub watch : Watch
   pub other : Lit
-  pub first : Lit
-  pub clause : List Lit
-  pub start : ℕ
+  pub new : Pair
   pub between : List (List Watch)
   pub was_read : HasOther t w f index watch other
-  pub named : slice_get t.clauses watch.clause ≡ Some clause
-  pub fresh : IsFresh (literals_of t.entries) clause other first
-  pub adds : AddsWatch w.lists.items (code_of first) (record { clause = watch.clause; blocker = other }) between
+  pub next : IsNextPair t watch.clause other new
+  pub adds : AddsWatch w.lists.items (code_of new.first) (record { clause = watch.clause; blocker = other }) between
   pub drops : DropsWatch between (code_of f) index v.lists.items
-  pub pairs : v.pairs.items ≡ set w.pairs.items watch.clause (Some (record { first = first; second = other; start = start }))
+  pub pairs : v.pairs.items ≡ set w.pairs.items watch.clause (Some new)
   pub rest : v ≡ record w { lists = v.lists; pairs = v.pairs }
 
 module _ {t : TrailState} {w v : Watches} {f : Lit} {index : ℕ} (m : Moves t w v f index) where
-  open m use {watch, other, first, clause, start, between, was_read, named, fresh, adds, drops, pairs, rest}
+  open m use {watch, other, new, between, was_read, next.{clause, named, is, second, not_false}, adds, drops, pairs, rest}
   open m.was_read use {pair, at, of}
   open m.was_read.read use {sound, watched, visit, due, list, listed, there}
-
-  abbrev new : Pair
-  new = record { first = first; second = other; start = start }
 
   unlike : other ≡ f → ⊥
   unlike = m.was_read.apart (watched.paired watch.clause clause pair named at).apart
@@ -91,15 +96,15 @@ module _ {t : TrailState} {w v : Watches} {f : Lit} {index : ℕ} (m : Moves t w
   in_other : has clause other ≡ true
   in_other = other_in was_read clause named
 
-  first_within : code_of first < length w.lists.items
-  first_within = lists_have t w sound watched watch.clause clause first named fresh.member
+  first_within : code_of new.first < length w.lists.items
+  first_within = lists_have t w sound watched watch.clause clause new.first named is.first
 
   count : length v.pairs.items ≡ length w.pairs.items
   count = ap length pairs ∙ length-set w.pairs.items watch.clause (Some new)
 
   -- the list from which the watch is taken is as before
   list_between : slice_get between (code_of f) ≡ Some list
-  list_between = adds.others (code_of f) (codes_differ visit fresh) ∙ listed
+  list_between = adds.others (code_of f) (codes_differ new.first visit not_false) ∙ listed
 
   less : (xs : List Watch) × (slice_get v.lists.items (code_of f) ≡ Some xs) × TakesOut list index xs
   less = drops.here list list_between
@@ -147,10 +152,11 @@ module _ {t : TrailState} {w v : Watches} {f : Lit} {index : ℕ} (m : Moves t w
   new_listed : (l : Lit) → IsOf new l → (j : ℕ) × HasWatch v.lists.items (code_of l) watch.clause j
   new_listed l (inl e) = subst (λ (z : Lit). (j : ℕ) × HasWatch v.lists.items (code_of z) watch.clause j) e
       (let n = has_watch_new adds first_within in
-      (n.0, has_watch_same (drops.others (code_of first) (λ k. codes_differ visit fresh (sym k))) n.1))
+      (n.0, has_watch_same (drops.others (code_of new.first) (λ k. codes_differ new.first visit not_false (sym k))) n.1))
   new_listed l (inr e) = subst (λ (z : Lit). (j : ℕ) × HasWatch v.lists.items (code_of z) watch.clause j) e
+      (subst (λ (z : Lit). (j : ℕ) × HasWatch v.lists.items (code_of z) watch.clause j) (sym second)
       (let o = watched.listed watch.clause pair other at of in
-      (o.0, has_watch_same (drops.others (code_of other) (λ k. unlike (code_one other f k))) (has_watch_more adds o.1)))
+      (o.0, has_watch_same (drops.others (code_of other) (λ k. unlike (code_one other f k))) (has_watch_more adds o.1))))
 
   new_blocked : AreBlocked t.clauses (length v.pairs.items) v.lists.items
   new_blocked =
@@ -167,8 +173,7 @@ module _ {t : TrailState} {w v : Watches} {f : Lit} {index : ℕ} (m : Moves t w
     blocked = new_blocked;
     paired = λ number c p named_c h. elim (cases_eq number watch.clause) [
       | inl e ↦ (let c_is : clause ≡ c = same_Some clause c (sym named ∙ (ap (slice_get t.clauses) (sym e) ∙ named_c)) in
-          subst (λ (d : List Lit). IsPair d p) c_is (subst (IsPair clause) (same_Some new p (is_new number (Some p) e h))
-          (record { first = fresh.member; second = in_other; apart = fresh.apart })))
+          subst (λ (d : List Lit). IsPair d p) c_is (subst (IsPair clause) (same_Some new p (is_new number (Some p) e h)) is))
       | inr n ↦ watched.paired number c p named_c (was number (Some p) n h)
     ];
     listed = λ number p l h of_l. elim (cases_eq number watch.clause) [
@@ -178,10 +183,10 @@ module _ {t : TrailState} {w v : Watches} {f : Lit} {index : ℕ} (m : Moves t w
     excused = λ number c p l named_c h of_l place e at_e false_by below. elim (cases_eq number watch.clause) [
       | inr n ↦ watched.excused number c p l named_c (was number (Some p) n h) of_l place e at_e false_by below
       | inl k ↦ elim (of_new number p l k h of_l) [
-        | inl g ↦ absurd (false≢true (sym fresh.free ∙ (ap (λ (z : Lit). has (literals_of t.entries) (negation z)) g
+        | inl g ↦ absurd (false≢true (sym not_false ∙ (ap (λ (z : Lit). has (literals_of t.entries) (negation z)) g
             ∙ entry_has t.entries place e (negation l) at_e false_by)))
-        | inr g ↦ watched.excused number c pair l named_c (ap (slice_get w.pairs.items) k ∙ at) (subst (IsOf pair) g of) place e at_e
-            false_by below
+        | inr g ↦ watched.excused number c pair l named_c (ap (slice_get w.pairs.items) k ∙ at) (subst (IsOf pair) (sym second ∙ g) of)
+            place e at_e false_by below
       ]
     ];
     short_is = λ number c named_c h. watched.short_is number c named_c (was number None (not_moved number h) h);
@@ -194,7 +199,10 @@ module _ {t : TrailState} {w v : Watches} {f : Lit} {index : ℕ} (m : Moves t w
   pub due_moved : AreDue t v f index
   due_moved = subst (λ (x : Watches). AreDue t x f index) (sym rest) (λ number c p named_c h of_f.
       elim (cases_eq number watch.clause) [
-        | inl e ↦ absurd (elim (of_new number p f e h of_f) [ inl k ↦ fresh_differs visit fresh k | inr k ↦ unlike k ])
+        | inl e ↦ absurd (elim (of_new number p f e h of_f) [
+          | inl k ↦ fresh_differs new.first visit not_false k
+          | inr k ↦ unlike (sym second ∙ k)
+        ])
         | inr n ↦ elim (due number c p named_c (was number (Some p) n h) of_f) [
           | inl x ↦ inl x
           | inr r ↦ inr (earlier number r.0 r.1 r.2 n)

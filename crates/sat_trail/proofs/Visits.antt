@@ -13,7 +13,7 @@ use Rattle.sat_trail.specs.declared.watches.Pair.{Pair}
 use Rattle.sat_trail.specs.declared.watches.Watches.{Watches}
 use Rattle.sat_trail.specs.Entries.{literals_of}
 use Rattle.sat_trail.specs.States.{TrailState, IsSound, Propagates, IsFalseAt}
-use Rattle.sat_trail.specs.internal.Watching.{HasList, IsOf, IsPairOf, IsExcused, AreWatched, IsVisit, AreDue}
+use Rattle.sat_trail.specs.internal.Watching.{HasList, IsOf, IsPairOf, IsPair, IsPairIn, IsExcused, AreWatched, IsVisit, AreDue}
 use Rattle.sat_trail.proofs.Soundness.{level_within, over_literal}
 use Rattle.sat_trail.proofs.Stays.{excused_grown, excused_by, watched_propagated, visit_propagated}
 
@@ -100,7 +100,22 @@ module _ {t : TrailState} {w : Watches} {f : Lit} {index : ℕ} {watch : Watch} 
   due_unpaired {x} read is = due_excused (λ clause pair named at. absurd
       (none-some pair (sym is ∙ (read ∙ get_or_from_slice_get w.pairs.items watch.clause (Some pair) x at))))
 
+  -- the pair of its clause
+  pub pair_at : {x : Option Pair} {pair : Pair} → x ≡ get_or w.pairs.items watch.clause x → x ≡ Some pair →
+      IsPairOf w.pairs.items watch.clause pair
+  pair_at {x} read is = slice_get-get_or w.pairs.items watch.clause x clause_within ∙ ap Some (sym read ∙ is)
+
+  pub pair_read : {x : Option Pair} {pair : Pair} → x ≡ get_or w.pairs.items watch.clause x → x ≡ Some pair → IsPairIn t watch.clause pair
+  pair_read {x} {pair} read is =
+      let c = clause_some in
+      record { clause = c.0; named = c.1; is = watched.paired watch.clause c.0 pair c.1 (pair_at read is) }
+
 -- ---- and the other literal of its clause's pair
+
+-- a literal of a pair is one of the clause
+pub of_clause : {clause : List Lit} {pair : Pair} {l : Lit} → IsPair clause pair → IsOf pair l → has clause l ≡ true
+of_clause {clause} is (inl e) = ap (has clause) (sym e) ∙ is.first
+of_clause {clause} is (inr e) = ap (has clause) (sym e) ∙ is.second
 
 -- the pair of its clause has this literal, which is another one where the two differ
 pub record HasOther (t : TrailState) (w : Watches) (f : Lit) (index : ℕ) (watch : Watch) (other : Lit) : Type 0 where
@@ -116,7 +131,7 @@ pub has_other : {t : TrailState} {w : Watches} {f : Lit} {index : ℕ} {watch : 
 has_other {t} {w} {f} {index} {watch} {x} {pair} {other} r read is of apart = record {
   read = r;
   pair = pair;
-  at = slice_get-get_or w.pairs.items watch.clause x (clause_within r) ∙ ap Some (sym read ∙ is);
+  at = pair_at r read is;
   of = of;
   apart = apart;
 }
@@ -125,9 +140,7 @@ module _ {t : TrailState} {w : Watches} {f : Lit} {index : ℕ} {watch : Watch} 
   open o use {read.{sound, watched, visit, due, list, listed, there}, pair, at, of, apart}
 
   pub other_in : (clause : List Lit) → slice_get t.clauses watch.clause ≡ Some clause → has clause other ≡ true
-  other_in clause named =
-      let is = watched.paired watch.clause clause pair named at in
-      elim of [ inl e ↦ ap (has clause) (sym e) ∙ is.first | inr e ↦ ap (has clause) (sym e) ∙ is.second ]
+  other_in clause named = of_clause (watched.paired watch.clause clause pair named at) of
 
   pub other_over : other.index < t.variables
   other_over =

@@ -6,7 +6,7 @@ ghost use Rattle.clause_core.specs.Clauses.{IsOver};
 ghost use Rattle.sat_trail.specs.declared.entries.Entry.{Entry};
 ghost use Rattle.sat_trail.specs.Entries.{literals_of};
 ghost use Rattle.sat_trail.specs.States.{TrailState, IsSound, Propagates, IsFalseAt, EndsWith};
-ghost use Rattle.sat_trail.specs.internal.Watching.{HasList, TakesOut, RenewsBlocker, AddsWatch, RenewsWatch, DropsWatch, IsOf, is_paired, IsExcused, AreWatched, IsVisit, AreDue, AreOthersFalse, CanForce, CanWatch, IsFalseBy, IsLater, IsBestOf, IsFree, AreFalseBetween, LooksAt};
+ghost use Rattle.sat_trail.specs.internal.Watching.{HasList, TakesOut, RenewsBlocker, AddsWatch, RenewsWatch, DropsWatch, IsOf, is_paired, IsPairIn, IsNextPair, IsExcused, AreWatched, IsVisit, AreDue, AreOthersFalse, CanForce, CanWatch, IsFalseBy, IsLater, IsBestOf, IsFree, AreFalseBetween, LooksAt};
 
 use crate::stack::Stack;
 use clause_core::Literal;
@@ -89,14 +89,17 @@ impl WatchList {
     }
 }
 
-/// The two literals that a clause watches, and where the search for another one begins.
+/// The two literals that a clause watches, and where another one is looked for.
 #[derive(Clone, Copy, Debug)]
 pub struct Pair {
     /// One of the literals.
     pub first: Literal,
     /// The other one.
     pub second: Literal,
-    /// A position in the clause.
+    /// A literal of the clause, which is tried before the clause is read: the one that was watched before the
+    /// last move. In a clause of three literals it is then the third one.
+    pub spare: Literal,
+    /// The position in the clause where the search begins.
     pub start: u32,
 }
 
@@ -288,6 +291,7 @@ impl Watches {
         self.pairs.push(Some(Pair {
             first,
             second,
+            spare: first,
             start: 0,
         }))?;
         self.looked += 1;
@@ -424,21 +428,42 @@ impl Watches {
             self.renew_watch(falsified, index, other);
             return Ok(None);
         }
-        let literals = stack.clause(watch.clause).literals();
-        let Some(position) = free_position(stack, literals, other, pair.start as usize) else {
+        let Some(next) = next_pair(stack, watch.clause, pair, other) else {
             return force_or_fail(stack, watch.clause, other);
         };
-        let first = literals[position];
-        let start = number_of_position(position);
-        self.add_watch(first, watch.clause, other)?;
+        self.add_watch(next.first, watch.clause, other)?;
         self.drop_watch(falsified, index);
-        self.pairs[watch.clause as usize] = Some(Pair {
-            first,
-            second: other,
-            start,
-        });
+        self.pairs[watch.clause as usize] = Some(next);
         Ok(None)
     }
+}
+
+/// The pair that a clause watches next, where one of its pair is false and this is the other one: a literal
+/// that is not false, and this one. None where all literals but this one are false.
+fn next_pair(stack: &Stack, number: u32, pair: &Pair, other: Literal) -> Option<Pair>
+    requires usable { stack.now.broken ≡ false }
+    requires sound { IsSound stack.now }
+    requires pair { IsPairIn stack.now number pair.now }
+    requires of { IsOf pair.now other }
+    ensures { MatchOption result (CanForce stack.now number other) (IsNextPair stack.now number other) }
+{
+    let spare = pair.other(other);
+    if is_free(stack, pair.spare, other) {
+        return Some(Pair {
+            first: pair.spare,
+            second: other,
+            spare,
+            start: pair.start,
+        });
+    }
+    let literals = stack.clause(number).literals();
+    let position = free_position(stack, literals, other, pair.start as usize)?;
+    Some(Pair {
+        first: literals[position],
+        second: other,
+        spare,
+        start: number_of_position(position),
+    })
 }
 
 /// Sets the literal of a clause whose others are false, or answers the clause's number if that one is
@@ -525,8 +550,22 @@ fn best(stack: &Stack, literals: &[Literal], except: &Option<Literal>) -> Option
     let mut found = None;
     for literal in literals {
         found = better(stack, found, *literal, except);
+        if is_not_false(stack, &found) {
+            return found;
+        }
     }
     found
+}
+
+/// Whether there is a literal, and it is not false.
+fn is_not_false(stack: &Stack, found: &Option<Literal>) -> bool
+    requires { (l : Lit) → found.now ≡ Some l → l.index < stack.now.variables }
+    ensures { MatchOption found.now (result ≡ false) (λ l. result ≡ not (has (literals_of stack.now.entries) (negation l))) }
+{
+    match found {
+        Some(literal) => !stack.is_true(literal.negated()),
+        None => false,
+    }
 }
 
 /// The better one of the literal that was found and another one, which is passed over if it is the one

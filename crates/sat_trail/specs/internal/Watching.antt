@@ -76,10 +76,11 @@ is_paired None = false
 is_paired (Some None) = false
 is_paired (Some (Some pair)) = true
 
--- the pair is of two literals of the clause
+-- the pair is of two literals of the clause, and so is its spare one
 pub record IsPair (clause : List Lit) (pair : Pair) : Type 0 where
   pub first : has clause pair.first ≡ true
   pub second : has clause pair.second ≡ true
+  pub spare : has clause pair.spare ≡ true
   pub apart : pair.first ≡ pair.second → ⊥
 
 -- the clause has one literal at most
@@ -166,6 +167,20 @@ pub record CanWatch (t : TrailState) (number : ℕ) (first second : Lit) : Type 
   pub apart : second ≡ first → ⊥
   pub not_false : has (literals_of t.entries) (negation first) ≡ false
   pub others : has (literals_of t.entries) (negation second) ≡ true → AreOthersFalse (literals_of t.entries) clause first
+
+-- the pair is of literals of the clause of this number
+pub record IsPairIn (t : TrailState) (number : ℕ) (pair : Pair) : Type 0 where
+  pub clause : List Lit
+  pub named : slice_get t.clauses number ≡ Some clause
+  pub is : IsPair clause pair
+
+-- the pair is of a literal of that clause that is not false, and of the one given
+pub record IsNextPair (t : TrailState) (number : ℕ) (other : Lit) (pair : Pair) : Type 0 where
+  pub clause : List Lit
+  pub named : slice_get t.clauses number ≡ Some clause
+  pub is : IsPair clause pair
+  pub second : pair.second ≡ other
+  pub not_false : has (literals_of t.entries) (negation pair.first) ≡ false
 
 -- the entry at this place makes the literal false
 pub record IsFalseBy (t : TrailState) (l : Lit) (place : ℕ) : Type 0 where

@@ -65,5 +65,5 @@ returns-clause-watched c =
     (subst (λ (n : ℕ). AddsWatch a.lists.items (code_of c.args.second) (record { clause = n; blocker = c.args.first }) b.lists.items)
     (sym looked) c.in_ok-add_watch-2.ensures.lists)
     (c.in_ok-push.ensures.items ∙ ap (λ (x : Watches). x.pairs.items
-    ++ Some (record { first = c.args.first; second = c.args.second; start = 0 }) ∷ []) same)
+    ++ Some (record { first = c.args.first; second = c.args.second; spare = c.args.first; start = 0 }) ∷ []) same)
     (ap (λ (x : Watches). record x { pairs = c.push.new.self; looked = x.looked + 1 }) same)
