@@ -15,6 +15,7 @@ import plain
 from measuring import SOLVER, built
 
 LEAST = 0.005
+PASSES = 3
 STANDARD = ("pigeons", "parity", "random", "encodings")
 
 
@@ -148,33 +149,47 @@ def shown(run):
     return f"{seconds:9.4f} {'-' if count is None else count:>9} {peak:>8}"
 
 
+def least(one, other):
+    """Of two runs of a program on a formula the one that took less time."""
+    return min(filter(None, (one, other)), default=None)
+
+
+def passes(folder, chosen, tools, seconds):
+    """For each formula the best run of each program in some passes over all of them, so that another program on the machine disturbs one pass alone."""
+    runs = {}
+    for number in range(PASSES):
+        print(f"pass {number + 1} of {PASSES}", file=sys.stderr, flush=True)
+        for name, text in chosen:
+            for tool, words in tools.items():
+                runs[name, tool] = least(runs.get((name, tool)), measured(folder, text, words, seconds))
+            if len({run[2] for run in (runs[name, tool] for tool in tools) if run}) > 1:
+                raise SystemExit(f"{name}: the programs disagree")
+    return runs
+
+
 def main():
     seconds = int(sys.argv[1]) if len(sys.argv) > 1 else 20
-    wanted = sys.argv[2:]
+    wanted = sys.argv[2:] or STANDARD
     tools = programs()
+    chosen = [formula for family, formulas in families() if family in wanted for formula in formulas]
     ratios = {other: ([], [], []) for other in tools if other != "solve"}
+    with built(SOLVER, "./solve < examples/stairs.cnf") as folder:
+        best = passes(folder, chosen, tools, seconds)
     print(f"{'':20} " + " ".join(f"{name:>28}" for name in tools))
     print(f"{'formula':20} " + " ".join(f"{'seconds':>9} {'conflicts':>9} {'KiB':>8}" for _ in tools))
-    with built(SOLVER, "./solve < examples/stairs.cnf") as folder:
-        for family, formulas in families():
-            if family not in (wanted or STANDARD):
-                continue
-            for name, text in formulas:
-                runs, answers = {}, set()
-                for tool, words in tools.items():
-                    run = measured(folder, text, words, seconds)
-                    if run:
-                        answers.add(run[2])
-                        runs[tool] = (run[0], run[1], conflicts(tool, words, text, run[2], seconds))
-                if len(answers) > 1:
-                    raise SystemExit(f"{name}: the programs disagree")
-                print(f"{name:20} " + " ".join(shown(runs.get(tool)) for tool in tools), flush=True)
-                for other, (times, counts, peaks) in ratios.items():
-                    if "solve" in runs and other in runs and max(runs["solve"][0], runs[other][0]) > LEAST:
-                        times.append(runs["solve"][0] / runs[other][0])
-                        peaks.append(runs["solve"][1] / runs[other][1])
-                        if runs["solve"][2] and runs[other][2]:
-                            counts.append(runs["solve"][2] / runs[other][2])
+    for name, text in chosen:
+        runs = {}
+        for tool, words in tools.items():
+            if best[name, tool]:
+                taken, peak, status = best[name, tool]
+                runs[tool] = (taken, peak, conflicts(tool, words, text, status, seconds))
+        print(f"{name:20} " + " ".join(shown(runs.get(tool)) for tool in tools), flush=True)
+        for other, (times, counts, peaks) in ratios.items():
+            if "solve" in runs and other in runs and max(runs["solve"][0], runs[other][0]) > LEAST:
+                times.append(runs["solve"][0] / runs[other][0])
+                peaks.append(runs["solve"][1] / runs[other][1])
+                if runs["solve"][2] and runs[other][2]:
+                    counts.append(runs["solve"][2] / runs[other][2])
     median = lambda members: f"{statistics.median(members):.2f}" if members else "-"
     for other, (times, counts, peaks) in ratios.items():
         print(f"median of {len(times)} ratios to {other}: time {median(times)}, learnt clauses to conflicts {median(counts)}, memory {median(peaks)}")
