@@ -31,9 +31,11 @@ module _ {t : TrailState} {number : ℕ} {pair : Pair} {other spare first : Lit}
   next_of : has h.clause first ≡ true → (first ≡ other → ⊥) → has (literals_of t.entries) (negation first) ≡ false →
       IsNextPair t number other (record { first = first; second = other; spare = spare; start = start })
   next_of member apart not_false = record {
-    clause = h.clause;
-    named = h.named;
-    is = record { first = member; second = of_clause h.is of; spare = of_clause h.is of_spare; apart = apart };
+    is_in = record {
+      clause = h.clause;
+      named = h.named;
+      is = record { first = member; second = of_clause h.is of; spare = of_clause h.is of_spare; apart = apart };
+    };
     second = refl;
     not_false = not_false;
   }
@@ -86,7 +88,8 @@ pub record Moves (t : TrailState) (w v : Watches) (f : Lit) (index : ℕ) : Type
   pub rest : v ≡ record w { lists = v.lists; pairs = v.pairs }
 
 module _ {t : TrailState} {w v : Watches} {f : Lit} {index : ℕ} (m : Moves t w v f index) where
-  open m use {watch, other, new, between, was_read, next.{clause, named, is, second, not_false}, adds, drops, pairs, rest}
+  open m use {watch, other, new, between, was_read, next.{second, not_false}, adds, drops, pairs, rest}
+  open m.next.is_in use {clause, named, is}
   open m.was_read use {pair, at, of}
   open m.was_read.read use {sound, watched, visit, due, list, listed, there}
 

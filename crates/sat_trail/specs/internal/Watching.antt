@@ -174,11 +174,9 @@ pub record IsPairIn (t : TrailState) (number : ℕ) (pair : Pair) : Type 0 where
   pub named : slice_get t.clauses number ≡ Some clause
   pub is : IsPair clause pair
 
--- the pair is of a literal of that clause that is not false, and of the one given
+-- the pair is in that clause, of a literal that is not false, and of the one given
 pub record IsNextPair (t : TrailState) (number : ℕ) (other : Lit) (pair : Pair) : Type 0 where
-  pub clause : List Lit
-  pub named : slice_get t.clauses number ≡ Some clause
-  pub is : IsPair clause pair
+  pub is_in : IsPairIn t number pair
   pub second : pair.second ≡ other
   pub not_false : has (literals_of t.entries) (negation pair.first) ≡ false
 

@@ -103,7 +103,7 @@ returns-in_default-next_pair-clause-ends c = due_forced c.force_or_fail.result
 
 pub add_watch-requires : goal.add_watch-requires
 add_watch-requires c =
-    let next = c.in-Some-next_pair.ensures in
+    let next = c.in-Some-next_pair.ensures.is_in in
     lists_have c.args.stack.now c.args.self.now c.requires.sound c.requires.watched c.get-watch.result.clause next.clause
     c.in-Some-next_pair.next.first next.named next.is.first
 
