@@ -18,7 +18,7 @@ use sequence::{NoMemory, Sequence};
 use std::alloc::Global;
 
 /// Numbers of pairs of a machine's state and an automaton's state.
-#[derive(Debug, Drop)]
+#[derive(Drop)]
 pub struct Annotation {
     /// The bound that no number passes.
     pub bound: u32,

@@ -15,7 +15,7 @@ use sequence::NoMemory;
 use std::alloc::Global;
 
 /// A number that a pair of states gets.
-#[derive(Debug, Clone, Copy)]
+#[derive(Clone, Copy)]
 pub(crate) struct Rise {
     /// The machine's state.
     pub(crate) machine_state: u32,
@@ -26,7 +26,7 @@ pub(crate) struct Rise {
 }
 
 /// Numbers of pairs, and the rises that were not looked at since.
-#[derive(Debug, Drop)]
+#[derive(Drop)]
 pub(crate) struct Growth {
     /// The number of each pair, where it has one.
     pub(crate) numbers: Vec<Option<u32>>,
@@ -83,7 +83,7 @@ fn is_number(number: Option<u32>, wanted: u32) -> bool
 
 /// The moves of a machine and the edges of an automaton by the states that they leave, and a bound on the
 /// numbers of pairs of states.
-#[derive(Debug, Drop)]
+#[derive(Drop)]
 pub(crate) struct Pairs {
     /// The moves in each state of the machine.
     pub(crate) moves: Vec<Vec<Move>>,

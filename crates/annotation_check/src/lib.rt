@@ -17,8 +17,3 @@ mod pairing;
 
 pub use annotating::{Annotation, annotate, annotate_environment};
 pub use laws::annotations_bound_paths;
-
-#[cfg(test)]
-mod environment_tests;
-#[cfg(test)]
-mod tests;

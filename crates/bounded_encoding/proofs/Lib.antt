@@ -1,20 +1,12 @@
 pub mod KeptClauses
 pub mod Ranges
-pub mod ExactlyOne
-pub mod CubeBits
-pub mod LetterChoices
+pub mod SolutionsAreAssignments
 pub mod Tables
-pub mod MovesHeld
-pub mod Demands
-pub mod Transitions
 pub mod Numbers
-pub mod Decoded
-pub mod Encoded
 pub mod Posed
 mod Examples
 pub mod Between
 pub mod Firsts
-pub mod Readings
 pub mod Signals
 pub mod Unpaired
 pub mod Adding

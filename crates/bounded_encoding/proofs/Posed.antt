@@ -10,8 +10,8 @@ use Rattle.clause_core.specs.Clauses.{AreUnsatisfiable}
 use Rattle.bounded_encoding.specs.Question.{QuestionTree, IsPosed, HasNoController, JoinsStates, WantsAsked}
 use Rattle.bounded_encoding.specs.QuestionView.{question_of}
 use Rattle.bounded_encoding.specs.Encoding.{encoding}
-use Rattle.bounded_encoding.proofs.Demands.{encoding_is_met}
-use Rattle.bounded_encoding.proofs.Encoded.{assignment, are_met_by_it}
+use Rattle.bounded_encoding.proofs.SolutionsAreAssignments.Demands.{encoding_is_met}
+use Rattle.bounded_encoding.proofs.SolutionsAreAssignments.Encoded.{assignment, are_met_by_it}
 
 -- what the types of an automaton and a space keep makes each question one that is posed
 pub is_posed : (automaton : Automaton) (space : Space) (states bound : ℕ) → 1 ≤ states → IsPosed (question_of automaton space states bound)

@@ -8,7 +8,7 @@ use Rattle.letter_space.specs.declared.controlled.Controlled.{Controlled}
 use Rattle.letter_space.specs.SpaceTree.{choice_count, IsSpace}
 use Rattle.letter_space.specs.ControlledView.{controlled_tree, space_with}
 use Rattle.letter_space.proofs.Places.{slice_get_image}
-use Rattle.bounded_encoding.proofs.LetterChoices.{signal_within}
+use Rattle.bounded_encoding.proofs.SolutionsAreAssignments.LetterChoices.{signal_within}
 
 pub item_within : (predicates : List Probe) (xs : List Controlled) (i : ℕ) (x : Controlled) → IsSpace (space_with predicates xs) →
     i < length xs → x ≡ get_or xs i x →

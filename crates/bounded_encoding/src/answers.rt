@@ -7,7 +7,7 @@ use refutation_check::Log;
 use sequence::Sequence;
 
 /// What a search for a controller came to.
-#[derive(Debug, Drop)]
+#[derive(Drop)]
 pub enum Found {
     /// This controller, with this annotation of it.
     Controller(Controller, Annotation),

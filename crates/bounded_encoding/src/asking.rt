@@ -12,7 +12,7 @@ use cobuchi_automata::Automaton;
 use letter_space::Space;
 
 /// A question for a controller.
-#[derive(Clone, Copy, Debug)]
+#[derive(Clone, Copy)]
 pub(crate) struct Question<'a> {
     /// The automaton.
     pub(crate) automaton: &'a Automaton,

@@ -11,7 +11,7 @@ use std::alloc::Global;
 use std::marker::Model;
 
 /// Clauses made so far, and how many there may be at most.
-#[derive(Debug, Drop)]
+#[derive(Drop)]
 pub struct Builder {
     list: Vec<Clause>,
     limit: u64,

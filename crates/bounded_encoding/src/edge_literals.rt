@@ -16,7 +16,7 @@ use sequence::NoMemory;
 use std::alloc::Global;
 
 /// A state of the controller, an edge, and a valuation that meets it.
-#[derive(Clone, Copy, Debug)]
+#[derive(Clone, Copy)]
 pub(crate) struct Transition {
     /// The state.
     pub(crate) state: u32,

@@ -12,7 +12,7 @@ use crate::simple_clauses::{add_exactly_one, add_falling};
 use std::alloc::Global;
 
 /// Variables by row, column and place, whose indices follow each other.
-#[derive(Clone, Copy, Debug)]
+#[derive(Clone, Copy)]
 pub struct Grid {
     /// The first index.
     pub base: u32,

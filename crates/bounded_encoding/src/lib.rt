@@ -37,8 +37,3 @@ pub use laws::{
 pub use reading::{first_true, numbers_read};
 pub use simple_clauses::{add_exactly_one, add_falling, add_true, literal};
 pub use transition_clauses::leads_to_itself;
-
-#[cfg(test)]
-mod finding_tests;
-#[cfg(test)]
-mod tests;

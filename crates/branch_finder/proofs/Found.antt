@@ -12,7 +12,7 @@ use Rattle.sequence.proofs.Each.{each_weaker, each_both}
 use Rattle.sequence.proofs.Passes.{list_all_from_each}
 use Rattle.tsl_terms.specs.WindowTree.{ListedTree, WindowTree}
 use Rattle.tsl_terms.specs.Congruence.{IsCongruent}
-use Rattle.flow_program.specs.Fits.{longest, rises, window_is_shaped}
+use Rattle.program_tree.specs.Fits.{longest, rises, window_is_shaped}
 use Rattle.letter_space.specs.SpaceTree.{SpaceTree}
 use Rattle.machines.specs.MachineTree.{EnvironmentTree, successor_at}
 use Rattle.branch_finder.specs.Spurious.{IsOneOf, IsSpurious}

@@ -7,7 +7,7 @@ use Rattle.sequence.specs.Numbers.{is_among}
 use Rattle.sequence.proofs.Each.{each_joined, each_weaker}
 use Rattle.tsl_terms.specs.TermTree.{TermTree}
 use Rattle.tsl_terms.specs.WindowTree.{ListedTree}
-use Rattle.flow_program.specs.Fits.{stands_before, comes_before, rises}
+use Rattle.program_tree.specs.Fits.{stands_before, comes_before, rises}
 use Rattle.letter_space.specs.SpaceTree.{SpaceTree}
 use Rattle.letter_space.specs.Letters.{term_taken}
 use Rattle.letter_space.specs.Vectors.{picks_of}

@@ -8,7 +8,7 @@ use Rattle.std.specs.List.{AllByRecursion}
 use Rattle.sequence.specs.Numbers.{is_among}
 use Rattle.tsl_terms.specs.WindowTree.{WindowTree}
 use Rattle.tsl_terms.specs.Congruence.{IsCongruent}
-use Rattle.flow_program.specs.Fits.{window_is_shaped}
+use Rattle.program_tree.specs.Fits.{window_is_shaped}
 use Rattle.letter_space.specs.SpaceTree.{SpaceTree}
 use Rattle.letter_space.specs.Vectors.{vector_count}
 use Rattle.machines.specs.MachineTree.{EnvironmentTree}

@@ -23,6 +23,3 @@ mod visiting;
 pub use branch_error::BranchError;
 pub use finding::find_window;
 pub use limits::MOST_BRANCHES;
-
-#[cfg(test)]
-mod tests;

@@ -9,7 +9,7 @@ use std::alloc::Global;
 use std::marker::Model;
 
 /// A clause: literals, at least one of which is to be true. They rise strictly by their numbers.
-#[derive(Debug, Drop)]
+#[derive(Drop)]
 pub struct Clause {
     literals: Vec<Literal>,
 }

@@ -7,7 +7,7 @@ use crate::clauses::Clause;
 use sequence::Sequence;
 
 /// A formula in conjunctive normal form: clauses over the variables from 1 to a number.
-#[derive(Debug, Drop)]
+#[derive(Drop)]
 pub struct Cnf {
     /// How many variables there are.
     pub variables: u32,
@@ -18,7 +18,7 @@ pub struct Cnf {
 }
 
 /// A truth for each variable, that of variable v at place v - 1.
-#[derive(Debug, Drop)]
+#[derive(Drop)]
 pub struct Assignment {
     /// The truths, in the order of the variables.
     pub truths: Sequence<bool>,

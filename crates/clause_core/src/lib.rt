@@ -23,6 +23,3 @@ pub use laws::{
     propagation_keeps_truth, reverse_propagation_shows_consequence, traces_show_consequences,
 };
 pub use literals::Literal;
-
-#[cfg(test)]
-mod tests;

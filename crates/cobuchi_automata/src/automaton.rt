@@ -21,7 +21,7 @@ pub struct Edge {
 
 /// A universal co-Büchi automaton with rejecting marks on edges. Its states have the numbers from 0,
 /// which is the start.
-#[derive(Debug, Drop)]
+#[derive(Drop)]
 pub struct Automaton {
     /// How many states there are.
     pub states: u32,

@@ -25,7 +25,7 @@ use std::alloc::Global;
 
 /// A formula, the formulas that its steps may leave, whose places are their numbers, and the numbers of
 /// its untils.
-#[derive(Debug, Drop)]
+#[derive(Drop)]
 pub(crate) struct Plan<'a> {
     /// The formula.
     pub(crate) formula: &'a Ltl,
@@ -36,7 +36,7 @@ pub(crate) struct Plan<'a> {
 }
 
 /// The states and edges that are found.
-#[derive(Debug, Drop)]
+#[derive(Drop)]
 pub(crate) struct Found {
     /// The states, by their numbers.
     pub(crate) states: IndexSet<State>,

@@ -31,6 +31,3 @@ pub use laws::{
     a_formula_that_holds_has_rejecting_paths, automata_are_the_same_up_to_numbers,
     automata_within_limits_are_built,
 };
-
-#[cfg(test)]
-mod tests;

@@ -11,7 +11,7 @@ use indexmap::IndexSet;
 use sequence::NoMemory;
 
 /// A set of formulas by their numbers, and the number of the until that is waited for.
-#[derive(Debug, PartialEq, Eq, Hash, Drop)]
+#[derive(PartialEq, Eq, Hash, Drop)]
 pub(crate) struct State {
     /// The numbers of the formulas, in order.
     pub(crate) members: Vec<u32>,

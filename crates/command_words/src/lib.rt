@@ -21,6 +21,3 @@ pub use command_word::CommandWord;
 pub use laws::words_ask_for_one_thing;
 pub use reading::task_of;
 pub use task::{ProveSizes, SynthSizes, Task, WordsError};
-
-#[cfg(test)]
-mod tests;

@@ -11,7 +11,7 @@ use sequence::NoMemory;
 use std::alloc::Global;
 
 /// An argument that is one whole number.
-#[derive(Clone, Copy, Debug)]
+#[derive(Clone, Copy)]
 pub(crate) struct NumberArgument {
     /// Its name.
     pub(crate) name: &'static str,

@@ -8,7 +8,7 @@ use Rattle.std.proofs.lemmas.Nat.{mul-add-lt, div-mul-add, mod-mul-add}
 use Rattle.std.proofs.lemmas.Option.{slice_get-map}
 use Rattle.sequence.proofs.Each.{each_from_places}
 use Rattle.sequence.proofs.Places.{slice_get_some, slice_get_push, slice_get_mapped}
-use Rattle.flow_program.specs.ProgramTree.{ProgramTree}
+use Rattle.program_tree.specs.ProgramTree.{ProgramTree}
 use Rattle.letter_space.specs.SpaceTree.{SpaceTree}
 use Rattle.letter_space.specs.Letters.{valuation_count, ArePicks}
 use Rattle.machines.specs.declared.controller.Entry.{Entry}

@@ -10,9 +10,9 @@ use Rattle.sequence.proofs.Passes.{passes_at}
 use Rattle.tsl_terms.specs.TermTree.{TermTree, ProbeTree}
 use Rattle.tsl_terms.specs.OnlyThese.{reads_only, read_only}
 use Rattle.tsl_terms.specs.WindowTree.{WindowTree}
-use Rattle.flow_program.specs.NodeTree.{NodeTree, branch, assign}
-use Rattle.flow_program.specs.ProgramTree.{ProgramTree}
-use Rattle.flow_program.specs.Fits.{BranchesFit, AssignmentsFit, StatesFit, window_fits}
+use Rattle.program_tree.specs.NodeTree.{NodeTree, branch, assign}
+use Rattle.program_tree.specs.ProgramTree.{ProgramTree}
+use Rattle.program_tree.specs.Fits.{BranchesFit, AssignmentsFit, StatesFit, window_fits}
 use Rattle.letter_space.specs.SpaceTree.{ControlledTree, SpaceTree}
 use Rattle.machines.specs.MachineTree.{ControllerTree}
 use Rattle.control_flow_model.specs.ControllerOf.{terms_picked}

@@ -18,9 +18,9 @@ use Rattle.tsl_terms.specs.SameTree.{same_tree, same_probe_tree}
 use Rattle.tsl_terms.specs.Laws.{IsRising}
 use Rattle.tsl_terms.specs.WindowTree.{WindowTree}
 use Rattle.tsl_terms.proofs.SameLemmas.{same_tree_itself, same_probe_itself, same_probe_is}
-use Rattle.flow_program.specs.NodeTree.{NodeTree, branch, assign}
-use Rattle.flow_program.specs.ProgramTree.{ProgramTree}
-use Rattle.flow_program.specs.Walk.{Action, done_at, walk_from, walk}
+use Rattle.program_tree.specs.NodeTree.{NodeTree, branch, assign}
+use Rattle.program_tree.specs.ProgramTree.{ProgramTree}
+use Rattle.program_tree.specs.Walk.{Action, done_at, walk_from, walk}
 use Rattle.ltl_formula.specs.Cubes.{has_bit}
 use Rattle.letter_space.specs.SpaceTree.{ControlledTree, SpaceTree, IsSpace}
 use Rattle.letter_space.specs.Letters.{valuation_count}

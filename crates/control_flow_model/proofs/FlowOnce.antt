@@ -11,8 +11,8 @@ use Rattle.sequence.proofs.Places.{contains_at, slice_get_one}
 use Rattle.tsl_terms.specs.Laws.{IsRising}
 use Rattle.tsl_terms.specs.TermTree.{ProbeTree}
 use Rattle.tsl_terms.specs.WindowTree.{WindowTree}
-use Rattle.flow_program.specs.NodeTree.{NodeTree, branch, assign}
-use Rattle.flow_program.specs.ProgramTree.{ProgramTree}
+use Rattle.program_tree.specs.NodeTree.{NodeTree, branch, assign}
+use Rattle.program_tree.specs.ProgramTree.{ProgramTree}
 use Rattle.letter_space.specs.SpaceTree.{SpaceTree, IsSpace}
 use Rattle.sequence.specs.Once.{StandOnce}
 use Rattle.machines.specs.MachineTree.{EntryTree, ControllerTree, controller_entry}

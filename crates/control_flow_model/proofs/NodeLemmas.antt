@@ -21,7 +21,7 @@ use Rattle.sequence.proofs.Options.{some_mapped}
 use Rattle.sequence.proofs.Places.{contains_at, slice_get_some, slice_get_one}
 use Rattle.tsl_terms.specs.declared.term.Term.{Term}
 use Rattle.tsl_terms.specs.TermTree.{term_tree}
-use Rattle.flow_program.specs.NodeTree.{NodeTree, branch}
+use Rattle.program_tree.specs.NodeTree.{NodeTree, branch}
 use Rattle.letter_space.specs.declared.controlled.Controlled.{Controlled}
 use Rattle.letter_space.specs.ControlledView.{controlled_tree}
 use Rattle.letter_space.specs.SpaceTree.{SpaceTree, IsSpace}

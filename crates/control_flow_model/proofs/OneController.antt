@@ -7,8 +7,8 @@ use Rattle.std.proofs.lemmas.Option.{none-some, get_or_from_slice_get}
 use Rattle.std.proofs.Math.Nat.{div-lt_iff_lt-mul}
 use Rattle.sequence.proofs.Options.{one_value}
 use Rattle.tsl_terms.specs.TermTree.{TermTree}
-use Rattle.flow_program.specs.ProgramTree.{ProgramTree}
-use Rattle.flow_program.specs.Walk.{Action}
+use Rattle.program_tree.specs.ProgramTree.{ProgramTree}
+use Rattle.program_tree.specs.Walk.{Action}
 use Rattle.letter_space.specs.SpaceTree.{ControlledTree, SpaceTree, IsSpace}
 use Rattle.sequence.specs.Once.{StandOnce}
 use Rattle.machines.specs.MachineTree.{EntryTree, ControllerTree}

@@ -18,8 +18,8 @@ use Rattle.tsl_terms.specs.SameTree.{same_tree, same_probe_tree}
 use Rattle.tsl_terms.specs.FormulaTree.{Atom, test, update}
 use Rattle.tsl_terms.specs.Value.{Meanings, truth, beside}
 use Rattle.tsl_terms.proofs.SameLemmas.{same_probe_is}
-use Rattle.flow_program.specs.ProgramTree.{ProgramTree, controlled}
-use Rattle.flow_program.specs.Walk.{Action, walk}
+use Rattle.program_tree.specs.ProgramTree.{ProgramTree, controlled}
+use Rattle.program_tree.specs.Walk.{Action, walk}
 use Rattle.tsl_meaning.specs.Interpretation.{InputRows}
 use Rattle.tsl_meaning.specs.Run.{Configuration, HasStep, Closed, signal_value, configuration_at}
 use Rattle.tsl_meaning.specs.Lasso.{holds_at, closed_run}

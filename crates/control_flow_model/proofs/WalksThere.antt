@@ -6,10 +6,10 @@ use Rattle.sequence.proofs.Options.{some_is}
 use Rattle.sequence.proofs.Passes.{passes_at}
 use Rattle.sequence.proofs.Places.{slice_get_some}
 use Rattle.tsl_terms.specs.TermTree.{ProbeTree}
-use Rattle.flow_program.specs.declared.program.Program.{Program}
-use Rattle.flow_program.specs.NodeTree.{NodeTree, branch, assign, node_tree}
-use Rattle.flow_program.specs.ProgramView.{program_tree}
-use Rattle.flow_program.specs.Walk.{Action, done_at, walk_from, walk}
+use Rattle.program_tree.specs.declared.program.Program.{Program}
+use Rattle.program_tree.specs.NodeTree.{NodeTree, branch, assign, node_tree}
+use Rattle.program_tree.specs.ProgramView.{program_tree}
+use Rattle.program_tree.specs.Walk.{Action, done_at, walk_from, walk}
 use Rattle.ltl_formula.specs.Cubes.{has_bit}
 use Rattle.letter_space.specs.SpaceTree.{SpaceTree}
 use Rattle.letter_space.specs.Bits.{bit_of_probe}

@@ -5,9 +5,9 @@ use Rattle.std.specs.List.{list_all}
 use Rattle.std.proofs.lemmas.Option.{none-some, option_and_then_some}
 use Rattle.sequence.proofs.Passes.{passes_at}
 use Rattle.tsl_terms.specs.TermTree.{ProbeTree}
-use Rattle.flow_program.specs.NodeTree.{NodeTree, branch, assign}
-use Rattle.flow_program.specs.ProgramTree.{ProgramTree}
-use Rattle.flow_program.specs.Walk.{Action, done_at, walk_from, walk}
+use Rattle.program_tree.specs.NodeTree.{NodeTree, branch, assign}
+use Rattle.program_tree.specs.ProgramTree.{ProgramTree}
+use Rattle.program_tree.specs.Walk.{Action, done_at, walk_from, walk}
 use Rattle.letter_space.specs.SpaceTree.{SpaceTree}
 use Rattle.letter_space.specs.Bits.{bit_of_probe}
 use Rattle.control_flow_model.specs.ProgramBits.{node_has_bits}

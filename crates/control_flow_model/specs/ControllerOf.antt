@@ -1,8 +1,8 @@
 -- The controller of a program: its entry in a state under a valuation is what the program's walk gives there.
 use Rattle.std.specs.Prelude.{◌≡◌, ℕ, ◌<◌, Bool, List, [], ◌∷◌, length, Option, Some, None, slice_get, option_map, option_and_then}
 use Rattle.tsl_terms.specs.TermTree.{TermTree, ProbeTree}
-use Rattle.flow_program.specs.ProgramTree.{ProgramTree}
-use Rattle.flow_program.specs.Walk.{Action, walk}
+use Rattle.program_tree.specs.ProgramTree.{ProgramTree}
+use Rattle.program_tree.specs.Walk.{Action, walk}
 use Rattle.ltl_formula.specs.Cubes.{has_bit}
 use Rattle.letter_space.specs.SpaceTree.{ControlledTree, SpaceTree}
 use Rattle.letter_space.specs.Bits.{bit_of_probe}

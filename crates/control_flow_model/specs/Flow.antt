@@ -7,8 +7,8 @@ use Rattle.sequence.specs.Kept.{with_new}
 use Rattle.tsl_terms.specs.Laws.{IsRising}
 use Rattle.tsl_terms.specs.OnlyThese.{reads_only, read_only}
 use Rattle.tsl_terms.specs.WindowTree.{WindowTree}
-use Rattle.flow_program.specs.NodeTree.{NodeTree, branch, assign}
-use Rattle.flow_program.specs.ProgramTree.{ProgramTree}
+use Rattle.program_tree.specs.NodeTree.{NodeTree, branch, assign}
+use Rattle.program_tree.specs.ProgramTree.{ProgramTree}
 use Rattle.letter_space.specs.SpaceTree.{SpaceTree}
 use Rattle.machines.specs.MachineTree.{EntryTree, ControllerTree, controller_entry}
 use Rattle.control_flow_model.specs.ControllerOf.{terms_picked}

@@ -2,8 +2,8 @@
 use Rattle.std.specs.Prelude.{◌≡◌, Bool, true, false, ◌&&◌, List, [], ◌∷◌, map, is_some, IsTrue}
 use Rattle.std.specs.List.{list_all}
 use Rattle.tsl_terms.specs.TermTree.{TermTree}
-use Rattle.flow_program.specs.NodeTree.{NodeTree, branch, assign}
-use Rattle.flow_program.specs.ProgramTree.{ProgramTree, controlled}
+use Rattle.program_tree.specs.NodeTree.{NodeTree, branch, assign}
+use Rattle.program_tree.specs.ProgramTree.{ProgramTree, controlled}
 use Rattle.letter_space.specs.SpaceTree.{ControlledTree, SpaceTree}
 use Rattle.letter_space.specs.Bits.{bit_of_choice, bit_of_probe}
 

@@ -3,7 +3,7 @@ use Rattle.std.specs.Prelude.{◌≡◌, ℕ, ◌<◌, ◌^◌, ◌++◌, Some}
 use Rattle.std.specs.List.{AllByRecursion}
 use Rattle.loop_shape.specs.LoopShape.{LoopShape, IsPosition}
 use Rattle.tsl_terms.specs.Value.{Meanings}
-use Rattle.flow_program.specs.ProgramTree.{ProgramTree}
+use Rattle.program_tree.specs.ProgramTree.{ProgramTree}
 use Rattle.tsl_meaning.specs.Interpretation.{InputRows}
 use Rattle.tsl_meaning.specs.Run.{Configuration, configuration_at}
 use Rattle.tsl_meaning.specs.Lasso.{closed_run}

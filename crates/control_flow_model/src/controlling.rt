@@ -2,8 +2,8 @@
 
 ghost use Rattle.std.specs.Prelude.{◌≡◌, ◌+◌, ◌<◌, ◌^◌, if◌then◌else◌, Some, length, map, is_some, slice_get, IfOk, IsSome, IsTrue};
 ghost use Rattle.tsl_terms.specs.TermTree.{term_tree, probe_tree};
-ghost use Rattle.flow_program.specs.ProgramView.{program_tree};
-ghost use Rattle.flow_program.specs.Walk.{walk};
+ghost use Rattle.program_tree.specs.ProgramView.{program_tree};
+ghost use Rattle.program_tree.specs.Walk.{walk};
 ghost use Rattle.letter_space.specs.ControlledView.{controlled_tree};
 ghost use Rattle.letter_space.specs.SpaceView.{space_tree};
 ghost use Rattle.letter_space.specs.Bits.{bit_of_probe, bit_of_choice};
@@ -12,9 +12,9 @@ ghost use Rattle.machines.specs.MachineView.{entry_tree, controller_tree};
 ghost use Rattle.control_flow_model.specs.ProgramBits.{are_terms_chosen, ProgramHasBits};
 ghost use Rattle.control_flow_model.specs.ControllerOf.{truth_under, terms_picked, IsEntryOf, IsControllerOf};
 
-use flow_program::{Node, Program};
 use letter_space::{Controlled, Space};
 use machines::{Controller, Entry};
+use program_tree::{Node, Program};
 use sequence::{NoMemory, Sequence};
 use std::alloc::Global;
 use tsl_terms::{Probe, Term};

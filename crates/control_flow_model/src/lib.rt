@@ -29,6 +29,3 @@ pub use laws::{
     closed_runs_have_letter_loops, flows_are_small, flows_have_bits, flows_repeat_nothing,
     flows_walk_as_controllers, one_controller, one_flow,
 };
-
-#[cfg(test)]
-mod tests;

@@ -4,7 +4,7 @@ ghost use Rattle.std.specs.Prelude.{◌≡◌, ◌<◌, ◌^◌, ◌==◌, lengt
 ghost use Rattle.std.specs.List.{AllByRecursion};
 ghost use Rattle.sequence.specs.Numbers.{is_among};
 ghost use Rattle.tsl_terms.specs.TermTree.{term_tree};
-ghost use Rattle.flow_program.specs.NodeTree.{node_tree};
+ghost use Rattle.program_tree.specs.NodeTree.{node_tree};
 ghost use Rattle.letter_space.specs.ControlledView.{controlled_tree};
 ghost use Rattle.letter_space.specs.SpaceView.{space_tree};
 ghost use Rattle.letter_space.specs.Letters.{ArePicks};
@@ -13,8 +13,8 @@ ghost use Rattle.control_flow_model.specs.internal.Parts.{part_key, part_keys};
 ghost use Rattle.control_flow_model.specs.internal.PartNodes.{key_node, HasNode};
 
 use crate::parting::Part;
-use flow_program::Node;
 use letter_space::{Controlled, Space};
+use program_tree::Node;
 use sequence::{NoMemory, Sequence};
 use std::alloc::Global;
 use tsl_terms::{Term, copy_probe, copy_term};

@@ -12,7 +12,7 @@ use sequence::NoMemory;
 use std::alloc::Global;
 
 /// A part of decision trees: an entry, or the test of a bit with the numbers of its branches.
-#[derive(Debug, PartialEq, Eq, Hash, Drop)]
+#[derive(PartialEq, Eq, Hash, Drop)]
 pub(crate) enum Part {
     /// An entry.
     Leaf {

@@ -10,7 +10,7 @@ use Rattle.clause_core.specs.Clauses.{meets, meets_all}
 use Rattle.bounded_encoding.specs.Question.{QuestionTree}
 use Rattle.bounded_encoding.proofs.KeptClauses.{kept_meets}
 use Rattle.bounded_encoding.proofs.Ranges.{all_in_range, all_of_range, all_in_list, all_of_list, filtered_in_range, filtered_of_range}
-use Rattle.bounded_encoding.proofs.ExactlyOne.{IsOneOf, one_from_clauses, clauses_from_one}
+use Rattle.bounded_encoding.proofs.SolutionsAreAssignments.ExactlyOne.{IsOneOf, one_from_clauses, clauses_from_one}
 use Rattle.counterstrategy.specs.DualVariables.{holds_in, moves_to, has_number, tests_in_all, vectors_in_all, dual_index, is_set_in}
 use Rattle.counterstrategy.specs.DualEncoding.{successors_under, successors_in, successor_clauses, first_pair_clauses, pair_numbers_at}
 use Rattle.counterstrategy.specs.DualEncoding.{pair_numbers_in, pair_number_clauses, meets_choices, met_vectors, asks_test}

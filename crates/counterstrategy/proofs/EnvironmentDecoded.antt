@@ -17,9 +17,9 @@ use Rattle.annotation_check.specs.Annotations.{edges_from, IsAtLeast, after_edge
 use Rattle.annotation_check.proofs.LeavingEdges.{passes_filtered}
 use Rattle.bounded_encoding.specs.Question.{QuestionTree, IsPosed, JoinsStates}
 use Rattle.bounded_encoding.proofs.Ranges.{range_at, first_passes, first_below}
-use Rattle.bounded_encoding.proofs.CubeBits.{asked_bit}
+use Rattle.bounded_encoding.proofs.SolutionsAreAssignments.CubeBits.{asked_bit}
 use Rattle.bounded_encoding.proofs.Tables.{table_length, table_cell}
-use Rattle.bounded_encoding.proofs.MovesHeld.{place_of}
+use Rattle.bounded_encoding.proofs.SolutionsAreAssignments.MovesHeld.{place_of}
 use Rattle.machines.specs.Moves.{MoveTree, EnvironmentFits, move_under, environment_move, environment_moves}
 use Rattle.counterstrategy.specs.EnvironmentQuestion.{IsEnvironmentSolution}
 use Rattle.counterstrategy.specs.DualVariables.{holds_in, moves_to, has_number, tests_in_all, vectors_in_all, is_set_in}

@@ -18,7 +18,7 @@ use Rattle.annotation_check.proofs.LeavingEdges.{leaves}
 use Rattle.annotation_check.proofs.PairNumbers.{number_there, at_least, more_than_at_least}
 use Rattle.bounded_encoding.specs.Question.{QuestionTree, IsPosed, JoinsStates, WantsAsked}
 use Rattle.bounded_encoding.proofs.Tables.{place_within, cell_in_row}
-use Rattle.bounded_encoding.proofs.ExactlyOne.{IsOneOf}
+use Rattle.bounded_encoding.proofs.SolutionsAreAssignments.ExactlyOne.{IsOneOf}
 use Rattle.machines.specs.Moves.{move_under, environment_move, environment_moves}
 use Rattle.counterstrategy.specs.EnvironmentQuestion.{IsEnvironmentSolution}
 use Rattle.counterstrategy.specs.DualVariables.{DualVariable, holds_in, moves_to, has_number, tests_in_all, vectors_in_all, IsDualVariable}

@@ -10,7 +10,7 @@ use Rattle.ltl_formula.specs.Cubes.{has_bit, cube_matches, IsWithin}
 use Rattle.letter_space.specs.SpaceTree.{ControlledTree, SpaceTree}
 use Rattle.letter_space.specs.Letters.{valuation_count, with_bit, with_picks, letter_of}
 use Rattle.letter_space.proofs.LetterBits.{has_bit_more}
-use Rattle.bounded_encoding.proofs.CubeBits.{same_bits, bits_from_match, match_from_bits}
+use Rattle.bounded_encoding.proofs.SolutionsAreAssignments.CubeBits.{same_bits, bits_from_match, match_from_bits}
 use Rattle.counterstrategy.proofs.PassingBits.{no_bit_above}
 
 -- the bits behind the first ones

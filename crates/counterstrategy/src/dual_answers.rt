@@ -7,7 +7,7 @@ use refutation_check::Log;
 use sequence::Sequence;
 
 /// What a search for an environment came to.
-#[derive(Debug, Drop)]
+#[derive(Drop)]
 pub enum FoundDual {
     /// This environment, with this annotation of it.
     Environment(Environment, Annotation),

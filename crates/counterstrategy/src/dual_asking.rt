@@ -14,7 +14,7 @@ use cobuchi_automata::Automaton;
 use letter_space::Space;
 
 /// A question for an environment.
-#[derive(Clone, Copy, Debug)]
+#[derive(Clone, Copy)]
 pub(crate) struct DualQuestion<'a> {
     /// The automaton.
     pub(crate) automaton: &'a Automaton,

@@ -28,6 +28,3 @@ pub use environment_finding::find_environment;
 pub use laws::{
     assignments_give_environments, dual_variables_have_one_number, environments_give_assignments,
 };
-
-#[cfg(test)]
-mod tests;

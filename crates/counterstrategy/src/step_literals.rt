@@ -14,7 +14,7 @@ use sequence::NoMemory;
 use std::alloc::Global;
 
 /// A state of the environment, an edge, and a vector that meets it.
-#[derive(Clone, Copy, Debug)]
+#[derive(Clone, Copy)]
 pub(crate) struct Step {
     /// The state.
     pub(crate) state: u32,

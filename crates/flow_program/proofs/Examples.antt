@@ -8,13 +8,15 @@ use Rattle.tsl_terms.specs.declared.names.NameKind.TheVariants.{Signal, Function
 use Rattle.tsl_terms.specs.Name.{Name}
 use Rattle.tsl_terms.specs.TermTree.{TermTree, signal, apply, no_terms, more_terms, ProbeTree}
 use Rattle.tsl_terms.specs.WindowTree.{WindowTree}
-use Rattle.flow_program.specs.NodeTree.{branch, assign}
-use Rattle.flow_program.specs.ProgramTree.{ProgramTree}
-use Rattle.flow_program.specs.Walk.{walk}
+use Rattle.program_tree.specs.NodeTree.{branch, assign}
+use Rattle.program_tree.specs.ProgramTree.{ProgramTree}
+use Rattle.program_tree.specs.Walk.{walk}
 use Rattle.sequence.specs.Numbers.{IsDistinct}
 use Rattle.tsl_terms.specs.OnlyThese.{reads_only}
-use Rattle.flow_program.specs.Fits.{BranchesFit, AssignmentsFit, window_is_shaped, window_reads_only}
-use Rattle.flow_program.specs.ProgramText.{program_text, IsProgram, IsWritable, ProgramText}
+use Rattle.program_tree.specs.Fits.{BranchesFit, AssignmentsFit, window_is_shaped, window_reads_only}
+use Rattle.program_tree.specs.Fits.{IsProgram}
+use Rattle.program_tree.specs.Writable.{IsWritable}
+use Rattle.flow_program.specs.ProgramText.{program_text, ProgramText}
 
 abbrev named : List ℕ → NameKind → ℕ → Name
 named text kind arity = record { text = text; kind = kind; arity = arity }

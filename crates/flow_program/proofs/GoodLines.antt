@@ -25,14 +25,15 @@ use Rattle.tsl_terms.specs.WellFormed.{is_usable_at}
 use Rattle.tsl_terms.specs.OnlyThese.{reads_only, read_only}
 use Rattle.term_text.specs.TermText.{name_text}
 use Rattle.term_text.specs.WindowText.{listed_text, window_text}
-use Rattle.flow_program.specs.declared.listing.Name.{Name}
-use Rattle.flow_program.specs.Fits.{longest, rises, comes_before, window_is_shaped, window_reads_only, window_fits}
-use Rattle.flow_program.specs.Fits.{stands_before as stands_among}
-use Rattle.flow_program.specs.ProgramText.{declarations, signal_fits, term_is_writable, probe_is_writable, listed_is_writable}
-use Rattle.flow_program.specs.ProgramText.{window_is_writable}
-use Rattle.flow_program.specs.Listing.{name_bytes, declaration_line_text, listed_line_text, window_line_text}
-use Rattle.flow_program.specs.Listing.{is_phrase, name_stands, listed_line_stands, window_line_stands, declared_entry, ListedLine}
-use Rattle.flow_program.specs.Listing.{WindowLine}
+use Rattle.program_listing.specs.declared.listing.Name.{Name}
+use Rattle.program_tree.specs.Fits.{longest, rises, comes_before, window_is_shaped, window_reads_only, window_fits}
+use Rattle.program_tree.specs.Fits.{stands_before as stands_among}
+use Rattle.program_tree.specs.Writable.{signal_fits, term_is_writable, probe_is_writable, listed_is_writable}
+use Rattle.flow_program.specs.ProgramText.{declarations}
+use Rattle.program_tree.specs.Writable.{window_is_writable}
+use Rattle.program_listing.specs.Listing.{name_bytes, declaration_line_text, listed_line_text, window_line_text}
+use Rattle.program_listing.specs.Listing.{is_phrase, name_stands, listed_line_stands, window_line_stands, declared_entry, ListedLine}
+use Rattle.program_listing.specs.Listing.{WindowLine}
 use Rattle.flow_program.specs.Uses.{signal_use, test_uses, listed_uses, window_uses, windows_uses}
 use Rattle.flow_program.specs.Rules.{places_rise, place_in, place_of_cell, stands_before, listed_rise, is_cell_within, breaks_window}
 use Rattle.flow_program.specs.internal.Numbering.{small, numbered, numbered_term, numbered_test, numbered_listed, numbered_window}

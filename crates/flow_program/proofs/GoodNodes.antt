@@ -14,11 +14,12 @@ use Rattle.tsl_terms.specs.Name.{Name as NameEntry}
 use Rattle.tsl_terms.specs.TermTree.{TermTree}
 use Rattle.tsl_terms.specs.OnlyThese.{reads_only, read_only}
 use Rattle.term_text.specs.TermText.{name_text}
-use Rattle.flow_program.specs.NodeTree.{NodeTree, branch, assign}
-use Rattle.flow_program.specs.ProgramText.{updates_text, node_text, nodes_text, states_text, term_is_writable, node_is_writable}
-use Rattle.flow_program.specs.Listing.{name_bytes, update_line_text, node_line_text, node_lines_text, state_lines_text}
-use Rattle.flow_program.specs.Listing.{is_phrase, name_stands, update_line_stands, node_line_stands, UpdateLine, NodeLine, branch_line}
-use Rattle.flow_program.specs.Listing.{assignment_line}
+use Rattle.program_tree.specs.NodeTree.{NodeTree, branch, assign}
+use Rattle.program_tree.specs.Writable.{term_is_writable, node_is_writable}
+use Rattle.flow_program.specs.ProgramText.{updates_text, node_text, nodes_text, states_text}
+use Rattle.program_listing.specs.Listing.{name_bytes, update_line_text, node_line_text, node_lines_text, state_lines_text}
+use Rattle.program_listing.specs.Listing.{is_phrase, name_stands, update_line_stands, node_line_stands, UpdateLine, NodeLine, branch_line}
+use Rattle.program_listing.specs.Listing.{assignment_line}
 use Rattle.flow_program.specs.Uses.{update_uses, node_uses, nodes_uses}
 use Rattle.flow_program.specs.Rules.{are_texts, breaks_order, goes_nowhere, is_nowhere, breaks_updates}
 use Rattle.flow_program.specs.internal.Numbering.{small, numbered_term, numbered_node}

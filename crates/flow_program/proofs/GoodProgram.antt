@@ -18,12 +18,14 @@ use Rattle.tsl_terms.specs.Name.{AreDistinct, Name as NameEntry}
 use Rattle.tsl_terms.specs.Clashes.{alike_in_kind, same_arity}
 use Rattle.tsl_terms.specs.WellFormed.{name_fits}
 use Rattle.term_text.specs.TermText.{name_text}
-use Rattle.flow_program.specs.declared.listing.Name.{Name}
+use Rattle.program_listing.specs.declared.listing.Name.{Name}
 use Rattle.flow_program.specs.declared.reading.ProgramError.{ProgramError}
-use Rattle.flow_program.specs.NodeTree.{branch, assign}
-use Rattle.flow_program.specs.ProgramTree.{ProgramTree}
-use Rattle.flow_program.specs.ProgramText.{signal_fits, most_windows, most_nodes, most_states, IsWritable, IsProgram, ProgramText}
-use Rattle.flow_program.specs.Listing.{name_bytes, declared_entry, declared, WindowLine, NodeLine, ListingTree, IsListing}
+use Rattle.program_tree.specs.NodeTree.{branch, assign}
+use Rattle.program_tree.specs.ProgramTree.{ProgramTree}
+use Rattle.program_tree.specs.Fits.{IsProgram}
+use Rattle.program_tree.specs.Writable.{signal_fits, most_windows, most_nodes, most_states, IsWritable}
+use Rattle.flow_program.specs.ProgramText.{ProgramText}
+use Rattle.program_listing.specs.Listing.{name_bytes, declared_entry, declared, WindowLine, NodeLine, ListingTree, IsListing}
 use Rattle.flow_program.specs.Uses.{ProgramUse, declared_uses, windows_uses, nodes_uses, first_declaration, first_window, first_node}
 use Rattle.flow_program.specs.Uses.{first_state, uses_of, names_after}
 use Rattle.flow_program.specs.Rules.{first_place, first_line, breaks_order, goes_nowhere, is_nowhere, breaks_updates, breaks_window}

@@ -17,11 +17,11 @@ use Rattle.tsl_terms.specs.WellFormed.{brackets_of_arguments, deepest, are_one_s
 use Rattle.tsl_terms.specs.OnlyThese.{reads_only, read_only}
 use Rattle.term_text.specs.TermText.{name_text, argument_text, applied_text, term_text, arguments_text, application_text, question_text}
 use Rattle.term_text.specs.TermText.{probe_text}
-use Rattle.flow_program.specs.declared.listing.Name.{Name}
-use Rattle.flow_program.specs.ProgramText.{term_is_writable, probe_is_writable}
-use Rattle.flow_program.specs.Listing.{PhraseTree, bare, applied, PhraseTrees, no_phrases, more_phrases, count_of_phrases, name_bytes}
-use Rattle.flow_program.specs.Listing.{argument_spelling, applied_spelling, phrase_text, phrases_text, bracketed_phrase, phrase_brackets}
-use Rattle.flow_program.specs.Listing.{phrases_brackets, is_phrase, phrase_stands}
+use Rattle.program_listing.specs.declared.listing.Name.{Name}
+use Rattle.program_tree.specs.Writable.{term_is_writable, probe_is_writable}
+use Rattle.program_listing.specs.Listing.{PhraseTree, bare, applied, PhraseTrees, no_phrases, more_phrases, count_of_phrases, name_bytes}
+use Rattle.program_listing.specs.Listing.{argument_spelling, applied_spelling, phrase_text, phrases_text, bracketed_phrase, phrase_brackets}
+use Rattle.program_listing.specs.Listing.{phrases_brackets, is_phrase, phrase_stands}
 use Rattle.flow_program.specs.Uses.{read_use, tested_use, applied_use, term_uses, terms_uses, test_uses, question_entry}
 use Rattle.flow_program.specs.internal.Numbering.{numbered_term, numbered_terms, numbered_test, probe_with}
 use Rattle.flow_program.proofs.KnownUses.{Known, KnownUse}

@@ -2,9 +2,9 @@
 use Rattle.std.proofs.Common.{◌≡◌, ℕ, List, subst, sym, ◌∙◌}
 use Rattle.std.proofs.lemmas.Option.{same_Some}
 use Rattle.tsl_terms.specs.Name.{Name}
-use Rattle.flow_program.specs.ProgramTree.{ProgramTree}
+use Rattle.program_tree.specs.ProgramTree.{ProgramTree}
 use Rattle.flow_program.specs.ProgramText.{ProgramText}
-use Rattle.flow_program.specs.Listing.{ListingTree}
+use Rattle.program_listing.specs.Listing.{ListingTree}
 use Rattle.flow_program.specs.internal.Numbering.{Numbered}
 
 pub same_program : (names : List Name) (text : List ℕ) (l : ListingTree) (p q : ProgramTree) → Numbered names text l p →

@@ -8,14 +8,14 @@ use Rattle.tsl_text.specs.Names.{is_usable, is_name_text, is_reserved}
 use Rattle.tsl_terms.specs.Name.{number_of, Name as NameEntry}
 use Rattle.tsl_terms.specs.Clashes.{added_unless_found, with_use, with_uses}
 use Rattle.tsl_terms.specs.WellFormed.{deepest}
-use Rattle.flow_program.specs.declared.listing.Name.{Name}
-use Rattle.flow_program.specs.Listing.{PhraseTree, bare, applied, PhraseTrees, no_phrases, more_phrases, UpdateLine, ListedLine, WindowLine}
-use Rattle.flow_program.specs.Listing.{NodeLine, branch_line, assignment_line, ListingTree}
-use Rattle.flow_program.specs.Listing.{name_bytes, argument_spelling, applied_spelling, phrase_text, phrases_text, update_spelling}
-use Rattle.flow_program.specs.Listing.{declaration_line_text, listed_line_text, window_line_text, update_line_text, node_line_text}
-use Rattle.flow_program.specs.Listing.{node_lines_text, state_lines_text}
-use Rattle.flow_program.specs.Listing.{name_stands, phrase_stands, phrases_stand, phrase_brackets, is_phrase, update_line_stands}
-use Rattle.flow_program.specs.Listing.{listed_line_stands, window_line_stands, node_line_stands, declared, IsListing}
+use Rattle.program_listing.specs.declared.listing.Name.{Name}
+use Rattle.program_listing.specs.Listing.{PhraseTree, bare, applied, PhraseTrees, no_phrases, more_phrases, UpdateLine, ListedLine, WindowLine}
+use Rattle.program_listing.specs.Listing.{NodeLine, branch_line, assignment_line, ListingTree}
+use Rattle.program_listing.specs.Listing.{name_bytes, argument_spelling, applied_spelling, phrase_text, phrases_text, update_spelling}
+use Rattle.program_listing.specs.Listing.{declaration_line_text, listed_line_text, window_line_text, update_line_text, node_line_text}
+use Rattle.program_listing.specs.Listing.{node_lines_text, state_lines_text}
+use Rattle.program_listing.specs.Listing.{name_stands, phrase_stands, phrases_stand, phrase_brackets, is_phrase, update_line_stands}
+use Rattle.program_listing.specs.Listing.{listed_line_stands, window_line_stands, node_line_stands, declared, IsListing}
 use Rattle.flow_program.specs.Uses.{ProgramUse, question_entry, entries_of_use, names_after, term_uses, terms_uses, test_uses, update_uses}
 use Rattle.flow_program.specs.Uses.{listed_uses, window_uses, node_uses, declared_uses, windows_uses, nodes_uses, first_declaration}
 use Rattle.flow_program.specs.Uses.{first_window, first_node, first_state, uses_of}

@@ -6,7 +6,7 @@ use Rattle.tsl_terms.specs.declared.term.Term.{Term}
 use Rattle.tsl_terms.specs.Name.{Name}
 use Rattle.tsl_terms.specs.TermTree.{TermTree, TermTrees, no_terms, more_terms, terms_of, term_tree}
 use Rattle.tsl_terms.proofs.TermLemmas.{with_front_none}
-use Rattle.flow_program.specs.Listing.{PhraseTree, PhraseTrees, more_phrases}
+use Rattle.program_listing.specs.Listing.{PhraseTree, PhraseTrees, more_phrases}
 use Rattle.flow_program.specs.internal.Numbering.{numbered_term, numbered_terms}
 
 abbrev pub numbered_front : List TermTree → Option TermTrees → Option TermTrees

@@ -15,17 +15,17 @@ use Rattle.tsl_terms.proofs.FirstUses.{first_uses_distinct}
 use Rattle.flow_program.specs.declared.reading.ProgramError.{ProgramError}
 use Rattle.flow_program.specs.declared.reading.ProgramError.TheVariants.{Form, Order, Target, Updates, Window, Unknown, Kind, Arity}
 use Rattle.flow_program.specs.declared.reading.ProgramError.TheVariants.{Windows, Nodes, States, NoMemory}
-use Rattle.flow_program.specs.ProgramTree.{ProgramTree}
+use Rattle.program_tree.specs.ProgramTree.{ProgramTree}
 use Rattle.flow_program.specs.ProgramText.{ProgramText}
-use Rattle.flow_program.specs.Listing.{IsListing, BeginAlike, FormFault}
+use Rattle.program_listing.specs.Listing.{IsListing, BeginAlike, FormFault}
 use Rattle.flow_program.specs.Uses.{uses_of, entries_of_use, names_after}
 use Rattle.flow_program.specs.Rules.{fault_of}
 use Rattle.flow_program.specs.Reading.{IsReading, HasRuleFault, HasProgramCause, IsOfProgramText, GoOnFrom}
-use Rattle.flow_program.proofs.OneListing.{one_listing, one_fault}
-use Rattle.flow_program.proofs.ListingFacts.{listing_from}
-use Rattle.flow_program.proofs.OneProgram.{one_program}
+use Rattle.program_listing.proofs.OneListing.{one_listing, one_fault}
+use Rattle.program_listing.proofs.ListingFacts.{listing_from}
+use Rattle.flow_program.proofs.SpelledOnce.OneProgram.{one_program}
 use Rattle.flow_program.proofs.WithUses.{are_first}
-use Rattle.flow_program.proofs.PlacedProgram.{ProgramPlaced, program_placed, all_stay}
+use Rattle.flow_program.proofs.WrittenIsRead.PlacedProgram.{ProgramPlaced, program_placed, all_stay}
 
 -- ---- a text has one reading
 

@@ -11,10 +11,10 @@ use Rattle.sequence.proofs.Places.{slice_get_grown}
 use Rattle.std.specs.List.{take-map}
 use Rattle.tsl_terms.specs.Name.{number_of, texts, AreDistinct, Name as NameEntry}
 use Rattle.tsl_terms.proofs.NameLemmas.{absent_before}
-use Rattle.flow_program.specs.declared.listing.Name.{Name}
-use Rattle.flow_program.specs.declared.listing.SpelledUpdate.{SpelledUpdate}
-use Rattle.flow_program.specs.declared.listing.SpelledListed.{SpelledListed}
-use Rattle.flow_program.specs.Listing.{name_bytes, declared_entry, update_line, listed_line}
+use Rattle.program_listing.specs.declared.listing.Name.{Name}
+use Rattle.program_listing.specs.declared.listing.SpelledUpdate.{SpelledUpdate}
+use Rattle.program_listing.specs.declared.listing.SpelledListed.{SpelledListed}
+use Rattle.program_listing.specs.Listing.{name_bytes, declared_entry, update_line, listed_line}
 use Rattle.flow_program.specs.Rules.{are_texts, stands_before, listed_rise, is_cell_within}
 
 -- ---- the texts of updates

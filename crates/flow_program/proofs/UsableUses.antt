@@ -6,11 +6,11 @@ use Rattle.std.proofs.lemmas.Bool.{and_from, and_parts}
 use Rattle.sequence.proofs.Passes.{list_all_joined}
 use Rattle.tsl_text.specs.Names.{is_usable}
 use Rattle.tsl_terms.specs.WellFormed.{deepest}
-use Rattle.flow_program.specs.declared.listing.Name.{Name}
-use Rattle.flow_program.specs.Listing.{PhraseTree, bare, applied, PhraseTrees, no_phrases, more_phrases, UpdateLine, ListedLine, WindowLine}
-use Rattle.flow_program.specs.Listing.{NodeLine, branch_line, assignment_line, ListingTree}
-use Rattle.flow_program.specs.Listing.{name_bytes, name_stands, phrase_stands, phrases_stand, phrase_brackets, is_phrase}
-use Rattle.flow_program.specs.Listing.{update_line_stands, listed_line_stands, window_line_stands, node_line_stands, declared, IsListing}
+use Rattle.program_listing.specs.declared.listing.Name.{Name}
+use Rattle.program_listing.specs.Listing.{PhraseTree, bare, applied, PhraseTrees, no_phrases, more_phrases, UpdateLine, ListedLine, WindowLine}
+use Rattle.program_listing.specs.Listing.{NodeLine, branch_line, assignment_line, ListingTree}
+use Rattle.program_listing.specs.Listing.{name_bytes, name_stands, phrase_stands, phrases_stand, phrase_brackets, is_phrase}
+use Rattle.program_listing.specs.Listing.{update_line_stands, listed_line_stands, window_line_stands, node_line_stands, declared, IsListing}
 use Rattle.flow_program.specs.Uses.{ProgramUse, term_uses, terms_uses, test_uses, update_uses, listed_uses, window_uses, node_uses}
 use Rattle.flow_program.specs.Uses.{declared_uses, windows_uses, nodes_uses, first_declaration, first_window, first_node, uses_of}
 

@@ -2,9 +2,9 @@
 use Rattle.std.proofs.Common.{◌≡◌, ℕ, zero, suc, ◌+◌, ◌<◌, ◌≤◌, List, [], ◌∷◌, ◌++◌, length, get_or, drop, map, ap, sym, ◌∙◌, arith}
 use Rattle.std.proofs.Common.{length-append}
 use Rattle.sequence.proofs.Lists.{left_at}
-use Rattle.flow_program.specs.declared.listing.Name.{Name}
-use Rattle.flow_program.specs.Listing.{PhraseTree, bare, applied, PhraseTrees, no_phrases, more_phrases, count_of_phrases, WindowLine}
-use Rattle.flow_program.specs.Listing.{NodeLine, ListingTree, declared}
+use Rattle.program_listing.specs.declared.listing.Name.{Name}
+use Rattle.program_listing.specs.Listing.{PhraseTree, bare, applied, PhraseTrees, no_phrases, more_phrases, count_of_phrases, WindowLine}
+use Rattle.program_listing.specs.Listing.{NodeLine, ListingTree, declared}
 use Rattle.flow_program.specs.Uses.{ProgramUse, signal_use, line_uses, uses_of, first_window, first_node, term_uses, terms_uses}
 use Rattle.flow_program.specs.Uses.{declared_uses, windows_uses, nodes_uses}
 

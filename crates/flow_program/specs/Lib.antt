@@ -1,14 +1,5 @@
-pub mod Fits
-pub mod LineText
-pub mod Listing
-pub mod ListingFault
-pub mod ListingTree
-pub mod NodeTree
 pub mod ProgramText
-pub mod ProgramTree
-pub mod ProgramView
 pub mod Reading
 pub mod Rules
 pub mod Uses
-pub mod Walk
 pub mod internal

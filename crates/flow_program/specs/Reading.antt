@@ -3,9 +3,9 @@ use Rattle.std.specs.Prelude.{◌≡◌, ℕ, List, ◌++◌, Some, None}
 use Rattle.tsl_terms.specs.Name.{Name}
 use Rattle.flow_program.specs.declared.reading.ProgramError.{ProgramError}
 use Rattle.flow_program.specs.declared.reading.ProgramError.TheVariants.{Form, NoMemory}
-use Rattle.flow_program.specs.ProgramTree.{ProgramTree}
+use Rattle.program_tree.specs.ProgramTree.{ProgramTree}
 use Rattle.flow_program.specs.ProgramText.{ProgramText}
-use Rattle.flow_program.specs.Listing.{ListingTree, IsListing, FormFault}
+use Rattle.program_listing.specs.Listing.{ListingTree, IsListing, FormFault}
 use Rattle.flow_program.specs.Uses.{uses_of, names_after}
 use Rattle.flow_program.specs.Rules.{fault_of}
 

@@ -6,13 +6,13 @@ use Rattle.std.specs.List.{list_all}
 use Rattle.std.specs.Option.{option_map_or, is_some}
 use Rattle.tsl_terms.specs.Name.{number_of, Name as NameEntry}
 use Rattle.tsl_terms.specs.Clashes.{alike_in_kind, same_arity}
-use Rattle.flow_program.specs.declared.listing.Name.{Name}
+use Rattle.program_listing.specs.declared.listing.Name.{Name}
 use Rattle.flow_program.specs.declared.reading.ProgramError.{ProgramError}
 use Rattle.flow_program.specs.declared.reading.ProgramError.TheVariants.{Order, Target, Updates, Window, Unknown, Kind, Arity, Windows}
 use Rattle.flow_program.specs.declared.reading.ProgramError.TheVariants.{Nodes, States}
-use Rattle.flow_program.specs.Fits.{longest}
-use Rattle.flow_program.specs.ProgramText.{most_windows, most_nodes, most_states}
-use Rattle.flow_program.specs.Listing.{ListedLine, WindowLine, NodeLine, branch_line, assignment_line, ListingTree, name_bytes}
+use Rattle.program_tree.specs.Fits.{longest}
+use Rattle.program_tree.specs.Writable.{most_windows, most_nodes, most_states}
+use Rattle.program_listing.specs.Listing.{ListedLine, WindowLine, NodeLine, branch_line, assignment_line, ListingTree, name_bytes}
 use Rattle.flow_program.specs.Uses.{ProgramUse, first_window, first_node, first_state, uses_of, names_after}
 
 -- the first place, counted from this one, at which a test of the place and the member holds

@@ -1,4 +1,2 @@
-pub mod LineOrder
-pub mod LineReading
 pub mod Numbering
 pub mod UseView

@@ -3,7 +3,7 @@
 ghost use Rattle.std.specs.Prelude.{◌≡◌, ℕ, List};
 ghost use Rattle.tsl_terms.specs.Name.{Name, AreDistinct};
 ghost use Rattle.flow_program.specs.declared.reading.ProgramError.{ProgramError};
-ghost use Rattle.flow_program.specs.ProgramTree.{ProgramTree};
+ghost use Rattle.program_tree.specs.ProgramTree.{ProgramTree};
 ghost use Rattle.flow_program.specs.ProgramText.{ProgramText};
 ghost use Rattle.flow_program.specs.Reading.{IsReading, HasProgramCause, IsOfProgramText, GoOnFrom};
 

@@ -17,35 +17,15 @@
 #![tactic(auto)]
 
 mod laws;
-mod left;
-mod limits;
-mod line;
-mod listing;
-mod listing_laws;
-mod listing_reader;
 mod naming;
-mod node;
 mod numbering;
-mod phrases;
-mod program;
 mod reading;
 mod rules;
 mod uses;
-mod words;
 mod writing;
 
 pub use laws::{one_program, one_program_cause, one_reading, spelled_programs_are_read};
-pub use limits::{LONGEST_WINDOW, MOST_NODES, MOST_STATES, MOST_WINDOWS};
-pub use listing::Name;
-pub use listing_laws::one_listing;
-pub use node::Node;
-pub use program::Program;
+pub use program_listing::{Name, one_listing};
+pub use program_tree::{LONGEST_WINDOW, MOST_NODES, MOST_STATES, MOST_WINDOWS, Node, Program};
 pub use reading::{ProgramError, read_program};
 pub use writing::{put_updates, write_program};
-
-#[cfg(test)]
-mod listing_tests;
-#[cfg(test)]
-mod read_tests;
-#[cfg(test)]
-mod tests;

@@ -7,23 +7,22 @@ ghost use Rattle.sequence.specs.Options.{all_there};
 ghost use Rattle.tsl_terms.specs.Name.{number_of, question, Name as NameEntry};
 ghost use Rattle.tsl_terms.specs.TermTree.{TermTree, term_tree, term_trees, probe_tree};
 ghost use Rattle.tsl_terms.specs.WindowTree.{ListedTree, WindowTree, listed_tree, window_tree};
-ghost use Rattle.flow_program.specs.NodeTree.{NodeTree, node_tree};
-ghost use Rattle.flow_program.specs.ListingTree.{UpdateLine, ListedLine, WindowLine, NodeLine};
-ghost use Rattle.flow_program.specs.ProgramView.{program_tree};
-ghost use Rattle.flow_program.specs.ProgramTree.{ProgramTree};
+ghost use Rattle.program_tree.specs.NodeTree.{NodeTree, node_tree};
+ghost use Rattle.program_listing.specs.ListingTree.{UpdateLine, ListedLine, WindowLine, NodeLine};
+ghost use Rattle.program_tree.specs.ProgramView.{program_tree};
+ghost use Rattle.program_tree.specs.ProgramTree.{ProgramTree};
 ghost use Rattle.flow_program.specs.ProgramText.{ProgramText};
-ghost use Rattle.flow_program.specs.Listing.{name_stands, phrase_stands, phrases_stand, update_line_stands, listed_line_stands};
-ghost use Rattle.flow_program.specs.Listing.{window_line_stands, node_line_stands, phrase_tree, phrase_trees, update_line, listed_line};
-ghost use Rattle.flow_program.specs.Listing.{window_line, node_line, listing_tree, IsListing};
+ghost use Rattle.program_listing.specs.Listing.{name_stands, phrase_stands, phrases_stand, update_line_stands, listed_line_stands};
+ghost use Rattle.program_listing.specs.Listing.{window_line_stands, node_line_stands, phrase_tree, phrase_trees, update_line, listed_line};
+ghost use Rattle.program_listing.specs.Listing.{window_line, node_line, listing_tree, IsListing};
 ghost use Rattle.flow_program.specs.internal.Numbering.{small, numbered, numbered_term, numbered_terms, numbered_test, numbered_listed};
 ghost use Rattle.flow_program.specs.internal.Numbering.{numbered_window, numbered_node, Numbered};
 
-use crate::listing::{
+use crate::uses::name_bytes;
+use program_listing::{
     Listing, Name, Phrase, PhraseList, SpelledListed, SpelledNode, SpelledUpdate, SpelledWindow,
 };
-use crate::node::Node;
-use crate::program::Program;
-use crate::uses::name_bytes;
+use program_tree::{Node, Program};
 use sequence::{NoMemory, Sequence};
 use std::alloc::Global;
 use tsl_terms::{Listed, Names, Probe, Term, TermList, Window};

@@ -4,19 +4,18 @@ ghost use Rattle.std.specs.Prelude.{◌≡◌, ◌+◌, ◌<◌, ◌^◌, ◌++�
 ghost use Rattle.std.specs.List.{list_all};
 ghost use Rattle.tsl_terms.specs.Name.{texts, AreDistinct};
 ghost use Rattle.tsl_terms.specs.WellFormed.{name_fits};
-ghost use Rattle.flow_program.specs.ProgramView.{program_tree};
-ghost use Rattle.flow_program.specs.Listing.{listing_tree, IsListing};
+ghost use Rattle.program_tree.specs.ProgramView.{program_tree};
+ghost use Rattle.program_listing.specs.Listing.{listing_tree, IsListing};
 ghost use Rattle.flow_program.specs.Uses.{first_state};
 ghost use Rattle.flow_program.specs.Rules.{cell_texts, readable_of};
 ghost use Rattle.flow_program.specs.Reading.{IsReading, HasProgramCause};
 
-use crate::listing::{Listing, ListingError, Name};
-use crate::listing_reader::read_listing;
 use crate::naming::names_after;
 use crate::numbering::numbered_program;
-use crate::program::Program;
 use crate::rules::{declared_names, limit_fault, line_fault, use_fault};
 use crate::uses::all_uses;
+use program_listing::{Listing, ListingError, Name, read_listing};
+use program_tree::Program;
 use sequence::NoMemory;
 use std::alloc::{AllocFailed, Global};
 use thiserror::Error;
@@ -90,7 +89,7 @@ impl<T: Drop> From<AllocFailed<T>> for ProgramError {
 }
 
 /// The names of the signals that lines declare, to be found by their bytes.
-#[derive(Debug, Drop)]
+#[derive(Drop)]
 struct Signals {
     /// The cells.
     cells: Names,

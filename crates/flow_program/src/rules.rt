@@ -4,19 +4,19 @@ ghost use Rattle.std.specs.Prelude.{◌≡◌, ℕ, ◌+◌, ◌<◌, ◌^◌, �
 ghost use Rattle.std.specs.List.{list_all};
 ghost use Rattle.tsl_terms.specs.Name.{texts, same_kind, AreDistinct};
 ghost use Rattle.tsl_terms.specs.Clashes.{alike_in};
-ghost use Rattle.flow_program.specs.Listing.{name_bytes, name_stands, update_line_stands, listed_line_stands, window_line_stands};
-ghost use Rattle.flow_program.specs.Listing.{node_line_stands, update_line, listed_line, window_line, node_line, listing_tree};
-ghost use Rattle.flow_program.specs.Listing.{declared_entry, IsListing};
+ghost use Rattle.program_listing.specs.Listing.{name_bytes, name_stands, update_line_stands, listed_line_stands, window_line_stands};
+ghost use Rattle.program_listing.specs.Listing.{node_line_stands, update_line, listed_line, window_line, node_line, listing_tree};
+ghost use Rattle.program_listing.specs.Listing.{declared_entry, IsListing};
 ghost use Rattle.flow_program.specs.Uses.{first_window, first_node, first_state};
 ghost use Rattle.flow_program.specs.Rules.{first_line, breaks_order, goes_nowhere, is_nowhere, are_texts, breaks_updates, places_rise};
 ghost use Rattle.flow_program.specs.Rules.{place_of_cell, stands_before, listed_rise, is_cell_within, breaks_window, is_unknown};
 ghost use Rattle.flow_program.specs.Rules.{is_unlike, line_fault, use_fault, limit_fault, cell_texts, controlled_of};
 ghost use Rattle.flow_program.specs.internal.UseView.{use_view};
 
-use crate::limits::{LONGEST_WINDOW, MOST_NODES, MOST_STATES, MOST_WINDOWS};
-use crate::listing::{Listing, Name, SpelledListed, SpelledNode, SpelledUpdate, SpelledWindow};
 use crate::reading::ProgramError;
 use crate::uses::{SpelledUse, name_bytes};
+use program_listing::{Listing, Name, SpelledListed, SpelledNode, SpelledUpdate, SpelledWindow};
+use program_tree::{LONGEST_WINDOW, MOST_NODES, MOST_STATES, MOST_WINDOWS};
 use sequence::NoMemory;
 use std::alloc::Global;
 use tsl_terms::{NameKind, Names, Quality};

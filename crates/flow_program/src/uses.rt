@@ -2,25 +2,25 @@
 
 ghost use Rattle.std.specs.Prelude.{◌≡◌, ℕ, ◌+◌, ◌<◌, ◌^◌, ◌++◌, List, Bool, length, map, flat_map, IfOk, OnOk, IsTrue};
 ghost use Rattle.std.specs.List.{list_all};
-ghost use Rattle.flow_program.specs.Listing.{name_bytes, name_stands, phrase_stands, phrases_stand, update_line_stands};
-ghost use Rattle.flow_program.specs.Listing.{listed_line_stands, window_line_stands, node_line_stands, count_of_phrases};
-ghost use Rattle.flow_program.specs.Listing.{phrase_tree, phrase_trees, update_line, listed_line, window_line, node_line, listing_tree};
-ghost use Rattle.flow_program.specs.Listing.{IsListing};
-ghost use Rattle.flow_program.specs.ListingTree.{UpdateLine, ListedLine, WindowLine, NodeLine};
+ghost use Rattle.program_listing.specs.Listing.{name_bytes, name_stands, phrase_stands, phrases_stand, update_line_stands};
+ghost use Rattle.program_listing.specs.Listing.{listed_line_stands, window_line_stands, node_line_stands, count_of_phrases};
+ghost use Rattle.program_listing.specs.Listing.{phrase_tree, phrase_trees, update_line, listed_line, window_line, node_line, listing_tree};
+ghost use Rattle.program_listing.specs.Listing.{IsListing};
+ghost use Rattle.program_listing.specs.ListingTree.{UpdateLine, ListedLine, WindowLine, NodeLine};
 ghost use Rattle.flow_program.specs.Uses.{ProgramUse, signal_use, read_use, tested_use, applied_use, term_uses, terms_uses, test_uses};
 ghost use Rattle.flow_program.specs.Uses.{update_uses, listed_uses, window_uses, node_uses, line_uses, declared_uses, uses_of, first_state};
 ghost use Rattle.flow_program.specs.internal.UseView.{use_view};
 
-use crate::listing::{
+use crate::rules::{first_node, first_window};
+use program_listing::{
     Listing, Name, Phrase, PhraseList, SpelledListed, SpelledNode, SpelledUpdate, SpelledWindow,
 };
-use crate::rules::{first_node, first_window};
 use sequence::NoMemory;
 use std::alloc::Global;
 use tsl_terms::{NameKind, NameUse};
 
 /// A use of a name.
-#[derive(Clone, Copy, Debug)]
+#[derive(Clone, Copy)]
 pub(crate) struct SpelledUse<'a> {
     /// The use, as the name that it would be.
     pub(crate) usage: NameUse<'a>,

@@ -8,7 +8,7 @@ use Rattle.tsl_text.specs.Division.{Part, lexemes_of}
 use Rattle.tsl_terms.specs.FormulaTree.{FormulaTree}
 use Rattle.tsl_terms.specs.Nodes.{nodes}
 use Rattle.tsl_terms.specs.SpecTree.{SpecTree, whole_formula}
-use Rattle.tsl_reader.specs.Syntax.{terminal_of}
+use Rattle.spec_syntax.specs.Syntax.{terminal_of}
 use Rattle.tsl_reader.specs.Naming.{written_uses, names_of, numbered_list}
 use Rattle.tsl_reader.specs.Spells.{Spells, most_formula_nodes}
 use Rattle.generator.specs.Generated.{generated_text}

@@ -19,12 +19,13 @@ use Rattle.tsl_terms.specs.Clashes.{alike_in_kind, same_arity, HasNoClash}
 use Rattle.tsl_terms.specs.FormulaTree.{FormulaTree}
 use Rattle.tsl_terms.specs.Nodes.{nodes}
 use Rattle.tsl_terms.specs.SpecTree.{SpecTree, whole_formula}
-use Rattle.tsl_reader.specs.Syntax.{Terminal, free, mark, terminal_of, alone, applied, no_terms, more_terms, FormulaSyntax, tested}
-use Rattle.tsl_reader.specs.Syntax.{updated, under, between, SectionSyntax}
-use Rattle.tsl_reader.specs.Grammar as grammar
-use Rattle.tsl_reader.specs.Grammar.{IsFormula, AreItems, IsSection, AreSections}
+use Rattle.spec_syntax.specs.Syntax.{Terminal, free, mark, terminal_of, alone, applied, no_terms, more_terms, FormulaSyntax, tested}
+use Rattle.spec_syntax.specs.Syntax.{updated, under, between, SectionSyntax}
+use Rattle.spec_syntax.specs.Grammar as grammar
+use Rattle.spec_syntax.specs.Grammar.{IsFormula, AreItems, IsSection, AreSections}
 use Rattle.tsl_reader.specs.Naming.{written_uses, names_of, numbered_list}
-use Rattle.tsl_reader.specs.Spells.{Spells, terminal_at, terminals, deepest_level, most_formula_nodes}
+use Rattle.spec_syntax.specs.Texts.{terminal_at, terminals}
+use Rattle.tsl_reader.specs.Spells.{Spells, deepest_level, most_formula_nodes}
 
 -- ---- the grammar
 

@@ -82,6 +82,3 @@ pub fn generated_texts_are_spelled()
     ensures short { (n : ℕ) → 1 ≤ n → n ≤ 5 → length (generated_text n) ≤ 161 }
     ensures spelled { (n : ℕ) → 1 ≤ n → n ≤ 5 → (spec : SpecTree) × Spells (generated_text n) spec }
 {}
-
-#[cfg(test)]
-mod tests;

@@ -9,7 +9,7 @@ use std::alloc::Global;
 
 /// A free term: a signal at a step, or a function applied to free terms. Numbers are those of a list of names.
 #[cycle(free_terms)]
-#[derive(Debug, Drop)]
+#[derive(Drop)]
 pub enum FreeTerm {
     /// A signal, by its number, and a step.
     Leaf(u32, u32),
@@ -19,7 +19,6 @@ pub enum FreeTerm {
 
 /// A list of free terms, in order.
 #[cycle(free_terms)]
-#[derive(Debug)]
 pub enum FreeList {
     /// No free term.
     Empty,

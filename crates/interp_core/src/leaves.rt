@@ -9,7 +9,7 @@ ghost use Rattle.tsl_terms.specs.Value.{beside};
 use sequence::Sequence;
 
 /// Signals with a value each, in one order. No signal stands twice.
-#[derive(Debug, Drop)]
+#[derive(Drop)]
 pub struct Leaves<V> {
     /// The signals.
     pub signals: Sequence<u32>,

@@ -30,6 +30,3 @@ pub use laws::images_are_values;
 pub use leaves::Leaves;
 pub use term_algebra::TermAlgebra;
 pub use wheel::Wheel;
-
-#[cfg(test)]
-mod tests;

@@ -12,7 +12,7 @@ use std::alloc::Global;
 
 /// The algebra whose values are free terms: a function on any arguments is its own application to them, and no
 /// two values are the same but where they are equal as trees.
-#[derive(Debug, Drop)]
+#[derive(Drop)]
 pub struct TermAlgebra {
     /// The cells. Each is its leaf at step 0 at first.
     pub cells: Sequence<u32>,

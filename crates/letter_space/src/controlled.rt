@@ -8,7 +8,7 @@ use sequence::Sequence;
 use tsl_terms::{Term, same_term};
 
 /// A cell or an output, and the terms that it may take.
-#[derive(Debug, Drop)]
+#[derive(Drop)]
 pub struct Controlled {
     /// The signal, by its number.
     pub signal: u32,

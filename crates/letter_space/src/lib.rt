@@ -35,6 +35,3 @@ pub use limits::{MOST_BITS, MOST_PREDICATES, MOST_VECTORS};
 pub use space::Space;
 pub use space_error::SpaceError;
 pub use spacing::space_of;
-
-#[cfg(test)]
-mod tests;

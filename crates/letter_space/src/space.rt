@@ -15,7 +15,7 @@ use tsl_terms::{Probe, Term, same_probe};
 
 /// Which predicate term or choice each bit of a letter stands for: first the predicate terms, in
 /// their order, and then the choices of each controlled signal.
-#[derive(Debug, Drop)]
+#[derive(Drop)]
 pub struct Space {
     /// The predicate terms.
     pub predicates: Sequence<Probe>,

@@ -10,15 +10,15 @@ use std::cmp::Ordering;
 
 /// A formula in negation normal form: a negation stands at a bit alone.
 #[cycle(ltl)]
-#[derive(Debug, Drop, PartialEq, Eq, PartialOrd, Ord, Hash)]
+#[derive(Drop, PartialEq, Eq, PartialOrd, Ord, Hash)]
 pub enum Ltl {
     /// Holds everywhere.
     True,
     /// Holds nowhere.
     False,
-    /// The letter has the bit with this number, below 64.
+    /// The letter has the bit with this number. A letter is a number below 2^64: it has no bit from 64 on.
     Bit(u32),
-    /// The letter does not have the bit with this number, below 64.
+    /// The letter does not have the bit with this number.
     NotBit(u32),
     /// All members.
     All(LtlList),
@@ -34,7 +34,7 @@ pub enum Ltl {
 
 /// A list of formulas, in order.
 #[cycle(ltl)]
-#[derive(Debug, PartialEq, Eq, PartialOrd, Ord, Hash)]
+#[derive(PartialEq, Eq, PartialOrd, Ord, Hash)]
 pub enum LtlList {
     /// No formula.
     Empty,

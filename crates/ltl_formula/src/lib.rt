@@ -20,6 +20,3 @@ pub use cube::Cube;
 pub use dual::negate;
 pub use formula::{Ltl, LtlList, compare};
 pub use laws::formulas_are_ordered;
-
-#[cfg(test)]
-mod tests;

@@ -9,7 +9,7 @@ use sequence::{NoMemory, Sequence};
 use std::alloc::Global;
 
 /// What a controller does in a state under a valuation.
-#[derive(Debug, Drop)]
+#[derive(Drop)]
 pub struct Entry {
     /// One choice for each controlled signal, by its number among that signal's choices.
     pub choices: Sequence<u32>,
@@ -19,7 +19,7 @@ pub struct Entry {
 
 /// A table that gives for each state and each valuation what is chosen, and the state to go to. It
 /// begins in state 0, and may leave states unreached.
-#[derive(Debug, Drop)]
+#[derive(Drop)]
 pub struct Controller {
     /// How many states there are.
     pub states: u32,

@@ -20,6 +20,3 @@ pub use environment::Environment;
 pub use moves::Move;
 pub use rounds::Round;
 pub use side::Side;
-
-#[cfg(test)]
-mod tests;

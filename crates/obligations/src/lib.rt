@@ -25,8 +25,6 @@ mod set;
 mod sets;
 mod step_error;
 mod stepping;
-#[cfg(test)]
-mod tests;
 
 pub use expanding::{LETTER_BITS, expand, number_of};
 pub use expansions::{choices_of_numbers, no_expansions};

@@ -8,7 +8,7 @@ use sequence::NoMemory;
 use std::alloc::Global;
 
 /// What one step asks of the letter, and the numbers of the formulas that it leaves.
-#[derive(Debug, PartialEq, Eq, Hash, Drop)]
+#[derive(PartialEq, Eq, Hash, Drop)]
 pub struct NumberedChoice {
     /// The bits that it asks for.
     pub care: u64,

@@ -13,7 +13,7 @@ use std::alloc::Global;
 use std::marker::Model;
 
 /// A set of formulas. They rise strictly in the order of formulas.
-#[derive(Debug, Drop)]
+#[derive(Drop)]
 pub struct Set {
     formulas: Vec<Ltl>,
 }

@@ -24,7 +24,7 @@ use sequence::NoMemory;
 use std::alloc::Global;
 
 /// What one step asks of the letter, and what it leaves for the next one.
-#[derive(Debug, Drop)]
+#[derive(Drop)]
 pub struct Choice {
     /// What it asks of the letter.
     pub cube: Cube,

@@ -14,9 +14,9 @@ use Rattle.tsl_terms.specs.Predicates.{predicates_of}
 use Rattle.tsl_terms.specs.WindowTree.{window_formula_of, under_windows}
 use Rattle.tsl_terms.specs.Congruence.{IsCongruent}
 use Rattle.tsl_terms.specs.Laws.{FormulasFit}
-use Rattle.flow_program.specs.NodeTree.{NodeTree, branch, assign}
-use Rattle.flow_program.specs.ProgramTree.{ProgramTree}
-use Rattle.flow_program.specs.ProgramText.{IsProgram}
+use Rattle.program_tree.specs.NodeTree.{NodeTree, branch, assign}
+use Rattle.program_tree.specs.ProgramTree.{ProgramTree}
+use Rattle.program_tree.specs.Fits.{IsProgram}
 use Rattle.tsl_meaning.specs.Interpretation.{meanings_in}
 use Rattle.tsl_meaning.specs.Lasso.{closed_run, Meets}
 use Rattle.tsl_meaning.specs.Promise.{EveryRunMeets, Realizes}

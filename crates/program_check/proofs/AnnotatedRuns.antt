@@ -6,7 +6,7 @@ use Rattle.tsl_terms.specs.declared.operator.UnaryOperator.TheVariants.{Negation
 use Rattle.tsl_terms.specs.Name.{Name}
 use Rattle.tsl_terms.specs.FormulaTree.{FormulaTree, unary}
 use Rattle.tsl_terms.specs.Value.{Meanings}
-use Rattle.flow_program.specs.ProgramTree.{ProgramTree}
+use Rattle.program_tree.specs.ProgramTree.{ProgramTree}
 use Rattle.tsl_meaning.specs.Interpretation.{InputRows, meanings_in}
 use Rattle.tsl_meaning.specs.Run.{Closed}
 use Rattle.tsl_meaning.specs.Lasso.{meets, closed_run, Meets}

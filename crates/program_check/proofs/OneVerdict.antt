@@ -3,8 +3,8 @@ use Rattle.std.proofs.Common.{◌≡◌, ◌∙◌, ℕ, List, Some, None, slice
 use Rattle.sequence.proofs.Options.{one_value, none_never_some}
 use Rattle.tsl_terms.specs.TermTree.{TermTree, ProbeTree}
 use Rattle.tsl_terms.specs.SpecTree.{SpecTree}
-use Rattle.flow_program.specs.NodeTree.{branch, assign}
-use Rattle.flow_program.specs.ProgramTree.{ProgramTree}
+use Rattle.program_tree.specs.NodeTree.{branch, assign}
+use Rattle.program_tree.specs.ProgramTree.{ProgramTree}
 use Rattle.program_check.specs.declared.verdict.Verdict.{Verdict}
 use Rattle.program_check.specs.declared.verdict.Verdict.TheVariants.{Signals, Test, Choice, Foreign, Unsound, NoAnnotation, Yes}
 use Rattle.program_check.specs.Verdicts.{HasSignals, first_refused_node, RefusesTest, RefusesTerms, first_foreign_window, IsUnsoundAt}

@@ -3,7 +3,7 @@ use Rattle.std.proofs.Common.{ℕ, ◌<◌, ◌≤◌, List, length, arith}
 use Rattle.sequence.proofs.Options.{none_never_some}
 use Rattle.tsl_terms.specs.SpecTree.{SpecTree}
 use Rattle.tsl_terms.specs.Predicates.{predicates_of}
-use Rattle.flow_program.specs.ProgramTree.{ProgramTree}
+use Rattle.program_tree.specs.ProgramTree.{ProgramTree}
 use Rattle.letter_space.specs.declared.limits.TheConstants.{MOST_PREDICATES, MOST_BITS}
 use Rattle.letter_space.specs.SpaceTree.{bit_count}
 use Rattle.letter_space.specs.SpecSpace.{spec_space}

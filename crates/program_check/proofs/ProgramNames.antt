@@ -24,11 +24,11 @@ use Rattle.tsl_terms.specs.WindowTree.{WindowTree, ListedTree}
 use Rattle.tsl_terms.specs.WellFormed.{atom_fits, formula_fits}
 use Rattle.tsl_terms.specs.Laws.{FormulasFit}
 use Rattle.tsl_terms.proofs.WholeAtoms.{fits_all, whole_is_made_of}
-use Rattle.flow_program.specs.declared.program.Program.{Program}
-use Rattle.flow_program.specs.NodeTree.{NodeTree, branch, assign, node_tree}
-use Rattle.flow_program.specs.ProgramTree.{ProgramTree}
-use Rattle.flow_program.specs.ProgramText.{IsProgram}
-use Rattle.flow_program.specs.ProgramView.{program_tree}
+use Rattle.program_tree.specs.declared.program.Program.{Program}
+use Rattle.program_tree.specs.NodeTree.{NodeTree, branch, assign, node_tree}
+use Rattle.program_tree.specs.ProgramTree.{ProgramTree}
+use Rattle.program_tree.specs.Fits.{IsProgram}
+use Rattle.program_tree.specs.ProgramView.{program_tree}
 use Rattle.tsl_meaning.specs.OverNames.{term_is_over, probe_is_over, listed_is_over, window_is_over, node_is_over, atom_is_over}
 use Rattle.tsl_meaning.specs.OverNames.{IsProgramOver}
 use Rattle.tsl_meaning.proofs.Naming.{atom_over}

@@ -11,10 +11,10 @@ use Rattle.sequence.proofs.Places.{slice_get_taken}
 use Rattle.tsl_terms.specs.declared.window.Window.{Window}
 use Rattle.tsl_terms.specs.WindowTree.{ListedTree, WindowTree, window_tree}
 use Rattle.tsl_terms.specs.Congruence.{IsCongruent, UpdateCells}
-use Rattle.flow_program.specs.Fits.{window_is_shaped, window_reads_only, window_fits, longest}
-use Rattle.flow_program.specs.declared.program.Program.{Program}
-use Rattle.flow_program.specs.ProgramTree.{ProgramTree}
-use Rattle.flow_program.specs.ProgramView.{program_tree}
+use Rattle.program_tree.specs.Fits.{window_is_shaped, window_reads_only, window_fits, longest}
+use Rattle.program_tree.specs.declared.program.Program.{Program}
+use Rattle.program_tree.specs.ProgramTree.{ProgramTree}
+use Rattle.program_tree.specs.ProgramView.{program_tree}
 use Rattle.annotation_check.proofs.EdgesFollowed.{image_at, each_image_next}
 use Rattle.program_check.specs.Verdicts.{AreSound, IsUnsoundAt}
 

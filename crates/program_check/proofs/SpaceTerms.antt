@@ -16,7 +16,7 @@ use Rattle.tsl_terms.specs.Distinct.{without_repeats}
 use Rattle.tsl_terms.specs.SpecTree.{SpecTree, whole_formula}
 use Rattle.tsl_terms.specs.Signals.{term_for, is_cell, cells_of, outputs_of, choices_of}
 use Rattle.tsl_terms.specs.Predicates.{probe_of, predicates_of}
-use Rattle.flow_program.specs.NodeTree.{NodeTree, branch, assign}
+use Rattle.program_tree.specs.NodeTree.{NodeTree, branch, assign}
 use Rattle.letter_space.specs.SpaceTree.{ControlledTree}
 use Rattle.letter_space.specs.Bits.{bit_of_probe, bit_of_choice, controlled_with, bit_of_update}
 use Rattle.letter_space.specs.SpecSpace.{controlled_from, spec_space}

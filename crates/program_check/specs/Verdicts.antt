@@ -11,8 +11,8 @@ use Rattle.tsl_terms.specs.SpecTree.{SpecTree, whole_formula}
 use Rattle.tsl_terms.specs.Signals.{inputs_of, cells_of, outputs_of}
 use Rattle.tsl_terms.specs.WindowTree.{WindowTree, under_windows}
 use Rattle.tsl_terms.specs.Congruence.{IsCongruent}
-use Rattle.flow_program.specs.NodeTree.{branch, assign}
-use Rattle.flow_program.specs.ProgramTree.{ProgramTree}
+use Rattle.program_tree.specs.NodeTree.{branch, assign}
+use Rattle.program_tree.specs.ProgramTree.{ProgramTree}
 use Rattle.ltl_formula.specs.LtlTree.{LtlTree}
 use Rattle.letter_space.specs.declared.limits.TheConstants.{MOST_PREDICATES, MOST_BITS}
 use Rattle.letter_space.specs.declared.space_error.SpaceError.TheVariants as spaces

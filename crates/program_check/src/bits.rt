@@ -2,7 +2,7 @@
 
 ghost use Rattle.std.specs.Prelude.{◌≡◌, ◌+◌, ◌<◌, ◌^◌, None, not, is_some, length, map, position, IfSome, IfNone};
 ghost use Rattle.tsl_terms.specs.TermTree.{term_tree};
-ghost use Rattle.flow_program.specs.NodeTree.{node_tree};
+ghost use Rattle.program_tree.specs.NodeTree.{node_tree};
 ghost use Rattle.letter_space.specs.ControlledView.{controlled_tree};
 ghost use Rattle.letter_space.specs.SpaceView.{space_tree};
 ghost use Rattle.letter_space.specs.Bits.{bit_of_choice};
@@ -10,8 +10,8 @@ ghost use Rattle.control_flow_model.specs.ProgramBits.{are_terms_chosen, node_ha
 ghost use Rattle.program_check.specs.internal.NodeVerdicts.{node_verdict, IsNodeVerdict};
 
 use crate::verdict::Verdict;
-use flow_program::{Node, Program};
 use letter_space::{Controlled, Space};
+use program_tree::{Node, Program};
 use tsl_terms::Term;
 
 /// The verdict on the first node whose test is no predicate term, or one of whose terms is no choice of

@@ -5,7 +5,7 @@ ghost use Rattle.tsl_terms.specs.declared.operator.UnaryOperator.TheVariants.{Ne
 ghost use Rattle.tsl_terms.specs.Name.{Name};
 ghost use Rattle.tsl_terms.specs.FormulaTree.{FormulaTree, unary};
 ghost use Rattle.tsl_terms.specs.SpecTree.{SpecTree};
-ghost use Rattle.flow_program.specs.ProgramTree.{ProgramTree};
+ghost use Rattle.program_tree.specs.ProgramTree.{ProgramTree};
 ghost use Rattle.tsl_meaning.specs.Promise.{EveryRunMeets};
 ghost use Rattle.letter_space.specs.SpaceTree.{SpaceTree, IsSpace};
 ghost use Rattle.letter_space.specs.Bits.{HasBits};

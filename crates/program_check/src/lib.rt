@@ -22,6 +22,3 @@ mod windows;
 pub use accepting::{accept, automaton_for};
 pub use laws::{annotated_programs_meet, limits_leave_no_verdict, one_verdict};
 pub use verdict::{CheckError, Limit, Verdict};
-
-#[cfg(test)]
-mod tests;

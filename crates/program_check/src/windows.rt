@@ -4,13 +4,13 @@ ghost use Rattle.std.specs.Prelude.{◌≡◌, ◌<◌, ◌^◌, not, is_some, l
 ghost use Rattle.std.specs.List.{list_all};
 ghost use Rattle.tsl_terms.specs.TermTree.{term_tree, probe_tree};
 ghost use Rattle.tsl_terms.specs.WindowTree.{window_tree};
-ghost use Rattle.flow_program.specs.ProgramView.{program_tree};
+ghost use Rattle.program_tree.specs.ProgramView.{program_tree};
 ghost use Rattle.letter_space.specs.SpaceView.{space_tree};
 ghost use Rattle.letter_space.specs.Bits.{bit_of_probe, bit_of_update};
 ghost use Rattle.program_check.specs.Verdicts.{window_has_bits, AreSound, IsUnsoundAt};
 
-use flow_program::Program;
 use letter_space::Space;
+use program_tree::Program;
 use sequence::NoMemory;
 use std::alloc::Global;
 use term_congruence::congruent;

@@ -27,7 +27,7 @@ use Rattle.bounded_encoding.specs.Encoding.{meeting, met_valuations, transition_
 use Rattle.bounded_encoding.specs.Encoding.{transitions_along, transitions_in, transition_clauses}
 use Rattle.bounded_encoding.specs.Encoding.{choice_clauses, next_clauses, start_clauses, number_clauses}
 use Rattle.bounded_encoding.specs.Encoding.{encoding}
-use Rattle.bounded_encoding.proofs.MovesHeld.{place_of}
+use Rattle.bounded_encoding.proofs.SolutionsAreAssignments.MovesHeld.{place_of}
 use Rattle.bounded_encoding.proofs.Ranges.{filtered_in_range}
 use Rattle.refinement_loop.specs.Questions.{IsAsked}
 use Rattle.refinement_loop.proofs.MatchedSums.{HasMatch, sum_matched}

@@ -8,7 +8,7 @@ use Rattle.std.proofs.Math.Nat.{div-lt_iff_lt-mul}
 use Rattle.sequence.proofs.Each.{each_from_places}
 use Rattle.sequence.proofs.Options.{one_value}
 use Rattle.sequence.proofs.Places.{slice_get_some, slice_get_one, slice_get_mapped}
-use Rattle.flow_program.specs.ProgramTree.{ProgramTree}
+use Rattle.program_tree.specs.ProgramTree.{ProgramTree}
 use Rattle.letter_space.specs.SpaceTree.{SpaceTree}
 use Rattle.letter_space.specs.Letters.{ArePicks}
 use Rattle.machines.specs.MachineTree.{EntryTree, ControllerTree, IsController, controller_entry}

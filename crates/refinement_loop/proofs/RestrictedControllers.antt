@@ -10,7 +10,7 @@ use Rattle.machines.specs.MachineTree.{EntryTree, ControllerTree, controller_ent
 use Rattle.machines.specs.Moves.{MoveTree, controller_moves}
 use Rattle.annotation_check.specs.Annotations.{IsAtLeast, after_edge, IsAnnotation}
 use Rattle.control_flow_model.proofs.MovesThere.{move_of, move_there}
-use Rattle.bounded_encoding.proofs.MovesHeld.{move_entry}
+use Rattle.bounded_encoding.proofs.SolutionsAreAssignments.MovesHeld.{move_entry}
 use Rattle.bounded_encoding.proofs.Tables.{cell_in_row}
 
 -- an entry of a state does what a controller does in the state that stands in a list there, and goes to the state that stands for

@@ -20,7 +20,7 @@ use Rattle.tsl_terms.specs.Congruence.{IsCongruent}
 use Rattle.tsl_terms.specs.Laws.{FormulasFit}
 use Rattle.tsl_terms.proofs.SameLemmas.{same_tree_itself, same_probe_itself}
 use Rattle.tsl_terms.proofs.SignalFacts.{read_is_input_or_cell, whole_reads}
-use Rattle.flow_program.specs.Fits.{longest, rises, window_is_shaped, window_reads_only, window_fits}
+use Rattle.program_tree.specs.Fits.{longest, rises, window_is_shaped, window_reads_only, window_fits}
 use Rattle.letter_space.specs.SpaceTree.{ControlledTree, SpaceTree}
 use Rattle.letter_space.specs.Bits.{bit_of_probe, bit_of_choice, controlled_with, bit_of_update}
 use Rattle.letter_space.specs.Letters.{term_taken}

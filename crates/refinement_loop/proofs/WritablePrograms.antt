@@ -16,10 +16,11 @@ use Rattle.tsl_terms.specs.Signals.{is_cell}
 use Rattle.tsl_terms.specs.WindowTree.{ListedTree, WindowTree}
 use Rattle.tsl_terms.specs.WellFormed.{atom_fits, term_fits, SpecFits}
 use Rattle.tsl_terms.proofs.WholeAtoms.{whole_is_made_of}
-use Rattle.flow_program.specs.NodeTree.{NodeTree, branch, assign}
-use Rattle.flow_program.specs.ProgramTree.{ProgramTree, controlled}
-use Rattle.flow_program.specs.ProgramText.{IsProgram, IsWritable, signal_fits, term_is_writable, probe_is_writable}
-use Rattle.flow_program.specs.ProgramText.{listed_is_writable, window_is_writable, node_is_writable}
+use Rattle.program_tree.specs.NodeTree.{NodeTree, branch, assign}
+use Rattle.program_tree.specs.ProgramTree.{ProgramTree, controlled}
+use Rattle.program_tree.specs.Fits.{IsProgram}
+use Rattle.program_tree.specs.Writable.{IsWritable, signal_fits, term_is_writable, probe_is_writable}
+use Rattle.program_tree.specs.Writable.{listed_is_writable, window_is_writable, node_is_writable}
 use Rattle.letter_space.specs.Bits.{bit_of_probe, bit_of_update}
 use Rattle.letter_space.specs.SpecSpace.{spec_space}
 use Rattle.letter_space.specs.Letters.{valuation_count}

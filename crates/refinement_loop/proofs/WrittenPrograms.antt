@@ -12,8 +12,8 @@ use Rattle.tsl_terms.specs.Predicates.{predicates_of}
 use Rattle.tsl_terms.specs.WindowTree.{WindowTree}
 use Rattle.tsl_terms.specs.Congruence.{IsCongruent}
 use Rattle.tsl_terms.specs.Laws.{FormulasFit}
-use Rattle.flow_program.specs.ProgramTree.{ProgramTree}
-use Rattle.flow_program.specs.ProgramText.{IsProgram}
+use Rattle.program_tree.specs.ProgramTree.{ProgramTree}
+use Rattle.program_tree.specs.Fits.{IsProgram}
 use Rattle.tsl_meaning.specs.Promise.{Realizes}
 use Rattle.letter_space.specs.SpaceTree.{SpaceTree, IsSpace}
 use Rattle.letter_space.specs.SpecSpace.{spec_space}

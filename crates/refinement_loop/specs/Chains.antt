@@ -7,7 +7,7 @@ use Rattle.tsl_terms.specs.SpecTree.{SpecTree}
 use Rattle.tsl_terms.specs.Signals.{cells_of}
 use Rattle.tsl_terms.specs.WindowTree.{WindowTree}
 use Rattle.tsl_terms.specs.Congruence.{IsCongruent}
-use Rattle.flow_program.specs.Fits.{window_is_shaped}
+use Rattle.program_tree.specs.Fits.{window_is_shaped}
 use Rattle.letter_space.specs.SpecSpace.{spec_space}
 use Rattle.machines.specs.Rounds.{RoundTree}
 use Rattle.branch_finder.specs.Spurious.{IsSpurious}

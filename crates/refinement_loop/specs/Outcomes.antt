@@ -7,8 +7,8 @@ use Rattle.std.specs.Prelude.{◌≡◌, ℕ, ◌<◌, ◌≤◌, List, [], map,
 use Rattle.tsl_terms.specs.SpecTree.{SpecTree}
 use Rattle.tsl_terms.specs.Signals.{cells_of}
 use Rattle.tsl_terms.specs.WindowTree.{WindowTree}
-use Rattle.flow_program.specs.ProgramTree.{ProgramTree}
-use Rattle.flow_program.specs.ProgramView.{program_tree}
+use Rattle.program_tree.specs.ProgramTree.{ProgramTree}
+use Rattle.program_tree.specs.ProgramView.{program_tree}
 use Rattle.letter_space.specs.declared.space_error.SpaceError.TheVariants as spaces
 use Rattle.letter_space.specs.SpecSpace.{spec_space, HasSpaceCause}
 use Rattle.cobuchi_automata.specs.Automata.{EdgeTree}

@@ -3,7 +3,7 @@
 ghost use Rattle.std.specs.Prelude.{◌≡◌, ℕ, List, []};
 ghost use Rattle.tsl_terms.specs.SpecTree.{SpecTree};
 ghost use Rattle.tsl_terms.specs.WindowTree.{WindowTree};
-ghost use Rattle.flow_program.specs.ProgramTree.{ProgramTree};
+ghost use Rattle.program_tree.specs.ProgramTree.{ProgramTree};
 ghost use Rattle.machines.specs.Rounds.{RoundTree};
 ghost use Rattle.program_check.specs.declared.verdict.Limit.{Limit};
 ghost use Rattle.refinement_loop.specs.declared.outcome.Sizes.{Sizes};

@@ -27,6 +27,3 @@ pub use errors::RefineError;
 pub use laws::{limits_leave_no_outcome, written_or_none};
 pub use outcome::{Asked, Outcome, Reason, Sizes};
 pub use refining::refine;
-
-#[cfg(test)]
-mod tests;

@@ -3,9 +3,9 @@
 use bounded_encoding::Found;
 use clause_core::Clause;
 use cobuchi_automata::Automaton;
-use flow_program::Program;
 use letter_space::Space;
 use machines::{Environment, Round, Side};
+use program_tree::Program;
 use sequence::Sequence;
 
 /// How far the search for a program goes.
@@ -28,7 +28,7 @@ pub struct Sizes {
 }
 
 /// The question for a controller without windows, and the answer to it.
-#[derive(Debug, Drop)]
+#[derive(Drop)]
 pub struct Asked {
     /// The bits of the specification.
     pub space: Space,
@@ -39,7 +39,7 @@ pub struct Asked {
 }
 
 /// Why no further round is made, where there is no controller.
-#[derive(Debug, Drop)]
+#[derive(Drop)]
 pub enum Reason {
     /// As many rounds were made as may be.
     Rounds,
@@ -50,7 +50,7 @@ pub enum Reason {
 }
 
 /// What is answered to a specification. The rounds are those that were made, in order.
-#[derive(Debug, Drop)]
+#[derive(Drop)]
 pub enum Outcome {
     /// A program that realizes it.
     Written {

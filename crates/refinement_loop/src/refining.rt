@@ -3,7 +3,7 @@
 ghost use Rattle.std.specs.Prelude.{◌≡◌, IfOk, IfErr};
 ghost use Rattle.tsl_terms.specs.SpecView.{spec_tree};
 ghost use Rattle.tsl_terms.specs.WellFormed.{SpecFits};
-ghost use Rattle.flow_program.specs.ProgramText.{IsWritable};
+ghost use Rattle.program_tree.specs.Writable.{IsWritable};
 ghost use Rattle.tsl_meaning.specs.Promise.{Realizes};
 ghost use Rattle.letter_space.specs.SpaceView.{space_tree};
 ghost use Rattle.letter_space.specs.SpecSpace.{spec_space};

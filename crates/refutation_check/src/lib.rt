@@ -24,6 +24,3 @@ pub use dimacs::{CnfError, MOST_CLAUSES, MOST_VARIABLES, read_dimacs};
 pub use laws::accepted_logs_refute;
 pub use lrat::{LogTextError, read_lrat};
 pub use steps::{Log, Step};
-
-#[cfg(test)]
-mod tests;

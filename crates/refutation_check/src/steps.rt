@@ -4,7 +4,7 @@ use clause_core::Clause;
 use sequence::Sequence;
 
 /// A step: a clause that follows from those before it by unit propagation.
-#[derive(Debug, Drop)]
+#[derive(Drop)]
 pub struct Step {
     /// The number by which later steps name the clause.
     pub number: u64,
@@ -15,7 +15,7 @@ pub struct Step {
 }
 
 /// The steps of a refutation, in order.
-#[derive(Debug, Drop)]
+#[derive(Drop)]
 pub struct Log {
     /// The steps.
     pub steps: Sequence<Step>,

@@ -18,6 +18,3 @@ pub use laws::{
     written_refutations_are_spelled,
 };
 pub use output::{put_clause, put_cnf, put_literal, put_log, put_refutation};
-
-#[cfg(test)]
-mod tests;

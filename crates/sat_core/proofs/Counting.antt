@@ -14,7 +14,7 @@ use Rattle.clause_core.specs.Clauses.{IsIncreasing, IsOver, has_pair}
 use Rattle.clause_core.specs.Propagation.{not_false, IsLearnt, IsTrace}
 use Rattle.clause_core.specs.Propagation.Reaches.{done, turn}
 use Rattle.clause_core.proofs.Sets.{same_is, same_from, negation-negation, Contains_from_has, has_from_Contains, has_pair_from}
-use Rattle.sat_core.proofs.Hints.{has-map-negation}
+use Rattle.clause_learning.proofs.Hints.{has-map-negation}
 
 abbrev lit : ℕ → Bool → Lit
 lit i p = record { index = i; positive = p }

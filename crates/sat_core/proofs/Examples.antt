@@ -1,7 +1,6 @@
 -- Small cases of the definitions, accepted and refused.
-use Rattle.std.proofs.Common.{◌≡◌, ℕ, zero, suc, ◌+◌, ◌^◌, ◌<◌, ◌≤◌, inl, inr, Bool, true, false, List, [], ◌∷◌, length, Some, None}
-use Rattle.std.proofs.Common.{slice_get, get_or, All, pos, negsuc, refl, sym, ap, ◌∙◌, subst, arith, lit<}
-use Rattle.std.specs.Prelude.{nat_lt, map}
+use Rattle.std.proofs.Common.{◌≡◌, ℕ, zero, suc, ◌+◌, ◌^◌, ◌<◌, ◌≤◌, inl, inr, Bool, true, false, List, [], ◌∷◌, length, Some}
+use Rattle.std.proofs.Common.{slice_get, pos, refl, sym, ap, subst, arith, lit<}
 use Rattle.std.proofs.lemmas.Bool.{false≢true, or_cases, or_left}
 use Rattle.std.proofs.lemmas.Option.{none-some, same_Some}
 use Rattle.std.proofs.lemmas.List.Elements.{All-from_recursion, recursion_from_All}
@@ -10,14 +9,10 @@ use Rattle.clause_core.specs.Propagation.{IsQuiet, IsLearnt, IsNotFound, IsTrace
 use Rattle.clause_core.specs.Propagation.Reaches.{done, turn}
 use Rattle.clause_core.proofs.Sets.{IsIncreasing-in_order}
 use Rattle.clause_core.proofs.Semantics.{reached_within, none_false_within}
-use Rattle.sat_trail.specs.declared.entries.Entry.{Entry}
-use Rattle.sat_trail.specs.Entries.{entry_with}
 use Rattle.sat_trail.proofs.TrailSteps.{IsOpen, open_two, open_true, quiet_from}
 use Rattle.refutation_check.specs.declared.steps.Step.{Step}
 use Rattle.sat_core.proofs.LogNumbers.{is_numbered}
-use Rattle.sat_core.specs.internal.Lessons.{learnt_step}
-use Rattle.sat_core.specs.declared.marks.Marks.{Marks}
-use Rattle.sat_core.specs.internal.ConflictWalks.{count_at, is_of_clause, AreMarks, must_go, IsReplaced}
+use Rattle.clause_learning.specs.Lessons.{learnt_step}
 use Rattle.sat_core.specs.Answers.{AreSatisfying, AreRefuting, IsWholeTrace}
 use Rattle.sat_core.proofs.Counting.{word, not_within}
 use Rattle.sat_core.proofs.Searching.{quiet_reaches}
@@ -172,64 +167,3 @@ word_of_signs = refl
 
 no_signs : word 2 [] ≡ 0
 no_signs = refl
-
--- ---- the walk
-
--- 1 at level 0 by the clause 0, 2 decided, -3 by the clause 1
-abbrev entries : List Entry
-entries = entry_with a 0 (Some 0) ∷ entry_with b 1 None ∷ entry_with (literal_of (negsuc 2)) 1 (Some 1) ∷ []
-
--- the entries at the first two places are marked
-abbrev first_two : ℕ → Bool
-first_two place = nat_lt place 2
-
-one_of_the_level : count_at 1 first_two entries ≡ 1
-one_of_the_level = refl
-
--- the clause -1 3 has the entries at the places 0 and 2
-of_the_clause : map (is_of_clause entries (negation a ∷ literal_of (pos 3) ∷ [])) (0 ∷ 1 ∷ 2 ∷ 3 ∷ []) ≡ true ∷ false ∷ true ∷ false ∷ []
-of_the_clause = refl
-
--- a variable that is not set has no entry
-of_no_entry : map (is_of_clause entries (literal_of (pos 4) ∷ [])) (0 ∷ 1 ∷ 2 ∷ []) ≡ false ∷ false ∷ false ∷ []
-of_no_entry = refl
-
--- marks at the places 0 and 2: one is of level 1
-are_marks : (m : Marks) → m.flags.items ≡ true ∷ false ∷ true ∷ [] → m.lowest ≡ 0 → m.waiting ≡ 1 → m.looked.items ≡ 2 ∷ [] →
-    AreMarks (record { variables = 3; clauses = []; entries = entries; level = 1; broken = false }) m
-are_marks m flags lowest waiting looked = record {
-  one_each = ap length flags;
-  within = λ place h. among place (sym (ap (λ (fs : List Bool). get_or fs place false) flags) ∙ h);
-  above = λ place h. omega (arith, lowest);
-  counted = waiting ∙ sym (ap (λ (fs : List Bool). count_at 1 (λ place. get_or fs place false) entries) flags);
-  looked = subst (All (λ variable. variable < 3)) (sym looked) (All-from_recursion (λ variable. variable < 3) (2 ∷ []) (lit< tt, tt));
-}
-  where
-    among : (place : ℕ) → get_or (true ∷ false ∷ true ∷ []) place false ≡ true → place < 3
-    among zero h = lit< tt
-    among (suc zero) h = lit< tt
-    among (suc (suc zero)) h = lit< tt
-    among (suc (suc (suc place))) h = absurd (false≢true h)
-
--- an entry at level 0 gives way to its reason, or to a clause of its literal alone, and to no clause of another literal
-to_reason : IsReplaced ((a ∷ b ∷ []) ∷ (a ∷ []) ∷ (b ∷ []) ∷ []) 1 1 (entry_with a 0 (Some 0)) 0
-to_reason = record { forces = inl refl; why = inl refl }
-
-to_alone : IsReplaced ((a ∷ b ∷ []) ∷ (a ∷ []) ∷ (b ∷ []) ∷ []) 1 1 (entry_with a 0 (Some 0)) 1
-to_alone = record { forces = inr refl; why = inl refl }
-
-to_other : IsReplaced ((a ∷ b ∷ []) ∷ (a ∷ []) ∷ (b ∷ []) ∷ []) 1 1 (entry_with a 0 (Some 0)) 2 → ⊥
-to_other r = elim r.forces [
-  | inl some ↦ (let e = same_Some 0 2 some in omega arith)
-  | inr alone ↦ (let e = ap (λ (ls : List Lit). has ls a) (same_Some (b ∷ []) (a ∷ []) alone) in false≢true e)
-]
-
--- the reason of an entry at the present level takes its place where another one is marked there
-crowded : must_go 1 2 1 ≡ true
-crowded = refl
-
-alone : must_go 1 1 1 ≡ false
-alone = refl
-
-lower : must_go 2 2 1 ≡ false
-lower = refl

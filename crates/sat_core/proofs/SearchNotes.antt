@@ -11,18 +11,18 @@ use Rattle.sat_trail.specs.declared.entries.Entry.{Entry}
 use Rattle.sat_trail.specs.States.{TrailState, IsSound, with_clause}
 use Rattle.sat_trail.proofs.TrailSteps.{has_one}
 use Rattle.refutation_check.specs.declared.steps.Step.{Step}
-use Rattle.sat_core.specs.declared.journal.Journal.{Journal}
-use Rattle.sat_core.specs.declared.units.Units.{Units}
-use Rattle.sat_core.specs.declared.choices.Decisions.{Decisions}
-use Rattle.sat_core.specs.declared.marks.Marks.{Marks}
-use Rattle.sat_core.specs.internal.Decisions.{AreDecisions}
-use Rattle.sat_core.specs.internal.ConflictWalks.{AreNoMarks}
-use Rattle.sat_core.specs.internal.Shelves.{log_hints}
-use Rattle.sat_core.specs.internal.Lessons.{learnt_step}
-use Rattle.sat_core.specs.internal.Units.{AreUnits, HasNoted, HaveNoted, HasPropagated}
-use Rattle.sat_core.specs.internal.Units.HaveNoted.{none, more}
+use Rattle.clause_learning.specs.declared.journal.Journal.{Journal}
+use Rattle.clause_learning.specs.declared.units.Units.{Units}
+use Rattle.clause_learning.specs.declared.choices.Decisions.{Decisions}
+use Rattle.clause_learning.specs.declared.marks.Marks.{Marks}
+use Rattle.clause_learning.specs.Decisions.{AreDecisions}
+use Rattle.clause_learning.specs.ConflictWalks.{AreNoMarks}
+use Rattle.clause_learning.specs.Shelves.{log_hints}
+use Rattle.clause_learning.specs.Lessons.{learnt_step}
+use Rattle.clause_learning.specs.Units.{AreUnits, HasNoted, HaveNoted, HasPropagated}
+use Rattle.clause_learning.specs.Units.HaveNoted.{none, more}
 use Rattle.sat_core.proofs.Searching.{IsSearch, HasGrown, search_propagated, search_more}
-use Rattle.sat_core.proofs.Deciding.{decisions_grown}
+use Rattle.clause_learning.proofs.Deciding.{decisions_grown}
 
 -- a search with its log, whose steps have the next numbers
 pub record IsLogged (shortens : Bool) (variables : ℕ) (clauses : List (List Lit)) (t : TrailState) (journal : Journal) : Type 0 where

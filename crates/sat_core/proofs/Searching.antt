@@ -8,25 +8,25 @@ use Rattle.std.proofs.lemmas.Bool.{true≢false, false≢true, or_left, or_right
 use Rattle.std.proofs.lemmas.Bool.{false_from_ne_true, lt-leb, leb-false, and_from}
 use Rattle.std.proofs.lemmas.Option.{none-some, same_Some}
 use Rattle.std.proofs.lemmas.List.{append_assoc, append-nil, map-append, length-append, length_push, length-map}
-use Rattle.std.proofs.lemmas.List.Elements.{All-push, All-nil, All-from_recursion, recursion_from_All, Contains-append_cases}
+use Rattle.std.proofs.lemmas.List.Elements.{All-push, All-nil, recursion_from_All, Contains-append_cases}
 use Rattle.std.proofs.lemmas.List.Elements.{Contains-append_left}
-use Rattle.sat_core.specs.declared.journal.Journal.{Journal}
-use Rattle.sat_core.specs.declared.shelves.Shelf.{Shelf}
-use Rattle.sat_core.specs.internal.Shelves.{log_number, log_hints, AreLogNumbers, AreFirst, BeginsAnew, IsShortened}
-use Rattle.sat_core.proofs.LogHints.{first_named, named_next, shown_in_log, hints_in_log}
+use Rattle.clause_learning.specs.declared.journal.Journal.{Journal}
+use Rattle.clause_learning.specs.declared.shelves.Shelf.{Shelf}
+use Rattle.clause_learning.specs.Shelves.{log_number, log_hints, AreLogNumbers, AreFirst, BeginsAnew, IsShortened}
+use Rattle.clause_learning.proofs.LogHints.{first_named, named_next, shown_in_log, hints_in_log}
 use Rattle.sat_core.specs.internal.Ends.{IsEnd, IsSearchAnswer}
-use Rattle.sat_core.specs.internal.Hints.{AreHints}
+use Rattle.clause_learning.specs.Hints.{AreHints}
 use Rattle.clause_core.specs.Literals.{Lit, negation, same, has}
-use Rattle.clause_core.specs.Clauses.{IsIncreasing, in_order, IsOver, has_pair, is_true, meets, meets_all, assignment_of}
+use Rattle.clause_core.specs.Clauses.{IsIncreasing, IsOver, has_pair, is_true, meets, meets_all, assignment_of}
 use Rattle.clause_core.specs.Propagation.{not_false, IsFalse, IsQuiet, ReachesFalse, IsLearnt, IsNotFound, IsTrace}
 use Rattle.clause_core.specs.Propagation.Reaches.{done, turn}
-use Rattle.clause_core.proofs.Sets.{one_increasing, IsIncreasing-in_order, has-in_order, same_from, negation-negation, negation_differs}
-use Rattle.clause_core.proofs.Sets.{Contains_from_has, any_has}
+use Rattle.clause_core.proofs.Sets.{same_from, negation-negation, negation_differs}
+use Rattle.clause_core.proofs.Sets.{Contains_from_has}
 use Rattle.clause_core.proofs.Semantics.{reached_within, none_false_within}
 use Rattle.sat_trail.specs.declared.entries.Entry.{Entry}
 use Rattle.sat_trail.specs.Entries.{literals_of, entry_with}
 use Rattle.sat_trail.specs.States.{TrailState, IsSound, started, decided, with_clause, undone, up_to, Propagates}
-use Rattle.sat_trail.proofs.Places.{AreApart, has_entry, one_entry}
+use Rattle.sat_trail.proofs.Places.{AreApart, one_entry}
 use Rattle.sat_trail.proofs.Soundness.{apart_from, level_within}
 use Rattle.sat_trail.proofs.TrailSteps.{up_to_all, up_to-push, unset_from, has_not_false, has_one}
 use Rattle.refutation_check.specs.declared.steps.Step.{Step}
@@ -35,16 +35,17 @@ use Rattle.refutation_check.specs.Checking.{Numbered, numbered_from, clause_name
 use Rattle.refutation_check.specs.Checking.{Refusal, step_refusal, first_of, steps_refusal, is_empty_clause, end_refusal, HaveFewHints}
 use Rattle.refutation_check.specs.Checking.HintEffect.{makes, shows_nothing}
 use Rattle.refutation_check.specs.Checking.Refusal.{at_line, at_hint, unfinished}
-use Rattle.sat_core.specs.internal.Levels.{IsSetAt, AreQuietBelow}
+use Rattle.clause_learning.specs.Levels.{IsSetAt, AreQuietBelow}
 use Rattle.sat_core.specs.LogNumbers.{AreNumbered}
-use Rattle.sat_core.specs.internal.Lessons.{IsAsserting, IsLesson, learnt_step, clauses_of, HasLearnt, IsRefutingLog}
-use Rattle.sat_core.specs.internal.Decisions.{AreSet, AreVariableTruths}
+use Rattle.clause_learning.specs.Lessons.{IsAsserting, IsLesson, learnt_step, clauses_of, HasLearnt, IsRefutingLog}
+use Rattle.clause_learning.specs.Decisions.{AreSet, AreVariableTruths}
 use Rattle.sat_core.specs.declared.answers.Answer.{Answer}
 use Rattle.sat_core.specs.declared.answers.Answer.TheVariants.{Sat, Unsat, Spent}
 use Rattle.sat_core.specs.Answers.{AreSatisfying, AreRefuting, IsWholeTrace}
-use Rattle.sat_core.proofs.Hints.{has-map-negation}
+use Rattle.clause_learning.proofs.Hints.{has-map-negation}
+use Rattle.clause_learning.proofs.LessonLemmas.{lesson_over, lesson_no_pair}
 use Rattle.sat_core.proofs.LogNumbers.{is_numbered, numbered_more}
-use Rattle.sat_core.proofs.Walking.{up_to_has, up_to_from}
+use Rattle.clause_learning.proofs.Walking.{up_to_has, up_to_from}
 use Rattle.sat_core.proofs.Counting.{trace_is_short, filter-has}
 
 -- the clauses of a formula and of the steps behind them
@@ -170,11 +171,6 @@ search_decided shortens variables clauses t u steps numbers l search quiet is so
 
 -- ---- a learnt clause
 
--- the literals of a clause in order are the clause
-pub copied : (copy clause literals : List Lit) → copy ≡ in_order literals → literals ≡ clause → IsIncreasing clause → copy ≡ clause
-copied copy clause literals is reads up = is ∙ (ap in_order reads
-    ∙ one_increasing (in_order clause) clause (IsIncreasing-in_order clause) up (has-in_order clause))
-
 numbered_push : (n : ℕ) (cs : List (List Lit)) (c : List Lit) (number : ℕ) → number ≡ n + length cs →
     numbered_from n (cs ++ c ∷ []) ≡ numbered_from n cs ++ record { number = number; clause = c } ∷ []
 numbered_push n [] c number h = ap (λ (k : ℕ). (record { number = k; clause = c }) ∷ []) (let e : n ≡ number = omega arith in e)
@@ -250,13 +246,6 @@ unset_below t sound l level n set_at = false_from_ne_true (has (literals_of (up_
     let one = one_level t.entries (apart_from t.variables t.clauses t.entries sound.stand) l (negation l) r.0 n refl r.2 set_at in
     negation_differs l (sym one.0)))
 
-all_from_has : (P : Lit → Type 0) (xs : List Lit) → ((l : Lit) → has xs l ≡ true → P l) → AllByRecursion P xs
-all_from_has P [] h = tt
-all_from_has P (x ∷ xs) h = (
-  h x (or_left (same x x) (has xs x) (same_from x x refl)),
-  all_from_has P xs (λ l k. h l (or_right (same x l) (has xs l) k)),
-)
-
 none_out : (variables : ℕ) (clause : List Lit) → AllByRecursion (λ (l : Lit). l.index < variables) clause →
     list_any (λ l. leb variables l.index) clause ≡ false
 none_out variables [] all = refl
@@ -279,26 +268,11 @@ step_accepted variables clauses clause hints over no_pair shown =
     ∙ ap (option_map (at_hint (length clauses + 1))) shown
 
 module _ (t : TrailState) (sound : IsSound t) (clause : List Lit) (hints : List ℕ) (back : ℕ) (lesson : IsLesson t clause hints back) where
-  pub lesson_over : IsOver t.variables clause
-  lesson_over = All-from_recursion (λ (l : Lit). l.index < t.variables) clause
-      (all_from_has (λ (l : Lit). l.index < t.variables) clause (λ l h. (let r = has_entry t.entries (negation l) (lesson.is_false l h) in
-      let below = (sound.stand r.0 r.1 r.2).over in
-      omega (arith, ap (λ (x : Lit). x.index) r.3))))
-
-  pub lesson_no_pair : has_pair clause ≡ false
-  lesson_no_pair = false_from_ne_true (has_pair clause) (λ h. (let r = any_has (λ l. has clause (negation l)) clause h in
-      let a = has_entry t.entries (negation r.0) (lesson.is_false r.0 r.1) in
-      let b = has_entry t.entries r.0 (ap (has (literals_of t.entries)) (sym (negation-negation r.0))
-      ∙ lesson.is_false (negation r.0) r.2) in
-      let one = one_entry t.entries (apart_from t.variables t.clauses t.entries sound.stand) a.0 b.0 a.1 b.1 a.2 b.2
-      (ap (λ (l : Lit). l.index) a.3 ∙ ap (λ (l : Lit). l.index) (sym b.3)) in
-      negation_differs r.0 (sym a.3 ∙ (ap (λ (e : Entry). e.literal) one.1 ∙ b.3))))
-
   lesson_learnt : AreQuietBelow t t.level → 0 < t.level → IsLearnt t.variables t.clauses clause
   lesson_learnt quiet above = record {
     not_empty = λ none. false≢true (sym (ap (λ (ls : List Lit). has ls asserting.asserted) none) ∙ asserting.member);
-    over = lesson_over;
-    no_pair = lesson_no_pair;
+    over = lesson_over t sound clause hints back lesson;
+    no_pair = lesson_no_pair t sound clause hints back lesson;
     found = shown_found t.clauses hints (map negation clause) 1 lesson.shown;
     adds = (asserting.asserted, Contains_from_has clause asserting.asserted asserting.member, not_found);
   }

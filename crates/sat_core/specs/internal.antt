@@ -1,9 +1,1 @@
-pub mod Levels
-pub mod Hints
-pub mod Lessons
 pub mod Ends
-pub mod Decisions
-pub mod ConflictWalks
-pub mod Heaps
-pub mod Shelves
-pub mod Units

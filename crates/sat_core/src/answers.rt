@@ -5,7 +5,7 @@ use refutation_check::Log;
 use sequence::Sequence;
 
 /// What a search came to.
-#[derive(Debug, Drop)]
+#[derive(Drop)]
 pub enum Answer {
     /// This assignment meets all clauses.
     Sat(Assignment),

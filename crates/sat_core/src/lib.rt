@@ -4,12 +4,10 @@
 //! them, or, where a budget of learnt clauses is spent, the clauses that were learnt: a trace, which
 //! shows that each of them told something that unit propagation had not found.
 //!
-//! The search is that of N. Eén and N. Sörensson, An Extensible SAT-solver, 2003. It propagates,
-//! decides the most active of the variables that are not set, to the value that it had last, and from
-//! a conflict learns the clause of the first unique implication point. A variable is active as far as
-//! conflicts were found by it, the later ones the more. At the counts of `Restarts` the search begins
-//! anew at level 0, with what it has learnt. The hints of its log are the reasons of the entries that
-//! the clause was found by, in the order in which they were set.
+//! The search is that of N. Eén and N. Sörensson, An Extensible SAT-solver, 2003. It propagates, decides
+//! the next of the variables that are not set, and learns from each conflict. At the counts of `Restarts`
+//! it begins anew at level 0, with what it has learnt. Which variable is next, what a conflict teaches and
+//! how that is logged is the work of the crate `clause_learning`.
 //!
 //! What is true at level 0 gets a clause of one literal, with a step of its own, which is no learnt clause and
 //! does not count in the budget. The hints of later steps name that one, and need not show it again.
@@ -21,22 +19,7 @@
 #![tactic(auto)]
 
 mod answers;
-mod choices;
-mod drops;
-mod heap;
-mod journal;
-mod lessons;
-mod marks;
-mod restarts;
-mod shelves;
 mod solver;
-mod units;
-mod walks;
 
 pub use answers::Answer;
 pub use solver::solve;
-
-#[cfg(test)]
-mod tests;
-#[cfg(test)]
-mod traces;

@@ -4,23 +4,18 @@ ghost use Rattle.std.specs.Prelude.{◌≡◌, ◌+◌, ◌-◌, ◌^◌, ◌<�
 ghost use Rattle.clause_core.specs.Clauses.{has_pair};
 ghost use Rattle.sat_core.specs.Answers.{IsRightAnswer};
 ghost use Rattle.sat_trail.specs.States.{IsSound, EndsWith};
-ghost use Rattle.sat_core.specs.internal.Units.{AreUnits, HasPropagated};
-ghost use Rattle.sat_core.specs.internal.Decisions.{AreDecisions};
+ghost use Rattle.clause_learning.specs.Units.{AreUnits, HasPropagated};
+ghost use Rattle.clause_learning.specs.Decisions.{AreDecisions};
 ghost use Rattle.sat_core.specs.internal.Ends.{IsEnd, IsSearchAnswer};
-ghost use Rattle.sat_core.specs.internal.Lessons.{clauses_of};
-ghost use Rattle.sat_core.specs.internal.ConflictWalks.{AreNoMarks};
-ghost use Rattle.sat_core.specs.internal.Shelves.{IsShortened};
+ghost use Rattle.clause_learning.specs.Lessons.{clauses_of};
+ghost use Rattle.clause_learning.specs.ConflictWalks.{AreNoMarks};
+ghost use Rattle.clause_learning.specs.Shelves.{IsShortened};
 
 use crate::answers::Answer;
-use crate::choices::{Decisions, assignment_of};
-use crate::drops::Drops;
-use crate::journal::Journal;
-use crate::lessons::{learn, refute};
-use crate::restarts::Restarts;
-use crate::shelves::Kept;
-use crate::units::Units;
-use crate::walks::Walk;
 use clause_core::{Clause, Cnf};
+use clause_learning::{
+    Decisions, Drops, Journal, Kept, Restarts, Units, Walk, assignment_of, learn, refute,
+};
 use refutation_check::Log;
 use sat_trail::Trail;
 use sequence::{NoMemory, Sequence};

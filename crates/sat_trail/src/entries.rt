@@ -3,7 +3,7 @@
 use clause_core::Literal;
 
 /// A literal that is set.
-#[derive(Clone, Copy, Debug)]
+#[derive(Clone, Copy)]
 pub struct Entry {
     /// The literal.
     pub literal: Literal,

@@ -18,6 +18,3 @@ mod watches;
 
 pub use errors::TrailError;
 pub use trail::Trail;
-
-#[cfg(test)]
-mod tests;

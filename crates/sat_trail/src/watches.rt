@@ -16,7 +16,7 @@ use std::marker::Model;
 
 /// A clause that watches a literal, and another literal of it: while that one is true, the clause need
 /// not be read.
-#[derive(Clone, Copy, Debug)]
+#[derive(Clone, Copy)]
 pub struct Watch {
     /// The number of the clause.
     pub clause: u32,
@@ -90,7 +90,7 @@ impl WatchList {
 }
 
 /// The two literals that a clause watches, and where another one is looked for.
-#[derive(Clone, Copy, Debug)]
+#[derive(Clone, Copy)]
 pub struct Pair {
     /// One of the literals.
     pub first: Literal,

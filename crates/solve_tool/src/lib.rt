@@ -34,6 +34,3 @@ mod values;
 pub use laws::assignments_are_told;
 pub use status::Status;
 pub use top::solve;
-
-#[cfg(test)]
-mod tests;

@@ -10,7 +10,7 @@ use std::alloc::Global;
 
 /// What a run says: its status, and one text, which goes to the first sink where the status is an
 /// answer and to the second otherwise.
-#[derive(Debug, Drop)]
+#[derive(Drop)]
 pub(crate) struct Reply {
     /// How the run ends, if nothing fails after this.
     pub(crate) status: Status,

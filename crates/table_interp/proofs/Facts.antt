@@ -24,8 +24,9 @@ use Rattle.tsl_terms.specs.declared.names.NameKind.TheVariants.{Signal, Function
 use Rattle.tsl_terms.specs.Name.{Name, is_name, same_kind}
 use Rattle.tsl_meaning.specs.Interpretation.{Interpretation, IsInterpretation, IsTable}
 use Rattle.table_interp.specs.declared.TheConstants.{MOST_VALUES}
-use Rattle.table_interp.specs.Syntax.{TablesSyntax}
-use Rattle.table_interp.specs.Needed.{has_table, is_symbol_number, needed}
+use Rattle.table_syntax.specs.Syntax.{TablesSyntax}
+use Rattle.table_syntax.specs.Syntax.{has_table}
+use Rattle.table_interp.specs.Needed.{is_symbol_number, needed}
 use Rattle.table_interp.specs.Tables.{numbers_for, has_no_entry, size_of, has_other_length, limit_of, too_large, table_of, IsInRange, Gives}
 use Rattle.table_interp.specs.internal.Located.{HasSmallTable, HasOneSmall}
 

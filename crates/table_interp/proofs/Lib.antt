@@ -1,9 +1,6 @@
 mod Lookups
-mod Exactness
-mod ReadLoops
 mod Slots
 mod Locate
-mod Faults
 mod Growing
 mod Repeats
 mod Located
@@ -12,6 +9,6 @@ mod Refusals
 mod Columns
 mod Loops
 mod OneReading
-mod OneFault
+mod Stages
 mod OneTableCause
 mod OneInputCause

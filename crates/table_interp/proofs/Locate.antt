@@ -11,12 +11,12 @@ use Rattle.sequence.specs.Numbers.{is_among}
 use Rattle.sequence.specs.Options.{passes}
 use Rattle.sequence.proofs.Booleans.{eqb_self}
 use Rattle.tsl_terms.specs.Name.{Name}
-use Rattle.table_interp.specs.Syntax.{Entry}
+use Rattle.table_syntax.specs.Syntax.{Entry}
 use Rattle.table_interp.specs.Needed.{number_for}
 use Rattle.table_interp.specs.Tables.{numbers_for}
 use Rattle.table_interp.specs.internal.Resolving.{IsPlace}
-use Rattle.table_interp.specs.declared.reading.Entry.{Entry as LentEntry}
-use Rattle.table_interp.specs.internal.View.{entry_view, entries_view}
+use Rattle.table_syntax.specs.declared.reading.Entry.{Entry as LentEntry}
+use Rattle.table_syntax.specs.View.{entry_view, entries_view}
 use Rattle.table_interp.specs.internal.Located.{AreLocated}
 
 -- equal lists have equal heads and equal tails

@@ -6,11 +6,11 @@ use Rattle.std.proofs.lemmas.List.{length-map}
 use Rattle.std.proofs.lemmas.Option.{slice_get_within}
 use Rattle.tsl_text.specs.declared.Token.{Token}
 use Rattle.tsl_terms.specs.Name.{Name}
-use Rattle.table_interp.specs.Syntax.{Entry, TablesSyntax}
-use Rattle.table_interp.specs.declared.reading.Entry.{Entry as LentEntry}
+use Rattle.table_syntax.specs.Syntax.{Entry, TablesSyntax}
+use Rattle.table_syntax.specs.declared.reading.Entry.{Entry as LentEntry}
 use Rattle.table_interp.specs.Needed.{number_for, IsFirstRepeat, HasNoRepeat}
 use Rattle.table_interp.specs.Tables.{is_known, IsOnce, HasSecondEntry}
-use Rattle.table_interp.specs.internal.View.{entries_view, entry_view}
+use Rattle.table_syntax.specs.View.{entries_view, entry_view}
 use Rattle.table_interp.proofs.Repeats.{once_some, first_some}
 
 abbrev given_of : ℕ → List LentEntry → TablesSyntax

@@ -11,7 +11,7 @@ use Rattle.sequence.proofs.Each.{each_left, each_right}
 use Rattle.tsl_terms.specs.Name.{Name}
 use Rattle.tsl_terms.specs.Value.{beside}
 use Rattle.tsl_meaning.specs.Interpretation.{InputRows, IsRow, IsInputLoop}
-use Rattle.table_interp.specs.Syntax.{InputsSyntax}
+use Rattle.table_syntax.specs.Syntax.{InputsSyntax}
 use Rattle.table_interp.specs.Inputs.{by_inputs, all_rows, GivesRows}
 use Rattle.table_interp.proofs.Columns.{rows_below}
 

@@ -11,14 +11,15 @@ use Rattle.tsl_text.specs.Division.{AreTokens}
 use Rattle.tsl_terms.specs.Name.{Name}
 use Rattle.table_interp.specs.declared.InputError.{InputError}
 use Rattle.table_interp.specs.declared.InputError.TheVariants as error
-use Rattle.table_interp.specs.Syntax.{TextToken, InputsSyntax}
-use Rattle.table_interp.specs.Grammar.{IsInputs}
-use Rattle.table_interp.specs.Forms.{IsRead}
+use Rattle.table_syntax.specs.Syntax.{TextToken, InputsSyntax}
+use Rattle.table_syntax.specs.Grammar.{IsInputs}
+use Rattle.table_syntax.specs.Forms.{IsRead}
 use Rattle.table_interp.specs.Needed.{IsFirstAt}
 use Rattle.table_interp.specs.Inputs.{AreKnown, AreOnce, AreWhole, HasFewRows, AreCounted, AreInRange, is_no_value, HasRowCause, HasInputCause}
-use Rattle.table_interp.proofs.Exactness.{inputs_exact}
-use Rattle.table_interp.proofs.Refusals.{one_given, no_tokens, form_refuses, none_at}
-use Rattle.table_interp.proofs.OneFault.{one_form, one_text_fault, one_by_stages}
+use Rattle.table_syntax.proofs.Readings.{same_inputs, no_tokens, form_refuses}
+use Rattle.table_interp.proofs.Refusals.{none_at}
+use Rattle.table_syntax.proofs.OneFault.{one_form, one_text_fault}
+use Rattle.table_interp.proofs.Stages.{one_by_stages}
 use Rattle.table_interp.proofs.OneTableCause.{one_repeat}
 
 -- the first place at which a test holds is one place
@@ -91,7 +92,7 @@ module _ (text : List ℕ) (names : List Name) (inputs : List ℕ) (domain : ℕ
 
   -- what the text gives is one thing
   so_far : (n : ℕ) (given : InputsSyntax) → IsRead IsInputs text given → Reaches (suc (suc n)) → UpTo n given
-  so_far n given read h = subst (UpTo n) (one_given (inputs_exact 0) text h.0 given h.1 read) h.2
+  so_far n given read h = subst (UpTo n) (same_inputs text h.0 given h.1 read) h.2
 
   stuck : (e : InputError) → IsCause e → Reaches (suc (stage e)) → ⊥
   stuck (error.Byte at) h k = no_tokens text (bytes.Byte at) h.0 k.0 k.1
@@ -109,7 +110,7 @@ module _ (text : List ℕ) (names : List Name) (inputs : List ℕ) (domain : ℕ
   moved : (given other : InputsSyntax) → IsRead IsInputs text given → IsRead IsInputs text other → (e : InputError) →
       HasRowCause names inputs other domain e → HasRowCause names inputs given domain e
   moved given other read also e h =
-      subst (λ g. HasRowCause names inputs g domain e) (one_given (inputs_exact 0) text other given also read) h
+      subst (λ g. HasRowCause names inputs g domain e) (same_inputs text other given also read) h
 
   -- a fault of the bytes as such a refusal
   abbrev told : TextError → InputError

@@ -5,11 +5,10 @@ use Rattle.sequence.specs.Options.{all_there}
 use Rattle.sequence.proofs.Options.{one_value}
 use Rattle.tsl_terms.specs.Name.{Name}
 use Rattle.tsl_meaning.specs.Interpretation.{Interpretation, InputRows}
-use Rattle.table_interp.specs.Syntax.{TablesSyntax, InputsSyntax}
+use Rattle.table_syntax.specs.Syntax.{TablesSyntax, InputsSyntax}
 use Rattle.table_interp.specs.Tables.{Gives, SpellsTables}
 use Rattle.table_interp.specs.Inputs.{by_inputs, GivesRows, SpellsInputs}
-use Rattle.table_interp.proofs.Exactness.{tables_exact, inputs_exact}
-use Rattle.table_interp.proofs.Refusals.{one_given}
+use Rattle.table_syntax.proofs.Readings.{same_tables, same_inputs}
 
 first_or_zero : List ℕ → ℕ
 first_or_zero [] = 0
@@ -39,7 +38,7 @@ pub one_tables : (text : List ℕ) (names : List Name) (cells : List ℕ) (a b :
     SpellsTables text names cells b → a ≡ b
 one_tables text names cells a b x y =
     one_gives names cells y.given a b
-    (subst (λ g. Gives names cells g a) (one_given (tables_exact 0) text x.given y.given x.read.read y.read.read) x.gives) y.gives
+    (subst (λ g. Gives names cells g a) (same_tables text x.given y.given x.read.read y.read.read) x.gives) y.gives
 
 one_gives_rows : (names : List Name) (inputs : List ℕ) (given : InputsSyntax) (domain : ℕ) (a b : InputRows ℕ) →
     GivesRows names inputs given domain a → GivesRows names inputs given domain b → a ≡ b
@@ -55,4 +54,4 @@ pub one_inputs : (text : List ℕ) (names : List Name) (inputs : List ℕ) (doma
     SpellsInputs text names inputs domain a → SpellsInputs text names inputs domain b → a ≡ b
 one_inputs text names inputs domain a b x y =
     one_gives_rows names inputs y.given domain a b
-    (subst (λ g. GivesRows names inputs g domain a) (one_given (inputs_exact 0) text x.given y.given x.read y.read) x.gives) y.gives
+    (subst (λ g. GivesRows names inputs g domain a) (same_inputs text x.given y.given x.read y.read) x.gives) y.gives

@@ -11,15 +11,15 @@ use Rattle.tsl_terms.specs.Name.{Name}
 use Rattle.table_interp.specs.declared.TheConstants.{MOST_VALUES}
 use Rattle.table_interp.specs.declared.TableError.{TableError}
 use Rattle.table_interp.specs.declared.TableError.TheVariants as error
-use Rattle.table_interp.specs.Syntax.{Entry, TablesSyntax}
-use Rattle.table_interp.specs.Grammar.{IsTables}
-use Rattle.table_interp.specs.Forms.{IsRead}
+use Rattle.table_syntax.specs.Syntax.{Entry, TablesSyntax}
+use Rattle.table_syntax.specs.Grammar.{IsTables}
+use Rattle.table_syntax.specs.Forms.{IsRead}
 use Rattle.table_interp.specs.Needed.{IsFirstRepeat}
 use Rattle.table_interp.specs.Tables.{IsKnown, IsOnce, IsWhole, HasFewEntries, IsCounted, IsInRange, HasFewValues}
 use Rattle.table_interp.specs.Tables.{too_large, HasEntryCause, HasTableCause}
-use Rattle.table_interp.proofs.Exactness.{tables_exact}
-use Rattle.table_interp.proofs.Refusals.{one_given, no_tokens, form_refuses}
-use Rattle.table_interp.proofs.OneFault.{one_form, one_text_fault, one_by_stages}
+use Rattle.table_syntax.proofs.Readings.{same_tables, no_tokens, form_refuses}
+use Rattle.table_syntax.proofs.OneFault.{one_form, one_text_fault}
+use Rattle.table_interp.proofs.Stages.{one_by_stages}
 
 -- the first place that repeats an earlier one is one place
 pub one_repeat : {A : Type 0} (xs : List A) (i j : ℕ) → IsFirstRepeat xs i → IsFirstRepeat xs j → i ≡ j
@@ -94,14 +94,14 @@ module _ (text : List ℕ) (names : List Name) (cells : List ℕ) where
 
   -- what the text gives is one thing
   so_far : (n : ℕ) (given : TablesSyntax) → HasFewValues text given → Reaches (suc (suc (suc n))) → UpTo n given
-  so_far n given few h = subst (UpTo n) (one_given (tables_exact 0) text h.0 given h.1.read few.read) h.2
+  so_far n given few h = subst (UpTo n) (same_tables text h.0 given h.1.read few.read) h.2
 
   stuck : (e : TableError) → IsCause e → Reaches (suc (stage e)) → ⊥
   stuck (error.Byte at) h k = no_tokens text (bytes.Byte at) h.0 k.0 k.1
   stuck (error.OpenComment at) h k = no_tokens text (bytes.OpenComment at) h.0 k.0 k.1
   stuck (error.Form at) h k = form_refuses IsTables text at h.0 k.0 k.1
   stuck error.Domain h k =
-      let same : k.0 ≡ h.0.given = one_given (tables_exact 0) text k.0 h.0.given k.1.read h.0.read in
+      let same : k.0 ≡ h.0.given = same_tables text k.0 h.0.given k.1.read h.0.read in
       let few : h.0.given.domain ≤ MOST_VALUES = subst (λ (g : TablesSyntax). g.domain ≤ MOST_VALUES) same k.1.few_values in
       omega (arith, few, h.0.many_values)
   stuck (error.Unknown start end) h k = none_never_some _ h.0.cause.entry (so_far 1 h.0.given h.0.read k) h.0.cause.first
@@ -116,7 +116,7 @@ module _ (text : List ℕ) (names : List Name) (cells : List ℕ) where
   moved : (given other : TablesSyntax) → HasFewValues text given → HasFewValues text other → (e : TableError) →
       HasEntryCause names cells other e → HasEntryCause names cells given e
   moved given other few also e h =
-      subst (λ g. HasEntryCause names cells g e) (one_given (tables_exact 0) text other given also.read few.read) h
+      subst (λ g. HasEntryCause names cells g e) (same_tables text other given also.read few.read) h
 
   -- a fault of the bytes as such a refusal
   abbrev told : TextError → TableError

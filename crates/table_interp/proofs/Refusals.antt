@@ -1,74 +1,35 @@
--- A text gives one thing by a grammar, and each cause of refusal leaves none.
-use Rattle.std.proofs.Common.{length, Bool, true, false, ◌≡◌, ◌∙◌, ℕ, ◌<◌, ◌≤◌, List, [], ◌∷◌, ◌++◌, None, refl, sym, ap, subst, inl, inr, append_assoc, arith}
-use Rattle.std.specs.Prelude.{Result, Err, Ok, IfErr}
+-- Each cause of refusal leaves nothing that the text could give.
+use Rattle.std.proofs.Common.{Bool, true, false, ◌≡◌, ◌∙◌, ℕ, ◌≤◌, List, None, refl, sym, subst, arith}
+use Rattle.std.specs.Prelude.{Result, IfErr}
 use Rattle.std.specs.Result.{IsErrAnd}
 use Rattle.std.proofs.lemmas.Result.{err_from_is_err_and}
-use Rattle.std.proofs.lemmas.List.{map-append}
 use Rattle.sequence.proofs.Finds.{each_fails}
 use Rattle.sequence.proofs.Options.{none_never_some}
-use Rattle.tsl_text.specs.declared.Token.{Token}
-use Rattle.tsl_text.specs.declared.TextError.{TextError}
 use Rattle.tsl_text.specs.declared.TextError.TheVariants as bytes
-use Rattle.tsl_text.specs.Division.{AreTokens, IsAnswer}
-use Rattle.tsl_text.proofs.Parts.{one_answer}
 use Rattle.tsl_terms.specs.Name.{Name}
-use Rattle.token_readers.specs.Readers.{Reader}
-use Rattle.token_readers.specs.Exact.{Exact}
-use Rattle.token_readers.proofs.Whole.{one_value}
 use Rattle.table_interp.specs.declared.TheConstants.{MOST_VALUES}
 use Rattle.table_interp.specs.declared.TableError.{TableError}
 use Rattle.table_interp.specs.declared.TableError.TheVariants as table
-use Rattle.table_interp.specs.declared.forms.TextFault.{TextFault}
-use Rattle.table_interp.specs.declared.forms.TextFault.TheVariants as text_fault
-use Rattle.table_interp.specs.Syntax.{TextToken, text_token_at, text_tokens, TablesSyntax}
-use Rattle.table_interp.specs.Grammar.{IsTables, tables}
-use Rattle.table_interp.specs.Forms.{IsRead, HasFormFault}
+use Rattle.table_syntax.specs.declared.forms.TextFault.{TextFault}
+use Rattle.table_syntax.specs.declared.forms.TextFault.TheVariants as text_fault
+use Rattle.table_syntax.specs.Syntax.{TablesSyntax}
+use Rattle.table_syntax.specs.Grammar.{IsTables}
+use Rattle.table_syntax.specs.Forms.{IsRead}
 use Rattle.table_interp.specs.Tables.{HasEntryCause, HasFewValues, HasTableCause, IsRefusedAsTables, SpellsTables, Gives}
 use Rattle.table_interp.specs.Tables.{HasUnknownEntry, HasSecondEntry, HasMissingEntry, HasManyEntries, HasOtherLength, HasLargeNumber}
 use Rattle.tsl_meaning.specs.Interpretation.{Interpretation}
-use Rattle.table_interp.specs.internal.Texts.{HasTextFault, table_error, input_error}
+use Rattle.table_syntax.specs.Forms.{HasTextFault}
+use Rattle.table_interp.specs.internal.Texts.{table_error, input_error}
 use Rattle.table_interp.specs.declared.InputError.{InputError}
 use Rattle.table_interp.specs.declared.InputError.TheVariants as input
-use Rattle.table_interp.specs.Syntax.{InputsSyntax}
-use Rattle.table_interp.specs.Grammar.{IsInputs, inputs}
+use Rattle.table_syntax.specs.Syntax.{InputsSyntax}
+use Rattle.table_syntax.specs.Grammar.{IsInputs}
 use Rattle.table_interp.specs.Needed.{IsFirstAt}
 use Rattle.table_interp.specs.Inputs.{GivesRows, HasRowCause, HasInputCause, IsRefusedAsInputs, SpellsInputs}
 use Rattle.tsl_meaning.specs.Interpretation.{InputRows}
 use Rattle.sequence.proofs.Each.{each_at}
 use Rattle.std.specs.List.{find}
-use Rattle.table_interp.proofs.Exactness.{Never, tables_exact, inputs_exact}
-
-pub one_list : (text : List ℕ) (a b : List Token) → AreTokens text a → AreTokens text b → a ≡ b
-one_list text a b h k =
-    let same : Ok a ≡ Ok b = one_answer text (Ok a) (Ok b) h k in
-    cc
-
-pub no_tokens : (text : List ℕ) (fault : TextError) → IsAnswer text (Err fault) → (tokens : List Token) → AreTokens text tokens → ⊥
-no_tokens text fault h tokens are =
-    let same : Err fault ≡ Ok tokens = one_answer text (Err fault) (Ok tokens) h are in
-    cc
-
-module _ {V : Type 0} {Is : List TextToken → V → Type 0} {reader : Reader TextToken V} (exact : Exact (λ r. Is) Never 0 reader) where
-  -- a text gives one thing
-  pub one_given : (text : List ℕ) (a b : V) → IsRead Is text a → IsRead Is text b → a ≡ b
-  one_given text a b h k =
-      let same : h.tokens ≡ k.tokens = one_list text h.tokens k.tokens h.tokens_are k.tokens_are in
-      one_value exact (text_tokens text k.tokens) a b (subst (λ tokens. Is (text_tokens text tokens) a) same h.derived) k.derived
-
--- a fault of the form leaves nothing
-pub form_refuses : {V : Type 0} (Is : List TextToken → V → Type 0) (text : List ℕ) (at : ℕ) → HasFormFault Is text at → (v : V) →
-    IsRead Is text v → ⊥
-form_refuses Is text at (inl h) v k =
-    let same : k.tokens ≡ h.before ++ h.token ∷ h.after = one_list text k.tokens
-    (h.before ++ h.token ∷ h.after) k.tokens_are h.tokens_are in
-    let split : h.before ++ h.token ∷ h.after ≡ (h.before ++ h.token ∷ []) ++ h.after =
-    sym (append_assoc h.before (h.token ∷ []) h.after) in
-    let parts : text_tokens text (h.before ++ h.token ∷ h.after) ≡ text_tokens text (h.before ++ h.token ∷ []) ++ text_tokens text h.after =
-    ap (text_tokens text) split ∙ map-append (text_token_at text) (h.before ++ h.token ∷ []) h.after in
-    h.stops (text_tokens text h.after) v (subst (λ xs. Is xs v) (ap (text_tokens text) same ∙ parts) k.derived)
-form_refuses Is text at (inr h) v k =
-    let same : k.tokens ≡ h.tokens = one_list text k.tokens h.tokens k.tokens_are h.tokens_are in
-    h.no_text v (subst (λ tokens. Is (text_tokens text tokens) v) same k.derived)
+use Rattle.table_syntax.proofs.Readings.{no_tokens, same_tables, same_inputs, form_refuses}
 
 -- ---- tables
 
@@ -78,7 +39,7 @@ module _ (text : List ℕ) (names : List Name) (cells : List ℕ) where
       SpellsTables text names cells interpretation → Gives names cells given interpretation
   same_given given interpretation h spelled =
       subst (λ g. Gives names cells g interpretation)
-      (one_given (tables_exact 0) text spelled.given given spelled.read.read h.read) spelled.gives
+      (same_tables text spelled.given given spelled.read.read h.read) spelled.gives
 
   unknown_refuses : (given : TablesSyntax) (start end : ℕ) → HasUnknownEntry names cells given start end → (i : Interpretation) →
       Gives names cells given i → ⊥
@@ -110,7 +71,7 @@ module _ (text : List ℕ) (names : List Name) (cells : List ℕ) where
   tables_refused (table.OpenComment at) h = λ i s. no_tokens text (bytes.OpenComment at) h s.read.read.tokens s.read.read.tokens_are
   tables_refused (table.Form at) h = λ i s. form_refuses IsTables text at h s.given s.read.read
   tables_refused table.Domain h = λ i s.
-      let same : s.given ≡ h.given = one_given (tables_exact 0) text s.given h.given s.read.read h.read in
+      let same : s.given ≡ h.given = same_tables text s.given h.given s.read.read h.read in
       let few : h.given.domain ≤ MOST_VALUES = subst (λ (g : TablesSyntax). g.domain ≤ MOST_VALUES) same s.read.few_values in
       omega (arith, few, h.many_values)
   tables_refused (table.Unknown start end) h = λ i s. unknown_refuses h.given start end h.cause i (same_given h.given i h.read s)
@@ -143,12 +104,6 @@ module _ (text : List ℕ) (names : List Name) (cells : List ℕ) where
   entry_cause given h (table.Count id) k = record { given = given; read = h; cause = k }
   entry_cause given h (table.Range id value) k = record { given = given; read = h; cause = k }
 
--- the domain of a text of tables has a value
-pub has_value : (text : List ℕ) (given : TablesSyntax) → IsRead IsTables text given → 1 ≤ given.domain
-has_value text given h = by (text_tokens text h.tokens) given h.derived where
-  by : (xs : List TextToken) (t : TablesSyntax) → IsTables xs t → 1 ≤ t.domain
-  by xs t (tables a b c d n head one word number few entries) = few
-
 -- a fault of the form that is passed on leaves no interpretation
 pub form_passed : {T : Type 0} (text : List ℕ) (names : List Name) (cells : List ℕ) (r : Result T TableError) (fault : TextFault) →
     IsErrAnd r (λ e. e ≡ table_error fault) → HasTextFault IsTables text fault → IfErr r (IsRefusedAsTables text names cells)
@@ -168,7 +123,7 @@ module _ (text : List ℕ) (names : List Name) (inputs : List ℕ) (domain : ℕ
   same_rows : (given : InputsSyntax) (rows : InputRows ℕ) → IsRead IsInputs text given → SpellsInputs text names inputs domain rows →
       GivesRows names inputs given domain rows
   same_rows given rows h spelled =
-      subst (λ g. GivesRows names inputs g domain rows) (one_given (inputs_exact 0) text spelled.given given spelled.read h) spelled.gives
+      subst (λ g. GivesRows names inputs g domain rows) (same_inputs text spelled.given given spelled.read h) spelled.gives
 
   row_cause_refuses : (given : InputsSyntax) (rows : InputRows ℕ) → GivesRows names inputs given domain rows → (error : InputError) →
       HasRowCause names inputs given domain error → (error ≡ input.NoMemory → ⊥) → ⊥
@@ -227,9 +182,3 @@ module _ (text : List ℕ) (names : List Name) (inputs : List ℕ) (domain : ℕ
   input_form_passed r fault h k =
       let p = err_from_is_err_and r h in
       rw (p.1, p.2) (inputs_refused (input_error fault) (input_form_cause fault k))
-
--- the cycle of a text of inputs has a row
-pub has_cycle : (text : List ℕ) (given : InputsSyntax) → IsRead IsInputs text given → 0 < length given.cycle
-has_cycle text given h = by (text_tokens text h.tokens) given h.derived where
-  by : (xs : List TextToken) (t : InputsSyntax) → IsInputs xs t → 0 < length t.cycle
-  by xs t (inputs a b s c head one columns stem_word stem cycle_word cycle) = omega arith

@@ -16,7 +16,8 @@ use Rattle.sequence.proofs.Places.{slice_get_grown, slice_get_push, slice_get-ta
 use Rattle.sequence.specs.Options.{passes}
 use Rattle.tsl_terms.specs.declared.names.NameKind.{NameKind}
 use Rattle.tsl_terms.specs.Name.{Name}
-use Rattle.table_interp.specs.Needed.{has_table, IsFirstRepeat, HasNoRepeat}
+use Rattle.table_syntax.specs.Syntax.{has_table}
+use Rattle.table_interp.specs.Needed.{IsFirstRepeat, HasNoRepeat}
 use Rattle.table_interp.specs.internal.Resolving.{AreMarksOf, IsPlace, ArePlaces}
 
 -- two numbers are the same or not

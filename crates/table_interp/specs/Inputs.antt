@@ -23,9 +23,9 @@ use Rattle.table_interp.specs.declared.InputError.TheVariants.{
   Range,
   NoMemory,
 }
-use Rattle.table_interp.specs.Syntax.{TextToken, InputsSyntax}
-use Rattle.table_interp.specs.Grammar.{IsInputs}
-use Rattle.table_interp.specs.Forms.{IsRead, HasFormFault}
+use Rattle.table_syntax.specs.Syntax.{TextToken, InputsSyntax}
+use Rattle.table_syntax.specs.Grammar.{IsInputs}
+use Rattle.table_syntax.specs.Forms.{IsRead, HasFormFault}
 use Rattle.table_interp.specs.Needed.{number_for, is_for, IsFirstRepeat, HasNoRepeat, IsFirstAt}
 
 -- ---- what columns and rows give

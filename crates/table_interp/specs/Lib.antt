@@ -1,6 +1,3 @@
-pub mod Syntax
-pub mod Grammar
-pub mod Forms
 pub mod Needed
 pub mod Tables
 pub mod Inputs

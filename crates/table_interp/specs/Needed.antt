@@ -3,14 +3,8 @@ use Rattle.std.specs.Prelude.{◌≡◌, ℕ, ◌<◌, ◌==◌, Bool, true, fal
 use Rattle.sequence.specs.Numbers.{is_among, numbers_from}
 use Rattle.sequence.specs.Options.{passes}
 use Rattle.tsl_terms.specs.declared.names.NameKind.{NameKind}
-use Rattle.tsl_terms.specs.declared.names.NameKind.TheVariants.{Signal}
 use Rattle.tsl_terms.specs.Name.{Name, number_of, same_kind}
-use Rattle.table_interp.specs.Syntax.{TextToken}
-
--- a function or a predicate
-abbrev pub has_table : NameKind → Bool
-has_table Signal = false
-has_table _ = true
+use Rattle.table_syntax.specs.Syntax.{TextToken, has_table}
 
 -- whether the number is that of a function or a predicate
 abbrev pub is_symbol_number : List Name → ℕ → Bool

@@ -25,9 +25,9 @@ use Rattle.table_interp.specs.declared.TableError.TheVariants.{
   Range,
   NoMemory,
 }
-use Rattle.table_interp.specs.Syntax.{Entry, TablesSyntax}
-use Rattle.table_interp.specs.Grammar.{IsTables}
-use Rattle.table_interp.specs.Forms.{IsRead, HasFormFault}
+use Rattle.table_syntax.specs.Syntax.{Entry, TablesSyntax}
+use Rattle.table_syntax.specs.Grammar.{IsTables}
+use Rattle.table_syntax.specs.Forms.{IsRead, HasFormFault}
 use Rattle.table_interp.specs.Needed.{is_symbol_number, needed, is_needed_as, number_for, is_for, IsFirstRepeat, HasNoRepeat}
 
 -- ---- what entries give

@@ -1,5 +1,3 @@
-pub mod Reading
-pub mod View
 pub mod Resolving
 pub mod Texts
 pub mod Located

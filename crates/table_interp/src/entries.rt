@@ -23,16 +23,16 @@ ghost use Rattle.table_interp.specs.Tables.{
   Gives,
   HasEntryCause,
 };
-ghost use Rattle.table_interp.specs.internal.View.{entries_view, tables_view};
+ghost use Rattle.table_syntax.specs.View.{entries_view, tables_view};
 ghost use Rattle.table_interp.specs.internal.Located.{located_tables, IsLocated, AreLocated, HasSmallTable, HasOneSmall};
 
 use crate::naming::{NameFault, entry_numbers};
-use crate::reading::{Entry, TablesText};
 use crate::resolving::{RepeatFault, has_table, marks, needed, place_of, places};
 use crate::tables::Tables;
 use crate::{MOST_ENTRIES, MOST_VALUES, TableError};
 use sequence::{NoMemory, Sequence};
 use std::alloc::{AllocError, Global};
+use table_syntax::{Entry, TablesText};
 use tsl_terms::{NameKind, Names};
 use tsl_text::Token;
 

@@ -21,17 +21,16 @@ ghost use Rattle.table_interp.specs.Inputs.{
   GivesRows,
   HasRowCause,
 };
-ghost use Rattle.table_interp.specs.internal.View.{inputs_view, numbers_view, text_tokens_view};
+ghost use Rattle.table_syntax.specs.View.{inputs_view, numbers_view, text_tokens_view};
 ghost use Rattle.table_interp.specs.internal.Ordered.{AreColumnsOf, AreOrdered, HasColumns};
 
 use crate::entries::first_from;
 use crate::naming::{NameFault, column_numbers};
-use crate::reading::InputsText;
 use crate::resolving::{RepeatFault, marks, place_of, places};
-use crate::text_tokens::TextToken;
 use crate::{InputError, MOST_ROWS};
 use sequence::{NoMemory, Sequence};
 use std::alloc::{AllocError, Global};
+use table_syntax::{InputsText, TextToken};
 use tsl_meaning::InputLoop;
 use tsl_terms::Names;
 use tsl_text::Token;
@@ -46,7 +45,7 @@ pub(crate) struct Columns<'a, 'b> {
 }
 
 /// The numbers and the places of the columns of a text.
-#[derive(Debug, Drop)]
+#[derive(Drop)]
 struct Numbered {
     numbers: Vec<u32>,
     places: Vec<Option<usize>>,

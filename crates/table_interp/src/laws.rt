@@ -4,7 +4,7 @@ ghost use Rattle.std.specs.Prelude.{◌≡◌, ◌≢◌, ℕ, List, IsTrue};
 ghost use Rattle.std.specs.List.{list_all};
 ghost use Rattle.tsl_terms.specs.declared.names.NameKind.TheVariants.{Signal};
 ghost use Rattle.tsl_terms.specs.Name.{Name, is_name};
-ghost use Rattle.flow_program.specs.ProgramTree.{ProgramTree};
+ghost use Rattle.program_tree.specs.ProgramTree.{ProgramTree};
 ghost use Rattle.tsl_meaning.specs.Interpretation.{Interpretation, InputRows, IsInterpretation, IsInputLoop, meanings_in};
 ghost use Rattle.table_interp.specs.Meaning.{meanings_of};
 ghost use Rattle.table_interp.specs.declared.TableError.{TableError};

@@ -5,9 +5,8 @@
 //! - `read_tables` and `read_inputs` answer `Ok` exactly where a text spells an interpretation
 //!   (`specs/Tables.antt`) or rows of inputs (`specs/Inputs.antt`), and then that one, and each refusal
 //!   has its cause there.
-//! - The grammars (`specs/Grammar.antt`) are relations on whole lists of terminals, which are tokens with
-//!   their bytes (`specs/Syntax.antt`). Here every word may be a name, also those that are reserved in
-//!   specifications.
+//! - What the two texts are made of and their grammars stand in the crate `table_syntax`; this crate says
+//!   what the names in them stand for, and what the numbers give.
 //! - Laws: a text spells at most one interpretation or input loop, which has a meaning, and has at most one
 //!   cause of refusal; the meanings of tables are those of programs with the same cells.
 #![tactic(auto)]
@@ -22,23 +21,20 @@ ghost use Rattle.table_interp.specs.Tables.{SpellsTables, HasTableCause, IsRefus
 ghost use Rattle.table_interp.specs.Inputs.{SpellsInputs, HasInputCause, IsRefusedAsInputs};
 
 use entries::tables_from;
-use forms::{inputs_of, tables_of};
 use inputs::rows_from;
 use sequence::NoMemory;
 use std::alloc::{AllocFailed, Global};
+use table_syntax::{TextFault, inputs_of, tables_of};
 use thiserror::Error;
 use tsl_meaning::InputLoop;
 use tsl_terms::Names;
 
 mod entries;
-mod forms;
 mod inputs;
 mod laws;
 mod naming;
-mod reading;
 mod resolving;
 mod tables;
-mod text_tokens;
 
 pub use laws::{
     meanings_are_those_of_programs, one_cause, one_reading, what_is_spelled_has_a_meaning,
@@ -177,6 +173,36 @@ impl<T: Drop> From<AllocFailed<T>> for InputError {
     }
 }
 
+impl From<TextFault> for TableError {
+    ghost use Rattle.table_interp.specs.internal.Texts.{table_error};
+
+    ghost from_gives = { λ fault e. e ≡ table_error fault };
+
+    fn from(fault: TextFault) -> TableError {
+        match fault {
+            TextFault::Byte(at) => TableError::Byte(at),
+            TextFault::OpenComment(at) => TableError::OpenComment(at),
+            TextFault::Form(at) => TableError::Form(at),
+            TextFault::NoMemory => TableError::NoMemory,
+        }
+    }
+}
+
+impl From<TextFault> for InputError {
+    ghost use Rattle.table_interp.specs.internal.Texts.{input_error};
+
+    ghost from_gives = { λ fault e. e ≡ input_error fault };
+
+    fn from(fault: TextFault) -> InputError {
+        match fault {
+            TextFault::Byte(at) => InputError::Byte(at),
+            TextFault::OpenComment(at) => InputError::OpenComment(at),
+            TextFault::Form(at) => InputError::Form(at),
+            TextFault::NoMemory => InputError::NoMemory,
+        }
+    }
+}
+
 /// The interpretation that a text spells for the names, with a value at first for each of the cells.
 ///
 /// An `Err` has the cause why the text spells none, or says that memory ran out.
@@ -223,6 +249,3 @@ pub fn read_inputs(
     let given = inputs_of(alloc, text)?;
     rows_from(alloc, names, inputs, domain, &given)
 }
-
-#[cfg(test)]
-mod tests;

@@ -5,20 +5,19 @@ ghost use Rattle.std.specs.List.{find};
 ghost use Rattle.table_interp.specs.Needed.{number_for};
 ghost use Rattle.table_interp.specs.Tables.{is_known};
 ghost use Rattle.table_interp.specs.Inputs.{is_input_name};
-ghost use Rattle.table_interp.specs.internal.View.{text_token_view, text_tokens_view, entry_view, entries_view};
+ghost use Rattle.table_syntax.specs.View.{text_token_view, text_tokens_view, entry_view, entries_view};
 ghost use Rattle.table_interp.specs.internal.Resolving.{AreMarksOf};
 ghost use Rattle.table_interp.specs.internal.Texts.{HasUnknown};
 
-use crate::reading::Entry;
 use crate::resolving::is_needed_as;
-use crate::text_tokens::TextToken;
 use sequence::NoMemory;
 use std::alloc::{AllocFailed, Global};
+use table_syntax::{Entry, TextToken};
 use tsl_terms::Names;
 use tsl_text::Token;
 
 /// The first name that must not stand in the text, or out of memory.
-#[derive(Debug, Drop)]
+#[derive(Drop)]
 pub(crate) enum NameFault {
     Unknown(Token),
     NoMemory,

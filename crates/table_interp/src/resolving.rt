@@ -2,7 +2,8 @@
 
 ghost use Rattle.std.specs.Prelude.{◌≡◌, ◌<◌, ◌&&◌, ◌∷◌, ◌++◌, [], cond, length, slice_get, All, OnOk, IfOk, IfErr};
 ghost use Rattle.tsl_terms.specs.Name.{same_kind};
-ghost use Rattle.table_interp.specs.Needed.{has_table, needed, is_needed_as, HasNoRepeat};
+ghost use Rattle.table_syntax.specs.Syntax.{has_table};
+ghost use Rattle.table_interp.specs.Needed.{needed, is_needed_as, HasNoRepeat};
 ghost use Rattle.table_interp.specs.internal.Resolving.{AreMarksOf, ArePlaces, IsRepeatFault};
 
 use sequence::NoMemory;
@@ -81,7 +82,7 @@ pub(crate) fn needed(alloc: Global, names: &Names, cells: &[u32]) -> Result<Vec<
 }
 
 /// The place of the first number that stands at an earlier place too, or out of memory.
-#[derive(Debug, Drop)]
+#[derive(Drop)]
 pub(crate) enum RepeatFault {
     Repeat(usize),
     NoMemory,

@@ -1,7 +1,6 @@
 mod Gathering
-mod Stepping
+pub mod Stepping
 mod Brent
 mod Comparing
 mod Meeting
 mod Recorded
-mod TotalRuns

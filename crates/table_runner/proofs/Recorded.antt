@@ -6,9 +6,9 @@ use Rattle.sequence.proofs.Places.{slice_get_push}
 use Rattle.tsl_terms.specs.declared.term.Term.{Term}
 use Rattle.tsl_terms.specs.TermTree.{term_tree}
 use Rattle.tsl_terms.specs.Value.{Meanings}
-use Rattle.flow_program.specs.declared.program.Program.{Program}
-use Rattle.flow_program.specs.ProgramTree.{ProgramTree}
-use Rattle.flow_program.specs.ProgramView.{program_tree}
+use Rattle.program_tree.specs.declared.program.Program.{Program}
+use Rattle.program_tree.specs.ProgramTree.{ProgramTree}
+use Rattle.program_tree.specs.ProgramView.{program_tree}
 use Rattle.tsl_meaning.specs.Interpretation.{InputRows}
 use Rattle.tsl_meaning.specs.declared.run.Position.{Position}
 use Rattle.tsl_meaning.specs.Run.{Closed, configuration_at, action_in}

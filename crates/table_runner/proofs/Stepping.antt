@@ -16,11 +16,11 @@ use Rattle.sequence.proofs.Gathered.{length-all_there}
 use Rattle.tsl_terms.specs.declared.term.Term.{Term}
 use Rattle.tsl_terms.specs.TermTree.{TermTree, ProbeTree, term_tree}
 use Rattle.tsl_terms.specs.Value.{Meanings, value, truth, beside}
-use Rattle.flow_program.specs.NodeTree.{NodeTree, branch, assign}
-use Rattle.flow_program.specs.ProgramTree.{ProgramTree}
-use Rattle.flow_program.specs.ProgramView.{program_tree}
-use Rattle.flow_program.specs.declared.program.Program.{Program}
-use Rattle.flow_program.specs.Walk.{Action, done_at, walk_from, walk}
+use Rattle.program_tree.specs.NodeTree.{NodeTree, branch, assign}
+use Rattle.program_tree.specs.ProgramTree.{ProgramTree}
+use Rattle.program_tree.specs.ProgramView.{program_tree}
+use Rattle.program_tree.specs.declared.program.Program.{Program}
+use Rattle.program_tree.specs.Walk.{Action, done_at, walk_from, walk}
 use Rattle.interp_core.specs.LeafValue.{leaf_value}
 use Rattle.tsl_meaning.specs.Interpretation.{InputRows, rows_of}
 use Rattle.tsl_meaning.specs.Run.{Configuration, row_at, place_after, signal_value, action_in, configuration_after, configuration_at}

@@ -1,7 +1,7 @@
 -- When a program can run over the rows of an input loop.
 use Rattle.std.specs.Prelude.{◌≡◌, ℕ, ◌^◌, ◌<◌, List, ◌++◌, length, map, Some, slice_get}
 use Rattle.tsl_terms.specs.Value.{Meanings}
-use Rattle.flow_program.specs.ProgramTree.{ProgramTree}
+use Rattle.program_tree.specs.ProgramTree.{ProgramTree}
 use Rattle.tsl_meaning.specs.declared.run.InputLoop.{InputLoop}
 use Rattle.tsl_meaning.specs.Interpretation.{InputRows}
 use Rattle.tsl_meaning.specs.Run.{HasStep}

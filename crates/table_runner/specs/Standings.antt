@@ -1,7 +1,7 @@
 -- Where a run stands.
 use Rattle.std.specs.Prelude.{◌≡◌, ℕ, ◌++◌, length, map, take, drop, Some}
 use Rattle.tsl_terms.specs.Value.{Meanings}
-use Rattle.flow_program.specs.ProgramTree.{ProgramTree}
+use Rattle.program_tree.specs.ProgramTree.{ProgramTree}
 use Rattle.tsl_meaning.specs.Interpretation.{InputRows}
 use Rattle.tsl_meaning.specs.Run.{Configuration, configuration_at, row_at}
 use Rattle.table_runner.specs.declared.standing.Standing.{Standing}

@@ -4,12 +4,12 @@ ghost use Rattle.std.specs.Prelude.{◌≡◌, ◌++◌, Some, IsSome, IfOk, map
 ghost use Rattle.sequence.specs.Options.{all_there};
 ghost use Rattle.tsl_terms.specs.TermTree.{term_tree};
 ghost use Rattle.tsl_terms.specs.Value.{value, truth};
-ghost use Rattle.flow_program.specs.ProgramView.{program_tree};
-ghost use Rattle.flow_program.specs.Walk.{walk};
+ghost use Rattle.program_tree.specs.ProgramView.{program_tree};
+ghost use Rattle.program_tree.specs.Walk.{walk};
 ghost use Rattle.interp_core.specs.LeafValue.{leaf_value};
 
-use flow_program::{Node, Program};
 use interp_core::{Algebra, Judge, Leaves, evaluate, test_term};
+use program_tree::{Node, Program};
 use sequence::NoMemory;
 use std::alloc::Global;
 use tsl_terms::Term;

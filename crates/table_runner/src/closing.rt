@@ -2,7 +2,7 @@
 //! with it; after twice as many steps each time, the latest is kept in its place.
 
 ghost use Rattle.std.specs.Prelude.{◌≡◌, ◌+◌, ◌^◌, ◌<◌, ◌≤◌, ℕ, None, IfOk, IfErr, OnOk};
-ghost use Rattle.flow_program.specs.ProgramView.{program_tree};
+ghost use Rattle.program_tree.specs.ProgramView.{program_tree};
 ghost use Rattle.tsl_meaning.specs.Run.{configuration_at};
 ghost use Rattle.tsl_meaning.specs.RunTree.{run_tree};
 ghost use Rattle.tsl_meaning.specs.RunLasso.{shape_of};
@@ -16,8 +16,8 @@ use crate::recording::first_positions;
 use crate::standing::{
     Standing, advance, copied, copy_standing, first_standing, same_configuration,
 };
-use flow_program::Program;
 use interp_core::Judge;
+use program_tree::Program;
 use sequence::NoMemory;
 use std::alloc::Global;
 use tsl_meaning::{InputLoop, LoopRun};

@@ -25,6 +25,3 @@ mod standing;
 pub use closing::run_closed;
 pub use errors::RunError;
 pub use runner::Runner;
-
-#[cfg(test)]
-mod tests;

@@ -2,7 +2,7 @@
 
 ghost use Rattle.std.specs.Prelude.{◌≡◌, ◌+◌, ℕ, Some, length, slice_get, IfOk, map, take, drop};
 ghost use Rattle.tsl_terms.specs.TermTree.{term_tree};
-ghost use Rattle.flow_program.specs.ProgramView.{program_tree};
+ghost use Rattle.program_tree.specs.ProgramView.{program_tree};
 ghost use Rattle.tsl_meaning.specs.LoopFits.{PositionsFit};
 ghost use Rattle.tsl_meaning.specs.RunTree.{PositionTree, position_tree};
 ghost use Rattle.tsl_meaning.specs.RunOf.{IsStepOf};
@@ -12,8 +12,8 @@ ghost use Rattle.table_runner.specs.Standings.{shown, StandsAt};
 
 use crate::acting::{action_in, copies};
 use crate::standing::{Standing, act, cells_of, first_standing, row_of};
-use flow_program::Program;
 use interp_core::Judge;
+use program_tree::Program;
 use sequence::{NoMemory, Sequence};
 use std::alloc::Global;
 use tsl_meaning::{InputLoop, Position};

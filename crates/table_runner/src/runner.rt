@@ -1,13 +1,13 @@
 //! A runner that goes along a run step by step.
 
 ghost use Rattle.std.specs.Prelude.{◌≡◌, ◌+◌, ℕ, length, IfOk, OnOk, OnErr, map};
-ghost use Rattle.flow_program.specs.ProgramView.{program_tree};
+ghost use Rattle.program_tree.specs.ProgramView.{program_tree};
 ghost use Rattle.table_runner.specs.Running.{rows_seen, CanRun};
 ghost use Rattle.table_runner.specs.Standings.{shown, StandsAt};
 
 use crate::standing::{Standing, advance, cells_of, first_standing};
-use flow_program::Program;
 use interp_core::Judge;
+use program_tree::Program;
 use sequence::NoMemory;
 use std::alloc::Global;
 use tsl_meaning::InputLoop;

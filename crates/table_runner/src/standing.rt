@@ -1,7 +1,7 @@
 //! Where a run stands, and its steps.
 
 ghost use Rattle.std.specs.Prelude.{◌≡◌, ◌↔◌, ◌+◌, ◌++◌, ℕ, Some, length, IsTrue, IfOk, OnOk, OnErr, map, take, drop};
-ghost use Rattle.flow_program.specs.ProgramView.{program_tree};
+ghost use Rattle.program_tree.specs.ProgramView.{program_tree};
 ghost use Rattle.table_runner.specs.Running.{rows_seen, CanRun};
 ghost use Rattle.table_runner.specs.Standings.{shown, StandsAt};
 ghost use Rattle.table_runner.specs.internal.Copied.{IsCopied};
@@ -10,8 +10,8 @@ ghost use Rattle.tsl_meaning.specs.Run.{action_in as action_of};
 
 use crate::acting::{Action, action_in, copies, first_values, next_values};
 use crate::rows::{next_place, row_at};
-use flow_program::Program;
 use interp_core::{Algebra, Judge, Leaves};
+use program_tree::Program;
 use sequence::{NoMemory, Sequence};
 use std::alloc::Global;
 use tsl_meaning::InputLoop;

@@ -12,7 +12,7 @@ use std::alloc::Global;
 use tsl_terms::{Listed, Term};
 
 /// Labels of terms at steps.
-#[derive(Debug, Drop)]
+#[derive(Drop)]
 pub struct ClassTable {
     /// A row for each step from 0 on, with a label for each term.
     pub rows: Sequence<Sequence<u32>>,

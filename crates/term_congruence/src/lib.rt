@@ -20,6 +20,3 @@ mod shapes;
 pub use classes::{ClassTable, classes_along};
 pub use congruence::congruent;
 pub use laws::congruent_windows_hold;
-
-#[cfg(test)]
-mod tests;

@@ -8,7 +8,7 @@ use indexmap::IndexSet;
 use sequence::NoMemory;
 
 /// What a label stands for.
-#[derive(Debug, PartialEq, Eq, Hash, Drop)]
+#[derive(PartialEq, Eq, Hash, Drop)]
 pub(crate) enum Shape {
     /// A signal at a step.
     Leaf(u32, u32),

@@ -144,6 +144,3 @@ fn put(out: &mut Vec<u8>, bytes: &[u8]) -> Result<(), NoMemory>
 {
     put_bytes(out, bytes)
 }
-
-#[cfg(test)]
-mod tests;

@@ -29,10 +29,25 @@ module _ {T V : Type 0} where
   closing is v [] = form_at []
   closing is v (x ∷ rest) = if is x then Ok (v, rest) else form_at (x ∷ rest)
 
+  -- the value of the first terminal, where it has one
+  abbrev pub value_or_wrong : Option V → T → Reader T V
+  value_or_wrong (Some v) x rest = Ok (v, rest)
+  value_or_wrong None x rest = form_at (x ∷ rest)
+
+  -- a terminal that has a value
+  unfoldable pub taking : (T → Option V) → Reader T V
+  taking value [] = form_at []
+  taking value (x ∷ rest) = value_or_wrong (value x) x rest
+
   -- a terminal that passes the test, and then a form
   unfoldable pub after : (T → Bool) → Reader T V → Reader T V
   after is reader [] = form_at []
   after is reader (x ∷ rest) = if is x then reader rest else form_at (x ∷ rest)
+
+-- nothing more
+unfoldable pub at_end : {T : Type 0} → Reader T (Unit {0})
+at_end [] = Ok (tt {0}, [])
+at_end (x ∷ rest) = form_at (x ∷ rest)
 
 module _ {T V W : Type 0} where
   -- what was read, and then what is read after it

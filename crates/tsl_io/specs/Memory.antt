@@ -31,9 +31,11 @@ pub record SourceState : Type 0 where
   pub piece : ℕ
   pub calls : Calls
 
--- a sink: the bytes that were written, how many it has room for in all, and the most that one call takes
+-- a sink: the bytes that were written, how many of them were there when a flush last succeeded, how many it has room for
+-- in all, and the most that one call takes
 pub record SinkState : Type 0 where
   pub written : List ℕ
+  pub flushed : ℕ
   pub room : ℕ
   pub piece : ℕ
   pub calls : Calls

@@ -1,5 +1,5 @@
 //! A source and a sink in memory, whose calls fail where a caller asks for it.
-ghost use Rattle.std.specs.Prelude.{◌≡◌, ℕ, ◌+◌, ◌-◌, ◌<◌, ◌≤◌, ◌↔◌, ◌⊎◌, ◌++◌, [], List, length, take, drop, min, Option, Some, ⊤, IfOk, IsErr, IsTrue, OnOk, OnErr, Contains};
+ghost use Rattle.std.specs.Prelude.{◌≡◌, ℕ, ◌+◌, ◌-◌, ◌<◌, ◌≤◌, ◌↔◌, ◌⊎◌, ◌++◌, [], List, length, take, drop, min, Option, Some, IfOk, IsErr, IsTrue, OnOk, OnErr, Contains};
 ghost use Rattle.tsl_io.specs.Told.{before, with_added, WhereTold};
 ghost use Rattle.tsl_io.specs.Faults.{next_count, Faulted};
 ghost use Rattle.tsl_io.specs.Memory.{no_calls, FailsNext, with_success, with_fault, room_left};
@@ -9,7 +9,7 @@ use std::alloc::{AllocError as NoMemory, Global};
 use std::marker::Model;
 
 /// Which calls of a device fail, and how many were made and failed.
-#[derive(Debug, Drop)]
+#[derive(Drop)]
 struct Schedule {
     named: Vec<u64>,
     made: u64,
@@ -62,7 +62,7 @@ impl Schedule {
 
 /// A source of bytes in memory, which tells them. It gives at most `piece` bytes a call, and the
 /// calls that were named fail.
-#[derive(Debug, Drop)]
+#[derive(Drop)]
 pub struct MemorySource {
     bytes: Vec<u8>,
     given: usize,
@@ -135,10 +135,12 @@ impl Source for MemorySource {
 }
 
 /// A sink in memory with a fixed room, which tells its bytes. It takes at most `piece` bytes a call.
-/// The calls that were named fail, and so does a write of some bytes where no room is left.
-#[derive(Debug, Drop)]
+/// The calls that were named fail, and so does a write of some bytes where no room is left. It keeps
+/// how many of its bytes a flush has handed on.
+#[derive(Drop)]
 pub struct MemorySink {
     bytes: Vec<u8>,
+    flushed: usize,
     room: usize,
     piece: usize,
     schedule: Schedule,
@@ -150,9 +152,10 @@ impl Model for MemorySink {
 
     ghost Value = { SinkState };
 
-    ghost view = { λ s. record { written = s.bytes.items; room = s.room; piece = s.piece; calls = s.schedule } };
+    ghost view = { λ s. record { written = s.bytes.items; flushed = s.flushed; room = s.room; piece = s.piece; calls = s.schedule } };
 
-    ghost invariant = { λ s. (length s.bytes.items ≤ s.room) × (s.room ≤ vec_capacity s.bytes) × (1 ≤ s.piece) };
+    ghost invariant = { λ s. (s.flushed ≤ length s.bytes.items) × (length s.bytes.items ≤ s.room)
+        × (s.room ≤ vec_capacity s.bytes) × (1 ≤ s.piece) };
 }
 
 impl MemorySink {
@@ -167,10 +170,11 @@ impl MemorySink {
     ) -> Result<MemorySink, NoMemory>
         requires { 1 ≤ piece }
         ensures { IfOk result (λ sink.
-            sink ≡ record { written = []; room = room; piece = piece; calls = no_calls fail.items }) }
+            sink ≡ record { written = []; flushed = 0; room = room; piece = piece; calls = no_calls fail.items }) }
     {
         Ok(MemorySink {
             bytes: Vec::with_capacity(alloc, room)?,
+            flushed: 0,
             room,
             piece,
             schedule: Schedule::new(fail),
@@ -183,12 +187,20 @@ impl MemorySink {
     {
         self.bytes.as_slice()
     }
+
+    /// How many of them were there when a flush last succeeded.
+    pub fn flushed(&self) -> usize
+        ensures { result ≡ self.now.flushed }
+    {
+        self.flushed
+    }
 }
 
 impl Sink for MemorySink {
     ghost written = { λ sink. Some sink.written };
 
-    ghost flushed = { λ _. ⊤ };
+    // Nothing was added since a flush last succeeded.
+    ghost flushed = { λ sink. sink.flushed ≡ length sink.written };
 
     ghost faults = { λ sink. sink.calls.faults };
 
@@ -225,7 +237,10 @@ impl Sink for MemorySink {
     fn flush(&mut self) -> Result<(), Failed>
         // A flush fails exactly where its ordinal was named.
         ensures fails { IsErr result ↔ FailsNext self.old.calls }
-        ensures ok { OnOk result (self.new ≡ record self.old { calls = with_success self.old.calls }) }
+        ensures ok { OnOk result (self.new ≡ record self.old {
+          flushed = length self.old.written;
+          calls = with_success self.old.calls;
+        }) }
         ensures failed { OnErr result (self.new ≡ record self.old { calls = with_fault self.old.calls }) }
         ensures cause { OnErr result (Faulted self.old.calls.faults self.new.calls.faults) }
     {
@@ -234,6 +249,7 @@ impl Sink for MemorySink {
             return Err(Failed);
         }
         self.schedule.succeed();
+        self.flushed = self.bytes.len();
         Ok(())
     }
 }

@@ -9,7 +9,7 @@ use std::marker::Model;
 
 /// A reader as a source, as standard input by `StdSource::new(rt.reader())`. It tells nothing of its
 /// bytes, and counts each read that is an `Err`. A read into a large buffer is one read of the reader.
-#[derive(Debug, Drop)]
+#[derive(Drop)]
 pub struct StdSource<R> {
     reader: R,
     faults: u64,
@@ -56,7 +56,7 @@ impl<R: Read> Source for StdSource<R> {
 /// A writer as a sink, as standard output by `StdSink::new(rt.stdout())` and standard error by
 /// `StdSink::new(rt.stderr())`. It tells nothing of its bytes. It counts each write and flush that is
 /// an `Err`, and each write of some bytes that takes none.
-#[derive(Debug, Drop)]
+#[derive(Drop)]
 pub struct StdSink<W> {
     writer: W,
     faults: u64,

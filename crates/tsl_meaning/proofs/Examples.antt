@@ -7,8 +7,8 @@ use Rattle.tsl_terms.specs.declared.operator.BinaryOperator.TheVariants.{Implica
 use Rattle.tsl_terms.specs.declared.operator.ManyOperator.TheVariants.{Conjunction, Disjunction}
 use Rattle.tsl_terms.specs.FormulaTree.{Atom, test, update, FormulaTree, atom, unary, binary, many, no_formulas, more_formulas}
 use Rattle.tsl_terms.specs.Value.{value, beside}
-use Rattle.flow_program.specs.NodeTree.{branch, assign}
-use Rattle.flow_program.specs.ProgramTree.{ProgramTree}
+use Rattle.program_tree.specs.NodeTree.{branch, assign}
+use Rattle.program_tree.specs.ProgramTree.{ProgramTree}
 use Rattle.tsl_meaning.specs.Interpretation.{Interpretation, InputRows, place_of_arguments, entry_at, meanings_in}
 use Rattle.tsl_meaning.specs.Run.{Closed, configuration_at, place_after}
 use Rattle.tsl_meaning.specs.Lasso.{Lasso, meets, closed_run}

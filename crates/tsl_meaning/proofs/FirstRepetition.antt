@@ -4,7 +4,7 @@ use Rattle.std.proofs.lemmas.Bool.{cases_lt, cases_order}
 use Rattle.loop_shape.specs.LoopShape.{LoopShape}
 use Rattle.tsl_terms.specs.Name.{Name}
 use Rattle.tsl_terms.specs.Value.{Meanings}
-use Rattle.flow_program.specs.ProgramTree.{ProgramTree}
+use Rattle.program_tree.specs.ProgramTree.{ProgramTree}
 use Rattle.tsl_meaning.specs.OverNames.{IsProgramOver}
 use Rattle.tsl_meaning.specs.Interpretation.{Interpretation, InputRows, IsInterpretation, IsInputLoop, meanings_in}
 use Rattle.tsl_meaning.specs.Run.{Closed, configuration_at}

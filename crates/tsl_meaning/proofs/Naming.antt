@@ -10,10 +10,11 @@ use Rattle.tsl_terms.specs.TermTree.{TermTree, signal, apply, TermTrees, no_term
 use Rattle.tsl_terms.specs.FormulaTree.{Atom, test, update}
 use Rattle.tsl_terms.specs.WellFormed.{is_usable_at, term_fits, terms_fit, probe_fits, atom_fits, brackets, brackets_of_arguments, deepest}
 use Rattle.tsl_terms.specs.WindowTree.{WindowTree, ListedTree}
-use Rattle.flow_program.specs.NodeTree.{NodeTree, branch, assign}
-use Rattle.flow_program.specs.ProgramTree.{ProgramTree}
-use Rattle.flow_program.specs.ProgramText.{IsProgram, IsWritable, signal_fits, term_is_writable, probe_is_writable, listed_is_writable}
-use Rattle.flow_program.specs.ProgramText.{window_is_writable, node_is_writable}
+use Rattle.program_tree.specs.NodeTree.{NodeTree, branch, assign}
+use Rattle.program_tree.specs.ProgramTree.{ProgramTree}
+use Rattle.program_tree.specs.Fits.{IsProgram}
+use Rattle.program_tree.specs.Writable.{IsWritable, signal_fits, term_is_writable, probe_is_writable, listed_is_writable}
+use Rattle.program_tree.specs.Writable.{window_is_writable, node_is_writable}
 use Rattle.tsl_meaning.specs.OverNames.{term_is_over, terms_are_over, probe_is_over, listed_is_over, window_is_over, node_is_over}
 use Rattle.tsl_meaning.specs.OverNames.{atom_is_over, IsProgramOver}
 

@@ -8,9 +8,9 @@ use Rattle.tsl_terms.specs.TermTree.{TermTree, ProbeTree}
 use Rattle.tsl_terms.specs.FormulaTree.{update, atom, unary}
 use Rattle.tsl_terms.specs.Value.{Meanings, beside}
 use Rattle.tsl_terms.proofs.SameLemmas.{same_tree_itself}
-use Rattle.flow_program.specs.NodeTree.{assign}
-use Rattle.flow_program.specs.ProgramTree.{ProgramTree, controlled}
-use Rattle.flow_program.specs.Walk.{Action, walk}
+use Rattle.program_tree.specs.NodeTree.{assign}
+use Rattle.program_tree.specs.ProgramTree.{ProgramTree, controlled}
+use Rattle.program_tree.specs.Walk.{Action, walk}
 use Rattle.tsl_meaning.specs.Interpretation.{InputRows}
 use Rattle.tsl_meaning.specs.Run.{Configuration, Closed, HasStep, configuration_at, assigned_at}
 use Rattle.tsl_meaning.specs.Lasso.{Meets, meets, closed_run}

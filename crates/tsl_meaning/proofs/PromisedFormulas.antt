@@ -17,9 +17,9 @@ use Rattle.tsl_terms.specs.Signals.{inputs_of, cells_of, outputs_of}
 use Rattle.tsl_terms.specs.WindowTree.{WindowTree, ListedTree, later, listed_formula, window_formula_of}
 use Rattle.tsl_terms.proofs.SignalFacts.{whole_reads, whole_updates}
 use Rattle.tsl_terms.proofs.WholeAtoms.{whole_is_made_of, conjunction_atoms}
-use Rattle.flow_program.specs.ProgramTree.{ProgramTree, controlled}
+use Rattle.program_tree.specs.ProgramTree.{ProgramTree, controlled}
 use Rattle.sequence.specs.Numbers.{is_among}
-use Rattle.flow_program.specs.Fits.{window_is_shaped, window_reads_only, window_fits, longest}
+use Rattle.program_tree.specs.Fits.{window_is_shaped, window_reads_only, window_fits, longest}
 use Rattle.tsl_meaning.specs.OverNames.{probe_is_over, listed_is_over, window_is_over, atom_is_over, IsProgramOver, IsFormulaOver}
 use Rattle.tsl_meaning.proofs.Naming.{atom_over}
 use Rattle.tsl_meaning.proofs.MoreNames.{atom_still}

@@ -19,7 +19,7 @@ use Rattle.tsl_terms.specs.FormulaTree.{Atom, test, update, FormulaTree}
 use Rattle.tsl_terms.specs.Atoms.{atoms}
 use Rattle.tsl_terms.specs.OnlyThese.{reads_only, read_only, atom_reads_only, atom_updates_only}
 use Rattle.tsl_terms.specs.Value.{Meanings, value, truth, beside}
-use Rattle.flow_program.specs.ProgramTree.{ProgramTree, controlled}
+use Rattle.program_tree.specs.ProgramTree.{ProgramTree, controlled}
 use Rattle.sequence.specs.Numbers.{is_among}
 use Rattle.tsl_meaning.specs.OverNames.{term_is_over, probe_is_over, atom_is_over, IsProgramOver, IsFormulaOver}
 use Rattle.tsl_meaning.specs.Interpretation.{Interpretation, InputRows, IsInterpretation, IsInputLoop, IsRow, meanings_in}

@@ -10,7 +10,7 @@ use Rattle.tsl_terms.specs.TermTree.{TermTree, ProbeTree}
 use Rattle.tsl_terms.specs.SameTree.{same_tree}
 use Rattle.tsl_terms.specs.FormulaTree.{Atom, test, update, FormulaTree}
 use Rattle.tsl_terms.specs.Value.{Meanings, truth, beside}
-use Rattle.flow_program.specs.ProgramTree.{ProgramTree, controlled}
+use Rattle.program_tree.specs.ProgramTree.{ProgramTree, controlled}
 use Rattle.tsl_meaning.specs.Interpretation.{InputRows}
 use Rattle.tsl_meaning.specs.Run.{signal_value, action_in, truth_at}
 use Rattle.tsl_meaning.specs.Lasso.{meets, holds_at, closed_run, IsDecided}

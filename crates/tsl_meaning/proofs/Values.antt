@@ -13,7 +13,7 @@ use Rattle.tsl_terms.specs.declared.names.NameKind.TheVariants.{Signal, Function
 use Rattle.tsl_terms.specs.Name.{Name, is_name, same_kind}
 use Rattle.tsl_terms.specs.TermTree.{TermTree, signal, apply, TermTrees, no_terms, more_terms, ProbeTree, count_of_terms}
 use Rattle.tsl_terms.specs.Value.{value, values, truth}
-use Rattle.flow_program.specs.ProgramTree.{ProgramTree}
+use Rattle.program_tree.specs.ProgramTree.{ProgramTree}
 use Rattle.sequence.specs.Numbers.{is_among}
 use Rattle.tsl_terms.specs.OnlyThese.{reads_only, read_only}
 use Rattle.tsl_meaning.specs.OverNames.{term_is_over, terms_are_over, probe_is_over}

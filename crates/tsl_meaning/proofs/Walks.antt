@@ -7,10 +7,10 @@ use Rattle.sequence.proofs.Places.{slice_get_some}
 use Rattle.sequence.proofs.Passes.{passes_at}
 use Rattle.tsl_terms.specs.Name.{Name}
 use Rattle.tsl_terms.specs.TermTree.{ProbeTree}
-use Rattle.flow_program.specs.NodeTree.{NodeTree, branch, assign}
-use Rattle.flow_program.specs.ProgramTree.{ProgramTree}
+use Rattle.program_tree.specs.NodeTree.{NodeTree, branch, assign}
+use Rattle.program_tree.specs.ProgramTree.{ProgramTree}
 use Rattle.tsl_terms.specs.OnlyThese.{reads_only, read_only}
-use Rattle.flow_program.specs.Walk.{Action, done_at, walk_from, walk}
+use Rattle.program_tree.specs.Walk.{Action, done_at, walk_from, walk}
 use Rattle.tsl_meaning.specs.OverNames.{term_is_over, probe_is_over, node_is_over, IsProgramOver}
 
 module _ (names : List Name) (program : ProgramTree) (over : IsProgramOver names program) where

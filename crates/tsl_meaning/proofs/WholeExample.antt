@@ -15,9 +15,9 @@ use Rattle.tsl_terms.specs.declared.operator.ManyOperator.TheVariants.{Conjuncti
 use Rattle.tsl_terms.specs.Name.{Name}
 use Rattle.tsl_terms.specs.TermTree.{TermTree, signal, apply, no_terms, more_terms, ProbeTree}
 use Rattle.tsl_terms.specs.FormulaTree.{test, update, FormulaTree, atom, unary, binary, many, no_formulas, more_formulas}
-use Rattle.flow_program.specs.NodeTree.{branch, assign}
-use Rattle.flow_program.specs.ProgramTree.{ProgramTree}
-use Rattle.flow_program.specs.Fits.{BranchesFit, AssignmentsFit}
+use Rattle.program_tree.specs.NodeTree.{branch, assign}
+use Rattle.program_tree.specs.ProgramTree.{ProgramTree}
+use Rattle.program_tree.specs.Fits.{BranchesFit, AssignmentsFit}
 use Rattle.tsl_meaning.specs.OverNames.{IsProgramOver, IsFormulaOver}
 use Rattle.tsl_meaning.specs.Interpretation.{Interpretation, InputRows, IsInterpretation, IsInputLoop, IsRow, IsTable, meanings_in}
 use Rattle.tsl_meaning.specs.Run.{Closed, truth_at, assigned_at}

@@ -7,7 +7,7 @@ use Rattle.std.specs.List.{list_all}
 use Rattle.tsl_terms.specs.declared.names.NameKind.TheVariants.{Function, Predicate}
 use Rattle.tsl_terms.specs.Name.{Name}
 use Rattle.tsl_terms.specs.Value.{Meanings, beside}
-use Rattle.flow_program.specs.ProgramTree.{ProgramTree}
+use Rattle.program_tree.specs.ProgramTree.{ProgramTree}
 use Rattle.tsl_meaning.specs.declared.run.InputLoop.{InputLoop}
 
 -- how many values there are, the table of each function and predicate at the place of its number among

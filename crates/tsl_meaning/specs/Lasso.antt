@@ -17,7 +17,7 @@ use Rattle.tsl_terms.specs.declared.operator.ManyOperator.TheVariants.{Conjuncti
 use Rattle.tsl_terms.specs.FormulaTree.{Atom, test, update, FormulaTree, constant, atom, unary, binary, many, FormulaTrees, no_formulas}
 use Rattle.tsl_terms.specs.FormulaTree.{more_formulas}
 use Rattle.tsl_terms.specs.Value.{Meanings}
-use Rattle.flow_program.specs.ProgramTree.{ProgramTree}
+use Rattle.program_tree.specs.ProgramTree.{ProgramTree}
 use Rattle.tsl_meaning.specs.Interpretation.{InputRows}
 use Rattle.tsl_meaning.specs.Run.{truth_at, assigned_at}
 

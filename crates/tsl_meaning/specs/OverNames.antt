@@ -9,9 +9,9 @@ use Rattle.tsl_terms.specs.FormulaTree.{Atom, test, update, FormulaTree}
 use Rattle.tsl_terms.specs.Atoms.{atoms}
 use Rattle.tsl_terms.specs.OnlyThese.{formula_reads_only, formula_updates_only}
 use Rattle.tsl_terms.specs.WindowTree.{WindowTree, ListedTree}
-use Rattle.flow_program.specs.NodeTree.{NodeTree, branch, assign}
-use Rattle.flow_program.specs.ProgramTree.{ProgramTree, controlled}
-use Rattle.flow_program.specs.ProgramText.{IsProgram}
+use Rattle.program_tree.specs.NodeTree.{NodeTree, branch, assign}
+use Rattle.program_tree.specs.ProgramTree.{ProgramTree, controlled}
+use Rattle.program_tree.specs.Fits.{IsProgram}
 
 abbrev mutual
   pub term_is_over : List Name → TermTree → Bool

@@ -8,7 +8,7 @@ use Rattle.tsl_terms.specs.SpecTree.{SpecTree, whole_formula}
 use Rattle.tsl_terms.specs.Signals.{inputs_of, cells_of, outputs_of}
 use Rattle.tsl_terms.specs.WindowTree.{window_formula_of}
 use Rattle.tsl_terms.specs.Congruence.{IsCongruent}
-use Rattle.flow_program.specs.ProgramTree.{ProgramTree}
+use Rattle.program_tree.specs.ProgramTree.{ProgramTree}
 use Rattle.tsl_meaning.specs.OverNames.{IsProgramOver}
 use Rattle.tsl_meaning.specs.Interpretation.{Interpretation, InputRows, IsInterpretation, IsInputLoop, meanings_in}
 use Rattle.tsl_meaning.specs.Run.{Closed}

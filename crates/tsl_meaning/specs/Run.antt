@@ -8,8 +8,8 @@ use Rattle.sequence.specs.Options.{all_there}
 use Rattle.loop_shape.specs.LoopShape.{LoopShape}
 use Rattle.tsl_terms.specs.TermTree.{TermTree, ProbeTree}
 use Rattle.tsl_terms.specs.Value.{Meanings, value, truth, beside}
-use Rattle.flow_program.specs.ProgramTree.{ProgramTree, controlled}
-use Rattle.flow_program.specs.Walk.{Action, walk}
+use Rattle.program_tree.specs.ProgramTree.{ProgramTree, controlled}
+use Rattle.program_tree.specs.Walk.{Action, walk}
 use Rattle.tsl_meaning.specs.Interpretation.{InputRows}
 
 -- a place among the input rows, a state of the program, and a value for each cell

@@ -2,8 +2,8 @@
 use Rattle.std.specs.Prelude.{◌≡◌, ◌≢◌, ℕ, ◌+◌, ◌<◌, Some, length as count_of, slice_get}
 use Rattle.loop_shape.specs.LoopShape.{LoopShape}
 use Rattle.tsl_terms.specs.Value.{Meanings}
-use Rattle.flow_program.specs.ProgramTree.{ProgramTree}
-use Rattle.flow_program.specs.Walk.{Action}
+use Rattle.program_tree.specs.ProgramTree.{ProgramTree}
+use Rattle.program_tree.specs.Walk.{Action}
 use Rattle.tsl_meaning.specs.Interpretation.{InputRows}
 use Rattle.tsl_meaning.specs.Run.{Configuration, row_at, action_in, configuration_at, Closed}
 use Rattle.tsl_meaning.specs.RunTree.{PositionTree, RunTree}

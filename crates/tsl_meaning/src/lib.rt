@@ -27,6 +27,3 @@ pub use laws::{
     runs_mean_what_programs_do, writable_programs_are_over_names,
 };
 pub use run::{InputLoop, LoopRun, Position};
-
-#[cfg(test)]
-mod tests;

@@ -9,7 +9,7 @@ use tsl_terms::Term;
 
 /// An eventually periodic input: rows of values, those of the stem once and then those of the cycle
 /// again and again. There is a cycle row.
-#[derive(Debug, Drop)]
+#[derive(Drop)]
 pub struct InputLoop<V> {
     /// The rows that come once, at first.
     pub stem: Sequence<Sequence<V>>,
@@ -19,7 +19,7 @@ pub struct InputLoop<V> {
 }
 
 /// What stands at one position of a run.
-#[derive(Debug, Drop)]
+#[derive(Drop)]
 pub struct Position<V> {
     /// The place among the input rows, those of the stem first.
     pub place: u32,
@@ -38,7 +38,7 @@ pub struct Position<V> {
 /// No signal stands twice in its three lists. There are `start + length` positions, `length` is at
 /// least 1, and each position has one value for each input and each cell, and one term for each cell
 /// and then each output.
-#[derive(Debug, Drop)]
+#[derive(Drop)]
 pub struct LoopRun<V> {
     /// The program's inputs.
     pub inputs: Sequence<u32>,

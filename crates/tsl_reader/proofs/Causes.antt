@@ -14,19 +14,20 @@ use Rattle.tsl_terms.specs.Name.{Name}
 use Rattle.tsl_terms.specs.FormulaTree.{FormulaTree}
 use Rattle.tsl_terms.specs.SpecTree.{SpecTree, whole_formula}
 use Rattle.tsl_terms.specs.Nodes.{nodes}
-use Rattle.tsl_reader.specs.declared.syntax.Part.{Part}
-use Rattle.tsl_reader.specs.declared.syntax.Part.TheVariants.{AssumeFirst, AssumeAlways, GuaranteeFirst, GuaranteeAlways}
-use Rattle.tsl_reader.specs.Syntax.{SectionSyntax}
-use Rattle.tsl_reader.specs.Grammar.{AreSections}
+use Rattle.spec_syntax.specs.declared.syntax.Part.{Part}
+use Rattle.spec_syntax.specs.declared.syntax.Part.TheVariants.{AssumeFirst, AssumeAlways, GuaranteeFirst, GuaranteeAlways}
+use Rattle.spec_syntax.specs.Syntax.{SectionSyntax}
+use Rattle.spec_syntax.specs.Grammar.{AreSections}
 use Rattle.token_readers.specs.Readers.{form, deep}
-use Rattle.tsl_reader.specs.Reading.{sections}
+use Rattle.spec_syntax.specs.Reading.{sections}
 use Rattle.tsl_reader.specs.Naming.{names_of, numbered_list, formulas_of_part}
-use Rattle.tsl_reader.specs.Spells.{deepest_level, most_formula_nodes, terminal_at, terminals, Derives, IsDerived, Spells, HasWrongToken}
+use Rattle.spec_syntax.specs.Texts.{terminal_at, terminals}
+use Rattle.tsl_reader.specs.Spells.{deepest_level, most_formula_nodes, Derives, IsDerived, Spells, HasWrongToken}
 use Rattle.tsl_reader.specs.Spells.{HasFormFault}
 use Rattle.tsl_reader.specs.Spells.{HasDeepFault, HasTooManyNodes}
-use Rattle.tsl_reader.proofs.ExactSections.{one_tree}
-use Rattle.tsl_reader.proofs.Faults.{form_is_within, deep_is_within, form_stops_all, form_begins, deep_stops, deep_begins, deep_goes_on}
-use Rattle.tsl_reader.proofs.Faults.{no_text}
+use Rattle.spec_syntax.proofs.ExactSections.{one_tree}
+use Rattle.spec_syntax.proofs.Faults.{form_is_within, deep_is_within, form_stops_all, form_begins, deep_stops, deep_begins, deep_goes_on}
+use Rattle.spec_syntax.proofs.Faults.{no_text}
 
 -- the terminals of tokens before and behind one
 terminals_split : (text : List ℕ) (before : List Token) (token : Token) (after : List Token) →

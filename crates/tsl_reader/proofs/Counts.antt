@@ -6,9 +6,10 @@ use Rattle.tsl_text.specs.declared.Token.{Token}
 use Rattle.tsl_text.specs.Division.{Part, blank, comment, lexeme, Divides, tokens_from, AreTokens}
 use Rattle.tsl_text.specs.Lexeme.{token_text}
 use Rattle.tsl_text.proofs.Pieces.{token_not_empty}
-use Rattle.tsl_reader.specs.Syntax.{SectionSyntax}
+use Rattle.spec_syntax.specs.Syntax.{SectionSyntax}
 use Rattle.tsl_reader.specs.Naming.{all_uses, written_uses}
-use Rattle.tsl_reader.specs.Spells.{terminal_at, is_free, name_tokens, Derives}
+use Rattle.spec_syntax.specs.Texts.{terminal_at}
+use Rattle.tsl_reader.specs.Spells.{is_free, name_tokens, Derives}
 use Rattle.tsl_reader.proofs.UsePlaces.{texts_of_uses}
 
 parts_within : (text : List ℕ) (at : ℕ) (parts : List Part) → Divides text parts [] → length (tokens_from at parts) ≤ length text

@@ -17,8 +17,8 @@ use Rattle.tsl_terms.specs.FormulaTree.{no_formulas as no_members, more_formulas
 use Rattle.tsl_terms.specs.Atoms.{atoms, atoms_of_members, has_two, joins_two, all_join_two}
 use Rattle.tsl_terms.specs.WellFormed.{is_usable_at, is_question, term_fits, terms_fit, bracketed as bracketed_tree, brackets}
 use Rattle.tsl_terms.specs.WellFormed.{brackets_of_arguments, deepest as most_brackets, atom_fits, formula_fits}
-use Rattle.tsl_reader.specs.Syntax.{TermSyntax, alone, applied, TermsSyntax, no_terms, more_terms, FormulaSyntax, truth, falsehood, bare}
-use Rattle.tsl_reader.specs.Syntax.{tested, updated, under, between, joined, FormulasSyntax, no_formulas, more_formulas}
+use Rattle.spec_syntax.specs.Syntax.{TermSyntax, alone, applied, TermsSyntax, no_terms, more_terms, FormulaSyntax, truth, falsehood, bare}
+use Rattle.spec_syntax.specs.Syntax.{tested, updated, under, between, joined, FormulasSyntax, no_formulas, more_formulas}
 use Rattle.tsl_reader.specs.Naming.{use_as, tested_signal, question_use, count_of_arguments, term_uses, terms_uses, uses, members_uses}
 use Rattle.tsl_reader.specs.Naming.{numbered_term, numbered_terms, test_of, numbered_formula, numbered_members, numbered_list}
 use Rattle.tsl_reader.proofs.Shapes.{IsShaped, AreShaped, HasTwo, bracketed, depth, depth_of_arguments}

@@ -12,7 +12,7 @@ use Rattle.tsl_terms.specs.Name.{Name, number_of, same_kind, question}
 use Rattle.tsl_terms.specs.Clashes.{alike_in_kind, same_arity, HasNoClash}
 use Rattle.tsl_terms.specs.internal.FirstUse.{name_with}
 use Rattle.tsl_terms.proofs.FirstUses.{first_of, named_first, first_some, FirstAt, first_at, clash_of}
-use Rattle.tsl_reader.specs.Syntax.{SectionSyntax}
+use Rattle.spec_syntax.specs.Syntax.{SectionSyntax}
 use Rattle.tsl_reader.specs.Naming.{Use, all_uses, written_uses, question_use, named_by, names_of}
 use Rattle.tsl_reader.specs.Spells.{Derives}
 use Rattle.tsl_reader.proofs.UseLemmas.{first_other}

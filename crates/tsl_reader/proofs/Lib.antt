@@ -1,12 +1,4 @@
 mod Examples
-pub mod TreeLemmas
-pub mod ReadLemmas
-pub mod Lift
-pub mod ExactTerms
-pub mod ExactFormulas
-pub mod ExactSections
-pub mod ReadLoops
-pub mod Faults
 pub mod Causes
 pub mod OneCause
 pub mod SpelledFits

@@ -12,13 +12,13 @@ use Rattle.tsl_terms.specs.FormulaTree.{FormulaTree, FormulaTrees, no_formulas, 
 use Rattle.tsl_terms.specs.FormulaTree.{formula_tree}
 use Rattle.tsl_terms.proofs.TermLemmas.{with_front_none as terms_front_none}
 use Rattle.tsl_terms.proofs.FormulaLemmas.{with_front_none as formulas_front_none}
-use Rattle.tsl_reader.specs.declared.syntax.Part.{Part}
-use Rattle.tsl_reader.specs.declared.trees.ReadSection.{ReadSection}
+use Rattle.spec_syntax.specs.declared.syntax.Part.{Part}
+use Rattle.spec_syntax.specs.declared.trees.ReadSection.{ReadSection}
 use Rattle.tsl_terms.specs.Name.{Name}
 use Rattle.tsl_terms.specs.TermTree.{TermTree, TermTrees, no_terms, more_terms, terms_of, term_tree}
-use Rattle.tsl_reader.specs.Syntax.{TermSyntax, TermsSyntax, more_terms as another_term, FormulaSyntax, FormulasSyntax}
-use Rattle.tsl_reader.specs.Syntax.{more_formulas as another_formula, SectionSyntax}
-use Rattle.tsl_reader.specs.SyntaxView.{section_syntax}
+use Rattle.spec_syntax.specs.Syntax.{TermSyntax, TermsSyntax, more_terms as another_term, FormulaSyntax, FormulasSyntax}
+use Rattle.spec_syntax.specs.Syntax.{more_formulas as another_formula, SectionSyntax}
+use Rattle.spec_syntax.specs.SyntaxView.{section_syntax}
 use Rattle.tsl_reader.specs.Numbering.{formulas_after, formulas_if}
 use Rattle.tsl_reader.specs.Naming.{numbered_term, numbered_terms, numbered_formula, numbered_members, numbered_list, same_part}
 use Rattle.tsl_reader.specs.Naming.{formulas_of_part}

@@ -13,10 +13,11 @@ use Rattle.tsl_terms.specs.Clashes.{alike_in_kind, same_arity, IsFirstClash, Has
 use Rattle.tsl_terms.specs.SpecTree.{SpecTree}
 use Rattle.tsl_reader.specs.declared.SpecError.{SpecError}
 use Rattle.tsl_reader.specs.declared.SpecError.TheVariants as error
-use Rattle.tsl_reader.specs.Syntax.{SectionSyntax}
-use Rattle.tsl_reader.specs.Grammar.{AreSections}
+use Rattle.spec_syntax.specs.Syntax.{SectionSyntax}
+use Rattle.spec_syntax.specs.Grammar.{AreSections}
 use Rattle.tsl_reader.specs.Naming.{written_uses}
-use Rattle.tsl_reader.specs.Spells.{deepest_level, terminals, Derives, Spells, SomeTextBegins, NoTextBegins, HasWrongToken}
+use Rattle.spec_syntax.specs.Texts.{terminals, SomeTextBegins, NoTextBegins}
+use Rattle.tsl_reader.specs.Spells.{deepest_level, Derives, Spells, HasWrongToken}
 use Rattle.tsl_reader.specs.Spells.{HasFormFault, HasDeepFault, HasClashAt, HasCause, SpellsNoSpec, IsOfText}
 use Rattle.tsl_reader.proofs.Causes.{one_list, one_derivation, no_tokens, nodes_refuse}
 

@@ -6,8 +6,8 @@ use Rattle.sequence.proofs.Each.{each_flat_map, each_left, each_right, each_filt
 use Rattle.tsl_text.specs.declared.Token.{Token}
 use Rattle.tsl_terms.specs.Name.{Name}
 use Rattle.tsl_terms.specs.Clashes.{alike_in_kind, same_arity, HasNoClash}
-use Rattle.tsl_reader.specs.declared.syntax.Part.{Part}
-use Rattle.tsl_reader.specs.Syntax.{FormulaSyntax, SectionSyntax}
+use Rattle.spec_syntax.specs.declared.syntax.Part.{Part}
+use Rattle.spec_syntax.specs.Syntax.{FormulaSyntax, SectionSyntax}
 use Rattle.tsl_reader.specs.Naming.{uses, section_uses, all_uses, written_uses, names_of, same_part, formulas_of_part}
 use Rattle.tsl_reader.specs.Spells.{Derives}
 use Rattle.tsl_reader.proofs.Shapes.{IsShaped, sections_shaped}

@@ -4,16 +4,16 @@ use Rattle.std.specs.Prelude.{max}
 use Rattle.std.specs.List.{AllByRecursion}
 use Rattle.tsl_terms.specs.declared.operator.ManyOperator.{ManyOperator}
 use Rattle.tsl_terms.specs.declared.operator.ManyOperator.TheVariants.{Conjunction, Disjunction}
-use Rattle.tsl_reader.specs.Syntax.{Terminal, TermSyntax, alone, applied, TermsSyntax, no_terms, more_terms, listed_terms, FormulaSyntax}
-use Rattle.tsl_reader.specs.Syntax.{truth}
-use Rattle.tsl_reader.specs.Syntax.{falsehood, bare, tested, updated, under, between, joined, FormulasSyntax, no_formulas, more_formulas}
-use Rattle.tsl_reader.specs.Syntax.{join, listed_formulas, SectionSyntax}
-use Rattle.tsl_reader.specs.Grammar.{IsTerm, signal, constant, application, brackets, AreArguments, one_argument, more_arguments}
-use Rattle.tsl_reader.specs.Grammar.{IsArgument, signal_argument, constant_argument, brackets_argument, IsFormula, temporal}
-use Rattle.tsl_reader.specs.Grammar.{chain as chained, IsIff, no_iff, iff, IsImp, no_imp, imp, IsOr, disjunction, AreDisjuncts, no_disjunct}
-use Rattle.tsl_reader.specs.Grammar.{more_disjuncts, IsAnd, conjunction, AreConjuncts, no_conjunct, more_conjuncts, IsPrefix, prefix, atom}
-use Rattle.tsl_reader.specs.Grammar.{IsAtom, true_atom, false_atom, brackets_atom, update, bare_name, no_argument, test, AreItems, nothing}
-use Rattle.tsl_reader.specs.Grammar.{last_item, item, IsSection, braces, AreSections, no_section, section}
+use Rattle.spec_syntax.specs.Syntax.{Terminal, TermSyntax, alone, applied, TermsSyntax, no_terms, more_terms, listed_terms, FormulaSyntax}
+use Rattle.spec_syntax.specs.Syntax.{truth}
+use Rattle.spec_syntax.specs.Syntax.{falsehood, bare, tested, updated, under, between, joined, FormulasSyntax, no_formulas, more_formulas}
+use Rattle.spec_syntax.specs.Syntax.{join, listed_formulas, SectionSyntax}
+use Rattle.spec_syntax.specs.Grammar.{IsTerm, signal, constant, application, brackets, AreArguments, one_argument, more_arguments}
+use Rattle.spec_syntax.specs.Grammar.{IsArgument, signal_argument, constant_argument, brackets_argument, IsFormula, temporal}
+use Rattle.spec_syntax.specs.Grammar.{chain as chained, IsIff, no_iff, iff, IsImp, no_imp, imp, IsOr, disjunction, AreDisjuncts, no_disjunct}
+use Rattle.spec_syntax.specs.Grammar.{more_disjuncts, IsAnd, conjunction, AreConjuncts, no_conjunct, more_conjuncts, IsPrefix, prefix, atom}
+use Rattle.spec_syntax.specs.Grammar.{IsAtom, true_atom, false_atom, brackets_atom, update, bare_name, no_argument, test, AreItems, nothing}
+use Rattle.spec_syntax.specs.Grammar.{last_item, item, IsSection, braces, AreSections, no_section, section}
 use Rattle.tsl_reader.specs.Spells.{deepest_level}
 
 -- how deep the brackets nest where an argument with arguments stands in brackets

@@ -15,21 +15,22 @@ use Rattle.tsl_terms.specs.FormulaTree.{FormulaTrees, formulas_in as members_in}
 use Rattle.tsl_terms.specs.Nodes.{nodes}
 use Rattle.tsl_terms.specs.SpecTree.{SpecTree, whole_formula}
 use Rattle.tsl_terms.specs.WellFormed.{formula_fits, formulas_fit}
-use Rattle.tsl_reader.specs.declared.syntax.Part.{Part}
-use Rattle.tsl_reader.specs.declared.syntax.Part.TheVariants.{AssumeFirst, AssumeAlways, GuaranteeFirst, GuaranteeAlways}
-use Rattle.tsl_reader.specs.declared.terminals.Terminal.{Terminal as LentTerminal}
-use Rattle.tsl_reader.specs.Syntax.{Terminal, FormulaSyntax, SectionSyntax}
+use Rattle.spec_syntax.specs.declared.syntax.Part.{Part}
+use Rattle.spec_syntax.specs.declared.syntax.Part.TheVariants.{AssumeFirst, AssumeAlways, GuaranteeFirst, GuaranteeAlways}
+use Rattle.spec_syntax.specs.declared.terminal.Terminal.{Terminal as LentTerminal}
+use Rattle.spec_syntax.specs.Syntax.{Terminal, FormulaSyntax, SectionSyntax}
 use Rattle.token_readers.specs.Readers.{form, deep}
-use Rattle.tsl_reader.specs.Reading.{sections}
+use Rattle.spec_syntax.specs.Reading.{sections}
 use Rattle.tsl_reader.specs.Naming.{Use, all_uses, written_uses, named_by, names_of, numbered_list, formulas_of_part}
 use Rattle.tsl_reader.specs.Numbering.{HasNumbers}
-use Rattle.tsl_reader.specs.Spells.{deepest_level, terminal_at, terminals, is_free, name_tokens, Derives, HasFormFault, HasDeepFault}
+use Rattle.spec_syntax.specs.Texts.{terminal_at, terminals}
+use Rattle.tsl_reader.specs.Spells.{deepest_level, is_free, name_tokens, Derives, HasFormFault, HasDeepFault}
 use Rattle.tsl_reader.specs.Spells.{HasClashAt}
 use Rattle.tsl_reader.specs.Spells.{IsDerived, Spells, HasTooManyNodes, most_formula_nodes}
-use Rattle.tsl_reader.specs.SyntaxView.{terminals_view}
-use Rattle.tsl_reader.proofs.Faults.{form_is_within}
+use Rattle.spec_syntax.specs.SyntaxView.{terminals_view}
+use Rattle.spec_syntax.proofs.Faults.{form_is_within}
 use Rattle.tsl_reader.proofs.Causes.{length_terminals, form_at_token, form_at_end, deep_at_token, deep_has_token}
-use Rattle.tsl_reader.proofs.ExactSections.{sections_derive}
+use Rattle.spec_syntax.proofs.ExactSections.{sections_derive}
 use Rattle.tsl_reader.proofs.Counts.{uses_within}
 use Rattle.tsl_reader.proofs.NameBounds.{names_within, firsts_within}
 use Rattle.tsl_reader.proofs.Results.{list_of_part}

@@ -11,10 +11,11 @@ use Rattle.tsl_text.specs.Division.{AreTokens, IsTokenOf}
 use Rattle.tsl_text.specs.Lexeme.{IsTokenText, lexeme_from, token_text}
 use Rattle.tsl_text.proofs.Parts.{each_token}
 use Rattle.tsl_text.specs.Names.{is_name_text, is_reserved, is_usable}
-use Rattle.tsl_reader.specs.declared.syntax.Word.{Word}
-use Rattle.tsl_reader.specs.declared.syntax.Word.TheVariants.{Assume, Guarantee, Always, Initially, True, False, X, F, G, U, W, R, A}
-use Rattle.tsl_reader.specs.Syntax.{Terminal, free, word, mark, word_of, free_unless, terminal_of, SectionSyntax}
-use Rattle.tsl_reader.specs.Spells.{terminal_at, terminals, Derives}
+use Rattle.spec_syntax.specs.declared.syntax.Word.{Word}
+use Rattle.spec_syntax.specs.declared.syntax.Word.TheVariants.{Assume, Guarantee, Always, Initially, True, False, X, F, G, U, W, R, A}
+use Rattle.spec_syntax.specs.Syntax.{Terminal, free, word, mark, word_of, free_unless, terminal_of, SectionSyntax}
+use Rattle.spec_syntax.specs.Texts.{terminal_at, terminals}
+use Rattle.tsl_reader.specs.Spells.{Derives}
 use Rattle.tsl_reader.specs.Naming.{Use, all_uses}
 use Rattle.tsl_reader.proofs.UseTexts.{free_texts, text_of, sections_texts}
 

@@ -6,10 +6,11 @@ use Rattle.tsl_text.specs.declared.TokenKind.{TokenKind}
 use Rattle.tsl_text.specs.declared.TokenKind.TheVariants.{Name as NameKind}
 use Rattle.tsl_text.specs.Lexeme.{lexeme_from, token_text}
 use Rattle.tsl_terms.specs.Name.{Name}
-use Rattle.tsl_reader.specs.declared.syntax.Word.{Word}
-use Rattle.tsl_reader.specs.Syntax.{Terminal, free, word, mark, word_of, free_unless, terminal_of, SectionSyntax}
+use Rattle.spec_syntax.specs.declared.syntax.Word.{Word}
+use Rattle.spec_syntax.specs.Syntax.{Terminal, free, word, mark, word_of, free_unless, terminal_of, SectionSyntax}
 use Rattle.tsl_reader.specs.Naming.{written_uses}
-use Rattle.tsl_reader.specs.Spells.{deepest_level, terminal_at, terminals, Derives, is_free, name_tokens}
+use Rattle.spec_syntax.specs.Texts.{terminal_at, terminals}
+use Rattle.tsl_reader.specs.Spells.{deepest_level, Derives, is_free, name_tokens}
 use Rattle.tsl_reader.proofs.UseTexts.{free_texts, written_texts}
 
 -- the terminal of a token is a name with the token's bytes, or no name

@@ -8,16 +8,16 @@ use Rattle.tsl_terms.specs.declared.operator.UnaryOperator.{UnaryOperator}
 use Rattle.tsl_terms.specs.declared.operator.BinaryOperator.{BinaryOperator}
 use Rattle.tsl_terms.specs.declared.operator.ManyOperator.{ManyOperator}
 use Rattle.tsl_terms.specs.declared.operator.ManyOperator.TheVariants.{Conjunction, Disjunction}
-use Rattle.tsl_reader.specs.declared.syntax.Part.{Part}
-use Rattle.tsl_reader.specs.Syntax.{Terminal, free, word, mark, TermSyntax, listed_terms, FormulaSyntax, join, listed_formulas}
-use Rattle.tsl_reader.specs.Syntax.{SectionSyntax}
-use Rattle.tsl_reader.specs.Grammar.{unary_of, temporal_of, IsTerm, signal, constant, application, brackets, AreArguments, one_argument}
-use Rattle.tsl_reader.specs.Grammar.{more_arguments, IsArgument, signal_argument, constant_argument, brackets_argument, IsFormula, temporal}
-use Rattle.tsl_reader.specs.Grammar.{chain as chained, IsIff, no_iff, iff, IsImp, no_imp, imp, IsOr, disjunction, AreDisjuncts, no_disjunct}
-use Rattle.tsl_reader.specs.Grammar.{more_disjuncts, IsAnd, conjunction, AreConjuncts, no_conjunct, more_conjuncts, IsPrefix, prefix, atom}
-use Rattle.tsl_reader.specs.Grammar.{IsAtom, true_atom, false_atom, brackets_atom, update, bare_name, no_argument, test, AreItems, nothing}
-use Rattle.tsl_reader.specs.Grammar.{last_item, item, IsHead, assume, guarantee, initially_assume, initially_guarantee, always_assume}
-use Rattle.tsl_reader.specs.Grammar.{always_guarantee, IsSection, braces, AreSections, no_section, section}
+use Rattle.spec_syntax.specs.declared.syntax.Part.{Part}
+use Rattle.spec_syntax.specs.Syntax.{Terminal, free, word, mark, TermSyntax, listed_terms, FormulaSyntax, join, listed_formulas}
+use Rattle.spec_syntax.specs.Syntax.{SectionSyntax}
+use Rattle.spec_syntax.specs.Grammar.{unary_of, temporal_of, IsTerm, signal, constant, application, brackets, AreArguments, one_argument}
+use Rattle.spec_syntax.specs.Grammar.{more_arguments, IsArgument, signal_argument, constant_argument, brackets_argument, IsFormula, temporal}
+use Rattle.spec_syntax.specs.Grammar.{chain as chained, IsIff, no_iff, iff, IsImp, no_imp, imp, IsOr, disjunction, AreDisjuncts, no_disjunct}
+use Rattle.spec_syntax.specs.Grammar.{more_disjuncts, IsAnd, conjunction, AreConjuncts, no_conjunct, more_conjuncts, IsPrefix, prefix, atom}
+use Rattle.spec_syntax.specs.Grammar.{IsAtom, true_atom, false_atom, brackets_atom, update, bare_name, no_argument, test, AreItems, nothing}
+use Rattle.spec_syntax.specs.Grammar.{last_item, item, IsHead, assume, guarantee, initially_assume, initially_guarantee, always_assume}
+use Rattle.spec_syntax.specs.Grammar.{always_guarantee, IsSection, braces, AreSections, no_section, section}
 use Rattle.tsl_reader.specs.Naming.{Use, term_uses, terms_uses, uses, members_uses, section_uses, all_uses, written_uses}
 
 -- the names among terminals, in order

@@ -1,9 +1,4 @@
-pub mod Syntax
-pub mod Grammar
-pub mod Reading
 pub mod Naming
 pub mod Spells
-pub mod SyntaxView
-pub mod Forms
 pub mod UseView
 pub mod Numbering

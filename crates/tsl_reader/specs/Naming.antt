@@ -9,10 +9,10 @@ use Rattle.tsl_terms.specs.Clashes.{first_uses}
 use Rattle.tsl_terms.specs.TermTree.{TermTree, signal, apply, TermTrees, no_terms as no_trees, more_terms as more_trees}
 use Rattle.tsl_terms.specs.FormulaTree.{test, update, FormulaTree, FormulaTrees, constant, atom, unary, binary, many}
 use Rattle.tsl_terms.specs.FormulaTree.{no_formulas as no_members, more_formulas as more_members}
-use Rattle.tsl_reader.specs.declared.syntax.Part.{Part}
-use Rattle.tsl_reader.specs.declared.syntax.Part.TheVariants.{AssumeFirst, AssumeAlways, GuaranteeFirst, GuaranteeAlways}
-use Rattle.tsl_reader.specs.Syntax.{TermSyntax, alone, applied, TermsSyntax, no_terms, more_terms, FormulaSyntax, truth, falsehood, bare}
-use Rattle.tsl_reader.specs.Syntax.{tested, updated, under, between, joined, FormulasSyntax, no_formulas, more_formulas, SectionSyntax}
+use Rattle.spec_syntax.specs.declared.syntax.Part.{Part}
+use Rattle.spec_syntax.specs.declared.syntax.Part.TheVariants.{AssumeFirst, AssumeAlways, GuaranteeFirst, GuaranteeAlways}
+use Rattle.spec_syntax.specs.Syntax.{TermSyntax, alone, applied, TermsSyntax, no_terms, more_terms, FormulaSyntax, truth, falsehood, bare}
+use Rattle.spec_syntax.specs.Syntax.{tested, updated, under, between, joined, FormulasSyntax, no_formulas, more_formulas, SectionSyntax}
 
 -- A use of a name: the name that it would be, and whether it stands alone in a formula, where the predicate `?` tests it.
 pub record Use : Type 0 where

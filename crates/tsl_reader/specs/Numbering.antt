@@ -5,8 +5,8 @@ use Rattle.std.specs.List.{list_all}
 use Rattle.tsl_terms.specs.Name.{Name}
 use Rattle.tsl_terms.specs.FormulaTree.{FormulaTree}
 use Rattle.tsl_terms.specs.WellFormed.{formula_fits}
-use Rattle.tsl_reader.specs.declared.syntax.Part.{Part}
-use Rattle.tsl_reader.specs.Syntax.{FormulaSyntax, SectionSyntax}
+use Rattle.spec_syntax.specs.declared.syntax.Part.{Part}
+use Rattle.spec_syntax.specs.Syntax.{FormulaSyntax, SectionSyntax}
 use Rattle.tsl_reader.specs.Naming.{same_part, numbered_list}
 
 -- these formulas, and then those that get their numbers

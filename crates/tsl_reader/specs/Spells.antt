@@ -1,8 +1,7 @@
 -- Which specification a text spells, and the cause of each refusal.
-use Rattle.std.specs.Prelude.{◌≡◌, ℕ, ◌≤◌, ◌<◌, Bool, true, false, List, [], ◌∷◌, ◌++◌, length, map, filter, Some, slice_get, ◌⊎◌}
+use Rattle.std.specs.Prelude.{◌≡◌, ℕ, ◌≤◌, ◌<◌, Bool, true, false, List, [], ◌∷◌, ◌++◌, length, filter, Some, slice_get, ◌⊎◌}
 use Rattle.tsl_text.specs.declared.Token.{Token}
 use Rattle.tsl_text.specs.Division.{AreTokens, HasBadByte, HasOpenComment}
-use Rattle.tsl_text.specs.Lexeme.{lexeme_of}
 use Rattle.tsl_terms.specs.Name.{Name}
 use Rattle.tsl_terms.specs.Clashes.{alike_in_kind, same_arity, IsFirstClash, HasNoClash}
 use Rattle.tsl_terms.specs.Nodes.{nodes}
@@ -11,9 +10,10 @@ use Rattle.tsl_reader.specs.declared.TheConstants.{MOST_NODES}
 use Rattle.tsl_reader.specs.declared.stages.TheConstants.{DEEPEST}
 use Rattle.tsl_reader.specs.declared.SpecError.{SpecError}
 use Rattle.tsl_reader.specs.declared.SpecError.TheVariants.{Byte, OpenComment, Form, Deep, Kind, Arity, Nodes, NoMemory}
-use Rattle.tsl_reader.specs.declared.syntax.Part.TheVariants.{AssumeFirst, AssumeAlways, GuaranteeFirst, GuaranteeAlways}
-use Rattle.tsl_reader.specs.Syntax.{Terminal, free, word, mark, terminal_of, SectionSyntax}
-use Rattle.tsl_reader.specs.Grammar.{AreSections}
+use Rattle.spec_syntax.specs.declared.syntax.Part.TheVariants.{AssumeFirst, AssumeAlways, GuaranteeFirst, GuaranteeAlways}
+use Rattle.spec_syntax.specs.Syntax.{Terminal, free, word, mark, SectionSyntax}
+use Rattle.spec_syntax.specs.Grammar.{AreSections}
+use Rattle.spec_syntax.specs.Texts.{terminal_at, terminals, SomeTextBegins, NoTextBegins, IsNoText}
 use Rattle.tsl_reader.specs.Naming.{written_uses, names_of, numbered_list, formulas_of_part}
 
 -- the deepest_level level
@@ -23,13 +23,6 @@ deepest_level = DEEPEST
 -- the most nodes of the whole formula
 abbrev pub most_formula_nodes : ℕ
 most_formula_nodes = MOST_NODES
-
-abbrev pub terminal_at : List ℕ → Token → Terminal
-terminal_at text token = terminal_of (lexeme_of text token)
-
--- the terminals of a text with these tokens
-abbrev pub terminals : List ℕ → List Token → List Terminal
-terminals text tokens = map (terminal_at text) tokens
 
 -- the text has these tokens, and they derive from these sections with levels up to 200
 pub record Derives (text : List ℕ) (tokens : List Token) (sections : List SectionSyntax) : Type 0 where
@@ -54,18 +47,6 @@ pub record IsDerived (text : List ℕ) (spec : SpecTree) : Type 0 where
 pub record Spells (text : List ℕ) (spec : SpecTree) : Type 0 where
   pub derived : IsDerived text spec
   pub few_nodes : nodes (whole_formula spec) ≤ most_formula_nodes
-
--- some text of the grammar with this room begins with these terminals
-abbrev pub SomeTextBegins : ℕ → List Terminal → Type 0
-SomeTextBegins room front = (rest : List Terminal) × (sections : List SectionSyntax) × AreSections room (front ++ rest) sections
-
--- no text of the grammar with this room begins with these terminals
-abbrev pub NoTextBegins : ℕ → List Terminal → Type 0
-NoTextBegins room front = (rest : List Terminal) (sections : List SectionSyntax) → AreSections room (front ++ rest) sections → ⊥
-
--- the terminals are no text of the grammar with this room
-abbrev pub IsNoText : ℕ → List Terminal → Type 0
-IsNoText room xs = (sections : List SectionSyntax) → AreSections room xs sections → ⊥
 
 -- A token begins at this offset. Some text with levels up to 200 begins with the tokens before it, and none with any
 -- number of levels begins with the tokens up to and with it.

@@ -2,8 +2,8 @@
 //!
 //! - `read_spec` reads a text as a specification: it answers `Ok` exactly where the text spells one
 //!   (`specs/Spells.antt`), and then that one, and each refusal has its cause there.
-//! - The grammar (`specs/Grammar.antt`) is a relation by cases on whole lists of terminals
-//!   (`specs/Syntax.antt`), level by level: no order of attempts and no lookahead are in it.
+//! - The grammar, as a relation by cases on whole lists of terminals, and the reading of terminals as
+//!   sections stand in the crate `spec_syntax`.
 //! - The names (`specs/Naming.antt`) are a second pass over what was read: each use that stands in the
 //!   text, and the names by first appearance, where `?` comes directly after the signal that it tests.
 //! - Laws: a text spells at most one specification, which fits its names, or has at most one cause of
@@ -21,23 +21,16 @@ use std::alloc::{AllocFailed, Global};
 use thiserror::Error;
 use tsl_terms::Spec;
 
-mod fault;
-mod formulas;
 mod laws;
 mod naming;
 mod numbering;
-mod sections;
 mod stages;
-mod syntax;
-mod terminals;
-mod terms;
-mod trees;
 mod uses;
 
-pub use laws::{
+pub use laws::{names_stand_in_order, one_cause, one_specification, spelled_specifications_fit};
+pub use spec_syntax::{
     deep_faults_are_the_first, form_faults_are_the_first, grammar_has_one_reading,
-    names_stand_in_order, one_cause, one_specification, reading_meets_the_grammar,
-    spelled_specifications_fit,
+    reading_meets_the_grammar,
 };
 
 /// The most nodes that the whole formula of a specification may have.
@@ -114,6 +107,3 @@ pub fn read_spec(alloc: Global, text: &[u8]) -> Result<Spec, SpecError>
     }
     Ok(spec)
 }
-
-#[cfg(test)]
-mod tests;

@@ -9,14 +9,13 @@ ghost use Rattle.tsl_terms.specs.FormulaTree.{binary, many};
 ghost use Rattle.tsl_reader.specs.Naming.{numbered_term, numbered_terms, numbered_formula};
 ghost use Rattle.tsl_reader.specs.Naming.{numbered_members, numbered_list, same_part};
 ghost use Rattle.tsl_reader.specs.Naming.{formulas_of_part};
-ghost use Rattle.tsl_reader.specs.Syntax.{bare};
+ghost use Rattle.spec_syntax.specs.Syntax.{bare};
 ghost use Rattle.tsl_reader.specs.Numbering.{formulas_after, formulas_if};
-ghost use Rattle.tsl_reader.specs.SyntaxView.{term_syntax, terms_syntax, formula_syntax};
-ghost use Rattle.tsl_reader.specs.SyntaxView.{formulas_syntax, section_syntax};
+ghost use Rattle.spec_syntax.specs.SyntaxView.{term_syntax, terms_syntax, formula_syntax};
+ghost use Rattle.spec_syntax.specs.SyntaxView.{formulas_syntax, section_syntax};
 
-use crate::syntax::Part;
-use crate::trees::{ReadFormula, ReadFormulas, ReadSection, ReadTerm, ReadTerms};
 use sequence::NoMemory;
+use spec_syntax::{Part, ReadFormula, ReadFormulas, ReadSection, ReadTerm, ReadTerms};
 use std::alloc::Global;
 use tsl_terms::{
     BinaryOperator, Formula, FormulaList, ManyOperator, Names, Probe, Term, TermList, UnaryOperator,

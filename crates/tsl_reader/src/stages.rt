@@ -3,10 +3,10 @@
 ghost use Rattle.std.specs.Prelude.{◌≡◌, ℕ, ◌-◌, ◌≤◌, ◌<◌, ◌^◌, length, map, slice_get, nat_le};
 ghost use Rattle.std.specs.Prelude.{Some, All, IsTrue, IfOk, IfErr, OnOk};
 ghost use Rattle.std.specs.Prelude.{MatchOption};
-ghost use Rattle.tsl_reader.specs.declared.syntax.Part.{Part};
-ghost use Rattle.tsl_reader.specs.declared.syntax.Part.TheVariants.{AssumeFirst, AssumeAlways};
-ghost use Rattle.tsl_reader.specs.declared.syntax.Part.TheVariants.{GuaranteeFirst};
-ghost use Rattle.tsl_reader.specs.declared.syntax.Part.TheVariants.{GuaranteeAlways};
+ghost use Rattle.spec_syntax.specs.declared.syntax.Part.{Part};
+ghost use Rattle.spec_syntax.specs.declared.syntax.Part.TheVariants.{AssumeFirst, AssumeAlways};
+ghost use Rattle.spec_syntax.specs.declared.syntax.Part.TheVariants.{GuaranteeFirst};
+ghost use Rattle.spec_syntax.specs.declared.syntax.Part.TheVariants.{GuaranteeAlways};
 ghost use Rattle.tsl_text.specs.Division.{AreTokens, IsTokenOf};
 ghost use Rattle.tsl_text.specs.Lexeme.{token_text};
 ghost use Rattle.tsl_terms.specs.FormulaTree.{formula_trees, member_trees};
@@ -18,20 +18,17 @@ ghost use Rattle.tsl_terms.specs.SpecTree.{whole_formula};
 ghost use Rattle.tsl_terms.specs.SpecView.{spec_tree};
 ghost use Rattle.tsl_reader.specs.Naming.{written_uses, names_of, numbered_list, formulas_of_part};
 ghost use Rattle.tsl_reader.specs.Numbering.{HasNumbers};
-ghost use Rattle.tsl_reader.specs.Spells.{most_formula_nodes, terminal_at, is_free, name_tokens};
+ghost use Rattle.spec_syntax.specs.Texts.{terminal_at};
+ghost use Rattle.tsl_reader.specs.Spells.{most_formula_nodes, is_free, name_tokens};
 ghost use Rattle.tsl_reader.specs.Spells.{Derives, IsDerived, HasCause};
-ghost use Rattle.tsl_reader.specs.SyntaxView.{section_syntax};
+ghost use Rattle.spec_syntax.specs.SyntaxView.{section_syntax};
 
-use crate::fault::ReadFault;
 use crate::naming::{numbered_names, written_names};
 use crate::numbering::formulas_of_part;
-use crate::sections::sections;
-use crate::syntax::Part;
-use crate::terminals::{Terminal, terminal_at, terminals};
-use crate::trees::ReadSection;
 use crate::uses::all_uses;
 use crate::{MOST_NODES, SpecError};
 use sequence::NoMemory;
+use spec_syntax::{Part, ReadFault, ReadSection, Terminal, sections, terminal_at, terminals};
 use std::alloc::Global;
 use tsl_terms::{
     FormulaList, NameUse, Names, Quality, Spec, first_clash, first_uses, whole_node_count,

@@ -4,17 +4,17 @@ ghost use Rattle.std.specs.Prelude.{◌≡◌, ◌<◌, ◌^◌, ◌++◌, lengt
 ghost use Rattle.tsl_reader.specs.Naming.{count_of_arguments, use_as, tested_signal, term_uses};
 ghost use Rattle.tsl_reader.specs.Naming.{terms_uses, uses, members_uses};
 ghost use Rattle.tsl_reader.specs.Naming.{section_uses, all_uses};
-ghost use Rattle.tsl_reader.specs.SyntaxView.{term_syntax, terms_syntax, formula_syntax};
-ghost use Rattle.tsl_reader.specs.SyntaxView.{formulas_syntax, section_syntax};
+ghost use Rattle.spec_syntax.specs.SyntaxView.{term_syntax, terms_syntax, formula_syntax};
+ghost use Rattle.spec_syntax.specs.SyntaxView.{formulas_syntax, section_syntax};
 ghost use Rattle.tsl_reader.specs.UseView.{read_use};
 
-use crate::trees::{ReadFormula, ReadFormulas, ReadSection, ReadTerm, ReadTerms};
 use sequence::NoMemory;
+use spec_syntax::{ReadFormula, ReadFormulas, ReadSection, ReadTerm, ReadTerms};
 use std::alloc::Global;
 use tsl_terms::{NameKind, NameUse};
 
 /// A use of a name, and whether it stands alone in a formula, where the predicate `?` tests it.
-#[derive(Clone, Copy, Debug)]
+#[derive(Clone, Copy)]
 pub(crate) struct ReadUse<'a> {
     /// The use, as the name that it would be.
     pub(crate) usage: NameUse<'a>,

@@ -42,7 +42,7 @@ pub enum DataPart {
 }
 
 /// A rule of program texts that a line breaks.
-#[derive(Debug, Drop)]
+#[derive(Drop)]
 pub enum ProgramRule {
     /// The line has no form that is allowed at its place.
     Form,
@@ -104,7 +104,7 @@ pub enum LimitName {
 }
 
 /// Why a text or the words were refused.
-#[derive(Debug, Drop)]
+#[derive(Drop)]
 pub enum Fault {
     /// The words are no command.
     Usage,

@@ -160,10 +160,3 @@ fn put_others(
     }
     Ok(())
 }
-
-#[cfg(test)]
-mod fault_tests;
-#[cfg(test)]
-mod search_tests;
-#[cfg(test)]
-mod tests;

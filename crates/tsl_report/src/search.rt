@@ -27,7 +27,7 @@ use tsl_terms::Names;
 use tsl_text::{put_bytes, put_number};
 
 /// Why a search ended without a controller.
-#[derive(Clone, Copy, Debug)]
+#[derive(Clone, Copy)]
 pub enum ReasonText<'a> {
     /// So many rounds were made, as many as were allowed.
     Rounds(u32),

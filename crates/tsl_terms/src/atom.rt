@@ -14,7 +14,7 @@ use sequence::NoMemory;
 use std::alloc::Global;
 
 /// What a formula is made of, lent from it.
-#[derive(Clone, Copy, Debug)]
+#[derive(Clone, Copy)]
 pub enum AtomRef<'a> {
     /// A predicate's truth.
     Test(&'a Probe),

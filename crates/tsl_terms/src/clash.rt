@@ -10,7 +10,7 @@ use sequence::NoMemory;
 use std::alloc::Global;
 
 /// A use of a name, as the name that it would be.
-#[derive(Clone, Copy, Debug)]
+#[derive(Clone, Copy)]
 pub struct NameUse<'a> {
     /// The bytes of the name.
     pub text: &'a [u8],
@@ -21,7 +21,7 @@ pub struct NameUse<'a> {
 }
 
 /// In what uses of one name may differ.
-#[derive(Clone, Copy, Debug)]
+#[derive(Clone, Copy)]
 pub enum Quality {
     /// What the name is used as.
     Kind,

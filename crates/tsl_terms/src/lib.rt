@@ -72,6 +72,3 @@ pub use spec::Spec;
 pub use term::{DEEPEST_BRACKETS, Probe, Term, TermList};
 pub use window::{Listed, Window};
 pub use window_formulas::{under, window_formula};
-
-#[cfg(test)]
-mod tests;

@@ -20,7 +20,7 @@ pub enum NameKind {
 }
 
 /// What a name's text stands for, and how many arguments it takes.
-#[derive(Clone, Copy, Debug)]
+#[derive(Clone, Copy)]
 struct Meaning {
     kind: NameKind,
     arity: u32,
@@ -28,7 +28,7 @@ struct Meaning {
 
 /// The list of names in order of first appearance, each with its kind and how many arguments it
 /// takes. A name's number is its place, from 0. No text stands twice, and there are fewer than 2^32.
-#[derive(Debug, Drop)]
+#[derive(Drop)]
 pub struct Names {
     meanings: IndexMap<Vec<u8>, Meaning>,
 }

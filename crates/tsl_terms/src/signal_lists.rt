@@ -12,7 +12,7 @@ use sequence::{NoMemory, Sequence};
 use std::alloc::Global;
 
 /// The signals of a specification, each list in the order of the names.
-#[derive(Debug, Drop)]
+#[derive(Drop)]
 pub struct SignalLists {
     /// The signals that no update names on its left.
     pub inputs: Sequence<u32>,

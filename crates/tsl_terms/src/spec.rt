@@ -12,7 +12,7 @@ use crate::names::Names;
 /// Each number of a formula names what it is used as, with as many arguments as it takes. The names
 /// that are used may be written, a test of a Boolean signal has that signal as its argument, each
 /// `All` and `Any` has at least two members, and terms nest in brackets at most 200 deep.
-#[derive(Debug, Drop)]
+#[derive(Drop)]
 pub struct Spec {
     /// The names, by first appearance.
     pub names: Names,

@@ -176,6 +176,3 @@ pub fn one_division()
     ensures lexemes { (text : List ℕ) (parts : List Part) → Divides text parts []
         → map (lexeme_of text) (tokens_from 0 parts) ≡ lexemes_of parts }
 {}
-
-#[cfg(test)]
-mod tests;

@@ -8,7 +8,7 @@ ghost use Rattle.tsl_text.specs.Cursor.{line_view, lines_left, IsCountable};
 use crate::front::line_len;
 
 /// A line of a text.
-#[derive(Clone, Copy, Debug)]
+#[derive(Clone, Copy)]
 pub struct Line<'a> {
     /// Its number, from 1.
     pub number: u32,
@@ -19,7 +19,7 @@ pub struct Line<'a> {
 }
 
 /// What is left of a text, from the beginning of a line on.
-#[derive(Clone, Copy, Debug)]
+#[derive(Clone, Copy)]
 pub struct Lines<'a> {
     /// The number of the first line that is left.
     pub number: u32,

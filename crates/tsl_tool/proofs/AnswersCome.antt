@@ -12,19 +12,19 @@ use Rattle.refinement_loop.specs.Outcomes.{IsLargeFor}
 use Rattle.tsl_io.specs.Effects.{Effect, HasFailed, AreTold}
 use Rattle.tsl_terms.specs.SpecTree.{SpecTree}
 use Rattle.tsl_reader.specs.Spells.{Spells}
-use Rattle.tsl_tool.specs.declared.status.Status.{Status}
-use Rattle.tsl_tool.specs.declared.status.Status.TheVariants.{Done, Spent, ReadFault, Memory}
-use Rattle.tsl_tool.specs.declared.reply.Reply.{Reply}
+use Rattle.tool_replies.specs.declared.status.Status.{Status}
+use Rattle.tool_replies.specs.declared.status.Status.TheVariants.{Done, Spent, ReadFault, Memory}
+use Rattle.tool_replies.specs.declared.reply.Reply.{Reply}
 use Rattle.tsl_tool.specs.Answerable.{CanBeAnswered, CanBeRead, NoneFails, is_answer_to}
 use Rattle.tsl_tool.specs.Ends.{CountsReads, IsReplyTo, Ends, answered, cut_off, out_of_memory}
 use Rattle.tsl_tool.specs.Outcome.{TaskOutcome, Outcome, usage, source_failed, too_long, on_bytes}
 use Rattle.tsl_tool.specs.Tasks.{most_bytes, search_sizes}
 use Rattle.tsl_tool.proofs.EndLaws.{fault_at, on_any_bytes}
-use Rattle.tsl_tool.proofs.GenReplies.{gen_answers}
-use Rattle.tsl_tool.proofs.OneInput.{ReadOnce}
-use Rattle.tsl_tool.proofs.ProveReplies.{question_answers}
-use Rattle.tsl_tool.proofs.Statuses.{status_of}
-use Rattle.tsl_tool.proofs.SynthReplies.{search_answers, controller_found}
+use Rattle.search_replies.proofs.GenReplies.{gen_answers}
+use Rattle.judging_replies.proofs.OneInput.{ReadOnce}
+use Rattle.search_replies.proofs.ProveReplies.{question_answers}
+use Rattle.tool_replies.proofs.Statuses.{status_of}
+use Rattle.search_replies.proofs.SynthReplies.{search_answers, controller_found}
 use Rattle.tsl_tool.proofs.VerdictsCome.{check_answers, run_answers, recheck_answers}
 
 -- ---- each task

@@ -7,12 +7,12 @@ use Rattle.tsl_io.specs.Told.{with_added, TakesFirst, WhereTold}
 use Rattle.tsl_io.proofs.Effects.{some_bytes, more_bytes}
 use Rattle.tsl_report.specs.declared.fault.LimitName.TheVariants.{Text}
 use Rattle.tsl_report.specs.declared.fault.Fault.TheVariants.{Usage as WrongWords, Read, Large as PastLimit}
-use Rattle.tsl_tool.specs.declared.status.Status.{Status}
-use Rattle.tsl_tool.specs.declared.status.Status.TheVariants.{Done, No, Usage, Reading, Large, Spent, ReadFault, WriteFault, Memory}
+use Rattle.tool_replies.specs.declared.status.Status.{Status}
+use Rattle.tool_replies.specs.declared.status.Status.TheVariants.{Done, No, Usage, Reading, Large, Spent, ReadFault, WriteFault, Memory}
 use Rattle.command_words.specs.declared.task.Task.{Task}
 use Rattle.command_words.specs.declared.task.Task.TheVariants.{Synth, Check, Run, Prove, Recheck, Gen}
 use Rattle.command_words.specs.Commands.{AsksFor, are_taken}
-use Rattle.tsl_tool.specs.declared.reply.Reply.{Reply}
+use Rattle.tool_replies.specs.declared.reply.Reply.{Reply}
 use Rattle.tsl_tool.specs.Causes.{Causes, Rises}
 use Rattle.tsl_tool.specs.Tasks.{AreFewBytes, most_bytes}
 use Rattle.tsl_io.specs.Effects.{Effect, HasFailed, NeverFailed, IsUntouched, IsWhole, IsCutOff, AreTold}
@@ -21,9 +21,9 @@ use Rattle.tsl_tool.specs.Ends.{sink_of, other_sink}
 use Rattle.tsl_tool.specs.Ends.{CountsReads, IsReplyTo, Ends, answered, cut_off, out_of_memory, HandedOn}
 use Rattle.tsl_tool.specs.Outcome.{TaskOutcome, usage, source_failed, too_long, on_bytes}
 use Rattle.tsl_tool.specs.Promise.{Promise}
-use Rattle.tsl_tool.specs.Replies.{fault_reply}
-use Rattle.tsl_tool.specs.Statuses.{is_answer}
-use Rattle.tsl_tool.proofs.Statuses.{comes_of_bytes}
+use Rattle.tool_replies.specs.Replies.{fault_reply}
+use Rattle.tool_replies.specs.Statuses.{is_answer}
+use Rattle.tool_replies.proofs.Statuses.{comes_of_bytes}
 use Rattle.tsl_tool.proofs.OutcomeLaws.{task_comes, answer_to_task, usage_of_words, words_to_usage, no_write_fault, no_memory}
 use Rattle.tsl_tool.proofs.OutcomeLaws.{outcome_says, keeps_promise}
 

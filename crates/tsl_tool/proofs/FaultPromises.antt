@@ -4,11 +4,11 @@ use Rattle.tsl_report.specs.declared.fault.Fault.{Fault}
 use Rattle.tsl_report.specs.declared.fault.Fault.TheVariants.{Usage as WrongWords, Read, Large as PastLimit}
 use Rattle.command_words.specs.declared.task.Task.{Task}
 use Rattle.command_words.specs.declared.task.Task.TheVariants.{Synth, Check, Run, Prove, Recheck, Gen}
-use Rattle.tsl_tool.specs.declared.status.Status.{Status}
-use Rattle.tsl_tool.specs.declared.reply.Reply.{Reply}
+use Rattle.tool_replies.specs.declared.status.Status.{Status}
+use Rattle.tool_replies.specs.declared.reply.Reply.{Reply}
 use Rattle.tsl_tool.specs.Promise.{Promise}
-use Rattle.tsl_tool.specs.Replies.{fault_status, fault_reply}
-use Rattle.tsl_tool.proofs.Statuses.{status_of}
+use Rattle.tool_replies.specs.Replies.{fault_status, fault_reply}
+use Rattle.tool_replies.proofs.Statuses.{status_of}
 
 fault_promises : (task : Task) (fault : Fault) (bytes text : List ℕ) → Promise task (fault_status fault) bytes text
 fault_promises (Synth sizes) WrongWords bytes text = tt

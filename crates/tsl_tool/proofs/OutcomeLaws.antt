@@ -1,54 +1,43 @@
 -- Which status and which text the reply of an outcome has, and what it promises.
 use Rattle.std.proofs.Common.{◌≡◌, ◌≢◌, ℕ, true, false, List, [], refl, ap, sym, ◌∙◌, subst}
-use Rattle.std.specs.Prelude.{Option, Some, None}
 use Rattle.command_words.specs.Commands.{AsksFor, are_taken}
 use Rattle.command_words.proofs.OneTask.{asking_is_taken, one_task}
-use Rattle.refutation_check.specs.Checking.{Refusal, at_line, at_hint, unfinished, log_refusal}
-use Rattle.refutation_check.specs.CnfText.{CnfAnswer, is_cnf, form_at as cnf_form_at, too_many_variables, too_many_clauses, cnf_answer}
-use Rattle.refutation_check.specs.LogText.{LogAnswer, is_log, form_at as log_form_at, log_answer}
-use Rattle.tsl_report.specs.declared.fault.Fault.TheVariants.{Usage as WrongWords, Read, Parts, CnfForm, LogForm, Large as PastLimit}
+use Rattle.tsl_report.specs.declared.fault.Fault.TheVariants.{Usage as WrongWords, Read, Parts, Large as PastLimit}
 use Rattle.tsl_report.specs.declared.fault.Head.TheVariants.{Lrat}
-use Rattle.tsl_report.specs.declared.fault.LimitName.TheVariants.{Text, Variables, Clauses}
-use Rattle.tsl_tool.specs.declared.status.Status.{Status}
-use Rattle.tsl_tool.specs.declared.status.Status.TheVariants.{Done, No, Usage, Large, ReadFault, WriteFault, Memory}
+use Rattle.tsl_report.specs.declared.fault.LimitName.TheVariants.{Text}
+use Rattle.tool_replies.specs.declared.status.Status.{Status}
+use Rattle.tool_replies.specs.declared.status.Status.TheVariants.{Done, No, Usage, Large, ReadFault, WriteFault, Memory}
 use Rattle.command_words.specs.declared.task.Task.{Task}
 use Rattle.command_words.specs.declared.task.Task.TheVariants.{Synth, Check, Run, Prove, Recheck, Gen}
-use Rattle.tsl_tool.specs.declared.reply.Reply.{Reply}
-use Rattle.tsl_tool.specs.Statuses.{is_answer}
+use Rattle.tool_replies.specs.declared.reply.Reply.{Reply}
+use Rattle.tool_replies.specs.Statuses.{is_answer}
 use Rattle.tsl_tool.specs.Tasks.{search_sizes}
-use Rattle.tsl_tool.specs.HeadLines.{IsFirstLineAt}
-use Rattle.tsl_tool.specs.Recheck.{without_log, of_parts, head_line, verdict, parts_reply}
-use Rattle.tsl_tool.specs.Recheck.{recheck_reply, cnf_part, log_part}
+use Rattle.tool_replies.specs.HeadLines.{IsFirstLineAt}
+use Rattle.judging_replies.specs.Recheck.{without_log, of_parts, head_line}
+use Rattle.judging_replies.specs.Recheck.{recheck_reply, cnf_part, log_part}
 use Rattle.tsl_tool.specs.Outcome.{TaskOutcome, Outcome, usage, source_failed, too_long, on_bytes}
 use Rattle.tsl_tool.specs.Promise.{Promise}
-use Rattle.tsl_tool.proofs.CheckReplies.{check_comes, check_says, check_keeps}
+use Rattle.judging_replies.proofs.CheckReplies.{check_comes, check_says}
 use Rattle.tsl_tool.proofs.FaultPromises.{fault_keeps}
-use Rattle.tsl_tool.proofs.GenReplies.{gen_comes, gen_says, gen_keeps}
-use Rattle.tsl_tool.proofs.ProveReplies.{prove_comes, prove_says, prove_keeps}
-use Rattle.tsl_tool.proofs.RecheckLaws.{yes_refutes, no_exactly}
-use Rattle.tsl_tool.proofs.RunReplies.{run_comes, run_says, run_keeps}
-use Rattle.tsl_tool.proofs.Statuses.{comes_of_bytes, status_of, text_of, line_says, fault_says}
-use Rattle.tsl_tool.proofs.SynthReplies.{synth_comes, synth_says, synth_keeps}
-
-verdict_comes : (refusal : Option Refusal) → comes_of_bytes (verdict refusal).status ≡ true
-verdict_comes None = refl
-verdict_comes (Some refusal) = refl
-
-parts_come : (formula : CnfAnswer) (log : LogAnswer) → comes_of_bytes (parts_reply formula log).status ≡ true
-parts_come (is_cnf variables clauses) (is_log steps) = verdict_comes (log_refusal variables clauses steps)
-parts_come (is_cnf variables clauses) (log_form_at line) = refl
-parts_come (cnf_form_at line) log = refl
-parts_come too_many_variables log = refl
-parts_come too_many_clauses log = refl
+use Rattle.search_replies.proofs.GenReplies.{gen_comes, gen_says}
+use Rattle.search_replies.proofs.ProveReplies.{prove_comes, prove_says}
+use Rattle.judging_replies.proofs.RecheckLaws.{yes_refutes, no_exactly}
+use Rattle.judging_replies.proofs.RecheckReplies.{recheck_comes, recheck_says}
+use Rattle.judging_replies.proofs.RunReplies.{run_comes, run_says}
+use Rattle.tool_replies.proofs.Statuses.{comes_of_bytes, status_of, fault_says}
+use Rattle.search_replies.proofs.SynthReplies.{synth_comes, synth_says}
+use Rattle.tsl_tool.proofs.CheckPromise.{check_keeps}
+use Rattle.tsl_tool.proofs.GenPromise.{gen_keeps}
+use Rattle.tsl_tool.proofs.ProvePromise.{prove_keeps}
+use Rattle.tsl_tool.proofs.RunPromise.{run_keeps}
+use Rattle.tsl_tool.proofs.SynthPromise.{synth_keeps}
 
 pub task_comes : (task : Task) (bytes : List ℕ) (reply : Reply) → TaskOutcome task bytes reply → comes_of_bytes reply.status ≡ true
 task_comes (Synth sizes) bytes reply outcome = synth_comes (search_sizes sizes) bytes reply outcome
 task_comes (Check bound) bytes reply outcome = check_comes bound bytes reply outcome
 task_comes Run bytes reply outcome = run_comes bytes reply outcome
 task_comes (Prove sizes) bytes reply outcome = prove_comes sizes bytes reply outcome
-task_comes Recheck bytes reply (without_log h is) = ap comes_of_bytes (status_of is)
-task_comes Recheck bytes reply (of_parts at h is) =
-    ap comes_of_bytes (status_of is) ∙ parts_come (cnf_answer (cnf_part bytes at)) (log_answer (log_part bytes at))
+task_comes Recheck bytes reply outcome = recheck_comes bytes reply outcome
 task_comes (Gen n) bytes reply outcome = gen_comes n reply outcome
 
 -- usage comes of words that are refused
@@ -95,27 +84,12 @@ no_memory words bytes reply (on_bytes task asks few outcome) h =
     let e : false ≡ true = sym (ap comes_of_bytes h) ∙ task_comes task bytes reply outcome in cc
 
 -- each reply has a text
-verdict_says : (refusal : Option Refusal) → (verdict refusal).text ≢ []
-verdict_says None e = cc
-verdict_says (Some (at_line number)) e = cc
-verdict_says (Some (at_hint number position)) e = cc
-verdict_says (Some unfinished) e = cc
-
-parts_say : (formula : CnfAnswer) (log : LogAnswer) → (parts_reply formula log).text ≢ []
-parts_say (is_cnf variables clauses) (is_log steps) = verdict_says (log_refusal variables clauses steps)
-parts_say (is_cnf variables clauses) (log_form_at line) = line_says (LogForm line)
-parts_say (cnf_form_at line) log = line_says (CnfForm line)
-parts_say too_many_variables log = line_says (PastLimit Variables 1048576)
-parts_say too_many_clauses log = line_says (PastLimit Clauses 2000000)
-
 task_says : (task : Task) (bytes : List ℕ) (reply : Reply) → TaskOutcome task bytes reply → reply.text ≢ []
 task_says (Synth sizes) bytes reply outcome e = synth_says (search_sizes sizes) bytes reply outcome e
 task_says (Check bound) bytes reply outcome e = check_says bound bytes reply outcome e
 task_says Run bytes reply outcome e = run_says bytes reply outcome e
 task_says (Prove sizes) bytes reply outcome e = prove_says sizes bytes reply outcome e
-task_says Recheck bytes reply (without_log h is) e = fault_says (Parts Lrat) reply is e
-task_says Recheck bytes reply (of_parts at h is) e =
-    parts_say (cnf_answer (cnf_part bytes at)) (log_answer (log_part bytes at)) (sym (text_of is) ∙ e)
+task_says Recheck bytes reply outcome e = recheck_says bytes reply outcome e
 task_says (Gen n) bytes reply outcome e = gen_says n reply outcome e
 
 pub outcome_says : (words : List (List ℕ)) (bytes : List ℕ) (reply : Reply) → Outcome words bytes reply → reply.text ≢ []

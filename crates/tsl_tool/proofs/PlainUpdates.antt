@@ -20,11 +20,12 @@ use Rattle.tsl_terms.specs.Clashes.{alike_in_kind, same_arity, first_uses, HasNo
 use Rattle.tsl_terms.specs.FormulaTree.{FormulaTree, atom, update, unary, formulas_of}
 use Rattle.tsl_terms.specs.Nodes.{nodes, nodes_of_members}
 use Rattle.tsl_terms.specs.SpecTree.{SpecTree, conjunction_of, whole_formula}
-use Rattle.tsl_reader.specs.Syntax.{Terminal, free, mark, word_of, free_unless, terminal_of, alone, FormulaSyntax, updated, SectionSyntax}
-use Rattle.tsl_reader.specs.Grammar as grammar
-use Rattle.tsl_reader.specs.Grammar.{IsFormula, AreItems, IsSection, AreSections}
+use Rattle.spec_syntax.specs.Syntax.{Terminal, free, mark, word_of, free_unless, terminal_of, alone, FormulaSyntax, updated, SectionSyntax}
+use Rattle.spec_syntax.specs.Grammar as grammar
+use Rattle.spec_syntax.specs.Grammar.{IsFormula, AreItems, IsSection, AreSections}
 use Rattle.tsl_reader.specs.Naming.{Use, use_as, uses, all_uses, written_uses, named_by, names_of, numbered_formula, numbered_list}
-use Rattle.tsl_reader.specs.Spells.{Spells, terminal_at, terminals, deepest_level, most_formula_nodes}
+use Rattle.spec_syntax.specs.Texts.{terminal_at, terminals}
+use Rattle.tsl_reader.specs.Spells.{Spells, deepest_level, most_formula_nodes}
 use Rattle.tsl_tool.specs.Form.{Pair, update_lexemes, form_lexemes, sides, has_usable_names, signal_named, AreUpdates, IsForm}
 use Rattle.tsl_tool.specs.Form.{SpellsUpdates}
 use Rattle.tsl_tool.specs.Form as form

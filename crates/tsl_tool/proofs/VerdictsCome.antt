@@ -7,7 +7,7 @@ use Rattle.program_check.specs.declared.verdict.Limit.{Limit}
 use Rattle.program_check.specs.declared.verdict.Verdict.{Verdict}
 use Rattle.program_check.specs.declared.verdict.Verdict.TheVariants.{Signals, Test, Choice, Foreign, Unsound, NoAnnotation, Yes}
 use Rattle.program_check.specs.Verdicts.{IsPassed}
-use Rattle.flow_program.specs.ProgramTree.{ProgramTree}
+use Rattle.program_tree.specs.ProgramTree.{ProgramTree}
 use Rattle.flow_program.specs.Reading.{IsReading, HasProgramCause}
 use Rattle.tsl_meaning.specs.Interpretation.{Interpretation}
 use Rattle.tsl_meaning.specs.RunLasso.{shape_of}
@@ -19,25 +19,25 @@ use Rattle.table_interp.specs.Tables.{SpellsTables}
 use Rattle.table_interp.specs.Inputs.{SpellsInputs}
 use Rattle.tsl_report.specs.declared.fault.Head.{Head}
 use Rattle.tsl_report.specs.declared.fault.Fault.{Fault}
-use Rattle.tsl_tool.specs.declared.status.Status.TheVariants.{Done, No}
-use Rattle.tsl_tool.specs.declared.reply.Reply.{Reply}
+use Rattle.tool_replies.specs.declared.status.Status.TheVariants.{Done, No}
+use Rattle.tool_replies.specs.declared.reply.Reply.{Reply}
 use Rattle.tsl_tool.specs.Answerable.{CanBeChecked, CanBeRun, is_yes_or_no}
-use Rattle.tsl_tool.specs.Check.{CheckParts, CheckInput, SpellCheckInput, verdict_reply, VerdictOutcome, too_large, judged}
-use Rattle.tsl_tool.specs.Check.{TextsOutcome, spec_refused, program_refused, both_spelled, CheckOutcome, without_program, of_texts}
-use Rattle.tsl_tool.specs.HeadLines.{IsCutBefore}
-use Rattle.tsl_tool.specs.Recheck.{RecheckOutcome, without_log, of_parts, head_line, verdict, FormulaAndLog, OfParts, refusal_of}
-use Rattle.tsl_tool.specs.Recheck.{recheck_reply}
-use Rattle.tsl_tool.specs.Refusals.{HasSpecFault}
-use Rattle.tsl_tool.specs.Run.{SpellsGiven, given_names, RunInput, SpellRunInput, HasPartFault, in_spec, in_program, in_tables, in_inputs}
-use Rattle.tsl_tool.specs.Run.{InputOutcome, runs_on, other_signals, traced, PartsOutcome, part_refused, spelled, RunOutcome, missing}
-use Rattle.tsl_tool.specs.Run.{of_all_parts, meanings_of_input, most_configurations, verdict_status, verdicts_of}
-use Rattle.tsl_tool.specs.RunParts.{RunParts, AreParts, LacksPart, lacks_program, lacks_tables, lacks_inputs}
-use Rattle.tsl_tool.specs.RunParts.{program_line, tables_line, inputs_line}
-use Rattle.tsl_tool.proofs.OneInput.{one_place, one_after, one_division, one_run_division, one_check_input, one_given, one_program_read}
-use Rattle.tsl_tool.proofs.OneInput.{ReadOnce, one_run_input, program_not_refused, tables_not_refused, inputs_not_refused}
-use Rattle.tsl_tool.proofs.RecheckLaws.{is_verdict}
-use Rattle.tsl_tool.proofs.Statuses.{status_of}
-use Rattle.tsl_tool.proofs.SynthReplies.{not_refused}
+use Rattle.judging_replies.specs.Check.{CheckParts, CheckInput, SpellCheckInput, verdict_reply, VerdictOutcome, too_large, judged}
+use Rattle.judging_replies.specs.Check.{TextsOutcome, spec_refused, program_refused, both_spelled, CheckOutcome, without_program, of_texts}
+use Rattle.tool_replies.specs.HeadLines.{IsCutBefore}
+use Rattle.judging_replies.specs.Recheck.{RecheckOutcome, without_log, of_parts, head_line, verdict, FormulaAndLog, OfParts, refusal_of}
+use Rattle.judging_replies.specs.Recheck.{recheck_reply}
+use Rattle.tool_replies.specs.Refusals.{HasSpecFault}
+use Rattle.judging_replies.specs.Run.{SpellsGiven, given_names, RunInput, SpellRunInput, HasPartFault, in_spec, in_program, in_tables, in_inputs}
+use Rattle.judging_replies.specs.Run.{InputOutcome, runs_on, other_signals, traced, PartsOutcome, part_refused, spelled, RunOutcome, missing}
+use Rattle.judging_replies.specs.Run.{of_all_parts, meanings_of_input, most_configurations, verdict_status, verdicts_of}
+use Rattle.judging_replies.specs.RunParts.{RunParts, AreParts, LacksPart, lacks_program, lacks_tables, lacks_inputs}
+use Rattle.judging_replies.specs.RunParts.{program_line, tables_line, inputs_line}
+use Rattle.judging_replies.proofs.OneInput.{one_place, one_after, one_division, one_run_division, one_check_input, one_given, one_program_read}
+use Rattle.judging_replies.proofs.OneInput.{ReadOnce, one_run_input, program_not_refused, tables_not_refused, inputs_not_refused}
+use Rattle.judging_replies.proofs.RecheckLaws.{is_verdict}
+use Rattle.tool_replies.proofs.Statuses.{status_of}
+use Rattle.tool_replies.proofs.RefusalLaws.{not_refused}
 
 -- ---- `check`
 
@@ -54,7 +54,7 @@ module _ (bound : ℕ) (parts : CheckParts) (input : CheckInput) (spells : Spell
     (within : (limit : Limit) → IsPassed input.spec input.program limit → ⊥) (reply : Reply) where
   judged_answers : VerdictOutcome bound input.spec input.program reply → is_yes_or_no reply.status ≡ true
   judged_answers (too_large limit passed is) = absurd (within limit passed)
-  judged_answers (judged v h realizes is) = ap is_yes_or_no (status_of is) ∙ verdict_answers bound v
+  judged_answers (judged v few h realizes is) = ap is_yes_or_no (status_of is) ∙ verdict_answers bound v
 
   texts_answer : TextsOutcome bound parts reply → is_yes_or_no reply.status ≡ true
   texts_answer (spec_refused fault h is) =

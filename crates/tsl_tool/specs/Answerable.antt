@@ -9,15 +9,15 @@ use Rattle.program_check.specs.Verdicts.{IsPassed}
 use Rattle.refinement_loop.specs.Outcomes.{IsLargeFor, IsLargeAfter}
 use Rattle.tsl_io.specs.Effects.{Effect, HasFailed}
 use Rattle.tsl_meaning.specs.RunOf.{AreDifferent}
-use Rattle.tsl_tool.specs.declared.status.Status.{Status}
-use Rattle.tsl_tool.specs.declared.status.Status.TheVariants.{Done, No, Usage, Reading, Large, Spent, ReadFault, WriteFault, Memory}
-use Rattle.tsl_tool.specs.Check.{CheckParts, AreCheckParts, CheckInput, SpellCheckInput}
-use Rattle.tsl_tool.specs.Gen.{OfGenerated}
-use Rattle.tsl_tool.specs.Recheck.{FormulaAndLog, OfParts}
-use Rattle.tsl_tool.specs.Run.{RunInput, SpellRunInput, meanings_of_input, most_configurations}
-use Rattle.tsl_tool.specs.RunParts.{RunParts, AreParts}
-use Rattle.tsl_tool.specs.Statuses.{is_answer}
-use Rattle.tsl_tool.specs.Synth.{OfSpec}
+use Rattle.tool_replies.specs.declared.status.Status.{Status}
+use Rattle.tool_replies.specs.declared.status.Status.TheVariants.{Done, No, Usage, Reading, Large, Spent, ReadFault, WriteFault, Memory}
+use Rattle.judging_replies.specs.Check.{CheckParts, AreCheckParts, CheckInput, SpellCheckInput}
+use Rattle.search_replies.specs.Gen.{OfGenerated}
+use Rattle.judging_replies.specs.Recheck.{FormulaAndLog, OfParts}
+use Rattle.judging_replies.specs.Run.{RunInput, SpellRunInput, meanings_of_input, most_configurations}
+use Rattle.judging_replies.specs.RunParts.{RunParts, AreParts}
+use Rattle.tool_replies.specs.Statuses.{is_answer}
+use Rattle.search_replies.specs.Synth.{OfSpec}
 use Rattle.tsl_tool.specs.Tasks.{search_sizes}
 
 -- ---- what can be answered

@@ -1,10 +1,10 @@
 -- How a run ends: its status, whether the source failed, and what stands in the sinks.
 use Rattle.std.specs.Prelude.{◌≡◌, ℕ, List, cond}
 use Rattle.tsl_io.specs.Effects.{Effect, HasFailed, NeverFailed, IsUntouched, IsWhole, IsCutOff, AreTold}
-use Rattle.tsl_tool.specs.declared.status.Status.{Status}
-use Rattle.tsl_tool.specs.declared.status.Status.TheVariants.{Done, No, Usage, Reading, Large, Spent, ReadFault, WriteFault, Memory}
-use Rattle.tsl_tool.specs.declared.reply.Reply.{Reply}
-use Rattle.tsl_tool.specs.Statuses.{is_answer}
+use Rattle.tool_replies.specs.declared.status.Status.{Status}
+use Rattle.tool_replies.specs.declared.status.Status.TheVariants.{Done, No, Usage, Reading, Large, Spent, ReadFault, WriteFault, Memory}
+use Rattle.tool_replies.specs.declared.reply.Reply.{Reply}
+use Rattle.tool_replies.specs.Statuses.{is_answer}
 use Rattle.tsl_tool.specs.Outcome.{Outcome}
 
 -- the sink that the text of a status goes to, and the other one

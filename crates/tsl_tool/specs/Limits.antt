@@ -7,15 +7,15 @@ use Rattle.command_words.specs.declared.task.Task.TheVariants.{Synth, Check, Run
 use Rattle.tsl_text.specs.declared.numbers.TheConstants.{MOST_DIGITS}
 use Rattle.tsl_terms.specs.WellFormed.{deepest as deepest_brackets}
 use Rattle.tsl_reader.specs.Spells.{deepest_level, most_formula_nodes}
-use Rattle.flow_program.specs.Fits.{longest as longest_window}
-use Rattle.flow_program.specs.ProgramText.{most_windows, most_nodes as most_program_nodes, most_states as most_program_states}
+use Rattle.program_tree.specs.Fits.{longest as longest_window}
+use Rattle.program_tree.specs.Writable.{most_windows, most_nodes as most_program_nodes, most_states as most_program_states}
 use Rattle.table_interp.specs.declared.TheConstants.{MOST_VALUES, MOST_ENTRIES, MOST_ROWS}
 use Rattle.refutation_check.specs.declared.dimacs.TheConstants.{MOST_VARIABLES, MOST_CLAUSES}
 use Rattle.letter_space.specs.declared.limits.TheConstants.{MOST_PREDICATES, MOST_BITS, MOST_VECTORS}
 use Rattle.branch_finder.specs.declared.limits.TheConstants.{MOST_BRANCHES}
 use Rattle.obligations.specs.Choices.{most_choices, letter_bits}
 use Rattle.cobuchi_automata.specs.Refusals.{most_automaton_states, most_automaton_edges}
-use Rattle.tsl_tool.specs.declared.run.TheConstants.{MOST_CONFIGURATIONS}
+use Rattle.judging_replies.specs.declared.running.TheConstants.{MOST_CONFIGURATIONS}
 use Rattle.tsl_tool.specs.Tasks.{most_bytes}
 
 pub record LimitsAreThese : Type 0 where

@@ -5,15 +5,15 @@ use Rattle.command_words.specs.declared.task.Task.TheVariants.{Synth, Check, Run
 use Rattle.command_words.specs.Commands.{AsksFor, are_taken}
 use Rattle.tsl_report.specs.declared.fault.LimitName.TheVariants.{Text}
 use Rattle.tsl_report.specs.declared.fault.Fault.TheVariants.{Usage, Read, Large}
-use Rattle.tsl_tool.specs.declared.reply.Reply.{Reply}
-use Rattle.tsl_tool.specs.Gen.{GenOutcome}
+use Rattle.tool_replies.specs.declared.reply.Reply.{Reply}
+use Rattle.search_replies.specs.Gen.{GenOutcome}
 use Rattle.tsl_tool.specs.Tasks.{AreFewBytes, most_bytes, search_sizes}
-use Rattle.tsl_tool.specs.Replies.{fault_reply}
-use Rattle.tsl_tool.specs.Synth.{SynthOutcome}
-use Rattle.tsl_tool.specs.Check.{CheckOutcome}
-use Rattle.tsl_tool.specs.Run.{RunOutcome}
-use Rattle.tsl_tool.specs.Prove.{ProveOutcome}
-use Rattle.tsl_tool.specs.Recheck.{RecheckOutcome}
+use Rattle.tool_replies.specs.Replies.{fault_reply}
+use Rattle.search_replies.specs.Synth.{SynthOutcome}
+use Rattle.judging_replies.specs.Check.{CheckOutcome}
+use Rattle.judging_replies.specs.Run.{RunOutcome}
+use Rattle.search_replies.specs.Prove.{ProveOutcome}
+use Rattle.judging_replies.specs.Recheck.{RecheckOutcome}
 
 -- what a task replies to bytes that are not too many
 abbrev pub TaskOutcome : Task → List ℕ → Reply → Type 0

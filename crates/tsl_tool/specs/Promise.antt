@@ -2,14 +2,14 @@
 use Rattle.std.specs.Prelude.{◌≡◌, ℕ, List, codes}
 use Rattle.command_words.specs.declared.task.Task.{Task}
 use Rattle.command_words.specs.declared.task.Task.TheVariants.{Synth, Check, Run, Prove, Recheck, Gen}
-use Rattle.tsl_tool.specs.declared.status.Status.{Status}
-use Rattle.tsl_tool.specs.declared.status.Status.TheVariants.{Done, No, Spent}
-use Rattle.tsl_tool.specs.Synth.{IsWritten, TellsNone, TellsSpent, TellsSpentOn, OfSpec}
-use Rattle.tsl_tool.specs.Prove.{IsProof, TellsSatisfiable}
-use Rattle.tsl_tool.specs.Check.{IsAcceptedProgram, IsRefusedProgram}
-use Rattle.tsl_tool.specs.Run.{AllHold, SomeFails}
-use Rattle.tsl_tool.specs.Recheck.{IsRefutation, IsRefused, OfParts}
-use Rattle.tsl_tool.specs.Gen.{OfGenerated, TellsProgram, TellsNoProgram}
+use Rattle.tool_replies.specs.declared.status.Status.{Status}
+use Rattle.tool_replies.specs.declared.status.Status.TheVariants.{Done, No, Spent}
+use Rattle.search_replies.specs.Synth.{IsWritten, TellsNone, TellsSpent, TellsSpentOn, OfSpec}
+use Rattle.search_replies.specs.Prove.{IsProof, TellsSatisfiable}
+use Rattle.judging_replies.specs.Check.{IsAcceptedProgram, IsRefusedProgram}
+use Rattle.judging_replies.specs.Run.{AllHold, SomeFails}
+use Rattle.judging_replies.specs.Recheck.{IsRefutation, IsRefused, OfParts}
+use Rattle.search_replies.specs.Gen.{OfGenerated, TellsProgram, TellsNoProgram}
 use Rattle.tsl_tool.specs.Tasks.{search_sizes}
 
 -- What a task promises of the bytes and of the text that is written, by the status.
@@ -17,8 +17,8 @@ use Rattle.tsl_tool.specs.Tasks.{search_sizes}
 -- Where `synth` is done, the text spells a program, which realizes the specification that the bytes spell, and its windows are those
 -- of rounds; where it answers no, the text tells rounds under whose windows no controller of the size that was asked for has an
 -- annotation, and why no further round is made; where the budget is spent, it tells rounds and a trace of the question after them.
--- Where `check` is done, the bytes spell a specification and a program that realizes it; where it answers no, the text is that of a
--- verdict that refuses the program. Where `run` is done, the text is that of the closed run of the program, tables and inputs that
+-- Where `check` is done, the bytes spell a specification and a program that realizes it, whose verdict at the bound is yes; where it
+-- answers no, the text is that of a verdict that refuses the program. Where `run` is done, the text is that of the closed run of the program, tables and inputs that
 -- the bytes spell, and the formula of each window and that of the specification hold in it; where it answers no, one of them fails,
 -- or the program has other signals than the specification. Where `prove` is done, the text spells a refutation that `recheck`
 -- verifies, and no controller of the size has an annotation; where it answers no, one has; where the budget is spent, the text
@@ -30,7 +30,7 @@ abbrev pub Promise : Task → Status → List ℕ → List ℕ → Type 0
 Promise (Synth sizes) Done bytes text = OfSpec bytes (λ spec. IsWritten (search_sizes sizes) spec text)
 Promise (Synth sizes) No bytes text = OfSpec bytes (λ spec. TellsNone (search_sizes sizes) spec text)
 Promise (Synth sizes) Spent bytes text = OfSpec bytes (λ spec. TellsSpent (search_sizes sizes) spec text)
-Promise (Check bound) Done bytes text = IsAcceptedProgram bytes text
+Promise (Check bound) Done bytes text = IsAcceptedProgram bound bytes text
 Promise (Check bound) No bytes text = IsRefusedProgram bound bytes text
 Promise Run Done bytes text = AllHold bytes text
 Promise Run No bytes text = SomeFails bytes text

@@ -36,7 +36,3 @@ search_sizes sizes = record {
   rounds = sizes.rounds;
   budget = sizes.budget;
 }
-
--- how far the search for a generated specification goes: as many states as its number, within the same bound, and no round
-abbrev pub generated_sizes : ℕ → Sizes
-generated_sizes n = record { states = n; bound = n; env_states = 2; env_bound = 2; depth = 2; rounds = 0; budget = 20000 }

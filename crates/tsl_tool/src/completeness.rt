@@ -11,18 +11,18 @@ ghost use Rattle.program_check.specs.declared.verdict.Limit.{Limit};
 ghost use Rattle.refinement_loop.specs.Questions.{HasSolution};
 ghost use Rattle.refinement_loop.specs.Outcomes.{IsLargeFor};
 ghost use Rattle.tsl_io.specs.Effects.{Effect};
-ghost use Rattle.tsl_tool.specs.declared.reply.Reply.{Reply};
-ghost use Rattle.tsl_tool.specs.declared.status.Status.{Status};
+ghost use Rattle.tool_replies.specs.declared.reply.Reply.{Reply};
+ghost use Rattle.tool_replies.specs.declared.status.Status.{Status};
 ghost use Rattle.tsl_tool.specs.Answerable.{CanBeAnswered, CanBeChecked, CanBeRun, CanBeRead, NoneFails};
 ghost use Rattle.tsl_tool.specs.Answerable.{is_answer_to, is_yes_or_no};
-ghost use Rattle.tsl_tool.specs.Check.{CheckOutcome};
+ghost use Rattle.judging_replies.specs.Check.{CheckOutcome};
 ghost use Rattle.tsl_tool.specs.Ends.{Ends};
-ghost use Rattle.tsl_tool.specs.Recheck.{FormulaAndLog, OfParts, RecheckOutcome};
-ghost use Rattle.tsl_tool.specs.Run.{RunOutcome};
+ghost use Rattle.judging_replies.specs.Recheck.{FormulaAndLog, OfParts, RecheckOutcome};
+ghost use Rattle.judging_replies.specs.Run.{RunOutcome};
 ghost use Rattle.tsl_tool.specs.Tasks.{most_bytes};
 
-use crate::status::Status;
 use table_interp::one_reading;
+use tool_replies::Status;
 
 /// Where the parts of the bytes are spelled and no limit is passed, what `check`, `run` and `recheck`
 /// reply is a verdict: yes or no.

@@ -12,31 +12,33 @@ ghost use Rattle.tsl_terms.specs.SpecTree.{SpecTree};
 ghost use Rattle.tsl_reader.specs.Spells.{Spells};
 ghost use Rattle.machines.specs.Rounds.{RoundTree};
 ghost use Rattle.program_check.specs.declared.verdict.Limit.{Limit};
+ghost use Rattle.program_check.specs.Verdicts.{IsPassed};
 ghost use Rattle.refinement_loop.specs.declared.outcome.Sizes.{Sizes};
 ghost use Rattle.refinement_loop.specs.Questions.{HasSolution};
 ghost use Rattle.refinement_loop.specs.Outcomes.{IsLargeFor, IsLargeAfter};
 ghost use Rattle.tsl_meaning.specs.Lasso.{Meets};
 ghost use Rattle.tsl_meaning.specs.RunLasso.{shape_of};
 ghost use Rattle.tsl_meaning.specs.RunTree.{RunTree};
-ghost use Rattle.tsl_tool.specs.declared.reply.Reply.{Reply};
-ghost use Rattle.tsl_tool.specs.declared.status.Status.{Status};
+ghost use Rattle.tool_replies.specs.declared.reply.Reply.{Reply};
+ghost use Rattle.tool_replies.specs.declared.status.Status.{Status};
 ghost use Rattle.tsl_tool.specs.Causes.{Causes};
 ghost use Rattle.tsl_io.specs.Effects.{Effect};
 ghost use Rattle.tsl_tool.specs.Ends.{Ends};
 ghost use Rattle.tsl_tool.specs.Form.{SpellsUpdates};
-ghost use Rattle.tsl_tool.specs.Gen.{GenOutcome};
+ghost use Rattle.search_replies.specs.Gen.{GenOutcome};
 ghost use Rattle.tsl_tool.specs.Limits.{LimitsAreThese};
 ghost use Rattle.tsl_tool.specs.Outcome.{Outcome};
 ghost use Rattle.tsl_tool.specs.Promise.{Promise};
-ghost use Rattle.tsl_tool.specs.Prove.{IsProof, ProveOutcome};
-ghost use Rattle.tsl_tool.specs.Refusals.{fault_at_limit};
-ghost use Rattle.tsl_tool.specs.Replies.{fault_reply};
-ghost use Rattle.tsl_tool.specs.Recheck.{IsAccepted, IsRefused, RecheckOutcome, parts_reply, verdict};
-ghost use Rattle.tsl_tool.specs.Run.{RunInput, lasso_of, judged_formulas, verdicts_of, run_reply};
-ghost use Rattle.tsl_tool.specs.Statuses.{is_answer};
-ghost use Rattle.tsl_tool.specs.Synth.{SynthOutcome};
+ghost use Rattle.search_replies.specs.Prove.{IsProof, ProveOutcome};
+ghost use Rattle.tool_replies.specs.Refusals.{fault_at_limit};
+ghost use Rattle.tool_replies.specs.Replies.{fault_reply};
+ghost use Rattle.judging_replies.specs.Check.{AreCheckParts, CheckInput, CheckOutcome, CheckParts, SpellCheckInput};
+ghost use Rattle.judging_replies.specs.Recheck.{IsAccepted, IsRefused, RecheckOutcome, parts_reply, verdict};
+ghost use Rattle.judging_replies.specs.Run.{RunInput, lasso_of, judged_formulas, verdicts_of, run_reply};
+ghost use Rattle.tool_replies.specs.Statuses.{is_answer};
+ghost use Rattle.search_replies.specs.Synth.{SynthOutcome};
 
-use crate::status::Status;
+use tool_replies::Status;
 
 /// A text spells at most one specification.
 pub fn one_specification()
@@ -77,7 +79,8 @@ pub fn searches_are_answered()
         → IsTrue (is_answer reply.status) }
 {}
 
-/// Where a limit of the first question is passed, one of its limits is told, by its line alone.
+/// Where a limit of the first question is passed, one of its limits is told, by its line alone; for
+/// `check` where a limit of the work on its specification and its program is passed.
 pub fn limits_are_told()
     ensures synth { (sizes : Sizes) (bytes : List ℕ) (spec : SpecTree) (reply : Reply) (limit : Limit) →
         Spells bytes spec → IsLargeFor spec [] sizes.states sizes.bound limit
@@ -89,6 +92,10 @@ pub fn limits_are_told()
         → ProveOutcome sizes bytes reply → reply.status ≡ Status.Large }
     ensures generated { (n : ℕ) (spec : SpecTree) (reply : Reply) (limit : Limit) → Spells (generated_text n) spec
         → IsLargeFor spec [] n n limit → GenOutcome n reply → reply.status ≡ Status.Large }
+    ensures check { (bound : ℕ) (bytes : List ℕ) (parts : CheckParts) (input : CheckInput) (reply : Reply)
+        (limit : Limit) → AreCheckParts bytes parts → SpellCheckInput parts input
+        → IsPassed input.spec input.program limit → CheckOutcome bound bytes reply
+        → (told : Limit) × IsPassed input.spec input.program told × (reply ≡ fault_reply (fault_at_limit told)) }
 {}
 
 /// Where a controller of the size has an annotation within the bound without windows, `synth` does not say

@@ -1,21 +1,21 @@
-//! The commands of `tsl`, and the top call.
+//! The top call of `tsl`, and the laws of what it replies.
 //!
 //! `tsl` takes the words after the program's name, a source and two sinks, and answers a `Status`.
 //! Its contract is the promise of the whole tool. Its words, in the order to read them:
 //!
-//! 1. `Status` (`src/status.rt`): nine ways to end. `Done`, `No` and `Spent` are answers, whose
+//! 1. `Status` (`tool_replies`): nine ways to end. `Done`, `No` and `Spent` are answers, whose
 //!    text goes to the first sink; the text of every other one goes to the second (`is_answer`).
 //! 2. `Task` (`command_words`): a command with its numbers. `AsksFor words task` says that the words
 //!    ask for it: the first names its command, and its numbers are those that `clap`'s definition of
 //!    that command gives its arguments; `are_taken` says whether `clap` takes the words at all
 //!    (`specs/Commands.antt` of `command_words`). `most_bytes` is what a task reads at most, and
 //!    `ReadNothing` says that nothing is read (`specs/Tasks.antt`).
-//! 3. `Reply` (`src/reply.rt`): a status and one text. `fault_reply` is that of a fault.
+//! 3. `Reply` (`tool_replies`): a status and one text. `fault_reply` is that of a fault.
 //! 4. `Outcome words bytes reply` (`specs/Outcome.antt`): what the words and the bytes of the
-//!    source may lead to. For each task it goes on to `SynthOutcome` (`specs/Synth.antt`),
-//!    `CheckOutcome` (`specs/Check.antt`), `RunOutcome` (`specs/Run.antt`), `ProveOutcome`
-//!    (`specs/Prove.antt`), `RecheckOutcome` (`specs/Recheck.antt`) or `GenOutcome`
-//!    (`specs/Gen.antt`).
+//!    source may lead to. For each task it goes on to `SynthOutcome`, `ProveOutcome` or `GenOutcome`
+//!    (`specs/Synth.antt`, `specs/Prove.antt` and `specs/Gen.antt` of `search_replies`), or to
+//!    `CheckOutcome`, `RunOutcome` or `RecheckOutcome` (`specs/Check.antt`, `specs/Run.antt` and
+//!    `specs/Recheck.antt` of `judging_replies`).
 //! 5. `Effect` (`specs/Effects.antt` of `tsl_io`): the bytes and the count of faults of a source
 //!    or a sink, before the run and after it, and what can be said of them: untouched, written
 //!    whole, cut off by a fault.
@@ -31,7 +31,8 @@
 //!      size that was asked for has an annotation. At `Spent`: the text tells the automaton of the
 //!      question, and clauses that are a trace of its encoding.
 //!    - `check`, at `Done`: the bytes spell a specification and a program of which the same holds
-//!      as of one that `synth` writes. At `No`: the verdict that is written applies.
+//!      as of one that `synth` writes, and its verdict at the bound that was asked is yes. At `No`:
+//!      the verdict that is written applies. At both the specification is within the limits of bits.
 //!    - `run`, at `Done`: the text is the closed run of the program over the tables and the inputs
 //!      that the bytes spell, and the formula of each window and that of the specification hold in
 //!      it. At `No`: one of them fails, or the program has other signals than the specification.
@@ -67,32 +68,19 @@
 //! - Definitions cite limits as the constants of the code; `limits_are_these` says which numbers
 //!   they are.
 //!
-//! `check` and `run` find the parts of their input by lines alone (`specs/Check.antt`,
-//! `specs/RunParts.antt`). Each refusal of a specification and each limit of the work on it has the
-//! line of its fault (`specs/Refusals.antt`), and so has each refusal of another part
-//! (`specs/RunFaults.antt`).
+//! `check` and `run` find the parts of their input by lines alone (`specs/Check.antt` and
+//! `specs/RunParts.antt` of `judging_replies`). Each refusal of a specification and each limit of the
+//! work on it has the line of its fault (`specs/Refusals.antt` of `tool_replies`), and so has each
+//! refusal of another part (`specs/RunFaults.antt` of `judging_replies`).
 //!
-//! What is not built: `synth` makes no rounds of refinement, and there is no generator. A new command
-//! adds a variant, its words, a line of `CommandOutcome` with a relation of its own, and its lines of
-//! `Promise`.
+//! A new command adds a variant of `Task` and its words, a reply with a relation of its own in the
+//! crate of its kind, a line of `TaskOutcome`, and its lines of `Promise`.
 #![tactic(auto)]
 
-mod check;
 mod completeness;
-mod generating;
-mod head_lines;
 mod laws;
-mod prove;
-mod recheck;
-mod refusal;
-mod reply;
-mod run;
-mod run_faults;
-mod status;
-mod synth;
 mod tasks;
 mod top;
-mod verdicts;
 
 pub use completeness::{answers_come, inputs_get_verdicts};
 pub use laws::{
@@ -100,16 +88,5 @@ pub use laws::{
     one_specification, outcomes_keep_their_promise, plain_updates_are_spelled, proofs_are_verified,
     searches_are_answered, verdicts_are_those_of_logs, verdicts_are_those_of_runs,
 };
-pub use status::Status;
+pub use tool_replies::Status;
 pub use top::tsl;
-
-#[cfg(test)]
-mod check_tests;
-#[cfg(test)]
-mod gen_tests;
-#[cfg(test)]
-mod run_tests;
-#[cfg(test)]
-mod search_tests;
-#[cfg(test)]
-mod tests;

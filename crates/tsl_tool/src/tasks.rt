@@ -1,7 +1,7 @@
 //! What tasks read, and how far their searches go.
 
 ghost use Rattle.std.specs.Prelude.{◌≡◌};
-ghost use Rattle.tsl_tool.specs.Tasks.{generated_sizes, most_bytes, search_sizes};
+ghost use Rattle.tsl_tool.specs.Tasks.{most_bytes, search_sizes};
 
 use command_words::{SynthSizes, Task};
 use refinement_loop::Sizes;
@@ -39,21 +39,5 @@ pub(crate) fn search_sizes(sizes: SynthSizes) -> Sizes
         depth: sizes.depth,
         rounds: sizes.rounds,
         budget: sizes.budget,
-    }
-}
-
-/// How far the search for a generated specification goes: as many states as its number, within the same bound, and no
-/// round.
-pub(crate) fn generated_sizes(n: u32) -> Sizes
-    ensures { result ≡ generated_sizes n }
-{
-    Sizes {
-        states: n,
-        bound: n,
-        env_states: 2,
-        env_bound: 2,
-        depth: 2,
-        rounds: 0,
-        budget: 20_000,
     }
 }

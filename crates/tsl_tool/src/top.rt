@@ -8,23 +8,18 @@ ghost use Rattle.tsl_io.specs.Effects.{effect, AreTold};
 ghost use Rattle.tsl_tool.specs.Ends.{IsReplyTo, Ends, HandedOn};
 ghost use Rattle.tsl_tool.specs.Outcome.{TaskOutcome};
 ghost use Rattle.tsl_tool.specs.Promise.{Promise};
-ghost use Rattle.tsl_tool.specs.Statuses.{is_answer};
+ghost use Rattle.tool_replies.specs.Statuses.{is_answer};
 ghost use Rattle.tsl_tool.specs.Tasks.{AreFewBytes, ReadNothing, most_bytes};
 ghost use Rattle.tsl_tool.specs.internal.TaskRanges.{IsTaskInRange};
 ghost use Rattle.tsl_tool.specs.internal.Sending.{IsSent};
 
-use crate::check::check;
-use crate::generating::generate;
-use crate::prove::prove;
-use crate::recheck::recheck;
-use crate::reply::Reply;
-use crate::run::run;
-use crate::status::Status;
-use crate::synth::synth;
 use crate::tasks::{most_bytes, search_sizes};
 use command_words::{Task, WordsError, task_of};
+use judging_replies::{check, recheck, run};
+use search_replies::{generate, prove, synth};
 use sequence::NoMemory;
 use std::alloc::Global;
+use tool_replies::{Reply, Status};
 use tsl_io::{Failed, ReadError, Sink, Source, read_all, write_all_of};
 use tsl_report::{Fault, LimitName};
 

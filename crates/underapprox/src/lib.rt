@@ -20,6 +20,3 @@ mod making;
 
 pub use laws::{letters_say_what_holds, whole_updates_are_read};
 pub use letter_form::to_letters;
-
-#[cfg(test)]
-mod tests;

@@ -4,7 +4,7 @@ use Rattle.std.specs.Prelude.{◌≡◌, ℕ, ◌<◌, List, Some, slice_get, Is
 use Rattle.std.specs.Prelude.{length as count_of}
 use Rattle.tsl_terms.specs.WindowTree.{WindowTree}
 use Rattle.tsl_terms.specs.Congruence.{IsCongruent}
-use Rattle.flow_program.specs.Fits.{window_is_shaped}
+use Rattle.program_tree.specs.Fits.{window_is_shaped}
 use Rattle.letter_space.specs.SpaceTree.{SpaceTree}
 use Rattle.machines.specs.MachineTree.{EnvironmentTree}
 use Rattle.branch_finder.specs.Spurious.{IsSpurious}

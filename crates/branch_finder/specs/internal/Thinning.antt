@@ -6,7 +6,7 @@ use Rattle.std.specs.List.{AllByRecursion}
 use Rattle.sequence.specs.Numbers.{is_among}
 use Rattle.tsl_terms.specs.WindowTree.{ListedTree, WindowTree}
 use Rattle.tsl_terms.specs.Congruence.{IsCongruent}
-use Rattle.flow_program.specs.Fits.{comes_before}
+use Rattle.program_tree.specs.Fits.{comes_before}
 use Rattle.letter_space.specs.SpaceTree.{SpaceTree}
 use Rattle.branch_finder.specs.Spurious.{IsOneOf}
 use Rattle.branch_finder.specs.Finding.{without_update}

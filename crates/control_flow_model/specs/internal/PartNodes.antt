@@ -2,7 +2,7 @@
 use Rattle.std.specs.Prelude.{◌≡◌, ℕ, ◌<◌, ◌^◌, ◌==◌, List, map, length, Option, Some, slice_get, option_map, option_and_then}
 use Rattle.std.specs.Prelude.{position, IsTrue}
 use Rattle.sequence.specs.Numbers.{is_among}
-use Rattle.flow_program.specs.NodeTree.{NodeTree, branch, assign}
+use Rattle.program_tree.specs.NodeTree.{NodeTree, branch, assign}
 use Rattle.letter_space.specs.SpaceTree.{SpaceTree}
 use Rattle.letter_space.specs.Letters.{ArePicks}
 use Rattle.machines.specs.MachineTree.{ControllerTree}

@@ -5,11 +5,11 @@ use Rattle.sequence.specs.Options.{all_there}
 use Rattle.tsl_terms.specs.Name.{number_of, question, Name as NameEntry}
 use Rattle.tsl_terms.specs.TermTree.{TermTree, signal, apply, TermTrees, no_terms, more_terms, ProbeTree}
 use Rattle.tsl_terms.specs.WindowTree.{WindowTree, ListedTree}
-use Rattle.flow_program.specs.declared.listing.Name.{Name}
-use Rattle.flow_program.specs.NodeTree.{NodeTree, branch, assign}
-use Rattle.flow_program.specs.ProgramTree.{ProgramTree}
-use Rattle.flow_program.specs.Listing.{PhraseTree, bare, applied, PhraseTrees, no_phrases, more_phrases, name_bytes}
-use Rattle.flow_program.specs.Listing.{ListedLine, WindowLine, NodeLine, branch_line, assignment_line, ListingTree}
+use Rattle.program_listing.specs.declared.listing.Name.{Name}
+use Rattle.program_tree.specs.NodeTree.{NodeTree, branch, assign}
+use Rattle.program_tree.specs.ProgramTree.{ProgramTree}
+use Rattle.program_listing.specs.Listing.{PhraseTree, bare, applied, PhraseTrees, no_phrases, more_phrases, name_bytes}
+use Rattle.program_listing.specs.Listing.{ListedLine, WindowLine, NodeLine, branch_line, assignment_line, ListingTree}
 
 abbrev pub probe_with : ℕ → TermTrees → ProbeTree
 probe_with predicate arguments = record { predicate = predicate; arguments = arguments }

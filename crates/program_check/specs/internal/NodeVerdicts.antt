@@ -1,6 +1,6 @@
 -- The verdict on a node that lacks bits.
 use Rattle.std.specs.Prelude.{◌≡◌, ℕ, not, List, Some, slice_get, position}
-use Rattle.flow_program.specs.NodeTree.{NodeTree, branch, assign}
+use Rattle.program_tree.specs.NodeTree.{NodeTree, branch, assign}
 use Rattle.letter_space.specs.SpaceTree.{SpaceTree}
 use Rattle.control_flow_model.specs.ProgramBits.{node_has_bits}
 use Rattle.program_check.specs.declared.verdict.Verdict.{Verdict}

@@ -2,7 +2,7 @@
 use Rattle.std.specs.Prelude.{List, ⊤}
 use Rattle.tsl_terms.specs.SpecTree.{SpecTree}
 use Rattle.tsl_terms.specs.WindowTree.{WindowTree}
-use Rattle.flow_program.specs.ProgramView.{program_tree}
+use Rattle.program_tree.specs.ProgramView.{program_tree}
 use Rattle.cobuchi_automata.specs.Edges.{edge_trees}
 use Rattle.machines.specs.declared.rounds.Round.{Round}
 use Rattle.machines.specs.MachineView.{round_tree}

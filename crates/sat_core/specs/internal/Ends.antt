@@ -4,9 +4,9 @@ use Rattle.clause_core.specs.Literals.{Lit}
 use Rattle.clause_core.specs.Propagation.{ReachesFalse}
 use Rattle.sat_core.specs.declared.answers.Answer.{Answer}
 use Rattle.sat_core.specs.declared.answers.Answer.TheVariants.{Sat, Unsat, Spent}
-use Rattle.sat_core.specs.declared.journal.Journal.{Journal}
+use Rattle.clause_learning.specs.declared.journal.Journal.{Journal}
 use Rattle.sat_core.specs.Answers.{AreSatisfying, AreRefuting, IsWholeTrace}
-use Rattle.sat_core.specs.internal.Lessons.{clauses_of, IsRefutingLog}
+use Rattle.clause_learning.specs.Lessons.{clauses_of, IsRefutingLog}
 
 -- how the search ends where no more may be learnt, behind the clauses of a trail
 abbrev pub IsEnd : List (List Lit) → Journal → Answer → Type 0

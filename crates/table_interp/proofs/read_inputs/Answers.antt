@@ -3,9 +3,10 @@ use Rattle.std.proofs.lemmas.List.{length-map}
 use Rattle.std.proofs.lemmas.Result.{IfOk-weaker}
 use Rattle.std.proofs.lemmas.Result.{IfErr-weaker}
 use Rattle.tsl_meaning.specs.Interpretation.{rows_of}
-use Rattle.table_interp.specs.internal.View.{inputs_view}
+use Rattle.table_syntax.specs.View.{inputs_view}
 use Rattle.table_interp.proofs.Loops.{are_loop}
-use Rattle.table_interp.proofs.Refusals.{inputs_refused, input_form_passed, row_cause, has_cycle}
+use Rattle.table_syntax.proofs.Readings.{has_cycle}
+use Rattle.table_interp.proofs.Refusals.{inputs_refused, input_form_passed, row_cause}
 use Rattle.table_interp.proofs.read_inputs.Goals as goal
 
 pub rows_from-requires-clause-some : goal.rows_from-requires-clause-some

@@ -2,9 +2,10 @@ use Rattle.std.proofs.Common.{arith}
 use Rattle.std.proofs.lemmas.Result.{IfOk-weaker}
 use Rattle.std.proofs.lemmas.Result.{IfErr-weaker}
 use Rattle.table_interp.specs.declared.TableError.TheVariants.{Domain}
-use Rattle.table_interp.specs.internal.View.{tables_view}
+use Rattle.table_syntax.specs.View.{tables_view}
 use Rattle.table_interp.proofs.Facts.{cells_within, interprets}
-use Rattle.table_interp.proofs.Refusals.{tables_refused, form_passed, entry_cause, has_value}
+use Rattle.table_syntax.proofs.Readings.{has_value}
+use Rattle.table_interp.proofs.Refusals.{tables_refused, form_passed, entry_cause}
 use Rattle.table_interp.proofs.read_tables.Goals as goal
 
 pub returns-in_err-given-clause-refused : goal.returns-in_err-given-clause-refused

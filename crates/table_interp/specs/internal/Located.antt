@@ -3,11 +3,11 @@
 use Rattle.std.specs.Prelude.{◌≡◌, ℕ, ◌<◌, ◌^◌, List, [], ◌∷◌, length, map, Option, Some, true, All, IsSomeAnd}
 use Rattle.tsl_terms.specs.Name.{Name}
 use Rattle.table_interp.specs.declared.entries.Located.{Located}
-use Rattle.table_interp.specs.Syntax.{Entry, TablesSyntax}
+use Rattle.table_syntax.specs.Syntax.{Entry, TablesSyntax}
 use Rattle.table_interp.specs.Needed.{number_for, is_symbol_number, HasNoRepeat}
 use Rattle.table_interp.specs.Tables.{numbers_for}
 use Rattle.table_interp.specs.internal.Resolving.{ArePlaces}
-use Rattle.table_interp.specs.internal.View.{entries_view}
+use Rattle.table_syntax.specs.View.{entries_view}
 
 -- each entry is for a name, no two for the same one, and these are the places of their names
 pub record AreLocated (names : List Name) (entries : List Entry) (places : List (Option ℕ)) : Type 0 where

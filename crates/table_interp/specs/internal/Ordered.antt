@@ -3,10 +3,10 @@
 use Rattle.std.specs.Prelude.{◌≡◌, ℕ, List, length, map, Option, Some, slice_get}
 use Rattle.tsl_terms.specs.Name.{Name}
 use Rattle.table_interp.specs.declared.inputs.Columns.{Columns}
-use Rattle.table_interp.specs.Syntax.{TextToken}
+use Rattle.table_syntax.specs.Syntax.{TextToken}
 use Rattle.table_interp.specs.Needed.{number_for, HasNoRepeat}
 use Rattle.table_interp.specs.internal.Resolving.{ArePlaces}
-use Rattle.table_interp.specs.internal.View.{text_tokens_view}
+use Rattle.table_syntax.specs.View.{text_tokens_view}
 
 -- the names have these numbers, no two the same, and these are their places
 pub record HasColumns (names : List Name) (columns : List TextToken) (numbers : List ℕ) (places : List (Option ℕ)) : Type 0 where

@@ -1,24 +1,15 @@
 -- Internal: only private functions of this crate use these words.
--- Why a text is not of the form of a grammar, and which name must not stand in it.
-use Rattle.std.specs.Prelude.{◌≡◌, ℕ, List, Option, IsSomeAnd}
-use Rattle.tsl_text.specs.Division.{HasBadByte, HasOpenComment}
-use Rattle.table_interp.specs.declared.forms.TextFault.{TextFault}
-use Rattle.table_interp.specs.declared.forms.TextFault.TheVariants as text
+-- Faults of the form as errors, and which name must not stand in a text.
+use Rattle.std.specs.Prelude.{◌≡◌, Option, IsSomeAnd}
+use Rattle.table_syntax.specs.declared.forms.TextFault.{TextFault}
+use Rattle.table_syntax.specs.declared.forms.TextFault.TheVariants as text
 use Rattle.table_interp.specs.declared.naming.NameFault.{NameFault}
 use Rattle.table_interp.specs.declared.naming.NameFault.TheVariants as naming
 use Rattle.table_interp.specs.declared.TableError.{TableError}
 use Rattle.table_interp.specs.declared.TableError.TheVariants as table
 use Rattle.table_interp.specs.declared.InputError.{InputError}
 use Rattle.table_interp.specs.declared.InputError.TheVariants as input
-use Rattle.table_interp.specs.Syntax.{TextToken}
-use Rattle.table_interp.specs.Forms.{HasFormFault}
-
--- what a fault says of the text
-abbrev pub HasTextFault : {V : Type 0} → (List TextToken → V → Type 0) → List ℕ → TextFault → Type 0
-HasTextFault Is bytes (text.Byte at) = HasBadByte bytes at
-HasTextFault Is bytes (text.OpenComment at) = HasOpenComment bytes at
-HasTextFault Is bytes (text.Form at) = HasFormFault Is bytes at
-HasTextFault Is bytes text.NoMemory = Unit {0}
+use Rattle.table_syntax.specs.Syntax.{TextToken}
 
 abbrev pub table_error : TextFault → TableError
 table_error (text.Byte at) = table.Byte at

@@ -7,10 +7,10 @@ use Rattle.bounded_encoding.specs.Question.{IsSolution}
 use Rattle.bounded_encoding.specs.QuestionView.{question_of}
 use Rattle.bounded_encoding.specs.Variables.{valuations_of}
 use Rattle.bounded_encoding.specs.Decoding.{controller_read, numbers_read}
-use Rattle.bounded_encoding.proofs.Decoded.{is_solution}
-use Rattle.bounded_encoding.proofs.Demands.{are_met}
+use Rattle.bounded_encoding.proofs.SolutionsAreAssignments.Decoded.{is_solution}
+use Rattle.bounded_encoding.proofs.SolutionsAreAssignments.Demands.{are_met}
 use Rattle.bounded_encoding.proofs.Posed.{is_posed}
-use Rattle.bounded_encoding.proofs.Readings.{entries_agree, numbers_agree, numbers_counted}
+use Rattle.bounded_encoding.proofs.SolutionsAreAssignments.Readings.{entries_agree, numbers_agree, numbers_counted}
 use Rattle.bounded_encoding.proofs.finding.solution_read.Goals as goal
 
 pub returns : goal.returns

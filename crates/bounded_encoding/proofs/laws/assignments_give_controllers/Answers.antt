@@ -1,5 +1,5 @@
-use Rattle.bounded_encoding.proofs.Demands.{are_met}
-use Rattle.bounded_encoding.proofs.Decoded.{is_solution}
+use Rattle.bounded_encoding.proofs.SolutionsAreAssignments.Demands.{are_met}
+use Rattle.bounded_encoding.proofs.SolutionsAreAssignments.Decoded.{is_solution}
 use Rattle.bounded_encoding.proofs.laws.assignments_give_controllers.Goals as goal
 
 pub returns : goal.returns

@@ -1,5 +1,5 @@
-use Rattle.bounded_encoding.proofs.Demands.{encoding_is_met}
-use Rattle.bounded_encoding.proofs.Encoded.{assignment, are_met_by_it}
+use Rattle.bounded_encoding.proofs.SolutionsAreAssignments.Demands.{encoding_is_met}
+use Rattle.bounded_encoding.proofs.SolutionsAreAssignments.Encoded.{assignment, are_met_by_it}
 use Rattle.bounded_encoding.proofs.laws.controllers_give_assignments.Goals as goal
 
 pub returns : goal.returns

@@ -2,7 +2,7 @@ use Rattle.std.proofs.Common.{◌*◌}
 use Rattle.clause_core.specs.Clauses.{assignment_of}
 use Rattle.letter_space.specs.SpaceTree.{choice_count}
 use Rattle.letter_space.specs.SpaceView.{space_tree}
-use Rattle.bounded_encoding.proofs.Readings.{entries_counted, entries_stay}
+use Rattle.bounded_encoding.proofs.SolutionsAreAssignments.Readings.{entries_counted, entries_stay}
 use Rattle.bounded_encoding.proofs.reading.controller_read.Goals as goal
 
 pub invariant_of-result : goal.invariant_of-result

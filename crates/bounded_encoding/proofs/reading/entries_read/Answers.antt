@@ -5,7 +5,7 @@ use Rattle.letter_space.specs.SpaceView.{space_tree}
 use Rattle.machines.specs.MachineView.{entry_tree}
 use Rattle.bounded_encoding.specs.internal.Reading.{choice_from, entry_numbered}
 use Rattle.bounded_encoding.specs.Reading.{next_from}
-use Rattle.bounded_encoding.proofs.Readings.{numbered_more}
+use Rattle.bounded_encoding.proofs.SolutionsAreAssignments.Readings.{numbered_more}
 use Rattle.bounded_encoding.proofs.reading.entries_read.Goals as goal
 
 pub loop-number-preserved : goal.loop-number-preserved

@@ -1,7 +1,7 @@
 use Rattle.std.proofs.Common.{◌+◌, ◌*◌}
 use Rattle.clause_core.specs.Clauses.{assignment_of}
 use Rattle.bounded_encoding.specs.Reading.{number_from}
-use Rattle.bounded_encoding.proofs.Readings.{numbered_next}
+use Rattle.bounded_encoding.proofs.SolutionsAreAssignments.Readings.{numbered_next}
 use Rattle.bounded_encoding.proofs.reading.numbers_read.Goals as goal
 
 pub loop-pair-preserved : goal.loop-pair-preserved

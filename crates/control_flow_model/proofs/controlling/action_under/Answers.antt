@@ -3,10 +3,10 @@ use Rattle.std.proofs.lemmas.List.{length-map}
 use Rattle.sequence.proofs.Passes.{passes_at}
 use Rattle.tsl_terms.specs.declared.term.Term.{Term}
 use Rattle.tsl_terms.specs.TermTree.{probe_tree, term_tree}
-use Rattle.flow_program.specs.Walk.{Action}
-use Rattle.flow_program.specs.NodeTree.{node_tree, assign}
-use Rattle.flow_program.specs.ProgramView.{program_tree}
-use Rattle.flow_program.proofs.Walking.{begins, state_read, node_within, node_read, branch_taken, end_reached, cond_below}
+use Rattle.program_tree.specs.Walk.{Action}
+use Rattle.program_tree.specs.NodeTree.{node_tree, assign}
+use Rattle.program_tree.specs.ProgramView.{program_tree}
+use Rattle.program_tree.proofs.Walking.{begins, state_read, node_within, node_read, branch_taken, end_reached, cond_below}
 use Rattle.letter_space.specs.SpaceView.{space_tree}
 use Rattle.control_flow_model.specs.ProgramBits.{are_terms_chosen, node_has_bits}
 use Rattle.control_flow_model.specs.ControllerOf.{truth_under}

@@ -1,8 +1,8 @@
 use Rattle.std.specs.Prelude.{map}
-use Rattle.flow_program.specs.NodeTree.{node_tree}
-use Rattle.flow_program.specs.ProgramView.{program_tree}
-use Rattle.flow_program.specs.Walk.{walk}
-use Rattle.flow_program.proofs.Walking.{IsOn}
+use Rattle.program_tree.specs.NodeTree.{node_tree}
+use Rattle.program_tree.specs.ProgramView.{program_tree}
+use Rattle.program_tree.specs.Walk.{walk}
+use Rattle.program_tree.proofs.Walking.{IsOn}
 use Rattle.letter_space.specs.SpaceView.{space_tree}
 use Rattle.control_flow_model.specs.ControllerOf.{truth_under}
 use Rattle.control_flow_model.proofs.controlling.action_under.Given as goal

@@ -1,6 +1,6 @@
 use Rattle.std.proofs.Common.{◌∙◌, ◌+◌, length, sym, ap, subst, arith}
 use Rattle.std.proofs.lemmas.List.{length_push}
-use Rattle.flow_program.specs.ProgramView.{program_tree}
+use Rattle.program_tree.specs.ProgramView.{program_tree}
 use Rattle.letter_space.specs.SpaceView.{space_tree}
 use Rattle.control_flow_model.proofs.EntryLists.{AreEntries, one_more, next_states, is_controller_of}
 use Rattle.control_flow_model.proofs.controlling.controller_of.Goals as goal

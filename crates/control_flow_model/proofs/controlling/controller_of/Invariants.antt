@@ -1,6 +1,6 @@
 -- There is an entry for each number that was passed.
 use Rattle.std.proofs.Common.{◌≡◌, length}
-use Rattle.flow_program.specs.ProgramView.{program_tree}
+use Rattle.program_tree.specs.ProgramView.{program_tree}
 use Rattle.letter_space.specs.SpaceView.{space_tree}
 use Rattle.control_flow_model.proofs.EntryLists.{AreEntries}
 use Rattle.control_flow_model.proofs.controlling.controller_of.Given as goal

@@ -1,8 +1,8 @@
 use Rattle.std.proofs.Common.{◌∙◌, ◌++◌, map, sym, ap, subst}
 use Rattle.std.proofs.lemmas.List.{length-map}
 use Rattle.tsl_terms.specs.WindowTree.{window_tree}
-use Rattle.flow_program.specs.Fits.{StatesFit}
-use Rattle.flow_program.specs.NodeTree.{node_tree}
+use Rattle.program_tree.specs.Fits.{StatesFit}
+use Rattle.program_tree.specs.NodeTree.{node_tree}
 use Rattle.letter_space.specs.SpaceView.{space_tree}
 use Rattle.machines.specs.MachineView.{controller_tree}
 use Rattle.control_flow_model.proofs.FitLemmas.{nodes_branch, nodes_assign, nodes_begin, carried, reads_carried, windows_carried}

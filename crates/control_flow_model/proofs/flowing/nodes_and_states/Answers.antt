@@ -1,6 +1,6 @@
 use Rattle.std.proofs.Common.{◌≡◌, ◌∙◌, ◌^◌, ◌<◌, length, map, Some, slice_get, sym, ap, subst, arith}
 use Rattle.sequence.proofs.Each.{each_weaker}
-use Rattle.flow_program.specs.NodeTree.{node_tree}
+use Rattle.program_tree.specs.NodeTree.{node_tree}
 use Rattle.letter_space.specs.SpaceView.{space_tree}
 use Rattle.machines.specs.MachineView.{controller_tree}
 use Rattle.machines.proofs.ControllerTables.{is_controller}

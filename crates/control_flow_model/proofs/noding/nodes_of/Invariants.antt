@@ -1,5 +1,5 @@
 use Rattle.std.proofs.Common.{◌≡◌, map, take, Some}
-use Rattle.flow_program.specs.NodeTree.{node_tree}
+use Rattle.program_tree.specs.NodeTree.{node_tree}
 use Rattle.letter_space.specs.SpaceView.{space_tree}
 use Rattle.control_flow_model.specs.internal.Parts.{part_keys}
 use Rattle.control_flow_model.specs.internal.PartNodes.{key_node}

@@ -1,5 +1,5 @@
 use Rattle.clause_core.specs.Clauses.{assignment_of}
-use Rattle.bounded_encoding.proofs.Readings.{numbered_next}
+use Rattle.bounded_encoding.proofs.SolutionsAreAssignments.Readings.{numbered_next}
 use Rattle.counterstrategy.specs.internal.DualReading.{truths_at}
 use Rattle.counterstrategy.proofs.environment_reading.truths_of_states.Goals as goal
 

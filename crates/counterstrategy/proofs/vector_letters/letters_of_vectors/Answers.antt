@@ -1,5 +1,5 @@
 use Rattle.letter_space.specs.SpaceView.{space_tree}
-use Rattle.bounded_encoding.proofs.Readings.{numbered_next}
+use Rattle.bounded_encoding.proofs.SolutionsAreAssignments.Readings.{numbered_next}
 use Rattle.counterstrategy.specs.internal.DualAsking.{vector_letter}
 use Rattle.counterstrategy.proofs.vector_letters.letters_of_vectors.Goals as goal
 

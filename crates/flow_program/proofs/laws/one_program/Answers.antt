@@ -1,4 +1,4 @@
-use Rattle.flow_program.proofs.OneProgram.{one_program}
+use Rattle.flow_program.proofs.SpelledOnce.OneProgram.{one_program}
 use Rattle.flow_program.proofs.laws.one_program.Goals as goal
 
 pub returns : goal.returns

@@ -2,8 +2,8 @@ use Rattle.std.proofs.Common.{map, rules, ◌∙◌}
 use Rattle.std.proofs.lemmas.Bool.{and_parts}
 use Rattle.std.proofs.lemmas.Result.{IfOk-weaker}
 use Rattle.tsl_terms.specs.TermTree.{term_tree, term_trees}
-use Rattle.flow_program.specs.declared.listing.PhraseList.{the_lemmas}
-use Rattle.flow_program.specs.Listing.{phrase_tree, phrase_trees}
+use Rattle.program_listing.specs.declared.listing.PhraseList.{the_lemmas}
+use Rattle.program_listing.specs.Listing.{phrase_tree, phrase_trees}
 use Rattle.flow_program.specs.internal.Numbering.{numbered_terms}
 use Rattle.flow_program.proofs.NumberLemmas.{numbered_more, numbered_all}
 use Rattle.flow_program.proofs.numbering.+number_terms.Goals as goal

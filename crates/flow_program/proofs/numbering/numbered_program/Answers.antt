@@ -2,10 +2,10 @@ use Rattle.std.proofs.Common.{◌<◌, map, ap, sym, subst, ◌∙◌}
 use Rattle.std.proofs.lemmas.List.{length-map}
 use Rattle.sequence.specs.Options.{all_there}
 use Rattle.tsl_terms.specs.WindowTree.{window_tree}
-use Rattle.flow_program.specs.NodeTree.{node_tree}
-use Rattle.flow_program.specs.ProgramTree.{ProgramTree}
+use Rattle.program_tree.specs.NodeTree.{node_tree}
+use Rattle.program_tree.specs.ProgramTree.{ProgramTree}
 use Rattle.flow_program.specs.ProgramText.{ProgramText}
-use Rattle.flow_program.specs.Listing.{listing_tree, window_line, node_line}
+use Rattle.program_listing.specs.Listing.{listing_tree, window_line, node_line}
 use Rattle.flow_program.specs.internal.Numbering.{small, numbered, numbered_window, numbered_node, Numbered}
 use Rattle.flow_program.proofs.KeptProgram.{kept_program}
 use Rattle.flow_program.proofs.numbering.numbered_program.Goals as goal

@@ -1,6 +1,6 @@
 use Rattle.std.proofs.Common.{◌≡◌, ◌++◌, map, ap, sym, subst, ◌∙◌}
 use Rattle.tsl_terms.specs.Name.{texts, AreDistinct}
-use Rattle.flow_program.specs.Listing.{name_bytes, declared_entry}
+use Rattle.program_listing.specs.Listing.{name_bytes, declared_entry}
 use Rattle.flow_program.proofs.RuleLemmas.{texts_are, first_distinct, second_distinct}
 use Rattle.flow_program.proofs.reading.declared_signals.Goals as goal
 

@@ -2,7 +2,7 @@ use Rattle.std.proofs.Common.{◌≡◌, length, map, ap, sym, ◌∙◌, arith}
 use Rattle.sequence.proofs.Results.{handed_on}
 use Rattle.tsl_terms.specs.Name.{texts}
 use Rattle.flow_program.specs.declared.reading.ProgramError.TheVariants.{NoMemory}
-use Rattle.flow_program.specs.Listing.{listing_tree}
+use Rattle.program_listing.specs.Listing.{listing_tree}
 use Rattle.flow_program.specs.Uses.{uses_of, names_after}
 use Rattle.flow_program.specs.Reading.{HasProgramCause}
 use Rattle.flow_program.specs.internal.UseView.{use_view}

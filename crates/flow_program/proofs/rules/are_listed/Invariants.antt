@@ -2,7 +2,7 @@
 use Rattle.std.proofs.Common.{◌≡◌, ◌&&◌, map, drop}
 use Rattle.std.specs.List.{list_all}
 use Rattle.tsl_terms.specs.Name.{texts}
-use Rattle.flow_program.specs.Listing.{listed_line}
+use Rattle.program_listing.specs.Listing.{listed_line}
 use Rattle.flow_program.specs.Rules.{is_cell_within, listed_rise}
 use Rattle.flow_program.proofs.rules.are_listed.Given as goal
 

@@ -1,6 +1,6 @@
 -- What is left are the texts exactly where all are.
 use Rattle.std.proofs.Common.{◌≡◌, map, drop}
-use Rattle.flow_program.specs.Listing.{name_bytes, update_line}
+use Rattle.program_listing.specs.Listing.{name_bytes, update_line}
 use Rattle.flow_program.specs.Rules.{are_texts}
 use Rattle.flow_program.proofs.rules.are_updates_of.Given as goal
 

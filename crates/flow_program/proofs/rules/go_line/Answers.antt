@@ -1,6 +1,6 @@
 use Rattle.std.proofs.Common.{◌+◌, ap, sym, ◌∙◌}
 use Rattle.std.specs.Prelude.{option_map}
-use Rattle.flow_program.specs.Listing.{node_line}
+use Rattle.program_listing.specs.Listing.{node_line}
 use Rattle.flow_program.specs.Rules.{goes_nowhere}
 use Rattle.flow_program.proofs.FirstPlaces.{place_here, place_later}
 use Rattle.flow_program.proofs.rules.go_line.Goals as goal

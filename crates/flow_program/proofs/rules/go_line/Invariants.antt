@@ -1,6 +1,6 @@
 -- The first place among the nodes that are left is the first of all.
 use Rattle.std.proofs.Common.{◌≡◌, map, drop}
-use Rattle.flow_program.specs.Listing.{node_line}
+use Rattle.program_listing.specs.Listing.{node_line}
 use Rattle.flow_program.specs.Rules.{first_place, goes_nowhere}
 use Rattle.flow_program.proofs.rules.go_line.Given as goal
 

@@ -1,6 +1,6 @@
 -- The first place among the nodes that are left is the first of all.
 use Rattle.std.proofs.Common.{◌≡◌, map, drop}
-use Rattle.flow_program.specs.Listing.{node_line, name_bytes}
+use Rattle.program_listing.specs.Listing.{node_line, name_bytes}
 use Rattle.flow_program.specs.Rules.{first_place, breaks_updates}
 use Rattle.flow_program.proofs.rules.updates_line.Given as goal
 

@@ -1,7 +1,7 @@
 -- The first place among the windows that are left is the first of all.
 use Rattle.std.proofs.Common.{◌≡◌, map, drop}
 use Rattle.tsl_terms.specs.Name.{texts}
-use Rattle.flow_program.specs.Listing.{window_line}
+use Rattle.program_listing.specs.Listing.{window_line}
 use Rattle.flow_program.specs.Rules.{first_place, breaks_window}
 use Rattle.flow_program.proofs.rules.window_line.Given as goal
 

@@ -1,8 +1,8 @@
 -- The uses so far, and then those of the terms that are left.
 use Rattle.std.proofs.Common.{◌≡◌, ◌<◌, ◌≤◌, ◌^◌, ◌++◌, length, map}
 use Rattle.std.specs.Prelude.{IsTrue}
-use Rattle.flow_program.specs.declared.listing.PhraseList.{size-PhraseList}
-use Rattle.flow_program.specs.Listing.{phrase_trees, phrases_stand}
+use Rattle.program_listing.specs.declared.listing.PhraseList.{size-PhraseList}
+use Rattle.program_listing.specs.Listing.{phrase_trees, phrases_stand}
 use Rattle.flow_program.specs.Uses.{terms_uses}
 use Rattle.flow_program.specs.internal.UseView.{use_view}
 use Rattle.flow_program.proofs.uses.+term_uses.Given as goal

@@ -1,5 +1,5 @@
 use Rattle.std.proofs.Common.{map, ap, rules}
-use Rattle.flow_program.specs.Listing.{listing_tree, window_line, node_line}
+use Rattle.program_listing.specs.Listing.{listing_tree, window_line, node_line}
 use Rattle.flow_program.specs.internal.UseView.{use_view}
 use Rattle.flow_program.proofs.UseLemmas.{uses_joined}
 use Rattle.flow_program.proofs.uses.all_uses.Goals as goal

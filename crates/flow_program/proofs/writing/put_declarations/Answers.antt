@@ -2,7 +2,8 @@ use Rattle.std.proofs.Common.{ℕ, List, ap}
 use Rattle.std.proofs.lemmas.List.{drop_more}
 use Rattle.sequence.proofs.Passes.{passes_within}
 use Rattle.sequence.proofs.Lists.{written_step}
-use Rattle.flow_program.specs.ProgramText.{signal_fits, declarations}
+use Rattle.program_tree.specs.Writable.{signal_fits}
+use Rattle.flow_program.specs.ProgramText.{declarations}
 use Rattle.flow_program.proofs.writing.put_declarations.Goals as goal
 
 pub put_declaration-requires : goal.put_declaration-requires

@@ -2,9 +2,10 @@ use Rattle.std.proofs.Common.{◌≡◌, ℕ, ◌+◌, ◌<◌, length, get_or, 
 use Rattle.sequence.proofs.Passes.{map_passes_within}
 use Rattle.sequence.proofs.Lists.{written_step, left_at}
 use Rattle.tsl_terms.specs.Name.{Name}
-use Rattle.flow_program.specs.declared.node.Node.{Node}
-use Rattle.flow_program.specs.NodeTree.{node_tree}
-use Rattle.flow_program.specs.ProgramText.{nodes_text, node_text, node_is_writable}
+use Rattle.program_tree.specs.declared.node.Node.{Node}
+use Rattle.program_tree.specs.NodeTree.{node_tree}
+use Rattle.program_tree.specs.Writable.{node_is_writable}
+use Rattle.flow_program.specs.ProgramText.{nodes_text, node_text}
 use Rattle.flow_program.proofs.writing.put_nodes.Goals as goal
 
 pub put_node-requires-clause-node : goal.put_node-requires-clause-node

@@ -1,6 +1,6 @@
 -- What is written and what is left make the whole.
 use Rattle.std.proofs.Common.{◌≡◌, ◌++◌, map, drop}
-use Rattle.flow_program.specs.NodeTree.{node_tree}
+use Rattle.program_tree.specs.NodeTree.{node_tree}
 use Rattle.flow_program.specs.ProgramText.{nodes_text}
 use Rattle.flow_program.proofs.writing.put_nodes.Given as goal
 

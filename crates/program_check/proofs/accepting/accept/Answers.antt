@@ -1,6 +1,6 @@
 use Rattle.std.proofs.Common.{◌∙◌, subst}
 use Rattle.tsl_terms.specs.SpecView.{spec_tree}
-use Rattle.flow_program.specs.ProgramView.{program_tree}
+use Rattle.program_tree.specs.ProgramView.{program_tree}
 use Rattle.program_check.specs.internal.NodeVerdicts.{IsNodeVerdict}
 use Rattle.program_check.proofs.Accepted.{refused_verdict}
 use Rattle.program_check.proofs.accepting.accept.Goals as goal

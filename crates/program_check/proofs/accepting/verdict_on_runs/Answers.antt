@@ -2,7 +2,7 @@ use Rattle.std.proofs.Common.{List, map, sym, subst}
 use Rattle.tsl_terms.specs.declared.window.Window.{Window}
 use Rattle.tsl_terms.specs.SpecView.{spec_tree}
 use Rattle.tsl_terms.specs.WindowTree.{window_tree}
-use Rattle.flow_program.specs.ProgramView.{program_tree}
+use Rattle.program_tree.specs.ProgramView.{program_tree}
 use Rattle.letter_space.specs.SpaceView.{space_tree}
 use Rattle.cobuchi_automata.specs.Automata.{IsAutomaton}
 use Rattle.cobuchi_automata.specs.Edges.{edge_trees}

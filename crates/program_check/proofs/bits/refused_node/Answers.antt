@@ -2,8 +2,8 @@ use Rattle.std.proofs.Common.{◌≡◌, ◌∙◌, None, Option, not, map, rule
 use Rattle.std.specs.Prelude.{IfNone}
 use Rattle.std.specs.List.{position}
 use Rattle.std.proofs.lemmas.List.Quantifiers.{position-Some}
-use Rattle.flow_program.specs.NodeTree.{NodeTree, node_tree}
-use Rattle.flow_program.proofs.Walking.{node_read}
+use Rattle.program_tree.specs.NodeTree.{NodeTree, node_tree}
+use Rattle.program_tree.proofs.Walking.{node_read}
 use Rattle.letter_space.specs.SpaceView.{space_tree}
 use Rattle.letter_space.proofs.Places.{position-map}
 use Rattle.control_flow_model.specs.ProgramBits.{node_has_bits}

@@ -1,7 +1,7 @@
 use Rattle.std.proofs.Common.{◌≤◌, [], map, length, sym, subst, arith}
 use Rattle.sequence.proofs.Results.{handed_on}
 use Rattle.tsl_terms.specs.SpecView.{spec_tree}
-use Rattle.flow_program.specs.ProgramView.{program_tree}
+use Rattle.program_tree.specs.ProgramView.{program_tree}
 use Rattle.machines.specs.MachineView.{round_tree}
 use Rattle.machines.specs.Rounds.{windows_of}
 use Rattle.program_check.proofs.ProgramNames.{spec_fits, keeps}

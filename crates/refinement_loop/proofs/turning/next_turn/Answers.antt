@@ -3,7 +3,7 @@ use Rattle.std.specs.List.{list_all}
 use Rattle.tsl_terms.specs.Signals.{inputs_of, cells_of}
 use Rattle.tsl_terms.specs.SpecView.{spec_tree}
 use Rattle.tsl_terms.specs.WindowTree.{window_tree}
-use Rattle.flow_program.specs.Fits.{window_fits}
+use Rattle.program_tree.specs.Fits.{window_fits}
 use Rattle.machines.specs.MachineView.{round_tree}
 use Rattle.machines.specs.Rounds.{windows_of}
 use Rattle.program_check.proofs.ProgramNames.{spec_fits}

@@ -3,8 +3,8 @@ use Rattle.clause_core.specs.Literals.{Lit}
 use Rattle.clause_core.specs.Propagation.{IsQuiet}
 use Rattle.sat_trail.specs.Entries.{literals_of}
 use Rattle.sat_trail.specs.States.{TrailState, EndsWith}
-use Rattle.sat_core.specs.internal.ConflictWalks.{AreNoMarks}
-use Rattle.sat_core.specs.internal.Lessons.{clauses_of}
+use Rattle.clause_learning.specs.ConflictWalks.{AreNoMarks}
+use Rattle.clause_learning.specs.Lessons.{clauses_of}
 use Rattle.sat_core.proofs.Searching.{quiet_reaches}
 use Rattle.sat_core.proofs.solver.end.Goals as goal
 

@@ -4,7 +4,7 @@ use Rattle.std.proofs.lemmas.List.{append-nil}
 use Rattle.std.proofs.lemmas.List.Elements.{All-nil}
 use Rattle.sat_trail.specs.declared.entries.Entry.{Entry}
 use Rattle.sat_trail.specs.States.{TrailState}
-use Rattle.sat_core.specs.internal.Units.HaveNoted.{none}
+use Rattle.clause_learning.specs.Units.HaveNoted.{none}
 use Rattle.sat_core.proofs.SearchNotes.{noted_rest}
 use Rattle.sat_core.proofs.solver.propagate.Goals as goal
 

@@ -8,11 +8,11 @@ use Rattle.refutation_check.specs.declared.steps.Step.{Step}
 use Rattle.sat_trail.specs.Entries.{literals_of}
 use Rattle.sat_trail.specs.States.{TrailState, IsSound, EndsWith}
 use Rattle.sat_trail.proofs.Soundness.{length_entries}
-use Rattle.sat_core.specs.declared.journal.Journal.{Journal}
-use Rattle.sat_core.specs.internal.Decisions.{AreSet, AreDecisions, AreVariableTruths, HasDecided, Decides}
-use Rattle.sat_core.specs.internal.ConflictWalks.{AreNoMarks}
-use Rattle.sat_core.specs.internal.Shelves.{log_hints, AreFirst}
-use Rattle.sat_core.specs.internal.Lessons.{learnt_step, HasLearnt}
+use Rattle.clause_learning.specs.declared.journal.Journal.{Journal}
+use Rattle.clause_learning.specs.Decisions.{AreSet, AreDecisions, AreVariableTruths, HasDecided, Decides}
+use Rattle.clause_learning.specs.ConflictWalks.{AreNoMarks}
+use Rattle.clause_learning.specs.Shelves.{log_hints, AreFirst}
+use Rattle.clause_learning.specs.Lessons.{learnt_step, HasLearnt}
 use Rattle.sat_core.proofs.Searching.{IsSearch, search_begins, search_decided, search_learnt, search_stays}
 use Rattle.sat_core.proofs.Searching.{search_satisfied, search_refuted, search_ended, decided_longer, less_unset, less_budget}
 use Rattle.sat_core.proofs.SearchNotes.{IsSearching, searching_propagated}

@@ -1,7 +1,7 @@
 use Rattle.std.proofs.Common.{List, length, inr, ap, subst, ◌∙◌}
 use Rattle.clause_core.specs.Literals.{Lit}
 use Rattle.sat_trail.specs.States.{started}
-use Rattle.sat_core.specs.internal.Shelves.{AreShelved}
+use Rattle.clause_learning.specs.Shelves.{AreShelved}
 use Rattle.sat_core.proofs.solver.shortened.Goals as goal
 
 pub returns-clause-trail : goal.returns-clause-trail

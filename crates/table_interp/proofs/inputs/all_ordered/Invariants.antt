@@ -1,6 +1,6 @@
 use Rattle.std.proofs.Common.{◌≡◌, map, take, Some}
 use Rattle.std.specs.Prelude.{slice_get}
-use Rattle.table_interp.specs.internal.View.{numbers_view}
+use Rattle.table_syntax.specs.View.{numbers_view}
 use Rattle.table_interp.proofs.inputs.all_ordered.Given as goal
 
 abbrev pub invariant-loop-row : goal.invariant-loop-row

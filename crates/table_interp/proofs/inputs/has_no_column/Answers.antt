@@ -1,4 +1,4 @@
-use Rattle.table_interp.specs.internal.View.{text_tokens_view}
+use Rattle.table_syntax.specs.View.{text_tokens_view}
 use Rattle.table_interp.proofs.Columns.{no_column}
 use Rattle.table_interp.proofs.inputs.has_no_column.Goals as goal
 

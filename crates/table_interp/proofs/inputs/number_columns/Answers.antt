@@ -1,4 +1,4 @@
-use Rattle.table_interp.specs.internal.View.{numbers_view}
+use Rattle.table_syntax.specs.View.{numbers_view}
 use Rattle.table_interp.proofs.Columns.{are_once, column_within, second_column}
 use Rattle.table_interp.proofs.inputs.number_columns.Goals as goal
 

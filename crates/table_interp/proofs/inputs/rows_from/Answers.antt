@@ -3,7 +3,7 @@ use Rattle.sequence.proofs.Results.{handed_on}
 use Rattle.sequence.proofs.Each.{each_left, each_right}
 use Rattle.std.specs.List.{AllByRecursion}
 use Rattle.table_interp.specs.Inputs.{HasRowCause, all_rows}
-use Rattle.table_interp.specs.internal.View.{inputs_view, numbers_view, text_tokens_view}
+use Rattle.table_syntax.specs.View.{inputs_view, numbers_view, text_tokens_view}
 use Rattle.table_interp.proofs.Facts.{cells_within}
 use Rattle.table_interp.proofs.Columns.{all_whole, rows_below, rows_small, rows_given}
 use Rattle.table_interp.proofs.inputs.rows_from.Goals as goal

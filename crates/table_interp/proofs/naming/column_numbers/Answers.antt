@@ -6,7 +6,7 @@ use Rattle.sequence.proofs.Options.{not_false_of_some}
 use Rattle.sequence.proofs.Each.{each_joined}
 use Rattle.table_interp.specs.Needed.{number_for}
 use Rattle.table_interp.specs.Inputs.{is_input_name}
-use Rattle.table_interp.specs.internal.View.{text_token_view}
+use Rattle.table_syntax.specs.View.{text_token_view}
 use Rattle.table_interp.proofs.Growing.{numbers_more}
 use Rattle.table_interp.proofs.naming.column_numbers.Goals as goal
 

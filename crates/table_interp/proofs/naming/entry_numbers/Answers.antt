@@ -7,7 +7,7 @@ use Rattle.sequence.proofs.Options.{not_false_of_some}
 use Rattle.sequence.proofs.Each.{each_joined}
 use Rattle.table_interp.specs.Needed.{number_for}
 use Rattle.table_interp.specs.Tables.{is_known}
-use Rattle.table_interp.specs.internal.View.{entry_view}
+use Rattle.table_syntax.specs.View.{entry_view}
 use Rattle.table_interp.proofs.Growing.{item_numbers}
 use Rattle.table_interp.proofs.naming.entry_numbers.Goals as goal
 

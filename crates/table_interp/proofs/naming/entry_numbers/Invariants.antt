@@ -2,7 +2,7 @@ use Rattle.std.proofs.Common.{◌≡◌, ◌<◌, not, length, map, take, drop, 
 use Rattle.std.specs.List.{find, AllByRecursion}
 use Rattle.table_interp.specs.Needed.{number_for}
 use Rattle.table_interp.specs.Tables.{is_known}
-use Rattle.table_interp.specs.internal.View.{entry_view}
+use Rattle.table_syntax.specs.View.{entry_view}
 use Rattle.table_interp.proofs.naming.entry_numbers.Given as goal
 
 -- the numbers so far, and the first wrong name is still to come

@@ -3,11 +3,11 @@ use Rattle.std.proofs.lemmas.List.{length-map}
 use Rattle.tsl_terms.specs.Value.{truth}
 use Rattle.tsl_terms.specs.TermTree.{probe_tree, term_tree}
 use Rattle.tsl_terms.specs.declared.term.Term.{Term}
-use Rattle.flow_program.specs.Walk.{Action}
-use Rattle.flow_program.specs.NodeTree.{node_tree}
-use Rattle.flow_program.specs.ProgramView.{program_tree}
+use Rattle.program_tree.specs.Walk.{Action}
+use Rattle.program_tree.specs.NodeTree.{node_tree}
+use Rattle.program_tree.specs.ProgramView.{program_tree}
 use Rattle.interp_core.specs.LeafValue.{leaf_value}
-use Rattle.flow_program.proofs.Walking.{begins, state_read, node_within, node_read, test_there, branch_taken, end_reached, cond_below}
+use Rattle.program_tree.proofs.Walking.{begins, state_read, node_within, node_read, test_there, branch_taken, end_reached, cond_below}
 use Rattle.table_runner.proofs.acting.action_in.Goals as goal
 
 pub loop-node-init : goal.loop-node-init

@@ -1,10 +1,10 @@
 use Rattle.tsl_terms.specs.Value.{truth}
 use Rattle.std.specs.Prelude.{map}
-use Rattle.flow_program.specs.NodeTree.{node_tree}
-use Rattle.flow_program.specs.ProgramView.{program_tree}
-use Rattle.flow_program.specs.Walk.{walk}
+use Rattle.program_tree.specs.NodeTree.{node_tree}
+use Rattle.program_tree.specs.ProgramView.{program_tree}
+use Rattle.program_tree.specs.Walk.{walk}
 use Rattle.interp_core.specs.LeafValue.{leaf_value}
-use Rattle.flow_program.proofs.Walking.{IsOn}
+use Rattle.program_tree.proofs.Walking.{IsOn}
 use Rattle.table_runner.proofs.acting.action_in.Given as goal
 
 abbrev pub invariant-loop-node : goal.invariant-loop-node

@@ -1,6 +1,6 @@
 use Rattle.std.proofs.Common.{◌≡◌, ◌∙◌, ◌+◌, sym, subst, arith}
 use Rattle.std.proofs.lemmas.Bool.{false≢true}
-use Rattle.flow_program.specs.ProgramView.{program_tree}
+use Rattle.program_tree.specs.ProgramView.{program_tree}
 use Rattle.table_runner.specs.Running.{rows_seen}
 use Rattle.table_runner.specs.Standings.{StandsAt}
 use Rattle.table_runner.proofs.Meeting.{returned, not_returned, one_on}

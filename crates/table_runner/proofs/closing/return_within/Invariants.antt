@@ -1,5 +1,5 @@
 use Rattle.std.proofs.Common.{◌+◌, ℕ}
-use Rattle.flow_program.specs.ProgramView.{program_tree}
+use Rattle.program_tree.specs.ProgramView.{program_tree}
 use Rattle.tsl_meaning.specs.Run.{configuration_at}
 use Rattle.table_runner.specs.Running.{rows_seen}
 use Rattle.table_runner.specs.Standings.{StandsAt}

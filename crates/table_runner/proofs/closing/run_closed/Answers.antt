@@ -1,7 +1,7 @@
 use Rattle.std.proofs.Common.{◌∙◌, ◌++◌, length, sym, ap, subst, arith}
 use Rattle.std.proofs.lemmas.List.{length-map}
 use Rattle.sequence.specs.Numbers.{IsDistinct}
-use Rattle.flow_program.specs.ProgramView.{program_tree}
+use Rattle.program_tree.specs.ProgramView.{program_tree}
 use Rattle.tsl_meaning.specs.Run.{configuration_at}
 use Rattle.tsl_meaning.specs.RunTree.{position_tree}
 use Rattle.table_runner.specs.Running.{rows_seen}

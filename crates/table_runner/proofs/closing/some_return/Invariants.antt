@@ -1,5 +1,5 @@
 use Rattle.std.proofs.Common.{◌≡◌, ◌+◌, ◌^◌, ◌≤◌, ◌-◌}
-use Rattle.flow_program.specs.ProgramView.{program_tree}
+use Rattle.program_tree.specs.ProgramView.{program_tree}
 use Rattle.table_runner.specs.Running.{rows_seen}
 use Rattle.table_runner.specs.Standings.{StandsAt}
 use Rattle.table_runner.proofs.closing.some_return.Given as goal

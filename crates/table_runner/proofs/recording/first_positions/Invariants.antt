@@ -1,5 +1,5 @@
 use Rattle.std.proofs.Common.{◌≡◌, ◌+◌, ℕ, length, map, slice_get, Some}
-use Rattle.flow_program.specs.ProgramView.{program_tree}
+use Rattle.program_tree.specs.ProgramView.{program_tree}
 use Rattle.tsl_meaning.specs.RunTree.{PositionTree, position_tree}
 use Rattle.tsl_meaning.specs.LoopFits.{PositionsFit}
 use Rattle.tsl_meaning.specs.RunOf.{IsStepOf}

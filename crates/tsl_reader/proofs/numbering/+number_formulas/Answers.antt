@@ -1,9 +1,9 @@
 use Rattle.std.proofs.Common.{map, rules, ◌∙◌}
 use Rattle.std.proofs.lemmas.Result.{IfOk-weaker}
 use Rattle.tsl_terms.specs.FormulaTree.{formula_tree, formula_trees}
-use Rattle.tsl_reader.specs.declared.trees.ReadFormulas.{the_lemmas}
+use Rattle.spec_syntax.specs.declared.trees.ReadFormulas.{the_lemmas}
 use Rattle.tsl_reader.specs.Naming.{numbered_members}
-use Rattle.tsl_reader.specs.SyntaxView.{formula_syntax, formulas_syntax}
+use Rattle.spec_syntax.specs.SyntaxView.{formula_syntax, formulas_syntax}
 use Rattle.tsl_reader.proofs.NumberLemmas.{members_more, members_all}
 use Rattle.tsl_reader.proofs.numbering.+number_formulas.Goals as goal
 

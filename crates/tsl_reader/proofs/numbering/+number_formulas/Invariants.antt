@@ -1,8 +1,8 @@
 use Rattle.std.proofs.Common.{◌≡◌, ◌≤◌, map}
 use Rattle.tsl_terms.specs.FormulaTree.{formula_tree}
-use Rattle.tsl_reader.specs.declared.trees.ReadFormulas.{size-ReadFormulas}
+use Rattle.spec_syntax.specs.declared.trees.ReadFormulas.{size-ReadFormulas}
 use Rattle.tsl_reader.specs.Naming.{numbered_members}
-use Rattle.tsl_reader.specs.SyntaxView.{formulas_syntax}
+use Rattle.spec_syntax.specs.SyntaxView.{formulas_syntax}
 use Rattle.tsl_reader.proofs.NumberLemmas.{members_front}
 use Rattle.tsl_reader.proofs.numbering.+number_formulas.Given as goal
 

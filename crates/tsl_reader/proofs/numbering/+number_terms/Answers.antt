@@ -1,9 +1,9 @@
 use Rattle.std.proofs.Common.{map, rules, ◌∙◌}
 use Rattle.std.proofs.lemmas.Result.{IfOk-weaker}
 use Rattle.tsl_terms.specs.TermTree.{term_tree, term_trees}
-use Rattle.tsl_reader.specs.declared.trees.ReadTerms.{the_lemmas}
+use Rattle.spec_syntax.specs.declared.trees.ReadTerms.{the_lemmas}
 use Rattle.tsl_reader.specs.Naming.{numbered_terms}
-use Rattle.tsl_reader.specs.SyntaxView.{term_syntax, terms_syntax}
+use Rattle.spec_syntax.specs.SyntaxView.{term_syntax, terms_syntax}
 use Rattle.tsl_reader.proofs.NumberLemmas.{numbered_more, numbered_all}
 use Rattle.tsl_reader.proofs.numbering.+number_terms.Goals as goal
 

@@ -1,8 +1,8 @@
 use Rattle.std.proofs.Common.{◌≡◌, ◌≤◌, map}
 use Rattle.tsl_terms.specs.TermTree.{term_tree}
-use Rattle.tsl_reader.specs.declared.trees.ReadTerms.{size-ReadTerms}
+use Rattle.spec_syntax.specs.declared.trees.ReadTerms.{size-ReadTerms}
 use Rattle.tsl_reader.specs.Naming.{numbered_terms}
-use Rattle.tsl_reader.specs.SyntaxView.{terms_syntax}
+use Rattle.spec_syntax.specs.SyntaxView.{terms_syntax}
 use Rattle.tsl_reader.proofs.NumberLemmas.{numbered_front}
 use Rattle.tsl_reader.proofs.numbering.+number_terms.Given as goal
 

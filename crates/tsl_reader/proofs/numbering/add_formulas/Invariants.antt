@@ -2,7 +2,7 @@ use Rattle.std.proofs.Common.{◌≡◌, map, drop}
 use Rattle.tsl_terms.specs.FormulaTree.{formula_tree}
 use Rattle.tsl_reader.specs.Naming.{numbered_list}
 use Rattle.tsl_reader.specs.Numbering.{formulas_after}
-use Rattle.tsl_reader.specs.SyntaxView.{formula_syntax}
+use Rattle.spec_syntax.specs.SyntaxView.{formula_syntax}
 use Rattle.tsl_reader.proofs.numbering.add_formulas.Given as goal
 
 -- the formulas so far, and then those that are left

@@ -2,7 +2,7 @@ use Rattle.std.proofs.Common.{◌≡◌, map, drop}
 use Rattle.tsl_terms.specs.FormulaTree.{formula_tree}
 use Rattle.tsl_reader.specs.Naming.{numbered_list, formulas_of_part}
 use Rattle.tsl_reader.specs.Numbering.{formulas_after}
-use Rattle.tsl_reader.specs.SyntaxView.{section_syntax}
+use Rattle.spec_syntax.specs.SyntaxView.{section_syntax}
 use Rattle.tsl_reader.proofs.numbering.formulas_of_part.Given as goal
 
 -- the formulas so far, and then those of the sections that are left

@@ -1,6 +1,6 @@
 use Rattle.std.proofs.Common.{map, ap}
 use Rattle.tsl_terms.specs.SpecView.{spec_tree}
-use Rattle.tsl_reader.specs.SyntaxView.{section_syntax}
+use Rattle.spec_syntax.specs.SyntaxView.{section_syntax}
 use Rattle.tsl_reader.proofs.StageLemmas.{numbers_of, derives_spec}
 use Rattle.tsl_reader.proofs.stages.derived_spec.Goals as goal
 

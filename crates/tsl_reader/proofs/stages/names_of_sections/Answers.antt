@@ -1,6 +1,6 @@
 use Rattle.std.proofs.Common.{map, ap, ◌∙◌, subst, arith}
 use Rattle.tsl_terms.specs.Clashes.{alike_in_kind, same_arity, name_use, HasNoClash}
-use Rattle.tsl_reader.specs.SyntaxView.{section_syntax}
+use Rattle.spec_syntax.specs.SyntaxView.{section_syntax}
 use Rattle.tsl_reader.specs.UseView.{read_use}
 use Rattle.tsl_reader.proofs.Counts.{uses_within}
 use Rattle.tsl_reader.proofs.UsePlaces.{texts_of_uses}

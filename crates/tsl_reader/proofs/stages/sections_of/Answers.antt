@@ -1,5 +1,5 @@
 use Rattle.std.proofs.Common.{ap, ◌∙◌}
-use Rattle.tsl_reader.specs.SyntaxView.{terminals_view}
+use Rattle.spec_syntax.specs.SyntaxView.{terminals_view}
 use Rattle.tsl_reader.proofs.StageLemmas.{derives, form_left, form_fault, deep_left, deep_fault}
 use Rattle.tsl_reader.proofs.stages.sections_of.Goals as goal
 

@@ -1,7 +1,7 @@
 use Rattle.std.proofs.Common.{◌≡◌, ◌<◌, ◌≤◌, ◌^◌, ◌++◌, length, map}
-use Rattle.tsl_reader.specs.declared.trees.ReadFormulas.{size-ReadFormulas}
+use Rattle.spec_syntax.specs.declared.trees.ReadFormulas.{size-ReadFormulas}
 use Rattle.tsl_reader.specs.Naming.{members_uses}
-use Rattle.tsl_reader.specs.SyntaxView.{formulas_syntax}
+use Rattle.spec_syntax.specs.SyntaxView.{formulas_syntax}
 use Rattle.tsl_reader.specs.UseView.{read_use}
 use Rattle.tsl_reader.proofs.uses.+formula_uses.Given as goal
 

@@ -1,7 +1,7 @@
 use Rattle.std.proofs.Common.{◌≡◌, ◌<◌, ◌≤◌, ◌^◌, ◌++◌, length, map}
-use Rattle.tsl_reader.specs.declared.trees.ReadTerms.{size-ReadTerms}
+use Rattle.spec_syntax.specs.declared.trees.ReadTerms.{size-ReadTerms}
 use Rattle.tsl_reader.specs.Naming.{terms_uses}
-use Rattle.tsl_reader.specs.SyntaxView.{terms_syntax}
+use Rattle.spec_syntax.specs.SyntaxView.{terms_syntax}
 use Rattle.tsl_reader.specs.UseView.{read_use}
 use Rattle.tsl_reader.proofs.uses.+term_uses.Given as goal
 

@@ -1,5 +1,5 @@
 use Rattle.tsl_reader.specs.Naming.{uses}
-use Rattle.tsl_reader.specs.SyntaxView.{formula_syntax}
+use Rattle.spec_syntax.specs.SyntaxView.{formula_syntax}
 use Rattle.sequence.proofs.Lists.{part_is_few}
 use Rattle.tsl_reader.proofs.uses.add_section.Goals as goal
 

@@ -1,7 +1,7 @@
 use Rattle.std.proofs.Common.{◌≡◌, ◌++◌, map, drop}
 use Rattle.std.specs.Prelude.{flat_map}
 use Rattle.tsl_reader.specs.Naming.{uses}
-use Rattle.tsl_reader.specs.SyntaxView.{formula_syntax}
+use Rattle.spec_syntax.specs.SyntaxView.{formula_syntax}
 use Rattle.tsl_reader.specs.UseView.{read_use}
 use Rattle.tsl_reader.proofs.uses.add_section.Given as goal
 

@@ -1,5 +1,5 @@
 use Rattle.tsl_reader.specs.Naming.{section_uses}
-use Rattle.tsl_reader.specs.SyntaxView.{section_syntax}
+use Rattle.spec_syntax.specs.SyntaxView.{section_syntax}
 use Rattle.sequence.proofs.Lists.{part_is_few}
 use Rattle.tsl_reader.proofs.uses.all_uses.Goals as goal
 

@@ -1,6 +1,6 @@
 use Rattle.std.proofs.Common.{◌≡◌, ◌++◌, map, drop}
 use Rattle.tsl_reader.specs.Naming.{all_uses}
-use Rattle.tsl_reader.specs.SyntaxView.{section_syntax}
+use Rattle.spec_syntax.specs.SyntaxView.{section_syntax}
 use Rattle.tsl_reader.specs.UseView.{read_use}
 use Rattle.tsl_reader.proofs.uses.all_uses.Given as goal
 

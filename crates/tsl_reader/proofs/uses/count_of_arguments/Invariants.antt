@@ -1,6 +1,6 @@
 use Rattle.std.proofs.Common.{◌≡◌, ◌+◌}
 use Rattle.tsl_reader.specs.Naming.{count_of_arguments}
-use Rattle.tsl_reader.specs.SyntaxView.{terms_syntax}
+use Rattle.spec_syntax.specs.SyntaxView.{terms_syntax}
 use Rattle.tsl_reader.proofs.uses.count_of_arguments.Given as goal
 
 -- the terms so far, and then those that are left

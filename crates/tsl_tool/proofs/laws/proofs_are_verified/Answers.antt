@@ -1,6 +1,6 @@
 use Rattle.bounded_encoding.specs.Variables.{variable_count}
 use Rattle.bounded_encoding.specs.Encoding.{encoding}
-use Rattle.tsl_tool.proofs.ProveReplies.{spelled_verified}
+use Rattle.tsl_tool.proofs.ProofsVerified.{spelled_verified}
 use Rattle.tsl_tool.proofs.laws.proofs_are_verified.Goals as goal
 
 pub returns : goal.returns

@@ -2,8 +2,8 @@ use Rattle.std.proofs.Common.{map, ap, sym, ◌∙◌}
 use Rattle.std.specs.Prelude.{option_map, option_and_then}
 use Rattle.sequence.specs.Options.{all_there}
 use Rattle.tsl_terms.specs.TermTree.{term_tree}
-use Rattle.flow_program.specs.NodeTree.{assign}
-use Rattle.flow_program.specs.Listing.{node_line, update_line}
+use Rattle.program_tree.specs.NodeTree.{assign}
+use Rattle.program_listing.specs.Listing.{node_line, update_line}
 use Rattle.flow_program.specs.internal.Numbering.{small, numbered_term, numbered_node}
 use Rattle.flow_program.proofs.numbering.SpelledNodeGetsNumbers.with_numbers.Goals as goal
 

@@ -1,0 +1,196 @@
+-- A solution of a question gives an assignment that meets the encoding.
+use Rattle.std.proofs.Common.{◌≡◌, ◌∙◌, ℕ, ◌+◌, ◌-◌, ◌*◌, ◌<◌, ◌≤◌, ◌==◌, Bool, true, false}
+use Rattle.std.proofs.Common.{length, Option, None, Some, slice_get, refl, sym, ap, arith}
+use Rattle.std.specs.Option.{option_map_or}
+use Rattle.std.specs.Prelude.{nat_le}
+use Rattle.std.proofs.lemmas.Bool.{eqb-true, eq-eqb, leb-true, le-leb, false≢true}
+use Rattle.sequence.proofs.Booleans.{eqb_self}
+use Rattle.sequence.proofs.Each.{each_at}
+use Rattle.sequence.proofs.Places.{slice_get_some, contains_at}
+use Rattle.ltl_formula.specs.Cubes.{has_bit, cube_matches}
+use Rattle.letter_space.specs.SpaceTree.{ControlledTree}
+use Rattle.letter_space.specs.Letters.{ArePicks, letter_of}
+use Rattle.letter_space.proofs.Places.{slice_get_image}
+use Rattle.cobuchi_automata.specs.Automata.{EdgeTree}
+use Rattle.machines.specs.MachineTree.{EntryTree, ControllerTree, controller_entry}
+use Rattle.annotation_check.specs.Annotations.{IsAtLeast, after_edge}
+use Rattle.annotation_check.proofs.LeavingEdges.{leaves}
+use Rattle.annotation_check.proofs.PairNumbers.{number_there, at_least, more_than_at_least}
+use Rattle.bounded_encoding.specs.Question.{QuestionTree, IsPosed, IsSolution, JoinsStates, WantsAsked}
+use Rattle.bounded_encoding.specs.Variables.{Variable, chooses, goes_to, is_numbered, valuations_of, choices_in_all, IsInRange, variables}
+use Rattle.bounded_encoding.specs.Encoding.{first_choice}
+use Rattle.bounded_encoding.specs.Decoding.{is_set}
+use Rattle.bounded_encoding.proofs.SolutionsAreAssignments.CubeBits.{match_from_parts}
+use Rattle.bounded_encoding.proofs.SolutionsAreAssignments.LetterChoices.{signal_within, pick_at, choice_bits, valuation_bits, letter_below}
+use Rattle.bounded_encoding.proofs.Tables.{place_within, cell_in_row}
+use Rattle.bounded_encoding.proofs.SolutionsAreAssignments.MovesHeld.{move_of, entry_move}
+use Rattle.bounded_encoding.proofs.SolutionsAreAssignments.ExactlyOne.{IsOneOf}
+use Rattle.bounded_encoding.proofs.SolutionsAreAssignments.Demands.{WantsFew, MeetsTests, AreMet}
+use Rattle.bounded_encoding.proofs.SolutionsAreAssignments.Transitions.{AreAsAsked, IsNumberedAfter, clause_from}
+use Rattle.bounded_encoding.proofs.Numbers.{variable_at}
+
+-- a number that is there and at least so large, as a test
+at_least_from_test : (i : ℕ) (o : Option ℕ) → option_map_or (λ n. nat_le i n) o false ≡ true → IsAtLeast i o
+at_least_from_test i None is = absurd (false≢true is)
+at_least_from_test i (Some n) is = leb-true i n is
+
+test_from_at_least : (i : ℕ) (o : Option ℕ) → IsAtLeast i o → option_map_or (λ n. nat_le i n) o false ≡ true
+test_from_at_least i None is = absurd is
+test_from_at_least i (Some n) is = le-leb i n is
+
+module _ (q : QuestionTree) (posed : IsPosed q) (c : ControllerTree) (number : ℕ → ℕ → Option ℕ) (solution : IsSolution q c number) where
+  -- what a solution makes of each variable
+  abbrev truth : Variable → Bool
+  truth (chooses s v b) =
+      option_map_or (λ (e : EntryTree). has_bit (length q.space.predicates + b) (letter_of q.space v e.choices))
+      (controller_entry c s v) false
+  truth (goes_to s v t) = option_map_or (λ (e : EntryTree). e.next == t) (controller_entry c s v) false
+  truth (is_numbered s p i) = option_map_or (λ n. nat_le i n) (number s p) false
+
+  abbrev pub assignment : ℕ → Bool
+  assignment i = option_map_or truth (slice_get (variables q) i) false
+
+  set_is : (x : Variable) → IsInRange q x → is_set q assignment x ≡ truth x
+  set_is x inside = ap (λ o. option_map_or truth o false) (variable_at q x inside)
+
+  -- an entry under each valuation
+  pub record HasEntry (s v : ℕ) : Type 0 where
+    pub entry : EntryTree
+    pub stands : slice_get c.entries (s * c.valuations + v) ≡ Some entry
+    pub there : controller_entry c s v ≡ Some entry
+    pub picks : ArePicks q.space.controlled entry.choices
+    pub next : entry.next < q.states
+
+  has_entry : (s v : ℕ) → s < q.states → v < valuations_of q → HasEntry s v
+  has_entry s v in_states in_valuations =
+      let few : v < c.valuations = omega (arith, solution.fits.valuations, in_valuations) in
+      let place = place_within c.states c.valuations s v (omega (arith, solution.states, in_states)) few in
+      let found = slice_get_some c.entries (s * c.valuations + v) (omega (arith, place, solution.table.has_entries)) in
+      let next = solution.table.stays (s * c.valuations + v) found.0.next
+      (slice_get_image (λ (e : EntryTree). e.next) c.entries (s * c.valuations + v) found.0 found.1) in
+      record {
+        entry = found.0;
+        stands = found.1;
+        there = cell_in_row c.valuations c.entries s v few ∙ found.1;
+        picks = each_at (λ (e : EntryTree). ArePicks q.space.controlled e.choices) c.entries (s * c.valuations + v) found.0
+            solution.fits.choices found.1;
+        next = omega (arith, next, solution.states);
+      }
+
+  module _ (s v : ℕ) (in_states : s < q.states) (in_valuations : v < valuations_of q) where
+    here : HasEntry s v
+    here = has_entry s v in_states in_valuations
+
+    abbrev letter : ℕ
+    letter = letter_of q.space v here.entry.choices
+
+    choice_is : (b : ℕ) → b < choices_in_all q → is_set q assignment (chooses s v b) ≡ has_bit (length q.space.predicates + b) letter
+    choice_is b below =
+        set_is (chooses s v b) (in_states, in_valuations, below)
+        ∙ ap (λ o. option_map_or (λ (e : EntryTree). has_bit (length q.space.predicates + b) (letter_of q.space v e.choices)) o false)
+        here.there
+
+    next_is : (t : ℕ) → t < q.states → is_set q assignment (goes_to s v t) ≡ (here.entry.next == t)
+    next_is t below =
+        set_is (goes_to s v t) (in_states, in_valuations, below)
+        ∙ ap (λ o. option_map_or (λ (e : EntryTree). e.next == t) o false) here.there
+
+    one_next : IsOneOf (λ t. is_set q assignment (goes_to s v t)) 0 q.states
+    one_next = record {
+      some = (here.entry.next, omega arith, here.next, next_is here.entry.next here.next ∙ eqb_self here.entry.next);
+      one = λ x y from below from_too below_too is is_too.
+          sym (eqb-true here.entry.next x (sym (next_is x below) ∙ is)) ∙ eqb-true here.entry.next y (sym (next_is y below_too) ∙ is_too);
+    }
+
+    module _ (i : ℕ) (g : ControlledTree) (at : slice_get q.space.controlled i ≡ Some g) where
+      picked : (pick : ℕ) × (slice_get here.entry.choices i ≡ Some pick) × (pick < length g.choices)
+      picked = pick_at q.space.controlled here.entry.choices here.picks i g at
+
+      bounds : (length q.space.predicates ≤ g.first)
+          × (g.first + length g.choices ≤ length q.space.predicates + choices_in_all q)
+      bounds = signal_within (length q.space.predicates) q.space.controlled posed.space.in_order i g at
+
+      choice_read_as : (b : ℕ) → first_choice q g ≤ b → b < first_choice q g + length g.choices →
+          is_set q assignment (chooses s v b) ≡ ((b - first_choice q g) == picked.0)
+      choice_read_as b from below =
+          let first = bounds.0 in
+          let last = bounds.1 in
+          let place : length q.space.predicates + b ≡ g.first + (b - first_choice q g) = omega (arith, first, from) in
+          choice_is b (omega (arith, first, last, below))
+          ∙ (ap (λ k. has_bit k letter) place
+          ∙ choice_bits q.space posed.space v in_valuations here.entry.choices here.picks i g picked.0 at picked.1 (b - first_choice q g)
+          (omega (arith, from, below)))
+
+      one_choice : IsOneOf (λ b. is_set q assignment (chooses s v b)) (first_choice q g) (first_choice q g + length g.choices)
+      one_choice =
+          let within = picked.2 in
+          let place : first_choice q g + picked.0 - first_choice q g ≡ picked.0 = omega arith in
+          record {
+            some = (
+              first_choice q g + picked.0,
+              omega arith,
+              omega (arith, within),
+              choice_read_as (first_choice q g + picked.0) (omega arith) (omega (arith, within)) ∙ eq-eqb _ picked.0 place,
+            );
+            one = λ x y from below from_too below_too is is_too.
+                let left = eqb-true (x - first_choice q g) picked.0 (sym (choice_read_as x from below) ∙ is) in
+                let right = eqb-true (y - first_choice q g) picked.0 (sym (choice_read_as y from_too below_too) ∙ is_too) in
+                omega (arith, left, right, from, from_too);
+          }
+
+    letter_matches : (e : EdgeTree) → WantsAsked e → WantsFew q e → MeetsTests q e v → AreAsAsked q assignment s e v →
+        cube_matches e.care e.want letter ≡ true
+    letter_matches e within few tests asked =
+        match_from_parts e.care e.want letter (length q.space.predicates) (choices_in_all q) v within few
+        (letter_below q.space posed.space v in_valuations here.entry.choices here.picks)
+        (valuation_bits q.space posed.space v in_valuations here.entry.choices here.picks) tests
+        (λ b below asks. sym (asked b below asks) ∙ choice_is b below)
+
+    -- the number after an edge that the letter matches
+    number_after : (j n : ℕ) (e : EdgeTree) → slice_get q.edges j ≡ Some e → number s e.from ≡ Some n →
+        cube_matches e.care e.want letter ≡ true → (m : ℕ) × (number here.entry.next e.to ≡ Some m) × (after_edge n e ≤ m)
+    number_after j n e at numbered matches =
+        let few : v < c.valuations = omega (arith, solution.fits.valuations, in_valuations) in
+        number_there (after_edge n e) (number here.entry.next e.to)
+        (solution.annotation.numbering.goes_on s e.from n numbered (move_of q.space v here.entry)
+        (entry_move q.space c s v here.entry few here.stands) e (leaves q.edges e.from e (contains_at q.edges j e at) refl) matches)
+
+    -- so along an edge whose tests and choices are met the next pair is numbered as it asks
+    after_is_numbered : (t i m : ℕ) (e : EdgeTree) → t < q.states → e.to < q.automaton_states → here.entry.next ≡ t →
+        number here.entry.next e.to ≡ Some m → after_edge i e ≤ m → IsNumberedAfter q assignment s e v t i
+    after_is_numbered t i m e in_states_too in_automaton next numbered enough =
+        let most = solution.annotation.within here.entry.next e.to m numbered in
+        let within : after_edge i e ≤ q.bound = omega (arith, enough, most) in (
+          within,
+          set_is (is_numbered t e.to (after_edge i e)) (in_states_too, in_automaton, omega (arith, within))
+              ∙ test_from_at_least (after_edge i e) (number t e.to)
+              (at_least (after_edge i e) m (number t e.to) (ap (λ k. number k e.to) (sym next) ∙ numbered) enough),
+        )
+
+    numbered_along : (j t i : ℕ) (e : EdgeTree) → slice_get q.edges j ≡ Some e → WantsFew q e → MeetsTests q e v → t < q.states →
+        i ≤ q.bound → is_set q assignment (is_numbered s e.from i) ≡ true → is_set q assignment (goes_to s v t) ≡ true →
+        AreAsAsked q assignment s e v → IsNumberedAfter q assignment s e v t i
+    numbered_along j t i e at few tests in_states_too within numbered goes asked =
+        let between = each_at (JoinsStates q.automaton_states) q.edges j e posed.between at in
+        let from = number_there i (number s e.from) (at_least_from_test i (number s e.from)
+        (sym (set_is (is_numbered s e.from i) (in_states, between.0, omega arith)) ∙ numbered)) in
+        let next = eqb-true here.entry.next t (sym (next_is t in_states_too) ∙ goes) in
+        let least = number_after j from.0 e at from.1 (letter_matches e (each_at WantsAsked q.edges j e posed.within at) few tests asked) in
+        let lower = from.2 in
+        let higher = least.2 in
+        after_is_numbered t i least.0 e in_states_too between.1 next least.1 (omega (arith, lower, higher))
+
+  pub are_met_by_it : AreMet q assignment
+  are_met_by_it = record {
+    choices = λ s v i g in_states in_valuations at. one_choice s v in_states in_valuations i g at;
+    nexts = λ s v in_states in_valuations. one_next s v in_states in_valuations;
+    start = set_is (is_numbered 0 0 0) (posed.has_state, posed.automaton_starts, omega arith)
+        ∙ test_from_at_least 0 (number 0 0) solution.annotation.numbering.start;
+    falls = λ s p i in_states in_automaton some within is.
+        set_is (is_numbered s p (i - 1)) (in_states, in_automaton, omega arith)
+        ∙ test_from_at_least (i - 1) (number s p) (more_than_at_least (i - 1) i (number s p) (omega arith)
+        (at_least_from_test i (number s p) (sym (set_is (is_numbered s p i) (in_states, in_automaton, omega arith)) ∙ is)));
+    transitions = λ s j v t i e in_states at few in_valuations tests in_states_too within.
+        clause_from q assignment s e v t i (λ numbered goes asked.
+        numbered_along s v in_states in_valuations j t i e at few tests in_states_too within numbered goes asked);
+  }

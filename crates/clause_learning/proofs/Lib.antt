@@ -1,0 +1,11 @@
+pub mod HeapPlaces
+pub mod Deciding
+pub mod HintLists
+pub mod Marking
+pub mod Hints
+pub mod LogHints
+pub mod Stages
+pub mod Noting
+pub mod LessonLemmas
+pub mod Walking
+mod Examples

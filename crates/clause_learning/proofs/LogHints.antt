@@ -1,0 +1,175 @@
+-- The clauses on a trail by their numbers in the log: hints that name them are turned into hints of the log.
+use Rattle.std.proofs.Common.{◌≡◌, ℕ, suc, ◌+◌, ◌-◌, ◌<◌, ◌≤◌, List, [], ◌∷◌, ◌++◌, length, Option, Some, None, slice_get}
+use Rattle.std.proofs.Common.{sym, ap, ◌∙◌, subst, refl, arith, inl, inr}
+use Rattle.std.specs.List.{AllByRecursion}
+use Rattle.std.proofs.lemmas.Option.{none-some, same_Some, slice_get_within, get_or_from_slice_get}
+use Rattle.std.proofs.lemmas.List.{append_assoc, append-nil, length-append, length_push}
+use Rattle.std.proofs.lemmas.List.Elements.{All-from_recursion, recursion_from_All}
+use Rattle.sequence.proofs.Places.{slice_get_some, slice_get-front, slice_get-behind, slice_get_push}
+use Rattle.clause_core.specs.Literals.{Lit}
+use Rattle.refutation_check.specs.Checking.{HintEffect, numbered_from, clause_named, effect_of_named, led_to, refused_hint}
+use Rattle.refutation_check.specs.Checking.HintEffect.{ends, makes, shows_nothing}
+use Rattle.clause_learning.specs.declared.shelves.Shelf.{Shelf}
+use Rattle.clause_learning.specs.Hints.{AreHints}
+use Rattle.clause_learning.specs.Shelves.{log_number, log_hints, AreLogNumbers, AreFirst, AreShelved}
+use Rattle.clause_learning.proofs.Hints.{named_one}
+
+-- the first clauses of a log
+pub first_named : (clauses later : List (List Lit)) (shelf : Shelf) → AreFirst (length clauses) shelf →
+    AreLogNumbers (clauses ++ later) clauses shelf.numbers.items
+first_named clauses later shelf first = record {
+  one_each = first.one_number_each;
+  each = λ place number at. (let within = slice_get_within shelf.numbers.items place number at in
+      let below : place < length clauses = omega (arith, within, first.one_number_each) in
+      let is : place + 1 ≡ number = same_Some (place + 1) number (sym (first.upward place below) ∙ at) in
+      let back : number - 1 ≡ place = omega (arith, is) in (
+        omega (arith, is),
+        omega (arith, is, below, length-append clauses later),
+        ap (slice_get (clauses ++ later)) back ∙ slice_get-front clauses later place below,
+      ));
+}
+
+-- a clause that stands in the log already
+pub named_again : (known clauses kept : List (List Lit)) (numbers more : List ℕ) (place number : ℕ) (clause : List Lit) →
+    AreLogNumbers known clauses numbers → AreLogNumbers known kept more → slice_get clauses place ≡ Some clause →
+    slice_get numbers place ≡ Some number → AreLogNumbers known (kept ++ clause ∷ []) (more ++ number ∷ [])
+named_again known clauses kept numbers more place number clause old are at named = record {
+  one_each = length_push more number ∙ (ap (λ (n : ℕ). n + 1) are.one_each ∙ sym (length_push kept clause));
+  each = λ k n at_k. elim (slice_get_push more number k n at_k) [
+    | inl (below, there) ↦ (let r = are.each k n there in
+        (r.0, r.1, r.2 ∙ sym (slice_get-front kept (clause ∷ []) k (omega (arith, below, are.one_each)))))
+    | inr (last, is) ↦ (let r = old.each place number named in
+        subst (λ (m : ℕ). (1 ≤ m) × (m ≤ length known) × (slice_get known (m - 1) ≡ slice_get (kept ++ clause ∷ []) k)) is
+        (r.0, r.1, r.2 ∙ (at ∙ sym (ap (slice_get (kept ++ clause ∷ [])) (last ∙ are.one_each) ∙ slice_get-behind kept clause []))))
+  ];
+}
+
+-- more clauses in the log
+named_grown : (known clauses : List (List Lit)) (numbers : List ℕ) (clause : List Lit) → AreLogNumbers known clauses numbers →
+    AreLogNumbers (known ++ clause ∷ []) clauses numbers
+named_grown known clauses numbers clause are = record {
+  one_each = are.one_each;
+  each = λ place number at. (let r = are.each place number at in (
+    r.0,
+    omega (arith, r.1, length_push known clause),
+    slice_get-front known (clause ∷ []) (number - 1) (omega (arith, r.0, r.1)) ∙ r.2,
+  ));
+}
+
+-- a clause of the next number
+pub named_next : (known clauses : List (List Lit)) (numbers : List ℕ) (clause : List Lit) (next : ℕ) → next ≡ length known + 1 →
+    AreLogNumbers known clauses numbers → AreLogNumbers (known ++ clause ∷ []) (clauses ++ clause ∷ []) (numbers ++ next ∷ [])
+named_next known clauses numbers clause next is are =
+    let grown = named_grown known clauses numbers clause are in
+    let back : next - 1 ≡ length known = omega (arith, is) in
+    record {
+      one_each = length_push numbers next ∙ (ap (λ (n : ℕ). n + 1) are.one_each ∙ sym (length_push clauses clause));
+      each = λ k n at_k. elim (slice_get_push numbers next k n at_k) [
+        | inl (below, there) ↦ (let r = grown.each k n there in
+            (r.0, r.1, r.2 ∙ sym (slice_get-front clauses (clause ∷ []) k (omega (arith, below, are.one_each)))))
+        | inr (last, same) ↦ subst (λ (m : ℕ). (1 ≤ m) × (m ≤ length (known ++ clause ∷ []))
+            × (slice_get (known ++ clause ∷ []) (m - 1) ≡ slice_get (clauses ++ clause ∷ []) k)) same (
+              omega (arith, is),
+              omega (arith, is, length_push known clause),
+              ap (slice_get (known ++ clause ∷ [])) back ∙ (slice_get-behind known clause []
+                  ∙ sym (ap (slice_get (clauses ++ clause ∷ [])) (last ∙ are.one_each) ∙ slice_get-behind clauses clause [])),
+            )
+      ];
+    }
+
+-- ---- hints
+
+module _ (known clauses : List (List Lit)) (numbers : List ℕ) (are : AreLogNumbers known clauses numbers) where
+  number_at : (hint : ℕ) → (1 ≤ hint) × (hint ≤ length clauses) →
+      (number : ℕ) × (slice_get numbers (hint - 1) ≡ Some number) × (number ≡ log_number numbers hint)
+  number_at hint within =
+      let r = slice_get_some numbers (hint - 1) (omega (arith, within.0, within.1, are.one_each)) in
+      (r.0, r.1, sym (get_or_from_slice_get numbers (hint - 1) r.0 0 r.1))
+
+  hint_named : (hint : ℕ) → (1 ≤ hint) × (hint ≤ length clauses) →
+      clause_named (numbered_from 1 known) (log_number numbers hint) ≡ clause_named (numbered_from 1 clauses) hint
+  hint_named hint within =
+      let n = number_at hint within in
+      let r = are.each (hint - 1) n.0 n.1 in
+      let up : log_number numbers hint ≡ (n.0 - 1) + 1 = omega (arith, n.2, r.0) in
+      let down : (hint - 1) + 1 ≡ hint = omega (arith, within.0) in
+      ap (clause_named (numbered_from 1 known)) up ∙ (named_one known (n.0 - 1) ∙ (r.2
+      ∙ (sym (named_one clauses (hint - 1)) ∙ ap (clause_named (numbered_from 1 clauses)) down)))
+
+  led_more : (position : ℕ) (f g : Lit → Option ℕ) (e : HintEffect) → ((l : Lit) → f l ≡ None → g l ≡ None) →
+      led_to position f e ≡ None → led_to position g e ≡ None
+  led_more position f g ends more h = refl
+  led_more position f g (makes l) more h = more l h
+  led_more position f g shows_nothing more h = h
+
+  hints_lead : (hints : List ℕ) → AllByRecursion (λ hint. (1 ≤ hint) × (hint ≤ length clauses)) hints → (trues : List Lit) (position : ℕ) →
+      refused_hint (numbered_from 1 clauses) trues position hints ≡ None →
+      refused_hint (numbered_from 1 known) trues position (log_hints numbers hints) ≡ None
+  hints_lead [] all trues position h = absurd (none-some position (sym h))
+  hints_lead (hint ∷ hints) all trues position h =
+      ap (λ (o : Option (List Lit)). led_to position later (effect_of_named trues o)) (hint_named hint all.0)
+      ∙ led_more position before later (effect_of_named trues (clause_named (numbered_from 1 clauses) hint))
+      (λ l. hints_lead hints all.1 (l ∷ trues) (suc position)) h
+    where
+      before : Lit → Option ℕ
+      before l = refused_hint (numbered_from 1 clauses) (l ∷ trues) (suc position) hints
+
+      later : Lit → Option ℕ
+      later l = refused_hint (numbered_from 1 known) (l ∷ trues) (suc position) (log_hints numbers hints)
+
+  -- hints that show a clause on the trail show it in the log
+  pub shown_in_log : (hints : List ℕ) → AreHints (length clauses) hints → (trues : List Lit) →
+      refused_hint (numbered_from 1 clauses) trues 1 hints ≡ None →
+      refused_hint (numbered_from 1 known) trues 1 (log_hints numbers hints) ≡ None
+  shown_in_log hints all trues = hints_lead hints (recursion_from_All (λ hint. (1 ≤ hint) × (hint ≤ length clauses)) hints all) trues 1
+
+  pub hints_in_log : (hints : List ℕ) → AreHints (length clauses) hints → AreHints (length known) (log_hints numbers hints)
+  hints_in_log hints all = All-from_recursion (λ hint. (1 ≤ hint) × (hint ≤ length known)) (log_hints numbers hints)
+      (each hints (recursion_from_All (λ hint. (1 ≤ hint) × (hint ≤ length clauses)) hints all))
+    where
+      each : (hs : List ℕ) → AllByRecursion (λ hint. (1 ≤ hint) × (hint ≤ length clauses)) hs →
+          AllByRecursion (λ hint. (1 ≤ hint) × (hint ≤ length known)) (log_hints numbers hs)
+      each [] h = tt
+      each (hint ∷ hs) h =
+          let n = number_at hint h.0 in
+          let r = are.each (hint - 1) n.0 n.1 in
+          (subst (λ (m : ℕ). (1 ≤ m) × (m ≤ length known)) n.2 (r.0, r.1), each hs h.1)
+
+-- ---- what is kept of a trail
+
+-- a clause is left out
+pub kept_less : (formula clauses : List (List Lit)) (numbers : List ℕ) (place : ℕ) (kept : List (List Lit)) (shelf : Shelf) →
+    AreShelved formula clauses numbers place kept shelf → AreShelved formula clauses numbers (place + 1) kept shelf
+kept_less formula clauses numbers place kept shelf are = record {
+  others = are.others;
+  stand = are.stand;
+  fewer = omega (arith, are.fewer);
+  one_use_each = are.one_use_each;
+  named = are.named;
+}
+
+-- a clause is kept with its number
+pub kept_more : (formula clauses : List (List Lit)) (numbers : List ℕ) (place : ℕ) (kept : List (List Lit)) (shelf after : Shelf)
+    (clause : List Lit) (number : ℕ) → AreShelved formula clauses numbers place kept shelf → slice_get clauses place ≡ Some clause →
+    slice_get numbers place ≡ Some number → after.numbers.items ≡ shelf.numbers.items ++ number ∷ [] →
+    length after.uses.items ≡ length shelf.uses.items + 1 → AreShelved formula clauses numbers (place + 1) (kept ++ clause ∷ []) after
+kept_more formula clauses numbers place kept shelf after clause number are at named numbers_are uses_are = record {
+  others = are.others ++ clause ∷ [];
+  stand = ap (λ (cs : List (List Lit)). cs ++ clause ∷ []) are.stand ∙ append_assoc formula are.others (clause ∷ []);
+  fewer = omega (arith, are.fewer, length_push kept clause);
+  one_use_each = omega (arith, uses_are, are.one_use_each, length_push kept clause);
+  named = λ later old. subst (AreLogNumbers (formula ++ later) (kept ++ clause ∷ [])) (sym numbers_are)
+      (named_again (formula ++ later) clauses kept numbers shelf.numbers.items place number clause old (are.named later old) at named);
+}
+
+-- the clauses of the formula alone
+pub first_kept : (formula clauses : List (List Lit)) (numbers : List ℕ) (count : ℕ) (kept : List (List Lit)) (shelf : Shelf) →
+    kept ≡ formula → count ≡ length formula → AreFirst count shelf → AreShelved formula clauses numbers count kept shelf
+first_kept formula clauses numbers count kept shelf same is first = record {
+  others = [];
+  stand = same ∙ sym (append-nil formula);
+  fewer = omega (arith, ap length same, is);
+  one_use_each = omega (arith, ap length same, is, first.one_use_each);
+  named = λ later old. subst (λ (cs : List (List Lit)). AreLogNumbers (formula ++ later) cs shelf.numbers.items) (sym same)
+      (first_named formula later shelf (subst (λ (n : ℕ). AreFirst n shelf) is first));
+}

@@ -1,0 +1,78 @@
+use Rattle.std.proofs.Common.{◌≡◌, ◌++◌, ◌∷◌, [], ℕ, List, length, cond, All, ◌<◌, ap, sym, subst, ◌∙◌}
+use Rattle.clause_core.specs.Literals.{Lit}
+use Rattle.clause_core.specs.Clauses.{IsOver, has_pair}
+use Rattle.sat_trail.specs.States.{TrailState, with_clause, undone}
+use Rattle.clause_learning.specs.Hints.{AreHints}
+use Rattle.clause_learning.specs.Lessons.{learnt_step}
+use Rattle.clause_learning.specs.Shelves.{log_hints}
+use Rattle.clause_learning.specs.ConflictWalks.{AreNoMarks}
+use Rattle.clause_learning.specs.Decisions.{AreDecisions}
+use Rattle.clause_learning.proofs.LessonLemmas.{lesson_over, lesson_no_pair, copied}
+use Rattle.clause_learning.proofs.lessons.learn.Goals as goal
+
+pub learn-requires-clause-over : goal.learn-requires-clause-over
+learn-requires-clause-over c =
+    let t = c.args.trail.now in
+    let lesson = c.in_ok-lesson.lesson in
+    let copy : c.in_ok-clause_of.field-0 ≡ lesson.clause = copied c.in_ok-clause_of.field-0 lesson.clause c.literals.result.now
+    c.in_ok-clause_of.ensures c.literals.ensures.value c.literals.ensures.increasing in
+    subst (λ (ls : List Lit). IsOver c.undo_to.new.self.variables ls) (sym copy)
+    (subst (λ (s : TrailState). IsOver s.variables lesson.clause) (sym c.undo_to.ensures.value)
+    (lesson_over t c.requires.sound lesson.clause lesson.hints.items lesson.back c.in_ok-lesson.ensures.lesson))
+
+pub learn-requires-clause-no_pair : goal.learn-requires-clause-no_pair
+learn-requires-clause-no_pair c =
+    let t = c.args.trail.now in
+    let lesson = c.in_ok-lesson.lesson in
+    let copy : c.in_ok-clause_of.field-0 ≡ lesson.clause = copied c.in_ok-clause_of.field-0 lesson.clause c.literals.result.now
+    c.in_ok-clause_of.ensures c.literals.ensures.value c.literals.ensures.increasing in
+    ap has_pair copy ∙ lesson_no_pair t c.requires.sound lesson.clause lesson.hints.items lesson.back c.in_ok-lesson.ensures.lesson
+
+pub returns-clause-learnt : goal.returns-clause-learnt
+returns-clause-learnt c =
+    let t = c.args.trail.now in
+    let lesson = c.in_ok-lesson.lesson in
+    let copy : c.in_ok-clause_of.field-0 ≡ lesson.clause = copied c.in_ok-clause_of.field-0 lesson.clause c.literals.result.now
+    c.in_ok-clause_of.ensures c.literals.ensures.value c.literals.ensures.increasing in
+    let target : ℕ = cond c.args.anew 0 lesson.back in
+    let back : c.undo_to.new.self ≡ undone t target = c.undo_to.ensures.value ∙ ap (undone t) c.level_after-level.ensures in
+    let hints : c.as_slice-2.result.now ≡ lesson.hints.items = c.as_slice-2.ensures.value in
+    record {
+      clause = lesson.clause;
+      hints = lesson.hints.items;
+      back = lesson.back;
+      lesson = c.in_ok-lesson.ensures.lesson;
+      trail_is = c.in_ok-learn.ensures.ok ∙ (ap (λ (s : TrailState). with_clause s c.in_ok-clause_of.field-0) back
+          ∙ ap (with_clause (undone t target)) copy);
+      steps_are = c.in_ok-add.ensures.steps ∙ ap (λ (hs : List ℕ). c.args.journal.now.steps.items
+          ++ learnt_step c.args.journal.now.next lesson.clause (log_hints c.args.journal.now.shelf.numbers.items hs) ∷ []) hints;
+      next_is = c.in_ok-add.ensures.next;
+      numbers_are = c.in_ok-add.ensures.numbers;
+      one_use_each = c.in_ok-add.ensures.uses;
+    }
+
+pub add-requires-clause-named : goal.add-requires-clause-named
+add-requires-clause-named c = subst (AreHints (length c.args.journal.now.shelf.numbers.items)) (sym c.as_slice-2.ensures.value)
+    (subst (λ (n : ℕ). AreHints n c.in_ok-lesson.lesson.hints.items) (sym c.requires.numbers) c.in_ok-lesson.ensures.lesson.named)
+
+pub bump-requires-clause-heap : goal.bump-requires-clause-heap
+bump-requires-clause-heap c = c.requires.decisions.heap
+
+pub bump-requires-clause-within : goal.bump-requires-clause-within
+bump-requires-clause-within c = subst (λ (n : ℕ). All (λ variable. variable < n) c.as_slice.result.now)
+    (sym c.requires.decisions.one_activity_each) (subst (All (λ variable. variable < c.args.trail.now.variables))
+    (sym c.as_slice.ensures.value) c.in_ok-lesson.ensures.looked)
+
+pub take_back-requires-clause-decisions : goal.take_back-requires-clause-decisions
+take_back-requires-clause-decisions c =
+    c.bump.ensures c.args.trail.now.variables c.args.trail.now.entries c.requires.decisions
+
+pub returns-clause-marks : goal.returns-clause-marks
+returns-clause-marks c = subst (λ (n : ℕ). AreNoMarks n c.lesson_of.new.walk.marks)
+    (sym (ap (λ (s : TrailState). s.variables) c.in_ok-learn.ensures.ok
+    ∙ ap (λ (s : TrailState). s.variables) c.undo_to.ensures.value)) c.in_ok-lesson.ensures.marks
+
+pub returns-clause-decisions : goal.returns-clause-decisions
+returns-clause-decisions c = subst (λ (s : TrailState). AreDecisions s.variables s.entries c.take_back.new.self)
+    (sym (c.in_ok-learn.ensures.ok ∙ ap (λ (s : TrailState). with_clause s c.in_ok-clause_of.field-0) c.undo_to.ensures.value))
+    c.in_ok-take_back.ensures

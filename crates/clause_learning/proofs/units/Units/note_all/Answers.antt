@@ -1,0 +1,29 @@
+use Rattle.std.proofs.Common.{arith, ap, refl}
+use Rattle.clause_learning.specs.declared.units.Units.{Units}
+use Rattle.clause_learning.specs.Units.HaveNoted.{none}
+use Rattle.clause_learning.proofs.Noting.{noting_more}
+use Rattle.clause_learning.proofs.units.Units.note_all.Goals as goal
+
+pub loop-self-init : goal.loop-self-init
+loop-self-init c = record {
+  count = 0;
+  noted = none;
+  added = omega arith;
+  most = refl;
+  room = c.requires.added;
+  few = c.requires.few;
+  next = omega (arith, c.requires.next);
+  usable = c.requires.usable;
+  start = c.requires.start;
+  sound = c.requires.sound;
+  units_are = c.requires.units;
+  numbers = c.requires.numbers;
+  uses = c.requires.uses;
+}
+
+pub loop-self-preserved : goal.loop-self-preserved
+loop-self-preserved c =
+    let after = c.in_ok-note_entry.ensures in
+    noting_more c.args.trail.now c.args.journal.now c.args.self.now c.loop-self.trail c.loop-self.journal c.loop-self.self
+    c.note_entry.new.trail c.note_entry.new.journal c.note_entry.new.self after.noted c.loop-self.invariant after.units
+    (ap (λ (u : Units). u.most) after.rest) after.added

@@ -1,0 +1,49 @@
+-- Internal to the solver: no clause of a public function of `sat_core` uses these words.
+-- The clauses on a trail by their numbers in the log. A trail may lack clauses that the log has.
+use Rattle.std.specs.Prelude.{◌≡◌, ◌⊎◌, ℕ, ◌+◌, ◌-◌, ◌<◌, ◌≤◌, Bool, true, List, ◌++◌, map, length, Some, slice_get, slice_index_or}
+use Rattle.clause_core.specs.Literals.{Lit}
+use Rattle.sat_trail.specs.States.{TrailState, started}
+use Rattle.clause_learning.specs.declared.journal.Journal.{Journal}
+use Rattle.clause_learning.specs.declared.shelves.Shelf.{Shelf}
+
+-- the number in the log of the clause that a hint names on the trail
+abbrev pub log_number : List ℕ → ℕ → ℕ
+log_number numbers hint = slice_index_or numbers (hint - 1) 0
+
+-- hints that name clauses on the trail, as hints of the log
+abbrev pub log_hints : List ℕ → List ℕ → List ℕ
+log_hints numbers hints = map (log_number numbers) hints
+
+-- each clause on the trail has a number, which names it among all clauses of the log
+pub record AreLogNumbers (known clauses : List (List Lit)) (numbers : List ℕ) : Type 0 where
+  pub one_each : length numbers ≡ length clauses
+  pub each : (place number : ℕ) → slice_get numbers place ≡ Some number →
+      (1 ≤ number) × (number ≤ length known) × (slice_get known (number - 1) ≡ slice_get clauses place)
+
+-- the numbers of the first clauses: from 1 on, one after another
+pub record AreFirst (count : ℕ) (shelf : Shelf) : Type 0 where
+  pub one_number_each : length shelf.numbers.items ≡ count
+  pub one_use_each : length shelf.uses.items ≡ count
+  pub upward : (place : ℕ) → place < count → slice_get shelf.numbers.items place ≡ Some (place + 1)
+
+-- So many clauses of a trail were looked at. Those of the formula are kept, and some of the others, with their numbers.
+pub record AreShelved (formula clauses : List (List Lit)) (numbers : List ℕ) (looked : ℕ) (kept : List (List Lit)) (shelf : Shelf) :
+    Type 0 where
+  pub others : List (List Lit)
+  pub stand : kept ≡ formula ++ others
+  pub fewer : length kept ≤ looked
+  pub one_use_each : length shelf.uses.items ≡ length kept
+  pub named : (later : List (List Lit)) → AreLogNumbers (formula ++ later) clauses numbers →
+      AreLogNumbers (formula ++ later) kept shelf.numbers.items
+
+-- a trail begins with the clauses of the formula and some of the others that stood on the old one
+pub record BeginsAnew (variables : ℕ) (formula : List (List Lit)) (old : TrailState) (numbers : List ℕ) (new : TrailState) (shelf : Shelf) :
+    Type 0 where
+  pub clauses : List (List Lit)
+  pub kept : AreShelved formula old.clauses numbers (length old.clauses) clauses shelf
+  pub trail_is : new ≡ started variables clauses
+
+-- the trail stays as it is, or where it may be shortened it begins anew; the steps stay
+abbrev pub IsShortened : Bool → ℕ → List (List Lit) → TrailState → Journal → TrailState → Journal → Type 0
+IsShortened wanted variables formula old journal new after = ((new ≡ old) × (after ≡ journal))
+    ⊎ ((wanted ≡ true) × BeginsAnew variables formula old journal.shelf.numbers.items new after.shelf)

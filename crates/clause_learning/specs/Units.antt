@@ -1,0 +1,66 @@
+-- Internal to the solver: no clause of a public function of `sat_core` uses these words.
+-- Clauses of one literal, for what is true at level 0.
+use Rattle.std.specs.Prelude.{◌≡◌, ℕ, ◌+◌, ◌-◌, ◌<◌, ◌≤◌, ◌^◌, ◌⊎◌, List, [], ◌∷◌, ◌++◌, length, Some, None, slice_get}
+use Rattle.clause_core.specs.Literals.{Lit, negation}
+use Rattle.sat_trail.specs.States.{TrailState, IsSound, Propagates, with_clause}
+use Rattle.refutation_check.specs.Checking.{numbered_from, refused_hint}
+use Rattle.clause_learning.specs.declared.journal.Journal.{Journal}
+use Rattle.clause_learning.specs.declared.units.Units.{Units}
+use Rattle.clause_learning.specs.Hints.{AreHints}
+use Rattle.clause_learning.specs.Lessons.{learnt_step}
+use Rattle.clause_learning.specs.Shelves.{log_hints}
+
+-- there is a place for each variable, and clauses of the trail alone are named
+pub record AreUnits (t : TrailState) (units : Units) : Type 0 where
+  pub one_each : length units.numbers.items ≡ t.variables
+  pub within : units.count ≤ length t.clauses
+
+-- a hint for one of the literals of a clause that has this one: it names a clause of the opposite alone; this one gets none
+abbrev pub AddsHint : List (List Lit) → Lit → Lit → List ℕ → List ℕ → Type 0
+AddsHint clauses literal other old new = ((other ≡ literal) × (new ≡ old))
+    ⊎ ((other ≡ literal → ⊥) × ((hint : ℕ) × (1 ≤ hint) × (slice_get clauses (hint - 1) ≡ Some (negation other ∷ [])) × (new ≡ old ++ hint ∷ [])))
+
+-- hints that show the clause of this literal alone
+pub record ShowAlone (clauses : List (List Lit)) (literal : Lit) (hints : List ℕ) : Type 0 where
+  pub shown : refused_hint (numbered_from 1 clauses) (negation literal ∷ []) 1 hints ≡ None
+  pub few_hints : length hints + 1 < 2 ^ 32
+  pub named : AreHints (length clauses) hints
+
+-- A clause of one literal is added to a trail at level 0, and its step stands behind the others, with the next number;
+-- its hints show it.
+pub record HasNoted (old : TrailState) (journal : Journal) (new : TrailState) (after : Journal) : Type 0 where
+  pub literal : Lit
+  pub hints : List ℕ
+  pub over : literal.index < old.variables
+  pub shown : refused_hint (numbered_from 1 old.clauses) (negation literal ∷ []) 1 hints ≡ None
+  pub few_hints : length hints + 1 < 2 ^ 32
+  pub named : AreHints (length old.clauses) hints
+  pub start : old.level ≡ 0
+  pub sound : IsSound new
+  pub trail_is : new ≡ with_clause old (literal ∷ [])
+  pub steps_are : after.steps.items
+      ≡ journal.steps.items ++ learnt_step journal.next (literal ∷ []) (log_hints journal.shelf.numbers.items hints) ∷ []
+  pub next_is : after.next ≡ journal.next + 1
+  pub numbers_are : after.shelf.numbers.items ≡ journal.shelf.numbers.items ++ journal.next ∷ []
+  pub one_use_each : length after.shelf.uses.items ≡ length after.shelf.numbers.items
+
+-- so many clauses are added, one after another
+pub data HaveNoted : ℕ → TrailState → Journal → TrailState → Journal → Type 0 where
+  none : {t : TrailState} → {journal : Journal} → HaveNoted 0 t journal t journal
+  more : {count : ℕ} → {old middle new : TrailState} → {journal between after : Journal} →
+      HaveNoted count old journal middle between → HasNoted middle between new after → HaveNoted (count + 1) old journal new after
+
+-- one clause is added, or none
+abbrev pub MayHaveNoted : TrailState → Journal → Units → TrailState → Journal → Units → Type 0
+MayHaveNoted old journal units new after later = ((new ≡ old) × (after ≡ journal) × (later.added ≡ units.added))
+    ⊎ (HasNoted old journal new after × (later.added ≡ units.added + 1))
+
+-- propagation went on, and so many clauses were added on the way
+pub record HasPropagated (count : ℕ) (old : TrailState) (journal : Journal) (new : TrailState) (after : Journal) : Type 0 where
+  pub found : TrailState
+  pub noted : TrailState
+  pub first : Propagates old found
+  pub first_sound : IsSound found
+  pub clauses : HaveNoted count found journal noted after
+  pub noted_sound : IsSound noted
+  pub last : Propagates noted new

@@ -1,0 +1,79 @@
+//! The log of a search so far.
+
+ghost use Rattle.std.specs.Prelude.{◌≡◌, ◌+◌, ◌<◌, ◌^◌, ◌++◌, ◌∷◌, [], length, OnOk, IfOk};
+ghost use Rattle.clause_learning.specs.Hints.{AreHints};
+ghost use Rattle.clause_learning.specs.Lessons.{learnt_step};
+ghost use Rattle.clause_learning.specs.Shelves.{log_hints, AreFirst};
+
+use crate::shelves::{Shelf, first_use};
+use clause_core::Clause;
+use refutation_check::{Log, Step};
+use sequence::{NoMemory, Sequence};
+use std::alloc::Global;
+
+/// The steps that were taken, and the clauses on the trail by their numbers.
+#[derive(Drop)]
+pub struct Journal {
+    /// The steps, in order.
+    pub steps: Vec<Step>,
+    /// The number of the next step.
+    pub next: u64,
+    /// The clauses on the trail.
+    pub shelf: Shelf,
+}
+
+impl Journal {
+    /// No step was taken behind so many clauses. An `Err` says that memory ran out.
+    pub fn new(alloc: Global, count: u32) -> Result<Journal, NoMemory>
+        ensures steps { IfOk result (λ journal. journal.steps.items ≡ []) }
+        ensures next { IfOk result (λ journal. journal.next ≡ count + 1) }
+        ensures shelf { IfOk result (λ journal. AreFirst count journal.shelf) }
+    {
+        Ok(Journal {
+            steps: Vec::new(alloc),
+            next: u64::from(count) + 1,
+            shelf: Shelf::new(alloc, count)?,
+        })
+    }
+
+    /// How many steps were taken.
+    pub fn len(&self) -> u64
+        ensures { result ≡ length self.now.steps.items }
+    {
+        self.steps.len() as u64
+    }
+
+    /// Takes the next step: the clause, by hints that name clauses on the trail, to which it is about to
+    /// be added. An `Err` says that memory ran out.
+    pub fn add(&mut self, alloc: Global, clause: Clause, hints: &[u64]) -> Result<(), NoMemory>
+        requires few { self.old.next + 1 < 2 ^ 64 }
+        requires uses { length self.old.shelf.uses.items ≡ length self.old.shelf.numbers.items }
+        requires named { AreHints (length self.old.shelf.numbers.items) hints.now }
+        ensures steps { OnOk result (self.new.steps.items
+            ≡ self.old.steps.items ++ learnt_step self.old.next clause (log_hints self.old.shelf.numbers.items hints.now) ∷ []) }
+        ensures next { OnOk result (self.new.next ≡ self.old.next + 1) }
+        ensures numbers { OnOk result (self.new.shelf.numbers.items ≡ self.old.shelf.numbers.items ++ self.old.next ∷ []) }
+        ensures uses { OnOk result (length self.new.shelf.uses.items ≡ length self.new.shelf.numbers.items) }
+    {
+        let now = self.len();
+        let hints = self.shelf.log_hints(alloc, hints, now)?;
+        self.shelf.add(self.next, first_use(&clause, now))?;
+        self.steps.push(Step {
+            number: self.next,
+            clause,
+            hints: Sequence::from_vec(hints),
+        })?;
+        self.next += 1;
+        Ok(())
+    }
+
+    /// The log of the steps.
+    pub fn into_log(self) -> Log
+        ensures { result.steps ≡ self.steps.items }
+    {
+        let Journal { steps, .. } = self;
+        Log {
+            steps: Sequence::from_vec(steps),
+        }
+    }
+}

@@ -1,0 +1,128 @@
+//! What is learnt from a conflict.
+
+ghost use Rattle.std.specs.Prelude.{◌≡◌, ◌+◌, ◌<◌, ◌^◌, false, cond, All, length, IfOk, OnOk};
+ghost use Rattle.sat_trail.specs.States.{IsSound, IsFalseAt};
+ghost use Rattle.clause_learning.specs.Levels.{AreQuietBelow};
+ghost use Rattle.clause_learning.specs.Lessons.{IsLesson, HasLearnt, IsRefutingLog};
+ghost use Rattle.clause_learning.specs.ConflictWalks.{AreNoMarks};
+ghost use Rattle.clause_learning.specs.Decisions.{AreDecisions};
+ghost use Rattle.clause_learning.specs.Units.{AreUnits};
+
+use crate::choices::Decisions;
+use crate::journal::Journal;
+use crate::units::Units;
+use crate::walks::Walk;
+use clause_core::{Clause, clause_of};
+use refutation_check::Log;
+use sat_trail::Trail;
+use sequence::NoMemory;
+use std::alloc::Global;
+
+/// A clause that follows, the hints that show it, and the level to go back to.
+#[derive(Drop)]
+struct Lesson {
+    clause: Clause,
+    hints: Vec<u64>,
+    back: u32,
+}
+
+/// Learns a clause from a conflict above level 0, and goes back to the level that it teaches, or to
+/// level 0 where the search begins anew. An `Err` says that memory ran out.
+pub fn learn(
+    alloc: Global,
+    trail: &mut Trail,
+    journal: &mut Journal,
+    units: &Units,
+    walk: &mut Walk,
+    decisions: &mut Decisions,
+    conflict: u32,
+    anew: bool,
+) -> Result<(), NoMemory>
+    requires usable { trail.old.broken ≡ false }
+    requires sound { IsSound trail.old }
+    requires conflict { IsFalseAt trail.old conflict }
+    requires quiet { AreQuietBelow trail.old trail.old.level }
+    requires above { 0 < trail.old.level }
+    requires few { length trail.old.clauses + 1 < 2 ^ 32 }
+    requires marks { AreNoMarks trail.old.variables walk.old.marks }
+    requires units { AreUnits trail.old units.now }
+    requires decisions { AreDecisions trail.old.variables trail.old.entries decisions.old }
+    requires next { journal.old.next + 1 < 2 ^ 64 }
+    requires numbers { length journal.old.shelf.numbers.items ≡ length trail.old.clauses }
+    requires uses { length journal.old.shelf.uses.items ≡ length trail.old.clauses }
+    ensures learnt { OnOk result (HasLearnt anew trail.old journal.old trail.new journal.new) }
+    ensures sound { OnOk result (IsSound trail.new) }
+    ensures marks { OnOk result (AreNoMarks trail.new.variables walk.new.marks) }
+    ensures units { OnOk result (AreUnits trail.new units.now) }
+    ensures decisions { OnOk result (AreDecisions trail.new.variables trail.new.entries decisions.new) }
+{
+    let lesson = lesson_of(alloc, trail, units, walk, conflict)?;
+    let level = level_after(anew, lesson.back);
+    decisions.bump(walk.marks.looked.as_slice());
+    decisions.take_back(trail, level)?;
+    trail.undo_to(level);
+    let _ = trail.learn(clause_of(alloc, lesson.clause.literals())?)?;
+    journal.add(alloc, lesson.clause, lesson.hints.as_slice())?;
+    Ok(())
+}
+
+/// The level to go on from: that of what was learnt, or 0 where the search begins anew.
+fn level_after(anew: bool, back: u32) -> u32
+    ensures { result ≡ cond anew 0 back }
+{
+    if anew { 0 } else { back }
+}
+
+/// The log of the steps that is closed by a conflict at level 0. An `Err` says that memory ran out.
+pub fn refute(
+    alloc: Global,
+    trail: &Trail,
+    mut journal: Journal,
+    units: &Units,
+    walk: &mut Walk,
+    conflict: u32,
+) -> Result<Log, NoMemory>
+    requires usable { trail.now.broken ≡ false }
+    requires sound { IsSound trail.now }
+    requires conflict { IsFalseAt trail.now conflict }
+    requires start { trail.now.level ≡ 0 }
+    requires marks { AreNoMarks trail.now.variables walk.old.marks }
+    requires units { AreUnits trail.now units.now }
+    requires next { journal.next + 1 < 2 ^ 64 }
+    requires numbers { length journal.shelf.numbers.items ≡ length trail.now.clauses }
+    requires uses { length journal.shelf.uses.items ≡ length trail.now.clauses }
+    ensures { IfOk result (IsRefutingLog trail.now.clauses journal) }
+{
+    let lesson = lesson_of(alloc, trail, units, walk, conflict)?;
+    journal.add(alloc, lesson.clause, lesson.hints.as_slice())?;
+    Ok(journal.into_log())
+}
+
+/// What a conflict teaches: the clause of the first unique implication point. An `Err` says that
+/// memory ran out.
+fn lesson_of(
+    alloc: Global,
+    trail: &Trail,
+    units: &Units,
+    walk: &mut Walk,
+    conflict: u32,
+) -> Result<Lesson, NoMemory>
+    requires usable { trail.now.broken ≡ false }
+    requires sound { IsSound trail.now }
+    requires conflict { IsFalseAt trail.now conflict }
+    requires quiet { AreQuietBelow trail.now trail.now.level }
+    requires marks { AreNoMarks trail.now.variables walk.old.marks }
+    requires units { AreUnits trail.now units.now }
+    ensures lesson { IfOk result (λ lesson. IsLesson trail.now lesson.clause lesson.hints.items lesson.back) }
+    ensures marks { OnOk result (AreNoMarks trail.now.variables walk.new.marks) }
+    ensures looked { OnOk result (All (λ variable. variable < trail.now.variables) walk.new.marks.looked.items) }
+{
+    walk.run(trail, units, conflict)?;
+    let mut hints = walk.hints.as_slice().to_vec(alloc)?;
+    hints.reverse();
+    Ok(Lesson {
+        clause: clause_of(alloc, walk.kept.as_slice())?,
+        hints,
+        back: walk.back,
+    })
+}

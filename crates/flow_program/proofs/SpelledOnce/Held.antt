@@ -1,0 +1,55 @@
+-- What can be written is held by the names.
+use Rattle.std.proofs.Common.{ℕ, ◌&&◌, List, IsTrue}
+use Rattle.std.proofs.lemmas.Bool.{and_parts, and_from}
+use Rattle.std.specs.List.{list_all}
+use Rattle.tsl_terms.specs.declared.names.NameKind.TheVariants.{Signal}
+use Rattle.tsl_terms.specs.Name.{Name}
+use Rattle.tsl_terms.specs.TermTree.{TermTree, ProbeTree}
+use Rattle.tsl_terms.specs.WindowTree.{WindowTree, ListedTree}
+use Rattle.sequence.proofs.Passes.{list_all_weaker}
+use Rattle.term_text.specs.TermText.{is_held, term_is_held, probe_is_held}
+use Rattle.term_text.specs.WindowText.{listed_is_held, window_is_held}
+use Rattle.term_text.proofs.Held.{name_held, term_held, probe_held}
+use Rattle.program_tree.specs.Writable.{signal_fits, term_is_writable, probe_is_writable, listed_is_writable, window_is_writable}
+
+pub signal_held : (names : List Name) (id : ℕ) → IsTrue (signal_fits names id) → IsTrue (is_held names id)
+signal_held names id h = name_held names id Signal 0 (and_parts _ _ h).0
+
+pub written_term_held : (names : List Name) (t : TermTree) → IsTrue (term_is_writable names t) → IsTrue (term_is_held names t)
+written_term_held names t h = term_held names t (and_parts _ _ h).0
+
+pub written_probe_held : (names : List Name) (p : ProbeTree) → IsTrue (probe_is_writable names p) → IsTrue (probe_is_held names p)
+written_probe_held names p h = probe_held names p (and_parts _ _ h).0
+
+pub listed_held : (names : List Name) (u : ListedTree) → IsTrue (listed_is_writable names u) →
+    IsTrue (is_held names u.signal) × IsTrue (term_is_held names u.term)
+listed_held names u h =
+    let parts = and_parts (signal_fits names u.signal) (term_is_writable names u.term) h in
+    (signal_held names u.signal parts.0, written_term_held names u.term parts.1)
+
+-- what a window that can be written has
+pub record WindowParts (names : List Name) (w : WindowTree) : Type 0 where
+  pub left : IsTrue (probe_is_writable names w.left)
+  pub right : IsTrue (probe_is_writable names w.right)
+  pub updates : IsTrue (list_all (listed_is_writable names) w.updates)
+
+pub window_parts : (names : List Name) (w : WindowTree) → IsTrue (window_is_writable names w) → WindowParts names w
+window_parts names w h =
+    let parts = and_parts (probe_is_writable names w.left && probe_is_writable names w.right)
+    (list_all (listed_is_writable names) w.updates) h in
+    let probes = and_parts (probe_is_writable names w.left) (probe_is_writable names w.right) parts.0 in
+    record { left = probes.0; right = probes.1; updates = parts.1 }
+
+updates_held : (names : List Name) (us : List ListedTree) → IsTrue (list_all (listed_is_writable names) us) →
+    IsTrue (list_all (listed_is_held names) us)
+updates_held names us h =
+    list_all_weaker (listed_is_writable names) (listed_is_held names)
+    (λ u k. let both = listed_held names u k in and_from _ _ both.0 both.1) us h
+
+pub window_held : (names : List Name) (w : WindowTree) → IsTrue (window_is_writable names w) → IsTrue (window_is_held names w)
+window_held names w h =
+    let parts = window_parts names w h in
+    and_from (probe_is_held names w.left && probe_is_held names w.right) (list_all (listed_is_held names) w.updates)
+    (and_from (probe_is_held names w.left) (probe_is_held names w.right) (written_probe_held names w.left parts.left)
+    (written_probe_held names w.right parts.right))
+    (updates_held names w.updates parts.updates)

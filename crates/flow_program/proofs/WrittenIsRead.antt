@@ -1,0 +1,4 @@
+pub mod Runs
+pub mod PlacedTerms
+pub mod PlacedLines
+pub mod PlacedProgram

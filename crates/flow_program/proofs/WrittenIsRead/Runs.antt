@@ -1,0 +1,64 @@
+-- Pieces that spell bytes, wherever they stand.
+use Rattle.std.proofs.Common.{◌≡◌, ℕ, ◌-◌, true, List, [], ◌∷◌, ◌++◌, length, take, drop, refl, sym, ap, subst, ◌∙◌, arith}
+use Rattle.std.proofs.Common.{append_assoc, length-append}
+use Rattle.std.proofs.lemmas.List.{append-nil}
+use Rattle.std.proofs.Math.Seq.{take-append_seam, drop-append_seam}
+use Rattle.tsl_text.specs.Names.{is_usable}
+use Rattle.program_listing.specs.declared.listing.Name.{Name}
+use Rattle.program_listing.specs.LineText.{Piece, word, named, Place, Stand}
+use Rattle.program_listing.specs.Listing.{name_bytes}
+use Rattle.program_listing.proofs.Standing.{stand_append}
+
+-- the place after these bytes, where those are left
+abbrev pub at : List ℕ → List ℕ → Place
+at front bytes = record { at = length front; bytes = bytes }
+
+-- after these bytes the pieces spell those, whatever follows
+abbrev pub Run : List Piece → List ℕ → List ℕ → Type 0
+Run pieces front spelled = (rest : List ℕ) → Stand pieces (at front (spelled ++ rest)) (at (front ++ spelled) rest)
+
+-- a name that stands after these bytes
+abbrev pub name_at : List ℕ → List ℕ → Name
+name_at front name = record { start = length front; end = length (front ++ name) }
+
+pub run_none : (front : List ℕ) → Run [] front []
+run_none front rest = λ i. at (sym (append-nil front) i) rest
+
+pub run_word : (w front : List ℕ) → Run (word w ∷ []) front w
+run_word w front rest = (rest, refl, λ i. record { at = sym (length-append front w) i; bytes = rest })
+
+pub run_name : (name front : List ℕ) → is_usable name ≡ true → Run (named (name_at front name) ∷ []) front name
+run_name name front usable rest = (
+  name,
+  rest,
+  refl,
+  usable,
+  λ i. record { start = length front; end = length-append front name i },
+  λ i. record { at = sym (length-append front name) i; bytes = rest },
+)
+
+pub run_append : (xs ys : List Piece) (front a b : List ℕ) → Run xs front a → Run ys (front ++ a) b → Run (xs ++ ys) front (a ++ b)
+run_append xs ys front a b h k rest =
+    subst (λ bytes. Stand (xs ++ ys) (at front bytes) (at (front ++ (a ++ b)) rest)) (sym (append_assoc a b rest))
+    (subst (λ before. Stand (xs ++ ys) (at front (a ++ (b ++ rest))) (at before rest)) (append_assoc front a b)
+    (stand_append xs ys (at front (a ++ (b ++ rest))) (at (front ++ a) (b ++ rest)) (at ((front ++ a) ++ b) rest) (h (b ++ rest)) (k rest)))
+
+-- the bytes stand after these in the text
+abbrev pub Occurs : List ℕ → List ℕ → List ℕ → Type 0
+Occurs text front spelled = (rest : List ℕ) × (text ≡ front ++ (spelled ++ rest))
+
+pub occurs_left : (text front a b : List ℕ) → Occurs text front (a ++ b) → Occurs text front a
+occurs_left text front a b h = (b ++ h.0, h.1 ∙ ap (λ bytes. front ++ bytes) (append_assoc a b h.0))
+
+pub occurs_right : (text front a b : List ℕ) → Occurs text front (a ++ b) → Occurs text (front ++ a) b
+occurs_right text front a b h =
+    (h.0, h.1 ∙ ap (λ bytes. front ++ bytes) (append_assoc a b h.0) ∙ sym (append_assoc front a (b ++ h.0)))
+
+-- the bytes of a name that stands there
+pub bytes_at : (text front name : List ℕ) → Occurs text front name → name_bytes text (name_at front name) ≡ name
+bytes_at text front name h =
+    let count : length (front ++ name) - length front ≡ length name = omega (arith, length-append front name) in
+    ap (λ n. take n (drop (length front) text)) count
+    ∙ ap (λ bytes. take (length name) (drop (length front) bytes)) h.1
+    ∙ ap (take (length name)) (drop-append_seam front (name ++ h.0))
+    ∙ take-append_seam name h.0

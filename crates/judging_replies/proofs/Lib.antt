@@ -1,0 +1,13 @@
+pub mod CheckReplies
+pub mod CheckStages
+pub mod OneInput
+pub mod ProgramFaultLaws
+pub mod RecheckExamples
+pub mod RecheckLaws
+pub mod RecheckReplies
+pub mod RunFaultLaws
+pub mod RunLaws
+pub mod RunNames
+pub mod RunParting
+pub mod RunReplies
+pub mod RunVerdicts

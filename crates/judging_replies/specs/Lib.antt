@@ -1,0 +1,6 @@
+pub mod Check
+pub mod Recheck
+pub mod Run
+pub mod RunFaults
+pub mod RunParts
+pub mod internal

@@ -1,0 +1,3 @@
+pub mod CheckView
+pub mod RunFaultPlaces
+pub mod RunView

@@ -1,0 +1,143 @@
+//! The command `check`.
+
+ghost use Rattle.std.specs.Prelude.{◌≡◌, ◌<◌, ◌≤◌, ◌^◌, ◌++◌, length, decimal, IfOk};
+ghost use Rattle.tsl_terms.specs.SpecView.{spec_tree};
+ghost use Rattle.tsl_terms.specs.WellFormed.{SpecFits};
+ghost use Rattle.tsl_reader.specs.Spells.{Spells};
+ghost use Rattle.program_tree.specs.ProgramView.{program_tree};
+ghost use Rattle.judging_replies.specs.Check.{CheckOutcome, TextsOutcome, VerdictOutcome, verdict_reply, refused_reply};
+ghost use Rattle.judging_replies.specs.internal.CheckView.{check_parts, AreShortTexts};
+
+use crate::run_faults::fault_of_program;
+use flow_program::read_program;
+use program_check::{CheckError, Verdict, accept};
+use program_tree::Program;
+use sequence::NoMemory;
+use std::alloc::Global;
+use tool_replies::{PROGRAM_LINE, Reply, Status, cut_before, fault_of, fault_of_limit};
+use tsl_reader::read_spec;
+use tsl_report::{Fault, Head};
+use tsl_terms::{Names, Spec};
+use tsl_text::{put_bytes, put_number};
+
+/// The texts of a specification and of a program.
+#[derive(Clone, Copy)]
+struct Texts<'a> {
+    spec: &'a [u8],
+    program: &'a [u8],
+}
+
+/// What `check` replies to these bytes: the verdict on their program under their specification, for
+/// annotations within a bound, or why there is none.
+pub fn check(alloc: Global, bound: u32, bytes: &[u8]) -> Result<Reply, NoMemory>
+    requires { length bytes.now ≤ 2 ^ 24 }
+    ensures { IfOk result (CheckOutcome bound bytes.now) }
+{
+    match cut_before(bytes, PROGRAM_LINE) {
+        Some((spec, program)) => reply_to_texts(alloc, bound, &Texts { spec, program }),
+        None => Reply::at_fault(alloc, &Fault::Parts(Head::Program)),
+    }
+}
+
+/// What is replied to the two texts: first the specification is read.
+fn reply_to_texts(alloc: Global, bound: u32, texts: &Texts<'_>) -> Result<Reply, NoMemory>
+    requires short { AreShortTexts (check_parts texts.now) }
+    ensures { IfOk result (TextsOutcome bound (check_parts texts.now)) }
+{
+    match read_spec(alloc, texts.spec) {
+        Ok(spec) => {
+            let names = spec.names.copy()?;
+            reply_to_spec(alloc, bound, texts, &spec, names)
+        }
+        Err(error) => {
+            let fault = fault_of(alloc, texts.spec, &error)?;
+            Reply::at_fault(alloc, &fault)
+        }
+    }
+}
+
+/// What is replied after the specification: the program is read, with its names.
+fn reply_to_spec(
+    alloc: Global,
+    bound: u32,
+    texts: &Texts<'_>,
+    spec: &Spec,
+    names: Names,
+) -> Result<Reply, NoMemory>
+    requires short { AreShortTexts (check_parts texts.now) }
+    requires spells { Spells (check_parts texts.now).spec (spec_tree spec.now) }
+    requires fits { SpecFits (spec_tree spec.now) }
+    requires names { names ≡ (spec_tree spec.now).names }
+    ensures { IfOk result (TextsOutcome bound (check_parts texts.now)) }
+{
+    match read_program(alloc, texts.program, names) {
+        Ok((program, _)) => reply_to_program(alloc, bound, spec, &program),
+        Err(error) => {
+            let fault = fault_of_program(alloc, texts.program, &error)?;
+            Reply::at_fault(alloc, &fault)
+        }
+    }
+}
+
+/// What is replied to a specification and a program: the verdict.
+fn reply_to_program(
+    alloc: Global,
+    bound: u32,
+    spec: &Spec,
+    program: &Program,
+) -> Result<Reply, NoMemory>
+    requires few_nodes { length program.now.nodes < 2 ^ 32 }
+    requires few_states { length program.now.states < 2 ^ 32 }
+    requires few_windows { length program.now.windows < 2 ^ 32 }
+    ensures { IfOk result (VerdictOutcome bound (spec_tree spec.now) (program_tree program.now)) }
+{
+    match accept(alloc, spec, program, bound) {
+        Ok(verdict) => reply_of(alloc, bound, verdict),
+        Err(CheckError::Large(limit)) => Reply::at_fault(alloc, &fault_of_limit(limit)),
+        Err(CheckError::NoMemory) => Err(NoMemory),
+    }
+}
+
+/// The line of a verdict.
+fn reply_of(alloc: Global, bound: u32, verdict: Verdict) -> Result<Reply, NoMemory>
+    ensures { IfOk result (λ reply. reply ≡ verdict_reply bound verdict) }
+{
+    match verdict {
+        Verdict::Yes => accepted(alloc),
+        Verdict::Signals => refused(alloc, b"signals"),
+        Verdict::Test(node) => refused_at(alloc, b"test ", node),
+        Verdict::Choice(node) => refused_at(alloc, b"choice ", node),
+        Verdict::Foreign(window) => refused_at(alloc, b"foreign ", window),
+        Verdict::Unsound(window) => refused_at(alloc, b"window ", window),
+        Verdict::NoAnnotation => refused_at(alloc, b"bound ", bound),
+    }
+}
+
+/// That the program is accepted.
+fn accepted(alloc: Global) -> Result<Reply, NoMemory>
+    ensures { IfOk result (λ reply. reply ≡ verdict_reply 0 Verdict.Yes) }
+{
+    let text = Vec::from_slice(alloc, b"accepted\n")?;
+    Ok(Reply::new(Status::Done, text))
+}
+
+/// That the program is refused for this.
+fn refused(alloc: Global, what: &[u8]) -> Result<Reply, NoMemory>
+    ensures { IfOk result (λ reply. reply ≡ refused_reply what.now) }
+{
+    let mut text = Vec::from_slice(alloc, b"refused ")?;
+    put_bytes(&mut text, what)?;
+    put_bytes(&mut text, b"\n")?;
+    Ok(Reply::new(Status::No, text))
+}
+
+/// That the program is refused for what has this number.
+fn refused_at(alloc: Global, what: &[u8], number: u32) -> Result<Reply, NoMemory>
+    ensures { IfOk result (λ reply. reply ≡ refused_reply (what.now ++ decimal number)) }
+{
+    let mut text = Vec::from_slice(alloc, b"refused ")?;
+    put_bytes(&mut text, what)?;
+    put_number(&mut text, number as u64)?;
+    put_bytes(&mut text, b"\n")?;
+    Ok(Reply::new(Status::No, text))
+}

@@ -1,0 +1,17 @@
+pub mod Strips
+pub mod Numbers
+pub mod PhraseLists
+pub mod Standing
+pub mod Repeats
+pub mod Exactly
+pub mod WordsRead
+pub mod BracketLevels
+pub mod PhrasesRead
+pub mod LinesRead
+pub mod OrderOfLines
+pub mod LineFeeds
+pub mod ReachedLines
+pub mod ListingFacts
+pub mod FirstFaults
+pub mod ReadListings
+pub mod OneListing

@@ -1,0 +1,14 @@
+use Rattle.std.proofs.Common.{◌≡◌, length, map}
+use Rattle.program_listing.specs.ListingTree.{update_line}
+use Rattle.program_listing.specs.internal.LineReading.{left_place, repeat, set_update, update_follows}
+use Rattle.program_listing.proofs.Repeats.{joined}
+use Rattle.program_listing.proofs.line.set_updates.Given as goal
+
+-- the updates so far, and then those that are left
+abbrev pub invariant-loop-alloc : goal.invariant-loop-alloc
+invariant-loop-alloc l =
+    joined (map update_line l.found.items) (repeat update_follows set_update (left_place l.rest))
+    ≡ repeat update_follows set_update (left_place l.left)
+
+abbrev pub decreases-loop-alloc : goal.decreases-loop-alloc
+decreases-loop-alloc l = length l.rest.bytes.now

@@ -1,0 +1,103 @@
+-- The lines of a program text as pure values, without where they lie in memory: names are places in the text.
+use Rattle.std.specs.Prelude.{ℕ, ◌+◌, List, [], map}
+use Rattle.program_listing.specs.declared.listing.Name.{Name}
+use Rattle.program_listing.specs.declared.listing.Phrase.{Phrase}
+use Rattle.program_listing.specs.declared.listing.Phrase.TheVariants.{Bare, Applied}
+use Rattle.program_listing.specs.declared.listing.PhraseList.{PhraseList}
+use Rattle.program_listing.specs.declared.listing.PhraseList.TheVariants.{Empty, More'}
+use Rattle.program_listing.specs.declared.listing.SpelledUpdate.{SpelledUpdate}
+use Rattle.program_listing.specs.declared.listing.SpelledListed.{SpelledListed}
+use Rattle.program_listing.specs.declared.listing.SpelledWindow.{SpelledWindow}
+use Rattle.program_listing.specs.declared.listing.SpelledNode.{SpelledNode}
+use Rattle.program_listing.specs.declared.listing.SpelledNode.TheVariants.{Branch, Assignment}
+use Rattle.program_listing.specs.declared.listing.Listing.{Listing}
+
+-- a term or a test: a name alone, or a name with its arguments
+mutual
+  pub data PhraseTree : Type 0 where
+    bare : Name → PhraseTree
+    applied : Name → PhraseTrees → PhraseTree
+
+  pub data PhraseTrees : Type 0 where
+    no_phrases : PhraseTrees
+    more_phrases : PhraseTree → PhraseTrees → PhraseTrees
+
+-- how many phrases a list has
+abbrev pub count_of_phrases : PhraseTrees → ℕ
+count_of_phrases no_phrases = 0
+count_of_phrases (more_phrases p ps) = 1 + count_of_phrases ps
+
+-- an update of an assignment
+pub record UpdateLine : Type 0 where
+  pub signal : Name
+  pub term : PhraseTree
+
+-- an update that a window lists
+pub record ListedLine : Type 0 where
+  pub signal : Name
+  pub term : PhraseTree
+  pub offset : ℕ
+
+-- the line of a window
+pub record WindowLine : Type 0 where
+  pub left : PhraseTree
+  pub left_at : ℕ
+  pub right : PhraseTree
+  pub length : ℕ
+  pub updates : List ListedLine
+
+-- the line of a node, without its number
+pub data NodeLine : Type 0 where
+  branch_line : PhraseTree → ℕ → ℕ → NodeLine
+  assignment_line : List UpdateLine → ℕ → NodeLine
+
+-- the lines of a program text, each kind in its order
+pub record ListingTree : Type 0 where
+  pub inputs : List Name
+  pub cells : List Name
+  pub outputs : List Name
+  pub windows : List WindowLine
+  pub nodes : List NodeLine
+  pub states : List ℕ
+
+abbrev mutual
+  pub phrase_tree : Phrase → PhraseTree
+  phrase_tree (Bare name) = bare name
+  phrase_tree (Applied name arguments) = applied name (phrase_trees arguments)
+
+  pub phrase_trees : PhraseList → PhraseTrees
+  phrase_trees Empty = no_phrases
+  phrase_trees (More' p head q rest) = more_phrases (phrase_tree head) (phrase_trees rest)
+
+abbrev pub update_line : SpelledUpdate → UpdateLine
+update_line u = record { signal = u.signal; term = phrase_tree u.term }
+
+abbrev pub listed_line : SpelledListed → ListedLine
+listed_line u = record { signal = u.signal; term = phrase_tree u.term; offset = u.offset }
+
+abbrev pub window_line : SpelledWindow → WindowLine
+window_line w = record {
+  left = phrase_tree w.left;
+  left_at = w.left_at;
+  right = phrase_tree w.right;
+  length = w.length;
+  updates = map listed_line w.updates.items;
+}
+
+abbrev pub node_line : SpelledNode → NodeLine
+node_line (Branch test then_node else_node) = branch_line (phrase_tree test) then_node else_node
+node_line (Assignment updates go) = assignment_line (map update_line updates.items) go
+
+abbrev pub listing_tree : Listing → ListingTree
+listing_tree l = record {
+  inputs = l.inputs.items;
+  cells = l.cells.items;
+  outputs = l.outputs.items;
+  windows = map window_line l.windows.items;
+  nodes = map node_line l.nodes.items;
+  states = l.states.items;
+}
+
+-- the listing without lines
+abbrev pub empty_listing : ListingTree
+empty_listing = record { inputs = []; cells = []; outputs = []; windows = []; nodes = []; states = [] }

@@ -1,0 +1,2 @@
+pub mod LineOrder
+pub mod LineReading

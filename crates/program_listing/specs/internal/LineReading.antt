@@ -1,0 +1,359 @@
+-- Internal: reading the lines of a program text, as functions that compute. Each reader gives what stands at a place and the
+-- place after it.
+use Rattle.std.specs.Prelude.{
+  ◌≡◌,
+  ℕ,
+  zero,
+  suc,
+  ◌+◌,
+  Bool,
+  true,
+  false,
+  not,
+  ◌&&◌,
+  ◌||◌,
+  ◌==◌,
+  List,
+  [],
+  ◌∷◌,
+  length,
+  take,
+  drop,
+  codes,
+  Option,
+  Some,
+  None,
+  option_map,
+  if◌then◌else◌,
+}
+use Rattle.std.specs.List.{prefix_len}
+use Rattle.std.specs.Char.{is_ascii_digit}
+use Rattle.tsl_text.specs.Names.{is_name_start, is_name_byte, is_usable}
+use Rattle.tsl_text.specs.Lines.{has_bytes, is_space}
+use Rattle.tsl_text.specs.Numbers.{plain_number_in}
+use Rattle.tsl_terms.specs.WellFormed.{deepest}
+use Rattle.program_listing.specs.declared.left.Left.{Left}
+use Rattle.program_listing.specs.declared.left.Misread.{Misread}
+use Rattle.program_listing.specs.declared.left.Misread.TheVariants.{Form, NoMemory}
+use Rattle.program_listing.specs.declared.line.Line.{Line}
+use Rattle.program_listing.specs.declared.line.Line.TheVariants.{Head, Input, Cell, Output, Window, Node, State, End}
+use Rattle.program_listing.specs.declared.listing.Name.{Name}
+use Rattle.program_listing.specs.ListingTree.{
+  PhraseTree,
+  bare,
+  applied,
+  PhraseTrees,
+  no_phrases,
+  more_phrases,
+  UpdateLine,
+  ListedLine,
+  WindowLine,
+  NodeLine,
+  branch_line,
+  assignment_line,
+  window_line,
+  node_line,
+}
+use Rattle.program_listing.specs.LineText.{Place, LineTree, head_line, input, cell, output, window, node, state, end_line}
+
+abbrev pub left_place : Left → Place
+left_place left = record { at = left.at; bytes = left.bytes.now }
+
+-- nothing was read, unless memory ran out
+abbrev pub IsMisread : {V : Type 0} → Option V → Misread → Type 0
+IsMisread answer Form = answer ≡ None
+IsMisread answer NoMemory = Unit {0}
+
+abbrev pub LineReader : Type 0 → Type 0
+LineReader V = Place → Option (V × Place)
+
+-- the reader gives what was read, as it is seen, and what is left after it
+abbrev pub IsReadAs : {V W : Type 0} → (W → V) → LineReader V → Left → W × Left → Type 0
+IsReadAs view reader left read = reader (left_place left) ≡ Some (view read.0, left_place read.1)
+
+-- the reader gives nothing, unless memory ran out
+abbrev pub IsUnread : {V : Type 0} → LineReader V → Left → Misread → Type 0
+IsUnread reader left = IsMisread (reader (left_place left))
+
+-- ---- readers of others
+
+-- the bytes after these, where they stand at the front
+abbrev pub strip : List ℕ → List ℕ → Option (List ℕ)
+strip [] bytes = Some bytes
+strip (w ∷ ws) [] = None
+strip (w ∷ ws) (b ∷ bs) = if w == b then strip ws bs else None
+
+abbrev pub skipped : ℕ → Place → Place
+skipped len p = record { at = p.at + len; bytes = drop len p.bytes }
+
+-- the place after these bytes, where they stand at the front
+abbrev pub past : List ℕ → Place → Option Place
+past w p = option_map (λ rest. record { at = p.at + length w; bytes = rest }) (strip w p.bytes)
+
+module _ {A B : Type 0} where
+  abbrev pub with_second : A → Option (B × Place) → Option ((A × B) × Place)
+  with_second a None = None
+  with_second a (Some (b, p)) = Some ((a, b), p)
+
+  abbrev pub and_second : Option (A × Place) → LineReader B → Option ((A × B) × Place)
+  and_second None second = None
+  and_second (Some (a, p)) second = with_second a (second p)
+
+  -- one after another
+  abbrev pub pair : LineReader A → LineReader B → LineReader (A × B)
+  pair first second p = and_second (first p) second
+
+  -- another value of what is read
+  abbrev pub mapped : (A → B) → Option (A × Place) → Option (B × Place)
+  mapped make None = None
+  mapped make (Some (a, p)) = Some (make a, p)
+
+module _ {A : Type 0} where
+  -- what is read from the place, if there is one
+  abbrev pub from : Option Place → LineReader A → Option (A × Place)
+  from None reader = None
+  from (Some p) reader = reader p
+
+  -- after these bytes
+  abbrev pub prefixed : List ℕ → LineReader A → LineReader A
+  prefixed w reader p = from (past w p) reader
+
+  abbrev pub keep_before : A → Option Place → Option (A × Place)
+  keep_before a None = None
+  keep_before a (Some p) = Some (a, p)
+
+  abbrev pub and_after : List ℕ → Option (A × Place) → Option (A × Place)
+  and_after w None = None
+  and_after w (Some (a, p)) = keep_before a (past w p)
+
+  -- with these bytes after it
+  abbrev pub closed : List ℕ → LineReader A → LineReader A
+  closed w reader p = and_after w (reader p)
+
+  abbrev pub with_first : A → Option (List A × Place) → Option (List A × Place)
+  with_first a None = None
+  with_first a (Some (as', p)) = Some (a ∷ as', p)
+
+  -- what a step gives and what is read after it, or nothing where there is no step
+  abbrev pub go_on : Place → Option (Option (A × Place)) → LineReader (List A) → Option (List A × Place)
+  go_on p None more = Some ([], p)
+  go_on p (Some None) more = None
+  go_on p (Some (Some (a, q))) more = with_first a (more q)
+
+  -- A step, where its test holds of the bytes.
+  abbrev pub step_if : (List ℕ → Bool) → LineReader A → Place → Option (Option (A × Place))
+  step_if test reader p = if test p.bytes then Some (reader p) else None
+
+  -- at most so many steps
+  unfoldable pub repeat_most : ℕ → (List ℕ → Bool) → LineReader A → LineReader (List A)
+  repeat_most zero test reader p = None
+  repeat_most (suc most) test reader p = go_on p (step_if test reader p) (repeat_most most test reader)
+
+  -- as often as the test holds: each step takes a byte at least
+  unfoldable pub repeat : (List ℕ → Bool) → LineReader A → LineReader (List A)
+  repeat test reader p = repeat_most (suc (length p.bytes)) test reader p
+
+  abbrev pub value_at_end : A → List ℕ → Option A
+  value_at_end a [] = Some a
+  value_at_end a (b ∷ bs) = None
+
+  -- what is read, where nothing is left after it
+  abbrev pub at_end : Option (A × Place) → Option A
+  at_end None = None
+  at_end (Some (a, p)) = value_at_end a p.bytes
+
+-- ---- names and numbers
+
+-- the reserved words, those of one letter apart
+abbrev pub long_words : List (List ℕ)
+long_words = codes "assume" ∷ codes "guarantee" ∷ codes "always" ∷ codes "initially" ∷ codes "true" ∷ codes "false" ∷ []
+
+abbrev pub letters : List (List ℕ)
+letters = codes "X" ∷ codes "F" ∷ codes "G" ∷ codes "U" ∷ codes "W" ∷ codes "R" ∷ codes "A" ∷ []
+
+abbrev pub begins : (ℕ → Bool) → List ℕ → Bool
+begins test [] = false
+begins test (byte ∷ bytes) = test byte
+
+abbrev pub name_of_length : ℕ → LineReader Name
+name_of_length len p =
+    if is_usable (take len p.bytes) then Some (record { start = p.at; end = p.at + len }, skipped len p) else None
+
+-- the longest name at the front
+abbrev pub first_name : LineReader Name
+first_name p = name_of_length (prefix_len is_name_byte p.bytes) p
+
+abbrev pub number_of_length : ℕ → LineReader ℕ
+number_of_length len p = option_map (λ n. (n, skipped len p)) (plain_number_in (take len p.bytes))
+
+-- the longest number at the front
+abbrev pub first_number : LineReader ℕ
+first_number p = number_of_length (prefix_len is_ascii_digit p.bytes) p
+
+-- ---- terms and tests
+
+abbrev pub phrases_of : List PhraseTree → PhraseTrees
+phrases_of [] = no_phrases
+phrases_of (p ∷ ps) = more_phrases p (phrases_of ps)
+
+abbrev pub is_open : ℕ → Bool
+is_open byte = byte == 40
+
+-- a space and a digit
+abbrev pub number_follows : List ℕ → Bool
+number_follows [] = false
+number_follows (byte ∷ bytes) = is_space byte && begins is_ascii_digit bytes
+
+-- a name, and no number after it: the word before a number is none of the arguments
+abbrev pub argument_begins : List ℕ → Bool
+argument_begins bytes =
+    begins is_open bytes || (begins is_name_start bytes && not (number_follows (drop (prefix_len is_name_byte bytes) bytes)))
+
+-- a space and an argument
+abbrev pub argument_follows : List ℕ → Bool
+argument_follows [] = false
+argument_follows (byte ∷ bytes) = is_space byte && argument_begins bytes
+
+-- a name, or a constant where `()` follows it
+abbrev pub constant_or : Name → Option Place → Option (PhraseTree × Place) → Option (PhraseTree × Place)
+constant_or name (Some p) other = Some (applied name no_phrases, p)
+constant_or name None other = other
+
+abbrev pub short_after : Option (Name × Place) → Option (PhraseTree × Place)
+short_after None = None
+short_after (Some (name, p)) = constant_or name (past (codes "()") p) (Some (bare name, p))
+
+-- an argument without brackets
+abbrev pub short : LineReader PhraseTree
+short p = short_after (first_name p)
+
+-- an argument, where this reader reads those in brackets
+abbrev pub argument_phrase : LineReader PhraseTree → LineReader PhraseTree
+argument_phrase phrase_in_brackets p = if begins is_open p.bytes then phrase_in_brackets p else short p
+
+abbrev pub spaced_argument : LineReader PhraseTree → LineReader PhraseTree
+spaced_argument phrase_in_brackets = prefixed (codes " ") (argument_phrase phrase_in_brackets)
+
+abbrev pub arguments : LineReader PhraseTree → LineReader (List PhraseTree)
+arguments phrase_in_brackets = repeat argument_follows (spaced_argument phrase_in_brackets)
+
+abbrev pub phrase_of : Name → List PhraseTree → PhraseTree
+phrase_of name [] = bare name
+phrase_of name (p ∷ ps) = applied name (phrases_of (p ∷ ps))
+
+abbrev pub phrase_after : LineReader PhraseTree → Option (Name × Place) → Option (PhraseTree × Place)
+phrase_after phrase_in_brackets None = None
+phrase_after phrase_in_brackets (Some (name, p)) =
+    constant_or name (past (codes "()") p) (mapped (phrase_of name) (arguments phrase_in_brackets p))
+
+-- a term or a test
+abbrev pub phrase_with : LineReader PhraseTree → LineReader PhraseTree
+phrase_with phrase_in_brackets p = phrase_after phrase_in_brackets (first_name p)
+
+-- a phrase that has arguments
+abbrev pub has_arguments : PhraseTree → Bool
+has_arguments (applied name (more_phrases p ps)) = true
+has_arguments _ = false
+
+abbrev pub only_applied : Option (PhraseTree × Place) → Option (PhraseTree × Place)
+only_applied None = None
+only_applied (Some (phrase, p)) = if has_arguments phrase then keep_before phrase (past (codes ")") p) else None
+
+-- a phrase with arguments in brackets, where so many levels of brackets are left
+unfoldable pub phrase_in_brackets : ℕ → LineReader PhraseTree
+phrase_in_brackets zero p = None
+phrase_in_brackets (suc room) p = only_applied (from (past (codes "(") p) (phrase_with (phrase_in_brackets room)))
+
+abbrev pub phrase : LineReader PhraseTree
+phrase = phrase_with (phrase_in_brackets deepest)
+
+-- ---- lines
+
+abbrev pub line_tree : Line → LineTree
+line_tree Head = head_line
+line_tree (Input name) = input name
+line_tree (Cell name) = cell name
+line_tree (Output name) = output name
+line_tree (Window w) = window (window_line w)
+line_tree (Node number n) = node number (node_line n)
+line_tree (State number n) = state number n
+line_tree End = end_line
+
+-- `[NAME <- TERM]`
+abbrev pub update : LineReader (Name × PhraseTree)
+update = closed (codes "]") (pair (prefixed (codes "[") first_name) (prefixed (codes " <- ") phrase))
+
+abbrev pub is_square : ℕ → Bool
+is_square byte = byte == 91
+
+-- a space and an opening square bracket
+abbrev pub update_follows : List ℕ → Bool
+update_follows [] = false
+update_follows (byte ∷ bytes) = is_space byte && begins is_square bytes
+
+abbrev pub as_update : Name × PhraseTree → UpdateLine
+as_update u = record { signal = u.0; term = u.1 }
+
+-- an update of an assignment, a space before it
+abbrev pub set_update : LineReader UpdateLine
+set_update p = mapped as_update (prefixed (codes " ") update p)
+
+abbrev pub as_listed : (Name × PhraseTree) × ℕ → ListedLine
+as_listed u = record { signal = u.0.0; term = u.0.1; offset = u.1 }
+
+-- an update that a window lists
+abbrev pub listed : LineReader ListedLine
+listed p = mapped as_listed (prefixed (codes " when ") (pair update (prefixed (codes " at ") first_number)) p)
+
+-- a test and its step
+abbrev pub placed : LineReader (PhraseTree × ℕ)
+placed = pair phrase (prefixed (codes " at ") first_number)
+
+abbrev pub as_window : (PhraseTree × ℕ) × ((PhraseTree × ℕ) × List ListedLine) → WindowLine
+as_window w = record { left = w.0.0; left_at = w.0.1; right = w.1.0.0; length = w.1.0.1; updates = w.1.1 }
+
+-- a window after its first word
+abbrev pub window_rest : LineReader WindowLine
+window_rest p = mapped as_window (pair placed (pair (prefixed (codes " is ") placed) (repeat has_bytes listed)) p)
+
+abbrev pub as_branch : PhraseTree × (ℕ × ℕ) → NodeLine
+as_branch b = branch_line b.0 b.1.0 b.1.1
+
+-- a node that tests, after its ` if `
+abbrev pub branch_rest : LineReader NodeLine
+branch_rest p = mapped as_branch (pair phrase (pair (prefixed (codes " then ") first_number) (prefixed (codes " else ") first_number)) p)
+
+abbrev pub as_assignment : List UpdateLine × ℕ → NodeLine
+as_assignment a = assignment_line a.0 a.1
+
+-- a node that assigns, after its ` set`
+abbrev pub assignment_rest : LineReader NodeLine
+assignment_rest p = mapped as_assignment (pair (repeat update_follows set_update) (prefixed (codes " go ") first_number) p)
+
+-- what is read from the place, if there is one, and otherwise this
+abbrev pub either : {V : Type 0} → Option Place → (Place → Option V) → Option V → Option V
+either (Some p) reader other = reader p
+either None reader other = other
+
+-- a node after its number
+abbrev pub node_rest : LineReader NodeLine
+node_rest p = either (past (codes " if ") p) branch_rest (prefixed (codes " set") assignment_rest p)
+
+-- a node's number and what follows it, and a state's
+abbrev pub numbered_node : LineReader (ℕ × NodeLine)
+numbered_node = pair first_number node_rest
+
+abbrev pub numbered_state : LineReader (ℕ × ℕ)
+numbered_state = pair first_number (prefixed (codes " at ") first_number)
+
+-- the line that the bytes are, without their line feed
+abbrev pub read_line : Place → Option LineTree
+read_line p =
+    either (past (codes "input ") p) (λ q. option_map input (at_end (first_name q)))
+    (either (past (codes "cell ") p) (λ q. option_map cell (at_end (first_name q)))
+    (either (past (codes "output ") p) (λ q. option_map output (at_end (first_name q)))
+    (either (past (codes "window ") p) (λ q. option_map window (at_end (window_rest q)))
+    (either (past (codes "node ") p) (λ q. option_map (λ n. node n.0 n.1) (at_end (numbered_node q)))
+    (either (past (codes "state ") p) (λ q. option_map (λ s. state s.0 s.1) (at_end (numbered_state q)))
+    (either (past (codes "tslprogram 1") p) (λ q. value_at_end head_line q.bytes)
+    (either (past (codes "end") p) (λ q. value_at_end end_line q.bytes) None)))))))

@@ -1,0 +1,50 @@
+//! What is left of a line, and what reading it gives.
+
+ghost use Rattle.std.specs.Prelude.{◌+◌, ◌<◌, ◌^◌, length};
+
+use sequence::NoMemory;
+use std::alloc::AllocFailed;
+
+/// What is left of a line.
+#[derive(Clone, Copy)]
+pub struct Left<'a> {
+    /// The offset of its first byte in the text.
+    pub at: u32,
+    /// Its bytes.
+    pub bytes: &'a [u8],
+    pub ghost countable: { at + length bytes.now < 2 ^ 32 },
+}
+
+/// Why nothing is read.
+#[derive(Drop)]
+pub enum Misread {
+    /// What is to be read does not stand at the front.
+    Form,
+    /// Memory ran out.
+    NoMemory,
+}
+
+impl From<NoMemory> for Misread {
+    ghost use Rattle.std.specs.Prelude.{◌≡◌};
+    ghost use Rattle.program_listing.specs.declared.left.Misread.TheVariants.{NoMemory as Exhausted};
+
+    ghost from_gives = { λ _ e. e ≡ Exhausted };
+
+    fn from(_error: NoMemory) -> Misread {
+        Misread::NoMemory
+    }
+}
+
+impl<T: Drop> From<AllocFailed<T>> for Misread {
+    ghost use Rattle.std.specs.Prelude.{◌≡◌};
+    ghost use Rattle.program_listing.specs.declared.left.Misread.TheVariants.{NoMemory as Exhausted};
+
+    ghost from_gives = { λ _ e. e ≡ Exhausted };
+
+    fn from(_error: AllocFailed<T>) -> Misread {
+        Misread::NoMemory
+    }
+}
+
+/// What was read, and what is left after it.
+pub type Reading<'a, V> = Result<(V, Left<'a>), Misread>;

@@ -1,0 +1,25 @@
+//! The lines of program texts.
+//!
+//! A program text is a list of lines, each of which declares a signal, lists a window, or gives a
+//! node or a state. `specs/LineText.antt` says how each line is spelled and where its names stand,
+//! `specs/Listing.antt` what the listing of a text is, and which line of a text is the first at
+//! fault. `read_listing` gives the listing, or exactly that line. A name is a place in the text;
+//! which symbol it stands for, and the rules of programs, are left to the crate `flow_program`.
+//!
+//! The law `one_listing` says that a text has at most one listing.
+#![tactic(auto)]
+
+mod left;
+mod line;
+mod listing;
+mod listing_laws;
+mod listing_reader;
+mod phrases;
+mod words;
+
+pub use listing::{
+    Listing, ListingError, Name, Phrase, PhraseList, SpelledListed, SpelledNode, SpelledUpdate,
+    SpelledWindow,
+};
+pub use listing_laws::one_listing;
+pub use listing_reader::read_listing;

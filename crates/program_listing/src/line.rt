@@ -1,0 +1,319 @@
+//! The lines of program texts, each by itself.
+
+ghost use Rattle.std.specs.Prelude.{◌≡◌, ◌∷◌, ◌++◌, codes, map, option_map, Some, None, IfOk, IfErr, IfSome, IfNone};
+ghost use Rattle.tsl_text.specs.Lines.{has_bytes};
+ghost use Rattle.program_listing.specs.ListingTree.{phrase_tree, update_line, listed_line, window_line, node_line};
+ghost use Rattle.program_listing.specs.LineText.{head_line, input, cell, output, window, node, state, end_line};
+ghost use Rattle.program_listing.specs.internal.LineReading.{left_place, IsMisread, IsReadAs, IsUnread, past, prefixed, repeat, at_end};
+ghost use Rattle.program_listing.specs.internal.LineReading.{value_at_end, first_name, first_number, phrase, line_tree, update};
+ghost use Rattle.program_listing.specs.internal.LineReading.{update_follows, set_update, listed, placed, window_rest, branch_rest};
+ghost use Rattle.program_listing.specs.internal.LineReading.{assignment_rest, node_rest, numbered_node, numbered_state, read_line};
+
+use crate::left::{Left, Misread, Reading};
+use crate::listing::{Name, Phrase, SpelledListed, SpelledNode, SpelledUpdate, SpelledWindow};
+use crate::phrases::phrase;
+use crate::words::{expect, first_name, first_number, past};
+use std::alloc::Global;
+
+/// A line of a program text.
+#[derive(Drop)]
+pub enum Line {
+    /// `tslprogram 1`
+    Head,
+    /// `input NAME`
+    Input(Name),
+    /// `cell NAME`
+    Cell(Name),
+    /// `output NAME`
+    Output(Name),
+    /// `window ..`
+    Window(SpelledWindow),
+    /// `node NUMBER ..`
+    Node(u64, SpelledNode),
+    /// `state NUMBER at NODE`
+    State(u64, u64),
+    /// `end`
+    End,
+}
+
+/// A number after these bytes.
+fn number_after<'a>(left: Left<'a>, word: &[u8]) -> Reading<'a, u64>
+    ensures ok { IfOk result
+        (IsReadAs (λ number. number) (prefixed word.now first_number) left.entry) }
+    ensures wrong { IfErr result (IsUnread (prefixed word.now first_number) left.entry) }
+{
+    let rest = expect(left, word)?;
+    first_number(rest)
+}
+
+/// A name after these bytes.
+fn name_after<'a>(left: Left<'a>, word: &[u8]) -> Reading<'a, Name>
+    ensures ok { IfOk result (IsReadAs (λ name. name) (prefixed word.now first_name) left.entry) }
+    ensures wrong { IfErr result (IsUnread (prefixed word.now first_name) left.entry) }
+{
+    let rest = expect(left, word)?;
+    first_name(rest)
+}
+
+/// A term or a test after these bytes.
+fn phrase_after<'a>(alloc: Global, left: Left<'a>, word: &[u8]) -> Reading<'a, Phrase>
+    ensures ok { IfOk result (IsReadAs phrase_tree (prefixed word.now phrase) left.entry) }
+    ensures wrong { IfErr result (IsUnread (prefixed word.now phrase) left.entry) }
+{
+    let rest = expect(left, word)?;
+    phrase(alloc, rest)
+}
+
+/// `[NAME <- TERM]`, a name and a term.
+fn update(alloc: Global, left: Left<'_>) -> Reading<'_, (Name, Phrase)>
+    ensures ok { IfOk result (IsReadAs (λ u. (u.0, phrase_tree u.1)) update left.entry) }
+    ensures wrong { IfErr result (IsUnread update left.entry) }
+{
+    let (signal, rest) = name_after(left, b"[")?;
+    let (term, rest) = phrase_after(alloc, rest, b" <- ")?;
+    let rest = expect(rest, b"]")?;
+    Ok(((signal, term), rest))
+}
+
+/// Whether the bytes begin with a space and an opening square bracket.
+fn update_follows(bytes: &[u8]) -> bool
+    ensures { result ≡ update_follows bytes.now }
+{
+    matches!(bytes, [b' ', b'[', ..])
+}
+
+/// An update of an assignment, a space before it.
+fn set_update(alloc: Global, left: Left<'_>) -> Reading<'_, SpelledUpdate>
+    ensures ok { IfOk result (IsReadAs update_line set_update left.entry) }
+    ensures wrong { IfErr result (IsUnread set_update left.entry) }
+{
+    let rest = expect(left, b" ")?;
+    let ((signal, term), rest) = update(alloc, rest)?;
+    Ok((SpelledUpdate { signal, term }, rest))
+}
+
+/// The updates of an assignment, which may be none.
+fn set_updates(alloc: Global, left: Left<'_>) -> Reading<'_, Vec<SpelledUpdate>>
+    ensures ok { IfOk result
+        (IsReadAs (λ us. map update_line us.items) (repeat update_follows set_update) left.entry) }
+    ensures wrong { IfErr result (IsUnread (repeat update_follows set_update) left.entry) }
+{
+    let mut found = Vec::new(alloc);
+    let mut rest = left;
+    while update_follows(rest.bytes) {
+        let (update, later) = set_update(alloc, rest)?;
+        found.push(update)?;
+        rest = later;
+    }
+    Ok((found, rest))
+}
+
+/// An update that a window lists.
+fn listed(alloc: Global, left: Left<'_>) -> Reading<'_, SpelledListed>
+    ensures ok { IfOk result (IsReadAs listed_line listed left.entry) }
+    ensures wrong { IfErr result (IsUnread listed left.entry) }
+{
+    let rest = expect(left, b" when ")?;
+    let ((signal, term), rest) = update(alloc, rest)?;
+    let (offset, rest) = number_after(rest, b" at ")?;
+    Ok((
+        SpelledListed {
+            signal,
+            term,
+            offset,
+        },
+        rest,
+    ))
+}
+
+/// The updates that a window lists, to the end of its line.
+fn listed_updates(alloc: Global, left: Left<'_>) -> Reading<'_, Vec<SpelledListed>>
+    ensures ok { IfOk result
+        (IsReadAs (λ us. map listed_line us.items) (repeat has_bytes listed) left.entry) }
+    ensures wrong { IfErr result (IsUnread (repeat has_bytes listed) left.entry) }
+{
+    let mut found = Vec::new(alloc);
+    let mut rest = left;
+    while has_bytes(rest.bytes) {
+        let (update, later) = listed(alloc, rest)?;
+        found.push(update)?;
+        rest = later;
+    }
+    Ok((found, rest))
+}
+
+/// Whether there is a byte.
+pub fn has_bytes(bytes: &[u8]) -> bool
+    ensures { result ≡ has_bytes bytes.now }
+{
+    !matches!(bytes, [])
+}
+
+/// A test and its step.
+fn placed(alloc: Global, left: Left<'_>) -> Reading<'_, (Phrase, u64)>
+    ensures ok { IfOk result (IsReadAs (λ test. (phrase_tree test.0, test.1)) placed left.entry) }
+    ensures wrong { IfErr result (IsUnread placed left.entry) }
+{
+    let (test, rest) = phrase(alloc, left)?;
+    let (step, rest) = number_after(rest, b" at ")?;
+    Ok(((test, step), rest))
+}
+
+/// A window after its first word.
+fn window(alloc: Global, left: Left<'_>) -> Reading<'_, SpelledWindow>
+    ensures ok { IfOk result (IsReadAs window_line window_rest left.entry) }
+    ensures wrong { IfErr result (IsUnread window_rest left.entry) }
+{
+    let ((left_test, left_at), rest) = placed(alloc, left)?;
+    let rest = expect(rest, b" is ")?;
+    let ((right, length), rest) = placed(alloc, rest)?;
+    let (updates, rest) = listed_updates(alloc, rest)?;
+    Ok((
+        SpelledWindow {
+            left: left_test,
+            left_at,
+            right,
+            length,
+            updates,
+        },
+        rest,
+    ))
+}
+
+/// A node that tests, after its ` if `.
+fn branch(alloc: Global, left: Left<'_>) -> Reading<'_, SpelledNode>
+    ensures ok { IfOk result (IsReadAs node_line branch_rest left.entry) }
+    ensures wrong { IfErr result (IsUnread branch_rest left.entry) }
+{
+    let (test, rest) = phrase(alloc, left)?;
+    let (then_node, rest) = number_after(rest, b" then ")?;
+    let (else_node, rest) = number_after(rest, b" else ")?;
+    Ok((
+        SpelledNode::Branch {
+            test,
+            then_node,
+            else_node,
+        },
+        rest,
+    ))
+}
+
+/// A node that assigns, after its ` set`.
+fn assignment(alloc: Global, left: Left<'_>) -> Reading<'_, SpelledNode>
+    ensures ok { IfOk result (IsReadAs node_line assignment_rest left.entry) }
+    ensures wrong { IfErr result (IsUnread assignment_rest left.entry) }
+{
+    let (updates, rest) = set_updates(alloc, left)?;
+    let (go, rest) = number_after(rest, b" go ")?;
+    Ok((SpelledNode::Assignment { updates, go }, rest))
+}
+
+/// A node after its number.
+fn node(alloc: Global, left: Left<'_>) -> Reading<'_, SpelledNode>
+    ensures ok { IfOk result (IsReadAs node_line node_rest left.entry) }
+    ensures wrong { IfErr result (IsUnread node_rest left.entry) }
+{
+    if let Some(rest) = past(left, b" if ") {
+        return branch(alloc, rest);
+    }
+    let rest = expect(left, b" set")?;
+    assignment(alloc, rest)
+}
+
+/// A node with its number, to the end of its line.
+fn numbered_node(alloc: Global, left: Left<'_>) -> Result<(u64, SpelledNode), Misread>
+    ensures ok { IfOk result (λ read.
+        at_end (numbered_node (left_place left.entry)) ≡ Some (read.0, node_line read.1)) }
+    ensures wrong { IfErr result (IsMisread (at_end (numbered_node (left_place left.entry)))) }
+{
+    let (number, rest) = first_number(left)?;
+    let (node, rest) = node(alloc, rest)?;
+    if has_bytes(rest.bytes) {
+        return Err(Misread::Form);
+    }
+    Ok((number, node))
+}
+
+/// A state with its number, to the end of its line.
+fn numbered_state(left: Left<'_>) -> Result<(u64, u64), Misread>
+    ensures ok { IfOk result (λ read.
+        at_end (numbered_state (left_place left.entry)) ≡ Some (read.0, read.1)) }
+    ensures wrong { IfErr result (IsMisread (at_end (numbered_state (left_place left.entry)))) }
+{
+    let (number, rest) = first_number(left)?;
+    let (node, rest) = number_after(rest, b" at ")?;
+    if has_bytes(rest.bytes) {
+        return Err(Misread::Form);
+    }
+    Ok((number, node))
+}
+
+/// A window after its first word, to the end of its line.
+fn whole_window(alloc: Global, left: Left<'_>) -> Result<SpelledWindow, Misread>
+    ensures ok { IfOk result (λ read.
+        at_end (window_rest (left_place left.entry)) ≡ Some (window_line read)) }
+    ensures wrong { IfErr result (IsMisread (at_end (window_rest (left_place left.entry)))) }
+{
+    let (window, rest) = window(alloc, left)?;
+    if has_bytes(rest.bytes) {
+        return Err(Misread::Form);
+    }
+    Ok(window)
+}
+
+/// A name, to the end of its line.
+fn whole_name(left: Left<'_>) -> Result<Name, Misread>
+    ensures ok { IfOk result (λ name. at_end (first_name (left_place left.entry)) ≡ Some name) }
+    ensures wrong { IfErr result (IsMisread (at_end (first_name (left_place left.entry)))) }
+{
+    let (name, rest) = first_name(left)?;
+    if has_bytes(rest.bytes) {
+        return Err(Misread::Form);
+    }
+    Ok(name)
+}
+
+/// The line, where nothing is left of it.
+fn whole(line: Line, left: Left<'_>) -> Result<Line, Misread>
+    ensures ok { IfOk result (λ read.
+        value_at_end (line_tree line) (left_place left.entry).bytes ≡ Some (line_tree read)) }
+    ensures wrong { IfErr result
+        (IsMisread (value_at_end (line_tree line) (left_place left.entry).bytes)) }
+{
+    if has_bytes(left.bytes) {
+        return Err(Misread::Form);
+    }
+    Ok(line)
+}
+
+/// The line that the bytes are, without their line feed.
+pub fn read_line(alloc: Global, left: Left<'_>) -> Result<Line, Misread>
+    ensures ok { IfOk result (λ line. read_line (left_place left.entry) ≡ Some (line_tree line)) }
+    ensures wrong { IfErr result (IsMisread (read_line (left_place left.entry))) }
+{
+    if let Some(rest) = past(left, b"input ") {
+        return Ok(Line::Input(whole_name(rest)?));
+    }
+    if let Some(rest) = past(left, b"cell ") {
+        return Ok(Line::Cell(whole_name(rest)?));
+    }
+    if let Some(rest) = past(left, b"output ") {
+        return Ok(Line::Output(whole_name(rest)?));
+    }
+    if let Some(rest) = past(left, b"window ") {
+        return Ok(Line::Window(whole_window(alloc, rest)?));
+    }
+    if let Some(rest) = past(left, b"node ") {
+        let (number, node) = numbered_node(alloc, rest)?;
+        return Ok(Line::Node(number, node));
+    }
+    if let Some(rest) = past(left, b"state ") {
+        let (number, node) = numbered_state(rest)?;
+        return Ok(Line::State(number, node));
+    }
+    if let Some(rest) = past(left, b"tslprogram 1") {
+        return whole(Line::Head, rest);
+    }
+    let rest = expect(left, b"end")?;
+    whole(Line::End, rest)
+}

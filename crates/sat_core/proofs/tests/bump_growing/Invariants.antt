@@ -1,9 +1,0 @@
-use Rattle.std.proofs.Common.{◌≡◌}
-use Rattle.sat_core.specs.internal.Heaps.{IsHeap, heap_variables}
-use Rattle.sat_core.proofs.tests.bump_growing.Given as goal
-
-abbrev pub invariant-loop : goal.invariant-loop
-invariant-loop l = record {
-  heap : IsHeap l.heap;
-  count : heap_variables l.heap ≡ heap_variables l.fn.heap;
-}

@@ -1,9 +1,0 @@
-use Rattle.std.proofs.Common.{◌-◌, length}
-use Rattle.sat_core.proofs.Noting.{IsNoting}
-use Rattle.sat_core.proofs.units.Units.note_all.Given as goal
-
-abbrev pub invariant-loop-self : goal.invariant-loop-self
-invariant-loop-self l = IsNoting l.fn.trail l.fn.journal l.fn.self l.trail l.journal l.self
-
-abbrev pub decreases-loop-self : goal.decreases-loop-self
-decreases-loop-self l = length l.trail.entries - l.self.looked

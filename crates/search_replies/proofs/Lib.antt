@@ -1,0 +1,11 @@
+pub mod ChoiceCounts
+pub mod FewVariables
+pub mod FormulaLines
+pub mod GenReplies
+pub mod GenStages
+pub mod HeldRounds
+pub mod ProveReplies
+pub mod ProveStages
+pub mod SynthReplies
+pub mod SynthStages
+pub mod WholeTexts

@@ -1,0 +1,5 @@
+pub mod Gen
+pub mod Prove
+pub mod QuestionRanges
+pub mod Synth
+pub mod internal

@@ -1,0 +1,187 @@
+-- What the grammar reads, and where it stops.
+use Rattle.std.proofs.Common.{◌≡◌, ℕ, List, [], ◌∷◌, ◌++◌, refl, map}
+use Rattle.std.specs.Prelude.{codes, Ok, Err}
+use Rattle.tsl_text.specs.declared.TokenKind.TheVariants.{OpenBrace, CloseBrace, OpenRound, CloseRound, OpenSquare, CloseSquare, Semicolon}
+use Rattle.tsl_text.specs.declared.TokenKind.TheVariants.{Not, And, Or, Arrow, BothArrow, LeftArrow}
+use Rattle.tsl_text.specs.Lexeme.{name}
+use Rattle.spec_syntax.specs.declared.syntax.Word.TheVariants.{Assume, Guarantee, Always, Initially, X, U, A}
+use Rattle.tsl_terms.specs.declared.operator.UnaryOperator.TheVariants.{Negation, Next}
+use Rattle.tsl_terms.specs.declared.operator.BinaryOperator.TheVariants.{Implication, Equivalence}
+use Rattle.tsl_terms.specs.declared.operator.ManyOperator.TheVariants.{Conjunction, Disjunction}
+use Rattle.spec_syntax.specs.declared.syntax.Part.TheVariants.{AssumeAlways, GuaranteeFirst}
+use Rattle.spec_syntax.specs.Syntax.{Terminal, free, word, mark, terminal_of, alone, applied, no_terms, more_terms, FormulaSyntax, bare}
+use Rattle.spec_syntax.specs.Syntax.{tested, under, between, joined, no_formulas, more_formulas, SectionSyntax}
+use Rattle.token_readers.specs.Readers.{form, deep, Answer, closing, iterate_most, iterate}
+use Rattle.spec_syntax.specs.Reading.{opened, argument, after_name, term_with, update_with, atom_with, prefix_from, prefix_with, further_from}
+use Rattle.spec_syntax.specs.Reading.{further, chain_after, and_with, or_after, arrow_from, arrow_after, imp_after, iff_after, right_with}
+use Rattle.spec_syntax.specs.Reading.{formula_from, formula_after, formula_with, above, lower, item}
+use Rattle.spec_syntax.specs.Reading.{formulas, section_made, items, side, section_at, section, sections}
+use Rattle.spec_syntax.specs.Grammar.{AreSections, IsAtom, test, one_argument, constant_argument}
+use Rattle.spec_syntax.specs.Texts.{NoTextBegins}
+use Rattle.spec_syntax.proofs.ExactSections.{sections_derive}
+use Rattle.spec_syntax.proofs.Faults.{form_stops_all, deep_stops}
+
+-- ---- terminals
+
+words_are_reserved : map terminal_of (name (codes "X") ∷ name (codes "A") ∷ name (codes "always") ∷ []) ≡ word X ∷ word A ∷ word Always ∷ []
+words_are_reserved = refl
+
+other_names_are_free : map terminal_of (name (codes "X1") ∷ name (codes "x") ∷ name (codes "Always") ∷ [])
+    ≡ free (codes "X1") ∷ free (codes "x") ∷ free (codes "Always") ∷ []
+other_names_are_free = refl
+
+-- ---- formulas
+
+abbrev a : Terminal
+a = free (codes "a")
+
+abbrev b : Terminal
+b = free (codes "b")
+
+abbrev c : Terminal
+c = free (codes "c")
+
+abbrev p : Terminal
+p = free (codes "p")
+
+-- `guarantee { .. }`
+abbrev guaranteed : List Terminal → List Terminal
+guaranteed xs = word Guarantee ∷ mark OpenBrace ∷ (xs ++ mark CloseBrace ∷ [])
+
+abbrev one_formula : FormulaSyntax → Answer Terminal (List SectionSyntax)
+one_formula f = Ok (section_made GuaranteeFirst (f ∷ []) ∷ [], [])
+
+-- `a -> b -> c` is `a -> (b -> c)`
+arrows_are_right : sections 2 (guaranteed (a ∷ mark Arrow ∷ b ∷ mark Arrow ∷ c ∷ [])) ≡
+    one_formula (between Implication (bare (codes "a")) (between Implication (bare (codes "b")) (bare (codes "c"))))
+unfolding closing iterate_most iterate opened argument after_name term_with update_with atom_with prefix_from prefix_with further_from further chain_after and_with or_after arrow_from arrow_after imp_after iff_after right_with formula_from formula_after formula_with above lower item formulas items side section_at section sections
+arrows_are_right = refl
+
+-- `a && b && c` is one conjunction, and one in brackets stays a node of its own
+brackets_keep_conjunctions : sections 1 (guaranteed (a ∷ mark And ∷ b ∷ mark And ∷ mark OpenRound ∷ a ∷ mark And ∷ c ∷ mark CloseRound ∷ [])) ≡
+    one_formula (joined Conjunction (more_formulas (bare (codes "a")) (more_formulas (bare (codes "b")) (more_formulas
+    (joined Conjunction (more_formulas (bare (codes "a")) (more_formulas (bare (codes "c")) no_formulas))) no_formulas))))
+unfolding closing iterate_most iterate opened argument after_name term_with update_with atom_with prefix_from prefix_with further_from further chain_after and_with or_after arrow_from arrow_after imp_after iff_after right_with formula_from formula_after formula_with above lower item formulas items side section_at section sections
+brackets_keep_conjunctions = refl
+
+-- `a || b && c`
+and_binds_stronger : sections 0 (guaranteed (a ∷ mark Or ∷ b ∷ mark And ∷ c ∷ [])) ≡
+    one_formula (joined Disjunction (more_formulas (bare (codes "a")) (more_formulas
+    (joined Conjunction (more_formulas (bare (codes "b")) (more_formulas (bare (codes "c")) no_formulas))) no_formulas)))
+unfolding closing iterate_most iterate opened argument after_name term_with update_with atom_with prefix_from prefix_with further_from further chain_after and_with or_after arrow_from arrow_after imp_after iff_after right_with formula_from formula_after formula_with above lower item formulas items side section_at section sections
+and_binds_stronger = refl
+
+-- `p()` and `p ()` are the same tokens: a predicate without arguments
+brackets_alone : sections 0 (guaranteed (p ∷ mark OpenRound ∷ mark CloseRound ∷ [])) ≡ one_formula (tested (codes "p") no_terms)
+unfolding closing iterate_most iterate opened argument after_name term_with update_with atom_with prefix_from prefix_with further_from further chain_after and_with or_after arrow_from arrow_after imp_after iff_after right_with formula_from formula_after formula_with above lower item formulas items side section_at section sections
+brackets_alone = refl
+
+-- `p (a)`
+bracketed_argument : sections 1 (guaranteed (p ∷ mark OpenRound ∷ a ∷ mark CloseRound ∷ []))
+    ≡ one_formula (tested (codes "p") (more_terms (alone (codes "a")) no_terms))
+unfolding closing iterate_most iterate opened argument after_name term_with update_with atom_with prefix_from prefix_with further_from further chain_after and_with or_after arrow_from arrow_after imp_after iff_after right_with formula_from formula_after formula_with above lower item formulas items side section_at section sections
+bracketed_argument = refl
+
+-- `p a ()`: the argument takes the brackets
+arguments_take_brackets : sections 0 (guaranteed (p ∷ a ∷ mark OpenRound ∷ mark CloseRound ∷ []))
+    ≡ one_formula (tested (codes "p") (more_terms (applied (codes "a") no_terms) no_terms))
+unfolding closing iterate_most iterate opened argument after_name term_with update_with atom_with prefix_from prefix_with further_from further chain_after and_with or_after arrow_from arrow_after imp_after iff_after right_with formula_from formula_after formula_with above lower item formulas items side section_at section sections
+arguments_take_brackets = refl
+
+-- `a U b U c` stops at the second `U`
+no_chain_of_until : sections 5 (guaranteed (a ∷ word U ∷ b ∷ word U ∷ c ∷ [])) ≡ Err (form 3)
+unfolding closing iterate_most iterate opened argument after_name term_with update_with atom_with prefix_from prefix_with further_from further chain_after and_with or_after arrow_from arrow_after imp_after iff_after right_with formula_from formula_after formula_with above lower item formulas items side section_at section sections
+no_chain_of_until = refl
+
+-- `a U b && c` stops at `&&`
+until_wants_brackets : sections 5 (guaranteed (a ∷ word U ∷ b ∷ mark And ∷ c ∷ [])) ≡ Err (form 3)
+unfolding closing iterate_most iterate opened argument after_name term_with update_with atom_with prefix_from prefix_with further_from further chain_after and_with or_after arrow_from arrow_after imp_after iff_after right_with formula_from formula_after formula_with above lower item formulas items side section_at section sections
+until_wants_brackets = refl
+
+-- `! X a` takes two levels
+two_levels_fit : sections 2 (guaranteed (mark Not ∷ word X ∷ a ∷ [])) ≡ one_formula (under Negation (under Next (bare (codes "a"))))
+unfolding closing iterate_most iterate opened argument after_name term_with update_with atom_with prefix_from prefix_with further_from further chain_after and_with or_after arrow_from arrow_after imp_after iff_after right_with formula_from formula_after formula_with above lower item formulas items side section_at section sections
+two_levels_fit = refl
+
+a_third_level_is_deep : sections 1 (guaranteed (mark Not ∷ word X ∷ a ∷ [])) ≡ Err (deep 3)
+unfolding closing iterate_most iterate opened argument after_name term_with update_with atom_with prefix_from prefix_with further_from further chain_after and_with or_after arrow_from arrow_after imp_after iff_after right_with formula_from formula_after formula_with above lower item formulas items side section_at section sections
+a_third_level_is_deep = refl
+
+-- behind arrows of two levels a `<->` of the outer chain is fine
+levels_of_chains_are_their_own : sections 2 (guaranteed (a ∷ mark Arrow ∷ b ∷ mark Arrow ∷ c ∷ mark BothArrow ∷ a ∷ [])) ≡
+    one_formula (between Equivalence (between Implication (bare (codes "a")) (between Implication (bare (codes "b")) (bare (codes "c"))))
+    (bare (codes "a")))
+unfolding closing iterate_most iterate opened argument after_name term_with update_with atom_with prefix_from prefix_with further_from further chain_after and_with or_after arrow_from arrow_after imp_after iff_after right_with formula_from formula_after formula_with above lower item formulas items side section_at section sections
+levels_of_chains_are_their_own = refl
+
+-- without a level left, `p (a` is deep at `a`
+deep_behind_the_bracket : sections 0 (guaranteed (p ∷ mark OpenRound ∷ a ∷ [])) ≡ Err (deep 2)
+unfolding closing iterate_most iterate opened argument after_name term_with update_with atom_with prefix_from prefix_with further_from further chain_after and_with or_after arrow_from arrow_after imp_after iff_after right_with formula_from formula_after formula_with above lower item formulas items side section_at section sections
+deep_behind_the_bracket = refl
+
+-- and `p (;` a form fault at `;`
+form_behind_the_bracket : sections 0 (guaranteed (p ∷ mark OpenRound ∷ mark Semicolon ∷ [])) ≡ Err (form 2)
+unfolding closing iterate_most iterate opened argument after_name term_with update_with atom_with prefix_from prefix_with further_from further chain_after and_with or_after arrow_from arrow_after imp_after iff_after right_with formula_from formula_after formula_with above lower item formulas items side section_at section sections
+form_behind_the_bracket = refl
+
+-- behind `p a ()` a further bracket is itself deep
+deep_at_the_bracket : sections 0 (guaranteed (p ∷ a ∷ mark OpenRound ∷ mark CloseRound ∷ mark OpenRound ∷ [])) ≡ Err (deep 2)
+unfolding closing iterate_most iterate opened argument after_name term_with update_with atom_with prefix_from prefix_with further_from further chain_after and_with or_after arrow_from arrow_after imp_after iff_after right_with formula_from formula_after formula_with above lower item formulas items side section_at section sections
+deep_at_the_bracket = refl
+
+-- a reserved word is no name
+no_word_as_a_name : sections 0 (guaranteed (mark OpenSquare ∷ word A ∷ mark LeftArrow ∷ a ∷ mark CloseSquare ∷ [])) ≡ Err (form 5)
+unfolding closing iterate_most iterate opened argument after_name term_with update_with atom_with prefix_from prefix_with further_from further chain_after and_with or_after arrow_from arrow_after imp_after iff_after right_with formula_from formula_after formula_with above lower item formulas items side section_at section sections
+no_word_as_a_name = refl
+
+-- ---- sections
+
+-- the last semicolon may be missing
+last_semicolon : sections 0 (guaranteed (a ∷ mark Semicolon ∷ b ∷ []))
+    ≡ sections 0 (guaranteed (a ∷ mark Semicolon ∷ b ∷ mark Semicolon ∷ []))
+unfolding closing iterate_most iterate opened argument after_name term_with update_with atom_with prefix_from prefix_with further_from further chain_after and_with or_after arrow_from arrow_after imp_after iff_after right_with formula_from formula_after formula_with above lower item formulas items side section_at section sections
+last_semicolon = refl
+
+no_semicolon_alone : sections 0 (guaranteed (mark Semicolon ∷ [])) ≡ Err (form 2)
+unfolding closing iterate_most iterate opened argument after_name term_with update_with atom_with prefix_from prefix_with further_from further chain_after and_with or_after arrow_from arrow_after imp_after iff_after right_with formula_from formula_after formula_with above lower item formulas items side section_at section sections
+no_semicolon_alone = refl
+
+no_section_is_a_text : sections 0 [] ≡ Ok ([], [])
+unfolding closing iterate_most iterate opened argument after_name term_with update_with atom_with prefix_from prefix_with further_from further chain_after and_with or_after arrow_from arrow_after imp_after iff_after right_with formula_from formula_after formula_with above lower item formulas items side section_at section sections
+no_section_is_a_text = refl
+
+a_section_without_formulas : sections 0 (guaranteed ([])) ≡ Ok (section_made GuaranteeFirst [] ∷ [], [])
+unfolding closing iterate_most iterate opened argument after_name term_with update_with atom_with prefix_from prefix_with further_from further chain_after and_with or_after arrow_from arrow_after imp_after iff_after right_with formula_from formula_after formula_with above lower item formulas items side section_at section sections
+a_section_without_formulas = refl
+
+always_is_a_list_of_its_own : sections 0 (word Always ∷ word Assume ∷ mark OpenBrace ∷ mark CloseBrace ∷ word Initially ∷ word Guarantee ∷ mark OpenBrace ∷ mark CloseBrace ∷ []) ≡
+    Ok (section_made AssumeAlways [] ∷ section_made GuaranteeFirst [] ∷ [], [])
+unfolding closing iterate_most iterate opened argument after_name term_with update_with atom_with prefix_from prefix_with further_from further chain_after and_with or_after arrow_from arrow_after imp_after iff_after right_with formula_from formula_after formula_with above lower item formulas items side section_at section sections
+always_is_a_list_of_its_own = refl
+
+-- a text that ends within a section
+cut_off : sections 0 (word Guarantee ∷ mark OpenBrace ∷ a ∷ []) ≡ Err (form 0)
+unfolding closing iterate_most iterate opened argument after_name term_with update_with atom_with prefix_from prefix_with further_from further chain_after and_with or_after arrow_from arrow_after imp_after iff_after right_with formula_from formula_after formula_with above lower item formulas items side section_at section sections
+cut_off = refl
+
+-- ---- the grammar itself
+
+-- a form of the grammar by its cases: `p a ()` as an atom
+an_atom : IsAtom 0 (p ∷ a ∷ mark OpenRound ∷ mark CloseRound ∷ []) (tested (codes "p") (more_terms (applied (codes "a") no_terms) no_terms))
+an_atom = test (codes "p") (one_argument (constant_argument (codes "a")))
+
+-- `guarantee { a -> b -> c }` derives with two levels
+arrows_derive : AreSections 2 (guaranteed (a ∷ mark Arrow ∷ b ∷ mark Arrow ∷ c ∷ []))
+    (section_made GuaranteeFirst (between Implication (bare (codes "a")) (between Implication (bare (codes "b")) (bare
+    (codes "c"))) ∷ []) ∷ [])
+arrows_derive = sections_derive 2 _ _ [] arrows_are_right
+
+-- and `guarantee { a U b U c }` with no number of levels, nor any text that begins with `guarantee { a U b U`
+no_chain_derives : (room : ℕ) → NoTextBegins room (word Guarantee ∷ mark OpenBrace ∷ a ∷ word U ∷ b ∷ word U ∷ [])
+no_chain_derives room = form_stops_all 5 _ 3 no_chain_of_until (word Guarantee ∷ mark OpenBrace ∷ a ∷ word U ∷ b ∷ []) (word U)
+    (c ∷ mark CloseBrace ∷ []) refl refl room
+
+-- `guarantee { ! X a }` derives with no text of one level
+no_third_level_derives : NoTextBegins 1 (word Guarantee ∷ mark OpenBrace ∷ mark Not ∷ word X ∷ [])
+no_third_level_derives = deep_stops 1 _ 3 a_third_level_is_deep (word Guarantee ∷ mark OpenBrace ∷ mark Not ∷ []) (word X)
+    (a ∷ mark CloseBrace ∷ []) refl refl

@@ -1,0 +1,10 @@
+mod Examples
+pub mod TreeLemmas
+pub mod ReadLemmas
+pub mod Lift
+pub mod ExactTerms
+pub mod ExactPrefixes
+pub mod ExactFormulas
+pub mod ExactSections
+pub mod ReadLoops
+pub mod Faults

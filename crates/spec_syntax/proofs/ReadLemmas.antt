@@ -1,0 +1,272 @@
+-- One step of reading, over plain variables.
+use Rattle.std.proofs.Common.{◌≡◌, ℕ, zero, suc, ◌+◌, ◌-◌, ◌<◌, List, [], ◌∷◌, length, get_or, refl, ap, ◌∙◌, arith}
+use Rattle.std.proofs.lemmas.List.{length-map}
+use Rattle.std.proofs.lemmas.Grind.{common_steps}
+use Rattle.std.proofs.lemmas.Result.{err_from_is_err_and}
+use Rattle.std.specs.Prelude.{◌≤◌, Bool, true, false, Option, Some, None, Result, Ok, Err, if◌then◌else◌, take, drop}
+use Rattle.std.specs.Borrow.{Bor}
+use Rattle.std.specs.Result.{IsErrAnd}
+use Rattle.tsl_text.specs.declared.TokenKind.TheVariants.{CloseRound, OpenBrace, LeftArrow}
+use Rattle.token_readers.specs.Readers.{form, deep, Answer, Reader, form_at, deep_at, closing, closed_by, and_then, map_read}
+use Rattle.token_readers.specs.Readers.{below as below_level}
+use Rattle.spec_syntax.specs.declared.fault.ReadFault.{ReadFault}
+use Rattle.spec_syntax.specs.declared.fault.ReadFault.TheVariants.{Form, Deep, NoMemory}
+use Rattle.spec_syntax.specs.declared.terminal.Terminal.{Terminal as LentTerminal}
+use Rattle.spec_syntax.specs.Syntax.{Terminal, free, mark, TermSyntax, FormulaSyntax, updated}
+use Rattle.spec_syntax.specs.SyntaxView.{terminal_view, terminals_view, HasSyntaxFault, Reads}
+use Rattle.spec_syntax.specs.declared.syntax.Part.{Part}
+use Rattle.spec_syntax.specs.declared.formulas.Form.{Form as GrammarForm}
+use Rattle.spec_syntax.specs.declared.formulas.Form.TheVariants.{Prefix, Right, Formula}
+use Rattle.spec_syntax.specs.internal.Forms.{reader_of, form_with}
+use Rattle.spec_syntax.specs.Reading.{
+  is_close_brace,
+  bracketed_formula,
+  formulas,
+  items,
+  section_made,
+  Level,
+  is_close_round,
+  is_close_square,
+  lower,
+  above,
+  bracketed_term,
+  begins_term,
+  beyond,
+  opened,
+  term_with,
+  update_with,
+}
+
+pub no_level : (room : ℕ) → room ≡ 0 → lower room ≡ None
+unfolding lower
+no_level zero h = refl
+no_level (suc room) h = cc
+
+pub one_level : (room below : ℕ) → room ≡ below + 1 → lower room ≡ Some (above (lower below))
+unfolding lower
+one_level zero below h = absurd (omega (arith, h))
+one_level (suc room) below h = let e : room ≡ below = omega (arith, h) in rw e refl
+
+-- a fault that is passed on
+pub passed_on : {U V : Type 0} (view : U → V) (reader : Reader Terminal V) (xs : List LentTerminal)
+    (r : Result (U × Bor (List LentTerminal)) ReadFault) (fault : ReadFault) → IsErrAnd r (λ e. e ≡ fault) →
+    HasSyntaxFault (reader (terminals_view xs)) fault → Reads view reader xs r
+passed_on view reader xs r fault h k = let p = err_from_is_err_and r h in rw (p.1, p.2) k
+
+-- the same is read in another way
+pub reads_as : {U V : Type 0} (view : U → V) (f g : Reader Terminal V) (xs ys : List LentTerminal)
+    (r : Result (U × Bor (List LentTerminal)) ReadFault) → f (terminals_view xs) ≡ g (terminals_view ys) →
+    Reads view g ys r → Reads view f xs r
+reads_as view f g xs ys (Ok read) e h = e ∙ h
+reads_as view f g xs ys (Err fault) e h = rw e h
+
+-- the terminals after the first
+pub after_first : (xs : List LentTerminal) → 1 ≤ length xs →
+    (x : Terminal) × (terminals_view xs ≡ x ∷ terminals_view (take (length xs - 1) (drop 1 xs)))
+after_first [] h = absurd (omega (arith, h))
+after_first (x ∷ xs) h = (terminal_view x, grind (arith, common_steps))
+
+-- the first terminal, and the others
+pub first_view : (xs : List LentTerminal) (d : LentTerminal) → 1 ≤ length xs →
+    terminals_view xs ≡ terminal_view (get_or xs 0 d) ∷ terminals_view (take (length xs - 1) (drop 1 xs))
+first_view [] d h = absurd (omega (arith, h))
+first_view (x ∷ xs) d h = grind (arith, common_steps)
+
+-- a closing bracket, by its test
+pub close_read : (is : Terminal → Bool) (xs : List LentTerminal) (d : LentTerminal) → 1 ≤ length xs →
+    is (terminal_view (get_or xs 0 d)) ≡ true →
+    closing is (tt {0}) (terminals_view xs) ≡ Ok (tt {0}, terminals_view (take (length xs - 1) (drop 1 xs)))
+unfolding closing
+close_read is xs d h e = rw (first_view xs d h, e) refl
+
+pub close_wrong : (is : Terminal → Bool) (xs : List LentTerminal) (d : LentTerminal) → 1 ≤ length xs →
+    is (terminal_view (get_or xs 0 d)) ≡ false →
+    closing is (tt {0}) (terminals_view xs) ≡ Err (form (length xs))
+unfolding closing
+close_wrong is [] d h e = absurd (omega (arith, h))
+close_wrong is (x ∷ xs) d h e =
+    ap (λ b. if b then Ok (tt {0}, terminals_view xs) else form_at (terminals_view (x ∷ xs))) e
+    ∙ ap (λ n. Err (form n)) (length-map (x ∷ xs) terminal_view)
+
+pub close_end : (is : Terminal → Bool) (xs : List LentTerminal) → length xs < 1 → closing is (tt {0}) (terminals_view xs) ≡ Err (form 0)
+unfolding closing
+close_end is [] h = refl
+close_end is (x ∷ xs) h = absurd (omega (arith, h))
+
+module _ {V W : Type 0} where
+  pub then_fault : (answer : Answer Terminal V) (next : V → Reader Terminal W) (fault : ReadFault) → HasSyntaxFault answer fault →
+      HasSyntaxFault (and_then answer next) fault
+  then_fault answer next (Form left) h = rw h refl
+  then_fault answer next (Deep left) h = rw h refl
+  then_fault answer next NoMemory h = tt
+
+  pub map_fault : (make : V → W) (answer : Answer Terminal V) (fault : ReadFault) → HasSyntaxFault answer fault →
+      HasSyntaxFault (map_read make answer) fault
+  map_fault make answer (Form left) h = rw h refl
+  map_fault make answer (Deep left) h = rw h refl
+  map_fault make answer NoMemory h = tt
+
+-- the terminals after what was read
+rest_of : {V : Type 0} → Answer Terminal V → List Terminal
+rest_of (Ok (v, rest)) = rest
+rest_of (Err fault) = []
+
+closing_value : {V : Type 0} (is : Terminal → Bool) (v : V) (xs rest : List Terminal) → closing is (tt {0}) xs ≡ Ok (tt {0}, rest) →
+    closing is v xs ≡ Ok (v, rest)
+unfolding closing rest_of
+closing_value is v [] rest h = cc
+closing_value is v (x ∷ xs) rest h = by (is x) h where
+  by : (b : Bool) → (if b then Ok (tt {0}, xs) else form_at (x ∷ xs)) ≡ Ok (tt {0}, rest) →
+      (if b then Ok (v, xs) else form_at (x ∷ xs)) ≡ Ok (v, rest)
+  by true h = let e : xs ≡ rest = ap rest_of h in rw e refl
+  by false h = cc
+
+closing_fault : {V : Type 0} (is : Terminal → Bool) (v : V) (xs : List Terminal) (fault : ReadFault) →
+    HasSyntaxFault (closing is (tt {0}) xs) fault → HasSyntaxFault (closing is v xs) fault
+unfolding closing
+closing_fault is v [] (Form left) h = cc
+closing_fault is v [] (Deep left) h = cc
+closing_fault is v xs NoMemory h = tt
+closing_fault is v (x ∷ xs) (Form left) h = by (is x) h where
+  by : (b : Bool) → (if b then Ok (tt {0}, xs) else form_at (x ∷ xs)) ≡ Err (form left) →
+      (if b then Ok (v, xs) else form_at (x ∷ xs)) ≡ Err (form left)
+  by true h = cc
+  by false h = cc
+closing_fault is v (x ∷ xs) (Deep left) h = by (is x) h where
+  by : (b : Bool) → (if b then Ok (tt {0}, xs) else form_at (x ∷ xs)) ≡ Err (deep left) →
+      (if b then Ok (v, xs) else form_at (x ∷ xs)) ≡ Err (deep left)
+  by true h = cc
+  by false h = cc
+
+module _ {V : Type 0} where
+  -- a form and its closing bracket
+  pub closed_read : (is : Terminal → Bool) (reader : Reader Terminal V) (xs : List Terminal) (v : V) (rest after : List Terminal) →
+      reader xs ≡ Ok (v, rest) →
+      closing is (tt {0}) rest ≡ Ok (tt {0}, after) → closed_by is reader xs ≡ Ok (v, after)
+  closed_read is reader xs v rest after h k = ap (λ answer. and_then answer (closing is)) h ∙ closing_value is v rest after k
+
+  pub closed_fault : (is : Terminal →
+      Bool) (reader : Reader Terminal V) (xs : List Terminal) (v : V) (rest : List Terminal) (fault : ReadFault) →
+      reader xs ≡ Ok (v, rest) →
+      HasSyntaxFault (closing is (tt {0}) rest) fault → HasSyntaxFault (closed_by is reader xs) fault
+  closed_fault is reader xs v rest fault h k = rw h (closing_fault is v rest fault k)
+
+  -- what is read of the level below, after the first terminal
+  pub below_is : (L : Type 0) (low : Option L) (l : L) (reader : L → Reader Terminal V) (xs : List LentTerminal) → low ≡ Some l →
+      1 ≤ length xs →
+      below_level low reader (terminals_view xs) ≡ reader l (terminals_view (take (length xs - 1) (drop 1 xs)))
+  below_is L low l reader xs h k = rw (h, (after_first xs k).1) refl
+
+-- after a name and an opening bracket, where there is no level below
+pub beyond_fault : (V : Type 0) (xs : List LentTerminal) (fault : ReadFault) →
+    fault ≡ (if begins_term (terminals_view xs) then Deep (length xs) else Form (length xs)) →
+    HasSyntaxFault {V = V} (beyond (terminals_view xs)) fault
+beyond_fault V xs fault h = rw h (by_test V (begins_term (terminals_view xs)) (length-map xs terminal_view))
+  where
+    by_test : (V : Type 0) (b : Bool) → length (terminals_view xs) ≡ length xs →
+        HasSyntaxFault {V = V} (if b then deep_at (terminals_view xs) else form_at (terminals_view xs))
+        (if b then Deep (length xs) else Form (length xs))
+    by_test V true e = ap (λ n. Err (deep n)) e
+    by_test V false e = ap (λ n. Err (form n)) e
+
+-- whether a closing bracket stands at the front
+abbrev pub begins_close : List Terminal → Bool
+begins_close (mark CloseRound ∷ rest) = true
+begins_close _ = false
+
+opened_beyond : (xs : List Terminal) → begins_close xs ≡ false → opened None xs ≡ beyond xs
+unfolding opened
+opened_beyond (mark CloseRound ∷ xs) h = cc
+opened_beyond xs h = refl
+
+pub not_opened : (room : ℕ) (xs : List LentTerminal) (fault : ReadFault) → lower room ≡ None → begins_close (terminals_view xs) ≡ false →
+    fault ≡ (if begins_term (terminals_view xs) then Deep (length xs) else Form (length xs)) →
+    HasSyntaxFault (opened (lower room) (terminals_view xs)) fault
+not_opened room xs fault none h e = rw (none, opened_beyond (terminals_view xs) h) (beyond_fault (Option TermSyntax) xs fault e)
+
+opened_is : (low : Option Level) (l : Level) (xs : List Terminal) → low ≡ Some l → begins_close xs ≡ false →
+    opened low xs ≡ map_read (λ t. Some t) (bracketed_term l xs)
+unfolding opened
+opened_is None l xs e h = cc
+opened_is (Some m) l (mark CloseRound ∷ xs) e h = cc
+opened_is (Some m) l xs e h = let same : m ≡ l = cc in rw same refl
+
+pub opened_read : (room below : ℕ) (xs : List Terminal) (t : TermSyntax) (rest : List Terminal) → lower room ≡ Some (above (lower below)) →
+    begins_close xs ≡ false →
+    bracketed_term (above (lower below)) xs ≡ Ok (t, rest) → opened (lower room) xs ≡ Ok (Some t, rest)
+opened_read room below xs t rest e h k =
+    opened_is (lower room) (above (lower below)) xs e h ∙ ap (map_read (λ t. Some t)) k
+
+pub opened_fault : (room below : ℕ) (xs : List Terminal) (fault : ReadFault) → lower room ≡ Some (above (lower below)) →
+    begins_close xs ≡ false →
+    HasSyntaxFault (bracketed_term (above (lower below)) xs) fault → HasSyntaxFault (opened (lower room) xs) fault
+opened_fault room below xs fault e h k =
+    rw (opened_is (lower room) (above (lower below)) xs e h) (map_fault (λ t. Some t) (bracketed_term (above (lower below)) xs) fault k)
+
+-- ---- an update
+
+pub updated_read : (l : Option Level) (name : List ℕ) (xs : List Terminal) (t : TermSyntax) (rest after : List Terminal) →
+    term_with l xs ≡ Ok (t, rest) → closing is_close_square (tt {0}) rest ≡ Ok (tt {0}, after) →
+    update_with l (free name ∷ mark LeftArrow ∷ xs) ≡ Ok (updated name t, after)
+unfolding update_with
+updated_read l name xs t rest after h k = ap (map_read (updated name)) (closed_read is_close_square (term_with l) xs t rest after h k)
+
+pub unclosed_update : (l : Option Level) (name : List ℕ) (xs : List Terminal) (t : TermSyntax) (rest : List Terminal) (fault : ReadFault) →
+    term_with l xs ≡ Ok (t, rest) → HasSyntaxFault (closing is_close_square (tt {0}) rest) fault →
+    HasSyntaxFault (update_with l (free name ∷ mark LeftArrow ∷ xs)) fault
+unfolding update_with
+unclosed_update l name xs t rest fault h k =
+    map_fault (updated name) (closed_by is_close_square (term_with l) xs) fault
+    (closed_fault is_close_square (term_with l) xs t rest fault h k)
+
+-- ---- the items of a section between their braces
+
+pub items_read : (room : ℕ) (part : Part) (xs : List Terminal) (fs : List FormulaSyntax) (rest after : List Terminal) →
+    formulas room xs ≡ Ok (fs, rest) → closing is_close_brace (tt {0}) rest ≡ Ok (tt {0}, after) →
+    items room part (mark OpenBrace ∷ xs) ≡ Ok (section_made part fs, after)
+unfolding items
+items_read room part xs fs rest after h k =
+    ap (map_read (section_made part)) (closed_read is_close_brace (formulas room) xs fs rest after h k)
+
+pub items_unclosed : (room : ℕ) (part : Part) (xs : List Terminal) (fs : List FormulaSyntax) (rest : List Terminal) (fault : ReadFault) →
+    formulas room xs ≡ Ok (fs, rest) → HasSyntaxFault (closing is_close_brace (tt {0}) rest) fault →
+    HasSyntaxFault (items room part (mark OpenBrace ∷ xs)) fault
+unfolding items
+items_unclosed room part xs fs rest fault h k =
+    map_fault (section_made part) (closed_by is_close_brace (formulas room) xs) fault
+    (closed_fault is_close_brace (formulas room) xs fs rest fault h k)
+
+-- ---- a form of the level below
+
+-- after the first terminal
+pub form_after_first : (room below : ℕ) (kind : GrammarForm) (xs : List LentTerminal) → lower room ≡ Some (above (lower below)) →
+    1 ≤ length xs →
+    below_level (lower room) (reader_of kind) (terminals_view xs)
+    ≡ form_with kind (lower below) (terminals_view (take (length xs - 1) (drop 1 xs)))
+unfolding above
+form_after_first room below kind xs h k = rw (h, (after_first xs k).1) (by_form kind)
+  where
+    by_form : (kind : GrammarForm) → reader_of kind (above (lower below)) (terminals_view (take (length xs - 1) (drop 1 xs)))
+        ≡ form_with kind (lower below) (terminals_view (take (length xs - 1) (drop 1 xs)))
+    by_form Prefix = refl
+    by_form (Right kind) = refl
+    by_form Formula = refl
+
+-- in brackets
+below_bracketed : (l : Option Level) (xs : List Terminal) →
+    below_level l bracketed_formula xs ≡ and_then (below_level l (reader_of Formula) xs) (closing is_close_round)
+below_bracketed None xs = refl
+below_bracketed (Some m) [] = refl
+below_bracketed (Some m) (x ∷ xs) = refl
+
+pub formula_in_brackets : (l : Option Level) (xs : List Terminal) (f : FormulaSyntax) (rest after : List Terminal) →
+    below_level l (reader_of Formula) xs ≡ Ok (f, rest) → closing is_close_round (tt {0}) rest ≡ Ok (tt {0}, after) →
+    below_level l bracketed_formula xs ≡ Ok (f, after)
+formula_in_brackets l xs f rest after h k = below_bracketed l xs
+    ∙ closed_read is_close_round (below_level l (reader_of Formula)) xs f rest after h k
+
+pub formula_unclosed : (l : Option Level) (xs : List Terminal) (f : FormulaSyntax) (rest : List Terminal) (fault : ReadFault) →
+    below_level l (reader_of Formula) xs ≡ Ok (f, rest) → HasSyntaxFault (closing is_close_round (tt {0}) rest) fault →
+    HasSyntaxFault (below_level l bracketed_formula xs) fault
+formula_unclosed l xs f rest fault h k =
+    rw (below_bracketed l xs) (closed_fault is_close_round (below_level l (reader_of Formula)) xs f rest fault h k)

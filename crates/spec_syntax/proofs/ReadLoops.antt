@@ -1,0 +1,200 @@
+-- The loops of reading: what is read so far, and then what is read of the terminals that are left.
+use Rattle.std.proofs.Common.{◌≡◌, ℕ, ◌<◌, List, [], ◌∷◌, ◌++◌, length, map, refl, ap, sym, ◌∙◌, arith}
+use Rattle.std.proofs.lemmas.List.{map-append, length-map}
+use Rattle.std.specs.Prelude.{true, false, Option, Some, None, Ok}
+use Rattle.tsl_text.specs.declared.TokenKind.TheVariants.{CloseBrace, Semicolon}
+use Rattle.spec_syntax.specs.declared.trees.ReadFormula.{ReadFormula}
+use Rattle.token_readers.specs.Readers.{form, deep, Answer, iterate, push, push_read, map_read, found_or_wrong}
+use Rattle.token_readers.proofs.Iterates.{Shrinks, step_shrinks, no_step, next_step, wrong_step}
+use Rattle.token_readers.proofs.Lists.{stepping as list_stepping}
+use Rattle.tsl_terms.specs.declared.operator.ManyOperator.{ManyOperator}
+use Rattle.tsl_terms.specs.declared.operator.ManyOperator.TheVariants.{Conjunction, Disjunction}
+use Rattle.spec_syntax.specs.declared.fault.ReadFault.{ReadFault}
+use Rattle.spec_syntax.specs.declared.terminal.Terminal.{Terminal as LentTerminal}
+use Rattle.spec_syntax.specs.declared.fault.ReadFault.TheVariants.{Form, Deep, NoMemory}
+use Rattle.spec_syntax.specs.Syntax.{Terminal, mark, FormulaSyntax}
+use Rattle.spec_syntax.specs.SyntaxView.{terminal_view, terminals_view, formula_syntax, HasSyntaxFault}
+use Rattle.spec_syntax.specs.internal.InnerView.{HasFaultOfMember}
+use Rattle.spec_syntax.specs.Reading.{lower, Arguments, argument, argument_wanted, fresh, goes_on, arguments_of, further, operand_with}
+use Rattle.spec_syntax.specs.Reading.{open_items, item_last}
+use Rattle.spec_syntax.specs.Reading.{items_of, item, begins_item, formula_with, formulas}
+use Rattle.spec_syntax.proofs.ReadLemmas.{map_fault}
+use Rattle.spec_syntax.proofs.ExactTerms.{stepping as argument_stepping, no_step as no_argument, some_step as some_argument, at_end}
+use Rattle.spec_syntax.proofs.ExactPrefixes.{terms_below, prefix_exact}
+use Rattle.spec_syntax.proofs.ExactFormulas.{below_exact, and_exact, further_member, and_facts, or_facts}
+use Rattle.spec_syntax.proofs.ExactSections.{item_shrinks}
+
+seen_shorter : (xs rest : List LentTerminal) → length (terminals_view rest) < length (terminals_view xs) → length rest < length xs
+seen_shorter xs rest h = omega (arith, length-map xs terminal_view, length-map rest terminal_view, h)
+
+module _ {S : Type 0} {step : S → List Terminal → Option (Answer Terminal S)} (shrinks : Shrinks step) where
+  step_fault : (s : S) (xs : List Terminal) (fault : ReadFault) → HasFaultOfMember (step s xs) fault →
+      HasSyntaxFault (iterate step s xs) fault
+  step_fault s xs (Form left) h = wrong_step shrinks s xs (form left) h
+  step_fault s xs (Deep left) h = wrong_step shrinks s xs (deep left) h
+  step_fault s xs NoMemory h = tt
+
+module _ {V : Type 0} where
+  -- a member's fault
+  pub member_fault : (answer : Answer Terminal V) (fault : ReadFault) → HasSyntaxFault answer fault → HasFaultOfMember (Some answer) fault
+  member_fault answer (Form left) h = ap Some h
+  member_fault answer (Deep left) h = ap Some h
+  member_fault answer NoMemory h = tt
+
+  push_fault : (vs : List V) (found : Option (Answer Terminal V)) (fault : ReadFault) → HasFaultOfMember found fault →
+      HasFaultOfMember (push_read vs found) fault
+  push_fault vs found (Form left) h = ap (push_read vs) h
+  push_fault vs found (Deep left) h = ap (push_read vs) h
+  push_fault vs found NoMemory h = tt
+
+module _ {U V : Type 0} (view : U → V) (member : List Terminal → Option (Answer Terminal V)) (shrinks : Shrinks (push member)) where
+  -- a member was read
+  pub members_more : (xs rest : List Terminal) (before : List U) (u : U) → member xs ≡ Some (Ok (view u, rest)) →
+      iterate (push member) (map view (before ++ u ∷ [])) rest ≡ iterate (push member) (map view before) xs
+  members_more xs rest before u h =
+      ap (λ vs. iterate (push member) vs rest) (map-append view before (u ∷ []))
+      ∙ next_step shrinks (map view before) xs (map view before ++ view u ∷ []) rest (ap (push_read (map view before)) h)
+
+  -- and fewer terminals are left
+  pub member_shortens : (xs rest : List LentTerminal) (v : V) → member (terminals_view xs) ≡ Some (Ok (v, terminals_view rest)) →
+      length rest < length xs
+  member_shortens xs rest v h = seen_shorter xs rest (shrinks [] (terminals_view xs) (v ∷ []) (terminals_view rest) (ap (push_read []) h))
+
+  -- no member is left
+  pub members_end : (xs : List Terminal) (vs : List V) → member xs ≡ None → iterate (push member) vs xs ≡ Ok (vs, xs)
+  members_end xs vs h = no_step shrinks vs xs (ap (push_read vs) h)
+
+  -- a member has a fault
+  pub members_fault : (xs : List Terminal) (vs : List V) (whole : Answer Terminal (List V)) (fault : ReadFault) →
+      iterate (push member) vs xs ≡ whole →
+      HasFaultOfMember (member xs) fault → HasSyntaxFault whole fault
+  members_fault xs vs whole fault h k = rw (← h) (step_fault shrinks vs xs fault (push_fault vs (member xs) fault k))
+
+  -- the reader of a member has one
+  pub member_found_fault : (xs : List Terminal) (vs : List V) (whole : Answer Terminal (List V)) (answer : Answer Terminal V)
+      (fault : ReadFault) → iterate (push member) vs xs ≡ whole →
+      member xs ≡ Some answer → HasSyntaxFault answer fault → HasSyntaxFault whole fault
+  member_found_fault xs vs whole answer fault h k e = members_fault xs vs whole fault h (rw k (member_fault answer fault e))
+
+pub further_shrinks : (op : ManyOperator) (room : ℕ) → Shrinks (push (further op (operand_with op (lower room))))
+further_shrinks Conjunction room = step_shrinks (list_stepping (further_member and_facts room (prefix_exact room (lower room) (below_exact room))))
+further_shrinks Disjunction room = step_shrinks (list_stepping (further_member or_facts room (and_exact room (lower room) (below_exact room))))
+
+-- ---- what follows a name
+
+arguments_shrink : (room : ℕ) → Shrinks (argument (lower room))
+arguments_shrink room = step_shrinks (argument_stepping room (lower room) (terms_below room (lower room) (below_exact room)))
+
+argument_is : (room : ℕ) (s : Arguments) (xs : List Terminal) → goes_on s xs ≡ true →
+    argument (lower room) s xs ≡ Some (found_or_wrong (argument (lower room) s xs) xs)
+argument_is room s [] h = cc
+argument_is room s (x ∷ rest) h = some_argument (lower room) s x rest h
+
+no_argument_is : (room : ℕ) (s : Arguments) (xs : List Terminal) → goes_on s xs ≡ false → argument (lower room) s xs ≡ None
+no_argument_is room s [] h = at_end (lower room) s
+no_argument_is room s (x ∷ rest) h = no_argument (lower room) s x rest h
+
+pub arguments_more : (room : ℕ) (s t : Arguments) (xs rest : List Terminal) → goes_on s xs ≡ true →
+    argument_wanted (lower room) s xs ≡ Ok (t, rest) →
+    iterate (argument (lower room)) t rest ≡ iterate (argument (lower room)) s xs
+arguments_more room s t xs rest h k = next_step (arguments_shrink room) s xs t rest (argument_is room s xs h ∙ ap Some k)
+
+pub arguments_shorten : (room : ℕ) (s t : Arguments) (xs rest : List LentTerminal) → goes_on s (terminals_view xs) ≡ true →
+    argument_wanted (lower room) s (terminals_view xs) ≡ Ok (t, terminals_view rest) → length rest < length xs
+arguments_shorten room s t xs rest h k =
+    seen_shorter xs rest (arguments_shrink room s (terminals_view xs) t (terminals_view rest)
+    (argument_is room s (terminals_view xs) h ∙ ap Some k))
+
+pub arguments_end : (room : ℕ) (s : Arguments) (xs : List Terminal) → goes_on s xs ≡ false →
+    iterate (argument (lower room)) s xs ≡ Ok (s, xs)
+arguments_end room s xs h = no_step (arguments_shrink room) s xs (no_argument_is room s xs h)
+
+found_fault : {V : Type 0} (found : Option (Answer Terminal V)) (xs : List Terminal) (fault : ReadFault) →
+    found ≡ Some (found_or_wrong found xs) →
+    HasSyntaxFault (found_or_wrong found xs) fault → HasFaultOfMember found fault
+found_fault None xs fault e h = cc
+found_fault (Some answer) xs fault e h = member_fault answer fault h
+
+pub arguments_fault : (room : ℕ) (s : Arguments) (xs ys : List Terminal) (fault : ReadFault) → goes_on s xs ≡ true →
+    HasSyntaxFault (argument_wanted (lower room) s xs) fault →
+    iterate (argument (lower room)) s xs ≡ iterate (argument (lower room)) fresh ys →
+    HasSyntaxFault (map_read arguments_of (iterate (argument (lower room)) fresh ys)) fault
+arguments_fault room s xs ys fault h k e =
+    map_fault arguments_of (iterate (argument (lower room)) fresh ys) fault
+    (rw (← e) (step_fault (arguments_shrink room) s xs fault
+    (found_fault (argument (lower room) s xs) xs fault (argument_is room s xs h) k)))
+
+-- ---- the items of a section
+
+item_is : (room : ℕ) (fs : List FormulaSyntax) (xs : List Terminal) → begins_item xs ≡ true →
+    item room (open_items fs) xs ≡ Some (map_read (λ f. item_last (fs ++ f ∷ [])) (formula_with (lower room) xs))
+unfolding item
+item_is room fs [] h = cc
+item_is room fs (mark CloseBrace ∷ xs) h = cc
+item_is room fs _ h = refl
+
+no_item_is : (room : ℕ) (fs : List FormulaSyntax) (xs : List Terminal) → begins_item xs ≡ false → item room (open_items fs) xs ≡ None
+unfolding item
+no_item_is room fs [] h = refl
+no_item_is room fs (mark CloseBrace ∷ xs) h = refl
+no_item_is room fs _ h = cc
+
+semicolon_is : (room : ℕ) (fs : List FormulaSyntax) (xs : List Terminal) →
+    item room (item_last fs) (mark Semicolon ∷ xs) ≡ Some (Ok (open_items fs, xs))
+unfolding item
+semicolon_is room fs xs = refl
+
+-- a formula was read
+item_read : (room : ℕ) (fs : List ReadFormula) (f : ReadFormula) (xs rest : List Terminal) → begins_item xs ≡ true →
+    formula_with (lower room) xs ≡ Ok (formula_syntax f, rest) →
+    iterate (item room) (item_last (map formula_syntax (fs ++ f ∷ []))) rest ≡ iterate (item room) (open_items (map formula_syntax fs)) xs
+item_read room fs f xs rest h k =
+    ap (λ gs. iterate (item room) (item_last gs) rest) (map-append formula_syntax fs (f ∷ []))
+    ∙ next_step (item_shrinks room) (open_items (map formula_syntax fs)) xs
+    (item_last (map formula_syntax fs ++ formula_syntax f ∷ [])) rest
+    (item_is room (map formula_syntax fs) xs h ∙ ap (λ answer. Some (map_read (λ g. item_last (map formula_syntax fs ++ g ∷ [])) answer)) k)
+
+-- a formula and its semicolon were read
+pub items_more : (room : ℕ) (fs : List ReadFormula) (f : ReadFormula) (xs rest after : List Terminal) → begins_item xs ≡ true →
+    formula_with (lower room) xs ≡ Ok (formula_syntax f, rest) → rest ≡ mark Semicolon ∷ after →
+    iterate (item room) (open_items (map formula_syntax (fs ++ f ∷ []))) after ≡ iterate (item room) (open_items (map formula_syntax fs)) xs
+items_more room fs f xs rest after h k e =
+    next_step (item_shrinks room) (item_last (map formula_syntax (fs ++ f ∷ []))) rest
+    (open_items (map formula_syntax (fs ++ f ∷ []))) after
+    (ap (item room (item_last (map formula_syntax (fs ++ f ∷ [])))) e ∙ semicolon_is room (map formula_syntax (fs ++ f ∷ [])) after)
+    ∙ item_read room fs f xs rest h k
+
+-- a last formula was read
+pub items_last : (room : ℕ) (fs : List ReadFormula) (f : ReadFormula) (xs rest ys : List Terminal) → begins_item xs ≡ true →
+    formula_with (lower room) xs ≡ Ok (formula_syntax f, rest) → item room (item_last (map formula_syntax (fs ++ f ∷ []))) rest ≡ None →
+    iterate (item room) (open_items (map formula_syntax fs)) xs ≡ iterate (item room) (open_items []) ys →
+    formulas room ys ≡ Ok (map formula_syntax (fs ++ f ∷ []), rest)
+unfolding formulas
+items_last room fs f xs rest ys h k none e =
+    ap (map_read items_of) (sym e ∙ sym (item_read room fs f xs rest h k)
+    ∙ no_step (item_shrinks room) (item_last (map formula_syntax (fs ++ f ∷ []))) rest none)
+
+-- no item is left
+pub items_end : (room : ℕ) (fs : List FormulaSyntax) (xs ys : List Terminal) → begins_item xs ≡ false →
+    iterate (item room) (open_items fs) xs ≡ iterate (item room) (open_items []) ys → formulas room ys ≡ Ok (fs, xs)
+unfolding formulas
+items_end room fs xs ys h e = ap (map_read items_of) (sym e ∙ no_step (item_shrinks room) (open_items fs) xs (no_item_is room fs xs h))
+
+-- a formula has a fault
+pub items_fault : (room : ℕ) (fs : List FormulaSyntax) (xs ys : List Terminal) (fault : ReadFault) → begins_item xs ≡ true →
+    HasSyntaxFault (formula_with (lower room) xs) fault →
+    iterate (item room) (open_items fs) xs ≡ iterate (item room) (open_items []) ys → HasSyntaxFault (formulas room ys) fault
+unfolding formulas
+items_fault room fs xs ys fault h k e =
+    map_fault items_of (iterate (item room) (open_items []) ys) fault
+    (rw (← e) (step_fault (item_shrinks room) (open_items fs) xs fault
+    (rw (item_is room fs xs h) (member_fault (map_read (λ f. item_last (fs ++ f ∷ [])) (formula_with (lower room) xs)) fault
+    (map_fault (λ f. item_last (fs ++ f ∷ [])) (formula_with (lower room) xs) fault k)))))
+
+-- a formula and its semicolon take terminals
+pub items_shorten : (room : ℕ) (f : FormulaSyntax) (xs rest after : List LentTerminal) → begins_item (terminals_view xs) ≡ true →
+    formula_with (lower room) (terminals_view xs) ≡ Ok (f, terminals_view rest) → length after < length rest → length after < length xs
+items_shorten room f xs rest after h k few =
+    let less = seen_shorter xs rest (item_shrinks room (open_items []) (terminals_view xs) (item_last (f ∷ [])) (terminals_view rest)
+    (item_is room [] (terminals_view xs) h ∙ ap (λ answer. Some (map_read (λ g. item_last (g ∷ [])) answer)) k)) in
+    omega (arith, less, few)

@@ -1,0 +1,14 @@
+use Rattle.std.proofs.Common.{◌≡◌, [], length, map}
+use Rattle.token_readers.specs.Readers.{iterate}
+use Rattle.spec_syntax.specs.Reading.{item, open_items}
+use Rattle.spec_syntax.specs.SyntaxView.{terminals_view, formula_syntax}
+use Rattle.spec_syntax.proofs.section_reader.formulas.Given as goal
+
+-- the formulas so far, and then those of the terminals that are left
+abbrev pub invariant-loop-alloc : goal.invariant-loop-alloc
+invariant-loop-alloc l =
+    iterate (item l.room) (open_items (map formula_syntax l.formulas.items)) (terminals_view l.left.terminals.now)
+    ≡ iterate (item l.room) (open_items []) (terminals_view l.fn.xs)
+
+abbrev pub decreases-loop-alloc : goal.decreases-loop-alloc
+decreases-loop-alloc l = length l.left.terminals.now

@@ -1,0 +1,14 @@
+use Rattle.std.proofs.Common.{◌≡◌, length, map}
+use Rattle.token_readers.specs.Readers.{iterate, push, members}
+use Rattle.spec_syntax.specs.Reading.{section}
+use Rattle.spec_syntax.specs.SyntaxView.{terminals_view, section_syntax}
+use Rattle.spec_syntax.proofs.section_reader.sections.Given as goal
+
+-- the sections so far, and then those of the terminals that are left
+abbrev pub invariant-loop-sections : goal.invariant-loop-sections
+invariant-loop-sections l =
+    iterate (push (section l.room)) (map section_syntax l.sections.items) (terminals_view l.left.terminals.now)
+    ≡ members (section l.room) (terminals_view l.fn.xs)
+
+abbrev pub decreases-loop-sections : goal.decreases-loop-sections
+decreases-loop-sections l = length l.left.terminals.now

@@ -1,0 +1,162 @@
+//! Reading sections.
+
+ghost use Rattle.std.specs.Prelude.{◌≡◌, ◌<◌, ℕ, List, ◌∷◌, length, map, None, Some, Ok, IfOk};
+ghost use Rattle.std.specs.Prelude.{IfErr, IfSome, IfNone};
+ghost use Rattle.tsl_text.specs.declared.TokenKind.TheVariants.{Semicolon};
+ghost use Rattle.spec_syntax.specs.Syntax.{mark, FormulaSyntax};
+ghost use Rattle.spec_syntax.specs.Reading.{item, item_last, begins_item, formulas, items, side};
+ghost use Rattle.spec_syntax.specs.Reading.{section_at, section, sections};
+ghost use Rattle.spec_syntax.specs.SyntaxView.{terminals_view, section_syntax};
+ghost use Rattle.spec_syntax.specs.internal.InnerView.{listed_syntax};
+ghost use Rattle.spec_syntax.specs.SyntaxView.{sections_syntax};
+ghost use Rattle.spec_syntax.specs.SyntaxView.{Reads};
+ghost use Rattle.spec_syntax.specs.internal.InnerView.{HasFaultOfMember};
+
+use crate::fault::ReadFault;
+use crate::formulas::{Form, form_with};
+use crate::syntax::{Closer, Part, Word};
+use crate::terminal::{Left, Terminal};
+use crate::terms::{Answer, close};
+use crate::trees::{ReadFormula, ReadSection};
+use std::alloc::Global;
+use tsl_text::TokenKind;
+
+/// Whether an item begins here.
+fn begins_item(xs: &[Terminal]) -> bool
+    ensures { result ≡ begins_item (terminals_view xs.now) }
+{
+    !matches!(xs, [] | [Terminal::Mark(TokenKind::CloseBrace), ..])
+}
+
+/// The terminals after a semicolon at the front.
+#[tactic(auto, unfolding(crate::specs::Reading::item))]
+fn after_semicolon<'a, 'b>(xs: &'b [Terminal<'a>]) -> Option<&'b [Terminal<'a>]>
+    ensures some { IfSome result (λ rest.
+        terminals_view xs.now ≡ mark Semicolon ∷ terminals_view rest.now) }
+    ensures none { IfNone result
+        ((room : ℕ) (fs : List FormulaSyntax) → item room (item_last fs) (terminals_view xs.now)
+        ≡ None) }
+    ensures shorter { IfSome result (λ rest. length rest.now < length xs.now) }
+{
+    match xs {
+        [Terminal::Mark(TokenKind::Semicolon), rest @ ..] => Some(rest),
+        _ => None,
+    }
+}
+
+/// The formulas up to the brace that closes them.
+fn formulas<'a, 'b>(
+    alloc: Global,
+    room: u32,
+    xs: &'b [Terminal<'a>],
+) -> Answer<'a, 'b, Vec<ReadFormula<'a>>>
+    ensures { Reads listed_syntax (formulas room) xs.now result }
+{
+    let mut formulas = Vec::new(alloc);
+    let mut left = Left { terminals: xs };
+    while begins_item(left.terminals) {
+        let (formula, rest) = form_with(alloc, room, Form::Formula, left.terminals)?;
+        formulas.push(formula)?;
+        match after_semicolon(rest) {
+            Some(rest) => left = Left { terminals: rest },
+            None => return Ok((formulas, rest)),
+        }
+    }
+    Ok((formulas, left.terminals))
+}
+
+/// The items of a section between their braces.
+#[tactic(auto, unfolding(crate::specs::Reading::items))]
+fn items<'a, 'b>(
+    alloc: Global,
+    room: u32,
+    part: Part,
+    xs: &'b [Terminal<'a>],
+) -> Answer<'a, 'b, ReadSection<'a>>
+    ensures { Reads section_syntax (items room part) xs.now result }
+{
+    match xs {
+        [Terminal::Mark(TokenKind::OpenBrace), rest @ ..] => {
+            let (formulas, rest) = formulas(alloc, room, rest)?;
+            let (_, rest) = close(Closer::Brace, rest)?;
+            Ok((ReadSection { part, formulas }, rest))
+        }
+        _ => Err(ReadFault::Form(xs.len())),
+    }
+}
+
+/// A section after its first word.
+#[tactic(auto, unfolding(crate::specs::Reading::side))]
+fn side<'a, 'b>(
+    alloc: Global,
+    room: u32,
+    assumed: Part,
+    guaranteed: Part,
+    xs: &'b [Terminal<'a>],
+) -> Answer<'a, 'b, ReadSection<'a>>
+    ensures { Reads section_syntax (side room assumed guaranteed) xs.now result }
+{
+    match xs {
+        [Terminal::Word(Word::Assume), rest @ ..] => items(alloc, room, assumed, rest),
+        [Terminal::Word(Word::Guarantee), rest @ ..] => items(alloc, room, guaranteed, rest),
+        _ => Err(ReadFault::Form(xs.len())),
+    }
+}
+
+/// A section.
+#[tactic(auto, unfolding(crate::specs::Reading::section_at))]
+fn section_at<'a, 'b>(
+    alloc: Global,
+    room: u32,
+    xs: &'b [Terminal<'a>],
+) -> Answer<'a, 'b, ReadSection<'a>>
+    ensures { Reads section_syntax (section_at room) xs.now result }
+{
+    match xs {
+        [Terminal::Word(Word::Always), rest @ ..] => {
+            side(alloc, room, Part::AssumeAlways, Part::GuaranteeAlways, rest)
+        }
+        [Terminal::Word(Word::Initially), rest @ ..] => {
+            side(alloc, room, Part::AssumeFirst, Part::GuaranteeFirst, rest)
+        }
+        _ => side(alloc, room, Part::AssumeFirst, Part::GuaranteeFirst, xs),
+    }
+}
+
+/// The section at the front, unless the text ends here.
+#[tactic(auto, unfolding(crate::specs::Reading::section))]
+fn section<'a, 'b>(
+    alloc: Global,
+    room: u32,
+    xs: &'b [Terminal<'a>],
+) -> Result<Option<(ReadSection<'a>, &'b [Terminal<'a>])>, ReadFault>
+    ensures some { IfOk result (λ found. IfSome found (λ read. section room (terminals_view xs.now)
+        ≡ Some (Ok (section_syntax read.0, terminals_view read.1.now)))) }
+    ensures none { IfOk result (λ found.
+        IfNone found (section room (terminals_view xs.now) ≡ None)) }
+    ensures fault { IfErr result (HasFaultOfMember (section room (terminals_view xs.now))) }
+{
+    if xs.is_empty() {
+        return Ok(None);
+    }
+    let read = section_at(alloc, room, xs)?;
+    Ok(Some(read))
+}
+
+/// The sections of a text. It answers an `Ok` only where the text is sections and nothing else.
+#[tactic(auto, unfolding(crate::specs::Reading::sections))]
+pub fn sections<'a, 'b>(
+    alloc: Global,
+    room: u32,
+    xs: &'b [Terminal<'a>],
+) -> Answer<'a, 'b, Vec<ReadSection<'a>>>
+    ensures { Reads sections_syntax (sections room) xs.now result }
+{
+    let mut sections = Vec::new(alloc);
+    let mut left = Left { terminals: xs };
+    while let Some((section, rest)) = section(alloc, room, left.terminals)? {
+        sections.push(section)?;
+        left = Left { terminals: rest };
+    }
+    Ok((sections, left.terminals))
+}

@@ -1,0 +1,5 @@
+mod Exactness
+mod ReadLoops
+mod Faults
+pub mod Readings
+pub mod OneFault

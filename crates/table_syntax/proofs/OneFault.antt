@@ -1,0 +1,115 @@
+-- A text has one fault.
+use Rattle.std.proofs.Common.{◌≡◌, ◌∙◌, ℕ, List, [], ◌∷◌, ◌++◌, Err, refl, sym, ap, subst, inl, inr, append_assoc}
+use Rattle.std.specs.Prelude.{◌≢◌}
+use Rattle.std.proofs.lemmas.List.{map-append}
+use Rattle.sequence.proofs.Lists.{heads, tails}
+use Rattle.tsl_text.specs.declared.Token.{Token}
+use Rattle.tsl_text.specs.declared.TextError.{TextError}
+use Rattle.tsl_text.specs.declared.TextError.TheVariants as bytes
+use Rattle.tsl_text.specs.Division.{AreTokens, IsAnswer}
+use Rattle.tsl_text.proofs.Parts.{one_answer}
+use Rattle.table_syntax.specs.Syntax.{TextToken, text_token_at, text_tokens}
+use Rattle.table_syntax.specs.Forms.{IsRead, SomeTextBegins, HasFormFault, HasTextFault}
+use Rattle.table_syntax.specs.declared.forms.TextFault.{TextFault}
+use Rattle.table_syntax.specs.declared.forms.TextFault.TheVariants as fault
+use Rattle.table_syntax.proofs.Readings.{one_list, no_tokens, form_refuses}
+
+-- ---- the first member with which no list of a kind begins
+
+-- it stands at one place
+one_stop : {A : Type 0} (Begins : List A → Type 0) → ((p q : List A) → Begins (p ++ q) → Begins p) →
+    (b c : List A) (t u : A) (a e : List A) →
+    b ++ t ∷ a ≡ c ++ u ∷ e → Begins b → (Begins (b ++ t ∷ []) → ⊥) → Begins c → (Begins (c ++ u ∷ []) → ⊥) → (b ≡ c) × (t ≡ u)
+one_stop Begins shorter [] [] t u a e same first stops second ends = (refl, heads t u a e same)
+one_stop Begins shorter [] (y ∷ c) t u a e same first stops second ends =
+    absurd (stops (subst (λ z. Begins (z ∷ [])) (sym (heads t y a (c ++ u ∷ e) same)) (shorter (y ∷ []) c second)))
+one_stop Begins shorter (x ∷ b) [] t u a e same first stops second ends =
+    absurd (ends (subst (λ z. Begins (z ∷ [])) (heads x u (b ++ t ∷ a) e same) (shorter (x ∷ []) b first)))
+one_stop Begins shorter (x ∷ b) (y ∷ c) t u a e same first stops second ends =
+    let head : x ≡ y = heads x y (b ++ t ∷ a) (c ++ u ∷ e) same in
+    let rest = one_stop (λ zs. Begins (x ∷ zs)) (λ p q. shorter (x ∷ p) q) b c t u a e
+    (tails x y (b ++ t ∷ a) (c ++ u ∷ e) same) first stops
+    (subst (λ z. Begins (z ∷ c)) (sym head) second) (λ k. ends (subst (λ z. Begins (z ∷ (c ++ u ∷ []))) head k)) in
+    ((λ i. head i ∷ rest.0 i), rest.1)
+
+module _ {V : Type 0} (Is : List TextToken → V → Type 0) (text : List ℕ) where
+  -- with fewer tokens some text begins too
+  shorter : (p q : List Token) → SomeTextBegins Is (text_tokens text (p ++ q)) → SomeTextBegins Is (text_tokens text p)
+  shorter p q begins = (
+    text_tokens text q ++ begins.0,
+    begins.1,
+    subst (λ xs. Is xs begins.1)
+        (ap (λ xs. xs ++ begins.0) (map-append (text_token_at text) p q)
+        ∙ append_assoc (text_tokens text p) (text_tokens text q) begins.0) begins.2,
+  )
+
+  -- tokens with which some text begins have none that stops it
+  no_stop : (tokens before : List Token) (token : Token) (after : List Token) → AreTokens text tokens →
+      AreTokens text (before ++ token ∷ after) → SomeTextBegins Is (text_tokens text tokens) →
+      (SomeTextBegins Is (text_tokens text (before ++ token ∷ [])) → ⊥) → ⊥
+  no_stop tokens before token after are k begins stops =
+      let same : tokens ≡ (before ++ token ∷ []) ++ after =
+      one_list text tokens (before ++ token ∷ after) are k ∙ sym (append_assoc before (token ∷ []) after) in
+      stops (shorter (before ++ token ∷ []) after (subst (λ ts. SomeTextBegins Is (text_tokens text ts)) same begins))
+
+  pub one_form : (x y : ℕ) → HasFormFault Is text x → HasFormFault Is text y → x ≡ y
+  one_form x y (inl h) (inl k) =
+      let same = one_stop (λ ts. SomeTextBegins Is (text_tokens text ts)) shorter h.before k.before h.token k.token h.after k.after
+      (one_list text (h.before ++ h.token ∷ h.after) (k.before ++ k.token ∷ k.after) h.tokens_are k.tokens_are)
+      h.begins (λ b. h.stops b.0 b.1 b.2) k.begins (λ b. k.stops b.0 b.1 b.2) in
+      h.place ∙ ap (λ (t : Token). t.start) same.1 ∙ sym k.place
+  one_form x y (inl h) (inr k) =
+      absurd (no_stop k.tokens h.before h.token h.after k.tokens_are h.tokens_are k.begins (λ b. h.stops b.0 b.1 b.2))
+  one_form x y (inr h) (inl k) =
+      absurd (no_stop h.tokens k.before k.token k.after h.tokens_are k.tokens_are h.begins (λ b. k.stops b.0 b.1 b.2))
+  one_form x y (inr h) (inr k) = h.place ∙ sym k.place
+
+-- ---- a fault of the bytes
+
+pub one_text_fault : (text : List ℕ) (a b : TextError) → IsAnswer text (Err a) → IsAnswer text (Err b) → a ≡ b
+one_text_fault text a b h k =
+    let same : Err a ≡ Err b = one_answer text (Err a) (Err b) h k in
+    cc
+
+-- ---- a fault
+
+-- the tokens of a text that has a fault of its form
+form_tokens : {V : Type 0} (Is : List TextToken → V → Type 0) (text : List ℕ) (at : ℕ) → HasFormFault Is text at →
+    (tokens : List Token) × AreTokens text tokens
+form_tokens Is text at (inl h) = (h.before ++ h.token ∷ h.after, h.tokens_are)
+form_tokens Is text at (inr h) = (h.tokens, h.tokens_are)
+
+module _ {V : Type 0} (Is : List TextToken → V → Type 0) (text : List ℕ) where
+  -- a fault of the bytes leaves no tokens, so none of the form
+  no_form : (error : TextError) → IsAnswer text (Err error) → (at : ℕ) → HasFormFault Is text at → ⊥
+  no_form error h at k =
+      let are = form_tokens Is text at k in
+      no_tokens text error h are.0 are.1
+
+  pub one_fault : (a b : TextFault) → a ≢ fault.NoMemory → b ≢ fault.NoMemory → HasTextFault Is text a → HasTextFault Is text b → a ≡ b
+  one_fault (fault.Byte x) (fault.Byte y) m n h k =
+      let same : bytes.Byte x ≡ bytes.Byte y = one_text_fault text (bytes.Byte x) (bytes.Byte y) h k in
+      cc
+  one_fault (fault.Byte x) (fault.OpenComment y) m n h k =
+      let same : bytes.Byte x ≡ bytes.OpenComment y = one_text_fault text (bytes.Byte x) (bytes.OpenComment y) h k in
+      cc
+  one_fault (fault.Byte x) (fault.Form y) m n h k = absurd (no_form (bytes.Byte x) h y k)
+  one_fault (fault.OpenComment x) (fault.Byte y) m n h k =
+      let same : bytes.OpenComment x ≡ bytes.Byte y = one_text_fault text (bytes.OpenComment x) (bytes.Byte y) h k in
+      cc
+  one_fault (fault.OpenComment x) (fault.OpenComment y) m n h k =
+      let same : bytes.OpenComment x ≡ bytes.OpenComment y = one_text_fault text (bytes.OpenComment x) (bytes.OpenComment y) h k in
+      cc
+  one_fault (fault.OpenComment x) (fault.Form y) m n h k = absurd (no_form (bytes.OpenComment x) h y k)
+  one_fault (fault.Form x) (fault.Byte y) m n h k = absurd (no_form (bytes.Byte y) k x h)
+  one_fault (fault.Form x) (fault.OpenComment y) m n h k = absurd (no_form (bytes.OpenComment y) k x h)
+  one_fault (fault.Form x) (fault.Form y) m n h k = ap (λ z. fault.Form z) (one_form Is text x y h k)
+  one_fault a fault.NoMemory m n h k = absurd (n refl)
+  one_fault fault.NoMemory b m n h k = absurd (m refl)
+
+  -- and derives from nothing
+  pub fault_refuses : (a : TextFault) → a ≢ fault.NoMemory → HasTextFault Is text a → (given : V) → IsRead Is text given → ⊥
+  fault_refuses (fault.Byte at) m h given k = no_tokens text (bytes.Byte at) h k.tokens k.tokens_are
+  fault_refuses (fault.OpenComment at) m h given k = no_tokens text (bytes.OpenComment at) h k.tokens k.tokens_are
+  fault_refuses (fault.Form at) m h given k = form_refuses Is text at h given k
+  fault_refuses fault.NoMemory m h given k = absurd (m refl)

@@ -1,0 +1,3 @@
+pub mod RefusalExamples
+pub mod RefusalLaws
+pub mod Statuses

@@ -1,0 +1,85 @@
+-- The statuses and texts of replies.
+use Rattle.std.proofs.Common.{◌≡◌, ◌≢◌, ℕ, Bool, true, false, List, [], ◌∷◌, ◌++◌, refl, ap, sym, ◌∙◌}
+use Rattle.program_check.specs.declared.verdict.Limit.{Limit}
+use Rattle.program_check.specs.declared.verdict.Limit.TheVariants.{Predicates, Bits, Choices, States, Edges, Vectors, Clauses, Branches}
+use Rattle.tsl_reader.specs.declared.SpecError.{SpecError}
+use Rattle.tsl_reader.specs.declared.SpecError.TheVariants.{Byte, OpenComment, Form, Deep, Kind, Arity, Nodes, NoMemory}
+use Rattle.tsl_report.specs.declared.fault.Fault.{Fault}
+use Rattle.tsl_report.specs.FaultText.{fault_line, fault_text}
+use Rattle.tool_replies.specs.declared.status.Status.{Status}
+use Rattle.tool_replies.specs.declared.status.Status.TheVariants.{Done, No, Usage, Reading, Large, Spent, ReadFault, WriteFault, Memory}
+use Rattle.tool_replies.specs.declared.reply.Reply.{Reply}
+use Rattle.tool_replies.specs.Refusals.{IsFaultOf, fault_at_limit}
+use Rattle.tool_replies.specs.Replies.{fault_status, fault_reply}
+use Rattle.tool_replies.specs.Statuses.{is_answer}
+
+pub status_of : {a b : Reply} → a ≡ b → a.status ≡ b.status
+status_of h = ap (λ (r : Reply). r.status) h
+
+pub text_of : {a b : Reply} → a ≡ b → a.text ≡ b.text
+text_of h = ap (λ (r : Reply). r.text) h
+
+-- whether a command may reply so to bytes
+abbrev pub comes_of_bytes : Status → Bool
+comes_of_bytes Done = true
+comes_of_bytes No = true
+comes_of_bytes Reading = true
+comes_of_bytes Large = true
+comes_of_bytes Spent = true
+comes_of_bytes Usage = false
+comes_of_bytes ReadFault = false
+comes_of_bytes WriteFault = false
+comes_of_bytes Memory = false
+
+pub refusal_comes : (bytes : List ℕ) (error : SpecError) (fault : Fault) → IsFaultOf bytes error fault →
+    comes_of_bytes (fault_status fault) ≡ true
+refusal_comes bytes (Byte at) fault h = ap (λ f. comes_of_bytes (fault_status f)) h.2
+refusal_comes bytes (OpenComment at) fault h = ap (λ f. comes_of_bytes (fault_status f)) h.2
+refusal_comes bytes (Form at) fault h = ap (λ f. comes_of_bytes (fault_status f)) h.2
+refusal_comes bytes (Deep at) fault h = ap (λ f. comes_of_bytes (fault_status f)) h.2
+refusal_comes bytes (Kind start end) fault h = ap (λ f. comes_of_bytes (fault_status f)) h.2
+refusal_comes bytes (Arity start end) fault h = ap (λ f. comes_of_bytes (fault_status f)) h.2
+refusal_comes bytes Nodes fault h = ap (λ f. comes_of_bytes (fault_status f)) h
+refusal_comes bytes NoMemory fault h = absurd h
+
+-- the fault of a limit
+pub limit_comes : (limit : Limit) → comes_of_bytes (fault_status (fault_at_limit limit)) ≡ true
+limit_comes Predicates = refl
+limit_comes Bits = refl
+limit_comes Choices = refl
+limit_comes States = refl
+limit_comes Edges = refl
+limit_comes Vectors = refl
+limit_comes Clauses = refl
+limit_comes Branches = refl
+
+pub limit_status : (limit : Limit) → fault_status (fault_at_limit limit) ≡ Large
+limit_status Predicates = refl
+limit_status Bits = refl
+limit_status Choices = refl
+limit_status States = refl
+limit_status Edges = refl
+limit_status Vectors = refl
+limit_status Clauses = refl
+limit_status Branches = refl
+
+pub limit_is_large : (limit : Limit) → is_answer (fault_status (fault_at_limit limit)) ≡ false
+limit_is_large Predicates = refl
+limit_is_large Bits = refl
+limit_is_large Choices = refl
+limit_is_large States = refl
+limit_is_large Edges = refl
+limit_is_large Vectors = refl
+limit_is_large Clauses = refl
+limit_is_large Branches = refl
+
+-- each reply has a text
+some_byte : (xs : List ℕ) (y : ℕ) → xs ++ y ∷ [] ≢ []
+some_byte [] y e = cc
+some_byte (x ∷ xs) y e = cc
+
+pub line_says : (fault : Fault) → fault_text fault ≢ []
+line_says fault = some_byte (fault_line fault) 10
+
+pub fault_says : (fault : Fault) (reply : Reply) → reply ≡ fault_reply fault → reply.text ≢ []
+fault_says fault reply is e = line_says fault (sym (text_of is) ∙ e)

@@ -1,0 +1,5 @@
+pub mod HeadLines
+pub mod RefusalPlaces
+pub mod Refusals
+pub mod Replies
+pub mod Statuses
