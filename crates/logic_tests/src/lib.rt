@@ -1,0 +1,19 @@
+//! Tests of formulas over letters: their spaces, forms, choices, automata, machines and annotations.
+#![tactic(auto)]
+
+#[cfg(test)]
+mod automata;
+#[cfg(test)]
+mod choices;
+#[cfg(test)]
+mod controllers;
+#[cfg(test)]
+mod entries;
+#[cfg(test)]
+mod environments;
+#[cfg(test)]
+mod letters;
+#[cfg(test)]
+mod ltl;
+#[cfg(test)]
+mod spaces;

@@ -1,0 +1,2 @@
+mod TestRuns
+mod TotalRuns

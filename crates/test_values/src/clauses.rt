@@ -1,0 +1,64 @@
+//! Literals, clauses and formulas from numbers.
+
+ghost use Rattle.std.specs.Prelude.{◌≡◌, length, IfOk};
+
+use clause_core::{Clause, Cnf, Literal, clause_of};
+use sequence::Sequence;
+use std::alloc::Global;
+use std::test::Fail;
+
+/// The literal of a number.
+pub fn literal(number: i32) -> Result<Literal, Fail> {
+    Ok(Literal::new(number).ok_or("no literal")?)
+}
+
+/// The clause of these numbers.
+pub fn clause(alloc: Global, numbers: &[i32]) -> Result<Clause, Fail> {
+    let mut literals = Vec::new(alloc);
+    for number in numbers {
+        literals.push(literal(*number)?)?;
+    }
+    Ok(clause_of(alloc, literals.as_slice())?)
+}
+
+/// The clauses of these numbers.
+pub fn clauses_of(alloc: Global, lists: &[&[i32]]) -> Result<Vec<Clause>, Fail>
+    ensures { IfOk result (λ clauses. length clauses.items ≡ length lists.now) }
+{
+    let mut clauses = Vec::new(alloc);
+    for numbers in lists {
+        clauses.push(clause(alloc, numbers)?)?;
+    }
+    Ok(clauses)
+}
+
+/// The formula of these clauses over the variables from 1 to a number.
+pub fn formula(variables: u32, clauses: Vec<Clause>) -> Result<Cnf, Fail>
+    ensures variables { IfOk result (λ cnf. cnf.variables ≡ variables) }
+    ensures clauses { IfOk result (λ cnf. cnf.clauses ≡ clauses.items) }
+{
+    if variables > 1000 || !clauses.iter().all(|clause| clause.is_over(variables)) {
+        return Err("too many variables".into());
+    }
+    Ok(Cnf {
+        variables,
+        clauses: Sequence::from_vec(clauses),
+    })
+}
+
+/// The formula of the clauses of these numbers.
+pub fn formula_of(alloc: Global, variables: u32, lists: &[&[i32]]) -> Result<Cnf, Fail>
+    ensures variables { IfOk result (λ cnf. cnf.variables ≡ variables) }
+    ensures clauses { IfOk result (λ cnf. length cnf.clauses ≡ length lists.now) }
+{
+    formula(variables, clauses_of(alloc, lists)?)
+}
+
+/// The numbers of the clause's literals.
+pub fn numbers_of(alloc: Global, clause: &Clause) -> Result<Vec<i32>, Fail> {
+    let mut numbers = Vec::new(alloc);
+    for literal in clause.literals() {
+        numbers.push(literal.number())?;
+    }
+    Ok(numbers)
+}

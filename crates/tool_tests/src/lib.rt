@@ -1,0 +1,17 @@
+//! Tests of what `tsl` says, and of the words that it takes.
+#![tactic(auto)]
+
+#[cfg(test)]
+mod check_tests;
+#[cfg(test)]
+mod devices;
+#[cfg(test)]
+mod gen_tests;
+#[cfg(test)]
+mod run_tests;
+#[cfg(test)]
+mod search_tests;
+#[cfg(test)]
+mod top_tests;
+#[cfg(test)]
+mod word_tests;

@@ -1,0 +1,398 @@
+//! What runs say of words and of texts, and what they leave where a device fails.
+
+use crate::devices::{Device, PLAIN, assert_says, run};
+use search_replies::whole_text;
+use std::alloc::{AllocError, Global};
+use std::process::Abort;
+use std::test::Fail;
+use tsl_reader::read_spec;
+use tsl_tool::Status;
+
+/// A text, and what a run says of it.
+type Case = (&'static [u8], &'static [u8]);
+
+const COPY: &[u8] = b"always guarantee { [y <- x]; }";
+
+const COPIED: &[u8] =
+    b"tslprogram 1\ninput x\noutput y\nnode 0 set [y <- x] go 0\nstate 0 at 0\nend\n";
+
+/// The program without signals.
+const EMPTY: &[u8] = b"tslprogram 1\nnode 0 set go 0\nstate 0 at 0\nend\n";
+
+/// That one state is too few.
+const NONE: &[u8] = b"none\nstates 1\nbound 2\nreason rounds 0\nend\n";
+
+/// A formula whose four clauses are all signs of two variables, and the line `lrat`.
+const SQUARE: &[u8] = b"p cnf 2 4\n1 2 0\n1 -2 0\n-1 2 0\n-1 -2 0\nlrat\n";
+
+/// Words that are refused.
+const OTHER_WORDS: &[&[&str]] = &[
+    &[],
+    &["frob"],
+    &["synth", "x"],
+    &["synth", "--states"],
+    &["synth", "--states", "0"],
+    &["synth", "--states", "9"],
+    &["synth", "--states", "-1"],
+    &["synth", "--states=9"],
+    &["synth", "--states", ""],
+    &["synth", "--bound", "16"],
+    &["synth", "--budget", "0"],
+    &["synth", "--budget", "1000001"],
+    &["synth", "--rounds", "65"],
+    &["synth", "--depth", "4"],
+    &["synth", "--help"],
+    &["synth", "-h"],
+    &["synth", "states", "1"],
+    &["synth", "1", "--states"],
+    &["synth", "--states", "1", "--states", "1"],
+    &["synth", "--states", "1", "--bound"],
+    &["synth", "--states", "1", "--bound", "2", "x", "3"],
+    &["prove", "--rounds", "0"],
+    &["prove", "--states", "9"],
+    &["prove", "--budget", "2", "--bound", "3", "--budget", "2"],
+    &["check", "x"],
+    &["check", "--states", "1"],
+    &["check", "--bound"],
+    &["check", "--bound", "16"],
+    &["check", "--bound", "full"],
+    &["run", "x"],
+    &["recheck", "x"],
+    &["recheck", "--states", "1"],
+    &["gen"],
+    &["gen", "0"],
+    &["gen", "6"],
+];
+
+/// Words with which a source without a byte has the program without signals.
+const SYNTH_WORDS: &[&[&str]] = &[
+    &["synth", "--states", "1"],
+    &["synth", "--states=1"],
+    &["synth", "--states", "01", "--"],
+    &["synth", "--depth=3", "--states", "+1", "--env-states", "8"],
+    &["synth", "--states", "1", "--bound", "0"],
+    &["synth", "--bound", "15", "--states", "1"],
+    &["synth", "--rounds", "0", "--budget", "1", "--states", "1"],
+    &[
+        "synth", "--budget", "1000000", "--states", "1", "--rounds", "0", "--bound", "2",
+    ],
+    &["synth", "--states", "1", "--budget", "20000"],
+];
+
+/// Specifications for which a program of one state is enough, and that program.
+const BUILT: &[Case] = &[
+    (COPY, COPIED),
+    (b"always guarantee { [y <- x]; } // copies", COPIED),
+    (b"/* a /* b */ { */ always guarantee{[y<-/**/x];}", COPIED),
+    (b"always guarantee { [y <- x] }", COPIED),
+    (b"always guarantee { [y <- (x)]; }", COPIED),
+    (
+        b"always guarantee{[y<-x];}guarantee{}always guarantee{[y<-x];}",
+        COPIED,
+    ),
+    (b"", EMPTY),
+    (b"always guarantee {}", EMPTY),
+    (b"assume {} initially guarantee {}", EMPTY),
+    (b"// nothing", EMPTY),
+    (
+        b"\talways\r\nguarantee{[y<-x];[z<-y];[w <- z] ; [v <- v];[ y <- x ];}\n",
+        b"tslprogram 1\ninput x\ncell y\ncell z\ncell v\noutput w\nnode 0 set [y <- x] [z <- y] [v <- v] [w <- z] go 0\nstate 0 at 0\nend\n",
+    ),
+    (
+        b"always guarantee { [y <- f x (g y) c()]; }",
+        b"tslprogram 1\ninput x\ncell y\nnode 0 set [y <- f x (g y) c()] go 0\nstate 0 at 0\nend\n",
+    ),
+    (b"assume { false; } guarantee { false; }", EMPTY),
+    (
+        b"initially guarantee { [y <- x] } // last semicolon missing",
+        COPIED,
+    ),
+    (
+        b"guarantee { [y <- x]; } always guarantee { [y <- x] || [y <- x] && X false; }",
+        COPIED,
+    ),
+    (
+        b"assume { (a U b) && c; }",
+        b"tslprogram 1\ninput a\ninput b\ninput c\nnode 0 set go 0\nstate 0 at 0\nend\n",
+    ),
+    (
+        b"always guarantee { p x <-> [y <- x]; q y -> q y; }",
+        b"tslprogram 1\ninput x\ncell y\nnode 0 set [y <- x] go 0\nnode 1 set [y <- y] go 0\nnode 2 if p x then 0 else 1\nstate 0 at 2\nend\n",
+    ),
+    (
+        b"assume { false; p0 x; p1 x; p2 x; p3 x; p4 x; p5 x; p6 x; p7 x; p8 x; p9 x; }",
+        b"tslprogram 1\ninput x\nnode 0 set go 0\nstate 0 at 0\nend\n",
+    ),
+];
+
+/// Texts that are refused: each refusal has its place and its name.
+const REFUSED: &[Case] = &[
+    (b"guarantee { a U b && c; }", b"fault spec 1:19 form\n"),
+    (b"guarantee { p x; p x z; }", b"fault spec 1:18 arity p\n"),
+    (
+        b"guarantee { f x; [y <- f x]; }",
+        b"fault spec 1:24 kind f\n",
+    ),
+    (b"guarantee { /* a; }", b"fault spec 1:13 comment\n"),
+    (b"guarantee { a\x80; }", b"fault spec 1:14 byte\n"),
+    (b"guarantee { a; } }", b"fault spec 1:18 form\n"),
+    (b"guarantee {", b"fault spec 1:12 form\n"),
+    (b"guarantee {\n  a;\n}  }", b"fault spec 3:4 form\n"),
+    (b"guarantee {\n  a;\n", b"fault spec 3:1 form\n"),
+    (
+        b"guarantee {\n ab' x;\n\n  [y <- ab' x];\n}",
+        b"fault spec 4:9 kind ab'\n",
+    ),
+    (b"always guarantee { [X <- x]; }", b"fault spec 1:21 form\n"),
+    (b"always guarantee { [y <- 7]; }", b"fault spec 1:26 form\n"),
+    (b"alwaysguarantee { [y <- x]; }", b"fault spec 1:1 form\n"),
+    // A bad byte or an open comment goes before a fault of form that stands in front of it.
+    (b"} \x80", b"fault spec 1:3 byte\n"),
+    (b"} /*", b"fault spec 1:3 comment\n"),
+    // A fault of form goes before one of kind, which goes before one of arity.
+    (
+        b"guarantee { f x; [y <- f x]; } }",
+        b"fault spec 1:32 form\n",
+    ),
+    (
+        b"guarantee { p x; p x z; [y <- p]; }",
+        b"fault spec 1:31 kind p\n",
+    ),
+    (b"guarantee { a; } guarantee {", b"fault spec 1:29 form\n"),
+];
+
+/// What `recheck` says of texts.
+const FORMULAS: &[Case] = &[
+    (b"p cnf 1 2\n1 0\n-1 0\n3 0 1 2 0\n", b"fault parts lrat\n"),
+    (b"p cnf 1 x\n lrat\nlrat \n", b"fault parts lrat\n"),
+    (b"", b"fault parts lrat\n"),
+    (b"lrat", b"fault cnf 1 form\n"),
+    (
+        b"p cnf 2 2\n1 2 0\nlrat\n5 0 1 2 0\n",
+        b"fault cnf 3 form\n",
+    ),
+    (b"p cnf 1048577 2000001\nlrat\n", b"fault cnf 2 form\n"),
+    (b"p cnf 1048577 0\nlrat\nx", b"large variables 1048576\n"),
+    (b"p cnf 1048576 0\nlrat\nx", b"fault log 1 form\n"),
+];
+
+/// What `recheck` says of the formula `SQUARE` and these logs.
+const LOGS: &[Case] = &[
+    (b"5 1 0 1 2 0\n6 0 5 3 4 0\n", b"verified\n"),
+    (
+        b"5 1 0 1 2 0\n5 d 1 2 0\nc lrat\n6 0 5 3 4 0",
+        b"verified\n",
+    ),
+    (b"5 1 0 1 0\n6 0 5 3 4 0\n", b"refused hint 5 2\n"),
+    (b"5 1 0 2 3 0\n6 0 5 3 4 0\n", b"refused hint 5 2\n"),
+    (b"5 1 0 1 2 0\n", b"refused unfinished\n"),
+    (b"", b"refused unfinished\n"),
+    (b"4 1 0 1 2 0\n6 0 5 3 4 0\n", b"refused line 4\n"),
+    (b"5 1 0 -1 0\n6 0 5 3 4 0\n", b"fault log 1 form\n"),
+    (b"5 1 0 1 2 0\nlrat\n6 0 5 3 4 0\n", b"fault log 2 form\n"),
+    (b"5 1 0 1 2 0\n6 0 5 3 4\n", b"fault log 2 form\n"),
+];
+
+/// A piece, how often it comes in the braces of a section, an end, and what `synth` says for one state.
+const REPEATED: &[(&[u8], u32, &[u8], &[u8])] = &[
+    // Level 200 is read and level 201 is deep.
+    (b"!", 200, b"a; }", NONE),
+    (b"!", 201, b"a; }", b"fault spec 1:213 deep\n"),
+    // The conjunction, two nodes for each name and one for `true`: 10,000 nodes, and one more.
+    (b"a; ", 4_999, b"true; }", NONE),
+    (b"a; ", 5_000, b"}", b"large nodes 10000\n"),
+    // A fault of arity goes before too many nodes.
+    (
+        b"a; ",
+        5_000,
+        b"p x; p x z; }",
+        b"fault spec 1:15018 arity p\n",
+    ),
+    // With the braces 1,048,576 bytes, and one more.
+    (b" ", 1_048_563, b"}", EMPTY),
+    (b" ", 1_048_564, b"}", b"large text 1048576\n"),
+];
+
+/// The status of a run that says this.
+fn status_of(says: &[u8]) -> Status {
+    match says {
+        [b't' | b'v', ..] => Status::Done,
+        [b'r' | b'n', ..] => Status::No,
+        [b'u', ..] => Status::Usage,
+        [b'l', ..] => Status::Large,
+        _ => Status::Reading,
+    }
+}
+
+/// Asserts what a run says of a text.
+fn assert_run(
+    rt: &impl Abort,
+    alloc: Global,
+    words: &[&str],
+    text: &[u8],
+    says: &[u8],
+) -> Result<(), AllocError> {
+    let ran = run(alloc, words, text, PLAIN, PLAIN, PLAIN)?;
+    assert_says(rt, &ran, status_of(says), says);
+    Ok(())
+}
+
+/// Asserts what runs say of each text after a front.
+fn assert_each(
+    rt: &impl Abort,
+    alloc: Global,
+    words: &[&str],
+    front: &[u8],
+    cases: &[Case],
+) -> Result<(), AllocError> {
+    for (text, says) in cases {
+        let mut whole = Vec::from_slice(alloc, front)?;
+        whole.extend_from_slice(text)?;
+        assert_run(rt, alloc, words, &whole, says)?;
+    }
+    Ok(())
+}
+
+#[test]
+fn other_words_are_usage(rt: HostRuntime) -> Result<(), Fail> {
+    let usage = b"usage: tsl synth|check|run|prove|recheck|gen\n";
+    for words in OTHER_WORDS {
+        assert_run(&rt, rt.alloc(), *words, COPY, usage)?;
+    }
+    Ok(())
+}
+
+#[test]
+fn options_come_in_any_order(rt: HostRuntime) -> Result<(), Fail> {
+    for words in SYNTH_WORDS {
+        assert_run(&rt, rt.alloc(), *words, b"", EMPTY)?;
+    }
+    Ok(())
+}
+
+#[test]
+fn one_state_is_enough_for_each_specification(rt: HostRuntime) -> Result<(), Fail> {
+    assert_each(&rt, rt.alloc(), &["synth", "--states", "1"], b"", BUILT)?;
+    Ok(())
+}
+
+#[test]
+fn each_refusal_has_its_place(rt: HostRuntime) -> Result<(), Fail> {
+    assert_each(&rt, rt.alloc(), &["synth"], b"", REFUSED)?;
+    assert_each(&rt, rt.alloc(), &["prove"], b"", REFUSED)?;
+    Ok(())
+}
+
+#[test]
+fn recheck_says_of_each_formula_and_log(rt: HostRuntime) -> Result<(), Fail> {
+    assert_each(&rt, rt.alloc(), &["recheck"], b"", FORMULAS)?;
+    assert_each(&rt, rt.alloc(), &["recheck"], SQUARE, LOGS)?;
+    Ok(())
+}
+
+/// A section with a piece so many times before its end.
+fn repeated(alloc: Global, piece: &[u8], count: u32, end: &[u8]) -> Result<Vec<u8>, AllocError> {
+    let mut text = Vec::from_slice(alloc, b"guarantee { ")?;
+    for _ in 0..count {
+        text.extend_from_slice(piece)?;
+    }
+    text.extend_from_slice(end)?;
+    Ok(text)
+}
+
+#[test]
+fn limits_are_exact(rt: HostRuntime) -> Result<(), Fail> {
+    for (piece, count, end, says) in REPEATED {
+        let text = repeated(rt.alloc(), *piece, *count, *end)?;
+        assert_run(
+            &rt,
+            rt.alloc(),
+            &["synth", "--states", "1", "--rounds", "0"],
+            &text,
+            *says,
+        )?;
+    }
+    Ok(())
+}
+
+#[test]
+fn arrows_and_until_are_written_with_brackets(rt: HostRuntime) -> Result<(), Fail> {
+    let text = b"guarantee { a -> b -> c; a U (b || c); }";
+    let Ok(spec) = read_spec(rt.alloc(), text) else {
+        return Err("refused".into());
+    };
+    assert_eq!(rt;
+        whole_text(rt.alloc(), &spec)?.as_slice(),
+        b"((a -> (b -> c)) && (a U (b || c)))".as_slice()
+    );
+    Ok(())
+}
+
+#[test]
+fn a_sink_that_fails_at_any_call_keeps_what_came_before(rt: HostRuntime) -> Result<(), Fail> {
+    let alloc = rt.alloc();
+    assert_eq!(rt; COPIED.len(), 72);
+    // One byte a call: the writes are the calls 1 to 72, and the flush is the last.
+    for fails_at in 1..=73u64 {
+        let to = Device { piece: 1, fails_at };
+        let ran = run(alloc, &["synth", "--states", "1"], COPY, PLAIN, to, PLAIN)?;
+        assert_eq!(rt; ran.status, Status::WriteFault);
+        assert_eq!(rt; ran.out.len() as u64, fails_at - 1);
+        assert_eq!(rt; COPIED.starts_with(&ran.out), true);
+        // What was written is not handed on, also where the flush alone fails.
+        assert_eq!(rt; ran.is_handed_on, fails_at == 1);
+        assert_eq!(rt; ran.err.is_empty(), true);
+    }
+    let errors_to = Device {
+        piece: 7,
+        fails_at: 2,
+    };
+    let ran = run(alloc, &["frob"], COPY, PLAIN, PLAIN, errors_to)?;
+    assert_eq!(rt; ran.status, Status::WriteFault);
+    assert_eq!(rt; ran.err.as_slice(), b"usage: ".as_slice());
+    assert_eq!(rt; ran.out.is_empty(), true);
+    Ok(())
+}
+
+#[test]
+fn a_source_that_fails_at_any_call_is_a_read_fault(rt: HostRuntime) -> Result<(), Fail> {
+    assert_eq!(rt; COPY.len(), 30);
+    // One byte a call: the text takes the calls 1 to 30, and the end the last.
+    for fails_at in 1..=32u64 {
+        let from = Device { piece: 1, fails_at };
+        let ran = run(
+            rt.alloc(),
+            &["synth", "--states", "1"],
+            COPY,
+            from,
+            PLAIN,
+            PLAIN,
+        )?;
+        if fails_at == 32 {
+            assert_says(&rt, &ran, Status::Done, COPIED);
+        } else {
+            assert_says(&rt, &ran, Status::ReadFault, b"fault read\n");
+        }
+    }
+    Ok(())
+}
+
+/// A thousand updates over five hundred signals: each but the first takes the one before it, twice.
+fn chain(alloc: Global) -> Result<Vec<u8>, AllocError> {
+    let mut text = Vec::from_slice(alloc, b"always guarantee {")?;
+    for turn in 0..1000u32 {
+        let signal = turn % 500;
+        let update = format!(in alloc; " [s{} <- s{}];", signal, signal.saturating_sub(1))?;
+        text.extend_from_slice(update.as_bytes())?;
+    }
+    text.extend_from_slice(b" }")?;
+    Ok(text)
+}
+
+#[test]
+fn a_thousand_updates_have_too_many_bits(rt: HostRuntime) -> Result<(), Fail> {
+    let alloc = rt.alloc();
+    assert_run(&rt, alloc, &["synth"], &chain(alloc)?, b"large bits 64\n")?;
+    assert_run(&rt, alloc, &["prove"], &chain(alloc)?, b"large bits 64\n")?;
+    Ok(())
+}
