@@ -55,7 +55,7 @@ def pairs(count):
 def main():
     with built() as folder:
         print(f"{'text':>12} {'verdict':>16} {'seconds':>9} {'growth':>7} {'peak KiB':>9} {'Python':>9} {'ratio':>8}")
-        for path in sorted((HERE.parent / "examples").glob("*.check")):
+        for path in sorted((HERE.parent / "examples").glob("*/*.check")):
             row(folder, path.stem, path.read_text(), None)
         before = None
         for states in (8, 16, 32, 64):

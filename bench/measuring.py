@@ -12,7 +12,7 @@ SOLVER = HERE.parent / "crates" / "solve" / "out" / "solve"
 
 
 @contextlib.contextmanager
-def built(program=PROGRAM, builds="./tsl synth < examples/copy.tsl"):
+def built(program=PROGRAM, builds="./tsl synth < examples/first/copy.tsl"):
     """A folder to build in, with `measure` built there. The program has to be there."""
     if not program.exists():
         raise SystemExit(f"build the program first: {builds}")

@@ -173,7 +173,7 @@ def main():
     tools = programs()
     chosen = [formula for family, formulas in families() if family in wanted for formula in formulas]
     ratios = {other: ([], [], []) for other in tools if other != "solve"}
-    with built(SOLVER, "./solve < examples/stairs.cnf") as folder:
+    with built(SOLVER, "./solve < examples/formulas/stairs.cnf") as folder:
         best = passes(folder, chosen, tools, seconds)
     print(f"{'':20} " + " ".join(f"{name:>28}" for name in tools))
     print(f"{'formula':20} " + " ".join(f"{'seconds':>9} {'conflicts':>9} {'KiB':>8}" for _ in tools))

@@ -25,7 +25,7 @@ HEADS = {WRITTEN: 0, NONE: 3, LARGE: 1, SPENT: 2}  # lines before those of round
 def questions():
     """Name, specification and sizes: the examples with those of their words, arbiters of so many requests with as many states and
     the same bound, and one of six with two, without rounds and with them."""
-    for path in sorted((HERE.parent / "examples").glob("*.tsl")):
+    for path in sorted((HERE.parent / "examples").glob("*/*.tsl")):
         words = path.with_suffix(".words").read_text().split()
         yield path.stem, path.read_text(), USUAL | dict(zip(words[1::2], map(int, words[2::2])))
     for count in (3, 4, 5):
