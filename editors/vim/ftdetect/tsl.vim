@@ -1,0 +1,2 @@
+" Files of tsl: specifications and programs.
+autocmd BufRead,BufNewFile *.tsl,*.program setfiletype tsl

@@ -1,0 +1,23 @@
+# The crates below a program and then the program, each after those that it stands on: awk -v top=NAME -f below.awk crates.txt
+function visit(crate,    list, i, n) {
+    if (crate in seen || !(crate in deps)) return
+    seen[crate] = 1
+    n = split(deps[crate], list, " ")
+    for (i = 1; i <= n; i++) visit(list[i])
+    print crate
+}
+{
+    sub(/#.*/, "")
+    at = index($0, ":")
+    if (!at) next
+    crate = $1
+    sub(/:.*/, "", crate)
+    deps[crate] = substr($0, at + 1)
+}
+END {
+    if (!(top in deps)) {
+        print "below.awk: no crate " top > "/dev/stderr"
+        exit 1
+    }
+    visit(top)
+}
