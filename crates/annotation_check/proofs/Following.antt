@@ -1,31 +1,30 @@
--- Following edges: what an edge asks for is needed by every numbering, and what was met stays so.
-use Rattle.std.proofs.Common.{◌≡◌, ◌∙◌, ℕ, ◌≤◌, true, List, [], ◌∷◌, ◌++◌, Option, Some, Contains, sym, subst, arith, inl, inr}
+-- Following steps: what a step asks for is needed by every numbering, and what was met stays so.
+use Rattle.std.proofs.Common.{◌≡◌, ◌∙◌, ℕ, ◌≤◌, List, [], ◌∷◌, ◌++◌, Option, Some, refl, sym, subst, arith, inl, inr}
 use Rattle.std.proofs.lemmas.List.Elements.{Contains-append_left, Contains-push, Contains-push_cases}
-use Rattle.ltl_formula.specs.Cubes.{cube_matches}
-use Rattle.cobuchi_automata.specs.Automata.{EdgeTree}
-use Rattle.machines.specs.Moves.{MoveTree}
 use Rattle.annotation_check.specs.declared.growing.Rise.{Rise}
+use Rattle.annotation_check.specs.declared.stepping.Step.{Step}
 use Rattle.annotation_check.specs.Annotations.{IsAtLeast, after_edge, IsAnnotation}
 use Rattle.annotation_check.specs.internal.Pairs.{PairsTree}
-use Rattle.annotation_check.specs.internal.Growth.{number_in, IsNeeded, HasNone, IsOfPair, IsRightful, IsGrown, GrowsTo, IsMet, IsDone}
+use Rattle.annotation_check.specs.internal.Growth.{number_in, IsNeeded, HasNone, IsOfPair, IsRightful, IsGrown, GrowsTo, IsStepFrom, IsMet, IsDone}
 use Rattle.annotation_check.specs.internal.Growth.{IsOnTheWay}
+use Rattle.annotation_check.specs.internal.Steps.{step_between, after_step}
 use Rattle.annotation_check.proofs.PairNumbers.{number_there, more_than_at_least}
 
 module _ (p : PairsTree) where
-  module _ (r : Rise) (m : MoveTree) (e : EdgeTree) (moved : Contains (p.moves r.machine_state) m)
-      (leaves : Contains (p.edges r.automaton_state) e) (matches : cube_matches e.care e.want m.letter ≡ true) where
-    -- what an edge asks for is needed
-    pub next_needed : IsNeeded p r.machine_state r.automaton_state r.number → IsNeeded p m.next e.to (after_edge r.number e)
-    next_needed needed other numbering =
+  module _ (r : Rise) (t : Step) (from : IsStepFrom p r.machine_state r.automaton_state t) where
+    -- what a step asks for is needed
+    pub next_needed : IsNeeded p r.machine_state r.automaton_state r.number → IsNeeded p t.machine_state t.automaton_state (after_step r.number t)
+    next_needed needed =
+        subst (λ (x : Step). IsNeeded p x.machine_state x.automaton_state (after_step r.number x)) (sym from.is) (λ other numbering.
         let here = number_there _ _ (needed other numbering) in
-        more_than_at_least (after_edge r.number e) (after_edge here.0 e) (other m.next e.to) (omega (arith, here.2))
-        (numbering.goes_on r.machine_state r.automaton_state here.0 here.1 m moved e leaves matches)
+        more_than_at_least (after_edge r.number from.edge) (after_edge here.0 from.edge) (other from.move.next from.edge.to) (omega (arith, here.2))
+        (numbering.goes_on r.machine_state r.automaton_state here.0 here.1 from.move from.moved from.edge from.leaves from.matches))
 
     -- and if that passes the bound, then no numbering is within the bound
-    pub none_within : IsNeeded p r.machine_state r.automaton_state r.number → (after_edge r.number e ≤ p.bound → ⊥) → HasNone p
+    pub none_within : IsNeeded p r.machine_state r.automaton_state r.number → (after_step r.number t ≤ p.bound → ⊥) → HasNone p
     none_within needed past other annotation =
         let next = number_there _ _ (next_needed needed other annotation.numbering) in
-        let most = annotation.within m.next e.to next.0 next.1 in
+        let most = annotation.within t.machine_state t.automaton_state next.0 next.1 in
         past (omega (arith, next.2, most))
 
   module _ (numbers : List (Option ℕ)) (risen : List Rise) (next_numbers : List (Option ℕ)) (next_risen : List Rise)
@@ -36,11 +35,11 @@ module _ (p : PairsTree) where
         let here = number_there n (number_in p numbers s q) at in
         more_than_at_least n here.0 (number_in p next_numbers s q) here.2 (grows.kept s q here.0 here.1)
 
-    pub met_later : (n : ℕ) (m : MoveTree) (e : EdgeTree) → IsMet p numbers n m e → IsMet p next_numbers n m e
-    met_later n m e met matches = at_least_later (after_edge n e) m.next e.to (met matches)
+    pub met_later : (n : ℕ) (t : Step) → IsMet p numbers n t → IsMet p next_numbers n t
+    met_later n t met = at_least_later (after_step n t) t.machine_state t.automaton_state met
 
     pub done_later : (s q n : ℕ) → IsDone p numbers s q n → IsDone p next_numbers s q n
-    done_later s q n done m moved e leaves = met_later n m e (done m moved e leaves)
+    done_later s q n done t from = met_later n t (done t from)
 
     pub grows_on : (last_numbers : List (Option ℕ)) (last_risen : List Rise) → GrowsTo p next_numbers next_risen last_numbers last_risen →
         GrowsTo p numbers risen last_numbers last_risen
@@ -118,7 +117,8 @@ module _ (p : PairsTree) where
       numbering = record {
         start = way.start;
         goes_on = λ s q n is m moved e leaves matches. elim (way.others s q n is) [
-          | inl done ↦ done m moved e leaves matches
+          | inl done ↦ done (step_between m e)
+              (record { move = m; edge = e; moved = moved; leaves = leaves; matches = matches; is = refl })
           | inr stands ↦ absurd (omega (arith, stands.1))
         ];
       };

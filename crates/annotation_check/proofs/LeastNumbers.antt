@@ -1,5 +1,5 @@
 -- From no numbers to the least ones.
-use Rattle.std.proofs.Common.{◌≡◌, ◌∙◌, ℕ, zero, suc, ◌+◌, ◌*◌, Bool, true, false, cond, ltb, List, [], length, get_or, Option, None}
+use Rattle.std.proofs.Common.{◌≡◌, ◌∙◌, ℕ, zero, suc, ◌+◌, ◌*◌, Bool, true, false, cond, ltb, List, [], ◌∷◌, length, get_or, Option, None}
 use Rattle.std.proofs.Common.{option_and_then, slice_get, replicate, refl, sym, subst, arith, inl, inr}
 use Rattle.std.proofs.lemmas.List.{length-replicate}
 use Rattle.std.proofs.lemmas.Option.{none-some}
@@ -70,3 +70,8 @@ pub number_of_rise : (p : PairsTree) (numbers : List (Option ℕ)) (r : Rise) �
 number_of_rise p numbers r size of_pair =
     number_at_place p.automaton_states numbers r.machine_state r.automaton_state of_pair.automaton_state
     (place_within p numbers r size of_pair)
+
+-- a list of no members
+pub nothing_left : {X : Type 0} (xs : List X) → length xs ≡ 0 → xs ≡ []
+nothing_left [] none = refl
+nothing_left (x ∷ xs) none = absurd (omega (arith, none))

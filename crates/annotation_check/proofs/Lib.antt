@@ -3,9 +3,12 @@ pub mod LeavingEdges
 pub mod PathBounds
 pub mod Raising
 pub mod Following
-pub mod EdgesFollowed
+pub mod StepsFollowed
+pub mod NextBits
+pub mod ListedMoves
+pub mod StepsMatched
+pub mod StepsKept
 pub mod LeastNumbers
 pub mod ListedByState
 pub mod MovesStay
 pub mod OtherNumbers
-mod Examples

@@ -15,9 +15,9 @@ use Rattle.annotation_check.specs.internal.Growth.{IsOfPair, IsRightful, IsGrown
 use Rattle.annotation_check.proofs.PairNumbers.{at_least, not_higher, higher_than, number_at_place, set_there, number_set}
 
 -- a pair of states has a place
-pub place_within : (p : PairsTree) (numbers : List (Option ℕ)) (r : Rise) → length numbers ≡ p.machine_states * p.automaton_states →
-    IsOfPair p r → pair_place p.automaton_states r < length numbers
-place_within p numbers r size of_pair =
+pub place_within : {X : Type 0} (p : PairsTree) (items : List X) (r : Rise) → length items ≡ p.machine_states * p.automaton_states →
+    IsOfPair p r → pair_place p.automaton_states r < length items
+place_within p items r size of_pair =
     let below = mul-add-lt r.machine_state p.automaton_states r.automaton_state p.machine_states of_pair.machine_state
     of_pair.automaton_state in
     omega (arith, size, below)

@@ -1,6 +1,7 @@
 -- Words that only private functions use.
-pub mod Examples
 pub mod Higher
+pub mod Listings
 pub mod Pairs
 pub mod PairsView
 pub mod Growth
+pub mod Steps

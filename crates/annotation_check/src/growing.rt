@@ -2,13 +2,15 @@
 
 ghost use Rattle.std.specs.Prelude.{◌≡◌, ◌*◌, ◌<◌, ◌≤◌, vec_len, length, map, Some, slice_index_or, Contains};
 ghost use Rattle.std.specs.Prelude.{IsTrue, MatchBool, IfOk, OnOk, IfSome, IfNone, SomeIff, ◌↔◌};
-ghost use Rattle.std.specs.List.{AllByRecursion};
-ghost use Rattle.cobuchi_automata.specs.Edges.{edge_tree, edge_trees};
+ghost use Rattle.cobuchi_automata.specs.Edges.{edge_trees};
 ghost use Rattle.machines.specs.MachineView.{move_tree};
-ghost use Rattle.annotation_check.specs.Annotations.{after_edge, IsAnnotation, IsLeast, number_of_pair};
-ghost use Rattle.annotation_check.specs.internal.Pairs.{pairs_with, ArePairs};
+ghost use Rattle.annotation_check.specs.Annotations.{IsAnnotation, IsLeast, number_of_pair};
+ghost use Rattle.annotation_check.specs.internal.Pairs.{AreMoveListings, pairs_with, ArePairs};
 ghost use Rattle.annotation_check.specs.internal.Higher.{is_higher};
+ghost use Rattle.annotation_check.specs.internal.Steps.{after_step};
 
+use crate::listing::Listing;
+use crate::stepping::{KeptSteps, Step, steps_of};
 use cobuchi_automata::Edge;
 use machines::Move;
 use sequence::NoMemory;
@@ -102,7 +104,7 @@ pub(crate) struct Pairs {
 
 impl Pairs {
     ghost use Rattle.annotation_check.specs.internal.PairsView.{pairs_tree};
-    ghost use Rattle.annotation_check.specs.internal.Growth.{HasNone, IsOfPair, IsRightful, IsGrown, GrowsTo, IsMet, IsDone};
+    ghost use Rattle.annotation_check.specs.internal.Growth.{HasNone, IsOfPair, IsRightful, IsGrown, GrowsTo, IsStepFrom, HasSteps, AreKept, IsMet, IsDone};
 
     /// The moves in a state of the machine.
     fn moves_in(&self, state: u32) -> &[Move]
@@ -120,93 +122,116 @@ impl Pairs {
         self.edges[state as usize].as_slice()
     }
 
-    /// What the pair after an edge has at least, unless that passes the bound.
-    fn rise_after(&self, rise: Rise, step: Move, edge: &Edge) -> Option<Rise>
-        requires { rise.number ≤ self.now.bound }
-        ensures { SomeIff result (after_edge rise.number (edge_tree edge.now) ≤ self.now.bound)
-            (record { machine_state = step.next; automaton_state = edge.now.to; number = after_edge rise.number (edge_tree edge.now) }) }
+    /// The listing of the moves in each state of the machine.
+    fn listings(&self, alloc: Global) -> Result<Vec<Listing>, NoMemory>
+        ensures { IfOk result (λ listings. AreMoveListings (pairs_tree self.now).moves listings.items self.now.machine_states) }
     {
-        if edge.rejecting && rise.number == self.bound {
+        let mut listings = Vec::new(alloc);
+        for state in 0..self.machine_states {
+            listings.push(Listing::of(alloc, self.moves_in(state))?)?;
+        }
+        Ok(listings)
+    }
+
+    /// The steps from a pair of states.
+    fn steps_from(
+        &self,
+        alloc: Global,
+        listings: &[Listing],
+        rise: Rise,
+    ) -> Result<Vec<Step>, NoMemory>
+        requires of_pair { IsOfPair (pairs_tree self.now) rise }
+        requires listed { AreMoveListings (pairs_tree self.now).moves listings.now self.now.machine_states }
+        ensures { IfOk result (λ steps. HasSteps (pairs_tree self.now) rise.machine_state rise.automaton_state steps.items) }
+    {
+        let moves = &listings[rise.machine_state as usize];
+        steps_of(alloc, moves, self.edges_from(rise.automaton_state))
+    }
+
+    /// What the pair after a step has at least, unless that passes the bound.
+    fn rise_after(&self, rise: Rise, step: Step) -> Option<Rise>
+        requires { rise.number ≤ self.now.bound }
+        ensures { SomeIff result (after_step rise.number step ≤ self.now.bound) (record {
+          machine_state = step.machine_state;
+          automaton_state = step.automaton_state;
+          number = after_step rise.number step;
+        }) }
+    {
+        if step.rejecting && rise.number == self.bound {
             return None;
         }
         Some(Rise {
-            machine_state: step.next,
-            automaton_state: edge.to,
-            number: rise.number + u32::from(edge.rejecting),
+            machine_state: step.machine_state,
+            automaton_state: step.automaton_state,
+            number: rise.number + u32::from(step.rejecting),
         })
     }
 
-    /// Gives the pair after an edge what the edge asks for, if the letter matches it. It answers false where
-    /// that would pass the bound.
-    fn follow_edge(
-        &self,
-        growth: &mut Growth,
-        rise: Rise,
-        step: Move,
-        edge: &Edge,
-    ) -> Result<bool, NoMemory>
+    /// Gives the pair after a step what the step asks for. It answers false where that would pass the bound.
+    fn follow_step(&self, growth: &mut Growth, rise: Rise, step: Step) -> Result<bool, NoMemory>
         requires grown { IsGrown (pairs_tree self.now) growth.old.numbers.items growth.old.risen.items }
         requires rightful { IsRightful (pairs_tree self.now) rise }
-        requires moved { Contains ((pairs_tree self.now).moves rise.machine_state) (move_tree step) }
-        requires leaves { Contains ((pairs_tree self.now).edges rise.automaton_state) (edge_tree edge.now) }
+        requires is_step { IsStepFrom (pairs_tree self.now) rise.machine_state rise.automaton_state step }
         ensures { IfOk result (λ within. MatchBool within
             (GrowsTo (pairs_tree self.now) growth.old.numbers.items growth.old.risen.items growth.new.numbers.items growth.new.risen.items
-            × IsMet (pairs_tree self.now) growth.new.numbers.items rise.number (move_tree step) (edge_tree edge.now))
+            × IsMet (pairs_tree self.now) growth.new.numbers.items rise.number step)
             (HasNone (pairs_tree self.now))) }
     {
-        if !edge.cube.matches(step.letter) {
-            return Ok(true);
-        }
-        let Some(next) = self.rise_after(rise, step, edge) else {
+        let Some(next) = self.rise_after(rise, step) else {
             return Ok(false);
         };
         growth.raise(self.automaton_states, next)?;
         Ok(true)
     }
 
-    /// Follows each edge at a move.
-    fn follow_move(
-        &self,
-        growth: &mut Growth,
-        rise: Rise,
-        step: Move,
-        edges: &[Edge],
-    ) -> Result<bool, NoMemory>
+    /// Follows each step from a pair.
+    fn follow(&self, growth: &mut Growth, rise: Rise, steps: &[Step]) -> Result<bool, NoMemory>
         requires grown { IsGrown (pairs_tree self.now) growth.old.numbers.items growth.old.risen.items }
         requires rightful { IsRightful (pairs_tree self.now) rise }
-        requires moved { Contains ((pairs_tree self.now).moves rise.machine_state) (move_tree step) }
-        requires leave { (pairs_tree self.now).edges rise.automaton_state ≡ edge_trees edges.now }
+        requires are_steps { HasSteps (pairs_tree self.now) rise.machine_state rise.automaton_state steps.now }
         ensures { IfOk result (λ within. MatchBool within
             (GrowsTo (pairs_tree self.now) growth.old.numbers.items growth.old.risen.items growth.new.numbers.items growth.new.risen.items
-            × AllByRecursion (IsMet (pairs_tree self.now) growth.new.numbers.items rise.number (move_tree step)) (edge_trees edges.now))
+            × IsDone (pairs_tree self.now) growth.new.numbers.items rise.machine_state rise.automaton_state rise.number)
             (HasNone (pairs_tree self.now))) }
     {
-        for edge in edges {
-            if !self.follow_edge(growth, rise, step, edge)? {
+        for step in steps {
+            if !self.follow_step(growth, rise, *step)? {
                 return Ok(false);
             }
         }
         Ok(true)
     }
 
-    /// Follows each edge at each move from a pair.
-    fn follow(&self, growth: &mut Growth, rise: Rise) -> Result<bool, NoMemory>
+    /// Follows each step from a pair, which it matches when it looks at the pair for the first time, and keeps
+    /// where there is room.
+    fn look(
+        &self,
+        alloc: Global,
+        listings: &[Listing],
+        kept: &mut KeptSteps,
+        growth: &mut Growth,
+        rise: Rise,
+    ) -> Result<bool, NoMemory>
         requires grown { IsGrown (pairs_tree self.now) growth.old.numbers.items growth.old.risen.items }
         requires rightful { IsRightful (pairs_tree self.now) rise }
         requires of_pair { IsOfPair (pairs_tree self.now) rise }
-        ensures { IfOk result (λ within. MatchBool within
+        requires listed { AreMoveListings (pairs_tree self.now).moves listings.now self.now.machine_states }
+        requires kept { AreKept (pairs_tree self.now) kept.old.of_pairs.items }
+        ensures followed { IfOk result (λ within. MatchBool within
             (GrowsTo (pairs_tree self.now) growth.old.numbers.items growth.old.risen.items growth.new.numbers.items growth.new.risen.items
             × IsDone (pairs_tree self.now) growth.new.numbers.items rise.machine_state rise.automaton_state rise.number)
             (HasNone (pairs_tree self.now))) }
+        ensures kept { OnOk result (AreKept (pairs_tree self.now) kept.new.of_pairs.items) }
     {
-        let edges = self.edges_from(rise.automaton_state);
-        let moves = self.moves_in(rise.machine_state);
-        for step in moves {
-            if !self.follow_move(growth, rise, *step, edges)? {
-                return Ok(false);
-            }
+        let place = rise.machine_state as usize * self.automaton_states as usize
+            + rise.automaton_state as usize;
+        if let Some(steps) = &kept.of_pairs[place] {
+            return self.follow(growth, rise, steps);
         }
-        Ok(true)
+        let steps = self.steps_from(alloc, listings, rise)?;
+        let within = self.follow(growth, rise, &steps)?;
+        kept.keep(place, steps);
+        Ok(within)
     }
 
     /// The least numbers, unless one of them passes the bound.
@@ -231,11 +256,13 @@ impl Pairs {
             number: 0,
         };
         growth.raise(self.automaton_states, start)?;
+        let listings = self.listings(alloc)?;
+        let mut kept = KeptSteps::new(alloc, pairs)?;
         while let Some(rise) = growth.risen.pop() {
             if !growth.has(self.automaton_states, rise) {
                 continue;
             }
-            if !self.follow(&mut growth, rise)? {
+            if !self.look(alloc, &listings, &mut kept, &mut growth, rise)? {
                 return Ok(None);
             }
         }

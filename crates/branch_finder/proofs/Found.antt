@@ -1,92 +1,86 @@
 -- What is seen on a path is a congruent spurious window, and where nothing is seen on it there is none.
-use Rattle.std.proofs.Common.{◌≡◌, ◌∙◌, ℕ, zero, suc, ◌+◌, ◌-◌, ◌^◌, ◌<◌}
-use Rattle.std.proofs.Common.{◌≤◌, nat_le, nat_lt, true, ◌&&◌, List, Option, Some, None, slice_get}
+use Rattle.std.proofs.Common.{◌≡◌, ◌∙◌, ℕ, suc, ◌+◌, ◌^◌, ◌<◌, ◌≤◌, nat_le, nat_lt, true, ◌&&◌, List, map, take, drop, Some, slice_get}
 use Rattle.std.proofs.Common.{refl, sym, ap, subst, arith}
 use Rattle.std.proofs.Common.{length as count_of}
-use Rattle.std.specs.Prelude.{unwrap_or, option_and_then}
-use Rattle.std.specs.List.{list_all}
+use Rattle.std.specs.List.{AllByRecursion, list_all}
 use Rattle.std.proofs.lemmas.Bool.{and_from, lt-ltb, le-leb}
-use Rattle.std.proofs.lemmas.Option.{none-some, slice_get_within}
+use Rattle.std.proofs.lemmas.List.{length-map}
+use Rattle.std.proofs.lemmas.Option.{slice_get_within, slice_get-get_or}
 use Rattle.sequence.specs.Numbers.{is_among}
-use Rattle.sequence.proofs.Each.{each_weaker, each_both}
+use Rattle.sequence.proofs.Each.{each_at, each_map, each_weaker, each_both}
 use Rattle.sequence.proofs.Passes.{list_all_from_each}
+use Rattle.sequence.proofs.Places.{slice_get_some, slice_get_one, slice_get_mapped}
 use Rattle.tsl_terms.specs.WindowTree.{ListedTree, WindowTree}
 use Rattle.tsl_terms.specs.Congruence.{IsCongruent}
 use Rattle.program_tree.specs.Fits.{longest, rises, window_is_shaped}
-use Rattle.letter_space.specs.SpaceTree.{SpaceTree}
-use Rattle.machines.specs.MachineTree.{EnvironmentTree, successor_at}
+use Rattle.ltl_formula.specs.Cubes.{has_bit}
+use Rattle.letter_space.specs.SpaceTree.{SpaceTree, IsSpace}
+use Rattle.letter_space.specs.Vectors.{vector_count}
+use Rattle.letter_space.proofs.Places.{slice_get_image}
+use Rattle.machines.specs.MachineTree.{EnvironmentTree}
+use Rattle.machines.specs.Visits.{IsVisited}
 use Rattle.branch_finder.specs.Spurious.{IsOneOf, IsSpurious}
 use Rattle.branch_finder.specs.Finding.{IsWindowWithin, HasNoSpuriousWindow, IsFoundWindow}
-use Rattle.branch_finder.specs.internal.Paths.{PairTree, path_of, vector_at, updates_along, state_along, truths_along, IsSeen}
+use Rattle.branch_finder.specs.internal.Sets.{set_of, first_of, numbered_set, HasAll, AreFirsts, LeadsTo}
+use Rattle.branch_finder.specs.internal.Paths.{PairTree, path_of, vector_at, updates_along, IsSeen}
 use Rattle.branch_finder.specs.internal.Thinning.{IsOwn, IsOnPath, AreNeededFrom}
 use Rattle.branch_finder.specs.internal.Finding.{IsFoundOf, HasNoneOn, HasNoneOf}
 use Rattle.branch_finder.proofs.PathUpdates.{own_updates, along_there, vector_is}
 use Rattle.branch_finder.proofs.PathCongruence.{StandIn, congruent_on_path}
 use Rattle.branch_finder.proofs.UpdateOrder.{rises_one_by_one}
 use Rattle.branch_finder.proofs.Paths.{path_length, number_of_path}
+use Rattle.branch_finder.proofs.SetLemmas.{own_set, taken_too, taken_before}
+use Rattle.branch_finder.proofs.ToldApart.{Run, RunBy, run_by, leads_by, is_not, differ_by}
 use Rattle.branch_finder.proofs.VisitLemmas.{vector_within}
-use Rattle.branch_finder.proofs.Walks.{last_step, there_before}
 
--- where truths are known there is a state
-record Standing (e : EnvironmentTree) (path : List ℕ) (s t truths : ℕ) : Type 0 where
-  state : ℕ
-  along : state_along e path s t ≡ Some state
-  known : slice_get e.truths state ≡ Some truths
+module _ (space : SpaceTree) (e : EnvironmentTree) (cells path : List ℕ) (is_space : IsSpace space)
+    (vectors_counted : e.vectors ≡ vector_count space.controlled) (path_within : AllByRecursion (λ v. v < e.vectors) path) where
+  sets_counted : count_of (map (set_of space cells) path) ≡ count_of path
+  sets_counted = length-map path (set_of space cells)
 
-standing : (e : EnvironmentTree) (path : List ℕ) (s t truths : ℕ) → truths_along e path s t ≡ Some truths → Standing e path s t truths
-standing e path s t truths is = by (state_along e path s t) refl is
-  where
-    by : (o : Option ℕ) → state_along e path s t ≡ o → option_and_then (λ r. slice_get e.truths r) o ≡ Some truths →
-        Standing e path s t truths
-    by None along known = absurd (none-some truths known)
-    by (Some r) along known = record { state = r; along = along; known = known }
-
-module _ (space : SpaceTree) (e : EnvironmentTree) (cells path : List ℕ) where
   module _ (pair : PairTree) (w : WindowTree) (seen : IsSeen space e cells path pair) (on : IsOnPath space cells path pair w) where
-    start : ℕ
-    start = seen.told.0
+    walk : RunBy space e (map (set_of space cells) path) pair.left_at seen.told.start seen.told.middle seen.told.last
+    walk =
+        run_by space e pair.left_at (map (set_of space cells) path) seen.told.start seen.told.middle seen.told.last
+        (omega (arith, seen.within, sets_counted)) seen.told.before seen.told.after
 
-    abbrev state_at : ℕ → ℕ
-    state_at t = unwrap_or (state_along e path seen.told.0 t) 0
+    one_of_run : (run : Run space e (map (set_of space cells) path) seen.told.start seen.told.last) (u : ListedTree) →
+        IsOwn space cells (vector_at path) 0 (count_of path) u → IsOneOf space (run.vector u.offset) u
+    one_of_run run u own =
+        let v = slice_get_some path u.offset own.before in
+        let same = vector_is path u.offset v.0 v.1 in
+        let within = each_at (λ n. n < e.vectors) path u.offset v.0 path_within v.1 in
+        let inside : u.offset < count_of (map (set_of space cells) path) = omega (arith, own.before, sets_counted) in
+        let step = vector_within e (run.state u.offset) (run.vector u.offset) (run.state (suc u.offset)) (run.steps u.offset inside) in
+        taken_too space is_space cells v.0 (run.vector u.offset) u.signal (omega (arith, within, vectors_counted))
+        (omega (arith, step, vectors_counted)) own.among
+        (run.has u.offset (set_of space cells v.0) (slice_get_image (set_of space cells) path u.offset v.0 v.1)) u.term
+        (subst (λ n. IsOneOf space n u) same own.one)
 
-    state_is : (t r : ℕ) → state_along e path seen.told.0 t ≡ Some r → state_at t ≡ r
-    state_is t r along = ap (λ o. unwrap_or o 0) along
-
-    reached : (t : ℕ) → t ≤ count_of path → (r : ℕ) × (state_along e path seen.told.0 t ≡ Some r)
-    reached t within =
-        let end = standing e path seen.told.0 (count_of path) seen.told.2.right_truths seen.told.2.are_right in
-        let place : count_of path - t + t ≡ count_of path = omega (arith, within) in
-        there_before e path seen.told.0 (count_of path - t) t end.state (ap (state_along e path seen.told.0) place ∙ end.along)
-
-    seen_step : (t : ℕ) → t < w.length → successor_at e (state_at t) (vector_at path t) ≡ Some (state_at (suc t))
-    seen_step t below =
-        let next = reached (suc t) (omega (arith, below, on.length)) in
-        let step = last_step e path seen.told.0 t next.0 next.1 in
-        (λ i. successor_at e (state_is t step.from step.along i) (vector_is path t step.vector step.at i))
-        ∙ step.goes ∙ ap Some (sym (state_is (suc t) next.0 next.1))
-
-    pub seen_spurious : IsSpurious space e w
-    seen_spurious =
-        let told = seen.told.2 in
-        let left = standing e path seen.told.0 pair.left_at told.left_truths told.are_left in
-        let right = standing e path seen.told.0 (count_of path) told.right_truths told.are_right in
+    seen_by : RunBy space e (map (set_of space cells) path) pair.left_at seen.told.start seen.told.middle seen.told.last → IsSpurious space e w
+    seen_by walk =
+        let told = seen.told in
+        let run = walk.run in
         record {
-          state = state_at;
-          vector = vector_at path;
-          visited = seen.told.1;
-          steps = seen_step;
-          listed = each_weaker (IsOwn space cells (vector_at path) 0 (count_of path)) (λ u. IsOneOf space (vector_at path u.offset) u)
-              (λ u own. own.one) w.updates on.own;
+          state = run.state;
+          vector = run.vector;
+          visited = subst (IsVisited e) (sym run.first) told.visited;
+          steps = λ t below. run.steps t (omega (arith, below, on.length, sets_counted));
+          listed = each_weaker (IsOwn space cells (vector_at path) 0 (count_of path)) (λ u. IsOneOf space (run.vector u.offset) u)
+              (one_of_run run) w.updates on.own;
           left_bit = pair.left;
           is_left = on.is_left;
           right_bit = pair.right;
           is_right = on.is_right;
-          left_truths = told.left_truths;
-          are_left = ap (slice_get e.truths) (ap state_at on.left_at ∙ state_is pair.left_at left.state left.along) ∙ left.known;
-          right_truths = told.right_truths;
-          are_right = ap (slice_get e.truths) (ap state_at on.length ∙ state_is (count_of path) right.state right.along) ∙ right.known;
-          differ = told.differ;
+          left_truths = told.left.truths;
+          are_left = ap (slice_get e.truths) (ap run.state on.left_at ∙ walk.by) ∙ told.left.at;
+          right_truths = told.right.truths;
+          are_right = ap (slice_get e.truths) (ap run.state (on.length ∙ sym sets_counted) ∙ run.last) ∙ told.right.at;
+          differ = differ_by (has_bit pair.left told.left.truths) (has_bit pair.right told.right.truths) told.wanted told.left.is told.right.is;
         }
+
+    pub seen_spurious : IsSpurious space e w
+    seen_spurious = seen_by walk
 
     seen_within : IsWindowWithin cells (count_of path) w
     seen_within = record {
@@ -123,15 +117,6 @@ module _ (space : SpaceTree) (e : EnvironmentTree) (cells path : List ℕ) where
 
   -- ---- where nothing is seen
 
-  walked : (s : ℕ → ℕ) (v : ℕ → ℕ) (last : ℕ) → ((t : ℕ) → t < last → successor_at e (s t) (v t) ≡ Some (s (suc t))) →
-      ((t : ℕ) → t < last → slice_get path t ≡ Some (v t)) → (t : ℕ) → t ≤ last → state_along e path (s 0) t ≡ Some (s t)
-  walked s v last steps agrees zero within = refl
-  walked s v last steps agrees (suc t) within =
-      ap (λ o. option_and_then (λ w. option_and_then (λ r. successor_at e r w) (state_along e path (s 0) t)) o)
-      (agrees t (omega (arith, within)))
-      ∙ ap (λ o. option_and_then (λ r. successor_at e r (v t)) o) (walked s v last steps agrees t (omega (arith, within)))
-      ∙ steps t (omega (arith, within))
-
   pub none_on_path : ((left_at left right : ℕ) → IsSeen space e cells path (record { left_at = left_at; left = left; right = right }) → ⊥) →
       HasNoneOn space e cells path
   none_on_path unseen w long within congruent spurious agrees =
@@ -147,53 +132,89 @@ module _ (space : SpaceTree) (e : EnvironmentTree) (cells path : List ℕ) where
             (each_weaker (IsOwn space cells (vector_at path) 0 (count_of path)) (λ u. IsOneOf space (vector_at path u.offset) u)
             (λ u own. own.one) all (own_updates space cells path))
             congruent);
-        told = (
-          spurious.state 0,
-          spurious.visited,
-          record {
-            left_truths = spurious.left_truths;
-            are_left = there w.left_at spurious.left_truths (omega (arith, long, within.left_within)) spurious.are_left;
-            right_truths = spurious.right_truths;
-            are_right = there (count_of path) spurious.right_truths (omega arith)
-                (ap (λ n. slice_get e.truths (spurious.state n)) (sym long) ∙ spurious.are_right);
-            differ = spurious.differ;
-          },
-        );
+        told = record {
+          start = spurious.state 0;
+          visited = spurious.visited;
+          middle = spurious.state w.left_at;
+          before = led.0;
+          wanted = has_bit spurious.left_bit spurious.left_truths;
+          left = record { truths = spurious.left_truths; at = spurious.are_left; is = refl };
+          last = spurious.state (count_of (map (set_of space cells) path));
+          after = led.1;
+          right = record {
+            truths = spurious.right_truths;
+            at = ap (λ n. slice_get e.truths (spurious.state n)) (sets_counted ∙ sym long) ∙ spurious.are_right;
+            is = is_not (has_bit spurious.left_bit spurious.left_truths) (has_bit spurious.right_bit spurious.right_truths) spurious.differ;
+          };
+        };
       })
     where
       all : List ListedTree
       all = updates_along space.controlled cells 0 path
 
+      one_before : (u : ListedTree) → is_among cells u.signal ≡ true → u.offset < w.length → IsOneOf space (spurious.vector u.offset) u →
+          (j : ℕ) × (slice_get all j ≡ Some u)
+      one_before u among below one =
+          let v = slice_get_some path u.offset (omega (arith, below, long)) in
+          let agreed = agrees u.offset v.0 v.1 in
+          let within = each_at (λ n. n < e.vectors) path u.offset v.0 path_within v.1 in
+          let there = along_there space.controlled cells u.signal u.term among 0 path u.offset v.0 v.1
+          (taken_before space is_space cells v.0 (spurious.vector u.offset) u.signal (omega (arith, within, vectors_counted)) agreed.0
+          among agreed.1 u.term one) in
+          let place : 0 + u.offset ≡ u.offset = omega arith in
+          (there.0, there.1 ∙ ap (λ n. Some (record { signal = u.signal; term = u.term; offset = n })) place)
+
       stand : StandIn w.updates all
       stand =
           each_both (λ u. (is_among cells u.signal ≡ true) × (u.offset < w.length)) (λ u. IsOneOf space (spurious.vector u.offset) u)
-          (λ u. (j : ℕ) × (slice_get all j ≡ Some u)) (λ u own one.
-          let there = along_there space.controlled cells u.signal u.term own.0 0 path u.offset (spurious.vector u.offset)
-          (agrees u.offset (omega (arith, own.1, long))) one in
-          let place : 0 + u.offset ≡ u.offset = omega arith in
-          (there.0, there.1 ∙ ap (λ n. Some (record { signal = u.signal; term = u.term; offset = n })) place)) w.updates within.listed
-          spurious.listed
+          (λ u. (j : ℕ) × (slice_get all j ≡ Some u)) (λ u own one. one_before u own.0 own.1 one) w.updates within.listed spurious.listed
 
-      there : (t truths : ℕ) → t ≤ count_of path → slice_get e.truths (spurious.state t) ≡ Some truths →
-          truths_along e path (spurious.state 0) t ≡ Some truths
-      there t truths inside known =
-          ap (λ o. option_and_then (λ r. slice_get e.truths r) o)
-          (walked spurious.state spurious.vector (count_of path) (λ n below. spurious.steps n (omega (arith, below, long))) agrees t inside)
-          ∙ known
+      had : (t set : ℕ) → slice_get (map (set_of space cells) path) t ≡ Some set → HasAll space set (spurious.vector t)
+      had t set at =
+          let there = slice_get_mapped (set_of space cells) path t set at in
+          subst (λ n. HasAll space n (spurious.vector t)) there.2 (agrees t there.0 there.1).1
+
+      led : LeadsTo space e (take w.left_at (map (set_of space cells) path)) (spurious.state 0) (spurious.state w.left_at)
+          × LeadsTo space e (drop w.left_at (map (set_of space cells) path)) (spurious.state w.left_at)
+          (spurious.state (count_of (map (set_of space cells) path)))
+      led =
+          leads_by space e w.left_at (map (set_of space cells) path) spurious.state spurious.vector
+          (omega (arith, within.left_within, long, sets_counted)) (λ t below. spurious.steps t (omega (arith, below, long, sets_counted))) had
 
 -- ---- windows of one length
 
-pub none_of_length : (space : SpaceTree) (e : EnvironmentTree) (cells : List ℕ) (length : ℕ) →
-    ((n : ℕ) → n < e.vectors ^ length → HasNoneOn space e cells (path_of e.vectors length n)) → HasNoneOf space e cells length
-none_of_length space e cells length none w long within congruent spurious =
-    let found = number_of_path e.vectors length spurious.vector 0 (λ t below.
-    let place : 0 + t ≡ t = omega arith in
-    subst (λ n. spurious.vector n < e.vectors) (sym place)
-    (vector_within e (spurious.state t) (spurious.vector t) (spurious.state (suc t)) (spurious.steps t (omega (arith, below, long))))) in
-    let sized = path_length e.vectors length found.number in
+pub none_of_length : (space : SpaceTree) (e : EnvironmentTree) (cells firsts : List ℕ) (length : ℕ) → IsSpace space →
+    e.vectors ≡ vector_count space.controlled → AreFirsts space cells e.vectors firsts →
+    ((n : ℕ) → n < count_of firsts ^ length → HasNoneOn space e cells (map (first_of firsts) (path_of (count_of firsts) length n))) →
+    HasNoneOf space e cells length
+none_of_length space e cells firsts length is_space vectors_counted are none w long within congruent spurious =
+    let found = number_of_path (count_of firsts) length (λ t k. HasAll space (numbered_set space cells firsts k) (spurious.vector t)) some in
+    let path = path_of (count_of firsts) length found.number in
+    let sized : count_of (map (first_of firsts) path) ≡ length
+    = length-map path (first_of firsts) ∙ path_length (count_of firsts) length found.number in
     none found.number found.below w (long ∙ sym sized) (subst (λ n. IsWindowWithin cells n w) (sym sized) within) congruent spurious
-    (λ t below. let place : 0 + t ≡ t = omega arith in
-    found.each t (omega (arith, below, sized)) ∙ ap (λ n. Some (spurious.vector n)) place)
+    (λ t v at.
+    let there = slice_get_mapped (first_of firsts) path t v at in
+    let below : t < length
+    = omega (arith, slice_get_within (map (first_of firsts) path) t v at, sized) in
+    let chosen = found.each t below in
+    let same : chosen.0 ≡ there.0 = slice_get_one path t chosen.0 there.0 chosen.1 there.1 in (
+      omega (arith, stepped t below, vectors_counted),
+      subst (λ n. HasAll space (set_of space cells n) (spurious.vector t)) (ap (first_of firsts) same ∙ there.2) chosen.2,
+    ))
+  where
+    stepped : (t : ℕ) → t < length → spurious.vector t < e.vectors
+    stepped t below =
+        vector_within e (spurious.state t) (spurious.vector t) (spurious.state (suc t)) (spurious.steps t (omega (arith, below, long)))
+
+    some : (t : ℕ) → t < length → (k : ℕ) × (k < count_of firsts) × HasAll space (numbered_set space cells firsts k) (spurious.vector t)
+    some t below =
+        let found = are.all (spurious.vector t) (stepped t below) in (
+          found.0,
+          found.1,
+          subst (λ set. HasAll space set (spurious.vector t)) (sym found.2)
+              (own_set space is_space cells (spurious.vector t) (omega (arith, stepped t below, vectors_counted))),
+        )
 
 -- ---- windows within a depth
 
@@ -224,3 +245,18 @@ module _ (space : SpaceTree) (e : EnvironmentTree) (cells : List ℕ) where
   pub none_without_probes : (depth : ℕ) → count_of space.predicates ≡ 0 → HasNoSpuriousWindow space e cells depth
   none_without_probes depth empty w within congruent spurious =
       omega (arith, slice_get_within space.predicates spurious.left_bit w.left spurious.is_left, empty)
+
+-- ---- first vectors
+
+-- with a vector there is a set
+pub some_first : (space : SpaceTree) (cells firsts : List ℕ) (vectors : ℕ) → AreFirsts space cells vectors firsts → 1 ≤ vectors →
+    1 ≤ count_of firsts
+some_first space cells firsts vectors are some = let first = are.all 0 (omega (arith, some)) in omega (arith, first.1)
+
+-- a path of first vectors is one of vectors
+pub firsts_within : (firsts numbers : List ℕ) (vectors : ℕ) → AllByRecursion (λ v. v < vectors) firsts →
+    AllByRecursion (λ n. n < count_of firsts) numbers → AllByRecursion (λ v. v < vectors) (map (first_of firsts) numbers)
+firsts_within firsts numbers vectors within below =
+    each_map (λ v. v < vectors) (first_of firsts) numbers
+    (each_weaker (λ n. n < count_of firsts) (λ n. first_of firsts n < vectors)
+    (λ n inside. each_at (λ v. v < vectors) firsts n (first_of firsts n) within (slice_get-get_or firsts n 0 inside)) numbers below)

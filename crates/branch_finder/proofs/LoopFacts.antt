@@ -6,7 +6,7 @@ use Rattle.sequence.proofs.Places.{slice_get_one}
 pub false_is_not_true : (b : Bool) → b ≡ false → b ≡ true → ⊥
 false_is_not_true b fails holds = false≢true (sym fails ∙ holds)
 
-before_or_here : (m n : ℕ) → m < n + 1 → (m < n) ⊎ (m ≡ n)
+pub before_or_here : (m n : ℕ) → m < n + 1 → (m < n) ⊎ (m ≡ n)
 before_or_here m n below = grind (arith, below)
 
 -- one number more

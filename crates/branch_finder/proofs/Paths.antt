@@ -1,6 +1,6 @@
 -- Paths by their numbers: each path of vectors has one.
 use Rattle.std.proofs.Common.{◌≡◌, ◌∙◌, ℕ, zero, suc, ◌+◌, ◌*◌, ◌^◌, ◌/◌, ◌%◌, ◌<◌}
-use Rattle.std.proofs.Common.{◌≤◌, ◌-◌, ◌∷◌, length, Some, slice_get, refl, sym, ap, subst, arith, add-one}
+use Rattle.std.proofs.Common.{◌≤◌, ◌-◌, ◌∷◌, length, Some, slice_get, refl, sym, ap, arith, add-one}
 use Rattle.std.specs.List.{AllByRecursion}
 use Rattle.std.proofs.lemmas.Nat.{mod-mul-add, div-mul-add}
 use Rattle.std.proofs.Math.Nat.{mod-lt, pow-suc, pow-zero, mul-one, one-mul, mul_assoc, mul-le-mul_left, pow-le-pow_right, one-le-pow}
@@ -15,48 +15,46 @@ pub path_within : (vectors steps number : ℕ) → 0 < vectors → AllByRecursio
 path_within vectors zero number some = tt
 path_within vectors (suc steps) number some = (mod-lt number some, path_within vectors steps (number / vectors) some)
 
--- the number of a path whose vectors are given from a step on
-pub record IsNumberOf (vectors steps : ℕ) (vector : ℕ → ℕ) (first : ℕ) : Type 0 where
+-- the number of a path where at each step there is a number of which something holds
+pub record IsNumberOf (numbers steps : ℕ) (P : ℕ → ℕ → Type 0) : Type 0 where
   pub number : ℕ
-  pub below : number < vectors ^ steps
-  pub each : (t : ℕ) → t < steps → slice_get (path_of vectors steps number) t ≡ Some (vector (first + t))
+  pub below : number < numbers ^ steps
+  pub each : (t : ℕ) → t < steps → (k : ℕ) × (slice_get (path_of numbers steps number) t ≡ Some k) × P t k
 
-pub number_of_path : (vectors steps : ℕ) (vector : ℕ → ℕ) (first : ℕ) → ((t : ℕ) → t < steps → vector (first + t) < vectors) →
-    IsNumberOf vectors steps vector first
-number_of_path vectors zero vector first within = record {
+pub number_of_path : (numbers steps : ℕ) (P : ℕ → ℕ → Type 0) → ((t : ℕ) → t < steps → (k : ℕ) × (k < numbers) × P t k) →
+    IsNumberOf numbers steps P
+number_of_path numbers zero P some = record {
   number = 0;
-  below = let one : vectors ^ 0 ≡ 1 = pow-zero vectors in omega (arith, one);
+  below = let one : numbers ^ 0 ≡ 1 = pow-zero numbers in omega (arith, one);
   each = λ t below. absurd (omega (arith, below));
 }
-number_of_path vectors (suc steps) vector first within =
-    let rest = number_of_path vectors steps vector (suc first)
-    (λ t below. subst (λ n. vector n < vectors) (omega arith) (within (suc t) (omega (arith, below)))) in
-    let here : vector first < vectors = subst (λ n. vector n < vectors) (omega arith) (within 0 (omega arith)) in
-    let number = rest.number * vectors + vector first in
-    let digit : number % vectors ≡ vector first = mod-mul-add rest.number vectors (vector first) here in
-    let above : number / vectors ≡ rest.number = div-mul-add rest.number vectors (vector first) here in
+number_of_path numbers (suc steps) P some =
+    let rest = number_of_path numbers steps (λ t k. P (suc t) k) (λ t below. some (suc t) (omega (arith, below))) in
+    let here = some 0 (omega arith) in
+    let digit : (rest.number * numbers + here.0) % numbers ≡ here.0 = mod-mul-add rest.number numbers here.0 here.1 in
+    let above : (rest.number * numbers + here.0) / numbers ≡ rest.number = div-mul-add rest.number numbers here.0 here.1 in
     record {
-      number = number;
-      below = by rest here;
-      each = digits rest digit above;
+      number = rest.number * numbers + here.0;
+      below = by rest here.0 here.1;
+      each = digits rest here.0 here.2 digit above;
     }
   where
-    by : (rest : IsNumberOf vectors steps vector (suc first)) → vector first < vectors →
-        rest.number * vectors + vector first < vectors ^ suc steps
-    by rest here =
-        let most : (rest.number + 1) * vectors ≤ vectors ^ steps * vectors
-        = mul-le (rest.number + 1) vectors (vectors ^ steps) vectors (omega (arith, rest.below)) (omega arith) in
-        let whole : vectors ^ suc steps ≡ vectors ^ steps * vectors = pow-suc vectors steps in
-        let split : (rest.number + 1) * vectors ≡ rest.number * vectors + vectors = grind arith in
-        omega (arith, most, whole, split, here)
+    by : (rest : IsNumberOf numbers steps (λ t k. P (suc t) k)) (here : ℕ) → here < numbers →
+        rest.number * numbers + here < numbers ^ suc steps
+    by rest here below =
+        let most : (rest.number + 1) * numbers ≤ numbers ^ steps * numbers
+        = mul-le (rest.number + 1) numbers (numbers ^ steps) numbers (omega (arith, rest.below)) (omega arith) in
+        let whole : numbers ^ suc steps ≡ numbers ^ steps * numbers = pow-suc numbers steps in
+        let split : (rest.number + 1) * numbers ≡ rest.number * numbers + numbers = grind arith in
+        omega (arith, most, whole, split, below)
 
-    digits : (rest : IsNumberOf vectors steps vector (suc first)) →
-        (rest.number * vectors + vector first) % vectors ≡ vector first → (rest.number * vectors + vector first) / vectors ≡ rest.number →
-        (t : ℕ) → t < suc steps →
-        slice_get (path_of vectors (suc steps) (rest.number * vectors + vector first)) t ≡ Some (vector (first + t))
-    digits rest digit above zero below = ap Some (digit ∙ ap vector (omega arith))
-    digits rest digit above (suc t) below =
-        ap (λ n. slice_get (path_of vectors steps n) t) above ∙ rest.each t (omega (arith, below)) ∙ ap (λ n. Some (vector n)) (omega arith)
+    digits : (rest : IsNumberOf numbers steps (λ t k. P (suc t) k)) (here : ℕ) → P 0 here →
+        (rest.number * numbers + here) % numbers ≡ here → (rest.number * numbers + here) / numbers ≡ rest.number →
+        (t : ℕ) → t < suc steps → (k : ℕ) × (slice_get (path_of numbers (suc steps) (rest.number * numbers + here)) t ≡ Some k) × P t k
+    digits rest here holds digit above zero below = (here, ap Some digit, holds)
+    digits rest here holds digit above (suc t) below =
+        let there = rest.each t (omega (arith, below)) in
+        (there.0, ap (λ n. slice_get (path_of numbers steps n) t) above ∙ there.1, there.2)
 
 -- one vector more of a path that is made
 pub made_more : (vectors left rest : ℕ) → 0 < left →
@@ -92,6 +90,12 @@ module _ (predicates vectors : ℕ) (some : 1 ≤ vectors) where
       let more : 1 * vectors ^ depth ≤ predicates ^ 2 * vectors ^ depth
       = mul-le 1 (vectors ^ depth) (predicates ^ 2) (vectors ^ depth) squared (omega arith) in
       omega (arith, more, one-mul (vectors ^ depth))
+
+pub powers_below : (few many steps : ℕ) → few ≤ many → few ^ steps ≤ many ^ steps
+powers_below few many zero within = omega (arith, pow-zero few, pow-zero many)
+powers_below few many (suc steps) within =
+    let most = mul-le (few ^ steps) few (many ^ steps) many (powers_below few many steps within) within in
+    omega (arith, most, pow-suc few steps, pow-suc many steps)
 
 pub powers_grow : (vectors step depth : ℕ) → 1 ≤ vectors → step ≤ depth → vectors ^ step ≤ vectors ^ depth
 powers_grow vectors step depth some within = pow-le-pow_right (omega (arith, some)) within

@@ -1,3 +1,5 @@
+pub mod Sets
+pub mod Planes
 pub mod Paths
 pub mod Visiting
 pub mod Looking

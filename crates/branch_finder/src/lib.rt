@@ -7,16 +7,23 @@
 //! (`specs/Spurious`). `find_window` looks for a congruent spurious window within a depth: it answers one of the
 //! least length that lists no update too many, or that there is none (`specs/Finding`).
 //!
-//! Beside the limit on branches the only error is out of memory. The search goes over all paths of vectors, by
-//! length, and on each path over the pairs of predicate terms.
+//! Beside the limit on branches the only error is out of memory. What terms unfold to along a path depends on
+//! the updates of cells alone. So the search lists the sets of such updates that vectors have (`sets`), goes over
+//! the paths of sets, by length, labels the predicate terms once on each, and looks at the pairs with equal
+//! labels. The vectors with all updates of a set are matched by their masks, and give the states that each state
+//! goes to (`linking`); where an environment may be after some steps is a plane of states (`moving`).
 #![tactic(auto)]
 
 mod branch_error;
 mod counting;
 mod finding;
 mod limits;
+mod linking;
 mod listing;
 mod looking;
+mod moving;
+mod planes;
+mod sets;
 mod thinning;
 mod visiting;
 

@@ -16,7 +16,11 @@ use std::alloc::Global;
 use tsl_terms::{Listed, Probe, Term, copy_probe, copy_term};
 
 /// The term that a signal takes where so much is picked, if it takes one.
-fn term_taken<'a>(controlled: &'a [Controlled], picks: &[u32], signal: u32) -> Option<&'a Term>
+pub(crate) fn term_taken<'a>(
+    controlled: &'a [Controlled],
+    picks: &[u32],
+    signal: u32,
+) -> Option<&'a Term>
     requires picks { length picks.now ≡ length controlled.now }
     ensures some { IfSome result (λ term. term_taken (map controlled_tree controlled.now) picks.now signal ≡ Some (term_tree term.now)) }
     ensures none { IfNone result (term_taken (map controlled_tree controlled.now) picks.now signal ≡ None) }

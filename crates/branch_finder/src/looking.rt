@@ -1,19 +1,21 @@
 //! Which pairs of predicate terms a path tells apart although the windows of their probes are congruent.
 
-ghost use Rattle.std.specs.Prelude.{◌≡◌, ◌<◌, ◌≤◌, ◌↔◌, ℕ, length, Some, slice_get, IsTrue, IfSome, IfNone};
-ghost use Rattle.std.specs.List.{AllByRecursion};
+ghost use Rattle.std.specs.Prelude.{◌≡◌, ◌<◌, ◌≤◌, ◌↔◌, ℕ, map, length, Some, slice_get, IsTrue, IfOk, IfSome, IfNone};
 ghost use Rattle.tsl_terms.specs.TermTree.{ProbeTree};
 ghost use Rattle.tsl_terms.specs.Congruence.{IsCongruent};
-ghost use Rattle.ltl_formula.specs.Cubes.{has_bit};
 ghost use Rattle.letter_space.specs.SpaceView.{space_tree};
 ghost use Rattle.machines.specs.MachineView.{environment_tree};
 ghost use Rattle.term_congruence.specs.Classes.{label_at};
-ghost use Rattle.branch_finder.specs.internal.Paths.{truths_along, TellsApart, IsToldApart, path_window, IsSeen};
+ghost use Rattle.branch_finder.specs.internal.Paths.{TellsApart, IsToldApart, path_window, IsSeen};
+ghost use Rattle.branch_finder.specs.internal.Sets.{set_of};
+ghost use Rattle.branch_finder.specs.internal.Planes.{words_of};
 ghost use Rattle.branch_finder.specs.internal.Looking.{pair_tree, IsLook, IsPairWithin};
 
+use crate::moving::{is_some_with, states_after, states_with};
 use letter_space::Space;
 use machines::Environment;
-use sequence::Sequence;
+use sequence::{NoMemory, Sequence};
+use std::alloc::Global;
 use tsl_terms::Term;
 
 /// What a search is over.
@@ -25,18 +27,24 @@ pub(crate) struct Search<'a> {
     pub(crate) space: &'a Space,
     /// The cells whose updates are listed.
     pub(crate) cells: &'a [u32],
-    /// The states that the environment visits.
-    pub(crate) visited: &'a [u32],
+    /// The states that the environment visits, as a plane.
+    pub(crate) visited: &'a [u64],
     /// The predicate terms, as terms.
     pub(crate) terms: &'a [Term],
+    /// For each set of updates of cells that a vector has, the first one that has it.
+    pub(crate) firsts: &'a [u32],
+    /// For each of these sets and each state, the states to go to under vectors with all its updates, as planes.
+    pub(crate) links: &'a [Sequence<Sequence<u64>>],
 }
 
-/// A path of vectors, and labels along it.
+/// A path of sets of updates of cells, and labels along it.
 #[derive(Clone, Copy)]
 pub(crate) struct Look<'a> {
     /// What the search is over.
     pub(crate) search: Search<'a>,
-    /// The vectors.
+    /// The numbers of the sets.
+    pub(crate) numbers: &'a [u32],
+    /// The first vectors that have them.
     pub(crate) path: &'a [u32],
     /// For each step the labels of the predicate terms, where all updates of the path are listed.
     pub(crate) rows: &'a [Sequence<u32>],
@@ -53,53 +61,44 @@ pub(crate) struct Pair {
     pub(crate) right: u32,
 }
 
-/// Whether a valuation has a bit.
-fn has_bit(valuation: u32, bit: u32) -> bool
-    requires { bit < 32 }
-    ensures { result ≡ has_bit bit valuation }
-{
-    valuation >> bit & 1 == 1
-}
-
-/// What is true after so many steps along a path, from a state.
-fn truths_after(environment: &Environment, path: &[u32], start: u32, steps: u32) -> u32
-    requires start { start < environment.now.states }
-    requires vectors { AllByRecursion (λ v. v < environment.now.vectors) path.now }
-    requires steps { steps ≤ length path.now }
-    ensures { truths_along (environment_tree environment.now) path.now start steps ≡ Some result }
-{
-    let mut state = start;
-    for step in 0..steps {
-        state = environment.successor(state, path[step as usize]);
-    }
-    environment.truths.as_slice()[state as usize]
-}
-
-/// Whether a path tells a pair apart, from a state.
-fn tells_apart(look: &Look, pair: Pair, start: u32) -> bool
+/// Whether a path tells a pair apart from one of these states at the pair's step, where the left bit is as
+/// wanted there.
+fn tells_apart(
+    alloc: Global,
+    look: &Look,
+    pair: Pair,
+    plane: &[u64],
+    wanted: bool,
+) -> Result<bool, NoMemory>
     requires look { IsLook look.now }
     requires pair { IsPairWithin look.now pair }
-    requires start { start < look.now.search.environment.now.states }
-    ensures { IsTrue result ↔ TellsApart (environment_tree look.now.search.environment.now) look.now.path.now (pair_tree pair) start }
+    requires size { length plane.now ≡ words_of look.now.search.environment.now.states }
+    ensures { IfOk result (λ is. IsTrue is ↔ TellsApart (space_tree look.now.search.space.now)
+        (environment_tree look.now.search.environment.now) (map (set_of (space_tree look.now.search.space.now) look.now.search.cells.now)
+        look.now.path.now) (pair_tree pair) wanted plane.now) }
 {
-    let environment = look.search.environment;
-    let left = truths_after(environment, look.path, start, pair.left_at);
-    let right = truths_after(environment, look.path, start, look.path.len() as u32);
-    has_bit(left, pair.left) != has_bit(right, pair.right)
+    let search = &look.search;
+    let from = states_with(alloc, search.environment, plane, pair.left, wanted)?;
+    let rest = &look.numbers[pair.left_at as usize..];
+    let last = states_after(alloc, search, from.as_slice(), rest)?;
+    Ok(is_some_with(search.environment, last.as_slice(), pair.right, !wanted))
 }
 
 /// Whether a path tells a pair apart, from some state that is visited.
-fn is_told_apart(look: &Look, pair: Pair) -> bool
+fn is_told_apart(alloc: Global, look: &Look, pair: Pair) -> Result<bool, NoMemory>
     requires look { IsLook look.now }
     requires pair { IsPairWithin look.now pair }
-    ensures { IsTrue result ↔ IsToldApart (environment_tree look.now.search.environment.now) look.now.path.now (pair_tree pair) }
+    ensures { IfOk result (λ is. IsTrue is ↔ IsToldApart (space_tree look.now.search.space.now)
+        (environment_tree look.now.search.environment.now) (map (set_of (space_tree look.now.search.space.now) look.now.search.cells.now)
+        look.now.path.now) (pair_tree pair)) }
 {
-    for state in look.search.visited {
-        if tells_apart(look, pair, *state) {
-            return true;
-        }
+    let search = &look.search;
+    let first = &look.numbers[..pair.left_at as usize];
+    let plane = states_after(alloc, search, search.visited, first)?;
+    if tells_apart(alloc, look, pair, plane.as_slice(), true)? {
+        return Ok(true);
     }
-    false
+    Ok(tells_apart(alloc, look, pair, plane.as_slice(), false)?)
 }
 
 /// The label of a predicate term at a step.
@@ -125,25 +124,33 @@ fn is_congruent(look: &Look, pair: Pair) -> bool
 }
 
 /// Whether a pair is congruent and told apart.
-fn is_seen(look: &Look, pair: Pair) -> bool
+fn is_seen(alloc: Global, look: &Look, pair: Pair) -> Result<bool, NoMemory>
     requires look { IsLook look.now }
     requires pair { IsPairWithin look.now pair }
-    ensures { IsTrue result ↔ IsSeen (space_tree look.now.search.space.now) (environment_tree look.now.search.environment.now)
-        look.now.search.cells.now look.now.path.now (pair_tree pair) }
+    ensures { IfOk result (λ is. IsTrue is ↔ IsSeen (space_tree look.now.search.space.now)
+        (environment_tree look.now.search.environment.now) look.now.search.cells.now look.now.path.now (pair_tree pair)) }
 {
-    is_congruent(look, pair) && is_told_apart(look, pair)
+    if !is_congruent(look, pair) {
+        return Ok(false);
+    }
+    Ok(is_told_apart(alloc, look, pair)?)
 }
 
 /// A pair that is congruent and told apart, with this left bit at this step.
-fn seen_with_left(look: &Look, left_at: u32, left: u32) -> Option<Pair>
+fn seen_with_left(
+    alloc: Global,
+    look: &Look,
+    left_at: u32,
+    left: u32,
+) -> Result<Option<Pair>, NoMemory>
     requires look { IsLook look.now }
     requires step { left_at ≤ length look.now.path.now }
     requires left { left < length look.now.search.space.now.predicates }
-    ensures some { IfSome result (λ pair. IsSeen (space_tree look.now.search.space.now) (environment_tree look.now.search.environment.now)
-        look.now.search.cells.now look.now.path.now (pair_tree pair)) }
-    ensures none { IfNone result ((right : ℕ) → IsSeen (space_tree look.now.search.space.now)
+    ensures some { IfOk result (λ seen. IfSome seen (λ pair. IsSeen (space_tree look.now.search.space.now)
+        (environment_tree look.now.search.environment.now) look.now.search.cells.now look.now.path.now (pair_tree pair))) }
+    ensures none { IfOk result (λ seen. IfNone seen ((right : ℕ) → IsSeen (space_tree look.now.search.space.now)
         (environment_tree look.now.search.environment.now) look.now.search.cells.now look.now.path.now
-        (record { left_at = left_at; left = left; right = right }) → ⊥) }
+        (record { left_at = left_at; left = left; right = right }) → ⊥)) }
 {
     for right in 0..look.search.space.predicates.len() as u32 {
         let pair = Pair {
@@ -151,44 +158,44 @@ fn seen_with_left(look: &Look, left_at: u32, left: u32) -> Option<Pair>
             left,
             right,
         };
-        if is_seen(look, pair) {
-            return Some(pair);
+        if is_seen(alloc, look, pair)? {
+            return Ok(Some(pair));
         }
     }
-    None
+    Ok(None)
 }
 
 /// A pair that is congruent and told apart, with the left bit at this step.
-fn seen_at(look: &Look, left_at: u32) -> Option<Pair>
+fn seen_at(alloc: Global, look: &Look, left_at: u32) -> Result<Option<Pair>, NoMemory>
     requires look { IsLook look.now }
     requires step { left_at ≤ length look.now.path.now }
-    ensures some { IfSome result (λ pair. IsSeen (space_tree look.now.search.space.now) (environment_tree look.now.search.environment.now)
-        look.now.search.cells.now look.now.path.now (pair_tree pair)) }
-    ensures none { IfNone result ((left right : ℕ) → IsSeen (space_tree look.now.search.space.now)
+    ensures some { IfOk result (λ seen. IfSome seen (λ pair. IsSeen (space_tree look.now.search.space.now)
+        (environment_tree look.now.search.environment.now) look.now.search.cells.now look.now.path.now (pair_tree pair))) }
+    ensures none { IfOk result (λ seen. IfNone seen ((left right : ℕ) → IsSeen (space_tree look.now.search.space.now)
         (environment_tree look.now.search.environment.now) look.now.search.cells.now look.now.path.now
-        (record { left_at = left_at; left = left; right = right }) → ⊥) }
+        (record { left_at = left_at; left = left; right = right }) → ⊥)) }
 {
     for left in 0..look.search.space.predicates.len() as u32 {
-        if let Some(pair) = seen_with_left(look, left_at, left) {
-            return Some(pair);
+        if let Some(pair) = seen_with_left(alloc, look, left_at, left)? {
+            return Ok(Some(pair));
         }
     }
-    None
+    Ok(None)
 }
 
-/// A pair that is congruent and told apart. It takes no memory.
-pub(crate) fn seen_pair(look: &Look) -> Option<Pair>
+/// A pair that is congruent and told apart. An `Err` says that memory ran out.
+pub(crate) fn seen_pair(alloc: Global, look: &Look) -> Result<Option<Pair>, NoMemory>
     requires look { IsLook look.now }
-    ensures some { IfSome result (λ pair. IsSeen (space_tree look.now.search.space.now) (environment_tree look.now.search.environment.now)
-        look.now.search.cells.now look.now.path.now (pair_tree pair)) }
-    ensures none { IfNone result ((left_at left right : ℕ) → IsSeen (space_tree look.now.search.space.now)
+    ensures some { IfOk result (λ seen. IfSome seen (λ pair. IsSeen (space_tree look.now.search.space.now)
+        (environment_tree look.now.search.environment.now) look.now.search.cells.now look.now.path.now (pair_tree pair))) }
+    ensures none { IfOk result (λ seen. IfNone seen ((left_at left right : ℕ) → IsSeen (space_tree look.now.search.space.now)
         (environment_tree look.now.search.environment.now) look.now.search.cells.now look.now.path.now
-        (record { left_at = left_at; left = left; right = right }) → ⊥) }
+        (record { left_at = left_at; left = left; right = right }) → ⊥)) }
 {
     for left_at in 0..look.path.len() as u32 + 1 {
-        if let Some(pair) = seen_at(look, left_at) {
-            return Some(pair);
+        if let Some(pair) = seen_at(alloc, look, left_at)? {
+            return Ok(Some(pair));
         }
     }
-    None
+    Ok(None)
 }

@@ -14,5 +14,4 @@ pub mod PartLemmas
 pub mod OkAnswers
 pub mod NodeLemmas
 pub mod FitLemmas
-pub mod Examples
 pub mod FlowOnce

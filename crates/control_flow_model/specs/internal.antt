@@ -1,4 +1,3 @@
 pub mod Reaching
 pub mod Parts
 pub mod PartNodes
-pub mod Examples

@@ -1,13 +1,13 @@
 -- Windows that are congruent: what a loop over them keeps, and that there is one first window that is not.
-use Rattle.std.proofs.Common.{◌≡◌, ◌∙◌, ℕ, ◌<◌, true, ◌&&◌, ◌+◌, ◌++◌, nat_le, nat_lt, List, length}
-use Rattle.std.proofs.Common.{map, take, get_or, Some, slice_get, inl, inr, refl, sym, ap, subst, arith}
+use Rattle.std.proofs.Common.{◌≡◌, ◌∙◌, ℕ, ◌<◌, true, ◌&&◌, ◌+◌, ◌++◌, nat_le, nat_lt, add-one, List, [], ◌∷◌, length}
+use Rattle.std.proofs.Common.{map, take, get_or, Some, option_map, slice_get, inl, inr, refl, sym, ap, subst, arith}
 use Rattle.std.specs.List.{list_all, AllByRecursion}
 use Rattle.std.proofs.lemmas.Bool.{and_parts, cases_lt}
-use Rattle.std.proofs.lemmas.Option.{slice_get_read}
+use Rattle.std.proofs.lemmas.Option.{slice_get-map, slice_get_read}
 use Rattle.sequence.specs.Numbers.{is_among}
-use Rattle.sequence.proofs.Each.{each_at, each_weaker}
+use Rattle.sequence.proofs.Each.{each_at, each_joined, each_weaker}
 use Rattle.sequence.proofs.Passes.{each_from_list_all, passes_at}
-use Rattle.sequence.proofs.Places.{slice_get_taken}
+use Rattle.sequence.proofs.Places.{slice_get_taken, take_next}
 use Rattle.tsl_terms.specs.declared.window.Window.{Window}
 use Rattle.tsl_terms.specs.WindowTree.{ListedTree, WindowTree, window_tree}
 use Rattle.tsl_terms.specs.Congruence.{IsCongruent, UpdateCells}
@@ -15,7 +15,6 @@ use Rattle.program_tree.specs.Fits.{window_is_shaped, window_reads_only, window_
 use Rattle.program_tree.specs.declared.program.Program.{Program}
 use Rattle.program_tree.specs.ProgramTree.{ProgramTree}
 use Rattle.program_tree.specs.ProgramView.{program_tree}
-use Rattle.annotation_check.proofs.EdgesFollowed.{image_at, each_image_next}
 use Rattle.program_check.specs.Verdicts.{AreSound, IsUnsoundAt}
 
 -- the listed updates of a window that fits are of cells
@@ -47,6 +46,16 @@ module _ (program : ProgramTree) where
       | inr within ↦ omega (arith, reached, within)
     ]
   ]
+
+-- images of a list's members: the one at a place, and what holds of those before a place and of the one there
+image_at : {X Y : Type 0} (f : X → Y) (xs : List X) (i : ℕ) (x : X) → slice_get xs i ≡ Some x → slice_get (map f xs) i ≡ Some (f x)
+image_at f xs i x at = slice_get-map f xs i ∙ ap (option_map f) at
+
+each_image_next : {X Y : Type 0} (P : Y → Type 0) (f : X → Y) (xs : List X) (i : ℕ) (x : X) → slice_get xs i ≡ Some x →
+    AllByRecursion P (take i (map f xs)) → P (f x) → AllByRecursion P (take (i + 1) (map f xs))
+each_image_next P f xs i x at before here =
+    let next = take_next (map f xs) i (f x) (image_at f xs i x at) in
+    rw add-one (subst (AllByRecursion P) (sym next) (each_joined P (take i (map f xs)) (f x ∷ []) before (here, tt)))
 
 -- what a loop over the windows of a program keeps
 abbrev pub AreSoundBefore : List ℕ → List Window → ℕ → Type 0

@@ -390,3 +390,15 @@ fn untils_nest_two_hundred_levels_deep(rt: HostRuntime) -> Result<(), Fail> {
     assert!(rt; !holds(&rt, alloc, &formula, &stem, b".")?);
     Ok(())
 }
+
+#[test]
+fn what_comes_at_one_of_130_positions_comes_again_and_again(rt: HostRuntime) -> Result<(), Fail> {
+    let alloc = rt.alloc();
+    let formula = formula(alloc, b"&GqGFp")?;
+    let front = repeated(alloc, b"", 64, b"q", b"b")?;
+    let once = repeated(alloc, &front, 65, b"q", b"")?;
+    assert!(rt; holds(&rt, alloc, &formula, b"", &once)?);
+    let never = repeated(alloc, b"", 130, b"q", b"")?;
+    assert!(rt; !holds(&rt, alloc, &formula, b"", &never)?);
+    Ok(())
+}

@@ -1,5 +1,5 @@
 -- Entries of controllers over small spaces.
-use Rattle.std.specs.Prelude.{◌≡◌, ℕ, ◌<◌, List, [], ◌∷◌}
+use Rattle.std.specs.Prelude.{◌≡◌, ℕ, ◌<◌, [], ◌∷◌}
 use Rattle.machines.specs.MachineTree.{EntryTree}
 
 -- one choice of two, and one of so many states to go to

@@ -2,10 +2,8 @@ pub mod Examples
 mod WholeExample
 pub mod LeafValues
 pub mod Agree
-pub mod TruthLists
-pub mod AlongLists
 pub mod RunTruths
-pub mod TestRuns
+mod SharedAtoms
 pub mod RunsOf
 pub mod FirstRepetition
 pub mod OneAction

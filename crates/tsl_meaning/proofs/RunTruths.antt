@@ -1,17 +1,18 @@
--- From lists of truths to what holds in a run.
-use Rattle.std.proofs.Common.{◌≡◌, ◌∙◌, ℕ, zero, suc, ◌+◌, ◌<◌, ◌≤◌, Bool, true, false, Option, List, [], ◌∷◌, ◌++◌, length, map, slice_get}
+-- From planes of truths to what holds in a run.
+use Rattle.std.proofs.Common.{◌≡◌, ◌∙◌, ℕ, zero, suc, ◌+◌, Bool, true, false, Option, List, [], ◌∷◌, ◌++◌, length, map, slice_get}
 use Rattle.std.proofs.Common.{Vec, Global, Result}
-use Rattle.std.proofs.Common.{refl, sym, ap, subst, arith}
-use Rattle.std.specs.Prelude.{IfOk, IsSome}
+use Rattle.std.proofs.Common.{refl, sym, ap, subst}
+use Rattle.std.specs.Prelude.{IfOk, IsSome, slice_index_or}
 use Rattle.std.specs.Option.{option_map_or}
 use Rattle.std.specs.List.{AllByRecursion}
 use Rattle.std.proofs.lemmas.List.{length-map}
 use Rattle.std.proofs.lemmas.Result.{IfOk-weaker}
-use Rattle.sequence.specs.Numbers.{numbers_from}
-use Rattle.sequence.proofs.Numbers.{length-numbers}
 use Rattle.sequence.proofs.Each.{each_map, each_unmapped}
 use Rattle.sequence.proofs.Lists.{map_map}
 use Rattle.loop_shape.specs.LoopShape.{LoopShape}
+use Rattle.lane_planes.specs.Planes.{same_bit}
+use Rattle.position_planes.specs.Positions.{IsPlaneOf, loop_of}
+use Rattle.position_planes.proofs.PlaneLemmas.{same_truths}
 use Rattle.interp_core.specs.declared.leaves.Leaves.{Leaves}
 use Rattle.interp_core.specs.LeafValue.{leaf_value}
 use Rattle.tsl_terms.specs.declared.operator.UnaryOperator.{UnaryOperator}
@@ -20,121 +21,103 @@ use Rattle.tsl_terms.specs.declared.operator.ManyOperator.{ManyOperator}
 use Rattle.tsl_terms.specs.declared.operator.ManyOperator.TheVariants.{Conjunction, Disjunction}
 use Rattle.tsl_terms.specs.TermTree.{TermTree, ProbeTree, term_tree}
 use Rattle.tsl_terms.specs.SameTree.{same_tree}
-use Rattle.tsl_terms.specs.FormulaTree.{test, update, FormulaTree, FormulaTrees, constant, atom, unary, binary, many, no_formulas}
+use Rattle.tsl_terms.specs.FormulaTree.{Atom, test, update, FormulaTree, FormulaTrees, constant, atom, unary, binary, many, no_formulas}
 use Rattle.tsl_terms.specs.FormulaTree.{more_formulas}
 use Rattle.tsl_terms.specs.Value.{Meanings, truth, beside}
 use Rattle.tsl_meaning.specs.declared.run.LoopRun.{LoopRun}
-use Rattle.tsl_meaning.specs.Lasso.{Lasso, meets, meet_each, many_at}
+use Rattle.tsl_meaning.specs.Lasso.{Lasso, agree, meets, meet_each, unary_at, binary_at, many_at}
 use Rattle.tsl_meaning.specs.RunTree.{PositionTree, RunTree, position_tree, run_tree}
-use Rattle.tsl_meaning.specs.RunLasso.{shape_of, value_at, atom_holds, run_lasso}
-use Rattle.tsl_meaning.specs.internal.TruthLists.{along, pairwise, unary_list, binary_list, joined, of_none}
-use Rattle.tsl_meaning.proofs.AlongLists.{pairwise_along, unary_along, binary_along}
+use Rattle.tsl_meaning.specs.RunLasso.{value_at, atom_holds, run_lasso}
+use Rattle.tsl_meaning.specs.internal.Members.{joined, of_none}
 
-shifted : (h : ℕ → Bool) (k n : ℕ) → map (λ i. h (suc i)) (numbers_from k n) ≡ map h (numbers_from (suc k) n)
-shifted h k zero = refl
-shifted h k (suc n) = ap (λ rest. h (suc k) ∷ rest) (shifted h (suc k) n)
-
--- what is made of each member, by the places
-by_places : {X : Type 0} (f : X → Bool) (xs : List X) →
-    map f xs ≡ map (λ i. option_map_or f (slice_get xs i) false) (numbers_from 0 (length xs))
-by_places f [] = refl
-by_places f (x ∷ xs) =
-    ap (λ rest. f x ∷ rest) (by_places f xs ∙ shifted (λ i. option_map_or f (slice_get (x ∷ xs) i) false) 0 (length xs))
-
-always_places : {X : Type 0} (holds : Bool) (xs : List X) (k : ℕ) → map (λ _. holds) xs ≡ map (λ _. holds) (numbers_from k (length xs))
-always_places holds [] k = refl
-always_places holds (x ∷ xs) k = ap (λ rest. holds ∷ rest) (always_places holds xs (suc k))
-
-pub length-along : (shape : LoopShape) (a : ℕ → Bool) → length (along shape a) ≡ shape.start + shape.length
-length-along shape a =
-    length-map (numbers_from 0 (shape.start + shape.length)) a ∙ length-numbers 0 (shape.start + shape.length)
-
--- the start is one of the positions, and lists of truths are as long as each other
-pub starts_within : (shape : LoopShape) (a : ℕ → Bool) (truths : List Bool) → 1 ≤ shape.length → truths ≡ along shape a →
-    shape.start < length truths
-starts_within shape a truths goes_on are =
-    let long : length truths ≡ shape.start + shape.length = ap length are ∙ length-along shape a in omega (arith, long, goes_on)
-
-pub as_long : (shape : LoopShape) (a b : ℕ → Bool) (left right : List Bool) → left ≡ along shape a → right ≡ along shape b →
-    length left ≡ length right
-as_long shape a b left right first second =
-    ap length first ∙ length-along shape a ∙ sym (length-along shape b) ∙ sym (ap length second)
+-- what a test says of the member at a place, and nothing where there is none
+mapped_at : {X : Type 0} (f : X → Bool) (xs : List X) (i : ℕ) → slice_index_or (map f xs) i false ≡ option_map_or f (slice_get xs i) false
+mapped_at f [] zero = refl
+mapped_at f [] (suc i) = refl
+mapped_at f (x ∷ xs) zero = refl
+mapped_at f (x ∷ xs) (suc i) = mapped_at f xs i
 
 module _ {V S : Type 0} (seen : V → S) (meanings : Meanings S) (run : LoopRun V) where
+  abbrev positions : ℕ
+  positions = run.start + run.length
+
   abbrev shape : LoopShape
-  shape = shape_of (run_tree seen run)
+  shape = loop_of run.start run.length
 
   abbrev lasso : Lasso
   lasso = run_lasso meanings (run_tree seen run)
 
-  -- the list of truths of a formula
-  abbrev pub AreTruths : FormulaTree → List Bool → Type 0
-  AreTruths f truths = truths ≡ along shape (meets lasso f)
-
-  goes_on : 1 ≤ run.length
-  goes_on = omega (arith, run.goes_on)
-
-  positions_along : (f : PositionTree S → Bool) → map f (map (position_tree seen) run.positions)
-      ≡ along shape (λ i. option_map_or f (slice_get (map (position_tree seen) run.positions) i) false)
-  positions_along f =
-      let placed : List (PositionTree S) = map (position_tree seen) run.positions in
-      by_places f placed
-      ∙ ap (λ n. map (λ i. option_map_or f (slice_get placed i) false) (numbers_from 0 n))
-      (length-map run.positions (position_tree seen) ∙ run.closes)
+  -- the plane of a formula
+  abbrev pub HasPlane : FormulaTree → List ℕ → Type 0
+  HasPlane f plane = IsPlaneOf positions (meets lasso f) plane
 
   -- as one formula, so another that is equal
-  renamed : (f whole : FormulaTree) → whole ≡ f → (truths : List Bool) → AreTruths f truths → AreTruths whole truths
-  renamed f whole is truths are = are ∙ ap (λ h. along shape (meets lasso h)) (sym is)
+  pub renamed : (f whole : FormulaTree) → whole ≡ f → (plane : List ℕ) → HasPlane f plane → HasPlane whole plane
+  renamed f whole is plane on = subst (λ h. HasPlane h plane) (sym is) on
 
-  pub always_along : (holds : Bool) (truths : List Bool) → truths ≡ map (λ _. holds) run.positions → truths ≡ along shape (λ _. holds)
-  always_along holds truths are =
-      are ∙ always_places holds run.positions 0 ∙ ap (λ n. map (λ _. holds) (numbers_from 0 n)) run.closes
+  -- the plane of a list of what holds at each position
+  listed : (f : PositionTree S → Bool) (truths : List Bool) (plane : List ℕ) → truths ≡ map f (map (position_tree seen) run.positions) →
+      IsPlaneOf (length truths) (λ i. slice_index_or truths i false) plane →
+      IsPlaneOf positions (λ i. option_map_or f (slice_get (map (position_tree seen) run.positions) i) false) plane
+  listed f truths plane are on =
+      let placed : List (PositionTree S) = map (position_tree seen) run.positions in
+      let long : length truths ≡ positions =
+      ap length are ∙ length-map placed f ∙ length-map run.positions (position_tree seen) ∙ run.closes in
+      same_truths positions (λ i. slice_index_or truths i false) (λ i. option_map_or f (slice_get placed i) false) plane
+      (λ i. ap (λ ts. slice_index_or ts i false) are ∙ mapped_at f placed i)
+      (subst (λ n. IsPlaneOf n (λ i. slice_index_or truths i false) plane) long on)
 
-  pub within_run : (a : ℕ → Bool) (truths : List Bool) → truths ≡ along shape a → run.start < length truths
-  within_run a truths are = starts_within shape a truths goes_on are
+  pub test_listed : (leaves : List (Leaves V)) (probe : ProbeTree) (truths : List Bool) (plane : List ℕ) →
+      map (leaf_value seen) leaves ≡ map (value_at (run_tree seen run)) (run_tree seen run).positions →
+      truths ≡ map (λ l. option_map_or (λ (b : Bool). b) (truth meanings (leaf_value seen l) probe) false) leaves →
+      IsPlaneOf (length truths) (λ i. slice_index_or truths i false) plane → IsPlaneOf positions (λ i. lasso.holds i (test probe)) plane
+  test_listed leaves probe truths plane fit are =
+      let holds : (ℕ → Option S) → Bool = λ at. option_map_or (λ (b : Bool). b) (truth meanings at probe) false in
+      listed (λ p. atom_holds meanings (run_tree seen run) p (test probe)) truths plane (
+      are ∙ sym (map_map holds (leaf_value seen) leaves) ∙ ap (map holds) fit
+      ∙ map_map holds (value_at (run_tree seen run)) (map (position_tree seen) run.positions)
+      )
 
-  module _ {E : Type 0} (result : Result (Vec Bool Global) E) where
+  pub update_listed : (s : ℕ) (tree : TermTree) (truths : List Bool) (plane : List ℕ) →
+      truths ≡ map (λ p. option_map_or (λ assigned. same_tree assigned tree) (beside s (run.cells ++ run.outputs) (map term_tree
+      p.updates)) false)
+      run.positions →
+      IsPlaneOf (length truths) (λ i. slice_index_or truths i false) plane → IsPlaneOf positions (λ i. lasso.holds i (update s tree)) plane
+  update_listed s tree truths plane are =
+      let holds : PositionTree S → Bool = λ p. atom_holds meanings (run_tree seen run) p (update s tree) in
+      listed holds truths plane (are ∙ sym (map_map holds (position_tree seen) run.positions))
+
+  module _ {E : Type 0} (result : Result (Vec ℕ Global) E) where
     pub constant_made : (holds : Bool) (whole : FormulaTree) → whole ≡ constant holds →
-        IfOk result (λ made. made.items ≡ map (λ _. holds) run.positions) → IfOk result (λ made. AreTruths whole made.items)
-    constant_made holds whole is =
-        IfOk-weaker result _ _ (λ made are. renamed (constant holds) whole is made.items (always_along holds made.items are))
+        IfOk result (λ made. IsPlaneOf positions (λ _. holds) made.items) → IfOk result (λ made. HasPlane whole made.items)
+    constant_made holds whole is = IfOk-weaker result _ _ (λ made on. renamed (constant holds) whole is made.items on)
 
-    pub test_made : (leaves : List (Leaves V)) (probe : ProbeTree) (whole : FormulaTree) → whole ≡ atom (test probe) →
-        map (leaf_value seen) leaves ≡ map (value_at (run_tree seen run)) (run_tree seen run).positions →
-        IfOk result (λ made. made.items
-        ≡ map (λ l. option_map_or (λ (b : Bool). b) (truth meanings (leaf_value seen l) probe) false) leaves) →
-        IfOk result (λ made. AreTruths whole made.items)
-    test_made leaves probe whole is fit =
-        let holds : (ℕ → Option S) → Bool = λ at. option_map_or (λ (b : Bool). b) (truth meanings at probe) false in
-        IfOk-weaker result _ _ (λ made are. renamed (atom (test probe)) whole is made.items (
-        are ∙ sym (map_map holds (leaf_value seen) leaves) ∙ ap (map holds) fit
-        ∙ map_map holds (value_at (run_tree seen run)) (map (position_tree seen) run.positions)
-        ∙ positions_along (λ p. atom_holds meanings (run_tree seen run) p (test probe))
-        ))
+    pub atom_made : (a : Atom) (whole : FormulaTree) → whole ≡ atom a →
+        IfOk result (λ made. IsPlaneOf positions (λ i. lasso.holds i a) made.items) → IfOk result (λ made. HasPlane whole made.items)
+    atom_made a whole is = IfOk-weaker result _ _ (λ made on. renamed (atom a) whole is made.items on)
 
-    pub update_made : (s : ℕ) (tree : TermTree) (whole : FormulaTree) → whole ≡ atom (update s tree) →
-        IfOk result (λ made. made.items ≡ map (λ p. option_map_or (λ assigned. same_tree assigned tree)
-        (beside s (run.cells ++ run.outputs) (map term_tree p.updates)) false) run.positions) →
-        IfOk result (λ made. AreTruths whole made.items)
-    update_made s tree whole is =
-        let holds : PositionTree S → Bool = λ p. atom_holds meanings (run_tree seen run) p (update s tree) in
-        IfOk-weaker result _ _ (λ made are. renamed (atom (update s tree)) whole is made.items (
-        are ∙ sym (map_map holds (position_tree seen) run.positions) ∙ positions_along holds
-        ))
+    pub unary_made : (op : UnaryOperator) (f whole : FormulaTree) (plane : List ℕ) → whole ≡ unary op f → HasPlane f plane →
+        IfOk result (λ made. (a : ℕ → Bool) → IsPlaneOf positions a plane → IsPlaneOf positions (unary_at shape op a) made.items) →
+        IfOk result (λ made. HasPlane whole made.items)
+    unary_made op f whole plane is on =
+        IfOk-weaker result _ _ (λ made makes. renamed (unary op f) whole is made.items (makes (meets lasso f) on))
 
-    pub unary_made : (op : UnaryOperator) (f whole : FormulaTree) (truths : List Bool) → whole ≡ unary op f → AreTruths f truths →
-        IfOk result (λ made. made.items ≡ unary_list run.start op truths) → IfOk result (λ made. AreTruths whole made.items)
-    unary_made op f whole truths is are = IfOk-weaker result _ _ (λ made made_is. renamed (unary op f) whole is made.items
-        (made_is ∙ ap (unary_list run.start op) are ∙ unary_along shape goes_on op (meets lasso f)))
+  pub one_made : (op : UnaryOperator) (f whole : FormulaTree) (plane new : List ℕ) → whole ≡ unary op f → HasPlane f plane →
+      ((a : ℕ → Bool) → IsPlaneOf positions a plane → IsPlaneOf positions (unary_at shape op a) new) → HasPlane whole new
+  one_made op f whole plane new is on makes = renamed (unary op f) whole is new (makes (meets lasso f) on)
 
-    pub binary_made : (op : BinaryOperator) (f g whole : FormulaTree) (left right : List Bool) → whole ≡ binary op f g →
-        AreTruths f left → AreTruths g right → IfOk result (λ made. made.items ≡ binary_list run.start op left right) →
-        IfOk result (λ made. AreTruths whole made.items)
-    binary_made op f g whole left right is first second =
-        IfOk-weaker result _ _ (λ made made_is. renamed (binary op f g) whole is made.items
-        (made_is ∙ (λ i. binary_list run.start op (first i) (second i)) ∙ binary_along shape goes_on op (meets lasso f) (meets lasso g)))
+  pub binary_made : (op : BinaryOperator) (f g whole : FormulaTree) (left right new : List ℕ) → whole ≡ binary op f g →
+      HasPlane f left → HasPlane g right →
+      ((a b : ℕ → Bool) → IsPlaneOf positions a left → IsPlaneOf positions b right → IsPlaneOf positions (binary_at shape op a b) new) →
+      HasPlane whole new
+  binary_made op f g whole left right new is on_left on_right makes =
+      renamed (binary op f g) whole is new (makes (meets lasso f) (meets lasso g) on_left on_right)
 
--- what is had at each position is had of the leaves there
+-- two words for both or neither
+pub same_agree : (a b : Bool) → same_bit a b ≡ agree a b
+same_agree true b = refl
+same_agree false b = refl
+
 -- what is had at each position is had of the leaves there
 pub leaves_had : {V S : Type 0} (seen : V → S) (meanings : Meanings S) (run : RunTree S) (leaves : List (Leaves V)) (probe : ProbeTree) →
     map (leaf_value seen) leaves ≡ map (value_at run) run.positions →
@@ -145,9 +128,9 @@ leaves_had {S = S} seen meanings run leaves probe fit had =
     each_unmapped P (leaf_value seen) leaves (subst (AllByRecursion P) (sym fit) (each_map P (value_at run) run.positions had))
 
 -- Members that are joined one by one: what was joined so far, and then the members that are left.
-pub record AreJoined (run : Lasso) (op : ManyOperator) (truths : List Bool) (left all : FormulaTrees) : Type 0 where
+pub record AreJoined (run : Lasso) (op : ManyOperator) (n : ℕ) (plane : List ℕ) (left all : FormulaTrees) : Type 0 where
   pub so_far : ℕ → Bool
-  pub are : truths ≡ along run.shape so_far
+  pub on : IsPlaneOf n so_far plane
   pub rest : (i : ℕ) → joined op (so_far i) (many_at op (meet_each run left i)) ≡ many_at op (meet_each run all i)
 
 from_none : (op : ManyOperator) (b : Bool) → joined op (of_none op) b ≡ b
@@ -167,25 +150,24 @@ regrouped Conjunction false m rest = refl
 regrouped Disjunction true m rest = refl
 regrouped Disjunction false m rest = refl
 
-pub none_joined : (run : Lasso) (op : ManyOperator) (truths : List Bool) (all : FormulaTrees) →
-    truths ≡ along run.shape (λ _. of_none op) → AreJoined run op truths all all
-none_joined run op truths all are =
-    record { so_far = λ _. of_none op; are = are; rest = λ i. from_none op (many_at op (meet_each run all i)) }
+pub none_joined : (run : Lasso) (op : ManyOperator) (n : ℕ) (plane : List ℕ) (all : FormulaTrees) →
+    IsPlaneOf n (λ _. of_none op) plane → AreJoined run op n plane all all
+none_joined run op n plane all on =
+    record { so_far = λ _. of_none op; on = on; rest = λ i. from_none op (many_at op (meet_each run all i)) }
 
-pub one_joined : (run : Lasso) (op : ManyOperator) (old more new : List Bool) (f : FormulaTree) (left rest all : FormulaTrees) →
-    left ≡ more_formulas f rest → AreJoined run op old left all → more ≡ along run.shape (meets run f) →
-    new ≡ pairwise (joined op) old more → AreJoined run op new rest all
-one_joined run op old more new f left rest all is before are made = record {
+pub one_joined : (run : Lasso) (op : ManyOperator) (n : ℕ) (old more new : List ℕ) (f : FormulaTree) (left rest all : FormulaTrees) →
+    left ≡ more_formulas f rest → AreJoined run op n old left all → IsPlaneOf n (meets run f) more →
+    ((a b : ℕ → Bool) → IsPlaneOf n a old → IsPlaneOf n b more → IsPlaneOf n (λ i. joined op (a i) (b i)) new) →
+    AreJoined run op n new rest all
+one_joined run op n old more new f left rest all is before on makes = record {
   so_far = λ i. joined op (before.so_far i) (meets run f i);
-  are = made ∙ (λ k. pairwise (joined op) (before.are k) (are k))
-      ∙ pairwise_along (joined op) before.so_far (meets run f) (numbers_from 0 (run.shape.start + run.shape.length));
+  on = makes before.so_far (meets run f) before.on on;
   rest = λ i. regrouped op (before.so_far i) (meets run f i) (meet_each run rest i)
       ∙ ap (λ fs. joined op (before.so_far i) (many_at op (meet_each run fs i))) (sym is) ∙ before.rest i;
 }
 
-pub all_joined : (run : Lasso) (op : ManyOperator) (truths : List Bool) (left all : FormulaTrees) → left ≡ no_formulas →
-    AreJoined run op truths left all → truths ≡ along run.shape (meets run (many op all))
-all_joined run op truths left all is are =
-    are.are ∙ ap (along run.shape) (λ k i. (
+pub all_joined : (run : Lasso) (op : ManyOperator) (n : ℕ) (plane : List ℕ) (left all : FormulaTrees) → left ≡ no_formulas →
+    AreJoined run op n plane left all → IsPlaneOf n (meets run (many op all)) plane
+all_joined run op n plane left all is are = same_truths n are.so_far (meets run (many op all)) plane (λ i.
     sym (to_none op (are.so_far i)) ∙ ap (λ fs. joined op (are.so_far i) (many_at op (meet_each run fs i))) (sym is) ∙ are.rest i
-    ) k)
+    ) are.on

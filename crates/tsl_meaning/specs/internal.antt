@@ -1,2 +1,3 @@
 -- Words that only private functions of this crate use.
-pub mod TruthLists
+pub mod Members
+pub mod SharedAtoms

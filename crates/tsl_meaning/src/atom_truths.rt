@@ -1,21 +1,52 @@
 //! Where atoms hold in a run.
 
-ghost use Rattle.std.specs.Prelude.{◌≡◌, ◌++◌, ◌==◌, false, map, position, slice_get, option_and_then, IsSome, IfOk};
+ghost use Rattle.std.specs.Prelude.{◌≡◌, ◌+◌, ◌++◌, ◌==◌, false, map, position, slice_get, option_and_then, Some, IsSome, IfOk, OnOk};
 ghost use Rattle.std.specs.Option.{option_map_or};
 ghost use Rattle.std.specs.List.{AllByRecursion};
-ghost use Rattle.tsl_terms.specs.TermTree.{term_tree, probe_tree};
+ghost use Rattle.tsl_terms.specs.TermTree.{term_tree, term_trees, probe_tree};
 ghost use Rattle.tsl_terms.specs.SameTree.{same_tree};
-ghost use Rattle.tsl_terms.specs.Value.{truth, beside};
+ghost use Rattle.tsl_terms.specs.Value.{values, truth, beside};
+ghost use Rattle.tsl_terms.specs.AtomView.{atom_tree};
 ghost use Rattle.interp_core.specs.LeafValue.{leaf_value};
+ghost use Rattle.position_planes.specs.Positions.{IsPlaneOf};
+ghost use Rattle.tsl_meaning.specs.RunTree.{run_tree};
+ghost use Rattle.tsl_meaning.specs.RunLasso.{value_at, run_lasso, HasTruths};
 
 use crate::run::{LoopRun, Position};
-use interp_core::{Judge, Leaves, test_term};
+use interp_core::{Algebra, Judge, Leaves, evaluate};
+use position_planes::plane_of;
 use sequence::NoMemory;
 use std::alloc::Global;
-use tsl_terms::{Probe, Term, same_term};
+use tsl_terms::{AtomRef, Probe, Term, TermList, same_term};
+
+/// Where an atom holds, as a plane.
+pub(crate) fn atom_plane<J: Judge>(
+    alloc: Global,
+    judge: &J,
+    run: &LoopRun<J::Value>,
+    leaves: &[Leaves<J::Value>],
+    atom: AtomRef,
+) -> Result<Vec<u64>, NoMemory>
+    requires had { HasTruths (J.meanings judge.now) (run_tree J.seen run.now) (atom_tree atom) }
+    requires leaves { map (leaf_value J.seen) leaves.now
+        ≡ map (value_at (run_tree J.seen run.now)) (run_tree J.seen run.now).positions }
+    ensures { IfOk result (λ plane. IsPlaneOf (run.now.start + run.now.length)
+        (λ i. (run_lasso (J.meanings judge.now) (run_tree J.seen run.now)).holds i (atom_tree atom.entry)) plane.items) }
+{
+    match atom {
+        AtomRef::Test(probe) => {
+            let truths = test_truths(alloc, judge, leaves, probe)?;
+            plane_of(alloc, &truths)
+        }
+        AtomRef::Update(signal, term) => {
+            let truths = update_truths(alloc, run, signal, term)?;
+            plane_of(alloc, &truths)
+        }
+    }
+}
 
 /// Where a probe holds, by the values of the signals at each position.
-pub(crate) fn test_truths<J: Judge>(
+fn test_truths<J: Judge>(
     alloc: Global,
     judge: &J,
     leaves: &[Leaves<J::Value>],
@@ -28,14 +59,52 @@ pub(crate) fn test_truths<J: Judge>(
         leaves.now) }
 {
     let mut truths = Vec::new(alloc);
+    let mut arguments = Vec::new(alloc);
     for values in leaves {
-        truths.push(test_term(alloc, judge, values, probe)?)?;
+        truths.push(test_at(alloc, judge, values, probe, &mut arguments)?)?;
     }
     Ok(truths)
 }
 
+/// Whether a predicate holds of the values of its arguments. They are put in a list that serves again
+/// at the next position, so that no memory is taken for it.
+fn test_at<J: Judge>(
+    alloc: Global,
+    judge: &J,
+    leaves: &Leaves<J::Value>,
+    probe: &Probe,
+    arguments: &mut Vec<J::Value>,
+) -> Result<bool, NoMemory>
+    requires had { IsSome (truth (J.meanings judge.now) (leaf_value J.seen leaves.now) (probe_tree probe.now)) }
+    ensures { IfOk result (λ holds. truth (J.meanings judge.now) (leaf_value J.seen leaves.now) (probe_tree probe.now) ≡ Some holds) }
+{
+    fill(alloc, judge, leaves, arguments, &probe.arguments)?;
+    Ok(judge.test(probe.predicate, arguments.as_slice()))
+}
+
+/// Puts the values of terms, in their order, in the place of what stood in a list.
+fn fill<A: Algebra>(
+    alloc: Global,
+    algebra: &A,
+    leaves: &Leaves<A::Value>,
+    found: &mut Vec<A::Value>,
+    terms: &TermList,
+) -> Result<(), NoMemory>
+    requires had { IsSome (values (A.meanings algebra.now) (leaf_value A.seen leaves.now) (term_trees terms.now)) }
+    ensures { OnOk result (values (A.meanings algebra.now) (leaf_value A.seen leaves.now) (term_trees terms.now)
+        ≡ Some (map A.seen found.new.items)) }
+{
+    found.clear();
+    let mut rest = terms;
+    while let TermList::More(term, next) = rest {
+        found.push(evaluate(alloc, algebra, leaves, term)?)?;
+        rest = next;
+    }
+    Ok(())
+}
+
 /// Where a signal is assigned a term.
-pub(crate) fn update_truths<V>(
+fn update_truths<V>(
     alloc: Global,
     run: &LoopRun<V>,
     signal: u32,
@@ -91,19 +160,4 @@ fn is_assigned<V>(position: &Position<V>, place: Option<usize>, term: &Term) -> 
         Some(assigned) => same_term(assigned, term),
         None => false,
     }
-}
-
-/// The same truth at each position.
-pub(crate) fn constant_truths<V>(
-    alloc: Global,
-    run: &LoopRun<V>,
-    holds: bool,
-) -> Result<Vec<bool>, NoMemory>
-    ensures { IfOk result (λ truths. truths.items ≡ map (λ _. holds) run.now.positions) }
-{
-    run.positions
-        .as_slice()
-        .iter()
-        .map(|_| holds)
-        .collect(alloc)
 }

@@ -1,27 +1,32 @@
-//! Whether a formula holds in a run: the truths of each subformula at each position, from the inside out.
+//! Whether a formula holds in a run: a plane of truths for each subformula, from the inside out.
 
-ghost use Rattle.std.specs.Prelude.{◌≡◌, map, IfOk};
+ghost use Rattle.std.specs.Prelude.{◌≡◌, ◌+◌, map, IfOk};
 ghost use Rattle.std.specs.List.{AllByRecursion};
 ghost use Rattle.tsl_terms.specs.FormulaTree.{many, formula_tree, formula_trees};
 ghost use Rattle.tsl_terms.specs.Atoms.{atoms_of_members};
 ghost use Rattle.interp_core.specs.LeafValue.{leaf_value};
 ghost use Rattle.tsl_meaning.specs.Lasso.{meets};
 ghost use Rattle.tsl_meaning.specs.RunTree.{run_tree};
-ghost use Rattle.tsl_meaning.specs.RunLasso.{shape_of, value_at, run_lasso, HasTruths, IsJudged};
-ghost use Rattle.tsl_meaning.specs.internal.TruthLists.{along, of_none};
+ghost use Rattle.position_planes.specs.Positions.{IsPlaneOf};
+ghost use Rattle.tsl_meaning.specs.RunLasso.{value_at, run_lasso, HasTruths, IsJudged};
+ghost use Rattle.tsl_meaning.specs.internal.SharedAtoms.{HavePlanes};
 
-use crate::atom_truths::{constant_truths, test_truths, update_truths};
+use crate::joining::{constant_plane, joined_plane, of_none};
 use crate::leaves::leaves_of;
 use crate::run::LoopRun;
-use crate::truth_lists::{binary_truths, joined_truths, unary_truths};
+use crate::shared_atoms::{SharedAtoms, plane_of_atom, shared_atoms};
 use interp_core::{Judge, Leaves};
+use position_planes::{
+    finally, globally, holds_at, implied, negated, next, release, same, until, weak_until,
+};
 use sequence::NoMemory;
 use std::alloc::Global;
-use tsl_terms::{BinaryOperator, Formula, FormulaList, ManyOperator, UnaryOperator};
+use tsl_terms::{AtomRef, Formula, FormulaList, ManyOperator};
 
 /// Whether a formula holds at the first position of a run. Each probe has a truth at each position. An
 /// update holds where its signal is assigned that very term, and not merely one of equal value. It
-/// takes as many steps as the formula has nodes, times the positions. An `Err` says that memory ran out.
+/// takes as many steps as the formula has atoms, times the positions, and for each operator as many as
+/// there are words of 64 positions. An `Err` says that memory ran out.
 pub fn judge<J: Judge>(
     alloc: Global,
     judge: &J,
@@ -33,157 +38,145 @@ pub fn judge<J: Judge>(
         (λ holds. holds ≡ meets (run_lasso (J.meanings judge.now) (run_tree J.seen run.now)) (formula_tree formula.now) 0) }
 {
     let leaves = leaves_of(alloc, judge, run)?;
-    let truths = formula_truths(alloc, judge, run, &leaves, formula)?;
-    Ok(truths[0])
+    let shared = shared_atoms(alloc, judge, run, &leaves, formula)?;
+    let plane = formula_plane(alloc, judge, run, &leaves, &shared, formula)?;
+    let positions = run.start as usize + run.length as usize;
+    Ok(holds_at(&plane, positions, 0))
 }
 
 /// Where a formula holds.
-#[cycle(formula_truths)]
-fn formula_truths<J: Judge>(
+#[cycle(formula_plane)]
+fn formula_plane<J: Judge>(
     alloc: Global,
     judge: &J,
     run: &LoopRun<J::Value>,
     leaves: &[Leaves<J::Value>],
+    shared: &SharedAtoms,
     formula: &Formula,
-) -> Result<Vec<bool>, NoMemory>
+) -> Result<Vec<u64>, NoMemory>
     requires had { IsJudged (J.meanings judge.now) (run_tree J.seen run.now) (formula_tree formula.now) }
     requires leaves { map (leaf_value J.seen) leaves.now
         ≡ map (value_at (run_tree J.seen run.now)) (run_tree J.seen run.now).positions }
-    ensures { IfOk result (λ truths. truths.items ≡ along (shape_of (run_tree J.seen run.now))
-        (meets (run_lasso (J.meanings judge.now) (run_tree J.seen run.now)) (formula_tree formula.now))) }
+    requires shared { HavePlanes (run.now.start + run.now.length)
+        (run_lasso (J.meanings judge.now) (run_tree J.seen run.now)).holds shared.now.atoms.items }
+    ensures { IfOk result (λ plane. IsPlaneOf (run.now.start + run.now.length)
+        (meets (run_lasso (J.meanings judge.now) (run_tree J.seen run.now)) (formula_tree formula.now)) plane.items) }
 {
+    let start = run.start as usize;
+    let round = run.length as usize;
     match formula {
-        Formula::True => constant_truths(alloc, run, true),
-        Formula::False => constant_truths(alloc, run, false),
-        Formula::Test(probe) => test_truths(alloc, judge, leaves, probe),
-        Formula::Update(signal, term) => update_truths(alloc, run, *signal, term),
-        Formula::Not(part) => {
-            let truths = formula_truths(alloc, judge, run, leaves, part)?;
-            unary_truths(alloc, run.start as usize, UnaryOperator::Negation, &truths)
-        }
-        Formula::All(members) => {
-            member_truths(
+        Formula::True => constant_plane(alloc, run, true),
+        Formula::False => constant_plane(alloc, run, false),
+        Formula::Test(probe) => plane_of_atom(
+            alloc,
+            judge,
+            run,
+            leaves,
+            shared,
+            AtomRef::Test(probe),
+        ),
+        Formula::Update(signal, term) => {
+            plane_of_atom(
                 alloc,
                 judge,
                 run,
                 leaves,
+                shared,
+                AtomRef::Update(*signal, term),
+            )
+        }
+        Formula::Not(part) => {
+            let plane = formula_plane(alloc, judge, run, leaves, shared, part)?;
+            Ok(negated(plane))
+        }
+        Formula::All(members) => {
+            member_plane(
+                alloc,
+                judge,
+                run,
+                leaves,
+                shared,
                 ManyOperator::Conjunction,
                 members,
             )
         }
         Formula::Any(members) => {
-            member_truths(
+            member_plane(
                 alloc,
                 judge,
                 run,
                 leaves,
+                shared,
                 ManyOperator::Disjunction,
                 members,
             )
         }
         Formula::Implies(left, right) => {
-            let left = formula_truths(alloc, judge, run, leaves, left)?;
-            let right = formula_truths(alloc, judge, run, leaves, right)?;
-            binary_truths(
-                alloc,
-                run.start as usize,
-                BinaryOperator::Implication,
-                left,
-                &right,
-            )
+            let left = formula_plane(alloc, judge, run, leaves, shared, left)?;
+            let right = formula_plane(alloc, judge, run, leaves, shared, right)?;
+            Ok(implied(left, &right))
         }
         Formula::Iff(left, right) => {
-            let left = formula_truths(alloc, judge, run, leaves, left)?;
-            let right = formula_truths(alloc, judge, run, leaves, right)?;
-            binary_truths(
-                alloc,
-                run.start as usize,
-                BinaryOperator::Equivalence,
-                left,
-                &right,
-            )
+            let left = formula_plane(alloc, judge, run, leaves, shared, left)?;
+            let right = formula_plane(alloc, judge, run, leaves, shared, right)?;
+            Ok(same(left, &right))
         }
         Formula::Next(part) => {
-            let truths = formula_truths(alloc, judge, run, leaves, part)?;
-            unary_truths(alloc, run.start as usize, UnaryOperator::Next, &truths)
+            let plane = formula_plane(alloc, judge, run, leaves, shared, part)?;
+            Ok(next(plane, start, round))
         }
         Formula::Finally(part) => {
-            let truths = formula_truths(alloc, judge, run, leaves, part)?;
-            unary_truths(alloc, run.start as usize, UnaryOperator::Finally, &truths)
+            let plane = formula_plane(alloc, judge, run, leaves, shared, part)?;
+            finally(alloc, plane, start, round)
         }
         Formula::Globally(part) => {
-            let truths = formula_truths(alloc, judge, run, leaves, part)?;
-            unary_truths(alloc, run.start as usize, UnaryOperator::Globally, &truths)
+            let plane = formula_plane(alloc, judge, run, leaves, shared, part)?;
+            globally(alloc, plane, start, round)
         }
         Formula::Until(left, right) => {
-            let left = formula_truths(alloc, judge, run, leaves, left)?;
-            let right = formula_truths(alloc, judge, run, leaves, right)?;
-            binary_truths(
-                alloc,
-                run.start as usize,
-                BinaryOperator::Until,
-                left,
-                &right,
-            )
+            let left = formula_plane(alloc, judge, run, leaves, shared, left)?;
+            let right = formula_plane(alloc, judge, run, leaves, shared, right)?;
+            Ok(until(left, &right, start, round))
         }
         Formula::Weak(left, right) => {
-            let left = formula_truths(alloc, judge, run, leaves, left)?;
-            let right = formula_truths(alloc, judge, run, leaves, right)?;
-            binary_truths(
-                alloc,
-                run.start as usize,
-                BinaryOperator::WeakUntil,
-                left,
-                &right,
-            )
+            let left = formula_plane(alloc, judge, run, leaves, shared, left)?;
+            let right = formula_plane(alloc, judge, run, leaves, shared, right)?;
+            Ok(weak_until(left, right, start, round))
         }
         Formula::Release(left, right) => {
-            let left = formula_truths(alloc, judge, run, leaves, left)?;
-            let right = formula_truths(alloc, judge, run, leaves, right)?;
-            binary_truths(
-                alloc,
-                run.start as usize,
-                BinaryOperator::Release,
-                left,
-                &right,
-            )
+            let left = formula_plane(alloc, judge, run, leaves, shared, left)?;
+            let right = formula_plane(alloc, judge, run, leaves, shared, right)?;
+            Ok(release(left, right, start, round))
         }
     }
 }
 
 /// Where a conjunction or disjunction of the members of a list holds.
-#[cycle(formula_truths)]
-fn member_truths<J: Judge>(
+#[cycle(formula_plane)]
+fn member_plane<J: Judge>(
     alloc: Global,
     judge: &J,
     run: &LoopRun<J::Value>,
     leaves: &[Leaves<J::Value>],
+    shared: &SharedAtoms,
     operator: ManyOperator,
     members: &FormulaList,
-) -> Result<Vec<bool>, NoMemory>
+) -> Result<Vec<u64>, NoMemory>
     requires had { AllByRecursion (HasTruths (J.meanings judge.now) (run_tree J.seen run.now))
         (atoms_of_members (formula_trees members.now)) }
     requires leaves { map (leaf_value J.seen) leaves.now
         ≡ map (value_at (run_tree J.seen run.now)) (run_tree J.seen run.now).positions }
-    ensures { IfOk result (λ truths. truths.items ≡ along (shape_of (run_tree J.seen run.now))
-        (meets (run_lasso (J.meanings judge.now) (run_tree J.seen run.now)) (many operator (formula_trees members.now)))) }
+    requires shared { HavePlanes (run.now.start + run.now.length)
+        (run_lasso (J.meanings judge.now) (run_tree J.seen run.now)).holds shared.now.atoms.items }
+    ensures { IfOk result (λ plane. IsPlaneOf (run.now.start + run.now.length)
+        (meets (run_lasso (J.meanings judge.now) (run_tree J.seen run.now)) (many operator (formula_trees members.now))) plane.items) }
 {
-    let mut truths = constant_truths(alloc, run, of_none(operator))?;
+    let mut plane = constant_plane(alloc, run, of_none(operator))?;
     let mut rest = members;
     while let FormulaList::More(member, next) = rest {
-        let more = formula_truths(alloc, judge, run, leaves, member)?;
-        truths = joined_truths(alloc, operator, &truths, &more)?;
+        let more = formula_plane(alloc, judge, run, leaves, shared, member)?;
+        plane = joined_plane(operator, plane, &more);
         rest = next;
     }
-    Ok(truths)
-}
-
-/// Whether a conjunction or disjunction of no members holds.
-fn of_none(operator: ManyOperator) -> bool
-    ensures { result ≡ of_none operator }
-{
-    match operator {
-        ManyOperator::Conjunction => true,
-        ManyOperator::Disjunction => false,
-    }
+    Ok(plane)
 }

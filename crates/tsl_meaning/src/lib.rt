@@ -5,20 +5,22 @@
 //! values of any type; clauses speak of its pure tree, `run_tree`, over what an algebra says is seen of
 //! its values.
 //!
-//! - `judge` says whether a formula holds at the first position of such a run. It goes through the formula
-//!   from the inside out, with one list of truths for each part, so its time is the number of nodes times
-//!   the number of positions. Calls go as deep as the formula nests.
+//! - `judge` says whether a formula holds at the first position of such a run. It goes through the
+//!   formula from the inside out, with one plane of truths for each part (`position_planes`), of which an
+//!   operator takes 64 positions at a step. Calls go as deep as the formula nests.
 //! - Laws stand on functions that do nothing: each run of a program over names goes on and closes, a run
 //!   that is written down means what the program's closed run means, and its first repetition is the
 //!   least pair that it closes with.
 #![tactic(auto)]
 
 mod atom_truths;
+mod joining;
 mod judging;
 mod laws;
 mod leaves;
+mod marks;
 mod run;
-mod truth_lists;
+mod shared_atoms;
 
 pub use judging::judge;
 pub use laws::{

@@ -1,15 +1,16 @@
 -- Internal: only private functions of this crate use these words.
 -- Numbers of pairs that grow, and the pairs whose number rose since they were looked at.
-use Rattle.std.specs.Prelude.{◌≡◌, ℕ, ◌+◌, ◌-◌, ◌*◌, ◌<◌, ◌≤◌, Bool, true, cond, List, [], ◌∷◌, ◌++◌, length, Option, None, Some}
+use Rattle.std.specs.Prelude.{◌≡◌, ℕ, ◌+◌, ◌-◌, ◌*◌, ◌<◌, ◌≤◌, Bool, cond, List, [], ◌∷◌, ◌++◌, length, Option, None, Some}
 use Rattle.std.specs.Prelude.{slice_index_or, slice_set, Contains, ◌⊎◌}
 use Rattle.std.specs.List.{sum_by}
-use Rattle.ltl_formula.specs.Cubes.{cube_matches}
-use Rattle.cobuchi_automata.specs.Automata.{EdgeTree}
-use Rattle.machines.specs.Moves.{MoveTree}
+use Rattle.std.specs.Prelude.{Vec}
+use Rattle.std.specs.declared.alloc.Global.{Global}
 use Rattle.annotation_check.specs.declared.growing.Rise.{Rise}
-use Rattle.annotation_check.specs.Annotations.{IsAtLeast, after_edge, IsNumbering, IsAnnotation, IsLeast, number_of_pair}
+use Rattle.annotation_check.specs.declared.stepping.Step.{Step}
+use Rattle.annotation_check.specs.Annotations.{IsAtLeast, IsNumbering, IsAnnotation, IsLeast, number_of_pair}
 use Rattle.annotation_check.specs.internal.Higher.{is_higher}
 use Rattle.annotation_check.specs.internal.Pairs.{PairsTree}
+use Rattle.annotation_check.specs.internal.Steps.{after_step, IsStepOf, AreSteps}
 
 -- the place of a pair among the numbers
 abbrev pub pair_place : ℕ → Rise → ℕ
@@ -84,13 +85,26 @@ module _ (p : PairsTree) where
     pub has : (r : Rise) → Contains old_risen r → Contains risen r
     pub less : work_left p.bound numbers risen ≤ work_left p.bound old_numbers old_risen
 
-  -- what an edge asks for at a move, where the letter matches
-  abbrev pub IsMet : List (Option ℕ) → ℕ → MoveTree → EdgeTree → Type 0
-  IsMet numbers n m e = cube_matches e.care e.want m.letter ≡ true → IsAtLeast (after_edge n e) (number_in numbers m.next e.to)
+  -- a step from a pair, and all of them
+  abbrev pub IsStepFrom : ℕ → ℕ → Step → Type 0
+  IsStepFrom s q t = IsStepOf (p.moves s) (p.edges q) t
 
-  -- what all edges from a pair with a number ask for
+  abbrev pub HasSteps : ℕ → ℕ → List Step → Type 0
+  HasSteps s q steps = AreSteps (p.moves s) (p.edges q) steps
+
+  -- a place for each pair, where nothing is kept but its steps
+  pub record AreKept (of_pairs : List (Option (Vec Step Global))) : Type 0 where
+    pub size : length of_pairs ≡ p.machine_states * p.automaton_states
+    pub steps : (s q : ℕ) → q < p.automaton_states → (kept : Vec Step Global)
+        → slice_index_or of_pairs (s * p.automaton_states + q) None ≡ Some kept → HasSteps s q kept.items
+
+  -- what a step asks for
+  abbrev pub IsMet : List (Option ℕ) → ℕ → Step → Type 0
+  IsMet numbers n t = IsAtLeast (after_step n t) (number_in numbers t.machine_state t.automaton_state)
+
+  -- what all steps from a pair with a number ask for
   abbrev pub IsDone : List (Option ℕ) → ℕ → ℕ → ℕ → Type 0
-  IsDone numbers s q n = (m : MoveTree) → Contains (p.moves s) m → (e : EdgeTree) → Contains (p.edges q) e → IsMet numbers n m e
+  IsDone numbers s q n = (t : Step) → IsStepFrom s q t → IsMet numbers n t
 
   -- what holds before each look: the start is numbered, and each pair that is not to be looked at is done
   pub record IsOnTheWay (numbers : List (Option ℕ)) (risen : List Rise) : Type 0 where

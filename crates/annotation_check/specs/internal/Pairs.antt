@@ -1,6 +1,6 @@
 -- Internal: only private functions of this crate use these words.
 -- Moves and edges by the states that they leave, as pure values.
-use Rattle.std.specs.Prelude.{ℕ, ◌<◌, List, [], ◌∷◌, ◌++◌, map, unwrap_or, slice_get, slice_set, slice_index_or, Contains, Vec}
+use Rattle.std.specs.Prelude.{◌≡◌, ℕ, ◌<◌, List, [], ◌∷◌, ◌++◌, map, unwrap_or, slice_get, slice_set, slice_index_or, length, Some, Contains, Vec}
 use Rattle.std.specs.declared.alloc.Global.{Global}
 use Rattle.cobuchi_automata.specs.Automata.{EdgeTree}
 use Rattle.cobuchi_automata.specs.Edges.{edge_trees}
@@ -8,7 +8,9 @@ use Rattle.cobuchi_automata.specs.declared.automaton.Edge.{Edge}
 use Rattle.machines.specs.declared.moves.Move.{Move}
 use Rattle.machines.specs.Moves.{MoveTree}
 use Rattle.machines.specs.MachineView.{move_tree}
+use Rattle.annotation_check.specs.declared.listing.Listing.{Listing}
 use Rattle.annotation_check.specs.Annotations.{edges_from}
+use Rattle.annotation_check.specs.internal.Listings.{IsMoveListing}
 
 -- the moves in each state of a machine, the edges from each state of an automaton, how many states these have, and a bound
 pub record PairsTree : Type 0 where
@@ -31,6 +33,11 @@ moves_in table s = unwrap_or (slice_get (move_lists table) s) []
 
 abbrev pub edges_in : List (Vec Edge Global) → ℕ → List EdgeTree
 edges_in table q = unwrap_or (slice_get (edge_lists table) q) []
+
+-- listings of the moves in each state
+abbrev pub AreMoveListings : (ℕ → List MoveTree) → List Listing → ℕ → Type 0
+AreMoveListings moves listings states = (length listings ≡ states)
+    × ((s : ℕ) (l : Listing) → slice_get listings s ≡ Some l → IsMoveListing (moves s) l.letters.items l.next.items)
 
 -- an edge more, in the list of the state that it leaves
 abbrev pub with_edge : List (List EdgeTree) → EdgeTree → List (List EdgeTree)

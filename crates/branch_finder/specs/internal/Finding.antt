@@ -6,8 +6,10 @@ use Rattle.tsl_terms.specs.WindowTree.{WindowTree}
 use Rattle.tsl_terms.specs.Congruence.{IsCongruent}
 use Rattle.program_tree.specs.Fits.{window_is_shaped}
 use Rattle.letter_space.specs.SpaceTree.{SpaceTree}
+use Rattle.letter_space.specs.Vectors.{vector_count}
 use Rattle.machines.specs.MachineTree.{EnvironmentTree}
 use Rattle.branch_finder.specs.Spurious.{IsSpurious}
+use Rattle.branch_finder.specs.internal.Sets.{set_of, HasAll}
 use Rattle.branch_finder.specs.Finding.{IsWindowWithin, without_update}
 
 -- a congruent spurious window of a length, from which no update can be left out
@@ -24,8 +26,10 @@ abbrev pub HasNoneOf : SpaceTree → EnvironmentTree → List ℕ → ℕ → Ty
 HasNoneOf space e cells length =
     (w : WindowTree) → w.length ≡ length → IsWindowWithin cells length w → IsCongruent cells w → IsSpurious space e w → ⊥
 
--- no congruent window is spurious by this path
+-- no congruent window is spurious by vectors that have the updates of cells of those of a path
 abbrev pub HasNoneOn : SpaceTree → EnvironmentTree → List ℕ → List ℕ → Type 0
 HasNoneOn space e cells path =
     (w : WindowTree) → w.length ≡ count_of path → IsWindowWithin cells (count_of path) w → IsCongruent cells w
-    → (spurious : IsSpurious space e w) → ((t : ℕ) → t < count_of path → slice_get path t ≡ Some (spurious.vector t)) → ⊥
+    → (spurious : IsSpurious space e w)
+    → ((t v : ℕ) → slice_get path t ≡ Some v
+    → (spurious.vector t < vector_count space.controlled) × HasAll space (set_of space cells v) (spurious.vector t)) → ⊥

@@ -1,33 +1,41 @@
 -- Internal: only private functions of this crate use these words.
 -- A path that is looked at: an environment and its visited states, a space, cells, a path of vectors and the labels along it.
-use Rattle.std.specs.Prelude.{◌≡◌, ◌<◌, ◌≤◌, map}
+use Rattle.std.specs.Prelude.{◌≡◌, ◌<◌, ◌≤◌, ◌^◌, map}
 use Rattle.std.specs.Prelude.{length as count_of}
 use Rattle.std.specs.List.{AllByRecursion}
 use Rattle.letter_space.specs.SpaceView.{space_tree}
 use Rattle.tsl_terms.specs.TermTree.{term_tree}
 use Rattle.machines.specs.MachineView.{environment_tree}
+use Rattle.machines.specs.Visits.{IsVisited}
 use Rattle.machines.specs.Moves.{EnvironmentFits}
 use Rattle.term_congruence.specs.Classes.{IsClassTable}
 use Rattle.branch_finder.specs.declared.looking.Search.{Search}
 use Rattle.branch_finder.specs.declared.looking.Look.{Look}
 use Rattle.branch_finder.specs.declared.looking.Pair.{Pair}
 use Rattle.branch_finder.specs.internal.Paths.{PairTree, probe_term, updates_along}
-use Rattle.branch_finder.specs.internal.Visiting.{AreVisited}
+use Rattle.branch_finder.specs.internal.Sets.{set_of, first_of, AreFirsts}
+use Rattle.branch_finder.specs.internal.Planes.{IsPlaneOf, AreLinksOf}
 
 abbrev pub pair_tree : Pair → PairTree
 pair_tree pair = record { left_at = pair.left_at; left = pair.left; right = pair.right }
 
--- what holds of a search: the environment fits the space, and its visited states are listed
+-- What holds of a search: the environment fits the space, its visited states are a plane, and for each set of updates of cells that a
+-- vector has, there is one that has it, and the rows of states that are gone to under those with all its updates.
 pub record IsSearch (search : Search) : Type 0 where
   pub fits : EnvironmentFits (space_tree search.space.now) (environment_tree search.environment.now)
-  pub visited : AreVisited (environment_tree search.environment.now) search.visited.now
+  pub visited : IsPlaneOf search.environment.now.states (IsVisited (environment_tree search.environment.now)) search.visited.now
   pub terms : map term_tree search.terms.now ≡ map probe_term (space_tree search.space.now).predicates
+  pub firsts : AreFirsts (space_tree search.space.now) search.cells.now search.environment.now.vectors search.firsts.now
+  pub few : count_of search.firsts.now < 2 ^ 32
+  pub links : AreLinksOf (space_tree search.space.now) (environment_tree search.environment.now)
+      (map (set_of (space_tree search.space.now) search.cells.now) search.firsts.now) search.links.now
 
--- what holds of a path that is looked at: it is short, of vectors of the environment, and has labels of the predicate terms
--- where all updates of the cells are listed
+-- What holds of a path that is looked at: it is short, of the first vectors of sets with these numbers, and has labels of the predicate
+-- terms where all updates of the cells are listed.
 pub record IsLook (look : Look) : Type 0 where
   pub search : IsSearch look.search
-  pub vectors : AllByRecursion (λ v. v < look.search.environment.now.vectors) look.path.now
+  pub numbers : AllByRecursion (λ n. n < count_of look.search.firsts.now) look.numbers.now
+  pub path : look.path.now ≡ map (first_of look.search.firsts.now) look.numbers.now
   pub short : count_of look.path.now ≤ 3
   pub labelled : IsClassTable (map probe_term (space_tree look.search.space.now).predicates)
       (updates_along (space_tree look.search.space.now).controlled look.search.cells.now 0 look.path.now)

@@ -1,16 +1,18 @@
 -- Internal: only private functions of this crate use these words.
--- Paths of vectors: the updates of cells along them, and the states that follow them.
-use Rattle.std.specs.Prelude.{◌≡◌, ◌≢◌, ℕ, zero, suc, ◌/◌, ◌%◌, ◌≤◌, List}
-use Rattle.std.specs.Prelude.{[], ◌∷◌, ◌++◌, length, Option, Some, None, slice_get, option_and_then}
+-- Paths of vectors: the updates of cells along them, and the states that these lead to.
+use Rattle.std.specs.Prelude.{◌≡◌, ℕ, zero, suc, ◌/◌, ◌%◌, ◌≤◌, Bool, true, not, List, map, take, drop}
+use Rattle.std.specs.Prelude.{[], ◌∷◌, ◌++◌, length, Option, Some, None, slice_get}
 use Rattle.tsl_terms.specs.TermTree.{TermTree, apply, ProbeTree}
 use Rattle.tsl_terms.specs.WindowTree.{ListedTree, WindowTree}
 use Rattle.tsl_terms.specs.Congruence.{IsCongruent}
-use Rattle.ltl_formula.specs.Cubes.{has_bit}
+use Rattle.lane_planes.specs.Planes.{has_bit}
 use Rattle.letter_space.specs.SpaceTree.{ControlledTree, SpaceTree}
 use Rattle.letter_space.specs.Letters.{term_taken}
 use Rattle.letter_space.specs.Vectors.{picks_of}
-use Rattle.machines.specs.MachineTree.{EnvironmentTree, successor_at}
+use Rattle.machines.specs.MachineTree.{EnvironmentTree}
 use Rattle.machines.specs.Visits.{IsVisited}
+use Rattle.branch_finder.specs.internal.Sets.{set_of, LeadsTo}
+use Rattle.branch_finder.specs.internal.Planes.{IsTruthOf}
 
 -- a probe as a term: its predicate, as if it were a function, of its arguments
 abbrev pub probe_term : ProbeTree → TermTree
@@ -38,16 +40,6 @@ updates_along controlled cells offset [] = []
 updates_along controlled cells offset (v ∷ path) =
     updates_picked controlled (picks_of controlled v) offset cells ++ updates_along controlled cells (suc offset) path
 
--- the state that follows so many vectors of a path, from a state
-abbrev pub state_along : EnvironmentTree → List ℕ → ℕ → ℕ → Option ℕ
-state_along e path s zero = Some s
-state_along e path s (suc t) =
-    option_and_then (λ v. option_and_then (λ r. successor_at e r v) (state_along e path s t)) (slice_get path t)
-
--- what is true there
-abbrev pub truths_along : EnvironmentTree → List ℕ → ℕ → ℕ → Option ℕ
-truths_along e path s t = option_and_then (λ r. slice_get e.truths r) (state_along e path s t)
-
 -- the vector at a step of a path
 abbrev pub vector_at : List ℕ → ℕ → ℕ
 vector_at [] t = 0
@@ -60,17 +52,27 @@ pub record PairTree : Type 0 where
   pub left : ℕ
   pub right : ℕ
 
--- from a state, a path tells a pair of bits apart
-pub record TellsApart (e : EnvironmentTree) (path : List ℕ) (pair : PairTree) (s : ℕ) : Type 0 where
-  pub left_truths : ℕ
-  pub are_left : truths_along e path s pair.left_at ≡ Some left_truths
-  pub right_truths : ℕ
-  pub are_right : truths_along e path s (length path) ≡ Some right_truths
-  pub differ : has_bit pair.left left_truths ≢ has_bit pair.right right_truths
+-- From a state of a plane, sets from a pair's step on tell its bits apart, where the left one is as wanted in that state.
+pub record TellsApart (space : SpaceTree) (e : EnvironmentTree) (sets : List ℕ) (pair : PairTree) (wanted : Bool) (plane : List ℕ) : Type 0 where
+  pub middle : ℕ
+  pub set : has_bit plane middle ≡ true
+  pub left : IsTruthOf e pair.left wanted middle
+  pub last : ℕ
+  pub after : LeadsTo space e (drop pair.left_at sets) middle last
+  pub right : IsTruthOf e pair.right (not wanted) last
 
--- a path tells a pair of bits apart from a state that is visited
-abbrev pub IsToldApart : EnvironmentTree → List ℕ → PairTree → Type 0
-IsToldApart e path pair = (s : ℕ) × IsVisited e s × TellsApart e path pair s
+-- Sets tell a pair of bits apart: from a state that is visited they lead by one at the pair's step to a last one, and of the left
+-- bit in the former and the right bit in the latter one alone is true.
+pub record IsToldApart (space : SpaceTree) (e : EnvironmentTree) (sets : List ℕ) (pair : PairTree) : Type 0 where
+  pub start : ℕ
+  pub visited : IsVisited e start
+  pub middle : ℕ
+  pub before : LeadsTo space e (take pair.left_at sets) start middle
+  pub wanted : Bool
+  pub left : IsTruthOf e pair.left wanted middle
+  pub last : ℕ
+  pub after : LeadsTo space e (drop pair.left_at sets) middle last
+  pub right : IsTruthOf e pair.right (not wanted) last
 
 -- the window of two probes along a path with all updates of cells
 abbrev pub path_window : SpaceTree → List ℕ → List ℕ → ℕ → ProbeTree → ProbeTree → WindowTree
@@ -82,8 +84,8 @@ path_window space cells path left_at left right = record {
   updates = updates_along space.controlled cells 0 path;
 }
 
--- A pair of bits is seen on a path: with all updates of cells the window of its probes is congruent, and the path tells it apart
--- from a state that is visited.
+-- A pair of bits is seen on a path: with all updates of cells the window of its probes is congruent, and vectors with these updates
+-- tell it apart.
 pub record IsSeen (space : SpaceTree) (e : EnvironmentTree) (cells path : List ℕ) (pair : PairTree) : Type 0 where
   pub within : pair.left_at ≤ length path
   pub left : ProbeTree
@@ -91,4 +93,4 @@ pub record IsSeen (space : SpaceTree) (e : EnvironmentTree) (cells path : List �
   pub right : ProbeTree
   pub is_right : slice_get space.predicates pair.right ≡ Some right
   pub congruent : IsCongruent cells (path_window space cells path pair.left_at left right)
-  pub told : IsToldApart e path pair
+  pub told : IsToldApart space e (map (set_of space cells) path) pair

@@ -1,4 +1,4 @@
-use Rattle.std.proofs.Common.{arith}
+use Rattle.std.proofs.Common.{length, arith}
 use Rattle.tsl_terms.specs.WindowTree.{window_tree}
 use Rattle.letter_space.specs.SpaceView.{space_tree}
 use Rattle.machines.specs.MachineView.{environment_tree}
@@ -10,7 +10,7 @@ use Rattle.branch_finder.proofs.finding.least_window.Goals as goal
 
 pub window_of_length-requires-clause-few : goal.window_of_length-requires-clause-few
 window_of_length-requires-clause-few c =
-    let grow = powers_grow c.args.search.now.environment.now.vectors c.loop-length.length c.args.depth c.requires.some
+    let grow = powers_grow (length c.args.search.now.firsts.now) c.loop-length.length c.args.depth c.requires.some
     (omega (arith, c.loop-length-test.true)) in
     omega (arith, grow, c.requires.few)
 

@@ -4,8 +4,8 @@ use Rattle.sequence.proofs.Places.{slice_get_some}
 use Rattle.tsl_terms.specs.TermTree.{probe_tree}
 use Rattle.branch_finder.proofs.looking.is_seen.Goals as goal
 
-pub returns-then-is_congruent : goal.returns-then-is_congruent
-returns-then-is_congruent c =
+pub returns : goal.returns
+returns c =
     let look = c.args.look.now in
     let pair = c.args.pair in
     let probes = map probe_tree look.search.space.now.predicates in
@@ -19,8 +19,8 @@ returns-then-is_congruent c =
         is_left = left.1;
         right = right.0;
         is_right = right.1;
-        congruent = (c.is_congruent.ensures left.0 right.0 left.1 right.1).0 c.if-is_congruent.true;
-        told = c.is_told_apart.ensures.0 told;
+        congruent = (c.is_congruent.ensures left.0 right.0 left.1 right.1).0 c.if-not-is_congruent.false;
+        told = c.in_ok-is_told_apart.ensures.0 told;
       },
-      λ seen. c.is_told_apart.ensures.1 seen.told,
+      λ seen. c.in_ok-is_told_apart.ensures.1 seen.told,
     )

@@ -11,7 +11,7 @@ loop-left_at-preserved c left_at left right below seen =
     none_more (λ at. (l : ℕ) × (r : ℕ) × IsSeen (space_tree look.search.space.now) (environment_tree look.search.environment.now)
     look.search.cells.now look.path.now (record { left_at = at; left = l; right = r })) c.loop-left_at.left_at
     (λ at earlier some. c.loop-left_at.invariant at some.0 some.1 earlier some.2)
-    (λ some. c.in_default.ensures.none some.0 some.1 some.2) left_at below (left, right, seen)
+    (λ some. (rw c.in_default.is at c.in_ok-pair.ensures.none) some.0 some.1 some.2) left_at below (left, right, seen)
 
 pub returns-clause-none : goal.returns-clause-none
 returns-clause-none c left_at left right seen =

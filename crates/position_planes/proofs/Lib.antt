@@ -1,0 +1,5 @@
+mod CarryLemmas
+mod WordLemmas
+mod PositionLemmas
+pub mod PlaneLemmas
+mod SetLemmas
