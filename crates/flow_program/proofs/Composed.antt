@@ -20,10 +20,10 @@ use Rattle.flow_program.specs.Rules.{is_unlike, cell_texts, readable_of, control
 use Rattle.flow_program.specs.Rules.{use_fault, limit_fault, fault_of}
 use Rattle.flow_program.specs.Reading.{IsReading, HasProgramCause}
 use Rattle.flow_program.specs.internal.Numbering.{Numbered}
-use Rattle.flow_program.proofs.UsableUses.{uses_usable}
+use Rattle.flow_program.proofs.UsesStand.{uses_usable}
 use Rattle.flow_program.proofs.KnownUses.{named_fit}
 use Rattle.flow_program.proofs.WithUses.{names_fit}
-use Rattle.flow_program.proofs.GoodProgram.{keeps_rules, ProgramGood, program_good}
+use Rattle.flow_program.proofs.ResolvedProgram.{keeps_rules, ResolvedProgram, resolved_program}
 
 -- ---- no rule tells a line malformed
 
@@ -142,8 +142,8 @@ module _ (text : List ℕ) (given : List NameEntry) (l : ListingTree) where
     pub spells : AreDistinct given → IsTrue (list_all name_fits given) → IsListing text l → line_fault text l ≡ None →
         use_fault readable names us ≡ None → limit_fault l ≡ None → (p : ProgramTree) × Numbered names text l p × ProgramText text names p
     spells distinct fit h lines uses limits =
-        let good : ProgramGood text (names_after given (uses_of text l)) l =
-        program_good text given distinct fit l h (keeps_rules text given l (no_fault lines uses limits)) in
+        let good : ResolvedProgram text (names_after given (uses_of text l)) l =
+        resolved_program text given distinct fit l h (keeps_rules text given l (no_fault lines uses limits)) in
         let same : names_after given (uses_of text l) ≡ names = sym (names_are ∙ ap (names_after given) us_are) in (
           good.program,
           subst (λ ns. Numbered ns text l good.program) same good.numbers,

@@ -1,6 +1,6 @@
 -- The names of a text know each use: its number names what it is used as.
 use Rattle.std.proofs.Common.{◌≡◌, ℕ, zero, suc, ◌==◌, Bool, true, false, not, ◌&&◌, ◌||◌, cond, List, [], ◌∷◌, ◌++◌, refl, ap, sym, ◌∙◌}
-use Rattle.std.specs.Prelude.{Option, Some, None, slice_get, flat_map, find, option_and_then, IsTrue}
+use Rattle.std.specs.Prelude.{Option, Some, None, slice_get, flat_map, option_and_then, IsTrue}
 use Rattle.std.specs.List.{list_all}
 use Rattle.std.specs.Option.{option_map_or}
 use Rattle.std.specs.Str.{bytes_eq}

@@ -1,15 +1,16 @@
 mod Examples
-pub mod SpelledOnce
+pub mod Held
 pub mod FirstPlaces
 pub mod NumberLemmas
 pub mod UseLemmas
 pub mod WithUses
 pub mod KnownUses
-pub mod GoodTerms
-pub mod GoodLines
-pub mod GoodNodes
-pub mod UsableUses
-pub mod GoodProgram
+pub mod SpelledLines
+pub mod ResolvedTerms
+pub mod ResolvedLines
+pub mod ResolvedNodes
+pub mod UsesStand
+pub mod ResolvedProgram
 pub mod RuleLemmas
 pub mod Lengths
 pub mod Composed

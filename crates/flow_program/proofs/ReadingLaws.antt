@@ -1,36 +1,56 @@
 -- What follows for texts that are read: a text has one listing and one reading, a text that spells a program is read as it, and a
 -- text has one cause of refusal.
-use Rattle.std.proofs.Common.{◌≡◌, ℕ, zero, suc, ◌<◌, ◌≤◌, true, List, [], ◌∷◌, ◌++◌, length, take, drop, refl, ap, sym, subst, ◌∙◌}
-use Rattle.std.proofs.Common.{flat_map, arith, ⊎_elim}
-use Rattle.std.proofs.Common.{append_assoc}
+use Rattle.std.proofs.Common.{◌≡◌, ℕ, List, [], ◌++◌, refl, ap, sym, subst, ◌∙◌}
+use Rattle.std.proofs.Common.{flat_map}
 use Rattle.std.specs.Prelude.{Some, None}
-use Rattle.std.specs.List.{list_all}
-use Rattle.std.proofs.lemmas.Bool.{and_parts, and_from, cases_lt}
 use Rattle.std.proofs.lemmas.List.{append-nil}
 use Rattle.std.proofs.lemmas.Option.{same_Some}
-use Rattle.tsl_text.specs.Written.{is_line, text_of_lines}
 use Rattle.tsl_terms.specs.Name.{Name, AreDistinct}
-use Rattle.tsl_terms.specs.Clashes.{first_uses}
 use Rattle.tsl_terms.proofs.FirstUses.{first_uses_distinct}
 use Rattle.flow_program.specs.declared.reading.ProgramError.{ProgramError}
 use Rattle.flow_program.specs.declared.reading.ProgramError.TheVariants.{Form, Order, Target, Updates, Window, Unknown, Kind, Arity}
 use Rattle.flow_program.specs.declared.reading.ProgramError.TheVariants.{Windows, Nodes, States, NoMemory}
 use Rattle.program_tree.specs.ProgramTree.{ProgramTree}
 use Rattle.flow_program.specs.ProgramText.{ProgramText}
-use Rattle.program_listing.specs.Listing.{IsListing, BeginAlike, FormFault}
+use Rattle.program_listing.specs.Listing.{IsListing, FormFault}
 use Rattle.flow_program.specs.Uses.{uses_of, entries_of_use, names_after}
 use Rattle.flow_program.specs.Rules.{fault_of}
 use Rattle.flow_program.specs.Reading.{IsReading, HasRuleFault, HasProgramCause, IsOfProgramText, GoOnFrom}
 use Rattle.program_listing.proofs.OneListing.{one_listing, one_fault}
 use Rattle.program_listing.proofs.ListingFacts.{listing_from}
-use Rattle.flow_program.proofs.SpelledOnce.OneProgram.{one_program}
+use Rattle.flow_program.specs.internal.Numbering.{Numbered}
+use Rattle.flow_program.proofs.KeptProgram.{same_program}
 use Rattle.flow_program.proofs.WithUses.{are_first}
-use Rattle.flow_program.proofs.WrittenIsRead.PlacedProgram.{ProgramPlaced, program_placed, all_stay}
+use Rattle.flow_program.proofs.WrittenIsRead.ListingOfProgram.{ListingOfProgram, listing_of_program, all_stay}
 
--- ---- a text has one reading
+-- ---- a text that spells a program is read
 
-distinct_after : (given uses : List Name) → AreDistinct given → AreDistinct (first_uses (given ++ uses))
-distinct_after given uses distinct = first_uses_distinct (given ++ uses)
+is_listing_of : (text : List ℕ) (names : List Name) (p : ProgramTree) → (r : ListingOfProgram text names p) → IsListing text r.listing
+is_listing_of text names p r = listing_from text r.listing r.end r.stands r.within r.once r.has_node r.has_state
+
+pub spelled_is_read : (text : List ℕ) (names : List Name) (p : ProgramTree) → AreDistinct names → ProgramText text names p →
+    IsReading text names p names
+spelled_is_read text names p distinct h =
+    let r : ListingOfProgram text names p = listing_of_program text names distinct p h in
+    record {
+      listing = r.listing;
+      is_listing = is_listing_of text names p r;
+      no_fault = r.no_fault names ([], sym (append-nil names));
+      names_are = sym (all_stay names distinct (flat_map entries_of_use (uses_of text r.listing)) r.held_names);
+      spelled = h;
+    }
+
+-- ---- a text has one program and one reading
+
+-- its lines are one listing, and the numbers of this are one program
+pub one_program : (names : List Name) (bytes : List ℕ) (p q : ProgramTree) → AreDistinct names → ProgramText bytes names p →
+    ProgramText bytes names q → p ≡ q
+one_program names bytes p q distinct h k =
+    let r : ListingOfProgram bytes names p = listing_of_program bytes names distinct p h in
+    let s : ListingOfProgram bytes names q = listing_of_program bytes names distinct q k in
+    let lines : r.listing ≡ s.listing =
+    one_listing bytes r.listing s.listing (is_listing_of bytes names p r) (is_listing_of bytes names q s) in
+    same_program names bytes s.listing p q (subst (λ l. Numbered names bytes l p) lines r.numbers) s.numbers
 
 pub one_reading : (text : List ℕ) (given : List Name) (p q : ProgramTree) (names more : List Name) → AreDistinct given →
     IsReading text given p names → IsReading text given q more → (p ≡ q) × (names ≡ more)
@@ -40,38 +60,21 @@ one_reading text given p q names more distinct h k =
     let apart : AreDistinct names = subst AreDistinct
     (sym (h.names_are ∙ are_first given (flat_map entries_of_use (uses_of text h.listing)) distinct))
     (first_uses_distinct (given ++ flat_map entries_of_use (uses_of text h.listing))) in
-    (one_program names apart text p q h.spelled (subst (λ ns. ProgramText text ns q) (sym same) k.spelled), same)
-
--- ---- a text that spells a program is read
-
-placed_listing : (text : List ℕ) (names : List Name) → (r : ProgramPlaced text names) → IsListing text r.listing
-placed_listing text names r = listing_from text r.listing r.end r.stands r.within r.once r.has_node r.has_state
-
-pub spelled_is_read : (text : List ℕ) (names : List Name) (p : ProgramTree) → AreDistinct names → ProgramText text names p →
-    IsReading text names p names
-spelled_is_read text names p distinct h =
-    let r : ProgramPlaced text names = program_placed text names distinct p h in
-    record {
-      listing = r.listing;
-      is_listing = placed_listing text names r;
-      no_fault = r.no_fault names ([], sym (append-nil names));
-      names_are = sym (all_stay names (flat_map entries_of_use (uses_of text r.listing)) r.held_names);
-      spelled = h;
-    }
+    (one_program names text p q apart h.spelled (subst (λ ns. ProgramText text ns q) (sym same) k.spelled), same)
 
 rule_fault_spells_none : (text : List ℕ) (given names : List Name) (e : ProgramError) (p : ProgramTree) → AreDistinct names →
     GoOnFrom given names → HasRuleFault text given e → ProgramText text names p → ⊥
 rule_fault_spells_none text given names e p distinct goes fault h =
-    let r : ProgramPlaced text names = program_placed text names distinct p h in
-    let lines : fault.listing ≡ r.listing = one_listing text fault.listing r.listing fault.is_listing (placed_listing text names r) in
+    let r : ListingOfProgram text names p = listing_of_program text names distinct p h in
+    let lines : fault.listing ≡ r.listing = one_listing text fault.listing r.listing fault.is_listing (is_listing_of text names p r) in
     let never : Some e ≡ None = sym fault.fault_is ∙ ap (fault_of text given) lines ∙ r.no_fault given goes in
     absurd (cc)
 
 pub refused_spells_none : (text : List ℕ) (given names : List Name) (e : ProgramError) (p : ProgramTree) → AreDistinct names →
     GoOnFrom given names → IsOfProgramText e → HasProgramCause text given e → ProgramText text names p → ⊥
 refused_spells_none text given names (Form n) p distinct goes is cause h =
-    let r : ProgramPlaced text names = program_placed text names distinct p h in
-    cause.none r.listing (placed_listing text names r)
+    let r : ListingOfProgram text names p = listing_of_program text names distinct p h in
+    cause.none r.listing (is_listing_of text names p r)
 refused_spells_none text given names NoMemory p distinct goes is cause h = absurd is
 refused_spells_none text given names (Order n) p distinct goes is cause h = rule_fault_spells_none text given names
     (Order n) p distinct goes cause h

@@ -1,4 +1,4 @@
 pub mod Runs
-pub mod PlacedTerms
-pub mod PlacedLines
-pub mod PlacedProgram
+pub mod ListingOfTerms
+pub mod ListingOfLines
+pub mod ListingOfProgram

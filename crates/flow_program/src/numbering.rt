@@ -12,9 +12,11 @@ ghost use Rattle.program_listing.specs.ListingTree.{UpdateLine, ListedLine, Wind
 ghost use Rattle.program_tree.specs.ProgramView.{program_tree};
 ghost use Rattle.program_tree.specs.ProgramTree.{ProgramTree};
 ghost use Rattle.flow_program.specs.ProgramText.{ProgramText};
-ghost use Rattle.program_listing.specs.Listing.{name_stands, phrase_stands, phrases_stand, update_line_stands, listed_line_stands};
-ghost use Rattle.program_listing.specs.Listing.{window_line_stands, node_line_stands, phrase_tree, phrase_trees, update_line, listed_line};
-ghost use Rattle.program_listing.specs.Listing.{window_line, node_line, listing_tree, IsListing};
+ghost use Rattle.program_listing.specs.internal.NamesStand.{name_stands, phrase_stands, phrases_stand, update_line_stands, listed_line_stands};
+ghost use Rattle.program_listing.specs.internal.NamesStand.{ListingStands};
+ghost use Rattle.program_listing.specs.Listing.{phrase_tree, phrase_trees, update_line, listed_line};
+ghost use Rattle.program_listing.specs.internal.NamesStand.{window_line_stands, node_line_stands};
+ghost use Rattle.program_listing.specs.Listing.{window_line, node_line, listing_tree};
 ghost use Rattle.flow_program.specs.internal.Numbering.{small, numbered, numbered_term, numbered_terms, numbered_test, numbered_listed};
 ghost use Rattle.flow_program.specs.internal.Numbering.{numbered_window, numbered_node, Numbered};
 
@@ -337,7 +339,7 @@ pub(crate) fn numbered_program(
     text: &[u8],
     listing: &Listing,
 ) -> Result<Program, NoMemory>
-    requires listing { IsListing text.now (listing_tree listing.now) }
+    requires stands { ListingStands text.now (listing_tree listing.now) }
     requires program { (p : ProgramTree) × Numbered names.now text.now (listing_tree listing.now) p
         × ProgramText text.now names.now p }
     ensures { IfOk result (λ program. ProgramText text.now names.now (program_tree program)) }

@@ -5,6 +5,7 @@ ghost use Rattle.std.specs.List.{list_all};
 ghost use Rattle.tsl_terms.specs.Name.{texts, AreDistinct};
 ghost use Rattle.tsl_terms.specs.WellFormed.{name_fits};
 ghost use Rattle.program_tree.specs.ProgramView.{program_tree};
+ghost use Rattle.program_listing.specs.internal.NamesStand.{ListingStands};
 ghost use Rattle.program_listing.specs.Listing.{listing_tree, IsListing};
 ghost use Rattle.flow_program.specs.Uses.{first_state};
 ghost use Rattle.flow_program.specs.Rules.{cell_texts, readable_of};
@@ -110,6 +111,7 @@ fn joined(alloc: Global, left: &[Name], right: &[Name]) -> Result<Vec<Name>, NoM
 
 /// The names of the signals that lines declare. An `Err` says that memory ran out.
 fn declared_signals(alloc: Global, text: &[u8], listing: &Listing) -> Result<Signals, NoMemory>
+    requires stands { ListingStands text.now (listing_tree listing.now) }
     requires listing { IsListing text.now (listing_tree listing.now) }
     requires lines { first_state (listing_tree listing.now)
         + length listing.now.states.items < 2 ^ 32 }

@@ -4,9 +4,12 @@ ghost use Rattle.std.specs.Prelude.{◌≡◌, ℕ, ◌+◌, ◌<◌, ◌^◌, �
 ghost use Rattle.std.specs.List.{list_all};
 ghost use Rattle.tsl_terms.specs.Name.{texts, same_kind, AreDistinct};
 ghost use Rattle.tsl_terms.specs.Clashes.{alike_in};
-ghost use Rattle.program_listing.specs.Listing.{name_bytes, name_stands, update_line_stands, listed_line_stands, window_line_stands};
-ghost use Rattle.program_listing.specs.Listing.{node_line_stands, update_line, listed_line, window_line, node_line, listing_tree};
-ghost use Rattle.program_listing.specs.Listing.{declared_entry, IsListing};
+ghost use Rattle.program_listing.specs.internal.NamesStand.{ListingStands};
+ghost use Rattle.program_listing.specs.Listing.{name_bytes};
+ghost use Rattle.program_listing.specs.internal.NamesStand.{name_stands, update_line_stands, listed_line_stands, window_line_stands};
+ghost use Rattle.program_listing.specs.Listing.{update_line, listed_line, window_line, node_line, listing_tree};
+ghost use Rattle.program_listing.specs.internal.NamesStand.{node_line_stands};
+ghost use Rattle.program_listing.specs.Listing.{declared_entry};
 ghost use Rattle.flow_program.specs.Uses.{first_window, first_node, first_state};
 ghost use Rattle.flow_program.specs.Rules.{first_line, breaks_order, goes_nowhere, is_nowhere, are_texts, breaks_updates, places_rise};
 ghost use Rattle.flow_program.specs.Rules.{place_of_cell, stands_before, listed_rise, is_cell_within, breaks_window, is_unknown};
@@ -275,7 +278,7 @@ pub(crate) fn line_fault(
     cells: &Names,
     controlled: &[Name],
 ) -> Option<ProgramError>
-    requires listing { IsListing text.now (listing_tree listing.now) }
+    requires stands { ListingStands text.now (listing_tree listing.now) }
     requires lines { first_state (listing_tree listing.now)
         + length listing.now.states.items < 2 ^ 32 }
     requires cells { texts cells.now ≡ cell_texts text.now (listing_tree listing.now) }

@@ -2,10 +2,12 @@
 
 ghost use Rattle.std.specs.Prelude.{◌≡◌, ℕ, ◌+◌, ◌<◌, ◌^◌, ◌++◌, List, Bool, length, map, flat_map, IfOk, OnOk, IsTrue};
 ghost use Rattle.std.specs.List.{list_all};
-ghost use Rattle.program_listing.specs.Listing.{name_bytes, name_stands, phrase_stands, phrases_stand, update_line_stands};
-ghost use Rattle.program_listing.specs.Listing.{listed_line_stands, window_line_stands, node_line_stands, count_of_phrases};
+ghost use Rattle.program_listing.specs.Listing.{name_bytes};
+ghost use Rattle.program_listing.specs.internal.NamesStand.{name_stands, phrase_stands, phrases_stand, update_line_stands};
+ghost use Rattle.program_listing.specs.Listing.{count_of_phrases};
+ghost use Rattle.program_listing.specs.internal.NamesStand.{listed_line_stands, window_line_stands, node_line_stands};
 ghost use Rattle.program_listing.specs.Listing.{phrase_tree, phrase_trees, update_line, listed_line, window_line, node_line, listing_tree};
-ghost use Rattle.program_listing.specs.Listing.{IsListing};
+ghost use Rattle.program_listing.specs.internal.NamesStand.{ListingStands};
 ghost use Rattle.program_listing.specs.ListingTree.{UpdateLine, ListedLine, WindowLine, NodeLine};
 ghost use Rattle.flow_program.specs.Uses.{ProgramUse, signal_use, read_use, tested_use, applied_use, term_uses, terms_uses, test_uses};
 ghost use Rattle.flow_program.specs.Uses.{update_uses, listed_uses, window_uses, node_uses, line_uses, declared_uses, uses_of, first_state};
@@ -345,7 +347,7 @@ pub(crate) fn all_uses<'a>(
     text: &'a [u8],
     listing: &Listing,
 ) -> Result<Vec<SpelledUse<'a>>, NoMemory>
-    requires listing { IsListing text.now (listing_tree listing.now) }
+    requires stands { ListingStands text.now (listing_tree listing.now) }
     requires lines { first_state (listing_tree listing.now)
         + length listing.now.states.items < 2 ^ 32 }
     requires few { length (uses_of text.now (listing_tree listing.now)) < 2 ^ 32 }

@@ -10,8 +10,8 @@ pub mod PhrasesRead
 pub mod LinesRead
 pub mod OrderOfLines
 pub mod LineFeeds
-pub mod ReachedLines
 pub mod ListingFacts
+pub mod TextLines
 pub mod FirstFaults
 pub mod ReadListings
 pub mod OneListing

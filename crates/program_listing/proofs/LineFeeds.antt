@@ -4,8 +4,7 @@ use Rattle.std.proofs.Common.{length-append, take, drop, flat_map, codes, decima
 use Rattle.std.proofs.Common.{append_assoc, arith}
 use Rattle.std.specs.Char.{is_ascii_digit}
 use Rattle.std.specs.List.{list_all, prefix_len}
-use Rattle.std.proofs.Math.Seq.{take-append_seam, drop-append-add}
-use Rattle.std.proofs.lemmas.Bool.{and_parts, and_from, cond-true, eqb-true, lt-ltb, ltb-true, false≢true, false_from_ne_true}
+use Rattle.std.proofs.lemmas.Bool.{and_parts, and_from, eqb-true, ltb-true, false≢true, false_from_ne_true}
 use Rattle.std.proofs.lemmas.List.{append-nil}
 use Rattle.std.proofs.lemmas.List.Folds.{length-prefix_len}
 use Rattle.std.proofs.lemmas.Option.{none-some, same_Some}
@@ -53,9 +52,10 @@ use Rattle.program_listing.specs.LineText.{
   line_is_within,
 }
 use Rattle.program_listing.specs.internal.LineReading.{skipped}
-use Rattle.program_listing.specs.internal.LineOrder.{cut, cut_at}
+use Rattle.program_listing.specs.internal.LineOrder.{cut}
+use Rattle.program_listing.proofs.LinesRead.{IsLineAt}
 use Rattle.program_listing.proofs.Standing.{stand_append, stand_split}
-use Rattle.program_listing.proofs.WordsRead.{short_below, usable_run, prefix_len_run}
+use Rattle.program_listing.proofs.WordsRead.{short_below, usable_run}
 
 -- ---- bytes of a line
 
@@ -212,20 +212,7 @@ span (named n ∷ xs) p q s =
 
 -- ---- the first line of what is left
 
-pub cut_found : (p : Place) (line rest : List ℕ) → p.bytes ≡ line ++ 10 ∷ rest → is_line line ≡ true →
-    cut p ≡ Some (record { at = p.at; bytes = line }, record { at = p.at + (length line + 1); bytes = rest })
-cut_found p line rest e h =
-    let len : prefix_len is_line_byte p.bytes ≡ length line =
-    ap (prefix_len is_line_byte) e ∙ prefix_len_run is_line_byte line (10 ∷ rest) h refl in
-    let whole : length p.bytes ≡ length line + suc (length rest) = ap length e ∙ length-append line (10 ∷ rest) in
-    let less : ltb (length line) (length p.bytes) ≡ true = lt-ltb (length line) (length p.bytes) (omega arith) in
-    let front : take (length line) p.bytes ≡ line = ap (take (length line)) e ∙ take-append_seam line (10 ∷ rest) in
-    let back : drop (length line + 1) p.bytes ≡ rest = ap (drop (length line + 1)) e ∙ drop-append-add line (10 ∷ rest) 1 in
-    ap (λ (n : ℕ). cut_at n p) len
-    ∙ cond-true (ltb (length line) (length p.bytes)) _ None less
-    ∙ (λ i. Some (record { at = p.at; bytes = front i }, record { at = p.at + (length line + 1); bytes = back i }))
-
--- and what is cut off
+-- what is cut off
 pub cut_sound : (p line rest : Place) → cut p ≡ Some (line, rest) →
     (p.bytes ≡ line.bytes ++ 10 ∷ rest.bytes) × (is_line line.bytes ≡ true) × (line.at ≡ p.at) × (rest.at ≡ p.at + (length line.bytes + 1))
 cut_sound p line rest e = by_test (ltb len (length p.bytes)) refl e where
@@ -306,3 +293,27 @@ line_before_feed t p q s ends rest =
     (record { at = q.at; bytes = 10 ∷ rest }) (record { at = p.at + (length p.bytes + 1); bytes = rest })
     (subst P whole (line.moves (10 ∷ rest)))
     (rest, refl, ap (λ (n : ℕ). record { at = n; bytes = rest }) at)
+
+-- such a line is read by itself
+pub line_alone : (t : LineTree) (p q : Place) → line_is_within t ≡ true → (e : EndedLine t p q) →
+    IsLineAt (record { at = p.at; bytes = e.bytes }) t
+line_alone t p q h e = record {
+  end = record { at = p.at + length e.bytes; bytes = [] };
+  stands = e.stands;
+  ends = refl;
+  within = h;
+}
+
+-- a line has a byte
+cons_some : (bytes : List ℕ) (c : ℕ) (cs : List ℕ) → bytes ≡ c ∷ cs → 0 < length bytes
+cons_some bytes c cs e = let same : length bytes ≡ suc (length cs) = ap length e in omega arith
+
+pub some_bytes : (p : Place) (t : LineTree) → IsLineAt p t → 0 < length p.bytes
+some_bytes p head_line l = cons_some p.bytes _ _ l.stands.1
+some_bytes p (input n) l = cons_some p.bytes _ _ l.stands.1
+some_bytes p (cell n) l = cons_some p.bytes _ _ l.stands.1
+some_bytes p (output n) l = cons_some p.bytes _ _ l.stands.1
+some_bytes p (window w) l = cons_some p.bytes _ _ l.stands.1
+some_bytes p (node i n) l = cons_some p.bytes _ _ l.stands.1
+some_bytes p (state i n) l = cons_some p.bytes _ _ l.stands.1
+some_bytes p end_line l = cons_some p.bytes _ _ l.stands.1

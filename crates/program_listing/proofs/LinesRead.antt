@@ -4,18 +4,18 @@ use Rattle.std.proofs.Common.{decimal, Option, Some, None, option_map, IsTrue, r
 use Rattle.std.specs.Char.{is_ascii_digit}
 use Rattle.std.specs.List.{list_all}
 use Rattle.std.proofs.lemmas.Bool.{and_parts}
-use Rattle.std.proofs.lemmas.Fmt.{decimal_nonempty}
 use Rattle.std.proofs.lemmas.Option.{none-some, same_Some}
 use Rattle.tsl_text.specs.Lines.{has_bytes}
 use Rattle.tsl_text.specs.Names.{is_name_byte}
-use Rattle.tsl_text.proofs.NumberLaws.{decimal_digits}
+use Rattle.line_formats.specs.Format.{strip}
 use Rattle.program_listing.specs.ListingTree.{PhraseTree, UpdateLine, ListedLine, WindowLine, NodeLine, branch_line, assignment_line}
 use Rattle.program_listing.specs.LineText.{Piece, word, Place, Stand, phrase_pieces, LineTree, head_line, input, cell, output, window, node}
 use Rattle.program_listing.specs.LineText.{state, end_line, update_pieces, set_pieces, listed_pieces, placed_pieces, window_pieces}
 use Rattle.program_listing.specs.LineText.{node_pieces, line_pieces, is_short, is_shallow, listed_is_within, placed_is_within}
 use Rattle.program_listing.specs.LineText.{window_is_within, node_is_within, line_is_within}
-use Rattle.program_listing.specs.internal.LineReading.{LineReader, strip, past, from, pair, mapped, prefixed, repeat, value_at_end, at_end}
-use Rattle.program_listing.specs.internal.LineReading.{begins, first_number, phrase, update, is_square, update_follows, as_update, set_update}
+use Rattle.program_listing.specs.internal.LineReading.{LineReader, past, from, pair, mapped, prefixed, repeat, value_at_end, at_end}
+use Rattle.program_listing.specs.internal.LineReading.{begins, first_number, phrase, update, is_square, update_follows, as_update}
+use Rattle.program_listing.specs.internal.LineReading.{set_update}
 use Rattle.program_listing.specs.internal.LineReading.{as_listed, listed, placed, as_window, window_rest, as_branch, branch_rest}
 use Rattle.program_listing.specs.internal.LineReading.{as_assignment, assignment_rest, either, node_rest, numbered_node, numbered_state}
 use Rattle.program_listing.specs.internal.LineReading.{read_line}

@@ -1,19 +1,17 @@
 -- The order of lines: the lines of a listing are those that may stand one after another.
-use Rattle.std.proofs.Common.{◌≡◌, ℕ, suc, ◌+◌, ◌<◌, Bool, true, false, not, ◌&&◌, cond, eqb, List, [], ◌∷◌, ◌++◌, length, map, flat_map}
+use Rattle.std.proofs.Common.{◌≡◌, ℕ, suc, ◌+◌, ◌<◌, Bool, true, false, not, ◌&&◌, eqb, List, [], ◌∷◌, ◌++◌, length, map, flat_map}
 use Rattle.std.proofs.Common.{Option, Some, None, refl, sym, ap, subst, ◌∙◌, append_assoc, arith, length-append}
 use Rattle.std.specs.Prelude.{option_and_then}
 use Rattle.std.proofs.lemmas.Bool.{and_parts, and_from, cond-true, eqb-true, eq-eqb, not-true, false≢true}
 use Rattle.std.proofs.lemmas.List.{append-nil, map-append}
 use Rattle.std.proofs.lemmas.Option.{none-some, same_Some}
 use Rattle.program_listing.specs.declared.listing.Name.{Name}
-use Rattle.program_listing.specs.ListingTree.{WindowLine, NodeLine, ListingTree, empty_listing, listing_tree}
-use Rattle.tsl_terms.specs.Name.{Name as NameEntry}
-use Rattle.program_listing.specs.declared.listing_reader.Begun.{Begun}
-use Rattle.program_listing.specs.Listing.{declared, declared_entry}
+use Rattle.program_listing.specs.ListingTree.{WindowLine, NodeLine, ListingTree, empty_listing}
+use Rattle.program_listing.specs.Listing.{declared}
 use Rattle.program_listing.specs.LineText.{LineTree, head_line, input, cell, output, window, node, state, end_line, node_lines, state_lines}
 use Rattle.program_listing.specs.LineText.{listing_lines}
-use Rattle.program_listing.specs.internal.LineOrder.{may_stand, progress_with, Progress, fresh, going, done, is_nil, no_node, no_window, no_output}
-use Rattle.program_listing.specs.internal.LineOrder.{no_cell, when, added, add, add_all, listing_of, declares, names_so_far, progress_of}
+use Rattle.program_listing.specs.internal.LineOrder.{Progress, fresh, going, done, is_nil, no_node, no_window, no_output}
+use Rattle.program_listing.specs.internal.LineOrder.{no_cell, when, added, add, add_all, listing_of, declares}
 
 -- ---- adding lines
 
@@ -349,23 +347,19 @@ made_more lines (going l) q t m e =
     }
 made_more lines (done l) q t m e = absurd (none-some q e)
 
--- the names that a line declares come after those before it
-pub extended_names : (l : ListingTree) (t : LineTree) → may_stand l t ≡ true →
-    declared (listing_of (progress_with l t)) ≡ declared l ++ declares t
-extended_names l t h = (grown l t (progress_with l t) (cond-true (may_stand l t) (Some (progress_with l t)) None h)).names
+made_all : (more lines : List LineTree) (p q : Progress) → Made lines p → add_all more p ≡ Some q → Made (lines ++ more) q
+made_all [] lines p q m e =
+    let P : Progress → Type 0 = Made (lines ++ []) in
+    let Q : List LineTree → Type 0 = λ ls. Made ls p in
+    subst P (same_Some p q e) (subst Q (sym (append-nil lines)) m)
+made_all (t ∷ more) lines p q m e = by_add (add p t) refl e (λ r f g. made_all more (lines
+    ++ t ∷ []) r q (made_more lines p r t m f) g) where
+      by_add : (o : Option Progress) → add p t ≡ o → option_and_then (add_all more) o ≡ Some q →
+          ((r : Progress) → add p t ≡ Some r → add_all more r ≡ Some q → Made ((lines ++ t ∷ []) ++ more) q) → Made (lines ++ t ∷ more) q
+      by_add None f g next = absurd (none-some q g)
+      by_add (Some r) f g next =
+          let P : List LineTree → Type 0 = λ ls. Made ls q in
+          subst P (append_assoc lines (t ∷ []) more) (next r f g)
 
-pub progress_listing : (b : Begun) → listing_of (progress_of b) ≡ listing_tree b.listing
-progress_listing b = by_end b.ended where
-  by_end : (ended : Bool) → listing_of (cond ended (done (listing_tree b.listing)) (going (listing_tree b.listing)))
-      ≡ listing_tree b.listing
-  by_end true = refl
-  by_end false = refl
-
-pub names_grow : (text : List ℕ) (l : ListingTree) (t : LineTree) (b : Begun) (old new : List NameEntry) → may_stand l t ≡ true →
-    progress_of b ≡ progress_with l t → old ≡ names_so_far text l → new ≡ old ++ map (declared_entry text) (declares t) →
-    new ≡ names_so_far text (listing_tree b.listing)
-names_grow text l t b old new h e f g =
-    g ∙ ap (λ (ns : List NameEntry). ns ++ map (declared_entry text) (declares t)) f
-    ∙ sym (map-append (declared_entry text) (declared l) (declares t))
-    ∙ ap (map (declared_entry text)) (sym (extended_names l t h) ∙ ap (λ (p : Progress). declared (listing_of p)) (sym e)
-    ∙ ap declared (progress_listing b))
+pub listing_made : (l : ListingTree) → 0 < length l.nodes → 0 < length l.states → Made (listing_lines l) (done l)
+listing_made l some_node some_state = made_all (listing_lines l) [] fresh (done l) made_fresh (listing_adds l some_node some_state)

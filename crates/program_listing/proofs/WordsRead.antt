@@ -1,19 +1,17 @@
 -- Names and numbers are read exactly.
-use Rattle.std.proofs.Common.{◌≡◌, ℕ, ◌+◌, ◌-◌, ◌*◌, ◌^◌, ◌<◌, Bool, true, false, not, ◌&&◌, cond, leb, List, [], ◌∷◌, ◌++◌, length, take}
+use Rattle.std.proofs.Common.{◌≡◌, ℕ, ◌+◌, ◌^◌, ◌<◌, Bool, true, false, not, cond, List, [], ◌∷◌, ◌++◌, length, take}
 use Rattle.std.proofs.Common.{drop, take-append-drop, decimal, Option, Some, None, option_map, IsTrue, refl, sym, ap, subst, ◌∙◌, arith}
-use Rattle.std.specs.Prelude.{fold}
 use Rattle.std.specs.Char.{is_ascii_digit}
 use Rattle.std.specs.List.{list_all, prefix_len}
 use Rattle.std.proofs.Math.Seq.{take-append_seam, drop-append_seam}
-use Rattle.std.proofs.lemmas.Bool.{and_parts, and_from, cond-true, cond-false, leb-true, le-leb, lt-ltb, ltb-true}
+use Rattle.std.proofs.lemmas.Bool.{and_parts, cond-true, cond-false, lt-ltb, ltb-true}
 use Rattle.std.proofs.lemmas.List.Folds.{length-prefix_len}
 use Rattle.std.proofs.lemmas.Option.{none-some, same_Some}
-use Rattle.std.proofs.lemmas.Str.Parse.{IsDigitsTest, FoldsDigits, IsNumeralModel, numerals_by_fold, digits_value_short}
-use Rattle.tsl_text.specs.Lines.{has_bytes}
 use Rattle.tsl_text.specs.Names.{is_name_byte, is_name_text, is_reserved, is_usable}
-use Rattle.tsl_text.specs.Numbers.{is_digits, value_of, number_in, has_leading_zero, plain_number_in}
+use Rattle.tsl_text.specs.Numbers.{plain_number_in}
 use Rattle.tsl_text.proofs.NumberLaws.{decimal_digits, decimal_is_read, read_is_decimal}
 use Rattle.term_text.proofs.Fronts.{name_run}
+use Rattle.line_formats.proofs.LeafLaws.{read_is_short}
 use Rattle.program_listing.specs.declared.listing.Name.{Name}
 use Rattle.program_listing.specs.LineText.{Piece, word, named, Place, Stand, is_short}
 use Rattle.program_listing.specs.internal.LineReading.{begins, skipped, name_of_length, first_name, number_of_length, first_number}
@@ -95,43 +93,6 @@ NoDigit bytes = begins is_ascii_digit bytes ≡ false
 
 abbrev pub number_pieces : ℕ → List Piece
 number_pieces n = word (decimal n) ∷ []
-
--- the digits of this repository are those of std
-abbrev AreDigits : List ℕ → Type 0
-AreDigits ds = list_all is_ascii_digit ds ≡ true
-
-tests_digits : IsDigitsTest AreDigits
-tests_digits = record {
-  empty = refl;
-  parts = λ c cs h.
-      let parts = and_parts (is_ascii_digit c) (list_all is_ascii_digit cs) h in
-      let range = and_parts (leb 48 c) (leb c 57) parts.0 in
-      ((leb-true 48 c range.0, leb-true c 57 range.1), parts.1);
-  more = λ c cs range rest. and_from (is_ascii_digit c) (list_all is_ascii_digit cs)
-      (and_from (leb 48 c) (leb c 57) (le-leb 48 c range.0) (le-leb c 57 range.1)) rest;
-}
-
-folds_digits : FoldsDigits (λ n ds. fold (λ value digit. value * 10 + (digit - 48)) n ds)
-folds_digits = record { empty = λ n. refl; more = λ n c cs range. refl }
-
-own : IsNumeralModel AreDigits value_of
-own = numerals_by_fold AreDigits tests_digits (λ n ds. fold (λ value digit. value * 10 + (digit - 48)) n ds) folds_digits
-
--- a number that is read has at most 18 digits
-pub read_is_short : (ds : List ℕ) (n : ℕ) → plain_number_in ds ≡ Some n → n < 10 ^ 18
-read_is_short ds n e = by_zero (has_leading_zero ds) e where
-  by_test : (b : Bool) → (is_digits ds && leb (length ds) 18) ≡ b → cond b (Some (value_of ds)) None ≡ Some n → n < 10 ^ 18
-  by_test false passed h = absurd (none-some n h)
-  by_test true passed h =
-      let parts = and_parts (is_digits ds) (leb (length ds) 18) passed in
-      let digits = and_parts (has_bytes ds) (list_all is_ascii_digit ds) parts.0 in
-      let few : value_of ds < 10 ^ 18 = digits_value_short own ds 18 digits.1 (leb-true (length ds) 18 parts.1) in
-      let P : ℕ → Type 0 = λ k. k < 10 ^ 18 in
-      subst P (same_Some (value_of ds) n h) few
-
-  by_zero : (b : Bool) → cond b None (number_in ds) ≡ Some n → n < 10 ^ 18
-  by_zero true h = absurd (none-some n h)
-  by_zero false h = by_test (is_digits ds && leb (length ds) 18) refl h
 
 pub short_below : (n : ℕ) → IsTrue (is_short n) → n < 10 ^ 18
 short_below n h = ltb-true n (10 ^ 18) h

@@ -1,2 +1,3 @@
 pub mod LineOrder
 pub mod LineReading
+pub mod NamesStand

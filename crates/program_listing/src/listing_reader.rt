@@ -1,17 +1,17 @@
 //! The lines of a program text are read one after another.
 
-ghost use Rattle.std.specs.Prelude.{◌≡◌, ◌+◌, ◌<◌, ◌≤◌, ◌^◌, ◌++◌, ◌∷◌, [], true, false, is_none, length, map, Some, None, IfOk, IfErr};
+ghost use Rattle.std.specs.Prelude.{◌≡◌, ◌+◌, ◌<◌, ◌≤◌, ◌^◌, ◌++◌, ◌∷◌, [], true, is_none, is_some, length, Some, None, IfOk, IfErr};
 ghost use Rattle.std.specs.Prelude.{OnOk, IfSome, IfNone};
 ghost use Rattle.std.specs.List.{prefix_len};
 ghost use Rattle.tsl_text.specs.Lines.{is_line_byte};
 ghost use Rattle.tsl_terms.specs.Name.{number_of};
-ghost use Rattle.program_listing.specs.ListingTree.{listing_tree};
-ghost use Rattle.program_listing.specs.Listing.{IsListing, declared_entry};
+ghost use Rattle.program_listing.specs.ListingTree.{listing_tree, empty_listing};
+ghost use Rattle.program_listing.specs.Listing.{IsListing};
 ghost use Rattle.program_listing.specs.ListingFault.{HasListingFault};
 ghost use Rattle.program_listing.specs.internal.LineReading.{left_place, line_tree, IsMisread};
-ghost use Rattle.program_listing.specs.internal.LineOrder.{no_node, no_window, no_output, no_cell, may_stand, progress_with, declares};
-ghost use Rattle.program_listing.specs.internal.LineOrder.{names_so_far, are_new, cut, next_line, progress_of, error_at, DeclaresWithin};
-ghost use Rattle.program_listing.specs.internal.LineOrder.{IsRepeated, after_head};
+ghost use Rattle.program_listing.specs.internal.LineOrder.{fresh, is_done, no_node, no_window, no_output, no_cell, may_stand, add, declares};
+ghost use Rattle.program_listing.specs.internal.LineOrder.{entry_in, entries_in, are_new, cut, next_line, progress_of, state_of, error_at};
+ghost use Rattle.program_listing.specs.internal.LineOrder.{DeclaresIn, LiesIn, IsRepeated};
 
 use crate::left::{Left, Misread};
 use crate::line::{Line, has_bytes, read_line};
@@ -21,13 +21,32 @@ use sequence::NoMemory;
 use std::alloc::Global;
 use tsl_terms::{NameKind, Names};
 
+/// How far a text was read.
+#[derive(Clone, Copy)]
+pub enum Stage {
+    /// No line was read.
+    Fresh,
+    /// The head was read.
+    Going,
+    /// The last line was read.
+    Done,
+}
+
 /// A listing that is begun.
 #[derive(Drop)]
 pub struct Begun {
     /// The lines so far.
     pub listing: Listing,
-    /// Whether the last line was read.
-    pub ended: bool,
+    /// How far the text was read.
+    pub stage: Stage,
+}
+
+/// What is left before any line was read.
+fn start_of(text: &[u8]) -> Left<'_>
+    requires { length text.now < 2 ^ 32 }
+    ensures { left_place result ≡ record { at = 0; bytes = text.now } }
+{
+    Left { at: 0, bytes: text }
 }
 
 /// The first line that is left, without its line feed, and what is left after it. `None` where no
@@ -84,7 +103,7 @@ fn no_cell(listing: &Listing) -> bool
     listing.cells.is_empty() && no_output(listing)
 }
 
-/// Whether the line may stand next.
+/// Whether the line may stand next between the head and the last line.
 fn may_stand(listing: &Listing, line: &Line) -> bool
     ensures { result ≡ may_stand (listing_tree listing.now) (line_tree line.now) }
 {
@@ -104,43 +123,46 @@ fn may_stand(listing: &Listing, line: &Line) -> bool
     }
 }
 
-/// Adds a line. An `Err` says that memory ran out.
+/// Whether the line may stand next.
+fn may_come(begun: &Begun, line: &Line) -> bool
+    ensures { result ≡ is_some (add (progress_of begun.now) (line_tree line.now)) }
+{
+    match begun.stage {
+        Stage::Fresh => matches!(line, Line::Head),
+        Stage::Going => may_stand(&begun.listing, line),
+        Stage::Done => false,
+    }
+}
+
+/// Whether the last line was read.
+fn is_done(begun: &Begun) -> bool
+    ensures { result ≡ is_done (progress_of begun.now) }
+{
+    match begun.stage {
+        Stage::Done => true,
+        Stage::Fresh | Stage::Going => false,
+    }
+}
+
+/// Adds a line that may stand next. An `Err` says that memory ran out.
 fn insert(begun: &mut Begun, line: Line) -> Result<(), NoMemory>
-    requires { begun.old.ended ≡ false }
+    requires may_come { is_some (add (progress_of begun.old) (line_tree line)) ≡ true }
+    requires empty { progress_of begun.old ≡ fresh →
+        listing_tree begun.old.listing ≡ empty_listing }
     ensures { OnOk result
-        (progress_of begun.new ≡ progress_with (listing_tree begun.old.listing) (line_tree line)) }
+        (add (progress_of begun.old) (line_tree line) ≡ Some (progress_of begun.new)) }
 {
     match line {
-        Line::Head => Ok(()),
-        Line::Input(name) => {
-            begun.listing.inputs.push(name)?;
-            Ok(())
-        }
-        Line::Cell(name) => {
-            begun.listing.cells.push(name)?;
-            Ok(())
-        }
-        Line::Output(name) => {
-            begun.listing.outputs.push(name)?;
-            Ok(())
-        }
-        Line::Window(window) => {
-            begun.listing.windows.push(window)?;
-            Ok(())
-        }
-        Line::Node(_, node) => {
-            begun.listing.nodes.push(node)?;
-            Ok(())
-        }
-        Line::State(_, node) => {
-            begun.listing.states.push(node)?;
-            Ok(())
-        }
-        Line::End => {
-            begun.ended = true;
-            Ok(())
-        }
+        Line::Head => begun.stage = Stage::Going,
+        Line::Input(name) => begun.listing.inputs.push(name)?,
+        Line::Cell(name) => begun.listing.cells.push(name)?,
+        Line::Output(name) => begun.listing.outputs.push(name)?,
+        Line::Window(window) => begun.listing.windows.push(window)?,
+        Line::Node(_, node) => begun.listing.nodes.push(node)?,
+        Line::State(_, node) => begun.listing.states.push(node)?,
+        Line::End => begun.stage = Stage::Done,
     }
+    Ok(())
 }
 
 /// The name that a line declares.
@@ -154,18 +176,24 @@ fn declared_name(line: &Line) -> Option<Name>
     }
 }
 
-/// Adds the name that a line declares to those that were declared before.
-fn declare(names: &mut Names, text: &[u8], line: &Line) -> Result<(), Misread>
-    requires within { DeclaresWithin (length text.now) (line_tree line.now) }
+/// Adds the name that the line at this place declares to those that were declared before.
+fn declare(names: &mut Names, place: Left<'_>, line: &Line) -> Result<(), Misread>
+    requires within { DeclaresIn (left_place place) (line_tree line.now) }
     requires room { length names.old + 1 < 2 ^ 32 }
-    ensures new { OnOk result (are_new text.now names.old (line_tree line.now) ≡ true) }
+    ensures new { OnOk result
+        (are_new names.old (entries_in (left_place place.entry) (line_tree line.now)) ≡ true) }
     ensures added { OnOk result
-        (names.new ≡ names.old ++ map (declared_entry text.now) (declares (line_tree line.now))) }
-    ensures again { IfErr result (IsRepeated (are_new text.now names.old (line_tree line.now))) }
+        (names.new ≡ names.old ++ entries_in (left_place place.entry) (line_tree line.now)) }
+    ensures again { IfErr result
+        (IsRepeated (are_new names.old (entries_in (left_place place.entry) (line_tree line.now)))) }
 {
     match declared_name(line) {
         None => Ok(()),
-        Some(name) => declare_name(names, &text[name.start as usize..name.end as usize]),
+        Some(name) => {
+            let start = name.start - place.at;
+            let end = name.end - place.at;
+            declare_name(names, &place.bytes[start as usize..end as usize])
+        }
     }
 }
 
@@ -184,49 +212,34 @@ fn declare_name(names: &mut Names, text: &[u8]) -> Result<(), Misread>
     Ok(())
 }
 
-/// What is left after the head, where it is the first line.
-fn read_head(alloc: Global, left: Left<'_>) -> Result<Left<'_>, Misread>
-    ensures ok { IfOk result (λ later.
-        after_head (left_place left.entry) ≡ Some (left_place later)) }
-    ensures wrong { IfErr result (IsMisread (after_head (left_place left.entry))) }
-{
-    let Some((line, later)) = cut(left) else {
-        return Err(Misread::Form);
-    };
-    match read_line(alloc, line)? {
-        Line::Head => Ok(later),
-        _ => Err(Misread::Form),
-    }
-}
-
 /// Reads the next line, and answers what is left after it.
 fn next_line<'a>(
     alloc: Global,
-    text: &[u8],
     left: Left<'a>,
     begun: &mut Begun,
     names: &mut Names,
 ) -> Result<Left<'a>, Misread>
-    requires names { names.old ≡ names_so_far text.now (listing_tree begun.old.listing) }
     requires room { length names.old + 1 < 2 ^ 32 }
-    requires within { left.at + length left.bytes.now ≤ length text.now }
+    requires empty { progress_of begun.old ≡ fresh →
+        listing_tree begun.old.listing ≡ empty_listing }
+    ensures later { IfOk result (λ later. IfSome (cut (left_place left.entry)) (λ parts.
+        parts.1 ≡ left_place later)) }
     ensures ok { IfOk result (λ later.
-        next_line text.now (progress_of begun.old) (left_place left.entry)
-        ≡ Some (progress_of begun.new, left_place later)) }
-    ensures names { OnOk result
-        (names.new ≡ names_so_far text.now (listing_tree begun.new.listing)) }
-    ensures wrong { IfErr result
-        (IsMisread (next_line text.now (progress_of begun.old) (left_place left.entry))) }
+        next_line (state_of left.entry.at begun.old names.old) (left_place left.entry)
+        ≡ Some (state_of later.at begun.new names.new)) }
+    ensures begun { OnOk result (progress_of begun.new ≡ fresh → ⊥) }
+    ensures wrong { IfErr result (IsMisread
+        (next_line (state_of left.entry.at begun.old names.old) (left_place left.entry))) }
 {
     let Some((line, later)) = cut(left) else {
         return Err(Misread::Form);
     };
-    let line = read_line(alloc, line)?;
-    if begun.ended || !may_stand(&begun.listing, &line) {
+    let read = read_line(alloc, line)?;
+    if !may_come(begun, &read) {
         return Err(Misread::Form);
     }
-    declare(names, text, &line)?;
-    insert(begun, line)?;
+    declare(names, line, &read)?;
+    insert(begun, read)?;
     Ok(later)
 }
 
@@ -246,24 +259,21 @@ pub fn read_listing(alloc: Global, text: &[u8]) -> Result<Listing, ListingError>
     ensures ok { IfOk result (λ listing. IsListing text.now (listing_tree listing)) }
     ensures fault { IfErr result (HasListingFault text.now) }
 {
-    let mut left = match read_head(alloc, Left { at: 0, bytes: text }) {
-        Ok(later) => later,
-        Err(fault) => return Err(at_line(fault, 1)),
-    };
+    let mut left = start_of(text);
     let mut begun = Begun {
         listing: Listing::new(alloc),
-        ended: false,
+        stage: Stage::Fresh,
     };
     let mut names = Names::new(alloc);
-    let mut number = 2u32;
+    let mut number = 1u32;
     while has_bytes(left.bytes) {
-        left = match next_line(alloc, text, left, &mut begun, &mut names) {
+        left = match next_line(alloc, left, &mut begun, &mut names) {
             Ok(later) => later,
             Err(fault) => return Err(at_line(fault, number)),
         };
         number += 1;
     }
-    if begun.ended {
+    if is_done(&begun) {
         Ok(begun.listing)
     } else {
         Err(ListingError::Form(number))

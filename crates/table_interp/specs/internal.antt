@@ -1,4 +1,5 @@
 pub mod Resolving
 pub mod Texts
 pub mod Located
+pub mod Lacks
 pub mod Ordered

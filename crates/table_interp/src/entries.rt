@@ -24,6 +24,7 @@ ghost use Rattle.table_interp.specs.Tables.{
   HasEntryCause,
 };
 ghost use Rattle.table_syntax.specs.View.{entries_view, tables_view};
+ghost use Rattle.table_interp.specs.internal.Lacks.{lacks};
 ghost use Rattle.table_interp.specs.internal.Located.{located_tables, IsLocated, AreLocated, HasSmallTable, HasOneSmall};
 
 use crate::naming::{NameFault, entry_numbers};
@@ -137,41 +138,38 @@ fn too_large(given: &Located, id: u32) -> Option<u64>
     }
 }
 
-/// The first of these names that has no entry.
-fn first_missing(given: &Located, needed: &[u32]) -> Option<u32>
-    requires located { IsLocated given.now }
-    requires within { All (λ id. id < length given.now.names.now) needed.now }
-    ensures { result ≡ find (has_no_entry given.now.names.now (located_tables given.now)) needed.now }
-{
-    for id in needed {
-        if has_no_entry(given, *id) {
-            return Some(*id);
-        }
-    }
-    None
+/// What the entry of a needed name may be refused for, before its numbers are looked at.
+#[derive(Clone, Copy)]
+enum Lack {
+    /// There is none.
+    Entry,
+    /// It would have too many numbers.
+    Room,
+    /// It has not as many numbers as it needs.
+    Count,
 }
 
-/// The first of these names that needs too many numbers.
-fn first_with_many(given: &Located, needed: &[u32]) -> Option<u32>
-    requires { All (λ id. id < length given.now.names.now) needed.now }
-    ensures { result ≡ find (has_many_entries given.now.names.now (located_tables given.now)) needed.now }
+/// Whether the entry of a name is refused for this.
+fn lacks(given: &Located, lack: Lack, id: u32) -> bool
+    requires located { IsLocated given.now }
+    requires within { id < length given.now.names.now }
+    ensures { result ≡ lacks lack given.now.names.now (located_tables given.now) id }
 {
-    for id in needed {
-        if has_many_entries(given, *id) {
-            return Some(*id);
-        }
+    match lack {
+        Lack::Entry => has_no_entry(given, id),
+        Lack::Room => has_many_entries(given, id),
+        Lack::Count => has_other_length(given, id),
     }
-    None
 }
 
-/// The first of these names that has not as many numbers as it needs.
-fn first_miscounted(given: &Located, needed: &[u32]) -> Option<u32>
+/// The first of these names whose entry is refused for this.
+fn first_lacking(given: &Located, lack: Lack, needed: &[u32]) -> Option<u32>
     requires located { IsLocated given.now }
     requires within { All (λ id. id < length given.now.names.now) needed.now }
-    ensures { result ≡ find (has_other_length given.now.names.now (located_tables given.now)) needed.now }
+    ensures { result ≡ find (lacks lack given.now.names.now (located_tables given.now)) needed.now }
 {
     for id in needed {
-        if has_other_length(given, *id) {
+        if lacks(given, lack, *id) {
             return Some(*id);
         }
     }
@@ -240,13 +238,13 @@ fn check_entries(given: &Located, cells: &[u32], ids: &[u32]) -> Result<(), Tabl
     ensures ok { IfOk result (λ _. IsInRange given.now.names.now cells.now (located_tables given.now)) }
     ensures cause { IfErr result (HasEntryCause given.now.names.now cells.now (located_tables given.now)) }
 {
-    if let Some(id) = first_missing(given, ids) {
+    if let Some(id) = first_lacking(given, Lack::Entry, ids) {
         return Err(TableError::Missing(id));
     }
-    if let Some(id) = first_with_many(given, ids) {
+    if let Some(id) = first_lacking(given, Lack::Room, ids) {
         return Err(TableError::Entries(id));
     }
-    if let Some(id) = first_miscounted(given, ids) {
+    if let Some(id) = first_lacking(given, Lack::Count, ids) {
         return Err(TableError::Count(id));
     }
     if let Some((id, value)) = first_too_large(given, ids) {

@@ -35,6 +35,7 @@ use Rattle.std.proofs.lemmas.Bool.{and_parts, or_cases, false≢true, false_from
 use Rattle.std.proofs.lemmas.List.{append_cancel_left}
 use Rattle.std.specs.Str.{bytes_eq}
 use Rattle.std.proofs.lemmas.Slice.Eq.{bytes_eq-Decides}
+use Rattle.sequence.proofs.Options.{some_passes}
 use Rattle.tsl_terms.specs.declared.names.NameKind.TheVariants.{Signal, Function, Predicate}
 use Rattle.tsl_text.specs.Names.{is_name_start, is_name_byte, is_name_text, is_usable, is_reserved}
 use Rattle.tsl_terms.specs.Name.{Name, AreDistinct, is_name, question}
@@ -64,12 +65,6 @@ use Rattle.term_text.proofs.Fronts.{
   name_run,
   name_first,
 }
-
--- a test of an option that holds has a value there
-pub some_passes : {A : Type 0} (o : Option A) (test : A → Bool) → IsTrue (option_map_or test o false) →
-    (x : A) × (o ≡ Some x) × IsTrue (test x)
-some_passes None test h = absurd (cc)
-some_passes (Some x) test h = (x, refl, h)
 
 -- the name at a number that is usable
 pub record Usable (names : List Name) (id : ℕ) : Type 0 where

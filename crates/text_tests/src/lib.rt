@@ -1,11 +1,16 @@
-//! Tests of texts: tokens, places, lines and numbers, how terms are written, and bytes over memory.
+//! Tests of texts: tokens, places, lines and numbers, letters, how terms are written, and bytes over
+//! memory; and of planes of bits.
 #![tactic(auto)]
 
 #[cfg(test)]
 mod division;
 #[cfg(test)]
+mod letters;
+#[cfg(test)]
 mod memory;
 #[cfg(test)]
 mod pieces;
+#[cfg(test)]
+mod planes;
 #[cfg(test)]
 mod written;

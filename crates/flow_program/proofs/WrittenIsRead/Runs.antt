@@ -14,34 +14,40 @@ abbrev pub at : List ℕ → List ℕ → Place
 at front bytes = record { at = length front; bytes = bytes }
 
 -- after these bytes the pieces spell those, whatever follows
-abbrev pub Run : List Piece → List ℕ → List ℕ → Type 0
-Run pieces front spelled = (rest : List ℕ) → Stand pieces (at front (spelled ++ rest)) (at (front ++ spelled) rest)
+pub record Run (pieces : List Piece) (front spelled : List ℕ) : Type 0 where
+  pub stands : (rest : List ℕ) → Stand pieces (at front (spelled ++ rest)) (at (front ++ spelled) rest)
 
 -- a name that stands after these bytes
 abbrev pub name_at : List ℕ → List ℕ → Name
 name_at front name = record { start = length front; end = length (front ++ name) }
 
-pub run_none : (front : List ℕ) → Run [] front []
-run_none front rest = λ i. at (sym (append-nil front) i) rest
+pub no_run : {front : List ℕ} → Run [] front []
+no_run {front = front} = record { stands = λ rest i. at (sym (append-nil front) i) rest }
 
-pub run_word : (w front : List ℕ) → Run (word w ∷ []) front w
-run_word w front rest = (rest, refl, λ i. record { at = sym (length-append front w) i; bytes = rest })
+pub a_word : (w : List ℕ) {front : List ℕ} → Run (word w ∷ []) front w
+a_word w {front = front} =
+    record { stands = λ rest. (rest, refl, λ i. record { at = sym (length-append front w) i; bytes = rest }) }
 
-pub run_name : (name front : List ℕ) → is_usable name ≡ true → Run (named (name_at front name) ∷ []) front name
-run_name name front usable rest = (
-  name,
-  rest,
-  refl,
-  usable,
-  λ i. record { start = length front; end = length-append front name i },
-  λ i. record { at = sym (length-append front name) i; bytes = rest },
-)
+pub a_name : (name : List ℕ) {front : List ℕ} → is_usable name ≡ true → Run (named (name_at front name) ∷ []) front name
+a_name name {front = front} usable = record {
+  stands = λ rest. (
+    name,
+    rest,
+    refl,
+    usable,
+    λ i. record { start = length front; end = length-append front name i },
+    λ i. record { at = sym (length-append front name) i; bytes = rest },
+  );
+}
 
-pub run_append : (xs ys : List Piece) (front a b : List ℕ) → Run xs front a → Run ys (front ++ a) b → Run (xs ++ ys) front (a ++ b)
-run_append xs ys front a b h k rest =
-    subst (λ bytes. Stand (xs ++ ys) (at front bytes) (at (front ++ (a ++ b)) rest)) (sym (append_assoc a b rest))
-    (subst (λ before. Stand (xs ++ ys) (at front (a ++ (b ++ rest))) (at before rest)) (append_assoc front a b)
-    (stand_append xs ys (at front (a ++ (b ++ rest))) (at (front ++ a) (b ++ rest)) (at ((front ++ a) ++ b) rest) (h (b ++ rest)) (k rest)))
+pub joined : {xs ys : List Piece} {front a b : List ℕ} → Run xs front a → Run ys (front ++ a) b → Run (xs ++ ys) front (a ++ b)
+joined {xs = xs} {ys = ys} {front = front} {a = a} {b = b} h k = record {
+  stands = λ rest.
+      subst (λ bytes. Stand (xs ++ ys) (at front bytes) (at (front ++ (a ++ b)) rest)) (sym (append_assoc a b rest))
+      (subst (λ before. Stand (xs ++ ys) (at front (a ++ (b ++ rest))) (at before rest)) (append_assoc front a b)
+      (stand_append xs ys (at front (a ++ (b ++ rest))) (at (front ++ a) (b ++ rest)) (at ((front ++ a) ++ b) rest) (h.stands (b ++ rest))
+      (k.stands rest)));
+}
 
 -- the bytes stand after these in the text
 abbrev pub Occurs : List ℕ → List ℕ → List ℕ → Type 0

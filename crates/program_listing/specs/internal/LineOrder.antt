@@ -1,6 +1,7 @@
 -- Internal: which line may stand after those that were read, as a function that computes.
-use Rattle.std.specs.Prelude.{◌≡◌, ℕ, ◌+◌, ◌≤◌, nat_lt, Bool, true, false, not, ◌&&◌, ◌==◌, List, [], ◌∷◌, ◌++◌, length, map, take, Option}
-use Rattle.std.specs.Prelude.{Some, None, is_none, option_and_then, if◌then◌else◌}
+use Rattle.std.specs.Prelude.{◌≡◌, ℕ, ◌+◌, ◌-◌, ◌≤◌, nat_lt, Bool, true, false, not, ◌&&◌, ◌==◌, List, [], ◌∷◌, ◌++◌, length, map, take}
+use Rattle.std.specs.Prelude.{drop, Option}
+use Rattle.std.specs.Prelude.{Some, None, is_none, option_map, option_and_then, if◌then◌else◌}
 use Rattle.std.specs.List.{list_all, prefix_len, AllByRecursion}
 use Rattle.tsl_text.specs.Lines.{is_line_byte}
 use Rattle.tsl_terms.specs.Name.{number_of, Name as NameEntry}
@@ -10,7 +11,9 @@ use Rattle.program_listing.specs.declared.listing.Name.{Name}
 use Rattle.program_listing.specs.declared.listing.ListingError.{ListingError}
 use Rattle.program_listing.specs.declared.listing.ListingError.TheVariants.{Form as FormAt, NoMemory as Exhausted}
 use Rattle.program_listing.specs.declared.listing_reader.Begun.{Begun}
-use Rattle.program_listing.specs.Listing.{name_bytes, declared_entry, declared}
+use Rattle.program_listing.specs.declared.listing_reader.Stage.{Stage}
+use Rattle.program_listing.specs.declared.listing_reader.Stage.TheVariants.{Fresh, Going, Done}
+use Rattle.tsl_terms.specs.declared.names.NameKind.TheVariants.{Signal}
 use Rattle.program_listing.specs.ListingTree.{ListingTree, listing_tree, empty_listing}
 use Rattle.program_listing.specs.LineText.{Place, LineTree, head_line, input, cell, output, window, node, state, end_line}
 use Rattle.program_listing.specs.internal.LineReading.{skipped, read_line}
@@ -78,13 +81,29 @@ abbrev pub add_all : List LineTree → Progress → Option Progress
 add_all [] p = Some p
 add_all (line ∷ lines) p = option_and_then (add_all lines) (add p line)
 
--- ---- the next line of a text
-
 -- the listing so far
 abbrev pub listing_of : Progress → ListingTree
 listing_of fresh = empty_listing
 listing_of (going l) = l
 listing_of (done l) = l
+
+-- ---- reading line by line
+
+-- where the next line begins, the names that are declared, and what the lines so far say
+pub record ListingState : Type 0 where
+  pub at : ℕ
+  pub names : List NameEntry
+  pub progress : Progress
+
+abbrev pub start : ListingState
+start = record { at = 0; names = []; progress = fresh }
+
+abbrev pub is_done : Progress → Bool
+is_done (done l) = true
+is_done _ = false
+
+abbrev pub whole : ListingState → Bool
+whole s = is_done s.progress
 
 -- the names that a line declares
 abbrev pub declares : LineTree → List Name
@@ -93,13 +112,35 @@ declares (cell n) = n ∷ []
 declares (output n) = n ∷ []
 declares _ = []
 
--- the names that were declared
-abbrev pub names_so_far : List ℕ → ListingTree → List NameEntry
-names_so_far text l = map (declared_entry text) (declared l)
+-- a name that stands in the line at this place, with its bytes
+abbrev pub entry_in : Place → Name → NameEntry
+entry_in p n =
+    record { text = take ((n.end - p.at) - (n.start - p.at)) (drop (n.start - p.at) p.bytes); kind = Signal; arity = 0 }
 
--- no name that a line declares is among these
-abbrev pub are_new : List ℕ → List NameEntry → LineTree → Bool
-are_new text names line = list_all (λ n. is_none (number_of names (name_bytes text n))) (declares line)
+abbrev pub entries_in : Place → LineTree → List NameEntry
+entries_in p line = map (entry_in p) (declares line)
+
+-- none of the later names is among these
+abbrev pub are_new : List NameEntry → List NameEntry → Bool
+are_new names later = list_all (λ n. is_none (number_of names n.text)) later
+
+-- the line at this place, where it may stand next and declares no name again
+abbrev pub checked : ListingState → Place → LineTree → Option Progress
+checked s p line = if are_new s.names (entries_in p line) then add s.progress line else None
+
+abbrev pub state_after : ListingState → Place → LineTree → Progress → ListingState
+state_after s p line progress =
+    record { at = p.at + (length p.bytes + 1); names = s.names ++ entries_in p line; progress = progress }
+
+abbrev pub with_line : ListingState → Place → LineTree → Option ListingState
+with_line s p line = option_map (state_after s p line) (checked s p line)
+
+abbrev pub step_at : ListingState → Place → Option ListingState
+step_at s p = option_and_then (with_line s p) (read_line p)
+
+-- what the lines say with one more
+abbrev pub step : ListingState → List ℕ → Option ListingState
+step s bytes = step_at s (record { at = s.at; bytes = bytes })
 
 -- the first line that is left, without its line feed, and what is left after it
 abbrev pub cut_at : ℕ → Place → Option (Place × Place)
@@ -109,53 +150,37 @@ cut_at len p =
 abbrev pub cut : Place → Option (Place × Place)
 cut p = cut_at (prefix_len is_line_byte p.bytes) p
 
-abbrev pub and_place : Option Progress → Place → Option (Progress × Place)
-and_place None p = None
-and_place (Some progress) p = Some (progress, p)
+abbrev pub after_cut : ListingState → Option (Place × Place) → Option ListingState
+after_cut s None = None
+after_cut s (Some (line, later)) = step_at s line
 
--- the line, where it may stand next and declares no name again
-abbrev pub checked : List ℕ → Progress → LineTree → Option Progress
-checked text progress line =
-    if are_new text (names_so_far text (listing_of progress)) line then add progress line else None
+-- what the lines say with the one that is left first
+abbrev pub next_line : ListingState → Place → Option ListingState
+next_line s p = after_cut s (cut p)
 
-abbrev pub with_line : List ℕ → Progress → Option LineTree → Place → Option (Progress × Place)
-with_line text progress None later = None
-with_line text progress (Some line) later = and_place (checked text progress line) later
-
-abbrev pub after_cut : List ℕ → Progress → Option (Place × Place) → Option (Progress × Place)
-after_cut text progress None = None
-after_cut text progress (Some (line, later)) = with_line text progress (read_line line) later
-
--- what the lines say with the next one, and the place after it
-abbrev pub next_line : List ℕ → Progress → Place → Option (Progress × Place)
-next_line text progress p = after_cut text progress (cut p)
+-- what the code has read, where this is left
+abbrev pub stage_progress : Stage → ListingTree → Progress
+stage_progress Fresh l = fresh
+stage_progress Going l = going l
+stage_progress Done l = done l
 
 abbrev pub progress_of : Begun → Progress
-progress_of begun = if begun.ended then done (listing_tree begun.listing) else going (listing_tree begun.listing)
+progress_of begun = stage_progress begun.stage (listing_tree begun.listing)
 
--- a name that the line declares lies within so many bytes
-abbrev pub LiesWithin : ℕ → Name → Type 0
-LiesWithin len n = (n.start ≤ n.end) × (n.end ≤ len)
+abbrev pub state_of : ℕ → Begun → List NameEntry → ListingState
+state_of at begun names = record { at = at; names = names; progress = progress_of begun }
 
-abbrev pub DeclaresWithin : ℕ → LineTree → Type 0
-DeclaresWithin len line = AllByRecursion (LiesWithin len) (declares line)
+-- a name lies in the line at this place
+abbrev pub LiesIn : Place → Name → Type 0
+LiesIn p n = (p.at ≤ n.start) × (n.start ≤ n.end) × (n.end ≤ p.at + length p.bytes)
+
+abbrev pub DeclaresIn : Place → LineTree → Type 0
+DeclaresIn p line = AllByRecursion (LiesIn p) (declares line)
 
 -- a name is declared again, unless memory ran out
 abbrev pub IsRepeated : Bool → Misread → Type 0
 IsRepeated new Form = new ≡ false
 IsRepeated new NoMemory = Unit {0}
-
--- the place after the head, where the first line is it
-abbrev pub head_at : Option LineTree → Place → Option Place
-head_at (Some head_line) later = Some later
-head_at _ later = None
-
-abbrev pub head_after : Option (Place × Place) → Option Place
-head_after None = None
-head_after (Some (line, later)) = head_at (read_line line) later
-
-abbrev pub after_head : Place → Option Place
-after_head p = head_after (cut p)
 
 -- the error of a line that is at fault
 abbrev pub error_at : Misread → ℕ → ListingError

@@ -32,6 +32,7 @@ use Rattle.tsl_text.specs.Names.{is_name_start, is_name_byte, is_usable}
 use Rattle.tsl_text.specs.Lines.{has_bytes, is_space}
 use Rattle.tsl_text.specs.Numbers.{plain_number_in}
 use Rattle.tsl_terms.specs.WellFormed.{deepest}
+use Rattle.line_formats.specs.Format.{strip}
 use Rattle.program_listing.specs.declared.left.Left.{Left}
 use Rattle.program_listing.specs.declared.left.Misread.{Misread}
 use Rattle.program_listing.specs.declared.left.Misread.TheVariants.{Form, NoMemory}
@@ -76,12 +77,6 @@ abbrev pub IsUnread : {V : Type 0} → LineReader V → Left → Misread → Typ
 IsUnread reader left = IsMisread (reader (left_place left))
 
 -- ---- readers of others
-
--- the bytes after these, where they stand at the front
-abbrev pub strip : List ℕ → List ℕ → Option (List ℕ)
-strip [] bytes = Some bytes
-strip (w ∷ ws) [] = None
-strip (w ∷ ws) (b ∷ bs) = if w == b then strip ws bs else None
 
 abbrev pub skipped : ℕ → Place → Place
 skipped len p = record { at = p.at + len; bytes = drop len p.bytes }

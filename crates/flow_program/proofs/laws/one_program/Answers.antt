@@ -1,5 +1,5 @@
-use Rattle.flow_program.proofs.SpelledOnce.OneProgram.{one_program}
+use Rattle.flow_program.proofs.ReadingLaws.{one_program}
 use Rattle.flow_program.proofs.laws.one_program.Goals as goal
 
 pub returns : goal.returns
-returns c = λ names bytes p q distinct h k. one_program names distinct bytes p q h k
+returns c = one_program

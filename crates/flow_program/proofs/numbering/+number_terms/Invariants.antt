@@ -3,7 +3,8 @@ use Rattle.std.proofs.Common.{◌≡◌, ◌≤◌, map}
 use Rattle.std.specs.Prelude.{IsTrue}
 use Rattle.tsl_terms.specs.TermTree.{term_tree}
 use Rattle.program_listing.specs.declared.listing.PhraseList.{size-PhraseList}
-use Rattle.program_listing.specs.Listing.{phrase_trees, phrases_stand}
+use Rattle.program_listing.specs.Listing.{phrase_trees}
+use Rattle.program_listing.specs.internal.NamesStand.{phrases_stand}
 use Rattle.flow_program.specs.internal.Numbering.{numbered_terms}
 use Rattle.flow_program.proofs.NumberLemmas.{numbered_front}
 use Rattle.flow_program.proofs.numbering.+number_terms.Given as goal

@@ -1,4 +1,4 @@
-use Rattle.sequence.proofs.Gathered.{each_image_there_within, gathered_more, gathered_all, gathered_first}
+use Rattle.sequence.proofs.Gathered.{each_image_there_within}
 use Rattle.sequence.proofs.Passes.{map_passes_within}
 use Rattle.flow_program.proofs.numbering.numbered_all.Goals as goal
 

@@ -1,5 +1,5 @@
 use Rattle.sequence.proofs.Passes.{passes_within}
-use Rattle.program_listing.specs.Listing.{name_stands}
+use Rattle.program_listing.specs.internal.NamesStand.{name_stands}
 use Rattle.flow_program.specs.internal.Numbering.{numbered}
 use Rattle.sequence.proofs.Gathered.{each_there_within, copied_more}
 use Rattle.flow_program.proofs.numbering.numbers.Goals as goal

@@ -6,13 +6,27 @@ use Rattle.program_listing.specs.Listing.{listing_tree}
 use Rattle.flow_program.specs.Uses.{uses_of, names_after}
 use Rattle.flow_program.specs.Reading.{HasProgramCause}
 use Rattle.flow_program.specs.internal.UseView.{use_view}
-use Rattle.flow_program.proofs.Lengths.{uses_and_lines, names_within}
+use Rattle.program_listing.proofs.ListingFacts.{listing_stands}
+use Rattle.flow_program.proofs.Lengths.{names_within}
+use Rattle.flow_program.proofs.UsesStand.{uses_and_lines}
 use Rattle.flow_program.proofs.Composed.{at_a_line, at_a_use, at_a_limit, spells, names_may_be_written}
 use Rattle.flow_program.proofs.reading.program_of.Goals as goal
 
 pub declared_signals-requires-clause-lines : goal.declared_signals-requires-clause-lines
 declared_signals-requires-clause-lines c =
     omega (arith, uses_and_lines c.args.text.now (listing_tree c.args.listing.now) c.requires.listing, c.requires.room)
+
+pub declared_signals-requires-clause-stands : goal.declared_signals-requires-clause-stands
+declared_signals-requires-clause-stands c = listing_stands c.args.text.now (listing_tree c.args.listing.now) c.requires.listing
+
+pub line_fault-requires-clause-stands : goal.line_fault-requires-clause-stands
+line_fault-requires-clause-stands c = listing_stands c.args.text.now (listing_tree c.args.listing.now) c.requires.listing
+
+pub all_uses-requires-clause-stands : goal.all_uses-requires-clause-stands
+all_uses-requires-clause-stands c = listing_stands c.args.text.now (listing_tree c.args.listing.now) c.requires.listing
+
+pub numbered_program-requires-clause-stands : goal.numbered_program-requires-clause-stands
+numbered_program-requires-clause-stands c = listing_stands c.args.text.now (listing_tree c.args.listing.now) c.requires.listing
 
 pub line_fault-requires-clause-lines : goal.line_fault-requires-clause-lines
 line_fault-requires-clause-lines c =

@@ -3,7 +3,8 @@ use Rattle.std.specs.Prelude.{IsTrue}
 use Rattle.std.proofs.lemmas.Bool.{and_parts}
 use Rattle.std.proofs.lemmas.List.{length-map}
 use Rattle.sequence.proofs.Passes.{passes_within, map_passes_within}
-use Rattle.program_listing.specs.Listing.{name_bytes, name_stands, update_line, update_line_stands}
+use Rattle.program_listing.specs.Listing.{name_bytes, update_line}
+use Rattle.program_listing.specs.internal.NamesStand.{name_stands, update_line_stands}
 use Rattle.flow_program.proofs.RuleLemmas.{other_lengths}
 use Rattle.flow_program.proofs.rules.are_updates_of.Goals as goal
 

@@ -1,7 +1,8 @@
 use Rattle.std.proofs.Common.{◌+◌, ◌&&◌, map, drop, ap, sym, ◌∙◌, arith}
 use Rattle.sequence.proofs.Passes.{map_passes_within}
 use Rattle.tsl_terms.specs.Name.{texts}
-use Rattle.program_listing.specs.Listing.{listed_line, listed_line_stands}
+use Rattle.program_listing.specs.Listing.{listed_line}
+use Rattle.program_listing.specs.internal.NamesStand.{listed_line_stands}
 use Rattle.flow_program.specs.Rules.{listed_rise}
 use Rattle.flow_program.proofs.RuleLemmas.{rises_next, rises_last}
 use Rattle.flow_program.proofs.rules.stands_before_next.Goals as goal

@@ -1,7 +1,8 @@
 use Rattle.std.proofs.Common.{◌+◌, map, ap, sym, ◌∙◌}
 use Rattle.std.specs.Prelude.{option_map}
 use Rattle.sequence.proofs.Passes.{map_passes_within}
-use Rattle.program_listing.specs.Listing.{node_line, node_line_stands, name_bytes}
+use Rattle.program_listing.specs.Listing.{node_line, name_bytes}
+use Rattle.program_listing.specs.internal.NamesStand.{node_line_stands}
 use Rattle.flow_program.specs.Rules.{breaks_updates}
 use Rattle.flow_program.proofs.FirstPlaces.{place_here, place_later}
 use Rattle.flow_program.proofs.rules.updates_line.Goals as goal

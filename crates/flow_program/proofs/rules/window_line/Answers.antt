@@ -2,7 +2,8 @@ use Rattle.std.proofs.Common.{◌+◌, ap, sym, ◌∙◌}
 use Rattle.std.specs.Prelude.{option_map}
 use Rattle.sequence.proofs.Passes.{map_passes_within}
 use Rattle.tsl_terms.specs.Name.{texts}
-use Rattle.program_listing.specs.Listing.{window_line, window_line_stands}
+use Rattle.program_listing.specs.Listing.{window_line}
+use Rattle.program_listing.specs.internal.NamesStand.{window_line_stands}
 use Rattle.flow_program.specs.Rules.{breaks_window}
 use Rattle.flow_program.proofs.FirstPlaces.{place_here, place_later}
 use Rattle.flow_program.proofs.rules.window_line.Goals as goal

@@ -2,7 +2,8 @@
 use Rattle.std.proofs.Common.{◌≡◌, ◌<◌, ◌≤◌, ◌^◌, ◌++◌, length, map}
 use Rattle.std.specs.Prelude.{IsTrue}
 use Rattle.program_listing.specs.declared.listing.PhraseList.{size-PhraseList}
-use Rattle.program_listing.specs.Listing.{phrase_trees, phrases_stand}
+use Rattle.program_listing.specs.Listing.{phrase_trees}
+use Rattle.program_listing.specs.internal.NamesStand.{phrases_stand}
 use Rattle.flow_program.specs.Uses.{terms_uses}
 use Rattle.flow_program.specs.internal.UseView.{use_view}
 use Rattle.flow_program.proofs.uses.+term_uses.Given as goal

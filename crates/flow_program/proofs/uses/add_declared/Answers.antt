@@ -1,5 +1,5 @@
 use Rattle.sequence.proofs.Passes.{passes_within}
-use Rattle.program_listing.specs.Listing.{name_stands}
+use Rattle.program_listing.specs.internal.NamesStand.{name_stands}
 use Rattle.flow_program.proofs.uses.add_declared.Goals as goal
 
 pub signal_use-requires : goal.signal_use-requires

@@ -3,7 +3,7 @@ use Rattle.sequence.proofs.Passes.{list_all_weaker}
 use Rattle.tsl_terms.specs.TermTree.{term_tree}
 use Rattle.term_text.specs.TermText.{is_held, term_is_held}
 use Rattle.program_tree.specs.Writable.{signal_fits, term_is_writable}
-use Rattle.flow_program.proofs.SpelledOnce.Held.{signal_held, written_term_held}
+use Rattle.flow_program.proofs.Held.{signal_held, written_term_held}
 use Rattle.flow_program.proofs.writing.put_assignment.Goals as goal
 
 pub put_updates-requires-clause-signals : goal.put_updates-requires-clause-signals

@@ -1,4 +1,4 @@
-use Rattle.flow_program.proofs.SpelledOnce.Held.{written_probe_held}
+use Rattle.flow_program.proofs.Held.{written_probe_held}
 use Rattle.tsl_terms.specs.TermTree.{probe_tree}
 use Rattle.flow_program.proofs.writing.put_branch.Goals as goal
 

@@ -1,4 +1,4 @@
-use Rattle.flow_program.proofs.SpelledOnce.Held.{signal_held}
+use Rattle.flow_program.proofs.Held.{signal_held}
 use Rattle.flow_program.proofs.writing.put_declaration.Goals as goal
 
 -- what may be declared is held

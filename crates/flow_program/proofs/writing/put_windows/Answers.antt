@@ -5,7 +5,7 @@ use Rattle.tsl_terms.specs.WindowTree.{window_tree}
 use Rattle.tsl_terms.specs.declared.window.Window.{Window}
 use Rattle.term_text.specs.WindowText.{window_text}
 use Rattle.program_tree.specs.Writable.{window_is_writable}
-use Rattle.flow_program.proofs.SpelledOnce.Held.{window_held}
+use Rattle.flow_program.proofs.Held.{window_held}
 use Rattle.flow_program.proofs.writing.put_windows.Goals as goal
 
 pub put_window-requires : goal.put_window-requires

@@ -2,7 +2,8 @@ use Rattle.std.proofs.Common.{sym}
 use Rattle.std.proofs.lemmas.Slice.Eq.{strip_prefix_is}
 use Rattle.std.specs.Prelude.{Some, None}
 use Rattle.program_listing.specs.internal.LineReading.{left_place}
-use Rattle.program_listing.proofs.Strips.{eqb_decides, after_found, after_none}
+use Rattle.line_formats.proofs.FormatLaws.{eqb_decides}
+use Rattle.program_listing.proofs.Strips.{after_found, after_none}
 use Rattle.program_listing.proofs.words.past.Goals as goal
 
 pub returns-in-Some : goal.returns-in-Some

@@ -1,0 +1,2 @@
+pub mod LetterLines
+pub mod LoopLaws

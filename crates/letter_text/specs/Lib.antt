@@ -1,0 +1,2 @@
+pub mod LetterText
+pub mod LoopView

@@ -1,0 +1,16 @@
+//! Loops of letters as texts. A letter says which of so many propositions are true, and after the
+//! last letter the loop goes on at an earlier one. A text has a line `letter` for each letter,
+//! followed by the numbers of its true propositions, rising, and at last a line `back` with the
+//! number of the letter that comes after the last one.
+//!
+//! `specs/LetterText.antt` has the formats of the lines and says which line may come next.
+#![tactic(auto)]
+
+mod laws;
+mod letter_loop;
+mod lines;
+mod reader;
+
+pub use laws::written_loops_are_read;
+pub use letter_loop::{Letter, LetterLoop, write_letters};
+pub use reader::read_letters;

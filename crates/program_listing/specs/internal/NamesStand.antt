@@ -1,0 +1,48 @@
+-- Internal: only private functions and proofs use these words.
+-- The names of a part of a listing lie in the text and may be names, and its terms nest at most 200 deep.
+use Rattle.std.specs.Prelude.{ℕ, Bool, true, ◌&&◌, nat_le, List, length, IsTrue}
+use Rattle.std.specs.List.{list_all}
+use Rattle.tsl_text.specs.Names.{is_usable}
+use Rattle.tsl_terms.specs.WellFormed.{deepest}
+use Rattle.program_listing.specs.declared.listing.Name.{Name}
+use Rattle.program_listing.specs.ListingTree.{PhraseTree, bare, applied, PhraseTrees, no_phrases, more_phrases, UpdateLine, ListedLine}
+use Rattle.program_listing.specs.ListingTree.{WindowLine, NodeLine}
+use Rattle.program_listing.specs.ListingTree.{branch_line, assignment_line, ListingTree}
+use Rattle.program_listing.specs.LineText.{phrase_brackets}
+use Rattle.program_listing.specs.Listing.{name_bytes, declared}
+
+-- a name stands in the text, and may be a name
+abbrev pub name_stands : List ℕ → Name → Bool
+name_stands text name = (nat_le name.start name.end && nat_le name.end (length text)) && is_usable (name_bytes text name)
+
+abbrev mutual
+  pub phrase_stands : List ℕ → PhraseTree → Bool
+  phrase_stands text (bare name) = name_stands text name
+  phrase_stands text (applied name arguments) = name_stands text name && phrases_stand text arguments
+
+  pub phrases_stand : List ℕ → PhraseTrees → Bool
+  phrases_stand text no_phrases = true
+  phrases_stand text (more_phrases p ps) = phrase_stands text p && phrases_stand text ps
+
+-- the names of a phrase stand in the text, and its brackets nest at most 200 deep
+abbrev pub is_phrase : List ℕ → PhraseTree → Bool
+is_phrase text p = phrase_stands text p && nat_le (phrase_brackets p) deepest
+
+abbrev pub update_line_stands : List ℕ → UpdateLine → Bool
+update_line_stands text u = name_stands text u.signal && is_phrase text u.term
+
+abbrev pub listed_line_stands : List ℕ → ListedLine → Bool
+listed_line_stands text u = name_stands text u.signal && is_phrase text u.term
+
+abbrev pub window_line_stands : List ℕ → WindowLine → Bool
+window_line_stands text w = (is_phrase text w.left && is_phrase text w.right) && list_all (listed_line_stands text) w.updates
+
+abbrev pub node_line_stands : List ℕ → NodeLine → Bool
+node_line_stands text (branch_line test then_node else_node) = is_phrase text test
+node_line_stands text (assignment_line updates go) = list_all (update_line_stands text) updates
+
+-- the names of all lines stand
+pub record ListingStands (text : List ℕ) (l : ListingTree) : Type 0 where
+  pub declared_stand : IsTrue (list_all (name_stands text) (declared l))
+  pub windows_stand : IsTrue (list_all (window_line_stands text) l.windows)
+  pub nodes_stand : IsTrue (list_all (node_line_stands text) l.nodes)
