@@ -5,9 +5,11 @@ use Rattle.tsl_terms.specs.TermTree.{signal, no_terms}
 use Rattle.cobuchi_automata.specs.Automata.{EdgeTree}
 use Rattle.clause_core.specs.Clauses.{meets_all}
 use Rattle.bounded_encoding.specs.Question.{QuestionTree}
-use Rattle.bounded_encoding.specs.Variables.{chooses, goes_to, is_numbered, index_of, variable_count, yes_at, no_at}
-use Rattle.bounded_encoding.specs.Encoding.{met_valuations, encoding}
-use Rattle.bounded_encoding.specs.Decoding.{controller_read, numbers_read, number_read}
+use Rattle.bounded_encoding.specs.SimpleClauses.{yes_at, no_at}
+use Rattle.bounded_encoding.specs.Variables.{chooses, goes_to, is_numbered, index_of, variable_count}
+use Rattle.bounded_encoding.specs.Encoding.{met_valuations, encoding, controller_frame}
+use Rattle.bounded_encoding.specs.Decoding.{controller_read, number_read}
+use Rattle.bounded_encoding.specs.Reading.{numbers_of}
 
 -- a loop that is rejecting, along the first choice
 abbrev along_first : EdgeTree
@@ -74,7 +76,7 @@ no_second_state : number_read (question 1) second_choice 1 0 ≡ None
 no_second_state = refl
 
 -- no variable is true: the first choice, and no number
-nothing_true : numbers_read (question 1) (λ n. false) ≡ None ∷ []
+nothing_true : numbers_of (controller_frame (question 1)) (λ n. false) ≡ None ∷ []
 nothing_true = refl
 
 -- two predicate terms before the choices, at bits 0 and 1

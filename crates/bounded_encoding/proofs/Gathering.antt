@@ -1,18 +1,14 @@
 -- Loops that gather the members of a range that pass a test.
 use Rattle.std.proofs.Common.{◌≡◌, ◌∙◌, ◌<◌, ◌≤◌, ◌+◌, ℕ, List, [], ◌∷◌, ◌++◌, map, filter, refl, sym, ap, append_assoc, append-nil, arith, Bool, true, false, cond}
-use Rattle.std.proofs.Common.{◌*◌, ◌^◌, ◌%◌, not, nat_lt, length, zero, suc, All}
+use Rattle.std.proofs.Common.{◌^◌, ◌%◌, nat_lt, length, zero, suc}
 use Rattle.std.specs.List.{range_with_len, AllByRecursion}
-use Rattle.std.proofs.lemmas.List.Elements.{All-from_recursion}
 use Rattle.letter_space.specs.SpaceTree.{bit_count}
 use Rattle.bounded_encoding.specs.Question.{QuestionTree}
 use Rattle.std.specs.Prelude.{nat_le}
-use Rattle.clause_core.specs.Literals.{Lit}
-use Rattle.ltl_formula.specs.Cubes.{has_bit, cube_matches}
+use Rattle.ltl_formula.specs.Cubes.{cube_matches}
 use Rattle.cobuchi_automata.specs.Automata.{EdgeTree}
-use Rattle.bounded_encoding.specs.Variables.{valuations_of, choices_in_all}
-use Rattle.bounded_encoding.specs.Encoding.{asked_literal, meeting, met_valuations}
-use Rattle.bounded_encoding.specs.declared.asking.Question.{Question}
-use Rattle.bounded_encoding.specs.internal.Asking.{tree_of, IsCounted}
+use Rattle.bounded_encoding.specs.Variables.{valuations_of}
+use Rattle.bounded_encoding.specs.Encoding.{meeting, met_valuations}
 use Rattle.bounded_encoding.specs.ClauseLists.{between}
 use Rattle.bounded_encoding.proofs.Between.{between_more, between_none}
 
@@ -42,13 +38,6 @@ not_reached bits p q n h up low =
     let b : nat_le p n ≡ false = grind (arith, up, low) in
     a ∙ sym b
 
--- the literal of a choice that an edge asks for
-pub asked_is : (q : Question) → IsCounted q → (e : EdgeTree) (s v b base : ℕ) (l : Lit) (wants : Bool)
-    → base ≡ (s * valuations_of (tree_of q) + v) * choices_in_all (tree_of q) → wants ≡ has_bit (q.predicates + b) e.want
-    → l ≡ record { index = base + b; positive = not wants } → l ≡ asked_literal (tree_of q) e s v b
-asked_is q h e s v b base l wants starts want is =
-    is ∙ (λ i. record { index = starts i + b; positive = not ((want ∙ ap (λ (n : ℕ). has_bit (n + b) e.want) h.predicates) i) })
-
 -- what is gathered of the numbers below another is below it
 pub below_filtered : (n : ℕ) (t : ℕ → Bool) (a k : ℕ) → a + k ≤ n → AllByRecursion (λ v. v < n) (filter t (range_with_len a k))
 below_filtered n t a zero h = tt
@@ -69,7 +58,3 @@ met_below q e = by_test (nat_le (2 ^ bit_count q.space) e.want)
     by_test false = below_filtered (valuations_of q)
         (cube_matches (e.care % 2 ^ length q.space.predicates) (e.want % 2 ^ length q.space.predicates))
         0 (valuations_of q) (omega arith)
-
-pub all_met_below : (q : Question) → IsCounted q → (e : EdgeTree) → All (λ v. v < q.valuations) (met_valuations (tree_of q) e)
-all_met_below q h e = rw h.valuations
-    (All-from_recursion (λ v. v < valuations_of (tree_of q)) (met_valuations (tree_of q) e) (met_below (tree_of q) e))

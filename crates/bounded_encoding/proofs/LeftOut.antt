@@ -1,5 +1,5 @@
 -- Which clauses are left out, and how many are kept.
-use Rattle.std.proofs.Common.{◌≡◌, ◌≢◌, ◌<◌, ◌≤◌, ◌+◌, ◌-◌, ◌*◌, ℕ, zero, suc, List, [], ◌∷◌, ◌++◌, length, refl, sym, ap, subst, arith, ◌∙◌, true, false, cond, length-append, inl, inr, ◌⊎◌}
+use Rattle.std.proofs.Common.{◌≡◌, ◌≢◌, ◌<◌, ◌≤◌, ◌+◌, ◌-◌, ◌*◌, ℕ, zero, suc, List, [], ◌∷◌, ◌++◌, length, refl, sym, ap, subst, arith, ◌∙◌, true, false, length-append, inl, inr, ◌⊎◌}
 use Rattle.std.specs.Prelude.{nat_le}
 use Rattle.std.specs.List.{flat_map, range_with_len}
 use Rattle.std.proofs.lemmas.Bool.{true≢false, false≢true, or_cases, or_left, or_right, false_from_ne_true}
@@ -10,9 +10,12 @@ use Rattle.cobuchi_automata.specs.Automata.{EdgeTree}
 use Rattle.annotation_check.specs.Annotations.{after_edge}
 use Rattle.bounded_encoding.specs.Question.{QuestionTree}
 use Rattle.bounded_encoding.specs.ClauseLists.{kept, each}
-use Rattle.bounded_encoding.specs.Variables.{is_numbered, goes_to, index_of, yes_at, no_at, yes, no}
-use Rattle.bounded_encoding.specs.Encoding.{transition_clause, transitions_to, transitions_under, transitions_along, asked_of_choices, numbered_after, met_valuations}
-use Rattle.bounded_encoding.specs.Encoding.{choice_clauses, next_clauses, start_clauses, number_clauses, transition_clauses, encoding, falling, numbers_at, numbers_in}
+use Rattle.bounded_encoding.specs.SimpleClauses.{yes_at, no_at, falling}
+use Rattle.bounded_encoding.specs.Grids.{cell_index, falling_in_row}
+use Rattle.bounded_encoding.specs.Frames.{FrameTree, next_at, number_at, number_grid}
+use Rattle.bounded_encoding.specs.Sides.{SideTree, differing, numbered, clause_along, clauses_to, clauses_under, clauses_along, clauses_of_nexts}
+use Rattle.bounded_encoding.specs.Sides.{clauses_of_start, clauses_of_numbers, clauses_of_edges, clauses_of_side}
+use Rattle.bounded_encoding.specs.Encoding.{choice_clauses, controller_side, encoding}
 use Rattle.bounded_encoding.specs.Made.{Made, with_clauses}
 use Rattle.bounded_encoding.proofs.Adding.{kept_both, with_none}
 
@@ -39,55 +42,42 @@ none_kept_list f h [] = refl
 none_kept_list f h (x ∷ xs) = kept_both (f x) (flat_map f xs) ∙ rw (h x, none_kept_list f h xs) refl
 
 -- from a pair to itself by an edge that is not rejecting, nothing is kept
-after_itself : (e : EdgeTree) (i bound : ℕ) (rest : List Lit) (l : Lit) → e.rejecting ≡ false → i < bound + 1
-    → has (cond (nat_le (after_edge i e) bound) (l ∷ []) rest) l ≡ true
-after_itself e i bound rest l still low =
-    let here : after_edge i e ≡ i = rw still (omega arith) in
-    let within : nat_le (after_edge i e) bound ≡ true = rw here (grind (arith, low)) in
-    rw within (or_left (same l l) false (same_from l l refl))
+module _ (f : FrameTree) (unless : List Lit) (e : EdgeTree) (s r : ℕ) (same_state : e.from ≡ e.to) (still : e.rejecting ≡ false) where
+  module _ (i : ℕ) (low : i < f.bound + 1) where
+    abbrev x : ℕ
+    x = number_at f s e.from i
 
-pub stays_left_out : (q : QuestionTree) (e : EdgeTree) (s v i : ℕ) → e.from ≡ e.to → e.rejecting ≡ false → i < q.bound + 1
-    → kept (transition_clause q s e v s i ∷ []) ≡ []
-stays_left_out q e s v i same_state still low =
-    left_out (transition_clause q s e v s i) (no q (is_numbered s e.from i)) first last
-  where
-    clause : List Lit
-    clause = transition_clause q s e v s i
+    abbrev after : List Lit
+    after = numbered f s e.to (after_edge i e)
 
-    first : has (transition_clause q s e v s i) (no q (is_numbered s e.from i)) ≡ true
-    first = or_left (same (no q (is_numbered s e.from i)) (no q (is_numbered s e.from i)))
-        (has (no q (goes_to s v s) ∷ (asked_of_choices q e s v ++ numbered_after q e s i)) (no q (is_numbered s e.from i)))
-        (same_from (no q (is_numbered s e.from i)) (no q (is_numbered s e.from i)) refl)
+    after_is : has after (yes_at x) ≡ true
+    after_is =
+        let here : after_edge i e ≡ i = rw still (omega arith) in
+        let within : nat_le (after_edge i e) f.bound ≡ true = rw here (grind (arith, low)) in
+        let there : yes_at (number_at f s e.to (after_edge i e)) ≡ yes_at x
+        = (λ k. yes_at (number_at f s (sym same_state k) (here k))) in
+        rw within (or_left (same (yes_at (number_at f s e.to (after_edge i e))) (yes_at x)) false
+        (same_from (yes_at (number_at f s e.to (after_edge i e))) (yes_at x) there))
 
-    there : yes q (is_numbered s e.to (after_edge i e)) ≡ yes q (is_numbered s e.from i)
-    there = rw (same_state, still) (ap (λ (n : ℕ). yes q (is_numbered s e.to n)) (omega arith))
+    stays_left_out : kept (clause_along f unless s e r s i ∷ []) ≡ []
+    stays_left_out = left_out (clause_along f unless s e r s i) (no_at x)
+        (or_left (same (no_at x) (no_at x)) (has (no_at (next_at f s r s) ∷ (unless ++ after)) (no_at x)) (same_from (no_at x) (no_at x) refl))
+        (or_right (same (no_at x) (yes_at x)) (has (no_at (next_at f s r s) ∷ (unless ++ after)) (yes_at x))
+        (or_right (same (no_at (next_at f s r s)) (yes_at x)) (has (unless ++ after) (yes_at x))
+        (has-append unless after (yes_at x) ∙ or_right (has unless (yes_at x)) (has after (yes_at x)) after_is)))
 
-    after : has (numbered_after q e s i) (yes q (is_numbered s e.from i)) ≡ true
-    after = subst (λ (l : Lit). has (numbered_after q e s i) l ≡ true) there
-        (after_itself e i q.bound [] (yes q (is_numbered s e.to (after_edge i e))) still low)
+  pub nothing_stays : (t : ℕ) → s ≡ t → kept (clauses_to f unless s e r t) ≡ []
+  nothing_stays t same_place =
+      subst (λ (x : ℕ). kept (clauses_to f unless s e r x) ≡ []) same_place
+      (none_kept_each (λ i. clause_along f unless s e r s i ∷ []) 0 (f.bound + 1) (λ i l m. stays_left_out i m))
 
-    later : has (asked_of_choices q e s v ++ numbered_after q e s i) (yes q (is_numbered s e.from i)) ≡ true
-    later = has-append (asked_of_choices q e s v) (numbered_after q e s i) (yes q (is_numbered s e.from i))
-        ∙ or_right (has (asked_of_choices q e s v) (yes q (is_numbered s e.from i)))
-        (has (numbered_after q e s i) (yes q (is_numbered s e.from i))) after
-
-    last : has (transition_clause q s e v s i) (yes q (is_numbered s e.from i)) ≡ true
-    last = or_right (same (no q (is_numbered s e.from i)) (yes q (is_numbered s e.from i)))
-        (has (no q (goes_to s v s) ∷ (asked_of_choices q e s v ++ numbered_after q e s i)) (yes q (is_numbered s e.from i)))
-        (or_right (same (no q (goes_to s v s)) (yes q (is_numbered s e.from i)))
-        (has (asked_of_choices q e s v ++ numbered_after q e s i) (yes q (is_numbered s e.from i))) later)
-
-pub nothing_stays : (q : QuestionTree) (e : EdgeTree) (s v t : ℕ) → s ≡ t → e.from ≡ e.to → e.rejecting ≡ false
-    → kept (transitions_to q s e v t) ≡ []
-nothing_stays q e s v t same_place same_state still =
-    subst (λ (x : ℕ). kept (transitions_to q s e v x) ≡ []) same_place
-    (none_kept_each (λ i. transition_clause q s e v s i ∷ []) 0 (q.bound + 1) (λ i l m. stays_left_out q e s v i same_state still m))
-
-pub nothing_in_one_state : (q : QuestionTree) (e : EdgeTree) (s : ℕ) → q.states ≡ 1 → s ≡ 0 → e.from ≡ e.to → e.rejecting ≡ false
-    → kept (transitions_along q s e) ≡ []
-nothing_in_one_state q e s single start same_state still =
-    none_kept_list (transitions_under q s e) (λ v. none_kept_each (transitions_to q s e v) 0 q.states
-    (λ t l m. nothing_stays q e s v t (omega (arith, single, start, m)) same_state still)) (met_valuations q e)
+pub nothing_in_one_state : (z : SideTree) (e : EdgeTree) (s : ℕ) → z.frame.states ≡ 1 → s ≡ 0 → e.from ≡ e.to → e.rejecting ≡ false
+    → kept (clauses_along z s e) ≡ []
+nothing_in_one_state z e s single start same_state still =
+    none_kept_list (clauses_under z s e) (λ r.
+    none_kept_each (clauses_to z.frame (differing (z.base s r) z.frame.first_bit z.frame.bits e) s e r) 0 z.frame.states (λ t l m.
+    nothing_stays z.frame (differing (z.base s r) z.frame.first_bit z.frame.bits e) e s r same_state still t
+    (omega (arith, single, start, m)))) (z.met e)
 
 -- nothing that is kept adds nothing
 pub with_nothing : (m : Made) (xs : List (List Lit)) → kept xs ≡ [] → with_clauses m xs ≡ m
@@ -139,26 +129,31 @@ falling_kept at bound one =
     rw count (kept_range (λ i. (no_at (at i) ∷ yes_at (at (i - 1)) ∷ []) ∷ []) 1 1 bound
     (λ i l m. implies_kept (at i) (at (i - 1)) (λ e. absurd (omega (arith, one i (i - 1) e, l)))) ∙ omega arith)
 
-pub numbers_kept : (q : QuestionTree) → length (kept (number_clauses q)) ≡ q.states * q.automaton_states * q.bound
-numbers_kept q =
-    kept_each (numbers_in q) (q.automaton_states * q.bound) q.states
-    (λ s l. kept_each (numbers_at q s) q.bound q.automaton_states
-    (λ p m. falling_kept (λ i. index_of q (is_numbered s p i)) q.bound (λ i j e. omega (arith, e))))
+numbers_kept : (f : FrameTree) → length (kept (clauses_of_numbers f)) ≡ f.states * f.automaton_states * f.bound
+numbers_kept f =
+    kept_each (falling_in_row (number_grid f) f.bound) (f.automaton_states * f.bound) f.states
+    (λ s l. kept_each (λ p. falling (cell_index (number_grid f) s p) f.bound) f.bound f.automaton_states
+    (λ p m. falling_kept (number_at f s p) f.bound (λ i j e. omega (arith, e))))
     ∙ grind arith
 
-kept_among : (a b c n t : List (List Lit)) (k : ℕ) → length (kept n) ≡ k → k ≤ length (kept (a ++ (b ++ (c ++ (n ++ t)))))
-kept_among a b c n t k is =
+kept_among : (a b n t : List (List Lit)) (k : ℕ) → length (kept n) ≡ k → k ≤ length (kept (a ++ (b ++ (n ++ t))))
+kept_among a b n t k is =
     rw (
-      kept_both a (b ++ (c ++ (n ++ t))),
-      length-append (kept a) (kept (b ++ (c ++ (n ++ t)))),
-      kept_both b (c ++ (n ++ t)),
-      length-append (kept b) (kept (c ++ (n ++ t))),
-      kept_both c (n ++ t),
-      length-append (kept c) (kept (n ++ t)),
+      kept_both a (b ++ (n ++ t)),
+      length-append (kept a) (kept (b ++ (n ++ t))),
+      kept_both b (n ++ t),
+      length-append (kept b) (kept (n ++ t)),
       kept_both n t,
       length-append (kept n) (kept t),
     ) (omega (arith, is))
 
+pub side_numbers_within : (z : SideTree) → z.frame.states * z.frame.automaton_states * z.frame.bound ≤ length (kept (clauses_of_side z))
+side_numbers_within z =
+    kept_among (clauses_of_nexts z.frame) (clauses_of_start z.frame) (clauses_of_numbers z.frame) (clauses_of_edges z)
+    (z.frame.states * z.frame.automaton_states * z.frame.bound) (numbers_kept z.frame)
+
 pub numbers_within : (q : QuestionTree) → q.states * q.automaton_states * q.bound ≤ length (encoding q)
-numbers_within q = kept_among (choice_clauses q) (next_clauses q) (start_clauses q) (number_clauses q) (transition_clauses q)
-    (q.states * q.automaton_states * q.bound) (numbers_kept q)
+numbers_within q = rw (
+  kept_both (choice_clauses q) (clauses_of_side (controller_side q)),
+  length-append (kept (choice_clauses q)) (kept (clauses_of_side (controller_side q))),
+) (omega (arith, side_numbers_within (controller_side q)))

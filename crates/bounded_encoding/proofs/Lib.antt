@@ -1,6 +1,11 @@
 pub mod KeptClauses
 pub mod Ranges
 pub mod SolutionsAreAssignments
+pub mod Implications
+pub mod LevelNumbers
+pub mod SideDemands
+pub mod SideDecoded
+pub mod SideEncoded
 pub mod Tables
 pub mod Numbers
 pub mod Posed
@@ -12,6 +17,7 @@ pub mod Unpaired
 pub mod Adding
 pub mod Begun
 pub mod Sizes
+pub mod ServedControllers
 pub mod Placed
 pub mod LeftOut
 pub mod Gathering

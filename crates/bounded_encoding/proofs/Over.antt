@@ -4,6 +4,7 @@ use Rattle.std.specs.Prelude.{nat_le}
 use Rattle.std.specs.List.{flat_map, range_with_len, AllByRecursion}
 use Rattle.std.proofs.lemmas.List.Elements.{All-from_recursion}
 use Rattle.sequence.proofs.Each.{each_map, each_weaker}
+use Rattle.ltl_formula.specs.Cubes.{has_bit}
 use Rattle.clause_core.specs.Literals.{Lit}
 use Rattle.clause_core.specs.Clauses.{IsOver, in_order, has_pair}
 use Rattle.clause_core.proofs.Sets.{All-in_order}
@@ -11,10 +12,13 @@ use Rattle.cobuchi_automata.specs.Automata.{EdgeTree}
 use Rattle.annotation_check.specs.Annotations.{after_edge}
 use Rattle.bounded_encoding.specs.Question.{QuestionTree, IsPosed, JoinsStates}
 use Rattle.bounded_encoding.specs.ClauseLists.{kept, each, below}
-use Rattle.bounded_encoding.specs.Variables.{Variable, chooses, goes_to, is_numbered, IsInRange, index_of, variable_count, valuations_of, choices_in_all, yes, yes_at, no_at}
-use Rattle.bounded_encoding.specs.Encoding.{some_one, no_two, no_two_with, exactly_one, falling, first_choice, signal_clauses, choices_under, choices_in, choice_clauses}
-use Rattle.bounded_encoding.specs.Encoding.{nexts_under, nexts_in, next_clauses, start_clauses, numbers_at, numbers_in, number_clauses}
-use Rattle.bounded_encoding.specs.Encoding.{met_valuations, asks_choice, asked_literal, asked_of_choices, numbered_after, transition_clause, transitions_to, transitions_under, transitions_along, transitions_in, transition_clauses, demands, encoding}
+use Rattle.bounded_encoding.specs.SimpleClauses.{yes_at, no_at, some_one, no_two, no_two_with, exactly_one, falling}
+use Rattle.bounded_encoding.specs.Grids.{cell_index, one_in_row, falling_in_row}
+use Rattle.bounded_encoding.specs.Frames.{FrameTree, next_at, number_at, variables_of, next_grid, number_grid}
+use Rattle.bounded_encoding.specs.Sides.{SideTree, IsSide, differing, numbered, clause_along, clauses_to, clauses_under, clauses_along, clauses_in}
+use Rattle.bounded_encoding.specs.Sides.{clauses_of_nexts, clauses_of_start, clauses_of_numbers, clauses_of_edges, clauses_of_side}
+use Rattle.bounded_encoding.specs.Variables.{Variable, chooses, goes_to, is_numbered, IsInRange, index_of, variable_count, valuations_of, choices_in_all}
+use Rattle.bounded_encoding.specs.Encoding.{first_choice, signal_clauses, choices_under, choices_in, choice_clauses, controller_side, demands, encoding}
 use Rattle.bounded_encoding.specs.internal.Asking.{IsPlaced}
 use Rattle.bounded_encoding.proofs.Adding.{row}
 use Rattle.bounded_encoding.proofs.Placed.{all_placed}
@@ -70,70 +74,96 @@ pub over_falling : (n : ℕ) (at : ℕ → ℕ) (k : ℕ) → ((x : ℕ) → x <
 over_falling n at k h = over_each n (λ i. (no_at (at i) ∷ yes_at (at (i - 1)) ∷ []) ∷ []) 1 (k + 1)
     (λ i l m. ((h i m, (h (i - 1) (omega (arith, m)), tt)), tt))
 
+-- the indices of next states and of numbers are below the count of all
+pub next_below : (f : FrameTree) (s r t : ℕ) → s < f.states → r < f.rows → t < f.states → next_at f s r t < variables_of f
+next_below f s r t l m k = omega (arith, row f.states f.rows f.states s r l m, k)
+
+pub number_below : (f : FrameTree) (s p i : ℕ) → s < f.states → p < f.automaton_states → i < f.bound + 1 → number_at f s p i < variables_of f
+number_below f s p i l m k = omega (arith, row f.states f.automaton_states (f.bound + 1) s p l m, k)
+
+-- the clauses of a side
+module _ (z : SideTree) (side : IsSide z) where
+  abbrev f : FrameTree
+  f = z.frame
+
+  abbrev count : ℕ
+  count = variables_of z.frame
+
+  over_differing : (e : EdgeTree) (s r : ℕ) → s < f.states → r < f.rows →
+      AllByRecursion (λ l. l.index < count) (differing (z.base s r) f.first_bit f.bits e)
+  over_differing e s r l m = each_map (λ l. l.index < count)
+      (λ b. record { index = z.base s r + b; positive = not (has_bit (f.first_bit + b) e.want) })
+      (filter (λ b. has_bit (f.first_bit + b) e.care) (below f.bits))
+      (each_weaker (λ b. b < f.bits) (λ b. z.base s r + b < count) (λ b k. omega (arith, side.base s r l m, k))
+      (filter (λ b. has_bit (f.first_bit + b) e.care) (below f.bits))
+      (below_filtered f.bits (λ b. has_bit (f.first_bit + b) e.care) 0 f.bits (omega arith)))
+
+  over_numbered : (t p n : ℕ) → t < f.states → p < f.automaton_states → AllByRecursion (λ l. l.index < count) (numbered f t p n)
+  over_numbered t p n l m = by_test (nat_le n f.bound) refl
+    where
+      by_test : (within : Bool) → nat_le n f.bound ≡ within →
+          AllByRecursion (λ l. l.index < count) (cond within (yes_at (number_at f t p n) ∷ []) [])
+      by_test true h = (number_below f t p n l m (grind (arith, h)), tt)
+      by_test false h = tt
+
+  over_clause : (e : EdgeTree) (s r t i : ℕ) → s < f.states → r < f.rows → t < f.states → i < f.bound + 1 →
+      JoinsStates f.automaton_states e → Over count (clause_along f (differing (z.base s r) f.first_bit f.bits e) s e r t i ∷ [])
+  over_clause e s r t i l m k j joins = (
+    (
+      number_below f s e.from i l joins.0 j,
+      (
+        next_below f s r t l m k,
+        literals_both count (differing (z.base s r) f.first_bit f.bits e) (numbered f t e.to (after_edge i e)) (over_differing e s r l m)
+            (over_numbered t e.to (after_edge i e) k joins.1),
+      ),
+    ),
+    tt,
+  )
+
+  over_edges : Over count (clauses_of_edges z)
+  over_edges = over_each count (clauses_in z) 0 f.states (λ s a l.
+      over_list count (JoinsStates f.automaton_states) (clauses_along z s) f.edges (λ e joins.
+      over_list count (λ r. r < f.rows) (clauses_under z s e) (z.met e) (λ r m.
+      over_each count (clauses_to f (differing (z.base s r) f.first_bit f.bits e) s e r) 0 f.states (λ t b k.
+      over_each count (λ i. clause_along f (differing (z.base s r) f.first_bit f.bits e) s e r t i ∷ []) 0 (f.bound + 1)
+      (λ i d j. over_clause e s r t i l m k j joins)))
+      (side.met e)) side.between)
+
+  pub over_side : Over count (clauses_of_side z)
+  over_side =
+      over_both count (clauses_of_nexts f) (clauses_of_start f ++ (clauses_of_numbers f ++ clauses_of_edges z))
+      (over_each count (one_in_row (next_grid f)) 0 f.states (λ s a l.
+      over_each count (λ r. exactly_one (cell_index (next_grid f) s r) 0 f.states) 0 f.rows (λ r b m.
+      over_one count (next_at f s r) 0 f.states (λ t k. next_below f s r t l m k)))) (
+        (number_below f 0 0 0 side.has_state side.automaton_starts (omega arith), tt),
+        over_both count (clauses_of_numbers f) (clauses_of_edges z)
+            (over_each count (falling_in_row (number_grid f) f.bound) 0 f.states (λ s a l.
+            over_each count (λ p. falling (cell_index (number_grid f) s p) f.bound) 0 f.automaton_states (λ p b m.
+            over_falling count (number_at f s p) f.bound (λ i k. number_below f s p i l m k)))) over_edges,
+      )
+
+-- the controller's side
+pub is_controller_side : (q : QuestionTree) → IsPosed q → IsSide (controller_side q)
+is_controller_side q posed = record {
+  has_state = posed.has_state;
+  automaton_starts = posed.automaton_starts;
+  between = posed.between;
+  met = met_below q;
+  base = λ s v l m. row q.states (valuations_of q) (choices_in_all q) s v l m;
+}
+
 -- the index of a variable is below their count
 pub index_below : (q : QuestionTree) (x : Variable) → IsInRange q x → index_of q x < variable_count q
 index_below q (chooses s v b) h = omega (arith, row q.states (valuations_of q) (choices_in_all q) s v h.0 h.1, h.2)
 index_below q (goes_to s v t) h = omega (arith, row q.states (valuations_of q) q.states s v h.0 h.1, h.2)
 index_below q (is_numbered s p i) h = omega (arith, row q.states q.automaton_states (q.bound + 1) s p h.0 h.1, h.2)
 
--- each kind of clauses
 pub over_choices : (q : QuestionTree) → IsPosed q → Over (variable_count q) (choice_clauses q)
 over_choices q h = over_each (variable_count q) (choices_in q) 0 q.states
     (λ s a l. over_each (variable_count q) (choices_under q s) 0 (valuations_of q) (λ v b m.
     over_list (variable_count q) (IsPlaced q) (signal_clauses q s v) q.space.controlled (λ g placed.
     over_one (variable_count q) (λ b. index_of q (chooses s v b)) (first_choice q g) (first_choice q g + length g.choices)
     (λ x k. index_below q (chooses s v x) (l, m, omega (arith, placed.0, placed.1, k)))) (all_placed q h.space.in_order)))
-
-pub over_nexts : (q : QuestionTree) → Over (variable_count q) (next_clauses q)
-over_nexts q = over_each (variable_count q) (nexts_in q) 0 q.states
-    (λ s a l. over_each (variable_count q) (nexts_under q s) 0 (valuations_of q) (λ v b m.
-    over_one (variable_count q) (λ t. index_of q (goes_to s v t)) 0 q.states (λ t k. index_below q (goes_to s v t) (l, m, k))))
-
-pub over_numbers : (q : QuestionTree) → Over (variable_count q) (number_clauses q)
-over_numbers q = over_each (variable_count q) (numbers_in q) 0 q.states
-    (λ s a l. over_each (variable_count q) (numbers_at q s) 0 q.automaton_states (λ p b m.
-    over_falling (variable_count q) (λ i. index_of q (is_numbered s p i)) q.bound (λ i k. index_below q (is_numbered s p i) (l, m, k))))
-
-pub over_asked : (q : QuestionTree) (e : EdgeTree) (s v : ℕ) → s < q.states → v < valuations_of q
-    → AllByRecursion (λ l. l.index < variable_count q) (asked_of_choices q e s v)
-over_asked q e s v l m = each_map (λ l. l.index < variable_count q) (asked_literal q e s v)
-    (filter (asks_choice q e) (below (choices_in_all q)))
-    (each_weaker (λ b. b < choices_in_all q) (λ b. (asked_literal q e s v b).index < variable_count q)
-    (λ b k. index_below q (chooses s v b) (l, m, k))
-    (filter (asks_choice q e) (below (choices_in_all q)))
-    (below_filtered (choices_in_all q) (asks_choice q e) 0 (choices_in_all q) (omega arith)))
-
-pub over_after : (q : QuestionTree) (e : EdgeTree) (t i : ℕ) → t < q.states → e.to < q.automaton_states
-    → AllByRecursion (λ l. l.index < variable_count q) (numbered_after q e t i)
-over_after q e t i l m = by_test (nat_le (after_edge i e) q.bound) refl
-  where
-    by_test : (within : Bool) → nat_le (after_edge i e) q.bound ≡ within
-        → AllByRecursion (λ l. l.index < variable_count q) (cond within (yes q (is_numbered t e.to (after_edge i e)) ∷ []) [])
-    by_test true h = (index_below q (is_numbered t e.to (after_edge i e)) (l, m, grind (arith, h)), tt)
-    by_test false h = tt
-
-pub over_transition : (q : QuestionTree) (e : EdgeTree) (s v t i : ℕ) → s < q.states → v < valuations_of q → t < q.states → i < q.bound + 1
-    → JoinsStates q.automaton_states e → Over (variable_count q) (transition_clause q s e v t i ∷ [])
-over_transition q e s v t i l m k j joins = (
-  (
-    index_below q (is_numbered s e.from i) (l, joins.0, j),
-    (
-      index_below q (goes_to s v t) (l, m, k),
-      literals_both (variable_count q) (asked_of_choices q e s v) (numbered_after q e t i) (over_asked q e s v l m)
-          (over_after q e t i k joins.1),
-    ),
-  ),
-  tt,
-)
-
-pub over_transitions : (q : QuestionTree) → IsPosed q → Over (variable_count q) (transition_clauses q)
-over_transitions q h = over_each (variable_count q) (transitions_in q) 0 q.states (λ s a l.
-    over_list (variable_count q) (JoinsStates q.automaton_states) (transitions_along q s) q.edges (λ e joins.
-    over_list (variable_count q) (λ v. v < valuations_of q) (transitions_under q s e) (met_valuations q e) (λ v m.
-    over_each (variable_count q) (transitions_to q s e v) 0 q.states (λ t b k.
-    over_each (variable_count q) (λ i. transition_clause q s e v t i ∷ []) 0 (q.bound + 1)
-    (λ i d j. over_transition q e s v t i l m k j joins)))
-    (met_below q e)) h.between)
 
 -- as the formula's type says it
 pub all_over : (n : ℕ) (cs : List (List Lit)) → Over n cs → All (IsOver n) cs
@@ -145,9 +175,5 @@ all_over n cs h = All-from_recursion (IsOver n) cs (turned cs h)
 
 pub encoding_over : (q : QuestionTree) → IsPosed q → All (IsOver (variable_count q)) (encoding q)
 encoding_over q h = all_over (variable_count q) (encoding q) (over_kept (variable_count q) (demands q)
-    (over_both (variable_count q) (choice_clauses q) (next_clauses q ++ (start_clauses q ++ (number_clauses q ++ transition_clauses q)))
-    (over_choices q h)
-    (over_both (variable_count q) (next_clauses q) (start_clauses q ++ (number_clauses q ++ transition_clauses q)) (over_nexts q) (
-      (index_below q (is_numbered 0 0 0) (h.has_state, h.automaton_starts, omega arith), tt),
-      over_both (variable_count q) (number_clauses q) (transition_clauses q) (over_numbers q) (over_transitions q h),
-    ))))
+    (over_both (variable_count q) (choice_clauses q) (clauses_of_side (controller_side q)) (over_choices q h)
+    (over_side (controller_side q) (is_controller_side q h))))

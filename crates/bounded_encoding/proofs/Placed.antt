@@ -10,7 +10,8 @@ use Rattle.letter_space.specs.ControlledView.{controlled_tree}
 use Rattle.letter_space.specs.declared.controlled.Controlled.{Controlled}
 use Rattle.bounded_encoding.specs.Variables.{valuations_of, choices_in_all}
 use Rattle.bounded_encoding.specs.Question.{QuestionTree}
-use Rattle.bounded_encoding.specs.Encoding.{exactly_one, signal_clauses}
+use Rattle.bounded_encoding.specs.SimpleClauses.{exactly_one}
+use Rattle.bounded_encoding.specs.Encoding.{signal_clauses}
 use Rattle.bounded_encoding.specs.declared.asking.Question.{Question}
 use Rattle.bounded_encoding.specs.internal.Asking.{tree_of, IsCounted, IsPlaced}
 

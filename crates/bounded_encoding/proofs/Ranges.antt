@@ -7,7 +7,7 @@ use Rattle.std.specs.Option.{unwrap_or}
 use Rattle.std.proofs.lemmas.Option.{none-some, same_Some}
 use Rattle.std.proofs.lemmas.Bool.{or_cases, or_left, or_right, false≢true, cases_lt}
 use Rattle.sequence.proofs.Passes.{list_all_parts, list_all_joined}
-use Rattle.bounded_encoding.specs.Decoding.{first_passing}
+use Rattle.bounded_encoding.specs.Reading.{first_passing}
 
 -- what stands at a place of a table of such numbers
 pub range_at : {X : Type 0} (f : ℕ → X) (a n i : ℕ) → i < n → slice_get (map f (range_with_len a n)) i ≡ Some (f (a + i))

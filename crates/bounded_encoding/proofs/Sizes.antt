@@ -4,6 +4,8 @@ use Rattle.std.proofs.Math.Nat.{mul-le-mul, mul-le-mul_left, mul-le-mul_right}
 use Rattle.std.proofs.Math.Pow.{pow_mono}
 use Rattle.cobuchi_automata.specs.declared.build_error.TheConstants.{MOST_AUTOMATON_STATES}
 use Rattle.refutation_check.specs.declared.dimacs.TheConstants.{MOST_CLAUSES}
+use Rattle.bounded_encoding.specs.FrameView.{frame_tree, IsFramed}
+use Rattle.bounded_encoding.specs.declared.frame.Frame.{Frame}
 use Rattle.bounded_encoding.specs.Variables.{valuations_of, choices_in_all}
 use Rattle.bounded_encoding.specs.declared.asking.Question.{Question}
 use Rattle.bounded_encoding.specs.internal.Asking.{tree_of, IsCounted}
@@ -18,28 +20,33 @@ pub few_counted : (q : Question) → IsCounted q
     → q.states * q.valuations * q.choices + q.states * q.valuations * q.states + q.states * q.automaton.now.states * (q.bound + 1) < 2 ^ 31
 few_counted q h = rw (h.valuations, h.choices) h.few
 
-pub few_cells : (q : Question) → IsCounted q → q.states * q.valuations < 2 ^ 31
-few_cells q h = omega (arith, few_counted q h, le_times (q.states * q.valuations) q.states h.posed.has_state)
-
-pub few_pairs : (q : Question) → IsCounted q → q.states * q.automaton.now.states < 2 ^ 31
-few_pairs q h = let e : q.states * q.automaton.now.states ≤ q.states * q.automaton.now.states * (q.bound + 1) = le_times
-    (q.states * q.automaton.now.states) (q.bound + 1) (omega arith) in omega (arith, few_counted q h, e)
-
--- the indices of choices, of next states and of numbers
+-- the indices of choices
 pub choice_fits : (q : Question) → IsCounted q → (s v : ℕ) → s < q.states → v < q.valuations
     → (s * q.valuations + v + 1 ≤ q.states * q.valuations) ×
     ((s * q.valuations + v) * q.choices + q.choices ≤ q.states * q.valuations * q.choices)
 choice_fits q h s v l m = (in_table q.states q.valuations s v l m, row q.states q.valuations q.choices s v l m)
 
-pub next_fits : (q : Question) → IsCounted q → (s v : ℕ) → s < q.states → v < q.valuations
-    → (s * q.valuations + v + 1 ≤ q.states * q.valuations) ×
-    ((s * q.valuations + v) * q.states + q.states ≤ q.states * q.valuations * q.states)
-next_fits q h s v l m = (in_table q.states q.valuations s v l m, row q.states q.valuations q.states s v l m)
+-- all variables of a frame, and the indices of its next states and its numbers
+pub few_variables : (f : Frame) → IsFramed (frame_tree f) →
+    f.own + f.states * f.rows * f.states + f.states * f.automaton.now.states * (f.bound + 1) < 2 ^ 31
+few_variables f h = h.few
 
-pub number_fits : (q : Question) → IsCounted q → (s p : ℕ) → s < q.states → p < q.automaton.now.states
-    → (s * q.automaton.now.states + p + 1 ≤ q.states * q.automaton.now.states)
-    × ((s * q.automaton.now.states + p) * (q.bound + 1) + (q.bound + 1) ≤ q.states * q.automaton.now.states * (q.bound + 1))
-number_fits q h s p l m = (in_table q.states q.automaton.now.states s p l m, row q.states q.automaton.now.states (q.bound + 1) s p l m)
+pub few_cells : (f : Frame) → IsFramed (frame_tree f) → f.states * f.rows < 2 ^ 31
+few_cells f h = omega (arith, few_variables f h, le_times (f.states * f.rows) f.states h.has_state)
+
+pub few_pairs : (f : Frame) → IsFramed (frame_tree f) → f.states * f.automaton.now.states < 2 ^ 31
+few_pairs f h =
+    let e : f.states * f.automaton.now.states ≤ f.states * f.automaton.now.states * (f.bound + 1) = le_times
+    (f.states * f.automaton.now.states) (f.bound + 1) (omega arith) in omega (arith, few_variables f h, e)
+
+pub next_fits : (f : Frame) (s r : ℕ) → s < f.states → r < f.rows
+    → (s * f.rows + r + 1 ≤ f.states * f.rows) × ((s * f.rows + r) * f.states + f.states ≤ f.states * f.rows * f.states)
+next_fits f s r l m = (in_table f.states f.rows s r l m, row f.states f.rows f.states s r l m)
+
+pub number_fits : (f : Frame) (s p : ℕ) → s < f.states → p < f.automaton.now.states
+    → (s * f.automaton.now.states + p + 1 ≤ f.states * f.automaton.now.states)
+    × ((s * f.automaton.now.states + p) * (f.bound + 1) + (f.bound + 1) ≤ f.states * f.automaton.now.states * (f.bound + 1))
+number_fits f s p l m = (in_table f.states f.automaton.now.states s p l m, row f.states f.automaton.now.states (f.bound + 1) s p l m)
 
 -- a question within the limits, with right counts, is one that is asked
 few_valuations : (n : ℕ) → n ≤ 10 → 2 ^ n ≤ 1024

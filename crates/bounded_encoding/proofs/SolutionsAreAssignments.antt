@@ -3,7 +3,6 @@ pub mod CubeBits
 pub mod LetterChoices
 pub mod MovesHeld
 pub mod Demands
-pub mod Transitions
 pub mod Decoded
 pub mod Encoded
 pub mod Readings

@@ -1,6 +1,6 @@
 -- The clauses of the question for a controller. A solution gives an assignment that meets them, and such an assignment a solution.
 -- Source: Finkbeiner, Schewe: Bounded Synthesis (STTT 2013), annotations of controllers as constraints.
-use Rattle.std.specs.Prelude.{ℕ, ◌+◌, ◌-◌, ◌^◌, ◌%◌, nat_le, not, cond, Bool, List, [], ◌∷◌, ◌++◌, map, filter, length}
+use Rattle.std.specs.Prelude.{ℕ, ◌+◌, ◌-◌, ◌*◌, ◌^◌, ◌%◌, nat_le, not, cond, Bool, List, [], ◌++◌, map, filter, length}
 use Rattle.std.specs.List.{flat_map}
 use Rattle.clause_core.specs.Literals.{Lit}
 use Rattle.ltl_formula.specs.Cubes.{has_bit, cube_matches}
@@ -8,23 +8,12 @@ use Rattle.letter_space.specs.SpaceTree.{ControlledTree, bit_count}
 use Rattle.cobuchi_automata.specs.Automata.{EdgeTree}
 use Rattle.annotation_check.specs.Annotations.{after_edge}
 use Rattle.bounded_encoding.specs.Question.{QuestionTree}
-use Rattle.bounded_encoding.specs.ClauseLists.{kept, between, below, each}
-use Rattle.bounded_encoding.specs.Variables.{chooses, goes_to, is_numbered, valuations_of, choices_in_all, index_of, yes_at, no_at, yes, no}
-
--- some variable is true of those whose indices a function gives for the numbers from a to below b
-abbrev pub some_one : (ℕ → ℕ) → ℕ → ℕ → List (List Lit)
-some_one at a b = map (λ x. yes_at (at x)) (between a b) ∷ []
-
--- no two of them are true
-abbrev pub no_two_with : (ℕ → ℕ) → ℕ → ℕ → List (List Lit)
-no_two_with at x b = each (x + 1) b (λ y. (no_at (at x) ∷ no_at (at y) ∷ []) ∷ [])
-
-abbrev pub no_two : (ℕ → ℕ) → ℕ → ℕ → List (List Lit)
-no_two at a b = each a b (λ x. no_two_with at x b)
-
--- exactly one of them is true
-abbrev pub exactly_one : (ℕ → ℕ) → ℕ → ℕ → List (List Lit)
-exactly_one at a b = some_one at a b ++ no_two at a b
+use Rattle.bounded_encoding.specs.ClauseLists.{kept, below, each}
+use Rattle.bounded_encoding.specs.SimpleClauses.{exactly_one}
+use Rattle.bounded_encoding.specs.Frames.{FrameTree}
+use Rattle.bounded_encoding.specs.Sides.{SideTree, numbered, clause_along, clauses_to, clauses_under, clauses_along, clauses_in, clauses_of_edges}
+use Rattle.bounded_encoding.specs.Sides.{clauses_of_nexts, clauses_of_start, clauses_of_numbers, clauses_of_side}
+use Rattle.bounded_encoding.specs.Variables.{chooses, valuations_of, choices_in_all, before_next, index_of}
 
 -- Each signal takes one choice, in each state and under each valuation.
 abbrev pub first_choice : QuestionTree → ControlledTree → ℕ
@@ -41,33 +30,6 @@ choices_in q s = each 0 (valuations_of q) (choices_under q s)
 
 abbrev pub choice_clauses : QuestionTree → List (List Lit)
 choice_clauses q = each 0 q.states (choices_in q)
-
--- Each state has one next state, under each valuation.
-abbrev pub nexts_under : QuestionTree → ℕ → ℕ → List (List Lit)
-nexts_under q s v = exactly_one (λ t. index_of q (goes_to s v t)) 0 q.states
-
-abbrev pub nexts_in : QuestionTree → ℕ → List (List Lit)
-nexts_in q s = each 0 (valuations_of q) (nexts_under q s)
-
-abbrev pub next_clauses : QuestionTree → List (List Lit)
-next_clauses q = each 0 q.states (nexts_in q)
-
--- The pair of both starts is numbered.
-abbrev pub start_clauses : QuestionTree → List (List Lit)
-start_clauses q = (yes q (is_numbered 0 0 0) ∷ []) ∷ []
-
--- A pair whose number is at least i has one of at least i - 1.
-abbrev pub falling : (ℕ → ℕ) → ℕ → List (List Lit)
-falling at bound = each 1 (bound + 1) (λ i. (no_at (at i) ∷ yes_at (at (i - 1)) ∷ []) ∷ [])
-
-abbrev pub numbers_at : QuestionTree → ℕ → ℕ → List (List Lit)
-numbers_at q s p = falling (λ i. index_of q (is_numbered s p i)) q.bound
-
-abbrev pub numbers_in : QuestionTree → ℕ → List (List Lit)
-numbers_in q s = each 0 q.automaton_states (numbers_at q s)
-
-abbrev pub number_clauses : QuestionTree → List (List Lit)
-number_clauses q = each 0 q.states (numbers_in q)
 
 -- The numbers below two to the n, as truths of n bits, that meet what a cube asks of these.
 abbrev pub meeting : ℕ → ℕ → ℕ → List ℕ
@@ -91,33 +53,62 @@ asked_literal q e s v b = record {
 abbrev pub asked_of_choices : QuestionTree → EdgeTree → ℕ → ℕ → List Lit
 asked_of_choices q e s v = map (asked_literal q e s v) (filter (asks_choice q e) (below (choices_in_all q)))
 
--- the literal of the pair after an edge, whose number is at least this one; there is none above the bound
-abbrev pub numbered_after : QuestionTree → EdgeTree → ℕ → ℕ → List Lit
-numbered_after q e t i = cond (nat_le (after_edge i e) q.bound) (yes q (is_numbered t e.to (after_edge i e)) ∷ []) []
+-- The controller's side: its rows are valuations, and its own variables those of choices.
+abbrev pub controller_frame : QuestionTree → FrameTree
+controller_frame q = record {
+  automaton_states = q.automaton_states;
+  edges = q.edges;
+  states = q.states;
+  rows = valuations_of q;
+  bound = q.bound;
+  own = before_next q;
+  first_bit = length q.space.predicates;
+  bits = choices_in_all q;
+}
+
+abbrev pub controller_side : QuestionTree → SideTree
+controller_side q = record {
+  frame = controller_frame q;
+  met = met_valuations q;
+  base = λ s v. (s * valuations_of q + v) * choices_in_all q;
+}
+
+-- Each state has one next state under each valuation; the pair of both starts is numbered; a pair whose number is at least i has
+-- one of at least i - 1.
+abbrev pub next_clauses : QuestionTree → List (List Lit)
+next_clauses q = clauses_of_nexts (controller_frame q)
+
+abbrev pub start_clauses : QuestionTree → List (List Lit)
+start_clauses q = clauses_of_start (controller_frame q)
+
+abbrev pub number_clauses : QuestionTree → List (List Lit)
+number_clauses q = clauses_of_numbers (controller_frame q)
 
 -- From a numbered pair, under a valuation and along an edge that the letter matches, the next pair is numbered as the edge asks.
+abbrev pub numbered_after : QuestionTree → EdgeTree → ℕ → ℕ → List Lit
+numbered_after q e t i = numbered (controller_frame q) t e.to (after_edge i e)
+
 abbrev pub transition_clause : QuestionTree → ℕ → EdgeTree → ℕ → ℕ → ℕ → List Lit
-transition_clause q s e v t i =
-    no q (is_numbered s e.from i) ∷ no q (goes_to s v t) ∷ (asked_of_choices q e s v ++ numbered_after q e t i)
+transition_clause q s e v t i = clause_along (controller_frame q) (asked_of_choices q e s v) s e v t i
 
 abbrev pub transitions_to : QuestionTree → ℕ → EdgeTree → ℕ → ℕ → List (List Lit)
-transitions_to q s e v t = each 0 (q.bound + 1) (λ i. transition_clause q s e v t i ∷ [])
+transitions_to q s e v t = clauses_to (controller_frame q) (asked_of_choices q e s v) s e v t
 
 abbrev pub transitions_under : QuestionTree → ℕ → EdgeTree → ℕ → List (List Lit)
-transitions_under q s e v = each 0 q.states (transitions_to q s e v)
+transitions_under q s e v = clauses_under (controller_side q) s e v
 
 abbrev pub transitions_along : QuestionTree → ℕ → EdgeTree → List (List Lit)
-transitions_along q s e = flat_map (transitions_under q s e) (met_valuations q e)
+transitions_along q s e = clauses_along (controller_side q) s e
 
 abbrev pub transitions_in : QuestionTree → ℕ → List (List Lit)
-transitions_in q s = flat_map (transitions_along q s) q.edges
+transitions_in q s = clauses_in (controller_side q) s
 
 abbrev pub transition_clauses : QuestionTree → List (List Lit)
-transition_clauses q = each 0 q.states (transitions_in q)
+transition_clauses q = clauses_of_edges (controller_side q)
 
 -- all of these, without those that have a literal and its negation
 abbrev pub demands : QuestionTree → List (List Lit)
-demands q = choice_clauses q ++ (next_clauses q ++ (start_clauses q ++ (number_clauses q ++ transition_clauses q)))
+demands q = choice_clauses q ++ clauses_of_side (controller_side q)
 
 abbrev pub encoding : QuestionTree → List (List Lit)
 encoding q = kept (demands q)

@@ -2,7 +2,7 @@
 use Rattle.std.specs.Prelude.{ℕ, ◌+◌, ◌*◌, ◌^◌, ◌<◌, ◌≤◌, List}
 use Rattle.clause_core.specs.Literals.{Lit}
 use Rattle.bounded_encoding.specs.ClauseLists.{each}
-use Rattle.bounded_encoding.specs.Encoding.{exactly_one, falling}
+use Rattle.bounded_encoding.specs.SimpleClauses.{exactly_one, falling}
 use Rattle.bounded_encoding.specs.declared.grid.Grid.{Grid}
 
 -- the index of a variable

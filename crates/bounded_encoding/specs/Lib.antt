@@ -1,6 +1,10 @@
 pub mod Question
 pub mod QuestionView
 pub mod ClauseLists
+pub mod SimpleClauses
+pub mod Frames
+pub mod Sides
+pub mod FrameView
 pub mod Variables
 pub mod Encoding
 pub mod Decoding

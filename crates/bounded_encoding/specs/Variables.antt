@@ -1,11 +1,12 @@
 -- The variables of the question for a controller, and their numbers.
-use Rattle.std.specs.Prelude.{ℕ, ◌+◌, ◌*◌, ◌<◌, true, false, List, ◌++◌, map}
+use Rattle.std.specs.Prelude.{ℕ, ◌+◌, ◌*◌, ◌<◌, List, ◌++◌, map}
 use Rattle.std.specs.List.{flat_map}
 use Rattle.clause_core.specs.Literals.{Lit}
 use Rattle.letter_space.specs.SpaceTree.{choice_count}
 use Rattle.letter_space.specs.Letters.{valuation_count}
 use Rattle.bounded_encoding.specs.Question.{QuestionTree}
 use Rattle.bounded_encoding.specs.ClauseLists.{below}
+use Rattle.bounded_encoding.specs.SimpleClauses.{yes_at, no_at}
 
 pub data Variable : Type 0 where
   -- in a state under a valuation this choice is taken, by its place among the choices of all signals
@@ -52,13 +53,6 @@ grid variable l m n = flat_map (λ a. flat_map (λ b. map (λ c. variable a b c)
 abbrev pub variables : QuestionTree → List Variable
 variables q = grid chooses q.states (valuations_of q) (choices_in_all q)
     ++ (grid goes_to q.states (valuations_of q) q.states ++ grid is_numbered q.states q.automaton_states (q.bound + 1))
-
--- the two literals of the variable with an index
-abbrev pub yes_at : ℕ → Lit
-yes_at index = record { index = index; positive = true }
-
-abbrev pub no_at : ℕ → Lit
-no_at index = record { index = index; positive = false }
 
 -- the two literals of a variable
 abbrev pub yes : QuestionTree → Variable → Lit

@@ -1,3 +1,3 @@
 pub mod Reading
 pub mod Asking
-pub mod QuestionGrids
+pub mod Transitions

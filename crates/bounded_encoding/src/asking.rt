@@ -4,7 +4,7 @@ ghost use Rattle.std.specs.Prelude.{◌≡◌, ◌<◌, ◌≤◌, ◌+◌, ◌*
 ghost use Rattle.cobuchi_automata.specs.declared.build_error.TheConstants.{MOST_AUTOMATON_STATES};
 ghost use Rattle.refutation_check.specs.declared.dimacs.TheConstants.{MOST_CLAUSES};
 ghost use Rattle.bounded_encoding.specs.QuestionView.{question_of};
-ghost use Rattle.bounded_encoding.specs.Variables.{before_next, before_numbers, valuations_of, choices_in_all};
+ghost use Rattle.bounded_encoding.specs.Variables.{valuations_of, choices_in_all};
 ghost use Rattle.bounded_encoding.specs.internal.Asking.{tree_of, IsCounted};
 
 use crate::reading::choices_in_all;
@@ -64,30 +64,4 @@ pub(crate) fn choice_base(question: &Question, s: u32, v: u32) -> u32
     ensures room { result + choices_in_all (tree_of question.now) < 2 ^ 31 }
 {
     (s * question.valuations + v) * question.choices
-}
-
-/// The index of the first next state from a state under a valuation.
-pub(crate) fn next_base(question: &Question, s: u32, v: u32) -> u32
-    requires asked { IsCounted question.now }
-    requires state { s < question.now.states }
-    requires valuation { v < question.now.valuations }
-    ensures value { result ≡ before_next (tree_of question.now) + (s * valuations_of (tree_of question.now) + v) * question.now.states }
-    ensures room { result + question.now.states < 2 ^ 31 }
-{
-    question.states * question.valuations * question.choices
-        + (s * question.valuations + v) * question.states
-}
-
-/// The index of the first number of a pair of states.
-pub(crate) fn number_base(question: &Question, s: u32, p: u32) -> u32
-    requires asked { IsCounted question.now }
-    requires state { s < question.now.states }
-    requires automaton_state { p < question.now.automaton.now.states }
-    ensures value { result ≡ before_numbers (tree_of question.now) + (s * question.now.automaton.now.states + p) *
-        (question.now.bound + 1) }
-    ensures room { result + question.now.bound + 1 < 2 ^ 31 }
-{
-    question.states * question.valuations * question.choices
-        + question.states * question.valuations * question.states
-        + (s * question.automaton.states + p) * (question.bound + 1)
 }

@@ -13,9 +13,9 @@ ghost use Rattle.bounded_encoding.specs.internal.Asking.{tree_of, IsCounted};
 
 use crate::asking::{Question, question_asked};
 use crate::builder::Builder;
-use crate::controller_clauses::{add_choices, add_nexts, add_numbers, add_start};
+use crate::choice_clauses::add_choices;
+use crate::controller_side::{add_controller_side, variable_count};
 use crate::errors::EncodeError;
-use crate::transition_clauses::add_transitions;
 use clause_core::Cnf;
 use cobuchi_automata::Automaton;
 use letter_space::Space;
@@ -68,7 +68,7 @@ pub(crate) fn encode_within(
     let question = question_asked(automaton, space, states, bound);
     let mut out = Builder::new(alloc, limit);
     add_demands(alloc, &mut out, &question)?;
-    let variables = variables_in_all(&question);
+    let variables = variable_count(&question);
     Ok(Cnf {
         variables,
         clauses: out.into_list(),
@@ -84,16 +84,6 @@ pub fn falling_count(states: u32, automaton_states: u32, bound: u32) -> u64
     u64::from(states) * u64::from(automaton_states) * u64::from(bound)
 }
 
-/// How many variables there are.
-fn variables_in_all(question: &Question) -> u32
-    requires asked { IsCounted question.now }
-    ensures { result ≡ variable_count (tree_of question.now) }
-{
-    question.states * question.valuations * question.choices
-        + question.states * question.valuations * question.states
-        + question.states * question.automaton.states * (question.bound + 1)
-}
-
 /// Adds all clauses of a question.
 #[tactic(auto, using(crate::proofs::Adding::adding))]
 fn add_demands(alloc: Global, out: &mut Builder, question: &Question) -> Result<(), EncodeError>
@@ -102,8 +92,5 @@ fn add_demands(alloc: Global, out: &mut Builder, question: &Question) -> Result<
     ensures refused { Refuses result (with_clauses out.old (demands (tree_of question.now))) }
 {
     add_choices(alloc, out, question)?;
-    add_nexts(alloc, out, question)?;
-    add_start(alloc, out, question)?;
-    add_numbers(alloc, out, question)?;
-    add_transitions(alloc, out, question)
+    add_controller_side(alloc, out, question)
 }

@@ -13,12 +13,11 @@ ghost use Rattle.bounded_encoding.specs.declared.errors.EncodeError.TheVariants.
 use crate::answers::Found;
 use crate::encoding::encode;
 use crate::errors::EncodeError;
-use crate::reading::{controller_read, numbers_of_pairs};
-use annotation_check::Annotation;
+use crate::reading::{annotation_read, controller_read};
 use cobuchi_automata::Automaton;
 use letter_space::Space;
 use sat_core::{Answer, solve};
-use sequence::{NoMemory, Sequence};
+use sequence::NoMemory;
 use std::alloc::Global;
 
 /// Looks for a controller with so many states and an annotation within a bound, where so many clauses may be
@@ -68,10 +67,6 @@ fn solution_read(
     ensures { IfOk result (λ found. (budget : ℕ) → IsRightFound (question_of automaton.now space.now states bound) budget found) }
 {
     let controller = controller_read(alloc, truths, space, states)?;
-    let numbers = numbers_of_pairs(alloc, truths, automaton, space, states, bound)?;
-    let annotation = Annotation {
-        bound,
-        numbers: Sequence::from_vec(numbers),
-    };
+    let annotation = annotation_read(alloc, truths, automaton, states, bound)?;
     Ok(Found::Controller(controller, annotation))
 }

@@ -51,7 +51,11 @@ fn add_one_in_row(alloc: Global, out: &mut Builder, grid: Grid, row: u32) -> Res
 }
 
 /// Adds that exactly one variable in each row and column is true.
-pub fn add_one_in_each(alloc: Global, out: &mut Builder, grid: Grid) -> Result<(), EncodeError>
+pub(crate) fn add_one_in_each(
+    alloc: Global,
+    out: &mut Builder,
+    grid: Grid,
+) -> Result<(), EncodeError>
     requires { IsGrid grid }
     ensures added { OnOk result (out.new ≡ with_clauses out.old (one_in_each grid)) }
     ensures refused { Refuses result (with_clauses out.old (one_in_each grid)) }
@@ -86,7 +90,7 @@ fn add_falling_in_row(
 }
 
 /// Adds for each row and column that a variable at a place from 1 to a bound makes the one before true.
-pub fn add_falling_in_each(
+pub(crate) fn add_falling_in_each(
     alloc: Global,
     out: &mut Builder,
     grid: Grid,

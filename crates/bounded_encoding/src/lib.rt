@@ -11,29 +11,32 @@
 mod answers;
 mod asking;
 mod builder;
-mod controller_clauses;
+mod choice_clauses;
+mod controller_side;
 mod edge_literals;
 mod encoding;
 mod encoding_laws;
 mod errors;
 mod finding;
+mod frame;
 mod grid;
 mod laws;
 mod reading;
+mod side;
 mod simple_clauses;
 mod transition_clauses;
 
 pub use answers::Found;
 pub use builder::Builder;
-pub use edge_literals::{after_edge, has_bit, push_literal_if, push_number_if};
+pub use edge_literals::push_number_if;
 pub use encoding::{encode, falling_count};
 pub use encoding_laws::clauses_are_over_variables;
 pub use errors::EncodeError;
 pub use finding::find_controller;
-pub use grid::{Grid, add_falling_in_each, add_one_in_each};
+pub use frame::{Frame, variables_in_all};
 pub use laws::{
     assignments_give_controllers, controllers_give_assignments, variables_have_one_number,
 };
-pub use reading::{first_true, numbers_read};
-pub use simple_clauses::{add_exactly_one, add_falling, add_true, literal};
-pub use transition_clauses::leads_to_itself;
+pub use reading::{annotation_read, first_true};
+pub use side::Side;
+pub use transition_clauses::add_side;

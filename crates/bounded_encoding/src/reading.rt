@@ -9,11 +9,10 @@ ghost use Rattle.letter_space.specs.ControlledView.{controlled_tree};
 ghost use Rattle.letter_space.specs.SpaceView.{space_tree};
 ghost use Rattle.machines.specs.MachineView.{entry_tree, controller_tree};
 ghost use Rattle.bounded_encoding.specs.ClauseLists.{below};
-ghost use Rattle.bounded_encoding.specs.QuestionView.{question_of};
-ghost use Rattle.bounded_encoding.specs.Variables.{before_numbers, variable_count};
 ghost use Rattle.bounded_encoding.specs.internal.Reading.{choice_from, entry_numbered};
 ghost use Rattle.bounded_encoding.specs.Reading.{next_from, number_from, numbers_from_index};
 
+use annotation_check::Annotation;
 use cobuchi_automata::Automaton;
 use letter_space::{Controlled, Space};
 use machines::{Controller, Entry};
@@ -156,32 +155,32 @@ pub fn first_true(truths: &[bool], from: usize, count: u32) -> u32
     0
 }
 
-/// The numbers of all pairs of states that truths say. Those of the variables of numbers stand behind those of
-/// choices and of next states.
-pub(crate) fn numbers_of_pairs(
+/// The annotation that truths say. The variables of numbers are the last ones.
+pub fn annotation_read(
     alloc: Global,
     truths: &[bool],
     automaton: &Automaton,
-    space: &Space,
     states: u32,
     bound: u32,
-) -> Result<Vec<Option<u32>>, NoMemory>
+) -> Result<Annotation, NoMemory>
     requires has_state { 1 ≤ states }
     requires few_states { states ≤ 8 }
-    requires one_each { length truths.now ≡ variable_count (question_of automaton.now space.now states bound) }
+    requires within { states * automaton.now.states * (bound + 1) ≤ length truths.now }
     requires few { length truths.now < 2 ^ 31 }
-    ensures { let q = question_of automaton.now space.now states bound in
-        IfOk result (λ numbers. numbers.items
-        ≡ numbers_from_index (assignment_of truths.now) (before_numbers q) (bound + 1) (states * automaton.now.states)) }
+    ensures bound { IfOk result (λ a. a.bound ≡ bound) }
+    ensures numbers { let pairs = states * automaton.now.states in
+        IfOk result (λ a. a.numbers
+        ≡ numbers_from_index (assignment_of truths.now) (length truths.now - pairs * (bound + 1)) (bound + 1) pairs) }
 {
-    let rows = states as usize * space.valuations() as usize;
-    let base = rows * choices_in_all(space) + rows * states as usize;
+    let width = bound + 1;
     let pairs = states as usize * automaton.states as usize;
-    numbers_read(alloc, truths, base, bound + 1, pairs)
+    let base = truths.len() - pairs * width as usize;
+    let numbers = Sequence::from_vec(numbers_read(alloc, truths, base, width, pairs)?);
+    Ok(Annotation { bound, numbers })
 }
 
 /// The numbers of so many pairs, where their variables begin at an index and each has so many.
-pub fn numbers_read(
+fn numbers_read(
     alloc: Global,
     truths: &[bool],
     base: usize,

@@ -1,8 +1,7 @@
 //! Clauses over the variables of a range of indices.
 
 ghost use Rattle.std.specs.Prelude.{◌≡◌, ◌<◌, ◌+◌, ◌^◌, ◌∷◌, [], OnOk, OnErr};
-ghost use Rattle.bounded_encoding.specs.Variables.{yes_at, no_at};
-ghost use Rattle.bounded_encoding.specs.Encoding.{some_one, no_two_with, no_two, exactly_one, falling};
+ghost use Rattle.bounded_encoding.specs.SimpleClauses.{yes_at, no_at, some_one, no_two_with, no_two, exactly_one, falling};
 ghost use Rattle.bounded_encoding.specs.Made.{with_clauses};
 ghost use Rattle.bounded_encoding.specs.Begun.{IsBegun};
 ghost use Rattle.bounded_encoding.specs.Refusing.{Refuses};
@@ -13,7 +12,7 @@ use clause_core::Literal;
 use std::alloc::Global;
 
 /// The literal of the variable with this index.
-pub fn literal(index: u32, positive: bool) -> Literal
+pub(crate) fn literal(index: u32, positive: bool) -> Literal
     requires { index + 1 < 2 ^ 31 }
     ensures { result ≡ record { index = index; positive = positive } }
 {
@@ -92,7 +91,7 @@ fn add_no_two(
 
 /// Adds that exactly one of the variables is true.
 #[tactic(auto, using(crate::proofs::Adding::adding))]
-pub fn add_exactly_one(
+pub(crate) fn add_exactly_one(
     alloc: Global,
     out: &mut Builder,
     base: u32,
@@ -120,7 +119,7 @@ fn add_implies(alloc: Global, out: &mut Builder, a: u32, b: u32) -> Result<(), E
 }
 
 /// Adds that the number of a pair is at least each number below one that it is at least.
-pub fn add_falling(
+pub(crate) fn add_falling(
     alloc: Global,
     out: &mut Builder,
     base: u32,
@@ -138,7 +137,7 @@ pub fn add_falling(
 }
 
 /// Adds that a variable is true.
-pub fn add_true(alloc: Global, out: &mut Builder, a: u32) -> Result<(), EncodeError>
+pub(crate) fn add_true(alloc: Global, out: &mut Builder, a: u32) -> Result<(), EncodeError>
     requires { a + 1 < 2 ^ 31 }
     ensures added { OnOk result (out.new ≡ with_clauses out.old ((yes_at a ∷ []) ∷ [])) }
     ensures refused { Refuses result (with_clauses out.old ((yes_at a ∷ []) ∷ [])) }

@@ -1,18 +1,20 @@
-//! The clauses of transitions.
+//! The clauses of transitions, for a machine of either side.
 
-ghost use Rattle.std.specs.Prelude.{◌≡◌, ◌<◌, ◌+◌, ◌∷◌, [], true, false, OnOk, All};
+ghost use Rattle.std.specs.Prelude.{◌≡◌, ◌<◌, ◌+◌, ◌↔◌, ◌∷◌, [], true, false, OnOk, All};
 ghost use Rattle.std.specs.List.{flat_map};
 ghost use Rattle.cobuchi_automata.specs.Edges.{edge_tree, IsBetween};
-ghost use Rattle.bounded_encoding.specs.Encoding.{asked_of_choices, transition_clause, transitions_to, transitions_under};
-ghost use Rattle.bounded_encoding.specs.Encoding.{transitions_along, transitions_in, transition_clauses};
+ghost use Rattle.bounded_encoding.specs.FrameView.{frame_tree, side_of, IsFramed, IsServed};
+ghost use Rattle.bounded_encoding.specs.Sides.{clause_along, clauses_to, clauses_from, clauses_under, clauses_along, clauses_in};
+ghost use Rattle.bounded_encoding.specs.Sides.{clauses_of_edges, clauses_of_side};
 ghost use Rattle.bounded_encoding.specs.Made.{with_clauses};
 ghost use Rattle.bounded_encoding.specs.Refusing.{Refuses};
-ghost use Rattle.bounded_encoding.specs.internal.Asking.{tree_of, IsCounted, IsWithinCounts};
+ghost use Rattle.bounded_encoding.specs.internal.Transitions.{IsWithin};
 
-use crate::asking::Question;
 use crate::builder::Builder;
-use crate::edge_literals::{Transition, asked_of_choices, met_valuations, transition_literals};
+use crate::edge_literals::{Transition, differing, transition_literals};
 use crate::errors::EncodeError;
+use crate::frame::{Frame, add_nexts, add_numbers, add_start};
+use crate::side::Side;
 use clause_core::Literal;
 use cobuchi_automata::Edge;
 use std::alloc::Global;
@@ -21,24 +23,22 @@ use std::alloc::Global;
 fn add_transition(
     alloc: Global,
     out: &mut Builder,
-    question: &Question,
+    frame: &Frame,
     transition: Transition,
-    asked: &[Literal],
+    unless: &[Literal],
     t: u32,
     i: u32,
 ) -> Result<(), EncodeError>
-    requires asked { IsCounted question.now }
-    requires transition { IsWithinCounts question.now transition }
-    requires next { t < question.now.states }
-    requires number { i < question.now.bound + 1 }
-    requires literals { asked.now ≡ asked_of_choices (tree_of question.now)
-        (edge_tree transition.edge) transition.state transition.valuation }
+    requires framed { IsFramed (frame_tree frame.now) }
+    requires within { IsWithin (frame_tree frame.now) transition }
+    requires next { t < frame.now.states }
+    requires number { i < frame.now.bound + 1 }
     ensures added { OnOk result (out.new ≡ with_clauses out.old
-        (transition_clause (tree_of question.now) transition.state (edge_tree transition.edge) transition.valuation t i ∷ [])) }
+        (clause_along (frame_tree frame.now) unless.now transition.state (edge_tree transition.edge) transition.row t i ∷ [])) }
     ensures refused { Refuses result (with_clauses out.old
-        (transition_clause (tree_of question.now) transition.state (edge_tree transition.edge) transition.valuation t i ∷ [])) }
+        (clause_along (frame_tree frame.now) unless.now transition.state (edge_tree transition.edge) transition.row t i ∷ [])) }
 {
-    let literals = transition_literals(alloc, question, transition, asked, t, i)?;
+    let literals = transition_literals(alloc, frame, transition, unless, t, i)?;
     out.add(alloc, literals.as_slice())
 }
 
@@ -47,31 +47,29 @@ fn add_transition(
 fn add_each_number(
     alloc: Global,
     out: &mut Builder,
-    question: &Question,
+    frame: &Frame,
     transition: Transition,
-    asked: &[Literal],
+    unless: &[Literal],
     t: u32,
 ) -> Result<(), EncodeError>
-    requires asked { IsCounted question.now }
-    requires transition { IsWithinCounts question.now transition }
-    requires next { t < question.now.states }
-    requires literals { asked.now ≡ asked_of_choices (tree_of question.now)
-        (edge_tree transition.edge) transition.state transition.valuation }
+    requires framed { IsFramed (frame_tree frame.now) }
+    requires within { IsWithin (frame_tree frame.now) transition }
+    requires next { t < frame.now.states }
     ensures added { OnOk result (out.new ≡ with_clauses out.old
-        (transitions_to (tree_of question.now) transition.state (edge_tree transition.edge) transition.valuation t)) }
+        (clauses_to (frame_tree frame.now) unless.now transition.state (edge_tree transition.edge) transition.row t)) }
     ensures refused { Refuses result (with_clauses out.old
-        (transitions_to (tree_of question.now) transition.state (edge_tree transition.edge) transition.valuation t)) }
+        (clauses_to (frame_tree frame.now) unless.now transition.state (edge_tree transition.edge) transition.row t)) }
 {
-    for i in 0..question.bound + 1 {
-        add_transition(alloc, out, question, transition, asked, t, i)?;
+    for i in 0..frame.bound + 1 {
+        add_transition(alloc, out, frame, transition, unless, t, i)?;
     }
     Ok(())
 }
 
 /// Whether a transition to a state leads from a pair to itself by an edge that is not rejecting. Its clauses have
 /// literals with their negations.
-pub fn leads_to_itself(state: u32, edge: Edge, t: u32) -> bool
-    ensures { result ≡ true → (state ≡ t) × (edge.from ≡ edge.to) × (edge.rejecting ≡ false) }
+pub(crate) fn leads_to_itself(state: u32, edge: Edge, t: u32) -> bool
+    ensures { (result ≡ true) ↔ ((state ≡ t) × (edge.from ≡ edge.to) × (edge.rejecting ≡ false)) }
 {
     state == t && edge.from == edge.to && !edge.rejecting
 }
@@ -80,25 +78,23 @@ pub fn leads_to_itself(state: u32, edge: Edge, t: u32) -> bool
 fn add_transitions_to(
     alloc: Global,
     out: &mut Builder,
-    question: &Question,
+    frame: &Frame,
     transition: Transition,
-    asked: &[Literal],
+    unless: &[Literal],
     t: u32,
 ) -> Result<(), EncodeError>
-    requires asked { IsCounted question.now }
-    requires transition { IsWithinCounts question.now transition }
-    requires next { t < question.now.states }
-    requires literals { asked.now ≡ asked_of_choices (tree_of question.now)
-        (edge_tree transition.edge) transition.state transition.valuation }
+    requires framed { IsFramed (frame_tree frame.now) }
+    requires within { IsWithin (frame_tree frame.now) transition }
+    requires next { t < frame.now.states }
     ensures added { OnOk result (out.new ≡ with_clauses out.old
-        (transitions_to (tree_of question.now) transition.state (edge_tree transition.edge) transition.valuation t)) }
+        (clauses_to (frame_tree frame.now) unless.now transition.state (edge_tree transition.edge) transition.row t)) }
     ensures refused { Refuses result (with_clauses out.old
-        (transitions_to (tree_of question.now) transition.state (edge_tree transition.edge) transition.valuation t)) }
+        (clauses_to (frame_tree frame.now) unless.now transition.state (edge_tree transition.edge) transition.row t)) }
 {
     if leads_to_itself(transition.state, transition.edge, t) {
         return Ok(());
     }
-    add_each_number(alloc, out, question, transition, asked, t)
+    add_each_number(alloc, out, frame, transition, unless, t)
 }
 
 /// Adds the clauses of a transition to each state.
@@ -106,145 +102,170 @@ fn add_transitions_to(
 fn add_each_next(
     alloc: Global,
     out: &mut Builder,
-    question: &Question,
+    frame: &Frame,
     transition: Transition,
-    asked: &[Literal],
+    unless: &[Literal],
 ) -> Result<(), EncodeError>
-    requires asked { IsCounted question.now }
-    requires transition { IsWithinCounts question.now transition }
-    requires literals { asked.now ≡ asked_of_choices (tree_of question.now)
-        (edge_tree transition.edge) transition.state transition.valuation }
+    requires framed { IsFramed (frame_tree frame.now) }
+    requires within { IsWithin (frame_tree frame.now) transition }
     ensures added { OnOk result (out.new ≡ with_clauses out.old
-        (transitions_under (tree_of question.now) transition.state (edge_tree transition.edge) transition.valuation)) }
+        (clauses_from (frame_tree frame.now) unless.now transition.state (edge_tree transition.edge) transition.row)) }
     ensures refused { Refuses result (with_clauses out.old
-        (transitions_under (tree_of question.now) transition.state (edge_tree transition.edge) transition.valuation)) }
+        (clauses_from (frame_tree frame.now) unless.now transition.state (edge_tree transition.edge) transition.row)) }
 {
-    for t in 0..question.states {
-        add_transitions_to(alloc, out, question, transition, asked, t)?;
+    for t in 0..frame.states {
+        add_transitions_to(alloc, out, frame, transition, unless, t)?;
     }
     Ok(())
 }
 
-/// Adds the clauses of a state, an edge and a valuation that meets it.
-fn add_transitions_under(
+/// Adds the clauses of a state, an edge and a row that meets it.
+fn add_transitions_under<S: Side>(
     alloc: Global,
     out: &mut Builder,
-    question: &Question,
+    frame: &Frame,
+    side: &S,
     transition: Transition,
 ) -> Result<(), EncodeError>
-    requires asked { IsCounted question.now }
-    requires transition { IsWithinCounts question.now transition }
+    requires served { IsServed frame.now (S.met side.now) (S.base side.now) (S.asked side.now) (S.is_cell side.now) }
+    requires within { IsWithin (frame_tree frame.now) transition }
     ensures added { OnOk result (out.new ≡ with_clauses out.old
-        (transitions_under (tree_of question.now) transition.state (edge_tree transition.edge) transition.valuation)) }
+        (clauses_under (side_of frame.now (S.met side.now) (S.base side.now)) transition.state (edge_tree transition.edge) transition.row)) }
     ensures refused { Refuses result (with_clauses out.old
-        (transitions_under (tree_of question.now) transition.state (edge_tree transition.edge) transition.valuation)) }
+        (clauses_under (side_of frame.now (S.met side.now) (S.base side.now)) transition.state (edge_tree transition.edge) transition.row)) }
 {
-    let asked = asked_of_choices(alloc, question, transition)?;
-    add_each_next(alloc, out, question, transition, asked.as_slice())
+    let base = side.own_base(transition.state, transition.row);
+    let unless = differing(alloc, base, frame.first_bit, frame.bits, transition.edge)?;
+    add_each_next(alloc, out, frame, transition, unless.as_slice())
 }
 
-/// Adds the clauses of a state and an edge, under each of some valuations.
+/// Adds the clauses of a state and an edge, in each of some rows.
 #[tactic(auto, using(crate::proofs::Adding::adding))]
-fn add_each_valuation(
+fn add_each_row<S: Side>(
     alloc: Global,
     out: &mut Builder,
-    question: &Question,
+    frame: &Frame,
+    side: &S,
     s: u32,
     edge: Edge,
     met: &[u32],
 ) -> Result<(), EncodeError>
-    requires asked { IsCounted question.now }
-    requires state { s < question.now.states }
-    requires between { IsBetween question.now.automaton.now.states edge }
-    requires met { All (λ v. v < question.now.valuations) met.now }
-    ensures added { OnOk result (out.new
-        ≡ with_clauses out.old (flat_map (transitions_under (tree_of question.now) s (edge_tree edge)) met.now)) }
-    ensures refused { Refuses result
-        (with_clauses out.old (flat_map (transitions_under (tree_of question.now) s (edge_tree edge)) met.now)) }
+    requires served { IsServed frame.now (S.met side.now) (S.base side.now) (S.asked side.now) (S.is_cell side.now) }
+    requires state { s < frame.now.states }
+    requires between { IsBetween frame.now.automaton.now.states edge }
+    requires met { All (λ r. r < frame.now.rows) met.now }
+    ensures added { OnOk result (out.new ≡ with_clauses out.old
+        (flat_map (clauses_under (side_of frame.now (S.met side.now) (S.base side.now)) s (edge_tree edge)) met.now)) }
+    ensures refused { Refuses result (with_clauses out.old
+        (flat_map (clauses_under (side_of frame.now (S.met side.now) (S.base side.now)) s (edge_tree edge)) met.now)) }
 {
-    for v in met {
+    for row in met {
         let transition = Transition {
             state: s,
             edge,
-            valuation: *v,
+            row: *row,
         };
-        add_transitions_under(alloc, out, question, transition)?;
+        add_transitions_under(alloc, out, frame, side, transition)?;
     }
     Ok(())
 }
 
 /// Adds the clauses of a state and an edge.
-fn add_transitions_along(
+fn add_transitions_along<S: Side>(
     alloc: Global,
     out: &mut Builder,
-    question: &Question,
+    frame: &Frame,
+    side: &S,
     s: u32,
     edge: Edge,
 ) -> Result<(), EncodeError>
-    requires asked { IsCounted question.now }
-    requires state { s < question.now.states }
-    requires between { IsBetween question.now.automaton.now.states edge }
-    ensures added { OnOk result (out.new ≡ with_clauses out.old (transitions_along (tree_of question.now) s (edge_tree edge))) }
-    ensures refused { Refuses result (with_clauses out.old (transitions_along (tree_of question.now) s (edge_tree edge))) }
+    requires served { IsServed frame.now (S.met side.now) (S.base side.now) (S.asked side.now) (S.is_cell side.now) }
+    requires state { s < frame.now.states }
+    requires between { IsBetween frame.now.automaton.now.states edge }
+    ensures added { OnOk result (out.new ≡ with_clauses out.old
+        (clauses_along (side_of frame.now (S.met side.now) (S.base side.now)) s (edge_tree edge))) }
+    ensures refused { Refuses result (with_clauses out.old
+        (clauses_along (side_of frame.now (S.met side.now) (S.base side.now)) s (edge_tree edge))) }
 {
-    if question.states == 1 && leads_to_itself(s, edge, 0) {
+    if frame.states == 1 && leads_to_itself(s, edge, 0) {
         return Ok(());
     }
-    let met = met_valuations(alloc, question, edge)?;
-    add_each_valuation(alloc, out, question, s, edge, met.as_slice())
+    let met = side.met_rows(alloc, edge)?;
+    add_each_row(alloc, out, frame, side, s, edge, met.as_slice())
 }
 
 /// Adds the clauses of a state and each of some edges.
 #[tactic(auto, using(crate::proofs::Adding::adding))]
-fn add_each_edge(
+fn add_each_edge<S: Side>(
     alloc: Global,
     out: &mut Builder,
-    question: &Question,
+    frame: &Frame,
+    side: &S,
     s: u32,
     edges: &[Edge],
 ) -> Result<(), EncodeError>
-    requires asked { IsCounted question.now }
-    requires state { s < question.now.states }
-    requires between { All (IsBetween question.now.automaton.now.states) edges.now }
-    ensures added { OnOk result (out.new
-        ≡ with_clauses out.old (flat_map (λ e. transitions_along (tree_of question.now) s (edge_tree e)) edges.now)) }
-    ensures refused { Refuses result
-        (with_clauses out.old (flat_map (λ e. transitions_along (tree_of question.now) s (edge_tree e)) edges.now)) }
+    requires served { IsServed frame.now (S.met side.now) (S.base side.now) (S.asked side.now) (S.is_cell side.now) }
+    requires state { s < frame.now.states }
+    requires between { All (IsBetween frame.now.automaton.now.states) edges.now }
+    ensures added { OnOk result (out.new ≡ with_clauses out.old
+        (flat_map (λ e. clauses_along (side_of frame.now (S.met side.now) (S.base side.now)) s (edge_tree e)) edges.now)) }
+    ensures refused { Refuses result (with_clauses out.old
+        (flat_map (λ e. clauses_along (side_of frame.now (S.met side.now) (S.base side.now)) s (edge_tree e)) edges.now)) }
 {
     for edge in edges {
-        add_transitions_along(alloc, out, question, s, *edge)?;
+        add_transitions_along(alloc, out, frame, side, s, *edge)?;
     }
     Ok(())
 }
 
 /// Adds the clauses of a state's transitions.
-fn add_transitions_in(
+fn add_transitions_in<S: Side>(
     alloc: Global,
     out: &mut Builder,
-    question: &Question,
+    frame: &Frame,
+    side: &S,
     s: u32,
 ) -> Result<(), EncodeError>
-    requires asked { IsCounted question.now }
-    requires state { s < question.now.states }
-    ensures added { OnOk result (out.new ≡ with_clauses out.old (transitions_in (tree_of question.now) s)) }
-    ensures refused { Refuses result (with_clauses out.old (transitions_in (tree_of question.now) s)) }
+    requires served { IsServed frame.now (S.met side.now) (S.base side.now) (S.asked side.now) (S.is_cell side.now) }
+    requires state { s < frame.now.states }
+    ensures added { OnOk result (out.new ≡ with_clauses out.old (clauses_in (side_of frame.now (S.met side.now) (S.base side.now)) s)) }
+    ensures refused { Refuses result (with_clauses out.old (clauses_in (side_of frame.now (S.met side.now) (S.base side.now)) s)) }
 {
-    add_each_edge(alloc, out, question, s, question.automaton.edges.as_slice())
+    add_each_edge(alloc, out, frame, side, s, frame.automaton.edges.as_slice())
 }
 
 /// Adds the clauses of all transitions.
 #[tactic(auto, using(crate::proofs::Adding::adding))]
-pub(crate) fn add_transitions(
+fn add_transitions<S: Side>(
     alloc: Global,
     out: &mut Builder,
-    question: &Question,
+    frame: &Frame,
+    side: &S,
 ) -> Result<(), EncodeError>
-    requires asked { IsCounted question.now }
-    ensures added { OnOk result (out.new ≡ with_clauses out.old (transition_clauses (tree_of question.now))) }
-    ensures refused { Refuses result (with_clauses out.old (transition_clauses (tree_of question.now))) }
+    requires served { IsServed frame.now (S.met side.now) (S.base side.now) (S.asked side.now) (S.is_cell side.now) }
+    ensures added { OnOk result (out.new ≡ with_clauses out.old (clauses_of_edges (side_of frame.now (S.met side.now) (S.base side.now)))) }
+    ensures refused { Refuses result (with_clauses out.old (clauses_of_edges (side_of frame.now (S.met side.now) (S.base side.now)))) }
 {
-    for s in 0..question.states {
-        add_transitions_in(alloc, out, question, s)?;
+    for s in 0..frame.states {
+        add_transitions_in(alloc, out, frame, side, s)?;
     }
     Ok(())
+}
+
+/// Adds all clauses of a side: those of next states, of the start, of numbers and of transitions.
+#[tactic(auto, using(crate::proofs::Adding::adding))]
+pub fn add_side<S: Side>(
+    alloc: Global,
+    out: &mut Builder,
+    frame: &Frame,
+    side: &S,
+) -> Result<(), EncodeError>
+    requires served { IsServed frame.now (S.met side.now) (S.base side.now) (S.asked side.now) (S.is_cell side.now) }
+    ensures added { OnOk result (out.new ≡ with_clauses out.old (clauses_of_side (side_of frame.now (S.met side.now) (S.base side.now)))) }
+    ensures refused { Refuses result (with_clauses out.old (clauses_of_side (side_of frame.now (S.met side.now) (S.base side.now)))) }
+{
+    add_nexts(alloc, out, frame)?;
+    add_start(alloc, out, frame)?;
+    add_numbers(alloc, out, frame)?;
+    add_transitions(alloc, out, frame, side)
 }

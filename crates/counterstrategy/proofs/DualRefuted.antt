@@ -5,11 +5,9 @@ use Rattle.clause_core.specs.Clauses.{AreUnsatisfiable}
 use Rattle.bounded_encoding.specs.Question.{QuestionTree, IsPosed}
 use Rattle.counterstrategy.specs.EnvironmentQuestion.{HasNoEnvironment}
 use Rattle.counterstrategy.specs.DualEncoding.{dual_encoding}
-use Rattle.counterstrategy.proofs.DualDemands.{dual_encoding_is_met}
-use Rattle.counterstrategy.proofs.EnvironmentEncoded.{dual_assignment, are_dual_met_by_it}
+use Rattle.counterstrategy.proofs.EnvironmentEncoded.{dual_assignment, dual_encoding_is_met}
 
 pub no_environment : (q : QuestionTree) → IsPosed q → AreUnsatisfiable (dual_encoding q) → HasNoEnvironment q
 no_environment q posed never environment number solution =
     false≢true (sym (never (dual_assignment q posed environment number solution))
-    ∙ dual_encoding_is_met q (dual_assignment q posed environment number solution)
-    (are_dual_met_by_it q posed environment number solution))
+    ∙ dual_encoding_is_met q posed environment number solution)

@@ -1,44 +1,24 @@
 -- The numbers of a question's variables fit.
-use Rattle.std.proofs.Common.{◌≡◌, ◌<◌, ◌≤◌, ◌+◌, ◌*◌, ◌^◌, ℕ, suc, arith}
-use Rattle.std.proofs.Math.Nat.{mul-le-mul, mul-le-mul_right}
+use Rattle.std.proofs.Common.{◌≡◌, ◌<◌, ◌≤◌, ◌+◌, ◌*◌, ◌^◌, ℕ, arith}
+use Rattle.std.proofs.Math.Nat.{mul-le-mul}
 use Rattle.letter_space.specs.declared.limits.TheConstants.{MOST_VECTORS}
 use Rattle.cobuchi_automata.specs.declared.build_error.TheConstants.{MOST_AUTOMATON_STATES}
 use Rattle.refutation_check.specs.declared.dimacs.TheConstants.{MOST_CLAUSES}
-use Rattle.bounded_encoding.proofs.Adding.{row, in_table}
 use Rattle.bounded_encoding.proofs.Posed.{is_posed}
-use Rattle.bounded_encoding.proofs.Sizes.{le_times, bound_fits}
+use Rattle.bounded_encoding.proofs.Sizes.{bound_fits}
 use Rattle.counterstrategy.specs.DualVariables.{tests_in_all, vectors_in_all}
 use Rattle.counterstrategy.specs.declared.dual_asking.DualQuestion.{DualQuestion}
 use Rattle.counterstrategy.specs.internal.DualAsking.{dual_tree, vector_letters, IsDualCounted}
+use Rattle.counterstrategy.proofs.DualOver.{tests_fit}
 
 -- all variables, by the counts of the question
 pub few_variables : (q : DualQuestion) → IsDualCounted q
     → q.states * q.tests + q.states * q.vectors * q.states + q.states * q.automaton.now.states * (q.bound + 1) < 2 ^ 31
 few_variables q h = rw (h.tests, h.vectors) h.few
 
-pub few_moves : (q : DualQuestion) → IsDualCounted q → q.states * q.vectors < 2 ^ 31
-few_moves q h = omega (arith, few_variables q h, le_times (q.states * q.vectors) q.states h.posed.has_state)
-
-pub few_pairs : (q : DualQuestion) → IsDualCounted q → q.states * q.automaton.now.states < 2 ^ 31
-few_pairs q h = let e : q.states * q.automaton.now.states ≤ q.states * q.automaton.now.states * (q.bound + 1) = le_times
-    (q.states * q.automaton.now.states) (q.bound + 1) (omega arith) in omega (arith, few_variables q h, e)
-
--- the indices of predicate terms, of successors and of numbers
+-- the indices of predicate terms
 pub test_fits : (q : DualQuestion) (s : ℕ) → s < q.states → s * q.tests + q.tests ≤ q.states * q.tests
-test_fits q s l =
-    let e : suc s * q.tests ≤ q.states * q.tests = mul-le-mul_right q.tests l in
-    let d : suc s * q.tests ≡ s * q.tests + q.tests = grind arith in
-    omega (arith, e, d)
-
-pub move_fits : (q : DualQuestion) (s u : ℕ) → s < q.states → u < q.vectors
-    → (s * q.vectors + u + 1 ≤ q.states * q.vectors)
-    × ((s * q.vectors + u) * q.states + q.states ≤ q.states * q.vectors * q.states)
-move_fits q s u l m = (in_table q.states q.vectors s u l m, row q.states q.vectors q.states s u l m)
-
-pub pair_fits : (q : DualQuestion) (s p : ℕ) → s < q.states → p < q.automaton.now.states
-    → (s * q.automaton.now.states + p + 1 ≤ q.states * q.automaton.now.states)
-    × ((s * q.automaton.now.states + p) * (q.bound + 1) + (q.bound + 1) ≤ q.states * q.automaton.now.states * (q.bound + 1))
-pair_fits q s p l m = (in_table q.states q.automaton.now.states s p l m, row q.states q.automaton.now.states (q.bound + 1) s p l m)
+test_fits q s l = tests_fit s q.states q.tests l
 
 -- a question within the limits, with right counts, is one that is asked
 variables_fit : (s t u p k : ℕ) → s ≤ 8 → t ≤ 10 → u ≤ 1024 → p ≤ 4096 → s * p * k ≤ 2000000

@@ -1,42 +1,31 @@
 -- A solution of a question for an environment gives an assignment that meets the encoding.
-use Rattle.std.proofs.Common.{◌≡◌, ◌∙◌, ℕ, ◌+◌, ◌-◌, ◌*◌, ◌<◌, ◌≤◌, ◌==◌, Bool, true, false, Option, None, Some, slice_get, Contains}
-use Rattle.std.proofs.Common.{option_map, option_and_then, refl, sym, ap, arith}
+use Rattle.std.proofs.Common.{◌≡◌, ◌∙◌, ℕ, ◌+◌, ◌-◌, ◌*◌, ◌<◌, ◌≤◌, ◌==◌, Bool, true, false, Option, Some, slice_get, Contains}
+use Rattle.std.proofs.Common.{option_map, option_and_then, sym, ap, arith}
 use Rattle.std.specs.Option.{option_map_or}
-use Rattle.std.specs.Prelude.{nat_le}
-use Rattle.std.proofs.lemmas.Bool.{eqb-true, leb-true, le-leb, false≢true}
-use Rattle.sequence.proofs.Booleans.{eqb_self}
 use Rattle.sequence.proofs.Each.{each_at}
-use Rattle.sequence.proofs.Places.{slice_get_some, contains_at}
+use Rattle.sequence.proofs.Places.{slice_get_some}
+use Rattle.clause_core.specs.Clauses.{meets_all}
 use Rattle.ltl_formula.specs.Cubes.{has_bit, cube_matches}
 use Rattle.letter_space.specs.Letters.{valuation_count, letter_of}
 use Rattle.letter_space.specs.Vectors.{picks_of}
 use Rattle.letter_space.proofs.LetterBits.{bit_below_picks}
 use Rattle.cobuchi_automata.specs.Automata.{EdgeTree}
 use Rattle.machines.specs.MachineTree.{EnvironmentTree, successor_at}
-use Rattle.annotation_check.specs.Annotations.{IsAtLeast, after_edge}
-use Rattle.annotation_check.proofs.LeavingEdges.{leaves}
-use Rattle.annotation_check.proofs.PairNumbers.{number_there, at_least, more_than_at_least}
-use Rattle.bounded_encoding.specs.Question.{QuestionTree, IsPosed, JoinsStates, WantsAsked}
+use Rattle.bounded_encoding.specs.Question.{QuestionTree, IsPosed, WantsAsked}
+use Rattle.bounded_encoding.proofs.KeptClauses.{kept_meets}
+use Rattle.bounded_encoding.proofs.Ranges.{filtered_in_range}
+use Rattle.bounded_encoding.proofs.SideDemands.{IsAsAsked, clauses_are_met}
+use Rattle.bounded_encoding.proofs.SideEncoded.{reaches_number, SaysMove, are_met_by_moves}
 use Rattle.bounded_encoding.proofs.Tables.{place_within, cell_in_row}
-use Rattle.bounded_encoding.proofs.SolutionsAreAssignments.ExactlyOne.{IsOneOf}
 use Rattle.machines.specs.Moves.{move_under, environment_move, environment_moves}
 use Rattle.counterstrategy.specs.EnvironmentQuestion.{IsEnvironmentSolution}
 use Rattle.counterstrategy.specs.DualVariables.{DualVariable, holds_in, moves_to, has_number, tests_in_all, vectors_in_all, IsDualVariable}
 use Rattle.counterstrategy.specs.DualVariables.{dual_variable, is_set_in}
-use Rattle.counterstrategy.specs.DualEncoding.{meets_choices}
+use Rattle.counterstrategy.specs.DualEncoding.{meets_choices, environment_side, dual_demands, dual_encoding}
 use Rattle.machines.proofs.RangeMembers.{given_to}
+use Rattle.counterstrategy.proofs.DualOver.{is_environment_side}
 use Rattle.counterstrategy.proofs.HighBits.{match_from_halves}
 use Rattle.counterstrategy.proofs.DualNumbers.{variable_is}
-use Rattle.counterstrategy.proofs.DualDemands.{AreDualMet, AreTestsAsAsked, IsNumberedBehind}
-
--- a number that is there and at least so large, as a test
-at_least_from_test : (i : ℕ) (o : Option ℕ) → option_map_or (λ n. nat_le i n) o false ≡ true → IsAtLeast i o
-at_least_from_test i None is = absurd (false≢true is)
-at_least_from_test i (Some n) is = leb-true i n is
-
-test_from_at_least : (i : ℕ) (o : Option ℕ) → IsAtLeast i o → option_map_or (λ n. nat_le i n) o false ≡ true
-test_from_at_least i None is = absurd is
-test_from_at_least i (Some n) is = le-leb i n is
 
 module _ (q : QuestionTree) (posed : IsPosed q) (environment : EnvironmentTree) (number : ℕ → ℕ → Option ℕ)
     (solution : IsEnvironmentSolution q environment number) where
@@ -44,7 +33,7 @@ module _ (q : QuestionTree) (posed : IsPosed q) (environment : EnvironmentTree) 
   abbrev truth : DualVariable → Bool
   truth (holds_in s b) = option_map_or (has_bit b) (slice_get environment.truths s) false
   truth (moves_to s u t) = option_map_or (λ next. next == t) (successor_at environment s u) false
-  truth (has_number s p i) = option_map_or (λ n. nat_le i n) (number s p) false
+  truth (has_number s p i) = reaches_number i (number s p)
 
   abbrev pub dual_assignment : ℕ → Bool
   dual_assignment k = truth (dual_variable q k)
@@ -88,18 +77,14 @@ module _ (q : QuestionTree) (posed : IsPosed q) (environment : EnvironmentTree) 
     successor_is t below =
         set_is (moves_to s u t) (in_states, in_vectors, below) ∙ ap (λ o. option_map_or (λ next. next == t) o false) goes_here.1
 
-    one_successor : IsOneOf (λ t. is_set_in q dual_assignment (moves_to s u t)) 0 q.states
-    one_successor = record {
-      some = (goes_here.0, omega arith, goes_here.2, successor_is goes_here.0 goes_here.2 ∙ eqb_self goes_here.0);
-      one = λ x y from below from_too below_too is is_too.
-          sym (eqb-true goes_here.0 x (sym (successor_is x below) ∙ is)) ∙ eqb-true goes_here.0 y (sym (successor_is y below_too) ∙ is_too);
-    }
-
-    letter_matches : (e : EdgeTree) → WantsAsked e → meets_choices q e u ≡ true → AreTestsAsAsked q dual_assignment s e →
+    letter_matches : (e : EdgeTree) → WantsAsked e → meets_choices q e u ≡ true → IsAsAsked (environment_side q) dual_assignment e s u →
         cube_matches e.care e.want letter ≡ true
     letter_matches e within choices asked =
         match_from_halves q.space true_here.0 true_here.2 (picks_of q.space.controlled u) e.care e.want within
-        (λ b below asks. sym (truth_is b below) ∙ asked b below asks) choices
+        (λ b below asks.
+        let zero_more : 0 + b ≡ b = omega arith in
+        sym (truth_is b below) ∙ (asked b below (ap (λ k. has_bit k e.care) zero_more ∙ asks) ∙ ap (λ k. has_bit k e.want) zero_more))
+        choices
 
     move_there : Contains (environment_moves q.space environment s) (move_under q.space true_here.0 u goes_here.0)
     move_there =
@@ -108,49 +93,22 @@ module _ (q : QuestionTree) (posed : IsPosed q) (environment : EnvironmentTree) 
         (ap (λ o. option_and_then (λ truths. option_map (move_under q.space truths u) (successor_at environment s u)) o) true_here.1
         ∙ ap (option_map (move_under q.space true_here.0 u)) goes_here.1)
 
-    -- the number after an edge that the letter matches
-    number_after : (j n : ℕ) (e : EdgeTree) → slice_get q.edges j ≡ Some e → number s e.from ≡ Some n →
-        cube_matches e.care e.want letter ≡ true → (m : ℕ) × (number goes_here.0 e.to ≡ Some m) × (after_edge n e ≤ m)
-    number_after j n e at numbered matches =
-        number_there (after_edge n e) (number goes_here.0 e.to)
-        (solution.annotation.numbering.goes_on s e.from n numbered (move_under q.space true_here.0 u goes_here.0) move_there e
-        (leaves q.edges e.from e (contains_at q.edges j e at) refl) matches)
+    says_move : SaysMove (environment_side q) (is_environment_side q posed) dual_assignment (environment_moves q.space environment) s u
+    says_move = record {
+      letter = letter;
+      next = goes_here.0;
+      within = goes_here.2;
+      next_is = successor_is;
+      move = move_there;
+      matches = λ j k e at met_at asked.
+          letter_matches e (each_at WantsAsked q.edges j e posed.within at)
+          (filtered_in_range (meets_choices q e) 0 (vectors_in_all q) k u met_at).2 asked;
+    }
 
-    -- so along an edge whose tests and choices are met the next pair is numbered as it asks
-    after_is_numbered : (t i m : ℕ) (e : EdgeTree) → t < q.states → e.to < q.automaton_states → goes_here.0 ≡ t →
-        number goes_here.0 e.to ≡ Some m → after_edge i e ≤ m → IsNumberedBehind q dual_assignment e t i
-    after_is_numbered t i m e in_states_too in_automaton next numbered enough =
-        let most = solution.annotation.within goes_here.0 e.to m numbered in
-        let within : after_edge i e ≤ q.bound = omega (arith, enough, most) in (
-          within,
-          set_is (has_number t e.to (after_edge i e)) (in_states_too, in_automaton, omega (arith, within))
-              ∙ test_from_at_least (after_edge i e) (number t e.to)
-              (at_least (after_edge i e) m (number t e.to) (ap (λ k. number k e.to) (sym next) ∙ numbered) enough),
-        )
-
-    numbered_along : (j t i : ℕ) (e : EdgeTree) → slice_get q.edges j ≡ Some e → meets_choices q e u ≡ true → t < q.states →
-        i ≤ q.bound → is_set_in q dual_assignment (has_number s e.from i) ≡ true →
-        is_set_in q dual_assignment (moves_to s u t) ≡ true → AreTestsAsAsked q dual_assignment s e →
-        IsNumberedBehind q dual_assignment e t i
-    numbered_along j t i e at choices in_states_too within numbered goes asked =
-        let between = each_at (JoinsStates q.automaton_states) q.edges j e posed.between at in
-        let from = number_there i (number s e.from) (at_least_from_test i (number s e.from)
-        (sym (set_is (has_number s e.from i) (in_states, between.0, omega arith)) ∙ numbered)) in
-        let next = eqb-true goes_here.0 t (sym (successor_is t in_states_too) ∙ goes) in
-        let least = number_after j from.0 e at from.1 (letter_matches e (each_at WantsAsked q.edges j e posed.within at) choices asked) in
-        let lower = from.2 in
-        let higher = least.2 in
-        after_is_numbered t i least.0 e in_states_too between.1 next least.1 (omega (arith, lower, higher))
-
-  pub are_dual_met_by_it : AreDualMet q dual_assignment
-  are_dual_met_by_it = record {
-    successors = one_successor;
-    start = set_is (has_number 0 0 0) (posed.has_state, posed.automaton_starts, omega arith)
-        ∙ test_from_at_least 0 (number 0 0) solution.annotation.numbering.start;
-    falling = λ s p i in_states in_automaton some most is.
-        set_is (has_number s p (i - 1)) (in_states, in_automaton, omega arith)
-        ∙ test_from_at_least (i - 1) (number s p) (more_than_at_least (i - 1) i (number s p) (omega arith)
-        (at_least_from_test i (number s p) (sym (set_is (has_number s p i) (in_states, in_automaton, omega arith)) ∙ is)));
-    steps = λ s j u t i e in_states at in_vectors choices in_states_too most numbered goes asked.
-        numbered_along s u in_states in_vectors j t i e at choices in_states_too most numbered goes asked;
-  }
+  pub dual_encoding_is_met : meets_all dual_assignment (dual_encoding q) ≡ true
+  dual_encoding_is_met =
+      kept_meets dual_assignment (dual_demands q)
+      ∙ clauses_are_met (environment_side q) dual_assignment
+      (are_met_by_moves (environment_side q) (is_environment_side q posed) dual_assignment (environment_moves q.space environment) number
+      solution.annotation says_move
+      (λ s p i in_states in_automaton within. set_is (has_number s p i) (in_states, in_automaton, within)))

@@ -6,11 +6,12 @@ use Rattle.cobuchi_automata.specs.Automata.{EdgeTree}
 use Rattle.clause_core.specs.Clauses.{meets_all}
 use Rattle.machines.specs.MachineTree.{EnvironmentTree}
 use Rattle.bounded_encoding.specs.Question.{QuestionTree}
-use Rattle.bounded_encoding.specs.Variables.{yes_at, no_at}
+use Rattle.bounded_encoding.specs.SimpleClauses.{yes_at, no_at}
+use Rattle.bounded_encoding.specs.Reading.{numbers_of}
 use Rattle.machines.specs.Moves.{environment_moves}
 use Rattle.counterstrategy.specs.DualVariables.{holds_in, moves_to, has_number, dual_index, dual_variable, dual_variable_count}
-use Rattle.counterstrategy.specs.DualEncoding.{met_vectors, dual_encoding}
-use Rattle.counterstrategy.specs.DualDecoding.{bits_passing, environment_read, dual_numbers_read, dual_number_read}
+use Rattle.counterstrategy.specs.DualEncoding.{environment_frame, met_vectors, dual_encoding}
+use Rattle.counterstrategy.specs.DualDecoding.{bits_passing, environment_read, dual_number_read}
 
 -- a loop that is rejecting, where the test holds and the first choice is taken
 abbrev edge : EdgeTree
@@ -79,7 +80,7 @@ what_is_read = refl
 number_of_start : dual_number_read (question 0) test_fails 0 0 ≡ Some 0
 number_of_start = refl
 
-nothing_true : dual_numbers_read (question 1) (λ n. false) ≡ None ∷ []
+nothing_true : numbers_of (environment_frame (question 1)) (λ n. false) ≡ None ∷ []
 nothing_true = refl
 
 second_bit_alone : bits_passing (λ b. test_fails b) 2 ≡ 2

@@ -1,3 +1,2 @@
 pub mod DualAsking
 pub mod DualReading
-pub mod DualGrids

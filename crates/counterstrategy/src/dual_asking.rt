@@ -7,7 +7,7 @@ ghost use Rattle.letter_space.specs.SpaceView.{space_tree};
 ghost use Rattle.cobuchi_automata.specs.declared.build_error.TheConstants.{MOST_AUTOMATON_STATES};
 ghost use Rattle.refutation_check.specs.declared.dimacs.TheConstants.{MOST_CLAUSES};
 ghost use Rattle.bounded_encoding.specs.QuestionView.{question_of};
-ghost use Rattle.counterstrategy.specs.DualVariables.{before_moves, before_pairs, tests_in_all, vectors_in_all};
+ghost use Rattle.counterstrategy.specs.DualVariables.{tests_in_all};
 ghost use Rattle.counterstrategy.specs.internal.DualAsking.{dual_tree, vector_letters, IsDualCounted};
 
 use cobuchi_automata::Automaton;
@@ -70,30 +70,4 @@ pub(crate) fn test_base(question: &DualQuestion, s: u32) -> u32
     ensures room { result + tests_in_all (dual_tree question.now) < 2 ^ 31 }
 {
     s * question.tests
-}
-
-/// The index of the first successor of a state under a vector.
-pub(crate) fn move_base(question: &DualQuestion, s: u32, u: u32) -> u32
-    requires asked { IsDualCounted question.now }
-    requires state { s < question.now.states }
-    requires vector { u < question.now.vectors }
-    ensures value { result ≡ before_moves (dual_tree question.now) + (s * vectors_in_all (dual_tree question.now) + u) *
-        question.now.states }
-    ensures room { result + question.now.states < 2 ^ 31 }
-{
-    question.states * question.tests + (s * question.vectors + u) * question.states
-}
-
-/// The index of the first number of a pair of states.
-pub(crate) fn pair_base(question: &DualQuestion, s: u32, p: u32) -> u32
-    requires asked { IsDualCounted question.now }
-    requires state { s < question.now.states }
-    requires automaton_state { p < question.now.automaton.now.states }
-    ensures value { result ≡ before_pairs (dual_tree question.now) + (s * question.now.automaton.now.states + p) *
-        (question.now.bound + 1) }
-    ensures room { result + question.now.bound + 1 < 2 ^ 31 }
-{
-    question.states * question.tests
-        + question.states * question.vectors * question.states
-        + (s * question.automaton.states + p) * (question.bound + 1)
 }

@@ -1,24 +1,20 @@
 //! The question for an environment as clauses.
 
-ghost use Rattle.std.specs.Prelude.{◌≡◌, ◌<◌, ◌≤◌, ◌*◌, length, IfOk, IfErr, OnOk};
+ghost use Rattle.std.specs.Prelude.{◌≡◌, ◌<◌, ◌≤◌, ◌*◌, length, IfOk, IfErr};
 ghost use Rattle.letter_space.specs.declared.limits.TheConstants.{MOST_VECTORS};
 ghost use Rattle.letter_space.specs.Vectors.{vector_count};
 ghost use Rattle.letter_space.specs.SpaceView.{space_tree};
 ghost use Rattle.cobuchi_automata.specs.declared.build_error.TheConstants.{MOST_AUTOMATON_STATES};
 ghost use Rattle.refutation_check.specs.declared.dimacs.TheConstants.{MOST_CLAUSES};
 ghost use Rattle.bounded_encoding.specs.QuestionView.{question_of};
-ghost use Rattle.bounded_encoding.specs.Made.{with_clauses};
-ghost use Rattle.bounded_encoding.specs.Refusing.{Refuses};
 ghost use Rattle.bounded_encoding.specs.declared.errors.EncodeError.TheVariants.{Clauses};
 ghost use Rattle.counterstrategy.specs.DualVariables.{dual_variable_count};
-ghost use Rattle.counterstrategy.specs.DualEncoding.{dual_demands, dual_encoding};
+ghost use Rattle.counterstrategy.specs.DualEncoding.{dual_encoding};
 ghost use Rattle.counterstrategy.specs.DualAnswers.{IsAskable, HasDualCause};
-ghost use Rattle.counterstrategy.specs.internal.DualAsking.{dual_tree, IsDualCounted};
 
-use crate::dual_asking::{DualQuestion, dual_question_asked};
+use crate::dual_asking::dual_question_asked;
 use crate::dual_error::DualError;
-use crate::environment_clauses::{add_first_pair, add_pair_numbers, add_successors};
-use crate::step_clauses::add_steps;
+use crate::environment_side::{add_dual_demands, dual_variable_count};
 use crate::vector_letters::letters_of_vectors;
 use bounded_encoding::{Builder, EncodeError, falling_count};
 use clause_core::Cnf;
@@ -89,36 +85,9 @@ fn encode_with(
     );
     let mut out = Builder::new(alloc, MOST_CLAUSES);
     add_dual_demands(alloc, &mut out, &question)?;
-    let variables = dual_variables_in_all(&question);
+    let variables = dual_variable_count(&question);
     Ok(Cnf {
         variables,
         clauses: out.into_list(),
     })
-}
-
-/// How many variables there are.
-fn dual_variables_in_all(question: &DualQuestion) -> u32
-    requires asked { IsDualCounted question.now }
-    ensures { result ≡ dual_variable_count (dual_tree question.now) }
-{
-    question.states * question.tests
-        + question.states * question.vectors * question.states
-        + question.states * question.automaton.states * (question.bound + 1)
-}
-
-/// Adds all clauses of a question.
-#[tactic(auto, using(bounded_encoding::proofs::Adding::adding))]
-fn add_dual_demands(
-    alloc: Global,
-    out: &mut Builder,
-    question: &DualQuestion,
-) -> Result<(), EncodeError>
-    requires asked { IsDualCounted question.now }
-    ensures added { OnOk result (out.new ≡ with_clauses out.old (dual_demands (dual_tree question.now))) }
-    ensures refused { Refuses result (with_clauses out.old (dual_demands (dual_tree question.now))) }
-{
-    add_successors(alloc, out, question)?;
-    add_first_pair(alloc, out, question)?;
-    add_pair_numbers(alloc, out, question)?;
-    add_steps(alloc, out, question)
 }

@@ -14,12 +14,12 @@ ghost use Rattle.counterstrategy.specs.DualAnswers.{IsFoundDual, IsRightDual, Ha
 use crate::dual_answers::FoundDual;
 use crate::dual_encoding::encode_dual;
 use crate::dual_error::DualError;
-use crate::environment_reading::{environment_read, pair_numbers_read};
-use annotation_check::Annotation;
+use crate::environment_reading::environment_read;
+use bounded_encoding::annotation_read;
 use cobuchi_automata::Automaton;
 use letter_space::Space;
 use sat_core::{Answer, solve};
-use sequence::{NoMemory, Sequence};
+use sequence::NoMemory;
 use std::alloc::Global;
 
 /// Looks for an environment with so many states and an annotation within a bound, where so many
@@ -76,10 +76,6 @@ fn answer_read(
     ensures { IfOk result (λ found. (budget : ℕ) → IsRightDual (question_of automaton.now space.now states bound) budget found) }
 {
     let environment = environment_read(alloc, truths, space, vectors, states)?;
-    let numbers = pair_numbers_read(alloc, truths, automaton, space, vectors, states, bound)?;
-    let annotation = Annotation {
-        bound,
-        numbers: Sequence::from_vec(numbers),
-    };
+    let annotation = annotation_read(alloc, truths, automaton, states, bound)?;
     Ok(FoundDual::Environment(environment, annotation))
 }

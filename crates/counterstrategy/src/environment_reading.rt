@@ -5,17 +5,12 @@ ghost use Rattle.clause_core.specs.Clauses.{assignment_of};
 ghost use Rattle.letter_space.specs.declared.limits.TheConstants.{MOST_VECTORS};
 ghost use Rattle.letter_space.specs.Letters.{with_bit};
 ghost use Rattle.letter_space.specs.SpaceView.{space_tree};
-ghost use Rattle.letter_space.specs.Vectors.{vector_count};
 ghost use Rattle.machines.specs.MachineView.{environment_tree};
 ghost use Rattle.bounded_encoding.specs.ClauseLists.{below};
-ghost use Rattle.bounded_encoding.specs.QuestionView.{question_of};
-ghost use Rattle.bounded_encoding.specs.Reading.{numbers_from_index};
-ghost use Rattle.counterstrategy.specs.DualVariables.{before_pairs, dual_variable_count};
 ghost use Rattle.counterstrategy.specs.DualDecoding.{bits_passing};
 ghost use Rattle.counterstrategy.specs.internal.DualReading.{truths_from, successors_from};
 
-use bounded_encoding::{first_true, numbers_read};
-use cobuchi_automata::Automaton;
+use bounded_encoding::first_true;
 use letter_space::Space;
 use machines::Environment;
 use sequence::{NoMemory, Sequence};
@@ -121,30 +116,4 @@ pub(crate) fn environment_read(
         truths: Sequence::from_vec(valuations),
         next: Sequence::from_vec(next),
     })
-}
-
-/// The numbers of all pairs of states that truths say. Their variables stand behind those of successors.
-pub(crate) fn pair_numbers_read(
-    alloc: Global,
-    truths: &[bool],
-    automaton: &Automaton,
-    space: &Space,
-    vectors: u32,
-    states: u32,
-    bound: u32,
-) -> Result<Vec<Option<u32>>, NoMemory>
-    requires vectors { vectors ≡ vector_count (space_tree space.now).controlled }
-    requires few_vectors { vectors ≤ MOST_VECTORS }
-    requires has_state { 1 ≤ states }
-    requires few_states { states ≤ 8 }
-    requires one_each { length truths.now ≡ dual_variable_count (question_of automaton.now space.now states bound) }
-    requires few { length truths.now < 2 ^ 31 }
-    ensures { let q = question_of automaton.now space.now states bound in
-        IfOk result (λ numbers. numbers.items
-        ≡ numbers_from_index (assignment_of truths.now) (before_pairs q) (bound + 1) (states * automaton.now.states)) }
-{
-    let rows = states as usize * vectors as usize;
-    let base = states as usize * tests_in_all(space) as usize + rows * states as usize;
-    let pairs = states as usize * automaton.states as usize;
-    numbers_read(alloc, truths, base, bound + 1, pairs)
 }

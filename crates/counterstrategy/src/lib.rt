@@ -13,12 +13,10 @@ mod dual_answers;
 mod dual_asking;
 mod dual_encoding;
 mod dual_error;
-mod environment_clauses;
 mod environment_finding;
 mod environment_reading;
+mod environment_side;
 mod laws;
-mod step_clauses;
-mod step_literals;
 mod vector_letters;
 
 pub use dual_answers::FoundDual;

@@ -1,42 +1,31 @@
 -- A solution of a question gives an assignment that meets the encoding.
 use Rattle.std.proofs.Common.{◌≡◌, ◌∙◌, ℕ, ◌+◌, ◌-◌, ◌*◌, ◌<◌, ◌≤◌, ◌==◌, Bool, true, false}
-use Rattle.std.proofs.Common.{length, Option, None, Some, slice_get, refl, sym, ap, arith}
+use Rattle.std.proofs.Common.{length, Option, Some, slice_get, sym, ap, arith}
 use Rattle.std.specs.Option.{option_map_or}
-use Rattle.std.specs.Prelude.{nat_le}
-use Rattle.std.proofs.lemmas.Bool.{eqb-true, eq-eqb, leb-true, le-leb, false≢true}
-use Rattle.sequence.proofs.Booleans.{eqb_self}
+use Rattle.std.proofs.lemmas.Bool.{eqb-true, eq-eqb}
 use Rattle.sequence.proofs.Each.{each_at}
-use Rattle.sequence.proofs.Places.{slice_get_some, contains_at}
+use Rattle.sequence.proofs.Places.{slice_get_some}
 use Rattle.ltl_formula.specs.Cubes.{has_bit, cube_matches}
 use Rattle.letter_space.specs.SpaceTree.{ControlledTree}
 use Rattle.letter_space.specs.Letters.{ArePicks, letter_of}
 use Rattle.letter_space.proofs.Places.{slice_get_image}
 use Rattle.cobuchi_automata.specs.Automata.{EdgeTree}
 use Rattle.machines.specs.MachineTree.{EntryTree, ControllerTree, controller_entry}
-use Rattle.annotation_check.specs.Annotations.{IsAtLeast, after_edge}
-use Rattle.annotation_check.proofs.LeavingEdges.{leaves}
-use Rattle.annotation_check.proofs.PairNumbers.{number_there, at_least, more_than_at_least}
-use Rattle.bounded_encoding.specs.Question.{QuestionTree, IsPosed, IsSolution, JoinsStates, WantsAsked}
+use Rattle.machines.specs.Moves.{controller_moves}
+use Rattle.bounded_encoding.specs.Question.{QuestionTree, IsPosed, IsSolution, WantsAsked}
 use Rattle.bounded_encoding.specs.Variables.{Variable, chooses, goes_to, is_numbered, valuations_of, choices_in_all, IsInRange, variables}
-use Rattle.bounded_encoding.specs.Encoding.{first_choice}
+use Rattle.bounded_encoding.specs.Encoding.{first_choice, controller_side}
 use Rattle.bounded_encoding.specs.Decoding.{is_set}
+use Rattle.bounded_encoding.proofs.Over.{is_controller_side}
+use Rattle.bounded_encoding.proofs.SideDemands.{IsAsAsked}
+use Rattle.bounded_encoding.proofs.SideEncoded.{reaches_number, SaysMove, are_met_by_moves}
 use Rattle.bounded_encoding.proofs.SolutionsAreAssignments.CubeBits.{match_from_parts}
 use Rattle.bounded_encoding.proofs.SolutionsAreAssignments.LetterChoices.{signal_within, pick_at, choice_bits, valuation_bits, letter_below}
 use Rattle.bounded_encoding.proofs.Tables.{place_within, cell_in_row}
-use Rattle.bounded_encoding.proofs.SolutionsAreAssignments.MovesHeld.{move_of, entry_move}
+use Rattle.bounded_encoding.proofs.SolutionsAreAssignments.MovesHeld.{entry_move}
 use Rattle.bounded_encoding.proofs.SolutionsAreAssignments.ExactlyOne.{IsOneOf}
-use Rattle.bounded_encoding.proofs.SolutionsAreAssignments.Demands.{WantsFew, MeetsTests, AreMet}
-use Rattle.bounded_encoding.proofs.SolutionsAreAssignments.Transitions.{AreAsAsked, IsNumberedAfter, clause_from}
+use Rattle.bounded_encoding.proofs.SolutionsAreAssignments.Demands.{WantsFew, MeetsTests, AreMet, valuation_meets}
 use Rattle.bounded_encoding.proofs.Numbers.{variable_at}
-
--- a number that is there and at least so large, as a test
-at_least_from_test : (i : ℕ) (o : Option ℕ) → option_map_or (λ n. nat_le i n) o false ≡ true → IsAtLeast i o
-at_least_from_test i None is = absurd (false≢true is)
-at_least_from_test i (Some n) is = leb-true i n is
-
-test_from_at_least : (i : ℕ) (o : Option ℕ) → IsAtLeast i o → option_map_or (λ n. nat_le i n) o false ≡ true
-test_from_at_least i None is = absurd is
-test_from_at_least i (Some n) is = le-leb i n is
 
 module _ (q : QuestionTree) (posed : IsPosed q) (c : ControllerTree) (number : ℕ → ℕ → Option ℕ) (solution : IsSolution q c number) where
   -- what a solution makes of each variable
@@ -45,7 +34,7 @@ module _ (q : QuestionTree) (posed : IsPosed q) (c : ControllerTree) (number : �
       option_map_or (λ (e : EntryTree). has_bit (length q.space.predicates + b) (letter_of q.space v e.choices))
       (controller_entry c s v) false
   truth (goes_to s v t) = option_map_or (λ (e : EntryTree). e.next == t) (controller_entry c s v) false
-  truth (is_numbered s p i) = option_map_or (λ n. nat_le i n) (number s p) false
+  truth (is_numbered s p i) = reaches_number i (number s p)
 
   abbrev pub assignment : ℕ → Bool
   assignment i = option_map_or truth (slice_get (variables q) i) false
@@ -95,13 +84,6 @@ module _ (q : QuestionTree) (posed : IsPosed q) (c : ControllerTree) (number : �
         set_is (goes_to s v t) (in_states, in_valuations, below)
         ∙ ap (λ o. option_map_or (λ (e : EntryTree). e.next == t) o false) here.there
 
-    one_next : IsOneOf (λ t. is_set q assignment (goes_to s v t)) 0 q.states
-    one_next = record {
-      some = (here.entry.next, omega arith, here.next, next_is here.entry.next here.next ∙ eqb_self here.entry.next);
-      one = λ x y from below from_too below_too is is_too.
-          sym (eqb-true here.entry.next x (sym (next_is x below) ∙ is)) ∙ eqb-true here.entry.next y (sym (next_is y below_too) ∙ is_too);
-    }
-
     module _ (i : ℕ) (g : ControlledTree) (at : slice_get q.space.controlled i ≡ Some g) where
       picked : (pick : ℕ) × (slice_get here.entry.choices i ≡ Some pick) × (pick < length g.choices)
       picked = pick_at q.space.controlled here.entry.choices here.picks i g at
@@ -138,7 +120,7 @@ module _ (q : QuestionTree) (posed : IsPosed q) (c : ControllerTree) (number : �
                 omega (arith, left, right, from, from_too);
           }
 
-    letter_matches : (e : EdgeTree) → WantsAsked e → WantsFew q e → MeetsTests q e v → AreAsAsked q assignment s e v →
+    letter_matches : (e : EdgeTree) → WantsAsked e → WantsFew q e → MeetsTests q e v → IsAsAsked (controller_side q) assignment e s v →
         cube_matches e.care e.want letter ≡ true
     letter_matches e within few tests asked =
         match_from_parts e.care e.want letter (length q.space.predicates) (choices_in_all q) v within few
@@ -146,51 +128,22 @@ module _ (q : QuestionTree) (posed : IsPosed q) (c : ControllerTree) (number : �
         (valuation_bits q.space posed.space v in_valuations here.entry.choices here.picks) tests
         (λ b below asks. sym (asked b below asks) ∙ choice_is b below)
 
-    -- the number after an edge that the letter matches
-    number_after : (j n : ℕ) (e : EdgeTree) → slice_get q.edges j ≡ Some e → number s e.from ≡ Some n →
-        cube_matches e.care e.want letter ≡ true → (m : ℕ) × (number here.entry.next e.to ≡ Some m) × (after_edge n e ≤ m)
-    number_after j n e at numbered matches =
-        let few : v < c.valuations = omega (arith, solution.fits.valuations, in_valuations) in
-        number_there (after_edge n e) (number here.entry.next e.to)
-        (solution.annotation.numbering.goes_on s e.from n numbered (move_of q.space v here.entry)
-        (entry_move q.space c s v here.entry few here.stands) e (leaves q.edges e.from e (contains_at q.edges j e at) refl) matches)
-
-    -- so along an edge whose tests and choices are met the next pair is numbered as it asks
-    after_is_numbered : (t i m : ℕ) (e : EdgeTree) → t < q.states → e.to < q.automaton_states → here.entry.next ≡ t →
-        number here.entry.next e.to ≡ Some m → after_edge i e ≤ m → IsNumberedAfter q assignment s e v t i
-    after_is_numbered t i m e in_states_too in_automaton next numbered enough =
-        let most = solution.annotation.within here.entry.next e.to m numbered in
-        let within : after_edge i e ≤ q.bound = omega (arith, enough, most) in (
-          within,
-          set_is (is_numbered t e.to (after_edge i e)) (in_states_too, in_automaton, omega (arith, within))
-              ∙ test_from_at_least (after_edge i e) (number t e.to)
-              (at_least (after_edge i e) m (number t e.to) (ap (λ k. number k e.to) (sym next) ∙ numbered) enough),
-        )
-
-    numbered_along : (j t i : ℕ) (e : EdgeTree) → slice_get q.edges j ≡ Some e → WantsFew q e → MeetsTests q e v → t < q.states →
-        i ≤ q.bound → is_set q assignment (is_numbered s e.from i) ≡ true → is_set q assignment (goes_to s v t) ≡ true →
-        AreAsAsked q assignment s e v → IsNumberedAfter q assignment s e v t i
-    numbered_along j t i e at few tests in_states_too within numbered goes asked =
-        let between = each_at (JoinsStates q.automaton_states) q.edges j e posed.between at in
-        let from = number_there i (number s e.from) (at_least_from_test i (number s e.from)
-        (sym (set_is (is_numbered s e.from i) (in_states, between.0, omega arith)) ∙ numbered)) in
-        let next = eqb-true here.entry.next t (sym (next_is t in_states_too) ∙ goes) in
-        let least = number_after j from.0 e at from.1 (letter_matches e (each_at WantsAsked q.edges j e posed.within at) few tests asked) in
-        let lower = from.2 in
-        let higher = least.2 in
-        after_is_numbered t i least.0 e in_states_too between.1 next least.1 (omega (arith, lower, higher))
+    says_move : SaysMove (controller_side q) (is_controller_side q posed) assignment (controller_moves q.space c) s v
+    says_move = record {
+      letter = letter;
+      next = here.entry.next;
+      within = here.next;
+      next_is = next_is;
+      move = entry_move q.space c s v here.entry (omega (arith, solution.fits.valuations, in_valuations)) here.stands;
+      matches = λ j k e at met_at asked.
+          let tests = valuation_meets q e k v met_at in
+          letter_matches e (each_at WantsAsked q.edges j e posed.within at) tests.0 tests.2 asked;
+    }
 
   pub are_met_by_it : AreMet q assignment
   are_met_by_it = record {
     choices = λ s v i g in_states in_valuations at. one_choice s v in_states in_valuations i g at;
-    nexts = λ s v in_states in_valuations. one_next s v in_states in_valuations;
-    start = set_is (is_numbered 0 0 0) (posed.has_state, posed.automaton_starts, omega arith)
-        ∙ test_from_at_least 0 (number 0 0) solution.annotation.numbering.start;
-    falls = λ s p i in_states in_automaton some within is.
-        set_is (is_numbered s p (i - 1)) (in_states, in_automaton, omega arith)
-        ∙ test_from_at_least (i - 1) (number s p) (more_than_at_least (i - 1) i (number s p) (omega arith)
-        (at_least_from_test i (number s p) (sym (set_is (is_numbered s p i) (in_states, in_automaton, omega arith)) ∙ is)));
-    transitions = λ s j v t i e in_states at few in_valuations tests in_states_too within.
-        clause_from q assignment s e v t i (λ numbered goes asked.
-        numbered_along s v in_states in_valuations j t i e at few tests in_states_too within numbered goes asked);
+    side = are_met_by_moves (controller_side q) (is_controller_side q posed) assignment (controller_moves q.space c) number
+        solution.annotation says_move
+        (λ s p i in_states in_automaton within. set_is (is_numbered s p i) (in_states, in_automaton, within));
   }

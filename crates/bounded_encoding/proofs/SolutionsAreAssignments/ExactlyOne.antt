@@ -3,8 +3,7 @@ use Rattle.std.proofs.Common.{◌≡◌, ℕ, ◌+◌, ◌-◌, ◌<◌, ◌≤�
 use Rattle.std.proofs.lemmas.Bool.{and_parts, and_from, false≢true, cases_lt, cases_eq}
 use Rattle.clause_core.specs.Clauses.{is_true, meets, meets_all}
 use Rattle.bounded_encoding.specs.ClauseLists.{between}
-use Rattle.bounded_encoding.specs.Variables.{yes_at, no_at}
-use Rattle.bounded_encoding.specs.Encoding.{no_two_with, no_two, exactly_one}
+use Rattle.bounded_encoding.specs.SimpleClauses.{yes_at, no_at, no_two_with, no_two, exactly_one}
 use Rattle.bounded_encoding.proofs.Ranges.{all_in_range, all_of_range, any_in_range, any_of_range}
 
 -- of the numbers from a first one to below a last one, one passes a test, and no other

@@ -1,5 +1,5 @@
 -- What is read number by number is what the definitions read in states and under valuations.
-use Rattle.std.proofs.Common.{◌≡◌, ◌∙◌, ℕ, ◌+◌, ◌*◌, ◌/◌, ◌%◌, ◌<◌, ◌≤◌, Bool, List, [], ◌∷◌, ◌++◌, map, length, slice_get}
+use Rattle.std.proofs.Common.{◌≡◌, ◌∙◌, ℕ, ◌+◌, ◌-◌, ◌*◌, ◌/◌, ◌%◌, ◌<◌, ◌≤◌, Bool, List, [], ◌∷◌, ◌++◌, map, length, slice_get}
 use Rattle.std.proofs.Common.{sym, ap, subst, arith, mul_comm}
 use Rattle.std.proofs.lemmas.List.{map_push, length-map}
 use Rattle.std.proofs.lemmas.List.FromFn.{map-range_with_len_more, length-map-range_with_len}
@@ -12,14 +12,15 @@ use Rattle.machines.specs.MachineView.{entry_tree}
 use Rattle.letter_space.specs.SpaceTree.{SpaceTree}
 use Rattle.bounded_encoding.specs.ClauseLists.{below}
 use Rattle.bounded_encoding.specs.Question.{QuestionTree}
-use Rattle.bounded_encoding.specs.Variables.{valuations_of, before_next, before_numbers}
-use Rattle.bounded_encoding.specs.Decoding.{entry_read, pair_read, numbers_read}
+use Rattle.bounded_encoding.specs.Variables.{valuations_of, before_next}
+use Rattle.bounded_encoding.specs.Frames.{FrameTree, before_pairs_of, variables_of}
+use Rattle.bounded_encoding.specs.Decoding.{entry_read}
 use Rattle.bounded_encoding.specs.internal.Reading.{entry_numbered}
-use Rattle.bounded_encoding.specs.Reading.{number_from, numbers_from_index}
+use Rattle.bounded_encoding.specs.Reading.{pair_number, numbers_of, number_from, numbers_from_index}
 use Rattle.bounded_encoding.proofs.Ranges.{first_below}
 
 -- a number by its row and its column
-row_and_column : (k columns : ℕ) → k ≡ k / columns * columns + k % columns
+pub row_and_column : (k columns : ℕ) → k ≡ k / columns * columns + k % columns
 row_and_column k columns = sym (ap (λ n. n + k % columns) (mul_comm (k / columns) columns) ∙ div-add-mod k columns)
 
 module _ (q : QuestionTree) (a : ℕ → Bool) where
@@ -30,16 +31,25 @@ module _ (q : QuestionTree) (a : ℕ → Bool) where
       (λ k. entry_read q a (k / valuations_of q) (k % valuations_of q))
       (λ k i. entry_numbered a q.space q.states (before_next q) (row_and_column k (valuations_of q) i)) (below count)
 
-  pub numbers_agree :
-      numbers_from_index a (before_numbers q) (q.bound + 1) (q.states * q.automaton_states) ≡ numbers_read q a
-  numbers_agree = map_agree (λ k. number_from a (before_numbers q + k * (q.bound + 1)) (q.bound + 1))
-      (λ k. pair_read q a (k / q.automaton_states) (k % q.automaton_states))
-      (λ k i. number_from a (before_numbers q + row_and_column k q.automaton_states i * (q.bound + 1)) (q.bound + 1))
-      (below (q.states * q.automaton_states))
+-- numbers of pairs, one state after another
+module _ (f : FrameTree) (a : ℕ → Bool) where
+  numbers_agree : numbers_from_index a (before_pairs_of f) (f.bound + 1) (f.states * f.automaton_states) ≡ numbers_of f a
+  numbers_agree = map_agree (λ k. number_from a (before_pairs_of f + k * (f.bound + 1)) (f.bound + 1))
+      (λ k. pair_number f a (k / f.automaton_states) (k % f.automaton_states))
+      (λ k i. number_from a (before_pairs_of f + row_and_column k f.automaton_states i * (f.bound + 1)) (f.bound + 1))
+      (below (f.states * f.automaton_states))
 
-  pub numbers_counted : length (numbers_read q a) ≡ q.states * q.automaton_states
+  -- their variables are the last ones
+  pub numbers_at_end : (n : ℕ) → n ≡ variables_of f →
+      numbers_from_index a (n - f.states * f.automaton_states * (f.bound + 1)) (f.bound + 1) (f.states * f.automaton_states)
+      ≡ numbers_of f a
+  numbers_at_end n is =
+      let base : n - f.states * f.automaton_states * (f.bound + 1) ≡ before_pairs_of f = omega (arith, is) in
+      ap (λ m. numbers_from_index a m (f.bound + 1) (f.states * f.automaton_states)) base ∙ numbers_agree
+
+  pub numbers_counted : length (numbers_of f a) ≡ f.states * f.automaton_states
   numbers_counted =
-      length-map-range_with_len (λ k. pair_read q a (k / q.automaton_states) (k % q.automaton_states)) 0 (q.states * q.automaton_states)
+      length-map-range_with_len (λ k. pair_number f a (k / f.automaton_states) (k % f.automaton_states)) 0 (f.states * f.automaton_states)
 
 -- one more member of a list that is made number by number
 pub numbered_more : {X Y : Type 0} (f : ℕ → Y) (view : X → Y) (old new : List X) (x : X) (n : ℕ) → map view old ≡ map f (below n) →

@@ -8,7 +8,6 @@ use Rattle.bounded_encoding.specs.Question.{QuestionTree, IsPosed}
 use Rattle.bounded_encoding.specs.QuestionView.{question_of}
 use Rattle.bounded_encoding.specs.Variables.{valuations_of, choices_in_all, variable_count}
 use Rattle.bounded_encoding.specs.declared.asking.Question.{Question}
-use Rattle.bounded_encoding.specs.declared.edge_literals.Transition.{Transition}
 
 -- the pure value of a question
 abbrev pub tree_of : Question → QuestionTree
@@ -30,10 +29,3 @@ pub record IsCounted (q : Question) : Type 0 where
   pub choices : q.choices ≡ choices_in_all (tree_of q)
   pub few : variable_count (tree_of q) < 2 ^ 31
   pub low_bound : q.bound + 1 < 2 ^ 31
-
--- a transition of a question: its state, its valuation and the states of its edge are in range
-pub record IsWithinCounts (q : Question) (transition : Transition) : Type 0 where
-  pub state : transition.state < q.states
-  pub valuation : transition.valuation < q.valuations
-  pub from : transition.edge.from < q.automaton.now.states
-  pub to : transition.edge.to < q.automaton.now.states

@@ -3,8 +3,7 @@
 use Rattle.std.specs.Prelude.{ℕ, ◌+◌, ◌-◌, ◌*◌, Bool, map, length}
 use Rattle.letter_space.specs.SpaceTree.{ControlledTree, SpaceTree, choice_count}
 use Rattle.machines.specs.MachineTree.{EntryTree}
-use Rattle.bounded_encoding.specs.Decoding.{first_passing}
-use Rattle.bounded_encoding.specs.Reading.{next_from}
+use Rattle.bounded_encoding.specs.Reading.{first_passing, next_from}
 
 -- the choice of a signal, where the variables of choices begin at an index
 abbrev pub choice_from : (ℕ → Bool) → ℕ → ℕ → ControlledTree → ℕ

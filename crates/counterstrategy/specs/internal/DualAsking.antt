@@ -9,7 +9,6 @@ use Rattle.bounded_encoding.specs.Question.{QuestionTree, IsPosed}
 use Rattle.bounded_encoding.specs.QuestionView.{question_of}
 use Rattle.counterstrategy.specs.DualVariables.{tests_in_all, vectors_in_all, dual_variable_count}
 use Rattle.counterstrategy.specs.declared.dual_asking.DualQuestion.{DualQuestion}
-use Rattle.counterstrategy.specs.declared.step_literals.Step.{Step}
 
 -- the pure value of a question
 abbrev pub dual_tree : DualQuestion → QuestionTree
@@ -30,10 +29,3 @@ pub record IsDualCounted (q : DualQuestion) : Type 0 where
   pub letters : q.letters.now ≡ vector_letters (dual_tree q).space (vectors_in_all (dual_tree q))
   pub few : dual_variable_count (dual_tree q) < 2 ^ 31
   pub low_bound : q.bound + 1 < 2 ^ 31
-
--- a step of a question: its state, its vector and the states of its edge are in range
-pub record IsStepWithin (q : DualQuestion) (step : Step) : Type 0 where
-  pub state : step.state < q.states
-  pub vector : step.vector < q.vectors
-  pub from : step.edge.from < q.automaton.now.states
-  pub to : step.edge.to < q.automaton.now.states

@@ -27,8 +27,8 @@ invariant_of-result c =
     (c.in_ok-add_demands.ensures.added
     ∙ ap (λ (m : Made). with_clauses m (demands (tree_of c.question_asked-question.result))) c.new-out.ensures) in
     record {
-      few = omega (arith, c.variables_in_all-variables.ensures, asked.few);
-      over = subst (λ (n : ℕ). All (IsOver n) c.into_list.result) (sym c.variables_in_all-variables.ensures)
+      few = omega (arith, c.variable_count-variables.ensures, asked.few);
+      over = subst (λ (n : ℕ). All (IsOver n) c.into_list.result) (sym c.variable_count-variables.ensures)
           (subst (λ (cs : List (List Lit)). All (IsOver (variable_count (tree_of c.question_asked-question.result))) cs) (sym listed)
           (encoding_over (tree_of c.question_asked-question.result) asked.posed));
     }

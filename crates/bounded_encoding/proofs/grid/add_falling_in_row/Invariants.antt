@@ -1,5 +1,5 @@
 use Rattle.bounded_encoding.specs.ClauseLists.{each}
-use Rattle.bounded_encoding.specs.Encoding.{falling}
+use Rattle.bounded_encoding.specs.SimpleClauses.{falling}
 use Rattle.bounded_encoding.specs.Grids.{cell_index, falling_in_row}
 use Rattle.bounded_encoding.proofs.Begun.{LeadsOn}
 use Rattle.bounded_encoding.proofs.grid.add_falling_in_row.Given as goal

@@ -1,5 +1,5 @@
 use Rattle.std.proofs.Common.{ℕ, ◌+◌, ap}
-use Rattle.bounded_encoding.specs.Encoding.{exactly_one}
+use Rattle.bounded_encoding.specs.SimpleClauses.{exactly_one}
 use Rattle.bounded_encoding.specs.Grids.{cell_index}
 use Rattle.bounded_encoding.proofs.Adding.{passed_on}
 use Rattle.bounded_encoding.proofs.Begun.{leads_first, leads_next, leads_refused, leads_cut, leads_end}

@@ -1,5 +1,5 @@
 use Rattle.bounded_encoding.specs.ClauseLists.{each}
-use Rattle.bounded_encoding.specs.Encoding.{exactly_one}
+use Rattle.bounded_encoding.specs.SimpleClauses.{exactly_one}
 use Rattle.bounded_encoding.specs.Grids.{cell_index, one_in_row}
 use Rattle.bounded_encoding.proofs.Begun.{LeadsOn}
 use Rattle.bounded_encoding.proofs.grid.add_one_in_row.Given as goal

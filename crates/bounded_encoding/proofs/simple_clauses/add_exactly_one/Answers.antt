@@ -1,5 +1,5 @@
 use Rattle.std.proofs.Common.{◌+◌}
-use Rattle.bounded_encoding.specs.Encoding.{some_one, no_two}
+use Rattle.bounded_encoding.specs.SimpleClauses.{some_one, no_two}
 use Rattle.bounded_encoding.specs.Begun.{IsBegun}
 use Rattle.bounded_encoding.proofs.Begun.{begun_second, where_cut}
 use Rattle.bounded_encoding.proofs.simple_clauses.add_exactly_one.Goals as goal

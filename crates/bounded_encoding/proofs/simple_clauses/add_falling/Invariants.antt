@@ -1,7 +1,6 @@
 use Rattle.std.proofs.Common.{◌+◌, ◌-◌, [], ◌∷◌}
 use Rattle.bounded_encoding.specs.ClauseLists.{each}
-use Rattle.bounded_encoding.specs.Variables.{yes_at, no_at}
-use Rattle.bounded_encoding.specs.Encoding.{falling}
+use Rattle.bounded_encoding.specs.SimpleClauses.{yes_at, no_at, falling}
 use Rattle.bounded_encoding.proofs.Begun.{LeadsOn}
 use Rattle.bounded_encoding.proofs.simple_clauses.add_falling.Given as goal
 

@@ -1,6 +1,6 @@
 use Rattle.std.proofs.Common.{◌+◌}
 use Rattle.bounded_encoding.specs.ClauseLists.{each}
-use Rattle.bounded_encoding.specs.Encoding.{no_two_with, no_two}
+use Rattle.bounded_encoding.specs.SimpleClauses.{no_two_with, no_two}
 use Rattle.bounded_encoding.proofs.Begun.{LeadsOn}
 use Rattle.bounded_encoding.proofs.simple_clauses.add_no_two.Given as goal
 

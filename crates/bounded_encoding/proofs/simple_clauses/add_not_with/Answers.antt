@@ -1,5 +1,5 @@
 use Rattle.std.proofs.Common.{◌+◌, [], ◌∷◌, refl}
-use Rattle.bounded_encoding.specs.Variables.{no_at}
+use Rattle.bounded_encoding.specs.SimpleClauses.{no_at}
 use Rattle.bounded_encoding.proofs.Adding.{passed_on}
 use Rattle.bounded_encoding.proofs.Begun.{begun_none, leads_first, leads_next, leads_refused, leads_cut, leads_end}
 use Rattle.bounded_encoding.proofs.simple_clauses.add_not_with.Goals as goal

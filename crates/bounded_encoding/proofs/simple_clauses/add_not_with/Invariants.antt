@@ -1,7 +1,6 @@
 use Rattle.std.proofs.Common.{◌+◌, [], ◌∷◌}
 use Rattle.bounded_encoding.specs.ClauseLists.{each}
-use Rattle.bounded_encoding.specs.Variables.{no_at}
-use Rattle.bounded_encoding.specs.Encoding.{no_two_with}
+use Rattle.bounded_encoding.specs.SimpleClauses.{no_at, no_two_with}
 use Rattle.bounded_encoding.proofs.Begun.{LeadsOn}
 use Rattle.bounded_encoding.proofs.simple_clauses.add_not_with.Given as goal
 

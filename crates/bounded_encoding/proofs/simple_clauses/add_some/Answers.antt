@@ -1,6 +1,6 @@
 use Rattle.std.proofs.Common.{◌∙◌, ◌+◌, ◌++◌, ◌∷◌, [], ap}
 use Rattle.clause_core.specs.Literals.{Lit}
-use Rattle.bounded_encoding.specs.Variables.{yes_at}
+use Rattle.bounded_encoding.specs.SimpleClauses.{yes_at}
 use Rattle.bounded_encoding.proofs.Adding.{collected}
 use Rattle.bounded_encoding.proofs.simple_clauses.add_some.Goals as goal
 

@@ -1,6 +1,6 @@
 use Rattle.std.proofs.Common.{◌≡◌, ◌+◌, ◌++◌, map}
 use Rattle.bounded_encoding.specs.ClauseLists.{between}
-use Rattle.bounded_encoding.specs.Variables.{yes_at}
+use Rattle.bounded_encoding.specs.SimpleClauses.{yes_at}
 use Rattle.bounded_encoding.proofs.simple_clauses.add_some.Given as goal
 
 abbrev pub invariant-loop-x : goal.invariant-loop-x

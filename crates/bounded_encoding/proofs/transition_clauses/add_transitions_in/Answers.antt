@@ -1,26 +1,33 @@
-use Rattle.std.proofs.Common.{◌≡◌, ◌∙◌, List, subst, OnOk, ap, sym}
+use Rattle.std.specs.Prelude.{OnOk}
+use Rattle.std.proofs.Common.{◌≡◌, ◌∙◌, List, ap, sym, subst}
 use Rattle.std.specs.List.{flat_map}
 use Rattle.std.proofs.lemmas.List.Folds.{flat_map-map}
 use Rattle.clause_core.specs.Literals.{Lit}
 use Rattle.cobuchi_automata.specs.declared.automaton.Edge.{Edge}
 use Rattle.cobuchi_automata.specs.Edges.{edge_tree}
-use Rattle.bounded_encoding.specs.Encoding.{transitions_along, transitions_in}
+use Rattle.bounded_encoding.specs.FrameView.{side_of}
+use Rattle.bounded_encoding.specs.Sides.{clauses_along, clauses_in}
 use Rattle.bounded_encoding.specs.Made.{with_clauses}
 use Rattle.bounded_encoding.specs.Refusing.{Refuses}
-use Rattle.bounded_encoding.specs.internal.Asking.{tree_of}
 use Rattle.bounded_encoding.proofs.transition_clauses.add_transitions_in.Goals as goal
 
-listed : (c : goal.After-add_each_edge)
-    → flat_map (λ e. transitions_along (tree_of c.args.question.now) c.args.s (edge_tree e)) c.as_slice.result.now
-    ≡ transitions_in (tree_of c.args.question.now) c.args.s
-listed c = ap (flat_map (λ (e : Edge). transitions_along (tree_of c.args.question.now) c.args.s (edge_tree e))) c.as_slice.ensures
-    ∙ sym (flat_map-map (transitions_along (tree_of c.args.question.now) c.args.s) edge_tree c.args.question.now.automaton.now.edges)
-
 pub returns-clause-added : goal.returns-clause-added
-returns-clause-added c = subst
+returns-clause-added g c =
+    let along = clauses_along (side_of c.args.frame.now (g.S.Side.met c.args.side.now) (g.S.Side.base c.args.side.now)) c.args.s in
+    let listed : flat_map (λ e. along (edge_tree e)) c.as_slice.result.now
+    ≡ clauses_in (side_of c.args.frame.now (g.S.Side.met c.args.side.now) (g.S.Side.base c.args.side.now)) c.args.s
+    = ap (flat_map (λ (e : Edge). along (edge_tree e))) c.as_slice.ensures
+    ∙ sym (flat_map-map along edge_tree c.args.frame.now.automaton.now.edges) in
+    subst
     (λ (more : List (List Lit)). OnOk c.add_each_edge.result (c.add_each_edge.new.out ≡ with_clauses c.args.out.now more))
-    (listed c) c.add_each_edge.ensures.added
+    listed c.add_each_edge.ensures.added
 
 pub returns-clause-refused : goal.returns-clause-refused
-returns-clause-refused c = subst (λ (more : List (List Lit)). Refuses c.add_each_edge.result (with_clauses c.args.out.now more))
-    (listed c) c.add_each_edge.ensures.refused
+returns-clause-refused g c =
+    let along = clauses_along (side_of c.args.frame.now (g.S.Side.met c.args.side.now) (g.S.Side.base c.args.side.now)) c.args.s in
+    let listed : flat_map (λ e. along (edge_tree e)) c.as_slice.result.now
+    ≡ clauses_in (side_of c.args.frame.now (g.S.Side.met c.args.side.now) (g.S.Side.base c.args.side.now)) c.args.s
+    = ap (flat_map (λ (e : Edge). along (edge_tree e))) c.as_slice.ensures
+    ∙ sym (flat_map-map along edge_tree c.args.frame.now.automaton.now.edges) in
+    subst (λ (more : List (List Lit)). Refuses c.add_each_edge.result (with_clauses c.args.out.now more))
+    listed c.add_each_edge.ensures.refused

@@ -26,8 +26,8 @@ invariant_of-result c =
     (c.in_ok-add_dual_demands.ensures.added
     ∙ ap (λ (m : Made). with_clauses m (dual_demands (dual_tree c.dual_question_asked-question.result))) c.new-out.ensures) in
     record {
-      few = omega (arith, c.dual_variables_in_all-variables.ensures, asked.few);
-      over = subst (λ (n : ℕ). All (IsOver n) c.into_list.result) (sym c.dual_variables_in_all-variables.ensures)
+      few = omega (arith, c.dual_variable_count-variables.ensures, asked.few);
+      over = subst (λ (n : ℕ). All (IsOver n) c.into_list.result) (sym c.dual_variable_count-variables.ensures)
           (subst (λ (cs : List (List Lit)). All (IsOver (dual_variable_count (dual_tree c.dual_question_asked-question.result))) cs)
           (sym listed) (dual_encoding_over (dual_tree c.dual_question_asked-question.result) asked.posed));
     }
