@@ -14,6 +14,7 @@ _tsl() {
         search) offered='--most' ;;
         gen) offered='1 2 3 4 5' ;;
         esac
+        [ "$command ${COMP_WORDS[COMP_CWORD - 1]}" = 'synth --bound' ] && offered=$(echo {0..15} full)
     fi
     COMPREPLY=($(compgen -W "$offered" -- "$word"))
     if [ "$program" = tslx ] && [ "$COMP_CWORD" -gt 1 ]; then COMPREPLY+=($(compgen -f -- "$word")); fi

@@ -6,6 +6,8 @@ pub mod ExploredLemmas
 pub mod GrowLemmas
 pub mod LawLemmas
 pub mod OnceLemmas
+pub mod PassedUntils
+pub mod RejectingTurns
 pub mod StateLemmas
 pub mod TransitionLemmas
 pub mod TurnLemmas

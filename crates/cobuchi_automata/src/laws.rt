@@ -4,9 +4,10 @@ ghost use Rattle.std.specs.Prelude.{◌≡◌, ℕ, ◌+◌, ◌*◌, ◌<◌, �
 ghost use Rattle.ltl_formula.specs.LtlTree.{LtlTree};
 ghost use Rattle.ltl_formula.specs.LetterLoop.{LetterLoop, holds};
 ghost use Rattle.cobuchi_automata.specs.Automata.{StateTree, EdgeTree, untils_of, IsAutomaton};
-ghost use Rattle.cobuchi_automata.specs.Refusals.{most_automaton_states, most_automaton_edges, HasTooManyChoices, HasTooManyStates, HasTooManyEdges};
+ghost use Rattle.cobuchi_automata.specs.Refusals.{most_automaton_states, most_automaton_edges, HasTooManyChoices, HasTooManyStates};
+ghost use Rattle.cobuchi_automata.specs.Refusals.{HasTooManyEdges};
 ghost use Rattle.cobuchi_automata.specs.Renumbering.{IsRenumbered};
-ghost use Rattle.cobuchi_automata.specs.Paths.{IsPath, FitsLetters, rejections};
+ghost use Rattle.cobuchi_automata.specs.Paths.{IsPath, FitsLetters, rejections, IsRejectingTurn};
 
 /// On a letter loop on which a formula holds at position 0, and for each number k, the formula's
 /// automaton has a path from its start over the loop's letters that passes k + 1 rejecting edges within
@@ -35,4 +36,13 @@ pub fn automata_within_limits_are_built()
 pub fn automata_are_the_same_up_to_numbers()
     ensures { (f : LtlTree) (states : List StateTree) (edges : List EdgeTree) (more_states : List StateTree) (more_edges : List EdgeTree) →
         IsAutomaton f states edges → IsAutomaton f more_states more_edges → IsRenumbered states edges more_states more_edges }
+{}
+
+/// Where a path from the start of a formula's automaton over a letter loop passes a rejecting edge between
+/// two moments with the same position of the loop and the same state, the formula holds on the loop at
+/// position 0.
+pub fn rejecting_turns_make_a_formula_hold()
+    ensures { (f : LtlTree) (states : List StateTree) (edges : List EdgeTree) → IsAutomaton f states edges →
+        (loop : LetterLoop) → FitsLetters loop → 1 ≤ length loop.cycle → (stem turn : List EdgeTree) →
+        IsRejectingTurn edges loop stem turn → holds loop f 0 ≡ true }
 {}

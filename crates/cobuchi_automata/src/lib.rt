@@ -6,8 +6,8 @@
 //! which limit is passed, and `specs/Refusals` says what that means. `specs/Paths` says what its
 //! paths over a letter loop are. Laws are the contracts of functions that do nothing: where a formula
 //! holds on a letter loop, its automaton has a path over the loop that passes rejecting edges again and
-//! again; a formula has one automaton, up to the numbers of its states; and one within the limits is
-//! never refused.
+//! again; where one turns through a rejecting edge, the formula holds; a formula has one automaton, up to
+//! the numbers of its states; and one within the limits is never refused.
 //!
 //! The work is done over numbers: the formulas that steps may leave have numbers (`obligations`), and a
 //! state is a rising list of them with its counter. `proofs/ExploredLemmas` shows that each choice that
@@ -29,5 +29,5 @@ pub use build_error::{BuildError, MOST_AUTOMATON_EDGES, MOST_AUTOMATON_STATES};
 pub use building::build;
 pub use laws::{
     a_formula_that_holds_has_rejecting_paths, automata_are_the_same_up_to_numbers,
-    automata_within_limits_are_built,
+    automata_within_limits_are_built, rejecting_turns_make_a_formula_hold,
 };

@@ -11,8 +11,8 @@ use Rattle.clap.specs.declared.builder.value_parser.ValueParser.TheVariants as v
 use Rattle.clap.specs.declared.parser.matches.ArgMatches.{ArgMatches}
 use Rattle.clap.proofs.ValueTestLemmas.{accepts-Accepts}
 use Rattle.clap.proofs.WalkLemmas.{one_text-rows}
-use Rattle.command_words.specs.Arguments.{given_number, written_number}
-use Rattle.command_words.specs.internal.Matches.{matched_number}
+use Rattle.command_words.specs.Arguments.{given_word, written_number}
+use Rattle.command_words.specs.internal.Matches.{matched_word}
 
 numeral_of : (t : Text) (k : ℕ) → is_numeral (without_leading_plus t) ≡ true → digits_value 10 (without_leading_plus t) < 2 ^ 32
     → IsNumeral 10 (without_leading_plus t)
@@ -42,8 +42,8 @@ reads_number E G None n r e small read only = cc
 reads_number E G (Some t) n r e small read only = reads_text E G t n r (is_numeral (without_leading_plus t)) refl e small (read t refl)
     only
 
--- the number that the matches hold is that of the definition
-pub number_of_rows : (app : App) (words : List Text) (m : ArgMatches) → rows_of (found_of m) ≡ matches_of app words
-    → (id : Text) → matched_number m id ≡ given_number app words id
-unfolding given_number
-number_of_rows app words m rows id = ap (option_and_then written_number) (one_text-rows (found_of m) id ∙ ap (one_of id) rows)
+-- the word that the matches hold is that of the definition
+pub word_of_rows : (app : App) (words : List Text) (m : ArgMatches) → rows_of (found_of m) ≡ matches_of app words
+    → (id : Text) → matched_word m id ≡ given_word app words id
+unfolding given_word
+word_of_rows app words m rows id = one_text-rows (found_of m) id ∙ ap (one_of id) rows

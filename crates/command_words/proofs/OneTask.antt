@@ -1,27 +1,33 @@
 -- Words ask for at most one thing.
-use Rattle.std.proofs.Common.{◌≡◌, ℕ, true, false, List, [], ◌∷◌, Option, Some, sym, ◌∙◌, refl, ap, subst}
+use Rattle.std.proofs.Common.{◌≡◌, ℕ, true, false, List, [], ◌∷◌, Option, Some, sym, ◌∙◌, refl, ap, subst, codes}
 use Rattle.std.specs.Option.{option_map_or}
 use Rattle.clap.specs.Words.{Text}
-use Rattle.command_words.specs.Arguments.{given_number, takes_words}
-use Rattle.command_words.specs.Commands.{AreItsNumbers, AsksFor, IsGivenWithin, are_taken, task_word, command, command_word}
+use Rattle.command_words.specs.Arguments.{given_word, takes_words}
+use Rattle.std.proofs.lemmas.Bool.{and_from}
+use Rattle.std.specs.Prelude.{◌&&◌, is_some}
+use Rattle.command_words.specs.declared.synth_bound.SynthBound.{SynthBound}
+use Rattle.command_words.specs.Commands.{AreItsNumbers, AsksFor, IsGivenBound, IsGivenWithin, are_taken, has_bound, task_word, command, command_word}
 use Rattle.command_words.specs.declared.command_word.CommandWord.{CommandWord}
 use Rattle.command_words.specs.declared.task.Task.{Task}
 use Rattle.command_words.specs.declared.task.Task.TheVariants as task
 
-one_number : (least most : ℕ) (given : Option ℕ) (m n : ℕ) → IsGivenWithin least most given m → IsGivenWithin least most given n → m ≡ n
+one_number : (least most : ℕ) (given : Option Text) (m n : ℕ) → IsGivenWithin least most given m → IsGivenWithin least most given n → m ≡ n
 one_number least most given m n h k = let same : Some m ≡ Some n = sym h.0 ∙ k.0 in cc
 
+one_bound : (given : Option Text) (m n : SynthBound) → IsGivenBound given m → IsGivenBound given n → m ≡ n
+one_bound given m n h k = let same : Some m ≡ Some n = sym h ∙ k in cc
+
 -- the same command with the same numbers
-same_task : (given : Text → Option ℕ) (a b : Task) → task_word a ≡ task_word b → AreItsNumbers given a → AreItsNumbers given b → a ≡ b
+same_task : (given : Text → Option Text) (a b : Task) → task_word a ≡ task_word b → AreItsNumbers given a → AreItsNumbers given b → a ≡ b
 same_task given (task.Synth sizes) (task.Synth sizes') same h k =
     λ i. task.Synth (record {
-      states = one_number 1 8 _ _ _ h.states k.states i;
-      bound = one_number 0 15 _ _ _ h.bound k.bound i;
-      env_states = one_number 1 8 _ _ _ h.env_states k.env_states i;
-      env_bound = one_number 0 15 _ _ _ h.env_bound k.env_bound i;
-      depth = one_number 1 3 _ _ _ h.depth k.depth i;
-      rounds = one_number 0 64 _ _ _ h.rounds k.rounds i;
-      budget = one_number 1 1000000 _ _ _ h.budget k.budget i;
+      states = one_number 1 8 (given (codes "states")) _ _ h.states k.states i;
+      bound = one_bound (given (codes "bound")) _ _ h.bound k.bound i;
+      env_states = one_number 1 8 (given (codes "env-states")) _ _ h.env_states k.env_states i;
+      env_bound = one_number 0 15 (given (codes "env-bound")) _ _ h.env_bound k.env_bound i;
+      depth = one_number 1 3 (given (codes "depth")) _ _ h.depth k.depth i;
+      rounds = one_number 0 64 (given (codes "rounds")) _ _ h.rounds k.rounds i;
+      budget = one_number 1 1000000 (given (codes "budget")) _ _ h.budget k.budget i;
     })
 same_task given (task.Synth sizes) (task.Check bound') same h k = cc
 same_task given (task.Synth sizes) task.Run same h k = cc
@@ -29,7 +35,7 @@ same_task given (task.Synth sizes) (task.Prove sizes') same h k = cc
 same_task given (task.Synth sizes) task.Recheck same h k = cc
 same_task given (task.Synth sizes) (task.Gen n') same h k = cc
 same_task given (task.Check bound) (task.Synth sizes') same h k = cc
-same_task given (task.Check bound) (task.Check bound') same h k = λ i. task.Check (one_number 0 15 _ _ _ h k i)
+same_task given (task.Check bound) (task.Check bound') same h k = λ i. task.Check (one_number 0 15 (given (codes "bound")) _ _ h k i)
 same_task given (task.Check bound) task.Run same h k = cc
 same_task given (task.Check bound) (task.Prove sizes') same h k = cc
 same_task given (task.Check bound) task.Recheck same h k = cc
@@ -45,9 +51,9 @@ same_task given (task.Prove sizes) (task.Check bound') same h k = cc
 same_task given (task.Prove sizes) task.Run same h k = cc
 same_task given (task.Prove sizes) (task.Prove sizes') same h k =
     λ i. task.Prove (record {
-      states = one_number 1 8 _ _ _ h.states k.states i;
-      bound = one_number 0 15 _ _ _ h.bound k.bound i;
-      budget = one_number 1 1000000 _ _ _ h.budget k.budget i;
+      states = one_number 1 8 (given (codes "states")) _ _ h.states k.states i;
+      bound = one_number 0 15 (given (codes "bound")) _ _ h.bound k.bound i;
+      budget = one_number 1 1000000 (given (codes "budget")) _ _ h.budget k.budget i;
     })
 same_task given (task.Prove sizes) task.Recheck same h k = cc
 same_task given (task.Prove sizes) (task.Gen n') same h k = cc
@@ -62,7 +68,7 @@ same_task given (task.Gen n) (task.Check bound') same h k = cc
 same_task given (task.Gen n) task.Run same h k = cc
 same_task given (task.Gen n) (task.Prove sizes') same h k = cc
 same_task given (task.Gen n) task.Recheck same h k = cc
-same_task given (task.Gen n) (task.Gen n') same h k = λ i. task.Gen (one_number 1 5 _ _ _ h k i)
+same_task given (task.Gen n) (task.Gen n') same h k = λ i. task.Gen (one_number 1 5 (given (codes "n")) _ _ h k i)
 
 some_same : (v w : CommandWord) (o : Option CommandWord) → o ≡ Some v → o ≡ Some w → v ≡ w
 some_same v w o h k = let same : Some v ≡ Some w = sym h ∙ k in cc
@@ -71,10 +77,24 @@ pub one_task : (words : List Text) (a b : Task) → AsksFor words a → AsksFor 
 one_task [] a b h k = absurd h
 one_task (first ∷ rest) a b h k =
     let same = some_same (task_word a) (task_word b) (command_word first) h.0 k.0 in
-    same_task (given_number (command (task_word a)) (first ∷ rest)) a b same h.2
-    (subst (λ (w : CommandWord). AreItsNumbers (given_number (command w) (first ∷ rest)) b) (sym same) k.2)
+    same_task (given_word (command (task_word a)) (first ∷ rest)) a b same h.2
+    (subst (λ (w : CommandWord). AreItsNumbers (given_word (command w) (first ∷ rest)) b) (sym same) k.2)
+
+-- the bound of what is asked for is named
+bound_is_named : (given : Text → Option Text) (task : Task) → AreItsNumbers given task → has_bound (task_word task) given ≡ true
+bound_is_named given (task.Synth sizes) h = ap is_some h.bound
+bound_is_named given (task.Check bound) h = refl
+bound_is_named given task.Run h = refl
+bound_is_named given (task.Prove sizes) h = refl
+bound_is_named given task.Recheck h = refl
+bound_is_named given (task.Gen n) h = refl
 
 -- words that ask for something are taken
 pub asking_is_taken : (words : List Text) (task : Task) → AsksFor words task → are_taken words ≡ true
 asking_is_taken [] task h = absurd h
-asking_is_taken (first ∷ rest) task h = ap (λ o. option_map_or (λ w. takes_words (command w) (first ∷ rest)) o false) h.0 ∙ h.1
+asking_is_taken (first ∷ rest) task h =
+    let w = task_word task in
+    ap (λ o. option_map_or (λ w. takes_words (command w) (first ∷ rest) && has_bound w (given_word (command w) (first ∷ rest))) o false)
+    h.0
+    ∙ and_from (takes_words (command w) (first ∷ rest)) (has_bound w (given_word (command w) (first ∷ rest))) h.1
+    (bound_is_named (given_word (command w) (first ∷ rest)) task h.2)

@@ -1,9 +1,13 @@
 -- The commands, their arguments, and what words ask for.
-use Rattle.std.specs.Prelude.{◌≡◌, ◌≤◌, ℕ, Bool, true, false, List, [], ◌∷◌, codes, Option, Some, None, if◌then◌else◌}
+use Rattle.std.specs.Prelude.{◌≡◌, ◌≤◌, ◌&&◌, ℕ, Bool, true, false, List, [], ◌∷◌, codes, Option, Some, None, if◌then◌else◌}
+use Rattle.std.specs.Prelude.{is_some, option_and_then}
 use Rattle.std.specs.Option.{option_map_or}
 use Rattle.std.specs.Str.{bytes_eq}
 use Rattle.clap.specs.Words.{App, Rule, Text}
-use Rattle.command_words.specs.Arguments.{command_with, given_number, number_option, number_positional, takes_words}
+use Rattle.command_words.specs.Arguments.{command_with, given_word, number_option, number_positional, takes_words}
+use Rattle.command_words.specs.Arguments.{word_option, written_number}
+use Rattle.command_words.specs.Bounds.{bound_named}
+use Rattle.command_words.specs.declared.synth_bound.SynthBound.{SynthBound}
 use Rattle.command_words.specs.declared.command_word.CommandWord.{CommandWord}
 use Rattle.command_words.specs.declared.command_word.CommandWord.TheVariants as word
 use Rattle.command_words.specs.declared.task.Task.{Task}
@@ -23,7 +27,7 @@ word_text word.Gen = codes "gen"
 abbrev pub command_arguments : CommandWord → List Rule
 command_arguments word.Synth =
     number_option (codes "states") 1 8 (codes "2")
-    ∷ number_option (codes "bound") 0 15 (codes "2")
+    ∷ word_option (codes "bound") (codes "2")
     ∷ number_option (codes "env-states") 1 8 (codes "2")
     ∷ number_option (codes "env-bound") 0 15 (codes "2")
     ∷ number_option (codes "depth") 1 3 (codes "2")
@@ -51,25 +55,40 @@ command_word text = if bytes_eq text (codes "synth") then Some word.Synth
     else (if bytes_eq text (codes "recheck") then Some word.Recheck
     else (if bytes_eq text (codes "gen") then Some word.Gen else None)))))
 
--- the first word is a command, and `clap` takes the words for it
+-- where a command looks its bound up, the word that it is given names one
+abbrev pub has_bound : CommandWord → (Text → Option Text) → Bool
+has_bound word.Synth given = is_some (option_and_then bound_named (given (codes "bound")))
+has_bound word.Check given = true
+has_bound word.Run given = true
+has_bound word.Prove given = true
+has_bound word.Recheck given = true
+has_bound word.Gen given = true
+
+-- the first word is a command, `clap` takes the words for it, and the bound of `synth` is named
 abbrev pub are_taken : List Text → Bool
 are_taken [] = false
-are_taken (first ∷ rest) = option_map_or (λ w. takes_words (command w) (first ∷ rest)) (command_word first) false
+are_taken (first ∷ rest) =
+    option_map_or (λ w. takes_words (command w) (first ∷ rest) && has_bound w (given_word (command w) (first ∷ rest)))
+    (command_word first) false
 
--- an argument has this number, which lies in its range
-abbrev pub IsGivenWithin : ℕ → ℕ → Option ℕ → ℕ → Type 0
-IsGivenWithin least most given n = (given ≡ Some n) × (least ≤ n) × (n ≤ most)
+-- an argument is given the word for this number, which lies in its range
+abbrev pub IsGivenWithin : ℕ → ℕ → Option Text → ℕ → Type 0
+IsGivenWithin least most given n = (option_and_then written_number given ≡ Some n) × (least ≤ n) × (n ≤ most)
 
-pub record AreSynthSizes (given : Text → Option ℕ) (sizes : SynthSizes) : Type 0 where
+-- an argument is given the word for this bound
+abbrev pub IsGivenBound : Option Text → SynthBound → Type 0
+IsGivenBound given bound = option_and_then bound_named given ≡ Some bound
+
+pub record AreSynthSizes (given : Text → Option Text) (sizes : SynthSizes) : Type 0 where
   pub states : IsGivenWithin 1 8 (given (codes "states")) sizes.states
-  pub bound : IsGivenWithin 0 15 (given (codes "bound")) sizes.bound
+  pub bound : IsGivenBound (given (codes "bound")) sizes.bound
   pub env_states : IsGivenWithin 1 8 (given (codes "env-states")) sizes.env_states
   pub env_bound : IsGivenWithin 0 15 (given (codes "env-bound")) sizes.env_bound
   pub depth : IsGivenWithin 1 3 (given (codes "depth")) sizes.depth
   pub rounds : IsGivenWithin 0 64 (given (codes "rounds")) sizes.rounds
   pub budget : IsGivenWithin 1 1000000 (given (codes "budget")) sizes.budget
 
-pub record AreProveSizes (given : Text → Option ℕ) (sizes : ProveSizes) : Type 0 where
+pub record AreProveSizes (given : Text → Option Text) (sizes : ProveSizes) : Type 0 where
   pub states : IsGivenWithin 1 8 (given (codes "states")) sizes.states
   pub bound : IsGivenWithin 0 15 (given (codes "bound")) sizes.bound
   pub budget : IsGivenWithin 1 1000000 (given (codes "budget")) sizes.budget
@@ -84,7 +103,7 @@ task_word task.Recheck = word.Recheck
 task_word (task.Gen n) = word.Gen
 
 -- its numbers are those that its arguments have
-abbrev pub AreItsNumbers : (Text → Option ℕ) → Task → Type 0
+abbrev pub AreItsNumbers : (Text → Option Text) → Task → Type 0
 AreItsNumbers given (task.Synth sizes) = AreSynthSizes given sizes
 AreItsNumbers given (task.Check bound) = IsGivenWithin 0 15 (given (codes "bound")) bound
 AreItsNumbers given task.Run = Unit {0}
@@ -92,10 +111,10 @@ AreItsNumbers given (task.Prove sizes) = AreProveSizes given sizes
 AreItsNumbers given task.Recheck = Unit {0}
 AreItsNumbers given (task.Gen n) = IsGivenWithin 1 5 (given (codes "n")) n
 
--- The words ask for this: the first names its command, `clap` takes them for that command, and its numbers are those that `clap`
--- gives the command's arguments.
+-- The words ask for this: the first names its command, `clap` takes them for that command, and its numbers are those of the words
+-- that `clap` gives the command's arguments.
 abbrev pub AsksFor : List Text → Task → Type 0
 AsksFor [] task = ⊥
 AsksFor (first ∷ rest) task =
     (command_word first ≡ Some (task_word task)) × (takes_words (command (task_word task)) (first ∷ rest) ≡ true)
-    × AreItsNumbers (given_number (command (task_word task)) (first ∷ rest)) task
+    × AreItsNumbers (given_word (command (task_word task)) (first ∷ rest)) task

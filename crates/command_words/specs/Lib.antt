@@ -1,3 +1,4 @@
 pub mod Arguments
+pub mod Bounds
 pub mod Commands
 pub mod internal

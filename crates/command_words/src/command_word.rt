@@ -5,7 +5,7 @@ ghost use Rattle.std.specs.Str.{bytes_eq};
 ghost use Rattle.command_words.specs.Commands.{command_arguments, command_word, word_text};
 ghost use Rattle.command_words.specs.internal.Matches.{rule_for};
 
-use crate::number_argument::NumberArgument;
+use crate::argument::{Argument, Values};
 
 /// A word that names a command.
 #[derive(Clone, Copy, Debug, PartialEq, Eq)]
@@ -24,73 +24,81 @@ pub enum CommandWord {
     Gen,
 }
 
-const STATES: NumberArgument = NumberArgument {
+const STATES: Argument = Argument {
     name: "states",
-    least: 1,
-    most: 8,
+    values: Values::Numbers { least: 1, most: 8 },
     default: Some("2"),
 };
 
-const BOUND: NumberArgument = NumberArgument {
+const BOUND: Argument = Argument {
     name: "bound",
-    least: 0,
-    most: 15,
+    values: Values::Numbers { least: 0, most: 15 },
     default: Some("2"),
 };
 
-const ENV_STATES: NumberArgument = NumberArgument {
+/// The bound of `synth`, which may be the full one.
+const SYNTH_BOUND: Argument = Argument {
+    name: "bound",
+    values: Values::Words,
+    default: Some("2"),
+};
+
+const ENV_STATES: Argument = Argument {
     name: "env-states",
-    least: 1,
-    most: 8,
+    values: Values::Numbers { least: 1, most: 8 },
     default: Some("2"),
 };
 
-const ENV_BOUND: NumberArgument = NumberArgument {
+const ENV_BOUND: Argument = Argument {
     name: "env-bound",
-    least: 0,
-    most: 15,
+    values: Values::Numbers { least: 0, most: 15 },
     default: Some("2"),
 };
 
-const DEPTH: NumberArgument = NumberArgument {
+const DEPTH: Argument = Argument {
     name: "depth",
-    least: 1,
-    most: 3,
+    values: Values::Numbers { least: 1, most: 3 },
     default: Some("2"),
 };
 
-const ROUNDS: NumberArgument = NumberArgument {
+const ROUNDS: Argument = Argument {
     name: "rounds",
-    least: 0,
-    most: 64,
+    values: Values::Numbers { least: 0, most: 64 },
     default: Some("8"),
 };
 
-const BUDGET: NumberArgument = NumberArgument {
+const BUDGET: Argument = Argument {
     name: "budget",
-    least: 1,
-    most: 1_000_000,
+    values: Values::Numbers {
+        least: 1,
+        most: 1_000_000,
+    },
     default: Some("20000"),
 };
 
-const NUMBER: NumberArgument = NumberArgument {
+const NUMBER: Argument = Argument {
     name: "n",
-    least: 1,
-    most: 5,
+    values: Values::Numbers { least: 1, most: 5 },
     default: None,
 };
 
-static OF_SYNTH: [NumberArgument; 7] = [
-    STATES, BOUND, ENV_STATES, ENV_BOUND, DEPTH, ROUNDS, BUDGET,
+static OF_SYNTH: [Argument; 7] = [
+    STATES,
+    SYNTH_BOUND,
+    ENV_STATES,
+    ENV_BOUND,
+    DEPTH,
+    ROUNDS,
+    BUDGET,
 ];
 
-static OF_CHECK: [NumberArgument; 1] = [BOUND];
+static OF_CHECK: [Argument; 1] = [BOUND];
 
-static OF_PROVE: [NumberArgument; 3] = [STATES, BOUND, BUDGET];
+static OF_PROVE: [Argument; 3] = [STATES, BOUND, BUDGET];
 
-static OF_GEN: [NumberArgument; 1] = [NUMBER];
+static OF_GEN: [Argument; 1] = [NUMBER];
 
-static NONE: [NumberArgument; 0] = [];
+static NONE: [Argument; 0] = [];
 
 impl CommandWord {
     /// The command that a word names.
@@ -133,7 +141,7 @@ impl CommandWord {
     }
 
     /// The arguments of the command.
-    pub(crate) fn arguments(self) -> &'static [NumberArgument]
+    pub(crate) fn arguments(self) -> &'static [Argument]
         ensures { map rule_for result.now ≡ command_arguments self }
     {
         match self {

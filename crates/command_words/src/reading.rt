@@ -1,12 +1,15 @@
 //! What words ask for, by the matches of their parse.
 
-ghost use Rattle.std.specs.Prelude.{◌≡◌, ◌≢◌, ◌<◌, ◌^◌, ℕ, List, Some, IfOk, IfErr, true, false, map, string_bytes};
-ghost use Rattle.command_words.specs.Arguments.{given_number, takes_words};
-ghost use Rattle.command_words.specs.Commands.{AsksFor, AreItsNumbers, are_taken, command, task_word};
-ghost use Rattle.command_words.specs.internal.Matches.{ParsedBy, matched_number};
+ghost use Rattle.std.specs.Prelude.{◌≡◌, ◌≢◌, ◌<◌, ◌^◌, ℕ, List, Some, None, IfOk, IfErr, IfSome, true, false, map, string_bytes};
+ghost use Rattle.std.specs.Prelude.{codes, option_and_then};
+ghost use Rattle.command_words.specs.Arguments.{given_word, takes_words};
+ghost use Rattle.command_words.specs.Bounds.{bound_named};
+ghost use Rattle.command_words.specs.Commands.{AsksFor, AreItsNumbers, are_taken, command, has_bound, task_word};
+ghost use Rattle.command_words.specs.internal.Matches.{ParsedBy, matched_number, matched_word};
 
+use crate::argument::command_of;
 use crate::command_word::CommandWord;
-use crate::number_argument::command_of;
+use crate::synth_bound::SynthBound;
 use crate::task::{ProveSizes, SynthSizes, Task, WordsError};
 use clap::ArgMatches;
 use clap::error::ErrorKind;
@@ -19,8 +22,8 @@ fn parsed<'a>(
     words: &'a [String],
 ) -> Result<ArgMatches<'a>, WordsError>
     ensures taken { IfOk result (λ matches. takes_words (command word) (map string_bytes words.now) ≡ true) }
-    ensures numbers { IfOk result (λ matches. (id : List ℕ) →
-        matched_number matches id ≡ given_number (command word) (map string_bytes words.now) id) }
+    ensures given { IfOk result (λ matches. (id : List ℕ) →
+        matched_word matches id ≡ given_word (command word) (map string_bytes words.now) id) }
     ensures from { IfOk result (ParsedBy (command word)) }
     ensures refused { IfErr result (λ e. e ≡ WordsError.Usage →
         takes_words (command word) (map string_bytes words.now) ≡ false) }
@@ -49,31 +52,42 @@ fn number(matches: &ArgMatches<'_>, name: &str) -> u32
     matches.get_one::<u32>(name).unwrap_or(0)
 }
 
-/// What a command asks for by the matches of its words.
-fn task_by(word: CommandWord, matches: &ArgMatches<'_>) -> Task
+/// The bound of `synth`, where a word for one is given.
+fn named_bound(matches: &ArgMatches<'_>) -> Option<SynthBound>
+    ensures { result ≡ option_and_then bound_named (matched_word matches.now (codes "bound")) }
+{
+    matches.get_one::<SynthBound>("bound")
+}
+
+/// What a command asks for by the matches of its words, where a word for its bound names one.
+fn task_by(word: CommandWord, matches: &ArgMatches<'_>) -> Option<Task>
     requires { ParsedBy (command word) matches.now }
-    ensures command { task_word result ≡ word }
-    ensures numbers { AreItsNumbers (matched_number matches.now) result }
+    ensures command { IfSome result (λ task. task_word task ≡ word) }
+    ensures numbers { IfSome result (AreItsNumbers (matched_word matches.now)) }
+    ensures unnamed { result ≡ None → has_bound word (matched_word matches.now) ≡ false }
 {
     match word {
-        CommandWord::Synth => Task::Synth(SynthSizes {
+        CommandWord::Synth => {
+            let bound = named_bound(matches)?;
+            Some(Task::Synth(SynthSizes {
+                states: number(matches, "states"),
+                bound,
+                env_states: number(matches, "env-states"),
+                env_bound: number(matches, "env-bound"),
+                depth: number(matches, "depth"),
+                rounds: number(matches, "rounds"),
+                budget: u64::from(number(matches, "budget")),
+            }))
+        }
+        CommandWord::Check => Some(Task::Check(number(matches, "bound"))),
+        CommandWord::Run => Some(Task::Run),
+        CommandWord::Prove => Some(Task::Prove(ProveSizes {
             states: number(matches, "states"),
             bound: number(matches, "bound"),
-            env_states: number(matches, "env-states"),
-            env_bound: number(matches, "env-bound"),
-            depth: number(matches, "depth"),
-            rounds: number(matches, "rounds"),
             budget: u64::from(number(matches, "budget")),
-        }),
-        CommandWord::Check => Task::Check(number(matches, "bound")),
-        CommandWord::Run => Task::Run,
-        CommandWord::Prove => Task::Prove(ProveSizes {
-            states: number(matches, "states"),
-            bound: number(matches, "bound"),
-            budget: u64::from(number(matches, "budget")),
-        }),
-        CommandWord::Recheck => Task::Recheck,
-        CommandWord::Gen => Task::Gen(number(matches, "n")),
+        })),
+        CommandWord::Recheck => Some(Task::Recheck),
+        CommandWord::Gen => Some(Task::Gen(number(matches, "n"))),
     }
 }
 
@@ -82,7 +96,8 @@ fn task_by(word: CommandWord, matches: &ArgMatches<'_>) -> Task
 ///
 /// # Errors
 ///
-/// `Usage` where there is no first word, where it is no command, or where `clap` refuses the others. `NoMemory`.
+/// `Usage` where there is no first word, where it is no command, where `clap` refuses the others, or where the bound
+/// of `synth` is no word for one. `NoMemory`.
 pub fn task_of(alloc: Global, words: &[String]) -> Result<Task, WordsError>
     ensures taken { IfOk result (λ task. are_taken (map string_bytes words.now) ≡ true) }
     ensures asks { IfOk result (AsksFor (map string_bytes words.now)) }
@@ -95,5 +110,8 @@ pub fn task_of(alloc: Global, words: &[String]) -> Result<Task, WordsError>
         return Err(WordsError::Usage);
     };
     let matches = parsed(alloc, word, words)?;
-    Ok(task_by(word, &matches))
+    match task_by(word, &matches) {
+        Some(task) => Ok(task),
+        None => Err(WordsError::Usage),
+    }
 }

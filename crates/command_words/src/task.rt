@@ -3,6 +3,7 @@
 ghost use Rattle.std.specs.Prelude.{◌≡◌};
 ghost use Rattle.command_words.specs.declared.task.WordsError.TheVariants.{NoMemory};
 
+use crate::synth_bound::SynthBound;
 use sequence::NoMemory;
 
 /// Why words ask for nothing.
@@ -27,8 +28,8 @@ impl From<NoMemory> for WordsError {
 pub struct SynthSizes {
     /// The states of a controller, from 1 to 8.
     pub states: u32,
-    /// The bound of its annotation, from 0 to 15.
-    pub bound: u32,
+    /// The bound of its annotation.
+    pub bound: SynthBound,
     /// The states of an environment, from 1 to 8.
     pub env_states: u32,
     /// The bound of the environment's annotation, from 0 to 15.

@@ -17,7 +17,7 @@ use test_values::{Row, one_test, small_space, table_automaton, table_controller}
 use tsl_terms::Probe;
 
 /// A small space, and the controller that has these choices and next states by state and valuation.
-fn example(
+pub(crate) fn example(
     alloc: Global,
     predicates: Vec<Probe>,
     states: u32,
@@ -51,13 +51,13 @@ const LATER_HIGHER: &[Row] = &[
 ];
 
 /// Choices and next states that come in turn.
-const IN_TURN: &[(u32, u32)] = &[(0, 1), (1, 0)];
+pub(crate) const IN_TURN: &[(u32, u32)] = &[(0, 1), (1, 0)];
 
 /// The numbers of these choices for an automaton that finds that one stops.
 const OF_TURNS: &[Option<u32>] = &[Some(0), Some(1), None, Some(0), None, Some(1)];
 
 /// One choice for ever.
-const FOR_EVER: &[(u32, u32)] = &[(0, 0)];
+pub(crate) const FOR_EVER: &[(u32, u32)] = &[(0, 0)];
 
 /// Asserts the numbers of the least annotation within a bound, or that there is none.
 pub(crate) fn numbers_are(

@@ -1,4 +1,4 @@
-//! Tests of formulas over letters: their spaces, forms, choices, automata, machines and annotations.
+//! Tests of formulas over letters: their spaces, forms, choices, automata, machines, annotations and failing loops.
 #![tactic(auto)]
 
 #[cfg(test)]
@@ -11,6 +11,8 @@ mod controllers;
 mod entries;
 #[cfg(test)]
 mod environments;
+#[cfg(test)]
+mod failing;
 #[cfg(test)]
 mod letters;
 #[cfg(test)]

@@ -1,5 +1,6 @@
 pub mod CubeJoins
 pub mod ClosureLemmas
+pub mod Contained
 pub mod Examples
 pub mod ExpansionLemmas
 pub mod FormulaNumbers
@@ -14,5 +15,6 @@ pub mod SetLemmas
 pub mod StepLemmas
 pub mod StepLaws
 pub mod StepTruth
+pub mod TestedChoices
 pub mod WeightLemmas
 pub mod WithinLemmas

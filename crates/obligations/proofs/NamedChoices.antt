@@ -52,7 +52,7 @@ module _ (names : List LtlTree) (rising : IsIncreasing tree_cmp names) where
       && (pointwise-named names rising c.next_set d.next_set p.next_named q.next_named k
       && pointwise-named names rising c.postponed d.postponed p.postponed_named q.postponed_named k))
 
-  within-named : (c d : ChoiceKey) → IsWell names c → IsWell names d → is_within same_formula (named c) (named d) ≡ is_within nat_eq c d
+  pub within-named : (c d : ChoiceKey) → IsWell names c → IsWell names d → is_within same_formula (named c) (named d) ≡ is_within nat_eq c d
   within-named c d p q = λ k. (bit_and c.care d.care == c.care) && (bit_and d.want c.care == c.want)
       && subset-named names rising c.next_set d.next_set p.next_named q.next_named k
       && subset-named names rising c.postponed d.postponed p.postponed_named q.postponed_named k

@@ -6,4 +6,5 @@ pub mod Named
 pub mod Expansions
 pub mod Chosen
 pub mod StepLaw
+pub mod Contained
 pub mod internal

@@ -28,7 +28,7 @@ mod stepping;
 
 pub use expanding::{LETTER_BITS, expand, number_of};
 pub use expansions::{choices_of_numbers, no_expansions};
-pub use laws::sets_hold_by_a_choice;
+pub use laws::{choices_contain_those_of_members, sets_hold_by_a_choice};
 pub use naming::{names_of, names_of_formula};
 pub use numbered::NumberedChoice;
 pub use set::Set;

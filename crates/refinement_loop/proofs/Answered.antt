@@ -39,20 +39,23 @@ use Rattle.counterstrategy.specs.declared.dual_answers.FoundDual.{FoundDual}
 use Rattle.counterstrategy.specs.declared.dual_answers.FoundDual.TheVariants as found_duals
 use Rattle.counterstrategy.specs.declared.dual_error.DualError.{DualError}
 use Rattle.counterstrategy.specs.declared.dual_error.DualError.TheVariants as duals
-use Rattle.refinement_loop.specs.Questions.{IsAsked, HasNoSolution, IsWrittenFor, IsCounterstrategy, HasNoCounterstrategy}
+use Rattle.refinement_loop.specs.declared.outcome.Bound.{Bound}
+use Rattle.refinement_loop.specs.declared.outcome.Bound.TheVariants.{Fixed}
+use Rattle.refinement_loop.specs.Questions.{bound_under, IsAsked, HasNoSolution, IsWrittenFor, IsCounterstrategy, HasNoCounterstrategy}
 use Rattle.refinement_loop.specs.Outcomes.{HasAskCause}
 use Rattle.refinement_loop.specs.Refusals.{refused_encoding, refused_dual}
-use Rattle.refinement_loop.specs.declared.outcome.Sizes.{Sizes}
+use Rattle.refinement_loop.specs.declared.outcome.Search.{Search}
 use Rattle.refinement_loop.specs.internal.Turns.{HasFurtherCause}
 use Rattle.refinement_loop.proofs.OneAnswer.{none_of, no_environment_of}
 
 -- the question of a specification's bits and automaton is the one that is asked
-pub asked_of : (side : Side) (spec : SpecTree) (windows : List WindowTree) (space : Space) (automaton : Automaton) (states bound : ℕ) →
+pub asked_of : (side : Side) (spec : SpecTree) (windows : List WindowTree) (space : Space) (automaton : Automaton) (states : ℕ)
+    (bound : Bound) →
     space_tree space ≡ spec_space spec →
     (made : List StateTree) × (length made ≡ automaton.states)
     × IsAutomaton (form_for side spec windows) made (edge_trees automaton.edges) →
     automaton.states ≤ most_automaton_states → length automaton.edges ≤ most_automaton_edges →
-    IsAsked side spec windows states bound (question_of automaton space states bound)
+    IsAsked side spec windows states bound (question_of automaton space states (bound_under bound states automaton.states))
 asked_of side spec windows space automaton states bound same made few_states few_edges = record {
   few_bits = record {
     few_predicates = subst (λ (s : SpaceTree). length s.predicates ≤ MOST_PREDICATES) same space.is_space.few_predicates;
@@ -70,7 +73,7 @@ asked_of side spec windows space automaton states bound same made few_states few
 
 -- ---- controllers
 
-module _ (spec : SpecTree) (windows : List WindowTree) (states bound : ℕ) (q : QuestionTree)
+module _ (spec : SpecTree) (windows : List WindowTree) (states : ℕ) (bound : Bound) (q : QuestionTree)
     (asked : IsAsked sides.Controller spec windows states bound q) where
   -- a refusal of the encoding is one of the question
   pub refused_question : (cause : EncodeError) → (cause ≡ encodes.Clauses → MOST_CLAUSES < length (encoding q)) →
@@ -104,21 +107,21 @@ module _ (spec : SpecTree) (windows : List WindowTree) (states bound : ℕ) (q :
 
 -- ---- environments
 
-module _ (spec : SpecTree) (sizes : Sizes) (windows : List WindowTree) (q : QuestionTree)
-    (asked : IsAsked sides.Environment spec windows sizes.env_states sizes.env_bound q) where
-  pub refused_environment : (cause : DualError) → HasDualCause q cause → HasFurtherCause spec sizes windows (refused_dual cause)
+module _ (spec : SpecTree) (search : Search) (windows : List WindowTree) (q : QuestionTree)
+    (asked : IsAsked sides.Environment spec windows search.env_states (Fixed search.env_bound) q) where
+  pub refused_environment : (cause : DualError) → HasDualCause q cause → HasFurtherCause spec search windows (refused_dual cause)
   refused_environment duals.Vectors many = record { question = q; asked = asked; refused = many }
   refused_environment duals.Clauses many = record { question = q; asked = asked; refused = many }
   refused_environment duals.NoMemory many = tt
 
   pub no_environment_found : (budget : ℕ) (found : FoundDual) (log : Log) → IsFoundDual q budget found → found ≡ found_duals.None log →
-      HasNoCounterstrategy spec windows sizes.env_states sizes.env_bound
+      HasNoCounterstrategy spec windows search.env_states (Fixed search.env_bound)
   no_environment_found budget found log answer is =
       let right : IsFoundDual q budget (found_duals.None log) = subst (IsFoundDual q budget) is answer in
-      no_environment_of spec windows sizes.env_states sizes.env_bound q asked right.limits right.right.none
+      no_environment_of spec windows search.env_states (Fixed search.env_bound) q asked right.limits right.right.none
 
   pub environment_found : (budget : ℕ) (found : FoundDual) (e : Environment) (a : Annotation) → IsFoundDual q budget found →
-      found ≡ found_duals.Environment e a → IsCounterstrategy spec windows sizes.env_states sizes.env_bound (environment_tree e)
+      found ≡ found_duals.Environment e a → IsCounterstrategy spec windows search.env_states (Fixed search.env_bound) (environment_tree e)
   environment_found budget found e a answer is =
       let right : IsFoundDual q budget (found_duals.Environment e a) = subst (IsFoundDual q budget) is answer in
       record {

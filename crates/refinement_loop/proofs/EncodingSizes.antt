@@ -29,7 +29,9 @@ use Rattle.bounded_encoding.specs.Encoding.{choice_clauses, next_clauses, start_
 use Rattle.bounded_encoding.specs.Encoding.{encoding}
 use Rattle.bounded_encoding.proofs.SolutionsAreAssignments.MovesHeld.{place_of}
 use Rattle.bounded_encoding.proofs.Ranges.{filtered_in_range}
+use Rattle.refinement_loop.specs.declared.outcome.Bound.{Bound}
 use Rattle.refinement_loop.specs.Questions.{IsAsked}
+use Rattle.refinement_loop.proofs.OneBound.{same_automaton_states, same_bound}
 use Rattle.refinement_loop.proofs.MatchedSums.{HasMatch, sum_matched}
 use Rattle.refinement_loop.proofs.KeptCounts.{kept_count, count_joined, count_of_all, same_counts, same_count_of_one}
 use Rattle.refinement_loop.proofs.LoopPairs.{AreAlike, pair_there}
@@ -200,21 +202,19 @@ module _ (q : QuestionTree) (f : LtlTree) (states : List StateTree) (edges : Lis
       (transition_clauses (with_edges more_edges)) as_many_transitions
 
 -- the questions that are asked for a controller
-pub same_size : (spec : SpecTree) (windows : List WindowTree) (states bound : ℕ) (p q : QuestionTree) →
+pub same_size : (spec : SpecTree) (windows : List WindowTree) (states : ℕ) (bound : Bound) (p q : QuestionTree) →
     IsAsked Controller spec windows states bound p → IsAsked Controller spec windows states bound q →
     length (encoding p) ≡ length (encoding q)
 same_size spec windows states bound p q first second =
     let form = form_for Controller spec windows in
     let count : q.automaton_states ≡ p.automaton_states =
-    sym second.counted
-    ∙ sym (renumbered form first.automaton_states p.edges second.automaton_states q.edges first.automaton second.automaton).as_many_states
-    ∙ first.counted in
+    same_automaton_states Controller spec windows states bound q p second first in
     let same : (record p { edges = q.edges }) ≡ q = λ i. record {
       space = (first.space ∙ sym second.space) i;
       automaton_states = sym count i;
       edges = q.edges;
       states = (first.has_states ∙ sym second.has_states) i;
-      bound = (first.has_bound ∙ sym second.has_bound) i;
+      bound = same_bound Controller spec windows states bound p q first second i;
     } in
     as_many_clauses p form first.automaton_states p.edges second.automaton_states q.edges first.automaton second.automaton
     first.counted (second.counted ∙ count)

@@ -8,6 +8,7 @@ pub mod WritablePrograms
 pub mod MatchedSums
 pub mod KeptCounts
 pub mod LoopPairs
+pub mod OneBound
 pub mod EncodingSizes
 pub mod OneAnswer
 pub mod Answered

@@ -23,11 +23,13 @@ use Rattle.bounded_encoding.specs.Encoding.{encoding}
 use Rattle.bounded_encoding.specs.Question.{QuestionTree, IsSolution, HasNoController}
 use Rattle.counterstrategy.specs.EnvironmentQuestion.{IsEnvironmentSolution, HasNoEnvironment}
 use Rattle.counterstrategy.specs.DualAnswers.{IsAskable}
+use Rattle.refinement_loop.specs.declared.outcome.Bound.{Bound}
 use Rattle.refinement_loop.specs.Questions.{IsAsked, HasFewClauses, HasSolution, HasNoSolution, IsWrittenFor, HasNoCounterstrategy}
 use Rattle.refinement_loop.specs.Outcomes.{IsLargeFor}
+use Rattle.refinement_loop.proofs.OneBound.{same_bound}
 use Rattle.refinement_loop.proofs.EncodingSizes.{same_size}
 
-module _ (spec : SpecTree) (windows : List WindowTree) (states bound : ℕ) where
+module _ (spec : SpecTree) (windows : List WindowTree) (states : ℕ) (bound : Bound) where
   -- an annotation for one question that is asked gives one for each
   pub annotation_there : (side : Side) (p q : QuestionTree) → IsAsked side spec windows states bound p →
       IsAsked side spec windows states bound q → (moves : SpaceTree → ℕ → List MoveTree) (number : ℕ → ℕ → Option ℕ) →
@@ -35,7 +37,7 @@ module _ (spec : SpecTree) (windows : List WindowTree) (states bound : ℕ) wher
       (there : ℕ → ℕ → Option ℕ) × IsAnnotation (edges_from q.edges) (moves q.space) q.bound there
   annotation_there side p q first second moves number annotation =
       let space : p.space ≡ q.space = first.space ∙ sym second.space in
-      let bounds : p.bound ≡ q.bound = first.has_bound ∙ sym second.has_bound in
+      let bounds : p.bound ≡ q.bound = same_bound side spec windows states bound p q first second in
       let moved : IsAnnotation (edges_from p.edges) (moves q.space) q.bound number =
       subst (λ b. IsAnnotation (edges_from p.edges) (moves q.space) b number) bounds
       (subst (λ s. IsAnnotation (edges_from p.edges) (moves s) p.bound number) space annotation) in

@@ -13,31 +13,31 @@ use Rattle.refinement_loop.specs.Questions.{HasSolution, HasNoSolution}
 use Rattle.refinement_loop.specs.Chains.{IsChain}
 use Rattle.refinement_loop.specs.Outcomes.{IsSpentIn, IsFirstAnswer, IsOutcome, IsLargeFor, IsLargeIn, at_controller, at_environment}
 use Rattle.refinement_loop.specs.Outcomes.{IsLargeAfter}
-use Rattle.refinement_loop.specs.declared.outcome.Sizes.{Sizes}
+use Rattle.refinement_loop.specs.declared.outcome.Search.{Search}
 use Rattle.refinement_loop.specs.declared.outcome.Outcome.{Outcome}
 use Rattle.refinement_loop.specs.declared.outcome.Outcome.TheVariants as outcomes
 use Rattle.refinement_loop.proofs.OneAnswer.{not_both, not_answered}
 
-module _ (spec : SpecTree) (sizes : Sizes) where
+module _ (spec : SpecTree) (search : Search) where
   -- the question for a controller has no answer without windows where a round was made
-  pub first_has_none : (round : RoundTree) (rounds : List RoundTree) → IsChain spec sizes (round ∷ rounds) →
-      HasNoSolution spec [] sizes.states sizes.bound
+  pub first_has_none : (round : RoundTree) (rounds : List RoundTree) → IsChain spec search (round ∷ rounds) →
+      HasNoSolution spec [] search.states search.bound
   first_has_none round rounds chain = chain.0.none
 
   -- no limit of the first question
-  module _ (limit : Limit) (large : IsLargeFor spec [] sizes.states sizes.bound limit) where
-    not_refuted : HasNoSolution spec [] sizes.states sizes.bound → ⊥
-    not_refuted none = not_answered spec [] sizes.states sizes.bound none.question limit none.asked none.few large
+  module _ (limit : Limit) (large : IsLargeFor spec [] search.states search.bound limit) where
+    not_refuted : HasNoSolution spec [] search.states search.bound → ⊥
+    not_refuted none = not_answered spec [] search.states search.bound none.question limit none.asked none.few large
 
     not_spent : (side : Side) (automaton_states : ℕ) (edges : List EdgeTree) (clauses : List (List Lit)) →
-        IsSpentIn spec sizes [] side automaton_states edges clauses → ⊥
+        IsSpentIn spec search [] side automaton_states edges clauses → ⊥
     not_spent Controller automaton_states edges clauses spent =
-        not_answered spec [] sizes.states sizes.bound spent.question limit spent.asked spent.limits large
+        not_answered spec [] search.states search.bound spent.question limit spent.asked spent.limits large
     not_spent Environment automaton_states edges clauses spent = not_refuted spent.0.none
 
-    pub no_outcome : (outcome : Outcome) → IsOutcome spec sizes outcome → ⊥
+    pub no_outcome : (outcome : Outcome) → IsOutcome spec search outcome → ⊥
     no_outcome (outcomes.Written [] program) is =
-        not_answered spec [] sizes.states sizes.bound is.answer.question limit is.answer.asked is.answer.few large
+        not_answered spec [] search.states search.bound is.answer.question limit is.answer.asked is.answer.few large
     no_outcome (outcomes.Written (round ∷ rounds) program) is =
         not_refuted (first_has_none (round_tree round) (map round_tree rounds) is.chain)
     no_outcome (outcomes.None [] reason) is = not_refuted is.answer.0
@@ -48,26 +48,26 @@ module _ (spec : SpecTree) (sizes : Sizes) where
     no_outcome (outcomes.Spent (round ∷ rounds) side automaton clauses) is =
         not_refuted (first_has_none (round_tree round) (map round_tree rounds) is.chain)
 
-    at_first : (other : Limit) → IsLargeIn spec sizes [] other → IsLargeFor spec [] sizes.states sizes.bound other
+    at_first : (other : Limit) → IsLargeIn spec search [] other → IsLargeFor spec [] search.states search.bound other
     at_first other (at_controller there) = there
     at_first other (at_environment goes_on there) = absurd (not_refuted goes_on.none)
 
-    pub told_first : (other : Limit) (rounds : List RoundTree) → IsLargeAfter spec sizes rounds other →
-        (rounds ≡ []) × IsLargeFor spec [] sizes.states sizes.bound other
+    pub told_first : (other : Limit) (rounds : List RoundTree) → IsLargeAfter spec search rounds other →
+        (rounds ≡ []) × IsLargeFor spec [] search.states search.bound other
     told_first other [] after = (refl, at_first other after.large)
     told_first other (round ∷ rounds) after = absurd (not_refuted (first_has_none round rounds after.chain))
 
   -- no round where a controller answers without windows
-  module _ (found : HasSolution spec [] sizes.states sizes.bound) where
-    not_refuted_too : HasNoSolution spec [] sizes.states sizes.bound → ⊥
-    not_refuted_too none = not_both spec [] sizes.states sizes.bound found none
+  module _ (found : HasSolution spec [] search.states search.bound) where
+    not_refuted_too : HasNoSolution spec [] search.states search.bound → ⊥
+    not_refuted_too none = not_both spec [] search.states search.bound found none
 
     first_side : (side : Side) (automaton_states : ℕ) (edges : List EdgeTree) (clauses : List (List Lit)) →
-        IsSpentIn spec sizes [] side automaton_states edges clauses → side ≡ Controller
+        IsSpentIn spec search [] side automaton_states edges clauses → side ≡ Controller
     first_side Controller automaton_states edges clauses spent = refl
     first_side Environment automaton_states edges clauses spent = absurd (not_refuted_too spent.0.none)
 
-    pub first_answer : (outcome : Outcome) → IsOutcome spec sizes outcome → IsFirstAnswer outcome
+    pub first_answer : (outcome : Outcome) → IsOutcome spec search outcome → IsFirstAnswer outcome
     first_answer (outcomes.Written [] program) is = refl
     first_answer (outcomes.Written (round ∷ rounds) program) is =
         absurd (not_refuted_too (first_has_none (round_tree round) (map round_tree rounds) is.chain))

@@ -34,7 +34,7 @@ use Rattle.program_check.proofs.ProgramNames.{cell_named}
 use Rattle.program_check.proofs.SpaceTerms.{probe_with_bit, update_with_bit}
 use Rattle.branch_finder.specs.Spurious.{IsOneOf, IsSpurious}
 use Rattle.refinement_loop.specs.Chains.{IsChainFrom}
-use Rattle.refinement_loop.specs.declared.outcome.Sizes.{Sizes}
+use Rattle.refinement_loop.specs.declared.outcome.Search.{Search}
 
 -- what each window of a chain keeps
 pub record IsKnown (spec : SpecTree) (w : WindowTree) : Type 0 where
@@ -88,16 +88,16 @@ module _ (space : SpaceTree) where
       (listed_have_bits spurious.vector w.updates spurious.listed)
 
 -- the windows of a chain
-pub each_known : (spec : SpecTree) (sizes : Sizes) (windows : List WindowTree) (rounds : List RoundTree) →
-    IsChainFrom spec sizes windows rounds → AllByRecursion (IsKnown spec) (windows_of rounds)
-each_known spec sizes windows [] chain = tt
-each_known spec sizes windows (round ∷ rounds) chain = (
+pub each_known : (spec : SpecTree) (search : Search) (windows : List WindowTree) (rounds : List RoundTree) →
+    IsChainFrom spec search windows rounds → AllByRecursion (IsKnown spec) (windows_of rounds)
+each_known spec search windows [] chain = tt
+each_known spec search windows (round ∷ rounds) chain = (
   record {
     shaped = chain.0.shaped;
     congruent = chain.0.congruent;
     bits = spurious_has_bits (spec_space spec) round.environment round.window chain.0.spurious;
   },
-  each_known spec sizes (windows ++ round.window ∷ []) rounds chain.1,
+  each_known spec search (windows ++ round.window ∷ []) rounds chain.1,
 )
 
 module _ (spec : SpecTree) (fits : FormulasFit spec) where

@@ -28,6 +28,7 @@ use Rattle.tsl_terms.specs.Signals.{inputs_of, cells_of, outputs_of}
 use Rattle.control_flow_model.proofs.FlowLemmas.{state_count, few_nodes, few_kept}
 use Rattle.program_check.proofs.ProgramNames.{program_over, cell_named}
 use Rattle.program_check.proofs.SpaceTerms.{node_passes, probe_with_bit, update_with_bit, nodes_pass}
+use Rattle.refinement_loop.specs.declared.outcome.Bound.{Bound}
 use Rattle.refinement_loop.specs.Questions.{IsWrittenFor}
 use Rattle.refinement_loop.proofs.RoundWindows.{IsKnown, listed_of_cell}
 use Rattle.refinement_loop.proofs.UsableSignals.{signal_fits_if_named}
@@ -86,7 +87,7 @@ module _ (spec : SpecTree) (fits : SpecFits spec) where
       and_from (window_is_writable names w) (list_all (window_is_writable names) windows) (window_written w known.0)
       (windows_written windows known.1)
 
-  module _ (windows : List WindowTree) (known : AllByRecursion (IsKnown spec) windows) (states bound : ℕ) (program : ProgramTree)
+  module _ (windows : List WindowTree) (known : AllByRecursion (IsKnown spec) windows) (states : ℕ) (bound : Bound) (program : ProgramTree)
       (written : IsWrittenFor spec windows states bound program) where
     few_states : length program.states ≤ states
     few_states =

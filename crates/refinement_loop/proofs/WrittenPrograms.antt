@@ -31,7 +31,9 @@ use Rattle.program_check.specs.Verdicts.{window_has_bits, form_for, IsOverBits, 
 use Rattle.program_check.proofs.Accepted.{realized}
 use Rattle.program_check.proofs.SpaceTerms.{signals_of}
 use Rattle.bounded_encoding.specs.Question.{QuestionTree}
-use Rattle.refinement_loop.specs.Questions.{IsWrittenFor}
+use Rattle.refinement_loop.specs.declared.outcome.Bound.{Bound}
+use Rattle.refinement_loop.specs.Questions.{IsItsBound, IsWrittenFor}
+use Rattle.refinement_loop.proofs.OneBound.{has_its_bound}
 use Rattle.refinement_loop.proofs.RestrictedControllers.{numbers_by, restricted_annotation}
 use Rattle.refinement_loop.proofs.KeptStates.{WalksAs, restricted, is_restriction, is_controller}
 use Rattle.refinement_loop.proofs.RoundWindows.{IsKnown}
@@ -50,7 +52,7 @@ known_have_bits spec (w ∷ windows) known =
     and_from (window_has_bits (spec_space spec) w) (list_all (window_has_bits (spec_space spec)) windows) known.0.bits
     (known_have_bits spec windows known.1)
 
-module _ (spec : SpecTree) (windows : List WindowTree) (known : AllByRecursion (IsKnown spec) windows) (states bound : ℕ)
+module _ (spec : SpecTree) (windows : List WindowTree) (known : AllByRecursion (IsKnown spec) windows) (states : ℕ) (bound : Bound)
     (program : ProgramTree) (written : IsWrittenFor spec windows states bound program) where
   abbrev space : SpaceTree
   space = spec_space spec
@@ -98,13 +100,12 @@ module _ (spec : SpecTree) (windows : List WindowTree) (known : AllByRecursion (
         entry;
   }
 
-  annotation : IsAnnotation (edges_from question.edges) (controller_moves space c) bound written.number
+  annotation : IsAnnotation (edges_from question.edges) (controller_moves space c) question.bound written.number
   annotation =
-      subst (λ s. IsAnnotation (edges_from question.edges) (controller_moves s c) bound written.number) written.asked.space
-      (subst (λ b. IsAnnotation (edges_from question.edges) (controller_moves question.space c) b written.number) written.asked.has_bound
-      written.solution.annotation)
+      subst (λ s. IsAnnotation (edges_from question.edges) (controller_moves s c) question.bound written.number) written.asked.space
+      written.solution.annotation
 
-  pub has_annotation : HasAnnotation spec program bound
+  has_annotation : HasAnnotation spec program question.bound
   has_annotation = record {
     controller = restricted space c written.solution.table fits program written.flow.kept walks_as;
     edges = question.edges;
@@ -119,12 +120,14 @@ module _ (spec : SpecTree) (windows : List WindowTree) (known : AllByRecursion (
     number = numbers_by written.flow.kept written.number;
     annotation =
         restricted_annotation space c (restricted space c written.solution.table fits program written.flow.kept walks_as) written.flow.kept
-        (is_restriction space c written.solution.table fits program written.flow.kept walks_as) (edges_from question.edges) bound
-        written.number annotation;
+        (is_restriction space c written.solution.table fits program written.flow.kept walks_as) (edges_from question.edges)
+        question.bound written.number annotation;
   }
 
-  pub is_accepted : IsVerdict spec program bound Yes
-  is_accepted = (is_over, has_annotation)
+  -- with the number that is answered as the bound
+  pub is_accepted : (number : ℕ) → IsItsBound spec windows states bound number → IsVerdict spec program number Yes
+  is_accepted number its =
+      (is_over, subst (HasAnnotation spec program) (has_its_bound spec windows states bound question number written.asked its) has_annotation)
 
   pub is_realized : FormulasFit spec → IsProgram program → Realizes spec program
-  is_realized fit is_program = realized spec program bound fit is_program written.asked.few_bits is_over has_annotation
+  is_realized fit is_program = realized spec program question.bound fit is_program written.asked.few_bits is_over has_annotation

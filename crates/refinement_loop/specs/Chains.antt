@@ -14,26 +14,27 @@ use Rattle.branch_finder.specs.Spurious.{IsSpurious}
 use Rattle.branch_finder.specs.Finding.{branch_count}
 use Rattle.branch_finder.specs.declared.limits.TheConstants.{MOST_BRANCHES}
 use Rattle.refinement_loop.specs.Questions.{HasNoSolution, IsCounterstrategy}
-use Rattle.refinement_loop.specs.declared.outcome.Sizes.{Sizes}
+use Rattle.refinement_loop.specs.declared.outcome.Bound.TheVariants.{Fixed}
+use Rattle.refinement_loop.specs.declared.outcome.Search.{Search}
 
 -- Under the windows there is no controller, the round's environment has an annotation, there are not too many branches to look for
 -- a window, and the round's window is one of the specification's cells that is short enough, congruent, and spurious in that
 -- environment.
-pub record IsRound (spec : SpecTree) (sizes : Sizes) (windows : List WindowTree) (round : RoundTree) : Type 0 where
-  pub none : HasNoSolution spec windows sizes.states sizes.bound
-  pub environment : IsCounterstrategy spec windows sizes.env_states sizes.env_bound round.environment
-  pub few_branches : branch_count (spec_space spec) sizes.depth ≤ MOST_BRANCHES
+pub record IsRound (spec : SpecTree) (search : Search) (windows : List WindowTree) (round : RoundTree) : Type 0 where
+  pub none : HasNoSolution spec windows search.states search.bound
+  pub environment : IsCounterstrategy spec windows search.env_states (Fixed search.env_bound) round.environment
+  pub few_branches : branch_count (spec_space spec) search.depth ≤ MOST_BRANCHES
   pub shaped : IsTrue (window_is_shaped (cells_of spec) round.window)
-  pub short : round.window.length ≤ sizes.depth
+  pub short : round.window.length ≤ search.depth
   pub congruent : IsCongruent (cells_of spec) round.window
   pub spurious : IsSpurious (spec_space spec) round.environment round.window
 
 -- rounds that follow each other after these windows
-abbrev pub IsChainFrom : SpecTree → Sizes → List WindowTree → List RoundTree → Type 0
-IsChainFrom spec sizes windows [] = ⊤
-IsChainFrom spec sizes windows (round ∷ rounds) =
-    IsRound spec sizes windows round × IsChainFrom spec sizes (windows ++ round.window ∷ []) rounds
+abbrev pub IsChainFrom : SpecTree → Search → List WindowTree → List RoundTree → Type 0
+IsChainFrom spec search windows [] = ⊤
+IsChainFrom spec search windows (round ∷ rounds) =
+    IsRound spec search windows round × IsChainFrom spec search (windows ++ round.window ∷ []) rounds
 
 -- rounds that follow each other from the first one on
-abbrev pub IsChain : SpecTree → Sizes → List RoundTree → Type 0
-IsChain spec sizes rounds = IsChainFrom spec sizes [] rounds
+abbrev pub IsChain : SpecTree → Search → List RoundTree → Type 0
+IsChain spec search rounds = IsChainFrom spec search [] rounds

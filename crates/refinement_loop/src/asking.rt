@@ -9,12 +9,12 @@ ghost use Rattle.bounded_encoding.specs.QuestionView.{question_of};
 ghost use Rattle.bounded_encoding.specs.Answers.{IsFound};
 ghost use Rattle.counterstrategy.specs.DualAnswers.{IsFoundDual};
 ghost use Rattle.program_check.specs.Verdicts.{HasFewBits};
-ghost use Rattle.refinement_loop.specs.Questions.{IsAsked};
-ghost use Rattle.refinement_loop.specs.Outcomes.{AreInRange, HasAskCause};
+ghost use Rattle.refinement_loop.specs.Questions.{IsAsked, bound_under};
+ghost use Rattle.refinement_loop.specs.Outcomes.{IsInRange, HasAskCause};
 ghost use Rattle.refinement_loop.specs.internal.Turns.{HasFurtherCause};
 
 use crate::errors::{refused_dual, refused_encoding};
-use crate::outcome::{Asked, Sizes};
+use crate::outcome::{Asked, Bound, Search};
 use bounded_encoding::{Found, find_controller};
 use cobuchi_automata::Automaton;
 use counterstrategy::{FoundDual, find_environment};
@@ -38,19 +38,23 @@ pub fn ask(
     requires few_states { states ≤ 8 }
     requires has_budget { 1 ≤ budget }
     requires small_budget { budget ≤ 1000000 }
-    ensures asked { IfOk result (λ a. IsAsked Side.Controller (spec_tree spec.now) [] states bound
+    ensures asked { IfOk result (λ a. IsAsked Side.Controller (spec_tree spec.now) [] states (Bound.Fixed bound)
         (question_of a.automaton a.space states bound)) }
     ensures found { IfOk result (λ a. IsFound (question_of a.automaton a.space states bound) budget a.found) }
-    ensures cause { IfErr result (HasAskCause (spec_tree spec.now) [] states bound) }
+    ensures cause { IfErr result (HasAskCause (spec_tree spec.now) [] states (Bound.Fixed bound)) }
 {
     let space = space_of(alloc, spec)?;
-    let ControllerAnswer { automaton, found } = controller_answer(
+    let ControllerAnswer {
+        automaton,
+        found,
+        ..
+    } = controller_answer(
         alloc,
         spec,
         &space,
         &[],
         states,
-        bound,
+        Bound::Fixed(bound),
         budget,
     )?;
     Ok(Asked {
@@ -60,10 +64,11 @@ pub fn ask(
     })
 }
 
-/// The automaton of the question for a controller, and the answer to it.
+/// The automaton and the bound of the question for a controller, and the answer to it.
 #[derive(Drop)]
 pub(crate) struct ControllerAnswer {
     pub(crate) automaton: Automaton,
+    pub(crate) bound: u32,
     pub(crate) found: Found,
 }
 
@@ -74,7 +79,7 @@ pub(crate) fn controller_answer(
     space: &Space,
     windows: &[Window],
     states: u32,
-    bound: u32,
+    bound: Bound,
     budget: u64,
 ) -> Result<ControllerAnswer, CheckError>
     requires space { space_tree space.now ≡ spec_space (spec_tree spec.now) }
@@ -82,14 +87,21 @@ pub(crate) fn controller_answer(
     requires few_states { states ≤ 8 }
     requires has_budget { 1 ≤ budget }
     requires small_budget { budget ≤ 1000000 }
+    ensures bound { IfOk result (λ a. a.bound ≡ bound_under bound states a.automaton.states) }
     ensures asked { IfOk result (λ a. IsAsked Side.Controller (spec_tree spec.now) (map window_tree windows.now) states bound
-        (question_of a.automaton space.now states bound)) }
-    ensures found { IfOk result (λ a. IsFound (question_of a.automaton space.now states bound) budget a.found) }
+        (question_of a.automaton space.now states (bound_under bound states a.automaton.states))) }
+    ensures found { IfOk result (λ a. IsFound (question_of a.automaton space.now states (bound_under bound states a.automaton.states))
+        budget a.found) }
     ensures cause { IfErr result (HasAskCause (spec_tree spec.now) (map window_tree windows.now) states bound) }
 {
     let automaton = automaton_for(alloc, Side::Controller, spec, windows, space)?;
-    match find_controller(alloc, &automaton, space, states, bound, budget) {
-        Ok(found) => Ok(ControllerAnswer { automaton, found }),
+    let number = bound.under(states, automaton.states);
+    match find_controller(alloc, &automaton, space, states, number, budget) {
+        Ok(found) => Ok(ControllerAnswer {
+            automaton,
+            bound: number,
+            found,
+        }),
         Err(cause) => Err(refused_encoding(cause)),
     }
 }
@@ -107,24 +119,24 @@ pub(crate) fn environment_answer(
     spec: &Spec,
     space: &Space,
     windows: &[Window],
-    sizes: &Sizes,
+    search: &Search,
 ) -> Result<EnvironmentAnswer, CheckError>
     requires space { space_tree space.now ≡ spec_space (spec_tree spec.now) }
-    requires in_range { AreInRange sizes.now }
+    requires in_range { IsInRange search.now }
     ensures asked { IfOk result (λ a. IsAsked Side.Environment (spec_tree spec.now) (map window_tree windows.now)
-        sizes.now.env_states sizes.now.env_bound (question_of a.automaton space.now sizes.now.env_states sizes.now.env_bound)) }
-    ensures found { IfOk result (λ a. IsFoundDual (question_of a.automaton space.now sizes.now.env_states sizes.now.env_bound)
-        sizes.now.budget a.found) }
-    ensures cause { IfErr result (HasFurtherCause (spec_tree spec.now) sizes.now (map window_tree windows.now)) }
+        search.now.env_states (Bound.Fixed search.now.env_bound) (question_of a.automaton space.now search.now.env_states search.now.env_bound)) }
+    ensures found { IfOk result (λ a. IsFoundDual (question_of a.automaton space.now search.now.env_states search.now.env_bound)
+        search.now.budget a.found) }
+    ensures cause { IfErr result (HasFurtherCause (spec_tree spec.now) search.now (map window_tree windows.now)) }
 {
     let automaton = automaton_for(alloc, Side::Environment, spec, windows, space)?;
     match find_environment(
         alloc,
         &automaton,
         space,
-        sizes.env_states,
-        sizes.env_bound,
-        sizes.budget,
+        search.env_states,
+        search.env_bound,
+        search.budget,
     ) {
         Ok(found) => Ok(EnvironmentAnswer { automaton, found }),
         Err(cause) => Err(refused_dual(cause)),

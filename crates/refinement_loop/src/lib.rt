@@ -9,6 +9,8 @@
 //! with `specs/Questions`. The answers come with their rounds, which are a chain (`specs/Chains`): a program, that
 //! there is no controller and why no further round is made, or the trace on which a budget of learnt clauses was
 //! spent (`specs/Outcomes`).
+//! `refine_by` is the same loop for a `Bound`, which may be the full one: the states of the controller times those of
+//! the automaton of each question.
 //!
 //! Laws: no program is written where there is no such controller, and no round is made where there is one without
 //! windows (`written_or_none`); nothing is answered where a limit of the first question is passed
@@ -25,5 +27,5 @@ mod turning;
 pub use asking::ask;
 pub use errors::RefineError;
 pub use laws::{limits_leave_no_outcome, written_or_none};
-pub use outcome::{Asked, Outcome, Reason, Sizes};
-pub use refining::refine;
+pub use outcome::{Asked, Bound, Outcome, Reason, Search, Searched, Sizes};
+pub use refining::{refine, refine_by};

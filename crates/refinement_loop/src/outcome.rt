@@ -1,5 +1,9 @@
 //! What is asked for a specification, and what is answered.
 
+ghost use Rattle.std.specs.Prelude.{◌≡◌, ◌≤◌};
+ghost use Rattle.refinement_loop.specs.Questions.{bound_under};
+ghost use Rattle.refinement_loop.specs.Outcomes.{search_with};
+
 use bounded_encoding::Found;
 use clause_core::Clause;
 use cobuchi_automata::Automaton;
@@ -7,6 +11,30 @@ use letter_space::Space;
 use machines::{Environment, Round, Side};
 use program_tree::Program;
 use sequence::Sequence;
+
+/// The largest number that the annotation of a controller may have.
+#[derive(Clone, Copy, Debug, PartialEq, Eq)]
+pub enum Bound {
+    /// This number.
+    Fixed(u32),
+    /// The full bound: the states of the controller times those of the automaton. Where a controller has an
+    /// annotation at all, it has one within it.
+    Full,
+}
+
+impl Bound {
+    /// The number, for controllers with so many states and an automaton with so many.
+    pub(crate) fn under(self, states: u32, automaton_states: u32) -> u32
+        requires few_states { states ≤ 8 }
+        requires few_automaton_states { automaton_states ≤ 4096 }
+        ensures { result ≡ bound_under self states automaton_states }
+    {
+        match self {
+            Bound::Fixed(number) => number,
+            Bound::Full => states * automaton_states,
+        }
+    }
+}
 
 /// How far the search for a program goes.
 #[derive(Clone, Copy, Debug, PartialEq, Eq)]
@@ -24,6 +52,43 @@ pub struct Sizes {
     /// How many rounds may be made: 0 to 64.
     pub rounds: u32,
     /// How many clauses may be learnt for a question: 1 to 1,000,000.
+    pub budget: u64,
+}
+
+impl Sizes {
+    /// The same with another bound for the annotation of a controller.
+    pub fn with_bound(&self, bound: Bound) -> Search
+        ensures { result ≡ search_with self.now bound }
+    {
+        Search {
+            states: self.states,
+            bound,
+            env_states: self.env_states,
+            env_bound: self.env_bound,
+            depth: self.depth,
+            rounds: self.rounds,
+            budget: self.budget,
+        }
+    }
+}
+
+/// How far the search for a program goes, by a bound that may be the full one. Each size has its range as in
+/// `Sizes`, and a fixed bound may be any number.
+#[derive(Clone, Copy, Debug, PartialEq, Eq)]
+pub struct Search {
+    /// How many states the controller has.
+    pub states: u32,
+    /// The largest number of its annotation.
+    pub bound: Bound,
+    /// How many states an environment has.
+    pub env_states: u32,
+    /// The largest number of its annotation.
+    pub env_bound: u32,
+    /// The length of the longest window.
+    pub depth: u32,
+    /// How many rounds may be made.
+    pub rounds: u32,
+    /// How many clauses may be learnt for a question.
     pub budget: u64,
 }
 
@@ -77,4 +142,13 @@ pub enum Outcome {
         /// The clauses that were learnt, in order: a trace.
         clauses: Sequence<Clause>,
     },
+}
+
+/// What a search leads to.
+#[derive(Drop)]
+pub struct Searched {
+    /// What is answered.
+    pub outcome: Outcome,
+    /// The bound of the last question for a controller.
+    pub bound: u32,
 }

@@ -13,14 +13,15 @@ ghost use Rattle.machines.specs.MachineView.{controller_tree, environment_tree, 
 ghost use Rattle.machines.specs.Moves.{FitsSpace};
 ghost use Rattle.machines.specs.Rounds.{windows_of};
 ghost use Rattle.control_flow_model.specs.Flow.{IsFlowOf};
-ghost use Rattle.refinement_loop.specs.Questions.{IsCounterstrategy};
+ghost use Rattle.refinement_loop.specs.declared.outcome.Bound.{Bound};
+ghost use Rattle.refinement_loop.specs.Questions.{IsCounterstrategy, IsItsBound};
 ghost use Rattle.refinement_loop.specs.Chains.{IsChain};
-ghost use Rattle.refinement_loop.specs.Outcomes.{AreInRange, GoesOn};
+ghost use Rattle.refinement_loop.specs.Outcomes.{IsInRange, GoesOn};
 ghost use Rattle.refinement_loop.specs.internal.Turns.{IsTurn, HasTurnCause};
 
 use crate::asking::{ControllerAnswer, EnvironmentAnswer, controller_answer, environment_answer};
 use crate::errors::refused_branches;
-use crate::outcome::{Reason, Sizes};
+use crate::outcome::{Reason, Search};
 use bounded_encoding::Found;
 use branch_finder::find_window;
 use clause_core::Clause;
@@ -52,49 +53,68 @@ pub(crate) enum Turn {
     Further(Round),
 }
 
+/// A turn, and the bound of its question for a controller.
+#[derive(Drop)]
+pub(crate) struct Turned {
+    pub(crate) turn: Turn,
+    pub(crate) bound: u32,
+}
+
 /// What is found under the windows of the rounds that were made: the answer to the question for a controller,
 /// and where there is none, whether a further round can be made.
 pub(crate) fn next_turn(
     alloc: Global,
     spec: &Spec,
     space: &Space,
-    sizes: &Sizes,
+    search: &Search,
     rounds: &[Round],
-) -> Result<Turn, CheckError>
+) -> Result<Turned, CheckError>
     requires space { space_tree space.now ≡ spec_space (spec_tree spec.now) }
-    requires in_range { AreInRange sizes.now }
-    requires chain { IsChain (spec_tree spec.now) sizes.now (map round_tree rounds.now) }
-    requires few_rounds { length rounds.now ≤ sizes.now.rounds }
-    ensures turn { IfOk result (IsTurn (spec_tree spec.now) sizes.now (windows_of (map round_tree rounds.now))) }
-    ensures cause { IfErr result (HasTurnCause (spec_tree spec.now) sizes.now (windows_of (map round_tree rounds.now))) }
+    requires in_range { IsInRange search.now }
+    requires chain { IsChain (spec_tree spec.now) search.now (map round_tree rounds.now) }
+    requires few_rounds { length rounds.now ≤ search.now.rounds }
+    ensures turn { IfOk result (λ t. IsTurn (spec_tree spec.now) search.now (windows_of (map round_tree rounds.now)) t.turn) }
+    ensures bound { IfOk result (λ t. IsItsBound (spec_tree spec.now) (windows_of (map round_tree rounds.now))
+        search.now.states search.now.bound t.bound) }
+    ensures cause { IfErr result (HasTurnCause (spec_tree spec.now) search.now (windows_of (map round_tree rounds.now))) }
 {
     let windows = windows_in(alloc, rounds)?;
-    let ControllerAnswer { automaton, found } = controller_answer(
+    let ControllerAnswer {
+        automaton,
+        bound,
+        found,
+    } = controller_answer(
         alloc,
         spec,
         space,
         windows.as_slice(),
-        sizes.states,
-        sizes.bound,
-        sizes.budget,
+        search.states,
+        search.bound,
+        search.budget,
     )?;
     match found {
         Found::Controller(controller, _) => {
             let program = program_of(alloc, spec, space, &controller, windows)?;
-            Ok(Turn::Written(program))
+            let turn = Turn::Written(program);
+            Ok(Turned { turn, bound })
         }
         Found::None(_, _) => {
-            if rounds.len() < sizes.rounds as usize {
-                environment_turn(alloc, spec, space, sizes, windows.as_slice())
+            if rounds.len() < search.rounds as usize {
+                let turn = environment_turn(alloc, spec, space, search, windows.as_slice())?;
+                Ok(Turned { turn, bound })
             } else {
-                Ok(Turn::None(Reason::Rounds))
+                let turn = Turn::None(Reason::Rounds);
+                Ok(Turned { turn, bound })
             }
         }
-        Found::Spent(clauses) => Ok(Turn::Spent {
-            side: Side::Controller,
-            automaton,
-            clauses,
-        }),
+        Found::Spent(clauses) => {
+            let turn = Turn::Spent {
+                side: Side::Controller,
+                automaton,
+                clauses,
+            };
+            Ok(Turned { turn, bound })
+        }
     }
 }
 
@@ -104,21 +124,21 @@ fn environment_turn(
     alloc: Global,
     spec: &Spec,
     space: &Space,
-    sizes: &Sizes,
+    search: &Search,
     windows: &[Window],
 ) -> Result<Turn, CheckError>
     requires space { space_tree space.now ≡ spec_space (spec_tree spec.now) }
-    requires in_range { AreInRange sizes.now }
-    requires goes_on { GoesOn (spec_tree spec.now) sizes.now (map window_tree windows.now) }
-    ensures turn { IfOk result (IsTurn (spec_tree spec.now) sizes.now (map window_tree windows.now)) }
-    ensures cause { IfErr result (HasTurnCause (spec_tree spec.now) sizes.now (map window_tree windows.now)) }
+    requires in_range { IsInRange search.now }
+    requires goes_on { GoesOn (spec_tree spec.now) search.now (map window_tree windows.now) }
+    ensures turn { IfOk result (IsTurn (spec_tree spec.now) search.now (map window_tree windows.now)) }
+    ensures cause { IfErr result (HasTurnCause (spec_tree spec.now) search.now (map window_tree windows.now)) }
 {
     let EnvironmentAnswer { automaton, found } = environment_answer(
-        alloc, spec, space, windows, sizes,
+        alloc, spec, space, windows, search,
     )?;
     match found {
         FoundDual::Environment(environment, _) => {
-            window_turn(alloc, spec, space, sizes, windows, environment)
+            window_turn(alloc, spec, space, search, windows, environment)
         }
         FoundDual::None(_) => Ok(Turn::None(Reason::NoCounter)),
         FoundDual::Spent(clauses) => Ok(Turn::Spent {
@@ -135,21 +155,21 @@ fn window_turn(
     alloc: Global,
     spec: &Spec,
     space: &Space,
-    sizes: &Sizes,
+    search: &Search,
     windows: &[Window],
     environment: Environment,
 ) -> Result<Turn, CheckError>
     requires space { space_tree space.now ≡ spec_space (spec_tree spec.now) }
-    requires in_range { AreInRange sizes.now }
-    requires goes_on { GoesOn (spec_tree spec.now) sizes.now (map window_tree windows.now) }
+    requires in_range { IsInRange search.now }
+    requires goes_on { GoesOn (spec_tree spec.now) search.now (map window_tree windows.now) }
     requires counterstrategy { IsCounterstrategy (spec_tree spec.now) (map window_tree windows.now)
-        sizes.now.env_states sizes.now.env_bound (environment_tree environment) }
-    ensures turn { IfOk result (IsTurn (spec_tree spec.now) sizes.now (map window_tree windows.now)) }
-    ensures cause { IfErr result (HasTurnCause (spec_tree spec.now) sizes.now (map window_tree windows.now)) }
+        search.now.env_states (Bound.Fixed search.now.env_bound) (environment_tree environment) }
+    ensures turn { IfOk result (IsTurn (spec_tree spec.now) search.now (map window_tree windows.now)) }
+    ensures cause { IfErr result (HasTurnCause (spec_tree spec.now) search.now (map window_tree windows.now)) }
 {
     let lists = signals(alloc, spec)?;
     let cells = lists.cells.as_slice();
-    match find_window(alloc, &environment, space, cells, sizes.depth) {
+    match find_window(alloc, &environment, space, cells, search.depth) {
         Ok(Some(window)) => Ok(Turn::Further(Round {
             environment,
             window,

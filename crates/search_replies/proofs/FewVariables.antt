@@ -8,6 +8,7 @@ use Rattle.letter_space.specs.SpaceTree.{SpaceTree, choice_count, bit_count}
 use Rattle.bounded_encoding.specs.Question.{QuestionTree}
 use Rattle.bounded_encoding.specs.Variables.{variable_count}
 use Rattle.machines.specs.declared.side.Side.TheVariants.{Controller}
+use Rattle.refinement_loop.specs.declared.outcome.Bound.TheVariants.{Fixed}
 use Rattle.refinement_loop.specs.Questions.{IsAsked}
 
 -- with so many valuations, choices, states of an automaton and numbers at most
@@ -24,7 +25,7 @@ few_by s v c p k most_v most_c few_s few_v few_c few_p few_k =
     sum_le : (a b c d e f : ℕ) → a ≤ d → b ≤ e → c ≤ f → (a + b) + c ≤ (d + e) + f
     sum_le a b c d e f first second third = omega (arith, first, second, third)
 
-pub few_variables : (spec : SpecTree) (states bound : ℕ) (q : QuestionTree) → states ≤ 8 → bound ≤ 15 → IsAsked Controller spec [] states bound q →
+pub few_variables : (spec : SpecTree) (states bound : ℕ) (q : QuestionTree) → states ≤ 8 → bound ≤ 15 → IsAsked Controller spec [] states (Fixed bound) q →
     variable_count q ≤ 1048576
 few_variables spec states bound q few_states small_bound asked =
     let predicates : length q.space.predicates ≤ 10 = few_predicates in

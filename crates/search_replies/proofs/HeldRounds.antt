@@ -32,7 +32,9 @@ use Rattle.machines.specs.Rounds.{RoundTree}
 use Rattle.branch_finder.specs.Spurious.{IsOneOf, IsSpurious}
 use Rattle.program_check.proofs.ProgramNames.{cell_named}
 use Rattle.program_check.proofs.SpaceTerms.{predicates_pass, choices_pass}
-use Rattle.refinement_loop.specs.declared.outcome.Sizes.{Sizes}
+use Rattle.refinement_loop.specs.declared.outcome.Bound.{Bound}
+use Rattle.refinement_loop.specs.declared.outcome.Bound.TheVariants.{Fixed}
+use Rattle.refinement_loop.specs.declared.outcome.Search.{Search}
 use Rattle.refinement_loop.specs.declared.outcome.Reason.{Reason}
 use Rattle.refinement_loop.specs.declared.outcome.Reason.TheVariants.{Rounds, NoCounter, Genuine}
 use Rattle.refinement_loop.specs.Outcomes.{HasReason}
@@ -131,40 +133,40 @@ module _ (spec : SpecTree) (fits : SpecFits spec) where
 
   -- ---- rounds
 
-  counterstrategy_fits : (windows : List WindowTree) (states bound : ℕ) (e : EnvironmentTree) →
+  counterstrategy_fits : (windows : List WindowTree) (states : ℕ) (bound : Bound) (e : EnvironmentTree) →
       IsCounterstrategy spec windows states bound e → EnvironmentFits (spec_space spec) e
   counterstrategy_fits windows states bound e h = subst (λ (s : SpaceTree). EnvironmentFits s e) h.asked.space h.solution.fits
 
-  chain_held : (sizes : Sizes) (windows : List WindowTree) (rounds : List RoundTree) → IsChainFrom spec sizes windows rounds →
+  chain_held : (search : Search) (windows : List WindowTree) (rounds : List RoundTree) → IsChainFrom spec search windows rounds →
       AllByRecursion (RoundIsHeld names (spec_space spec)) rounds
-  chain_held sizes windows [] chain = tt
-  chain_held sizes windows (r ∷ rounds) chain = (
+  chain_held search windows [] chain = tt
+  chain_held search windows (r ∷ rounds) chain = (
     record {
-      fits = counterstrategy_fits windows sizes.env_states sizes.env_bound r.environment chain.0.environment;
+      fits = counterstrategy_fits windows search.env_states (Fixed search.env_bound) r.environment chain.0.environment;
       window = spurious_held names (spec_space spec) r.environment r.window space_held chain.0.spurious;
     },
-    chain_held sizes (windows ++ r.window ∷ []) rounds chain.1,
+    chain_held search (windows ++ r.window ∷ []) rounds chain.1,
   )
 
-  pub rounds_held : (sizes : Sizes) (space : SpaceTree) (rounds : List RoundTree) → space ≡ spec_space spec → IsChain spec sizes rounds →
+  pub rounds_held : (search : Search) (space : SpaceTree) (rounds : List RoundTree) → space ≡ spec_space spec → IsChain spec search rounds →
       RoundsAreHeld names space rounds
-  rounds_held sizes space rounds same chain =
+  rounds_held search space rounds same chain =
       subst (λ (s : SpaceTree). RoundsAreHeld names s rounds) (sym same)
-      (record { terms = space_held; rounds = chain_held sizes [] rounds chain })
+      (record { terms = space_held; rounds = chain_held search [] rounds chain })
 
   pub no_rounds_held : (space : SpaceTree) → space ≡ spec_space spec → RoundsAreHeld names space []
   no_rounds_held space same =
       subst (λ (s : SpaceTree). RoundsAreHeld names s []) (sym same) (record { terms = space_held; rounds = tt })
 
-  pub environment_fits : (windows : List WindowTree) (states bound : ℕ) (space : SpaceTree) (e : EnvironmentTree) → space ≡ spec_space spec →
+  pub environment_fits : (windows : List WindowTree) (states : ℕ) (bound : Bound) (space : SpaceTree) (e : EnvironmentTree) → space ≡ spec_space spec →
       IsCounterstrategy spec windows states bound e → EnvironmentFits space e
   environment_fits windows states bound space e same h =
       subst (λ (s : SpaceTree). EnvironmentFits s e) (sym same) (counterstrategy_fits windows states bound e h)
 
   -- the environment of a reason fits
-  pub reason_fits : (sizes : Sizes) (windows : List WindowTree) (space : SpaceTree) (reason : Reason) → space ≡ spec_space spec →
-      HasReason spec sizes windows reason → ReasonFits space (reason_told sizes reason)
-  reason_fits sizes windows space Rounds same has = tt
-  reason_fits sizes windows space NoCounter same has = tt
-  reason_fits sizes windows space (Genuine e) same has =
-      environment_fits windows sizes.env_states sizes.env_bound space (environment_tree e) same has.1.counterstrategy
+  pub reason_fits : (search : Search) (windows : List WindowTree) (space : SpaceTree) (reason : Reason) → space ≡ spec_space spec →
+      HasReason spec search windows reason → ReasonFits space (reason_told search reason)
+  reason_fits search windows space Rounds same has = tt
+  reason_fits search windows space NoCounter same has = tt
+  reason_fits search windows space (Genuine e) same has =
+      environment_fits windows search.env_states (Fixed search.env_bound) space (environment_tree e) same has.1.counterstrategy

@@ -7,6 +7,7 @@ use Rattle.tsl_reader.proofs.Causes.{one_spec}
 use Rattle.letter_space.specs.SpecSpace.{spec_space}
 use Rattle.machines.specs.declared.side.Side.TheVariants.{Controller}
 use Rattle.program_check.specs.declared.verdict.Limit.{Limit}
+use Rattle.refinement_loop.specs.declared.outcome.Bound.TheVariants.{Fixed}
 use Rattle.refinement_loop.specs.Questions.{HasSolution}
 use Rattle.refinement_loop.specs.Outcomes.{IsLargeFor}
 use Rattle.refinement_loop.proofs.OneAnswer.{not_answered, not_both}
@@ -46,7 +47,7 @@ prove_says sizes bytes reply (of_spec spec spells (too_large limit h is)) e = fa
 -- ---- completeness
 
 pub question_answers : (sizes : ProveSizes) (bytes : List ℕ) (spec : SpecTree) (reply : Reply) → Spells bytes spec →
-    ((limit : Limit) → IsLargeFor spec [] sizes.states sizes.bound limit → ⊥) → ProveOutcome sizes bytes reply → is_answer reply.status ≡ true
+    ((limit : Limit) → IsLargeFor spec [] sizes.states (Fixed sizes.bound) limit → ⊥) → ProveOutcome sizes bytes reply → is_answer reply.status ≡ true
 question_answers sizes bytes spec reply spells within (refused fault h is) =
     absurd (not_refused bytes spec h.error fault spells h.spells_none h.is_fault)
 question_answers sizes bytes spec reply spells within (of_spec other spelled (proved done h)) = ap is_answer done
@@ -54,16 +55,16 @@ question_answers sizes bytes spec reply spells within (of_spec other spelled (sa
 question_answers sizes bytes spec reply spells within (of_spec other spelled (spent is h)) = ap is_answer is
 question_answers sizes bytes spec reply spells within (of_spec other spelled (too_large limit h is)) =
     absurd (within limit
-    (subst (λ (s : SpecTree). IsLargeFor s [] sizes.states sizes.bound limit) (one_spec bytes other spec spelled spells) h))
+    (subst (λ (s : SpecTree). IsLargeFor s [] sizes.states (Fixed sizes.bound) limit) (one_spec bytes other spec spelled spells) h))
 
 -- where a controller of the size has an annotation within the bound, the answer is no proof
 pub controller_not_refuted : (sizes : ProveSizes) (bytes : List ℕ) (spec : SpecTree) (reply : Reply) → Spells bytes spec →
-    HasSolution spec [] sizes.states sizes.bound → ProveOutcome sizes bytes reply → reply.status ≡ Done → ⊥
+    HasSolution spec [] sizes.states (Fixed sizes.bound) → ProveOutcome sizes bytes reply → reply.status ≡ Done → ⊥
 controller_not_refuted sizes bytes spec reply spells found (refused fault h is) done =
     not_refused bytes spec h.error fault spells h.spells_none h.is_fault
 controller_not_refuted sizes bytes spec reply spells found (of_spec other spelled (proved is h)) done =
-    not_both other [] sizes.states sizes.bound
-    (subst (λ (s : SpecTree). HasSolution s [] sizes.states sizes.bound) (one_spec bytes spec other spells spelled) found) h.none
+    not_both other [] sizes.states (Fixed sizes.bound)
+    (subst (λ (s : SpecTree). HasSolution s [] sizes.states (Fixed sizes.bound)) (one_spec bytes spec other spells spelled) found) h.none
 controller_not_refuted sizes bytes spec reply spells found (of_spec other spelled (satisfiable is h)) done =
     let e : No ≡ Done = sym is ∙ done in cc
 controller_not_refuted sizes bytes spec reply spells found (of_spec other spelled (spent is h)) done =
@@ -73,17 +74,17 @@ controller_not_refuted sizes bytes spec reply spells found (of_spec other spelle
 
 -- where a limit is passed, that is what is told
 pub question_is_large : (sizes : ProveSizes) (bytes : List ℕ) (spec : SpecTree) (reply : Reply) (limit : Limit) → Spells bytes spec →
-    IsLargeFor spec [] sizes.states sizes.bound limit → ProveOutcome sizes bytes reply → reply.status ≡ Large
+    IsLargeFor spec [] sizes.states (Fixed sizes.bound) limit → ProveOutcome sizes bytes reply → reply.status ≡ Large
 question_is_large sizes bytes spec reply limit spells large (refused fault h is) =
     absurd (not_refused bytes spec h.error fault spells h.spells_none h.is_fault)
 question_is_large sizes bytes spec reply limit spells large (of_spec other spelled (proved is h)) =
-    absurd (not_answered other [] sizes.states sizes.bound h.none.question limit h.none.asked h.none.few
-    (subst (λ (s : SpecTree). IsLargeFor s [] sizes.states sizes.bound limit) (one_spec bytes spec other spells spelled) large))
+    absurd (not_answered other [] sizes.states (Fixed sizes.bound) h.none.question limit h.none.asked h.none.few
+    (subst (λ (s : SpecTree). IsLargeFor s [] sizes.states (Fixed sizes.bound) limit) (one_spec bytes spec other spells spelled) large))
 question_is_large sizes bytes spec reply limit spells large (of_spec other spelled (satisfiable is h)) =
-    absurd (not_answered other [] sizes.states sizes.bound h.question limit h.asked h.few
-    (subst (λ (s : SpecTree). IsLargeFor s [] sizes.states sizes.bound limit) (one_spec bytes spec other spells spelled) large))
+    absurd (not_answered other [] sizes.states (Fixed sizes.bound) h.question limit h.asked h.few
+    (subst (λ (s : SpecTree). IsLargeFor s [] sizes.states (Fixed sizes.bound) limit) (one_spec bytes spec other spells spelled) large))
 question_is_large sizes bytes spec reply limit spells large (of_spec other spelled (spent is h)) =
-    absurd (not_answered other [] sizes.states sizes.bound h.spent.question limit h.spent.asked h.spent.limits
-    (subst (λ (s : SpecTree). IsLargeFor s [] sizes.states sizes.bound limit) (one_spec bytes spec other spells spelled) large))
+    absurd (not_answered other [] sizes.states (Fixed sizes.bound) h.spent.question limit h.spent.asked h.spent.limits
+    (subst (λ (s : SpecTree). IsLargeFor s [] sizes.states (Fixed sizes.bound) limit) (one_spec bytes spec other spells spelled) large))
 question_is_large sizes bytes spec reply limit spells large (of_spec other spelled (too_large named h is)) =
     status_of is ∙ limit_status named

@@ -22,6 +22,7 @@ use Rattle.bounded_encoding.specs.Question.{QuestionTree}
 use Rattle.bounded_encoding.specs.Variables.{variable_count}
 use Rattle.bounded_encoding.specs.Encoding.{encoding}
 use Rattle.bounded_encoding.specs.Answers.{IsFoundController, IsRefuted}
+use Rattle.refinement_loop.specs.declared.outcome.Bound.TheVariants.{Fixed}
 use Rattle.refinement_loop.specs.Questions.{IsAsked, HasFewClauses}
 use Rattle.refinement_loop.specs.Outcomes.{IsSpentOn, IsLargeFor}
 use Rattle.refinement_loop.proofs.OneAnswer.{none_of}
@@ -42,7 +43,7 @@ use Rattle.tool_replies.proofs.Statuses.{status_of, text_of}
 
 -- the text of a refutation of the question's clauses behind the whole formula is that of a proof
 is_proof : (sizes : ProveSizes) (spec : SpecTree) (q : QuestionTree) (count : ℕ) (list : List (List Lit)) (steps : List Step)
-    (text : List ℕ) → IsQuestionInRange sizes → SpecFits spec → IsAsked Controller spec [] sizes.states sizes.bound q → length (encoding q) ≤ 2000000 →
+    (text : List ℕ) → IsQuestionInRange sizes → SpecFits spec → IsAsked Controller spec [] sizes.states (Fixed sizes.bound) q → length (encoding q) ≤ 2000000 →
     IsRefuted q count list steps → length steps < 200000000000000000 →
     text ≡ comment_text (formula_text spec.names (whole_formula spec)) ++ refutation_text count list steps →
     All (IsClauseOver count) list → All (λ step. IsIncreasing step.clause) steps → IsProof sizes spec text
@@ -64,7 +65,7 @@ is_proof sizes spec q count list steps text ranges fits asked few refuted short 
           (record { few_variables = small; few_clauses = few; each = each })
           (are_readable (variable_count q) (encoding q) steps small few short refuted.refuting.numbered refuted.refuting.accepted rising)
           refuted.refuting.accepted);
-      none = none_of spec [] sizes.states sizes.bound q asked few refuted.none;
+      none = none_of spec [] sizes.states (Fixed sizes.bound) q asked few refuted.none;
     }
 
 module _ {E : Type 0} (sizes : ProveSizes) where
@@ -81,12 +82,12 @@ module _ {E : Type 0} (sizes : ProveSizes) where
   spec_outcome bytes spec (Err e) spells outcome = tt
 
   pub too_large_outcome : (spec : SpecTree) (limit : Limit) (fault : Fault) (r : Result Reply E) →
-      IsLargeFor spec [] sizes.states sizes.bound limit → fault ≡ fault_at_limit limit → IfOk r (λ reply. reply ≡ fault_reply fault) →
+      IsLargeFor spec [] sizes.states (Fixed sizes.bound) limit → fault ≡ fault_at_limit limit → IfOk r (λ reply. reply ≡ fault_reply fault) →
       IfOk r (QuestionOutcome sizes spec)
   too_large_outcome spec limit fault (Ok reply) large is_limit is = too_large limit large (is ∙ ap fault_reply is_limit)
   too_large_outcome spec limit fault (Err e) large is_limit is = tt
 
-module _ {E : Type 0} (sizes : ProveSizes) (spec : SpecTree) (q : QuestionTree) (asked : IsAsked Controller spec [] sizes.states sizes.bound q) where
+module _ {E : Type 0} (sizes : ProveSizes) (spec : SpecTree) (q : QuestionTree) (asked : IsAsked Controller spec [] sizes.states (Fixed sizes.bound) q) where
   pub satisfiable_outcome : (c : ControllerTree) (most : ℕ) (numbers : List (Option ℕ)) (r : Result Reply E) → HasFewClauses q →
       IsFoundController q c most numbers → IfOk r (λ reply. reply ≡ satisfiable_reply) → IfOk r (QuestionOutcome sizes spec)
   satisfiable_outcome c most numbers (Ok reply) few found is = satisfiable (status_of is) (record {
@@ -111,7 +112,7 @@ module _ {E : Type 0} (sizes : ProveSizes) (spec : SpecTree) (q : QuestionTree) 
   proved_outcome count list steps (Err e) ranges fits few refuted short done is over rising = tt
 
   pub spent_outcome : (clauses : List (List Lit)) (space : SpaceTree) (r : Result Reply E) → space ≡ spec_space spec →
-      IsSpentOn Controller spec [] sizes.states sizes.bound sizes.budget q.automaton_states q.edges clauses →
+      IsSpentOn Controller spec [] sizes.states (Fixed sizes.bound) sizes.budget q.automaton_states q.edges clauses →
       IfOk r (λ reply. reply.status ≡ Spent) →
       IfOk r (λ reply. reply.text
       ≡ spent_text spec.names space Controller sizes.states sizes.bound [] q.automaton_states q.edges clauses) →

@@ -21,11 +21,17 @@ use Rattle.clause_core.specs.Literals.{Lit}
 use Rattle.program_check.specs.declared.verdict.Limit.{Limit}
 use Rattle.program_check.specs.declared.verdict.Verdict.TheVariants.{Yes}
 use Rattle.program_check.specs.Verdicts.{IsVerdict}
-use Rattle.refinement_loop.specs.declared.outcome.Sizes.{Sizes}
+use Rattle.tsl_terms.specs.WindowTree.{WindowTree}
+use Rattle.refinement_loop.specs.Questions.{HasNoSolution}
+use Rattle.full_bound.specs.FullBound.{AllFail}
+use Rattle.full_bound.proofs.AllFailing.{all_fail}
+use Rattle.refinement_loop.specs.declared.outcome.Bound.{Bound}
+use Rattle.refinement_loop.specs.declared.outcome.Bound.TheVariants.{Fixed, Full}
+use Rattle.refinement_loop.specs.declared.outcome.Search.{Search}
 use Rattle.refinement_loop.specs.declared.outcome.Reason.{Reason}
 use Rattle.refinement_loop.specs.declared.outcome.Reason.TheVariants.{Rounds, NoCounter, Genuine}
 use Rattle.refinement_loop.specs.declared.outcome.Outcome.TheVariants as outcomes
-use Rattle.refinement_loop.specs.Outcomes.{HasReason, IsOutcome, IsLargeFor, at_controller, IsLargeAfter}
+use Rattle.refinement_loop.specs.Outcomes.{HasReason, IsOutcome, IsLastBound, IsLargeFor, at_controller, IsLargeAfter}
 use Rattle.tsl_report.specs.declared.fault.Fault.{Fault}
 use Rattle.tsl_report.specs.FaultText.{fault_text}
 use Rattle.tsl_report.specs.RoundTexts.{rounds_text}
@@ -35,70 +41,86 @@ use Rattle.tool_replies.specs.declared.reply.Reply.{Reply}
 use Rattle.search_replies.specs.internal.SearchReasons.{reason_told}
 use Rattle.tool_replies.specs.Refusals.{IsFaultOf, fault_at_limit}
 use Rattle.tool_replies.specs.Replies.{fault_reply}
-use Rattle.search_replies.specs.Synth.{HasReasonTold, states_of_side, bound_of_side, SearchOutcome, written, told_none, spent, too_large}
+use Rattle.search_replies.specs.Synth.{WhereFull, HasReasonTold, states_of_side, bound_of_side, SearchOutcome, written, told_none, spent, too_large}
 use Rattle.search_replies.specs.Synth.{SynthOutcome, refused, of_spec}
 
 -- the reason, as it is told
-reason_holds : (sizes : Sizes) (spec : SpecTree) (rounds : List RoundTree) (reason : Reason) →
-    HasReason spec sizes (windows_of rounds) reason → HasReasonTold sizes spec rounds (reason_told sizes reason)
-reason_holds sizes spec rounds Rounds has = (refl, sym (length-map rounds (λ r. r.window)) ∙ has)
-reason_holds sizes spec rounds NoCounter has = (has.0, refl, refl, has.1)
-reason_holds sizes spec rounds (Genuine e) has = has
+reason_holds : (search : Search) (spec : SpecTree) (rounds : List RoundTree) (reason : Reason) →
+    HasReason spec search (windows_of rounds) reason → HasReasonTold search spec rounds (reason_told search reason)
+reason_holds search spec rounds Rounds has = (refl, sym (length-map rounds (λ r. r.window)) ∙ has)
+reason_holds search spec rounds NoCounter has = (has.0, refl, refl, has.1)
+reason_holds search spec rounds (Genuine e) has = has
 
-module _ {E : Type 0} (sizes : Sizes) where
+-- what is worth more where the bound is the full one
+where_full : (spec : SpecTree) (windows : List WindowTree) (states : ℕ) (bound : Bound) → HasNoSolution spec windows states bound →
+    WhereFull bound (AllFail spec windows states)
+where_full spec windows states (Fixed number) none = tt
+where_full spec windows states Full none = all_fail spec windows states none
+
+module _ {E : Type 0} (search : Search) where
   pub refused_outcome : (bytes : List ℕ) (error : SpecError) (fault : Fault) (r : Result Reply E) → HasCause bytes error →
       SpellsNoSpec bytes error → IsFaultOf bytes error fault → IfOk r (λ reply. reply ≡ fault_reply fault) →
-      IfOk r (SynthOutcome sizes bytes)
+      IfOk r (SynthOutcome search bytes)
   refused_outcome bytes error fault (Ok reply) cause none is_fault is =
       refused fault (record { error = error; cause = cause; spells_none = none; is_fault = is_fault }) is
   refused_outcome bytes error fault (Err e) cause none is_fault is = tt
 
-  pub spec_outcome : (bytes : List ℕ) (spec : SpecTree) (r : Result Reply E) → Spells bytes spec → IfOk r (SearchOutcome sizes spec) →
-      IfOk r (SynthOutcome sizes bytes)
+  pub spec_outcome : (bytes : List ℕ) (spec : SpecTree) (r : Result Reply E) → Spells bytes spec → IfOk r (SearchOutcome search spec) →
+      IfOk r (SynthOutcome search bytes)
   spec_outcome bytes spec (Ok reply) spells outcome = of_spec spec spells outcome
   spec_outcome bytes spec (Err e) spells outcome = tt
 
   module _ (spec : SpecTree) where
-    pub written_outcome : (rounds : List Round) (program : Program) (r : Result Reply E) →
-        IsOutcome spec sizes (outcomes.Written rounds program) → IsVerdict spec (program_tree program) sizes.bound Yes →
+    pub written_outcome : (rounds : List Round) (program : Program) (bound : ℕ) (r : Result Reply E) →
+        IsOutcome spec search (outcomes.Written rounds program) → IsLastBound spec search (outcomes.Written rounds program) bound →
+        IsVerdict spec (program_tree program) bound Yes →
         Realizes spec (program_tree program) → IfOk r (λ reply. reply.status ≡ Done) →
-        IfOk r (λ reply. ProgramText reply.text spec.names (program_tree program)) → IfOk r (SearchOutcome sizes spec)
-    written_outcome rounds program (Ok reply) outcome accepted realizes done spelled = written done (record {
+        IfOk r (λ reply. ProgramText reply.text spec.names (program_tree program)) → IfOk r (SearchOutcome search spec)
+    written_outcome rounds program bound (Ok reply) outcome its accepted realizes done spelled = written done (record {
       rounds = map round_tree rounds;
       are_rounds = record { chain = outcome.chain; few = outcome.few_rounds };
       program = program_tree program;
       spelled = spelled;
       realizes = realizes;
       controlled = outcome.answer;
+      bound = bound;
+      has_bound = its;
       accepted = accepted;
     })
-    written_outcome rounds program (Err e) outcome accepted realizes done spelled = tt
+    written_outcome rounds program bound (Err e) outcome its accepted realizes done spelled = tt
 
-    pub none_outcome : (rounds : List Round) (reason : Reason) (space : SpaceTree) (r : Result Reply E) → space ≡ spec_space spec →
-        IsOutcome spec sizes (outcomes.None rounds reason) → IfOk r (λ reply. reply.status ≡ No) →
-        IfOk r (λ reply. reply.text ≡ none_text spec.names space sizes.states sizes.bound (map round_tree rounds) (reason_told sizes reason)) →
-        IfOk r (SearchOutcome sizes spec)
-    none_outcome rounds reason space (Ok reply) same outcome is says = told_none is (record {
+    pub none_outcome : (rounds : List Round) (reason : Reason) (bound : ℕ) (space : SpaceTree) (r : Result Reply E) →
+        space ≡ spec_space spec → IsOutcome spec search (outcomes.None rounds reason) →
+        IsLastBound spec search (outcomes.None rounds reason) bound → IfOk r (λ reply. reply.status ≡ No) →
+        IfOk r (λ reply. reply.text ≡ none_text spec.names space search.states bound (map round_tree rounds) (reason_told search reason)) →
+        IfOk r (SearchOutcome search spec)
+    none_outcome rounds reason bound space (Ok reply) same outcome its is says = told_none is (record {
       rounds = map round_tree rounds;
       are_rounds = record { chain = outcome.chain; few = outcome.few_rounds };
       none = outcome.answer.0;
-      reason = reason_told sizes reason;
-      has_reason = reason_holds sizes spec (map round_tree rounds) reason outcome.answer.1;
+      failing = where_full spec (windows_of (map round_tree rounds)) search.states search.bound outcome.answer.0;
+      bound = bound;
+      has_bound = its;
+      reason = reason_told search reason;
+      has_reason = reason_holds search spec (map round_tree rounds) reason outcome.answer.1;
       text_is = says
-          ∙ ap (λ (s : SpaceTree). none_text spec.names s sizes.states sizes.bound (map round_tree rounds) (reason_told sizes reason)) same;
+          ∙ ap (λ (s : SpaceTree). none_text spec.names s search.states bound (map round_tree rounds) (reason_told search reason)) same;
     })
-    none_outcome rounds reason space (Err e) same outcome is says = tt
+    none_outcome rounds reason bound space (Err e) same outcome its is says = tt
 
     pub spent_outcome : (rounds : List Round) (side : Side) (automaton : Automaton) (clauses : List (List Lit)) (space : SpaceTree)
-        (states bound : ℕ) (r : Result Reply E) → space ≡ spec_space spec → states ≡ states_of_side sizes side →
-        bound ≡ bound_of_side sizes side → IsOutcome spec sizes (outcomes.Spent rounds side automaton clauses) →
+        (number states bound : ℕ) (r : Result Reply E) → space ≡ spec_space spec → states ≡ states_of_side search side →
+        bound ≡ bound_of_side search number side → IsOutcome spec search (outcomes.Spent rounds side automaton clauses) →
+        IsLastBound spec search (outcomes.Spent rounds side automaton clauses) number →
         IfOk r (λ reply. reply.status ≡ Spent) →
         IfOk r (λ reply. reply.text
         ≡ spent_text spec.names space side states bound (map round_tree rounds) automaton.states (edge_trees automaton.edges) clauses) →
-        IfOk r (SearchOutcome sizes spec)
-    spent_outcome rounds side automaton clauses space states bound (Ok reply) same has_states has_bound outcome is says = spent is (record {
+        IfOk r (SearchOutcome search spec)
+    spent_outcome rounds side automaton clauses space number states bound (Ok reply) same has_states has_bound outcome its is says = spent is (record {
       rounds = map round_tree rounds;
       are_rounds = record { chain = outcome.chain; few = outcome.few_rounds };
+      bound = number;
+      has_bound = its;
       side = side;
       automaton_states = automaton.states;
       edges = edge_trees automaton.edges;
@@ -108,12 +130,12 @@ module _ {E : Type 0} (sizes : Sizes) where
           ∙ (λ i. spent_text spec.names (same i) side (has_states i) (has_bound i) (map round_tree rounds) automaton.states
           (edge_trees automaton.edges) clauses);
     })
-    spent_outcome rounds side automaton clauses space states bound (Err e) same has_states has_bound outcome is says = tt
+    spent_outcome rounds side automaton clauses space number states bound (Err e) same has_states has_bound outcome its is says = tt
 
     pub too_large_outcome : (limit : Limit) (rounds : List Round) (space : SpaceTree) (r : Result Reply E) → space ≡ spec_space spec →
-        IsLargeAfter spec sizes (map round_tree rounds) limit → IfOk r (λ reply. reply.status ≡ Large) →
+        IsLargeAfter spec search (map round_tree rounds) limit → IfOk r (λ reply. reply.status ≡ Large) →
         IfOk r (λ reply. reply.text ≡ fault_text (fault_at_limit limit) ++ rounds_text spec.names space (map round_tree rounds)) →
-        IfOk r (SearchOutcome sizes spec)
+        IfOk r (SearchOutcome search spec)
     too_large_outcome limit rounds space (Ok reply) same large is says =
         too_large limit (map round_tree rounds) large (λ i. record { status = is i; text = told i })
       where
@@ -122,9 +144,9 @@ module _ {E : Type 0} (sizes : Sizes) where
     too_large_outcome limit rounds space (Err e) same large is says = tt
 
     -- before any round
-    pub at_once_outcome : (limit : Limit) (r : Result Reply E) → IsLargeFor spec [] sizes.states sizes.bound limit →
+    pub at_once_outcome : (limit : Limit) (r : Result Reply E) → IsLargeFor spec [] search.states search.bound limit →
         IfOk r (λ reply. reply.status ≡ Large) → IfOk r (λ reply. reply.text ≡ fault_text (fault_at_limit limit)) →
-        IfOk r (SearchOutcome sizes spec)
+        IfOk r (SearchOutcome search spec)
     at_once_outcome limit (Ok reply) large is says =
         too_large limit [] (record { chain = tt; few_rounds = omega arith; large = at_controller large })
         (λ i. record { status = is i; text = (says ∙ sym (append-nil (fault_text (fault_at_limit limit)))) i })

@@ -7,10 +7,10 @@ use Rattle.tsl_meaning.specs.Promise.{Realizes}
 use Rattle.letter_space.specs.SpaceTree.{SpaceTree, choice_count}
 use Rattle.letter_space.specs.SpecSpace.{spec_space}
 use Rattle.program_check.specs.declared.verdict.Limit.{Limit}
+use Rattle.refinement_loop.specs.declared.outcome.Bound.TheVariants.{Fixed}
 use Rattle.refinement_loop.specs.Questions.{HasNoSolution, IsWrittenFor}
 use Rattle.refinement_loop.specs.Outcomes.{IsLargeFor}
 use Rattle.generator.specs.Generated.{generated_text, summary_text}
-use Rattle.tool_replies.specs.declared.status.Status.{Status}
 use Rattle.tool_replies.specs.declared.status.Status.TheVariants.{Done, No, Spent}
 use Rattle.tool_replies.specs.declared.reply.Reply.{Reply}
 use Rattle.tool_replies.specs.Refusals.{fault_at_limit}
@@ -29,13 +29,13 @@ summary_reply n space has_program = record { status = cond has_program Done No; 
 -- the text says that there is one.
 pub record TellsProgram (n : ℕ) (spec : SpecTree) (text : List ℕ) : Type 0 where
   pub program : ProgramTree
-  pub controlled : IsWrittenFor spec [] n n program
+  pub controlled : IsWrittenFor spec [] n (Fixed n) program
   pub realizes : Realizes spec program
   pub text_is : text ≡ bits_summary n (spec_space spec) true
 
 -- no controller with so many states has an annotation within the same bound, and the text says so
 pub record TellsNoProgram (n : ℕ) (spec : SpecTree) (text : List ℕ) : Type 0 where
-  pub none : HasNoSolution spec [] n n
+  pub none : HasNoSolution spec [] n (Fixed n)
   pub text_is : text ≡ bits_summary n (spec_space spec) false
 
 -- what is replied to the generated specification
@@ -47,7 +47,7 @@ pub data SummaryOutcome (n : ℕ) (spec : SpecTree) (reply : Reply) : Type 0 whe
   -- the budget is spent
   spent : reply.status ≡ Spent → TellsSpentOn spec n n 20000 reply.text → SummaryOutcome n spec reply
   -- a limit is passed
-  too_large : (limit : Limit) → IsLargeFor spec [] n n limit → reply ≡ fault_reply (fault_at_limit limit) → SummaryOutcome n spec reply
+  too_large : (limit : Limit) → IsLargeFor spec [] n (Fixed n) limit → reply ≡ fault_reply (fault_at_limit limit) → SummaryOutcome n spec reply
 
 -- the text of the number spells a specification, and this is replied to it
 abbrev pub OfGenerated : ℕ → (SpecTree → Type 0) → Type 0

@@ -11,6 +11,7 @@ use Rattle.refutation_text.specs.Written.{comment_text, refutation_text}
 use Rattle.bounded_encoding.specs.Question.{QuestionTree, IsSolution}
 use Rattle.bounded_encoding.specs.Variables.{variable_count}
 use Rattle.bounded_encoding.specs.Encoding.{encoding}
+use Rattle.refinement_loop.specs.declared.outcome.Bound.TheVariants.{Fixed}
 use Rattle.refinement_loop.specs.Questions.{IsAsked, HasFewClauses, HasNoSolution}
 use Rattle.refinement_loop.specs.Outcomes.{IsLargeFor}
 use Rattle.tsl_report.specs.declared.fault.Fault.{Fault}
@@ -32,16 +33,16 @@ proof_text spec question steps =
 -- the clauses that encode the question, which `recheck` verifies, and there is no such controller.
 pub record IsProof (sizes : ProveSizes) (spec : SpecTree) (text : List ℕ) : Type 0 where
   pub question : QuestionTree
-  pub asked : IsAsked Controller spec [] sizes.states sizes.bound question
+  pub asked : IsAsked Controller spec [] sizes.states (Fixed sizes.bound) question
   pub steps : List Step
   pub text_is : text ≡ proof_text spec question steps
   pub spelled : SpellsRefutation text (variable_count question) (encoding question)
-  pub none : HasNoSolution spec [] sizes.states sizes.bound
+  pub none : HasNoSolution spec [] sizes.states (Fixed sizes.bound)
 
 -- a controller with so many states has an annotation within the bound, and the text says so
 pub record TellsSatisfiable (sizes : ProveSizes) (spec : SpecTree) (text : List ℕ) : Type 0 where
   pub question : QuestionTree
-  pub asked : IsAsked Controller spec [] sizes.states sizes.bound question
+  pub asked : IsAsked Controller spec [] sizes.states (Fixed sizes.bound) question
   pub few : HasFewClauses question
   pub controller : ControllerTree
   pub number : ℕ → ℕ → Option ℕ
@@ -61,7 +62,7 @@ pub data QuestionOutcome (sizes : ProveSizes) (spec : SpecTree) (reply : Reply) 
   -- the budget is spent
   spent : reply.status ≡ Spent → TellsSpentOn spec sizes.states sizes.bound sizes.budget reply.text → QuestionOutcome sizes spec reply
   -- a limit is passed
-  too_large : (limit : Limit) → IsLargeFor spec [] sizes.states sizes.bound limit → reply ≡ fault_reply (fault_at_limit limit) →
+  too_large : (limit : Limit) → IsLargeFor spec [] sizes.states (Fixed sizes.bound) limit → reply ≡ fault_reply (fault_at_limit limit) →
       QuestionOutcome sizes spec reply
 
 pub data ProveOutcome (sizes : ProveSizes) (bytes : List ℕ) (reply : Reply) : Type 0 where

@@ -1,5 +1,5 @@
 -- What the command `synth` replies.
-use Rattle.std.specs.Prelude.{◌≡◌, ℕ, ◌≤◌, List, [], ◌++◌, length}
+use Rattle.std.specs.Prelude.{◌≡◌, ℕ, ◌≤◌, List, [], ◌++◌, length, ⊤}
 use Rattle.tsl_terms.specs.SpecTree.{SpecTree}
 use Rattle.tsl_reader.specs.Spells.{Spells}
 use Rattle.program_tree.specs.ProgramTree.{ProgramTree}
@@ -14,10 +14,13 @@ use Rattle.clause_core.specs.Literals.{Lit}
 use Rattle.program_check.specs.declared.verdict.Limit.{Limit}
 use Rattle.program_check.specs.declared.verdict.Verdict.TheVariants.{Yes}
 use Rattle.program_check.specs.Verdicts.{IsVerdict}
-use Rattle.refinement_loop.specs.declared.outcome.Sizes.{Sizes}
-use Rattle.refinement_loop.specs.Questions.{IsWrittenFor, HasNoSolution, HasNoCounterstrategy}
+use Rattle.refinement_loop.specs.declared.outcome.Bound.{Bound}
+use Rattle.refinement_loop.specs.declared.outcome.Bound.TheVariants.{Fixed, Full}
+use Rattle.refinement_loop.specs.declared.outcome.Search.{Search}
+use Rattle.refinement_loop.specs.Questions.{IsItsBound, IsWrittenFor, HasNoSolution, HasNoCounterstrategy}
 use Rattle.refinement_loop.specs.Chains.{IsChain}
 use Rattle.refinement_loop.specs.Outcomes.{MayGoOn, IsGenuine, IsSpentOn, IsSpentIn, IsLargeAfter}
+use Rattle.full_bound.specs.FullBound.{AllFail}
 use Rattle.tsl_report.specs.declared.fault.Fault.{Fault}
 use Rattle.tsl_report.specs.FaultText.{fault_text}
 use Rattle.tsl_report.specs.RoundTexts.{rounds_text}
@@ -28,64 +31,77 @@ use Rattle.tool_replies.specs.Refusals.{HasSpecFault, fault_at_limit}
 use Rattle.tool_replies.specs.Replies.{fault_reply}
 
 -- the rounds are a chain, and no more than may be made
-pub record AreRounds (sizes : Sizes) (spec : SpecTree) (rounds : List RoundTree) : Type 0 where
-  pub chain : IsChain spec sizes rounds
-  pub few : length rounds ≤ sizes.rounds
+pub record AreRounds (search : Search) (spec : SpecTree) (rounds : List RoundTree) : Type 0 where
+  pub chain : IsChain spec search rounds
+  pub few : length rounds ≤ search.rounds
 
 -- The text spells a program over the names of the specification, and this program realizes the specification: every closed run of it,
 -- under every finite interpretation and every input loop, meets the whole formula and the formula of each window of the program, and
 -- each of these windows is congruent. It is the program of a controller with as many states as were asked for, which has an
--- annotation within the bound under these windows, and `check` accepts it with the same bound. The windows are those of rounds.
-pub record IsWritten (sizes : Sizes) (spec : SpecTree) (text : List ℕ) : Type 0 where
+-- annotation within the bound under these windows, and `check` accepts it with the bound's number. The windows are those of rounds.
+pub record IsWritten (search : Search) (spec : SpecTree) (text : List ℕ) : Type 0 where
   pub rounds : List RoundTree
-  pub are_rounds : AreRounds sizes spec rounds
+  pub are_rounds : AreRounds search spec rounds
   pub program : ProgramTree
   pub spelled : ProgramText text spec.names program
   pub realizes : Realizes spec program
-  pub controlled : IsWrittenFor spec (windows_of rounds) sizes.states sizes.bound program
-  pub accepted : IsVerdict spec program sizes.bound Yes
+  pub controlled : IsWrittenFor spec (windows_of rounds) search.states search.bound program
+  pub bound : ℕ
+  pub has_bound : IsItsBound spec (windows_of rounds) search.states search.bound bound
+  pub accepted : IsVerdict spec program bound Yes
 
 -- Why no further round is made, as it is told: as many were made as may be; or fewer, and either no environment of the size has an
 -- annotation within its bound under the windows of the rounds, or this one has, and no congruent window up to the depth is spurious
 -- in it.
-abbrev pub HasReasonTold : Sizes → SpecTree → List RoundTree → ReasonTree → Type 0
-HasReasonTold sizes spec rounds (rounds_made count) = (count ≡ sizes.rounds) × (length rounds ≡ count)
-HasReasonTold sizes spec rounds (no_counter states bound) =
-    MayGoOn sizes (windows_of rounds) × (states ≡ sizes.env_states) × (bound ≡ sizes.env_bound)
-    × HasNoCounterstrategy spec (windows_of rounds) states bound
-HasReasonTold sizes spec rounds (genuine e) = MayGoOn sizes (windows_of rounds) × IsGenuine spec sizes (windows_of rounds) e
+abbrev pub HasReasonTold : Search → SpecTree → List RoundTree → ReasonTree → Type 0
+HasReasonTold search spec rounds (rounds_made count) = (count ≡ search.rounds) × (length rounds ≡ count)
+HasReasonTold search spec rounds (no_counter states bound) =
+    MayGoOn search (windows_of rounds) × (states ≡ search.env_states) × (bound ≡ search.env_bound)
+    × HasNoCounterstrategy spec (windows_of rounds) states (Fixed bound)
+HasReasonTold search spec rounds (genuine e) = MayGoOn search (windows_of rounds) × IsGenuine spec search (windows_of rounds) e
+
+-- what holds where the bound is the full one
+abbrev pub WhereFull : Bound → Type 0 → Type 0
+WhereFull (Fixed number) P = ⊤
+WhereFull Full P = P
 
 -- Under the windows of these rounds no controller with so many states has an annotation within the bound, and the text says so, with
--- the rounds and the reason why no further one is made.
-pub record TellsNone (sizes : Sizes) (spec : SpecTree) (text : List ℕ) : Type 0 where
+-- the bound's number, the rounds and the reason why no further one is made. Where the bound is the full one, each controller with so
+-- many states has a loop of letters on which the formula under these windows does not hold.
+pub record TellsNone (search : Search) (spec : SpecTree) (text : List ℕ) : Type 0 where
   pub rounds : List RoundTree
-  pub are_rounds : AreRounds sizes spec rounds
-  pub none : HasNoSolution spec (windows_of rounds) sizes.states sizes.bound
+  pub are_rounds : AreRounds search spec rounds
+  pub none : HasNoSolution spec (windows_of rounds) search.states search.bound
+  pub failing : WhereFull search.bound (AllFail spec (windows_of rounds) search.states)
+  pub bound : ℕ
+  pub has_bound : IsItsBound spec (windows_of rounds) search.states search.bound bound
   pub reason : ReasonTree
-  pub has_reason : HasReasonTold sizes spec rounds reason
-  pub text_is : text ≡ none_text spec.names (spec_space spec) sizes.states sizes.bound rounds reason
+  pub has_reason : HasReasonTold search spec rounds reason
+  pub text_is : text ≡ none_text spec.names (spec_space spec) search.states bound rounds reason
 
--- the states that the machine of a side has, and the bound of its annotation
-abbrev pub states_of_side : Sizes → Side → ℕ
-states_of_side sizes Controller = sizes.states
-states_of_side sizes Environment = sizes.env_states
+-- the states that the machine of a side has, and the number that bounds its annotation, where this one bounds that of a controller
+abbrev pub states_of_side : Search → Side → ℕ
+states_of_side search Controller = search.states
+states_of_side search Environment = search.env_states
 
-abbrev pub bound_of_side : Sizes → Side → ℕ
-bound_of_side sizes Controller = sizes.bound
-bound_of_side sizes Environment = sizes.env_bound
+abbrev pub bound_of_side : Search → ℕ → Side → ℕ
+bound_of_side search number Controller = number
+bound_of_side search number Environment = search.env_bound
 
 -- The budget was spent on a trace of a question under the windows of these rounds: that for a controller, or that for an environment
 -- where no controller answers its own and a further round may be made. The text tells the rounds, the question's automaton and the
--- trace.
-pub record TellsSpent (sizes : Sizes) (spec : SpecTree) (text : List ℕ) : Type 0 where
+-- trace, and on the side of a controller the bound's number.
+pub record TellsSpent (search : Search) (spec : SpecTree) (text : List ℕ) : Type 0 where
   pub rounds : List RoundTree
-  pub are_rounds : AreRounds sizes spec rounds
+  pub are_rounds : AreRounds search spec rounds
+  pub bound : ℕ
+  pub has_bound : IsItsBound spec (windows_of rounds) search.states search.bound bound
   pub side : Side
   pub automaton_states : ℕ
   pub edges : List EdgeTree
   pub clauses : List (List Lit)
-  pub spent : IsSpentIn spec sizes (windows_of rounds) side automaton_states edges clauses
-  pub text_is : text ≡ spent_text spec.names (spec_space spec) side (states_of_side sizes side) (bound_of_side sizes side) rounds
+  pub spent : IsSpentIn spec search (windows_of rounds) side automaton_states edges clauses
+  pub text_is : text ≡ spent_text spec.names (spec_space spec) side (states_of_side search side) (bound_of_side search bound side) rounds
       automaton_states edges clauses
 
 -- the same of the question for a controller alone, without windows
@@ -93,7 +109,7 @@ pub record TellsSpentOn (spec : SpecTree) (states bound budget : ℕ) (text : Li
   pub automaton_states : ℕ
   pub edges : List EdgeTree
   pub clauses : List (List Lit)
-  pub spent : IsSpentOn Controller spec [] states bound budget automaton_states edges clauses
+  pub spent : IsSpentOn Controller spec [] states (Fixed bound) budget automaton_states edges clauses
   pub text_is : text ≡ spent_text spec.names (spec_space spec) Controller states bound [] automaton_states edges clauses
 
 -- what is said where a limit is passed after some rounds: the line of the limit, and the rounds
@@ -102,22 +118,22 @@ large_reply spec limit rounds =
     record { status = Large; text = fault_text (fault_at_limit limit) ++ rounds_text spec.names (spec_space spec) rounds }
 
 -- what is replied to a specification
-pub data SearchOutcome (sizes : Sizes) (spec : SpecTree) (reply : Reply) : Type 0 where
+pub data SearchOutcome (search : Search) (spec : SpecTree) (reply : Reply) : Type 0 where
   -- a program is written
-  written : reply.status ≡ Done → IsWritten sizes spec reply.text → SearchOutcome sizes spec reply
+  written : reply.status ≡ Done → IsWritten search spec reply.text → SearchOutcome search spec reply
   -- no controller of this size has an annotation within the bound, and no further round is made
-  told_none : reply.status ≡ No → TellsNone sizes spec reply.text → SearchOutcome sizes spec reply
+  told_none : reply.status ≡ No → TellsNone search spec reply.text → SearchOutcome search spec reply
   -- the budget is spent
-  spent : reply.status ≡ Spent → TellsSpent sizes spec reply.text → SearchOutcome sizes spec reply
+  spent : reply.status ≡ Spent → TellsSpent search spec reply.text → SearchOutcome search spec reply
   -- a limit is passed after these rounds, of the question for a controller or of a further round
-  too_large : (limit : Limit) (rounds : List RoundTree) → IsLargeAfter spec sizes rounds limit →
-      reply ≡ large_reply spec limit rounds → SearchOutcome sizes spec reply
+  too_large : (limit : Limit) (rounds : List RoundTree) → IsLargeAfter spec search rounds limit →
+      reply ≡ large_reply spec limit rounds → SearchOutcome search spec reply
 
-pub data SynthOutcome (sizes : Sizes) (bytes : List ℕ) (reply : Reply) : Type 0 where
+pub data SynthOutcome (search : Search) (bytes : List ℕ) (reply : Reply) : Type 0 where
   -- the bytes are refused at a fault
-  refused : (fault : Fault) → HasSpecFault bytes fault → reply ≡ fault_reply fault → SynthOutcome sizes bytes reply
+  refused : (fault : Fault) → HasSpecFault bytes fault → reply ≡ fault_reply fault → SynthOutcome search bytes reply
   -- they spell a specification
-  of_spec : (spec : SpecTree) → Spells bytes spec → SearchOutcome sizes spec reply → SynthOutcome sizes bytes reply
+  of_spec : (spec : SpecTree) → Spells bytes spec → SearchOutcome search spec reply → SynthOutcome search bytes reply
 
 -- what holds of the specification that the bytes spell
 abbrev pub OfSpec : List ℕ → (SpecTree → Type 0) → Type 0

@@ -8,6 +8,7 @@ ghost use Rattle.clause_core.specs.Clauses.{IsIncreasing};
 ghost use Rattle.refutation_text.specs.Written.{IsClauseOver, comment_text, refutation_text};
 ghost use Rattle.bounded_encoding.specs.QuestionView.{question_of};
 ghost use Rattle.bounded_encoding.specs.Answers.{IsFound};
+ghost use Rattle.refinement_loop.specs.declared.outcome.Bound.TheVariants.{Fixed};
 ghost use Rattle.refinement_loop.specs.Questions.{IsAsked};
 ghost use Rattle.tsl_report.specs.FormulaText.{formula_text};
 ghost use Rattle.command_words.specs.declared.task.Task.TheVariants.{Prove};
@@ -69,7 +70,7 @@ fn reply_to_answer(
 ) -> Result<Reply, NoMemory>
     requires in_range { IsQuestionInRange sizes.now }
     requires fits { SpecFits (spec_tree spec.now) }
-    requires asked { IsAsked Side.Controller (spec_tree spec.now) [] sizes.now.states sizes.now.bound
+    requires asked { IsAsked Side.Controller (spec_tree spec.now) [] sizes.now.states (Fixed sizes.now.bound)
         (question_of asked.now.automaton asked.now.space sizes.now.states sizes.now.bound) }
     requires found { IsFound
         (question_of asked.now.automaton asked.now.space sizes.now.states sizes.now.bound)

@@ -10,7 +10,10 @@ ghost use Rattle.letter_space.specs.SpaceView.{space_tree};
 ghost use Rattle.letter_space.specs.SpecSpace.{spec_space};
 ghost use Rattle.cobuchi_automata.specs.Edges.{edge_trees};
 ghost use Rattle.machines.specs.MachineView.{round_tree};
-ghost use Rattle.refinement_loop.specs.Outcomes.{AreInRange};
+ghost use Rattle.tsl_meaning.specs.Promise.{Realizes};
+ghost use Rattle.program_check.specs.declared.verdict.Verdict.TheVariants.{Yes};
+ghost use Rattle.program_check.specs.Verdicts.{IsVerdict};
+ghost use Rattle.refinement_loop.specs.Outcomes.{IsInRange, IfWritten, IsOutcome, IsLastBound};
 ghost use Rattle.tsl_report.specs.RoundTexts.{RoundsAreHeld, rounds_text};
 ghost use Rattle.tsl_report.specs.FaultText.{fault_text};
 ghost use Rattle.tsl_report.specs.SearchTexts.{ReasonFits, none_text, reason_tree, spent_text};
@@ -25,7 +28,7 @@ use letter_space::{Space, SpaceError, space_of};
 use machines::{Round, Side};
 use program_check::Limit;
 use program_tree::Program;
-use refinement_loop::{Outcome, Reason, RefineError, Sizes, refine};
+use refinement_loop::{Outcome, Reason, RefineError, Search, Searched, refine_by};
 use sequence::NoMemory;
 use std::alloc::Global;
 use tool_replies::{Reply, Status, fault_of, fault_of_limit};
@@ -35,13 +38,13 @@ use tsl_terms::Spec;
 use tsl_text::put_bytes;
 
 /// What `synth` replies to these bytes: a program for their specification, or why there is none.
-pub fn synth(alloc: Global, sizes: Sizes, bytes: &[u8]) -> Result<Reply, NoMemory>
-    requires in_range { AreInRange sizes }
+pub fn synth(alloc: Global, search: Search, bytes: &[u8]) -> Result<Reply, NoMemory>
+    requires in_range { IsInRange search }
     requires few { length bytes.now < 2 ^ 32 - 1 }
-    ensures { IfOk result (SynthOutcome sizes bytes.now) }
+    ensures { IfOk result (SynthOutcome search bytes.now) }
 {
     match read_spec(alloc, bytes) {
-        Ok(spec) => reply_to_search(alloc, &sizes, &spec),
+        Ok(spec) => reply_to_search(alloc, &search, &spec),
         Err(error) => {
             let fault = fault_of(alloc, bytes, &error)?;
             Reply::at_fault(alloc, &fault)
@@ -50,13 +53,13 @@ pub fn synth(alloc: Global, sizes: Sizes, bytes: &[u8]) -> Result<Reply, NoMemor
 }
 
 /// What is replied to a specification.
-fn reply_to_search(alloc: Global, sizes: &Sizes, spec: &Spec) -> Result<Reply, NoMemory>
-    requires in_range { AreInRange sizes.now }
+fn reply_to_search(alloc: Global, search: &Search, spec: &Spec) -> Result<Reply, NoMemory>
+    requires in_range { IsInRange search.now }
     requires fits { SpecFits (spec_tree spec.now) }
-    ensures { IfOk result (SearchOutcome sizes.now (spec_tree spec.now)) }
+    ensures { IfOk result (SearchOutcome search.now (spec_tree spec.now)) }
 {
     match space_of(alloc, spec) {
-        Ok(space) => reply_over_bits(alloc, sizes, spec, &space),
+        Ok(space) => reply_over_bits(alloc, search, spec, &space),
         Err(SpaceError::Predicates) => too_many_bits(alloc, Limit::Predicates),
         Err(SpaceError::Bits) => too_many_bits(alloc, Limit::Bits),
         Err(SpaceError::NoMemory) => Err(NoMemory),
@@ -66,40 +69,17 @@ fn reply_to_search(alloc: Global, sizes: &Sizes, spec: &Spec) -> Result<Reply, N
 /// What is replied to a specification that has these bits: what the search for a program leads to.
 fn reply_over_bits(
     alloc: Global,
-    sizes: &Sizes,
+    search: &Search,
     spec: &Spec,
     space: &Space,
 ) -> Result<Reply, NoMemory>
-    requires in_range { AreInRange sizes.now }
+    requires in_range { IsInRange search.now }
     requires fits { SpecFits (spec_tree spec.now) }
     requires space { space_tree space.now ≡ spec_space (spec_tree spec.now) }
-    ensures { IfOk result (SearchOutcome sizes.now (spec_tree spec.now)) }
+    ensures { IfOk result (SearchOutcome search.now (spec_tree spec.now)) }
 {
-    match refine(alloc, spec, sizes) {
-        Ok(Outcome::Written { program, .. }) => written(alloc, spec, &program),
-        Ok(Outcome::None { rounds, reason }) => {
-            none(alloc, sizes, spec, space, rounds.as_slice(), &reason)
-        }
-        Ok(
-            Outcome::Spent {
-                rounds,
-                side,
-                automaton,
-                clauses,
-            },
-        ) => {
-            let asked = sizes_of_side(sizes, side);
-            spent(
-                alloc,
-                spec,
-                space,
-                side,
-                asked,
-                rounds.as_slice(),
-                &automaton,
-                clauses.as_slice(),
-            )
-        }
+    match refine_by(alloc, spec, search) {
+        Ok(searched) => reply_to_outcome(alloc, search, spec, space, searched),
         Err(RefineError::Large(limit, rounds)) => large(
             alloc,
             spec,
@@ -111,14 +91,66 @@ fn reply_over_bits(
     }
 }
 
-/// The states that the machine of a side has, and the bound of its annotation.
-fn sizes_of_side(sizes: &Sizes, side: Side) -> (u32, u32)
-    ensures states { result.0 ≡ states_of_side sizes.now side }
-    ensures bound { result.1 ≡ bound_of_side sizes.now side }
+/// What is replied to the outcome of a search, whose last question for a controller has this bound.
+fn reply_to_outcome(
+    alloc: Global,
+    search: &Search,
+    spec: &Spec,
+    space: &Space,
+    searched: Searched,
+) -> Result<Reply, NoMemory>
+    requires fits { SpecFits (spec_tree spec.now) }
+    requires space { space_tree space.now ≡ spec_space (spec_tree spec.now) }
+    requires outcome { IsOutcome (spec_tree spec.now) search.now searched.outcome }
+    requires bound { IsLastBound (spec_tree spec.now) search.now searched.outcome searched.bound }
+    requires accepted { IfWritten searched.outcome (λ p. IsVerdict (spec_tree spec.now) p searched.bound Yes) }
+    requires realized { IfWritten searched.outcome (Realizes (spec_tree spec.now)) }
+    requires writable { IfWritten searched.outcome (IsWritable spec.now.names) }
+    ensures { IfOk result (SearchOutcome search.now (spec_tree spec.now)) }
+{
+    let Searched { outcome, bound } = searched;
+    match outcome {
+        Outcome::Written { program, .. } => written(alloc, spec, &program),
+        Outcome::None { rounds, reason } => {
+            none(
+                alloc,
+                search,
+                bound,
+                spec,
+                space,
+                rounds.as_slice(),
+                &reason,
+            )
+        }
+        Outcome::Spent {
+            rounds,
+            side,
+            automaton,
+            clauses,
+        } => {
+            let asked = sizes_of_side(search, bound, side);
+            spent(
+                alloc,
+                spec,
+                space,
+                side,
+                asked,
+                rounds.as_slice(),
+                &automaton,
+                clauses.as_slice(),
+            )
+        }
+    }
+}
+
+/// The states that the machine of a side has, and the bound of its annotation, where this is that of a controller.
+fn sizes_of_side(search: &Search, bound: u32, side: Side) -> (u32, u32)
+    ensures states { result.0 ≡ states_of_side search.now side }
+    ensures bound { result.1 ≡ bound_of_side search.now bound side }
 {
     match side {
-        Side::Controller => (sizes.states, sizes.bound),
-        Side::Environment => (sizes.env_states, sizes.env_bound),
+        Side::Controller => (search.states, bound),
+        Side::Environment => (search.env_states, search.env_bound),
     }
 }
 
@@ -136,25 +168,26 @@ fn written(alloc: Global, spec: &Spec, program: &Program) -> Result<Reply, NoMem
 /// That no controller of this size has an annotation within the bound, after these rounds.
 fn none(
     alloc: Global,
-    sizes: &Sizes,
+    search: &Search,
+    bound: u32,
     spec: &Spec,
     space: &Space,
     rounds: &[Round],
     reason: &Reason,
 ) -> Result<Reply, NoMemory>
     requires rounds { RoundsAreHeld spec.now.names (space_tree space.now) (map round_tree rounds.now) }
-    requires reason { ReasonFits (space_tree space.now) (reason_told sizes.now reason.now) }
+    requires reason { ReasonFits (space_tree space.now) (reason_told search.now reason.now) }
     ensures status { IfOk result (λ reply. reply.status ≡ Status.No) }
-    ensures text { IfOk result (λ reply. reply.text ≡ none_text spec.now.names (space_tree space.now) sizes.now.states sizes.now.bound
-        (map round_tree rounds.now) (reason_told sizes.now reason.now)) }
+    ensures text { IfOk result (λ reply. reply.text ≡ none_text spec.now.names (space_tree space.now) search.now.states bound
+        (map round_tree rounds.now) (reason_told search.now reason.now)) }
 {
-    let told = told_reason(sizes, reason);
+    let told = told_reason(search, reason);
     let text = none_text(
         alloc,
         &spec.names,
         space,
-        sizes.states,
-        sizes.bound,
+        search.states,
+        bound,
         rounds,
         &told,
     )?;
@@ -162,12 +195,12 @@ fn none(
 }
 
 /// A reason as it is told, with the sizes that it speaks of.
-fn told_reason<'a>(sizes: &Sizes, reason: &'a Reason) -> ReasonText<'a>
-    ensures { reason_tree result ≡ reason_told sizes.now reason.now }
+fn told_reason<'a>(search: &Search, reason: &'a Reason) -> ReasonText<'a>
+    ensures { reason_tree result ≡ reason_told search.now reason.now }
 {
     match reason {
-        Reason::Rounds => ReasonText::Rounds(sizes.rounds),
-        Reason::NoCounter => ReasonText::NoCounter(sizes.env_states, sizes.env_bound),
+        Reason::Rounds => ReasonText::Rounds(search.rounds),
+        Reason::NoCounter => ReasonText::NoCounter(search.env_states, search.env_bound),
         Reason::Genuine(environment) => ReasonText::Genuine(environment),
     }
 }

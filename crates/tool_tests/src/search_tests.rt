@@ -87,6 +87,14 @@ const SEARCHES: &[Search] = &[
     ),
     (
         &[
+            "synth", "--states", "1", "--bound", "full", "--rounds", "0",
+        ],
+        ARBITER,
+        Status::No,
+        b"none\nstates 1\nbound 5\nreason rounds 0\nend\n",
+    ),
+    (
+        &[
             "synth",
             "--states",
             "1",
@@ -198,12 +206,20 @@ fn each_search_has_its_answer(rt: HostRuntime) -> Result<(), Fail> {
     Ok(())
 }
 
+/// The words for two states, by the usual bound and by the full one.
+const OF_TWO_STATES: &[&[&str]] = &[
+    &["synth", "--states", "2"],
+    &["synth", "--states", "2", "--bound", "full"],
+];
+
 #[test]
 fn two_states_grant_in_turn(rt: HostRuntime) -> Result<(), Fail> {
-    let ran = asked(rt.alloc(), &["synth", "--states", "2"], ARBITER)?;
-    let turn = TURNS.iter().any(|program| *program == ran.out.as_slice());
-    assert_eq!(rt; ran.status, Status::Done);
-    assert_eq!(rt; turn, true);
+    for words in OF_TWO_STATES {
+        let ran = asked(rt.alloc(), *words, ARBITER)?;
+        let turn = TURNS.iter().any(|program| *program == ran.out.as_slice());
+        assert_eq!(rt; ran.status, Status::Done);
+        assert_eq!(rt; turn, true);
+    }
     Ok(())
 }
 

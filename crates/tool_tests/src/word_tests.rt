@@ -1,6 +1,6 @@
 //! Lists of words, and what they ask for.
 
-use command_words::{Task, WordsError, task_of};
+use command_words::{SynthBound, Task, WordsError, task_of};
 use std::alloc::Global;
 use std::test::Fail;
 
@@ -16,10 +16,13 @@ const TAKEN: &[(&str, &str)] = &[
     ("synth|--states|+3", "synth 3 2 2 2 2 8 20000"),
     ("synth|--states=+3", "synth 3 2 2 2 2 8 20000"),
     ("synth|--bound|0", "synth 2 0 2 2 2 8 20000"),
-    ("synth|--bound=+0", "synth 2 0 2 2 2 8 20000"),
-    ("synth|--bound=-0", "synth 2 0 2 2 2 8 20000"),
-    ("synth|--bound=-00", "synth 2 0 2 2 2 8 20000"),
+    ("synth|--bound|10", "synth 2 10 2 2 2 8 20000"),
     ("synth|--bound|15", "synth 2 15 2 2 2 8 20000"),
+    ("synth|--bound=full", "synth 2 full 2 2 2 8 20000"),
+    (
+        "synth|--states|1|--bound|full|--rounds|0",
+        "synth 1 full 2 2 2 0 20000",
+    ),
     ("synth|--env-states|1", "synth 2 2 1 2 2 8 20000"),
     ("synth|--env-states=8", "synth 2 2 8 2 2 8 20000"),
     ("synth|--env-bound|0", "synth 2 2 2 0 2 8 20000"),
@@ -49,6 +52,8 @@ const TAKEN: &[(&str, &str)] = &[
     ("check|--bound=15", "check 15"),
     ("check|--bound|02", "check 2"),
     ("check|--bound|+7", "check 7"),
+    ("check|--bound=-0", "check 0"),
+    ("prove|--bound|02", "prove 2 2 20000"),
     ("check|--", "check 2"),
     ("run", "run"),
     ("run|--", "run"),
@@ -121,7 +126,19 @@ const REFUSED: &[&str] = &[
     "synth|--bound|-0",
     "synth|--bound=--0",
     "synth|--bound|16",
-    "synth|--bound|full",
+    "synth|--bound|02",
+    "synth|--bound|+2",
+    "synth|--bound=+0",
+    "synth|--bound=-0",
+    "synth|--bound=-00",
+    "synth|--bound|00",
+    "synth|--bound|FULL",
+    "synth|--bound|ful",
+    "synth|--bound|full ",
+    "synth|--bound=",
+    "synth|--bound|full|--bound|full",
+    "check|--bound|full",
+    "prove|--bound|full",
     "synth|--env-states|0",
     "synth|--env-states|9",
     "synth|--env-bound|16",
@@ -186,13 +203,21 @@ fn words_of(alloc: Global, line: &str) -> Result<Vec<String>, Fail> {
     Ok(words)
 }
 
+/// A number, or `full`.
+fn bound_word(alloc: Global, bound: SynthBound) -> Result<String, Fail> {
+    match bound {
+        SynthBound::Number(number) => Ok(format!(in alloc; "{number}")?),
+        SynthBound::Full => Ok(String::from_str(alloc, "full")?),
+    }
+}
+
 /// The command with its numbers in order, `refused` or `no memory`.
 fn told(alloc: Global, words: &[String]) -> Result<String, Fail> {
     let text = match task_of(alloc, words) {
         Ok(Task::Synth(sizes)) => format!(in alloc;
             "synth {} {} {} {} {} {} {}",
             sizes.states,
-            sizes.bound,
+            bound_word(alloc, sizes.bound)?,
             sizes.env_states,
             sizes.env_bound,
             sizes.depth,

@@ -18,7 +18,7 @@ use Rattle.tool_replies.specs.declared.reply.Reply.{Reply}
 use Rattle.tsl_tool.specs.Answerable.{CanBeAnswered, CanBeRead, NoneFails, is_answer_to}
 use Rattle.tsl_tool.specs.Ends.{CountsReads, IsReplyTo, Ends, answered, cut_off, out_of_memory}
 use Rattle.tsl_tool.specs.Outcome.{TaskOutcome, Outcome, usage, source_failed, too_long, on_bytes}
-use Rattle.tsl_tool.specs.Tasks.{most_bytes, search_sizes}
+use Rattle.tsl_tool.specs.Tasks.{bound_asked, most_bytes, search_sizes}
 use Rattle.tsl_tool.proofs.EndLaws.{fault_at, on_any_bytes}
 use Rattle.search_replies.proofs.GenReplies.{gen_answers}
 use Rattle.judging_replies.proofs.OneInput.{ReadOnce}
@@ -94,7 +94,7 @@ answers_come once words task bytes source out err result asks read can none ends
 -- where a controller of the size has an annotation within the bound without windows, a program is written, or the budget is spent
 pub program_or_spent : (words : List (List ℕ)) (sizes : SynthSizes) (bytes : List ℕ) (spec : SpecTree) (source out err : Effect)
     (result : Status) → AsksFor words (Synth sizes) → CanBeRead (most_bytes (Synth sizes)) source bytes → Spells bytes spec →
-    HasSolution spec [] sizes.states sizes.bound → ((limit : Limit) → IsLargeFor spec [] sizes.states sizes.bound limit → ⊥) →
+    HasSolution spec [] sizes.states (bound_asked sizes.bound) → ((limit : Limit) → IsLargeFor spec [] sizes.states (bound_asked sizes.bound) limit → ⊥) →
     NoneFails source out err → Ends words source out err result → ((result ≡ Done) ⊎ (result ≡ Spent)) ⊎ (result ≡ Memory)
 program_or_spent words sizes bytes spec source out err result asks read spells solution within none ends =
     by (ends_of_task words (Synth sizes) bytes source out err result asks read none ends)

@@ -1,6 +1,6 @@
 -- The ends of runs on small examples.
 use Rattle.std.proofs.Common.{inl, arith}
-use Rattle.std.specs.Prelude.{◌≡◌, ℕ, List, [], ◌∷◌, codes, Some, None, refl}
+use Rattle.std.specs.Prelude.{ℕ, List, [], ◌∷◌, codes, Some, None, refl}
 use Rattle.tsl_report.specs.declared.fault.Fault.TheVariants.{Usage as WrongWords}
 use Rattle.tsl_report.specs.FaultText.{fault_text}
 use Rattle.tool_replies.specs.declared.status.Status.TheVariants.{Usage, WriteFault}

@@ -1,5 +1,5 @@
 -- `recheck` verifies a text that spells a refutation.
-use Rattle.std.proofs.Common.{◌≡◌, ℕ, List, ap, sym, ◌∙◌}
+use Rattle.std.proofs.Common.{ℕ, List, ap, sym, ◌∙◌}
 use Rattle.std.specs.Prelude.{None}
 use Rattle.clause_core.specs.Literals.{Lit}
 use Rattle.refutation_check.specs.LogText.{log_answer}

@@ -14,7 +14,6 @@ in_range [] task asks = absurd asks
 in_range (first ∷ rest) (Synth sizes) asks = record {
   has_state = asks.2.states.1;
   few_states = asks.2.states.2;
-  small_bound = asks.2.bound.2;
   has_env_state = asks.2.env_states.1;
   few_env_states = asks.2.env_states.2;
   small_env_bound = asks.2.env_bound.2;

@@ -6,6 +6,7 @@ use Rattle.command_words.specs.declared.task.Task.TheVariants.{Synth, Check, Run
 use Rattle.machines.specs.Rounds.{RoundTree}
 use Rattle.program_check.specs.declared.verdict.Limit.{Limit}
 use Rattle.program_check.specs.Verdicts.{IsPassed}
+use Rattle.refinement_loop.specs.declared.outcome.Bound.TheVariants.{Fixed}
 use Rattle.refinement_loop.specs.Outcomes.{IsLargeFor, IsLargeAfter}
 use Rattle.tsl_io.specs.Effects.{Effect, HasFailed}
 use Rattle.tsl_meaning.specs.RunOf.{AreDifferent}
@@ -46,9 +47,9 @@ CanBeAnswered (Synth sizes) bytes =
     OfSpec bytes (λ spec. (limit : Limit) (rounds : List RoundTree) → IsLargeAfter spec (search_sizes sizes) rounds limit → ⊥)
 CanBeAnswered (Check bound) bytes = CanBeChecked bytes
 CanBeAnswered Run bytes = CanBeRun bytes
-CanBeAnswered (Prove sizes) bytes = OfSpec bytes (λ spec. (limit : Limit) → IsLargeFor spec [] sizes.states sizes.bound limit → ⊥)
+CanBeAnswered (Prove sizes) bytes = OfSpec bytes (λ spec. (limit : Limit) → IsLargeFor spec [] sizes.states (Fixed sizes.bound) limit → ⊥)
 CanBeAnswered Recheck bytes = OfParts bytes FormulaAndLog
-CanBeAnswered (Gen n) bytes = OfGenerated n (λ spec. (limit : Limit) → IsLargeFor spec [] n n limit → ⊥)
+CanBeAnswered (Gen n) bytes = OfGenerated n (λ spec. (limit : Limit) → IsLargeFor spec [] n (Fixed n) limit → ⊥)
 
 -- where at most so many bytes are read, the source tells these and no more than that; otherwise it may tell any
 abbrev pub CanBeRead : Option ℕ → Effect → List ℕ → Type 0

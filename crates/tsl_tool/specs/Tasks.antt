@@ -1,10 +1,14 @@
 -- What tasks read, and how far their searches go.
 use Rattle.std.specs.Prelude.{◌≡◌, ℕ, ◌≤◌, ◌⊎◌, false, List, length, Option, Some, None}
+use Rattle.command_words.specs.declared.synth_bound.SynthBound.{SynthBound}
+use Rattle.command_words.specs.declared.synth_bound.SynthBound.TheVariants.{Number, Full as NamedFull}
 use Rattle.command_words.specs.declared.task.SynthSizes.{SynthSizes}
 use Rattle.command_words.specs.declared.task.Task.{Task}
 use Rattle.command_words.specs.declared.task.Task.TheVariants.{Synth, Check, Run, Prove, Recheck, Gen}
 use Rattle.command_words.specs.Commands.{AsksFor, are_taken}
-use Rattle.refinement_loop.specs.declared.outcome.Sizes.{Sizes}
+use Rattle.refinement_loop.specs.declared.outcome.Bound.{Bound}
+use Rattle.refinement_loop.specs.declared.outcome.Bound.TheVariants.{Fixed, Full}
+use Rattle.refinement_loop.specs.declared.outcome.Search.{Search}
 use Rattle.tsl_tool.specs.declared.tasks.TheConstants.{MOST_SPECIFICATION_BYTES, MOST_RUN_BYTES, MOST_LOG_BYTES}
 
 -- the most bytes that a task reads, where it reads any
@@ -25,11 +29,16 @@ AreFewBytes None bytes = Unit {0}
 abbrev pub ReadNothing : List (List ℕ) → Type 0
 ReadNothing words = (are_taken words ≡ false) ⊎ ((task : Task) × AsksFor words task × (most_bytes task ≡ None))
 
+-- the bound that a word names
+abbrev pub bound_asked : SynthBound → Bound
+bound_asked (Number number) = Fixed number
+bound_asked NamedFull = Full
+
 -- how far the search of `synth` goes
-abbrev pub search_sizes : SynthSizes → Sizes
+abbrev pub search_sizes : SynthSizes → Search
 search_sizes sizes = record {
   states = sizes.states;
-  bound = sizes.bound;
+  bound = bound_asked sizes.bound;
   env_states = sizes.env_states;
   env_bound = sizes.env_bound;
   depth = sizes.depth;

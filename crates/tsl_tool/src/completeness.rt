@@ -19,7 +19,7 @@ ghost use Rattle.judging_replies.specs.Check.{CheckOutcome};
 ghost use Rattle.tsl_tool.specs.Ends.{Ends};
 ghost use Rattle.judging_replies.specs.Recheck.{FormulaAndLog, OfParts, RecheckOutcome};
 ghost use Rattle.judging_replies.specs.Run.{RunOutcome};
-ghost use Rattle.tsl_tool.specs.Tasks.{most_bytes};
+ghost use Rattle.tsl_tool.specs.Tasks.{bound_asked, most_bytes};
 
 use table_interp::one_reading;
 use tool_replies::Status;
@@ -51,8 +51,8 @@ pub fn answers_come()
     ensures found { (words : List (List ℕ)) (sizes : SynthSizes) (bytes : List ℕ) (spec : SpecTree)
         (source out err : Effect) (result : Status) → AsksFor words (Synth sizes)
         → CanBeRead (most_bytes (Synth sizes)) source bytes → Spells bytes spec
-        → HasSolution spec [] sizes.states sizes.bound
-        → ((limit : Limit) → IsLargeFor spec [] sizes.states sizes.bound limit → ⊥)
+        → HasSolution spec [] sizes.states (bound_asked sizes.bound)
+        → ((limit : Limit) → IsLargeFor spec [] sizes.states (bound_asked sizes.bound) limit → ⊥)
         → NoneFails source out err → Ends words source out err result
         → ((result ≡ Status.Done) ⊎ (result ≡ Status.Spent)) ⊎ (result ≡ Status.Memory) }
 {

@@ -13,7 +13,8 @@ ghost use Rattle.tsl_reader.specs.Spells.{Spells};
 ghost use Rattle.machines.specs.Rounds.{RoundTree};
 ghost use Rattle.program_check.specs.declared.verdict.Limit.{Limit};
 ghost use Rattle.program_check.specs.Verdicts.{IsPassed};
-ghost use Rattle.refinement_loop.specs.declared.outcome.Sizes.{Sizes};
+ghost use Rattle.refinement_loop.specs.declared.outcome.Bound.TheVariants.{Fixed};
+ghost use Rattle.refinement_loop.specs.declared.outcome.Search.{Search};
 ghost use Rattle.refinement_loop.specs.Questions.{HasSolution};
 ghost use Rattle.refinement_loop.specs.Outcomes.{IsLargeFor, IsLargeAfter};
 ghost use Rattle.tsl_meaning.specs.Lasso.{Meets};
@@ -67,31 +68,31 @@ pub fn outcomes_keep_their_promise()
 /// `prove` a proof of that, that one has, or a trace. The limits of `synth` are those of each question
 /// that is asked after the rounds before it.
 pub fn searches_are_answered()
-    ensures synth { (sizes : Sizes) (bytes : List ℕ) (spec : SpecTree) (reply : Reply) →
+    ensures synth { (search : Search) (bytes : List ℕ) (spec : SpecTree) (reply : Reply) →
         Spells bytes spec
-        → ((limit : Limit) (rounds : List RoundTree) → IsLargeAfter spec sizes rounds limit → ⊥)
-        → SynthOutcome sizes bytes reply → IsTrue (is_answer reply.status) }
+        → ((limit : Limit) (rounds : List RoundTree) → IsLargeAfter spec search rounds limit → ⊥)
+        → SynthOutcome search bytes reply → IsTrue (is_answer reply.status) }
     ensures prove { (sizes : ProveSizes) (bytes : List ℕ) (spec : SpecTree) (reply : Reply) →
-        Spells bytes spec → ((limit : Limit) → IsLargeFor spec [] sizes.states sizes.bound limit → ⊥)
+        Spells bytes spec → ((limit : Limit) → IsLargeFor spec [] sizes.states (Fixed sizes.bound) limit → ⊥)
         → ProveOutcome sizes bytes reply → IsTrue (is_answer reply.status) }
     ensures generated { (n : ℕ) (spec : SpecTree) (reply : Reply) → Spells (generated_text n) spec
-        → ((limit : Limit) → IsLargeFor spec [] n n limit → ⊥) → GenOutcome n reply
+        → ((limit : Limit) → IsLargeFor spec [] n (Fixed n) limit → ⊥) → GenOutcome n reply
         → IsTrue (is_answer reply.status) }
 {}
 
 /// Where a limit of the first question is passed, one of its limits is told, by its line alone; for
 /// `check` where a limit of the work on its specification and its program is passed.
 pub fn limits_are_told()
-    ensures synth { (sizes : Sizes) (bytes : List ℕ) (spec : SpecTree) (reply : Reply) (limit : Limit) →
-        Spells bytes spec → IsLargeFor spec [] sizes.states sizes.bound limit
-        → SynthOutcome sizes bytes reply
-        → (told : Limit) × IsLargeFor spec [] sizes.states sizes.bound told
+    ensures synth { (search : Search) (bytes : List ℕ) (spec : SpecTree) (reply : Reply) (limit : Limit) →
+        Spells bytes spec → IsLargeFor spec [] search.states search.bound limit
+        → SynthOutcome search bytes reply
+        → (told : Limit) × IsLargeFor spec [] search.states search.bound told
         × (reply ≡ fault_reply (fault_at_limit told)) }
     ensures prove { (sizes : ProveSizes) (bytes : List ℕ) (spec : SpecTree) (reply : Reply) (limit : Limit) →
-        Spells bytes spec → IsLargeFor spec [] sizes.states sizes.bound limit
+        Spells bytes spec → IsLargeFor spec [] sizes.states (Fixed sizes.bound) limit
         → ProveOutcome sizes bytes reply → reply.status ≡ Status.Large }
     ensures generated { (n : ℕ) (spec : SpecTree) (reply : Reply) (limit : Limit) → Spells (generated_text n) spec
-        → IsLargeFor spec [] n n limit → GenOutcome n reply → reply.status ≡ Status.Large }
+        → IsLargeFor spec [] n (Fixed n) limit → GenOutcome n reply → reply.status ≡ Status.Large }
     ensures check { (bound : ℕ) (bytes : List ℕ) (parts : CheckParts) (input : CheckInput) (reply : Reply)
         (limit : Limit) → AreCheckParts bytes parts → SpellCheckInput parts input
         → IsPassed input.spec input.program limit → CheckOutcome bound bytes reply
@@ -102,18 +103,18 @@ pub fn limits_are_told()
 /// that there is none, and `prove` does not prove it. Within the limits of that question `synth` writes a
 /// program, or its budget is spent.
 pub fn controllers_are_not_missed()
-    ensures synth { (sizes : Sizes) (bytes : List ℕ) (spec : SpecTree) (reply : Reply) →
-        Spells bytes spec → HasSolution spec [] sizes.states sizes.bound
-        → SynthOutcome sizes bytes reply → reply.status ≢ Status.No }
-    ensures found { (sizes : Sizes) (bytes : List ℕ) (spec : SpecTree) (reply : Reply) →
-        Spells bytes spec → HasSolution spec [] sizes.states sizes.bound
-        → ((limit : Limit) → IsLargeFor spec [] sizes.states sizes.bound limit → ⊥)
-        → SynthOutcome sizes bytes reply → (reply.status ≡ Status.Done) ⊎ (reply.status ≡ Status.Spent) }
+    ensures synth { (search : Search) (bytes : List ℕ) (spec : SpecTree) (reply : Reply) →
+        Spells bytes spec → HasSolution spec [] search.states search.bound
+        → SynthOutcome search bytes reply → reply.status ≢ Status.No }
+    ensures found { (search : Search) (bytes : List ℕ) (spec : SpecTree) (reply : Reply) →
+        Spells bytes spec → HasSolution spec [] search.states search.bound
+        → ((limit : Limit) → IsLargeFor spec [] search.states search.bound limit → ⊥)
+        → SynthOutcome search bytes reply → (reply.status ≡ Status.Done) ⊎ (reply.status ≡ Status.Spent) }
     ensures prove { (sizes : ProveSizes) (bytes : List ℕ) (spec : SpecTree) (reply : Reply) →
-        Spells bytes spec → HasSolution spec [] sizes.states sizes.bound
+        Spells bytes spec → HasSolution spec [] sizes.states (Fixed sizes.bound)
         → ProveOutcome sizes bytes reply → reply.status ≢ Status.Done }
     ensures generated { (n : ℕ) (spec : SpecTree) (reply : Reply) → Spells (generated_text n) spec
-        → HasSolution spec [] n n → GenOutcome n reply → reply.status ≢ Status.No }
+        → HasSolution spec [] n (Fixed n) → GenOutcome n reply → reply.status ≢ Status.No }
 {}
 
 /// `recheck` verifies each text that `prove` writes as a proof, where it reads so many bytes.

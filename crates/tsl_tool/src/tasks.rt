@@ -1,10 +1,10 @@
 //! What tasks read, and how far their searches go.
 
 ghost use Rattle.std.specs.Prelude.{◌≡◌};
-ghost use Rattle.tsl_tool.specs.Tasks.{most_bytes, search_sizes};
+ghost use Rattle.tsl_tool.specs.Tasks.{bound_asked, most_bytes, search_sizes};
 
-use command_words::{SynthSizes, Task};
-use refinement_loop::Sizes;
+use command_words::{SynthBound, SynthSizes, Task};
+use refinement_loop::{Bound, Search};
 
 /// The most bytes of a specification.
 const MOST_SPECIFICATION_BYTES: u32 = 1_048_576;
@@ -27,13 +27,23 @@ pub(crate) fn most_bytes(task: Task) -> Option<u32>
     }
 }
 
+/// The bound that a word names.
+fn bound_asked(bound: SynthBound) -> Bound
+    ensures { result ≡ bound_asked bound }
+{
+    match bound {
+        SynthBound::Number(number) => Bound::Fixed(number),
+        SynthBound::Full => Bound::Full,
+    }
+}
+
 /// How far the search of `synth` goes.
-pub(crate) fn search_sizes(sizes: SynthSizes) -> Sizes
+pub(crate) fn search_sizes(sizes: SynthSizes) -> Search
     ensures { result ≡ search_sizes sizes }
 {
-    Sizes {
+    Search {
         states: sizes.states,
-        bound: sizes.bound,
+        bound: bound_asked(sizes.bound),
         env_states: sizes.env_states,
         env_bound: sizes.env_bound,
         depth: sizes.depth,

@@ -80,10 +80,11 @@ fn reply_to_bytes(alloc: Global, task: Task, bytes: &[u8]) -> Result<Reply, NoMe
 /// Runs `tsl` on the words after the program's name.
 ///
 /// The first word names a command, and `clap` reads the others as its options, in any order: those
-/// of `synth` are `--states` and `--env-states` from 1 to 8, `--bound` and `--env-bound` from 0 to
-/// 15, `--depth` from 1 to 3, `--rounds` from 0 to 64 and `--budget` from 1 to 1,000,000; `prove` has
-/// `--states`, `--bound` and `--budget`, `check` has `--bound`, `run` and `recheck` have none, and
-/// `gen` has one number from 1 to 5 instead. `gen` reads nothing.
+/// of `synth` are `--states` and `--env-states` from 1 to 8, `--bound`, one of the words `0` to
+/// `15` and `full`, `--env-bound` from 0 to 15, `--depth` from 1 to 3, `--rounds` from 0 to 64 and
+/// `--budget` from 1 to 1,000,000; `prove` has `--states`, `--bound` and `--budget`, `check` has
+/// `--bound`, `run` and `recheck` have none, and `gen` has one number from 1 to 5 instead. `gen`
+/// reads nothing.
 /// For `synth` and `prove` the source holds a specification of at most 1,048,576 bytes; for
 /// `check` a specification and a program, and for `run` a specification or nothing, a program,
 /// tables and inputs, of at most 16,777,216 bytes together; for `recheck` a formula in conjunctive

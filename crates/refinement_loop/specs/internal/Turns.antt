@@ -13,28 +13,28 @@ use Rattle.refinement_loop.specs.Chains.{IsRound}
 use Rattle.refinement_loop.specs.Outcomes.{MayGoOn, HasReason, IsSpentIn, IsLargeFurther, IsLargeIn}
 use Rattle.refinement_loop.specs.declared.errors.RefineError.{RefineError}
 use Rattle.refinement_loop.specs.declared.errors.RefineError.TheVariants as refines
-use Rattle.refinement_loop.specs.declared.outcome.Sizes.{Sizes}
+use Rattle.refinement_loop.specs.declared.outcome.Search.{Search}
 use Rattle.refinement_loop.specs.declared.turning.Turn.{Turn}
 use Rattle.refinement_loop.specs.declared.turning.Turn.TheVariants.{Written, None, Spent, Further}
 
 -- what each turn says
-abbrev pub IsTurn : SpecTree → Sizes → List WindowTree → Turn → Type 0
-IsTurn spec sizes windows (Written program) = IsWrittenFor spec windows sizes.states sizes.bound (program_tree program)
-IsTurn spec sizes windows (None reason) =
-    HasNoSolution spec windows sizes.states sizes.bound × HasReason spec sizes windows reason
-IsTurn spec sizes windows (Spent side automaton clauses) =
-    IsSpentIn spec sizes windows side automaton.states (edge_trees automaton.edges) clauses
-IsTurn spec sizes windows (Further round) = MayGoOn sizes windows × IsRound spec sizes windows (round_tree round)
+abbrev pub IsTurn : SpecTree → Search → List WindowTree → Turn → Type 0
+IsTurn spec search windows (Written program) = IsWrittenFor spec windows search.states search.bound (program_tree program)
+IsTurn spec search windows (None reason) =
+    HasNoSolution spec windows search.states search.bound × HasReason spec search windows reason
+IsTurn spec search windows (Spent side automaton clauses) =
+    IsSpentIn spec search windows side automaton.states (edge_trees automaton.edges) clauses
+IsTurn spec search windows (Further round) = MayGoOn search windows × IsRound spec search windows (round_tree round)
 
 -- why a question of a further round has no answer
-abbrev pub HasFurtherCause : SpecTree → Sizes → List WindowTree → CheckError → Type 0
-HasFurtherCause spec sizes windows (Large limit) = IsLargeFurther spec sizes windows limit
-HasFurtherCause spec sizes windows NoMemory = ⊤
+abbrev pub HasFurtherCause : SpecTree → Search → List WindowTree → CheckError → Type 0
+HasFurtherCause spec search windows (Large limit) = IsLargeFurther spec search windows limit
+HasFurtherCause spec search windows NoMemory = ⊤
 
 -- why a turn leads to nothing
-abbrev pub HasTurnCause : SpecTree → Sizes → List WindowTree → CheckError → Type 0
-HasTurnCause spec sizes windows (Large limit) = IsLargeIn spec sizes windows limit
-HasTurnCause spec sizes windows NoMemory = ⊤
+abbrev pub HasTurnCause : SpecTree → Search → List WindowTree → CheckError → Type 0
+HasTurnCause spec search windows (Large limit) = IsLargeIn spec search windows limit
+HasTurnCause spec search windows NoMemory = ⊤
 
 -- a refusal after these rounds
 abbrev pub refused_after : CheckError → List Round → RefineError

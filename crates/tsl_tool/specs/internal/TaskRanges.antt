@@ -3,12 +3,12 @@
 use Rattle.std.specs.Prelude.{◌≤◌}
 use Rattle.command_words.specs.declared.task.Task.{Task}
 use Rattle.command_words.specs.declared.task.Task.TheVariants.{Synth, Check, Run, Prove, Recheck, Gen}
-use Rattle.refinement_loop.specs.Outcomes.{AreInRange}
+use Rattle.refinement_loop.specs.Outcomes.{IsInRange}
 use Rattle.search_replies.specs.QuestionRanges.{IsQuestionInRange}
 use Rattle.tsl_tool.specs.Tasks.{search_sizes}
 
 abbrev pub IsTaskInRange : Task → Type 0
-IsTaskInRange (Synth sizes) = AreInRange (search_sizes sizes)
+IsTaskInRange (Synth sizes) = IsInRange (search_sizes sizes)
 IsTaskInRange (Check bound) = Unit {0}
 IsTaskInRange Run = Unit {0}
 IsTaskInRange (Prove sizes) = IsQuestionInRange sizes

@@ -6,7 +6,7 @@ use Rattle.command_words.specs.Arguments.{command_with}
 use Rattle.command_words.specs.Commands.{command}
 use Rattle.command_words.specs.declared.command_word.CommandWord.{CommandWord}
 use Rattle.command_words.specs.declared.command_word.CommandWord.TheVariants as word
-use Rattle.command_words.proofs.NumbersRead.{number_of_rows}
+use Rattle.command_words.proofs.NumbersRead.{word_of_rows}
 use Rattle.command_words.proofs.TakenWords.{refused_where, taken_where}
 use Rattle.command_words.proofs.reading.parsed.Goals as goal
 
@@ -26,13 +26,13 @@ returns-in-Ok-clause-taken c =
     taken_where _ _ (map string_bytes c.args.words.now) is
     (c.in-Ok.ensures.kinds (ap is_simple_and_free is ∙ is_simple_command c.args.word))
 
-pub returns-in-Ok-clause-numbers : goal.returns-in-Ok-clause-numbers
-returns-in-Ok-clause-numbers c =
+pub returns-in-Ok-clause-given : goal.returns-in-Ok-clause-given
+returns-in-Ok-clause-given c =
     let is : app_of c.in_ok-command.command ≡ command c.args.word = c.in_ok-command.ensures ∙ ap₂ command_with c.text.ensures
     c.arguments.ensures in
     let words = map string_bytes c.args.words.now in
     let simple = (both _ _ (ap is_simple_and_free is ∙ is_simple_command c.args.word)).0 in
-    number_of_rows (command c.args.word) words c.in-Ok.matches ((c.in-Ok.ensures.matches simple).0 ∙ ap (λ a. matches_of a words) is)
+    word_of_rows (command c.args.word) words c.in-Ok.matches ((c.in-Ok.ensures.matches simple).0 ∙ ap (λ a. matches_of a words) is)
 
 pub returns-in-Ok-clause-from : goal.returns-in-Ok-clause-from
 returns-in-Ok-clause-from c =

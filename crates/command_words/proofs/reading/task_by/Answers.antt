@@ -1,10 +1,10 @@
-use Rattle.std.proofs.Common.{◌≡◌, ◌∙◌, ◌<◌, ◌^◌, ℕ, true, refl, arith, codes, Some}
+use Rattle.std.proofs.Common.{◌≡◌, ◌∙◌, sym, ◌<◌, ◌^◌, ℕ, true, refl, arith, codes, Some}
 use Rattle.std.specs.Prelude.{slice_get}
 use Rattle.clap.specs.Walk.{Text}
 use Rattle.clap.specs.Simple.{is_ready}
 use Rattle.clap.specs.declared.parser.matches.ArgMatches.{ArgMatches}
 use Rattle.command_words.specs.Arguments.{number_option}
-use Rattle.command_words.specs.internal.Matches.{ParsedBy, matched_number}
+use Rattle.command_words.specs.internal.Matches.{ParsedBy, matched_number, matched_word}
 use Rattle.command_words.specs.Commands.{IsGivenWithin, command_arguments, command, word_text}
 use Rattle.command_words.specs.declared.command_word.CommandWord.{CommandWord}
 use Rattle.command_words.specs.declared.command_word.CommandWord.TheVariants as word
@@ -24,27 +24,26 @@ is_ready_command word.Gen = refl
 given : (w : CommandWord) (m : ArgMatches) → ParsedBy (command w) m
     → (k : ℕ) (id : Text) (low high : ℕ) (default : Text) → slice_get (command_arguments w) k ≡ Some (number_option id low high default)
     → is_own id ≡ true → only_at id (command_arguments w) k ≡ true → high < 2 ^ 32
-    → (x : ℕ) → ((n : ℕ) → matched_number m id ≡ Some n → n < 2 ^ 32 → x ≡ n) → IsGivenWithin low high (matched_number m id) x
+    → (x : ℕ) → ((n : ℕ) → matched_number m id ≡ Some n → n < 2 ^ 32 → x ≡ n) → IsGivenWithin low high (matched_word m id) x
 given w = option_in (word_text w) (command_arguments w) (is_ready_command w)
 
-pub returns-in-Synth-clause-numbers : goal.returns-in-Synth-clause-numbers
-returns-in-Synth-clause-numbers c =
+pub returns-in_ok-bound-in-Synth-clause-numbers : goal.returns-in_ok-bound-in-Synth-clause-numbers
+returns-in_ok-bound-in-Synth-clause-numbers c =
     let m = c.args.matches.now in
     let p : ParsedBy (command word.Synth) m = rw c.in-Synth.is at c.requires in
     record {
       states = given word.Synth m p 0 (codes "states") 1 8 (codes "2") refl refl refl (omega arith) c.number.result c.number.ensures;
-      bound = given word.Synth m p 1 (codes "bound") 0 15 (codes "2") refl refl refl (omega arith) c.number-in-Synth.result
+      bound = sym c.in_ok-bound-in-Synth.ensures;
+      env_states = given word.Synth m p 2 (codes "env-states") 1 8 (codes "2") refl refl refl (omega arith) c.number-in-Synth.result
           c.number-in-Synth.ensures;
-      env_states = given word.Synth m p 2 (codes "env-states") 1 8 (codes "2") refl refl refl (omega arith) c.number-in-Synth-2.result
+      env_bound = given word.Synth m p 3 (codes "env-bound") 0 15 (codes "2") refl refl refl (omega arith) c.number-in-Synth-2.result
           c.number-in-Synth-2.ensures;
-      env_bound = given word.Synth m p 3 (codes "env-bound") 0 15 (codes "2") refl refl refl (omega arith) c.number-in-Synth-3.result
+      depth = given word.Synth m p 4 (codes "depth") 1 3 (codes "2") refl refl refl (omega arith) c.number-in-Synth-3.result
           c.number-in-Synth-3.ensures;
-      depth = given word.Synth m p 4 (codes "depth") 1 3 (codes "2") refl refl refl (omega arith) c.number-in-Synth-4.result
+      rounds = given word.Synth m p 5 (codes "rounds") 0 64 (codes "8") refl refl refl (omega arith) c.number-in-Synth-4.result
           c.number-in-Synth-4.ensures;
-      rounds = given word.Synth m p 5 (codes "rounds") 0 64 (codes "8") refl refl refl (omega arith) c.number-in-Synth-5.result
-          c.number-in-Synth-5.ensures;
       budget = given word.Synth m p 6 (codes "budget") 1 1000000 (codes "20000") refl refl refl (omega arith) c.from.result
-          (λ n is small. c.from.ensures ∙ c.number-in-Synth-6.ensures n is small);
+          (λ n is small. c.from.ensures ∙ c.number-in-Synth-5.ensures n is small);
     }
 
 pub returns-in-Check-clause-numbers : goal.returns-in-Check-clause-numbers

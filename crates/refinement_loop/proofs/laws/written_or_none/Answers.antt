@@ -6,4 +6,4 @@ pub returns-clause-written : goal.returns-clause-written
 returns-clause-written c = not_written
 
 pub returns-clause-without_rounds : goal.returns-clause-without_rounds
-returns-clause-without_rounds c = λ spec sizes outcome found is. first_answer spec sizes found outcome is
+returns-clause-without_rounds c = λ spec search outcome found is. first_answer spec search found outcome is

@@ -7,13 +7,13 @@ use Rattle.refinement_loop.proofs.turning.environment_turn.Goals as goal
 
 pub returns-in-None-clause-turn : goal.returns-in-None-clause-turn
 returns-in-None-clause-turn c =
-    let sizes = c.args.sizes.now in
+    let search = c.args.search.now in
     let answer = c.in_ok-automaton.field-0 in (
       c.requires.goes_on.none,
       (
         c.requires.goes_on.fewer,
-        no_environment_found (spec_tree c.args.spec.now) sizes (map window_tree c.args.windows.now)
-            (question_of answer.automaton c.args.space.now sizes.env_states sizes.env_bound) c.in_ok-automaton.ensures.asked sizes.budget
+        no_environment_found (spec_tree c.args.spec.now) search (map window_tree c.args.windows.now)
+            (question_of answer.automaton c.args.space.now search.env_states search.env_bound) c.in_ok-automaton.ensures.asked search.budget
             answer.found c.in-None.field-0 c.in_ok-automaton.ensures.found c.in-None.is,
       ),
     )

@@ -5,7 +5,7 @@ use Rattle.search_replies.proofs.synthesis.synth.Goals as goal
 
 pub returns-in-Ok : goal.returns-in-Ok
 returns-in-Ok c =
-    spec_outcome c.args.sizes c.args.bytes.now (spec_tree c.in-Ok.spec) c.reply_to_search.result c.in-Ok.ensures.ok
+    spec_outcome c.args.search c.args.bytes.now (spec_tree c.in-Ok.spec) c.reply_to_search.result c.in-Ok.ensures.ok
     c.reply_to_search.ensures
 
 pub fault_of-requires-clause-stands : goal.fault_of-requires-clause-stands
@@ -13,5 +13,5 @@ fault_of-requires-clause-stands c = cause_stands c.args.bytes.now c.in-Err.error
 
 pub returns-in_ok-fault-in-Err : goal.returns-in_ok-fault-in-Err
 returns-in_ok-fault-in-Err c =
-    refused_outcome c.args.sizes c.args.bytes.now c.in-Err.error c.in_ok-fault-in-Err.fault c.at_fault.result
+    refused_outcome c.args.search c.args.bytes.now c.in-Err.error c.in_ok-fault-in-Err.fault c.at_fault.result
     c.in-Err.ensures.cause c.in-Err.ensures.refused c.in_ok-fault-in-Err.ensures c.at_fault.ensures

@@ -1,5 +1,5 @@
-use Rattle.std.proofs.Common.{◌≡◌, ◌∙◌, ap, sym, map, Global, refl, arith}
-use Rattle.std.specs.Prelude.{string_bytes, Err}
+use Rattle.std.proofs.Common.{map, Global, refl}
+use Rattle.std.specs.Prelude.{string_bytes}
 use Rattle.tsl_io.specs.Effects.{effect}
 use Rattle.tsl_tool.proofs.EndLaws.{usage_reply}
 use Rattle.tsl_tool.proofs.TaskFacts.{task_reads_nothing}

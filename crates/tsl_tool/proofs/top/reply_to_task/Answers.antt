@@ -1,9 +1,7 @@
-use Rattle.std.proofs.Common.{◌≡◌, ◌∙◌, List, [], map, Global, None, Some, refl, sym, ap}
+use Rattle.std.proofs.Common.{◌≡◌, ◌∙◌, [], map, Global, None, Some, refl, sym, ap}
 use Rattle.std.specs.Prelude.{string_bytes, Err}
 use Rattle.tsl_io.specs.Effects.{effect}
-use Rattle.tsl_tool.specs.Tasks.{most_bytes}
 use Rattle.tsl_tool.proofs.EndLaws.{fault_reply_to, large_reply, bytes_reply, unread_reply}
-use Rattle.tsl_tool.proofs.TaskFacts.{in_range}
 use Rattle.tsl_tool.proofs.top.reply_to_task.Goals as goal
 
 pub returns-in_default-clause-replies : goal.returns-in_default-clause-replies

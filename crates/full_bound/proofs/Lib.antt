@@ -1,0 +1,15 @@
+pub mod AllFailing
+pub mod AnnotatedOrFailing
+pub mod Closures
+pub mod ControllersFail
+pub mod Counts
+pub mod FoundLoops
+pub mod Images
+pub mod NeverBack
+pub mod PairLoops
+pub mod PairNumbers
+pub mod PairSteps
+pub mod SearchGoesOn
+pub mod StepsListed
+pub mod Turns
+pub mod Walks

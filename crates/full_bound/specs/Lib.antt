@@ -1,0 +1,4 @@
+pub mod Failing
+pub mod FullBound
+pub mod LoopView
+pub mod internal
