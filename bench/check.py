@@ -1,12 +1,13 @@
 #!/usr/bin/env python3
 """Times `tsl check` beside the plain reading of the definitions in `plain.py`: on the examples, whose verdicts must be the same, and on
-programs of 8 to 64 states. Last come disjunctions of pairs of updates, whose negation has twice as many choices with each pair more:
-32,768 with 15 pairs, none of which is larger than another one."""
+programs of 8 to 64 states. Then come disjunctions of pairs of updates, whose negation has twice as many choices with each pair more:
+32,768 with 15 pairs, none of which is larger than another one. Last come programs of 8 to 64 states over ten predicate terms, so with
+1,024 valuations in each state, and an automaton of 4,787 edges, where the work is in the annotation."""
 import subprocess
 import time
 
 import plain
-from measuring import HERE, PROGRAM, built, measured
+from measuring import HERE, PROGRAM, built, instructions, measured
 
 HEAD = "tslprogram 1\n"
 
@@ -52,6 +53,26 @@ def pairs(count):
     return spec + "\n".join(["tslprogram 1", "input x", *outputs, f"node 0 set {updates} go 0", "state 0 at 0", "end", ""])
 
 
+def crossing(states):
+    """A program of so many states that goes four ways from each by two of ten tests, where each eighth state, which no way passes by,
+    takes the update asked for. Four responses are assumed, so that the automaton keeps which of these are due."""
+    assumed = " ".join(f"p{i} a -> F p{i + 4} a;" for i in range(4))
+    asked = "p8 a && p9 a -> (p9 a || [out <- g a]) && F [out <- f a];"
+    spec = f"always assume {{ {assumed} }}\nalways guarantee {{ {asked} }}\n"
+    nodes, roots = [], []
+    for state in range(states):
+        first, stop = len(nodes), state // 8 * 8 + 8
+        update = "g a" if state % 8 else "f a"
+        nodes += [f"set [out <- {update}] go {min(state + jump, stop) % states}" for jump in (1, 2, 3, 4)]
+        nodes += [f"if p{state % 10} a then {first + way} else {first + way + 1}" for way in (0, 2)]
+        nodes.append(f"if p{(state + 3) % 10} a then {first + 4} else {first + 5}")
+        roots.append(first + 6)
+    lines = ["tslprogram 1", "input a", "output out"]
+    lines += [f"node {number} {node}" for number, node in enumerate(nodes)]
+    lines += [f"state {number} at {root}" for number, root in enumerate(roots)]
+    return spec + "\n".join([*lines, "end", ""])
+
+
 def main():
     with built() as folder:
         print(f"{'text':>12} {'verdict':>16} {'seconds':>9} {'growth':>7} {'peak KiB':>9} {'Python':>9} {'ratio':>8}")
@@ -66,6 +87,15 @@ def main():
             seconds, peak, _ = measured(folder, pairs(count).encode(), [PROGRAM, "check"])
             growth = f"{seconds / before:7.2f}" if before else "      -"
             print(f"{count:12} {2**count:16} {seconds:9.5f} {growth} {peak:9}")
+            before = seconds
+        print(f"{'states':>12} {'valuations':>16} {'seconds':>9} {'growth':>7} {'peak KiB':>9} {'instructions':>14}")
+        before = None
+        for states in (8, 16, 32, 64):
+            text = crossing(states)
+            command = [PROGRAM, "check", "--bound=15"]
+            seconds, peak, _ = measured(folder, text.encode(), command)
+            growth = f"{seconds / before:7.2f}" if before else "      -"
+            print(f"{states:12} {states * 1_024:16} {seconds:9.5f} {growth} {peak:9} {instructions(text.encode(), command) or '-':>14}")
             before = seconds
 
 

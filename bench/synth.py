@@ -2,7 +2,8 @@
 """Times `tsl synth` on the examples and on arbiters of growing size, and checks what it writes by the plain reading of the
 definitions in `plain.py` and `rounds.py`. Beside it stand `minisat` and `cadical` on the clauses of the last question for a
 controller, where they are installed. The first argument is the most seconds of a run, 60 if there is none; parts of names may
-follow, and then only the questions whose names have one of them are asked."""
+follow, and then only the questions whose names have one of them are asked. Last come the examples once more, each with what the full
+bound costs beside bound 2."""
 import statistics
 import subprocess
 import sys
@@ -27,11 +28,19 @@ def questions():
     the same bound, and one of six with two, without rounds and with them."""
     for path in sorted((HERE.parent / "examples").glob("*/*.tsl")):
         words = path.with_suffix(".words").read_text().split()
-        yield path.stem, path.read_text(), USUAL | dict(zip(words[1::2], map(int, words[2::2])))
+        numbers = (word if word == "full" else int(word) for word in words[2::2])
+        yield path.stem, path.read_text(), USUAL | dict(zip(words[1::2], numbers))
     for count in (3, 4, 5):
         yield f"generator {count}", arbiter(count), USUAL | {"--states": count, "--bound": count, "--rounds": 0}
     yield "6 responses", arbiter(6), USUAL | {"--rounds": 0}
     yield "6 responses, rounds", arbiter(6), USUAL
+
+
+def question_for(text, sizes, windows=()):
+    """The question for a controller. The full bound is its states times those of the automaton."""
+    question = plain.Question(text, sizes["--states"], 0, windows)
+    bound = sizes["--states"] * question.count if sizes["--bound"] == "full" else sizes["--bound"]
+    return plain.Question(text, sizes["--states"], bound, windows)
 
 
 def words_of(command, sizes):
@@ -68,7 +77,7 @@ class Answer:
 
     def for_controller(self, count=None):
         """Under so many windows, all where no number is given."""
-        return plain.Question(self.text, self.sizes["--states"], self.sizes["--bound"], self.windows[:count])
+        return question_for(self.text, self.sizes, self.windows[:count])
 
     def for_environment(self, count=None):
         return rounds.EnvironmentQuestion(self.formula, self.space, self.sizes["--env-states"], self.sizes["--env-bound"],
@@ -78,7 +87,7 @@ class Answer:
         """A program is accepted with the bound; the rounds are a chain; and other texts are as they are defined, and true."""
         sizes = self.sizes
         if self.status == WRITTEN:
-            assert plain.verdict(self.text, self.written, sizes["--bound"]) == "accepted"
+            assert plain.verdict(self.text, self.written, self.for_controller().bound) == "accepted"
             return
         for made, (environment, window) in enumerate(self.rounds):
             assert not has_assignment(self.for_controller(made))
@@ -93,9 +102,10 @@ class Answer:
             side = self.reason.split()[1]
             question = self.for_controller() if side == "controller" else self.for_environment()
             learnt = learnt_in(self.written.splitlines())
-            named = ("--states", "--bound") if side == "controller" else ("--env-states", "--env-bound")
+            named = ("--env-states", "--env-bound")
             automaton = question.count, question.edges
-            shown = rounds.spent_text(self.space, side, [sizes[n] for n in named], self.rounds, automaton, learnt)
+            told = [question.states, question.bound] if side == "controller" else [sizes[n] for n in named]
+            shown = rounds.spent_text(self.space, side, told, self.rounds, automaton, learnt)
             assert self.written == shown and len(learnt) == sizes["--budget"]
 
     def check_none(self):
@@ -110,14 +120,17 @@ class Answer:
             assert not has_assignment(self.for_environment())
         else:
             assert reason == f"reason rounds {sizes['--rounds']}" and len(self.rounds) == sizes["--rounds"]
-        assert self.written == rounds.none_text(self.space, sizes["--states"], sizes["--bound"], self.rounds, reason)
+        assert self.written == rounds.none_text(self.space, sizes["--states"], self.for_controller().bound, self.rounds, reason)
 
     def name(self):
         return "program" if self.status == WRITTEN else self.reason.split()[1]
 
 
 def check_refutation(answer):
-    """What `prove` writes where there is no controller: its formula and its clauses are those of the plain reading."""
+    """What `prove` writes where there is no controller: its formula and its clauses are those of the plain reading. It takes no full
+    bound."""
+    if answer.sizes["--bound"] == "full":
+        return
     question = answer.for_controller(0)
     status, written = asked(words_of("prove", answer.sizes), answer.text)
     formula, _ = written.split("lrat\n")
@@ -169,7 +182,7 @@ def row(folder, name, text, sizes, seconds, ratios):
     if status != WRITTEN:
         check_refutation(answer)
     if status == LARGE:
-        print(f"{name:>22} {sizes['--states']:2} {sizes['--bound']:2} {answer.reason}, rounds {len(answer.rounds)}", flush=True)
+        print(f"{name:>22} {sizes['--states']:2} {sizes['--bound']:>4} {answer.reason}, rounds {len(answer.rounds)}", flush=True)
         return
     question = answer.for_controller()
     clauses = question.clauses()
@@ -177,7 +190,7 @@ def row(folder, name, text, sizes, seconds, ratios):
     whole, before, least = (run_within(folder, text, sizes | changed, seconds) for changed in (
         {}, {"--budget": 1}, {"--states": 1, "--bound": 0, "--rounds": 0, "--budget": 1}))
     counts = f"{question.count:4} {len(question.edges):6} {question.variables:7} {len(clauses):8}"
-    line = f"{name:>22} {sizes['--states']:2} {sizes['--bound']:2} {answer.name():>9} {len(answer.windows):6} {counts} {learnt:7}"
+    line = f"{name:>22} {sizes['--states']:2} {sizes['--bound']:>4} {answer.name():>9} {len(answer.windows):6} {counts} {learnt:7}"
     line += f" {seconds_of(least)} {seconds_of(before)} {seconds_of(whole)} {whole[1] if whole else '-':>8}"
     parts = parts_of(text, words_of("synth", sizes))
     line += "".join(f" {f'{part:.0f}%':>9}" for part in parts) if parts else f" {'-':>9}" * len(PARTS)
@@ -214,18 +227,40 @@ def print_rounds(folder, answer, seconds):
         before = after
 
 
+def print_full(folder, name, text, sizes, seconds):
+    """What the full bound costs beside bound 2: the clauses of the first question for a controller, the seconds of the whole, and the
+    most clauses that were learnt for one question. A limit that is passed has the word of it in place of all that."""
+    line = f"{name:>22} {sizes['--states']:2}"
+    for bound in (2, "full"):
+        asked_for = sizes | {"--bound": bound}
+        status, written = asked(words_of("synth", asked_for), text)
+        if status == LARGE:
+            line += f" {written.splitlines()[0]:>38}"
+            continue
+        learnt = sizes["--budget"] if status == SPENT else least_budget(text, asked_for) - 1
+        run = run_within(folder, text, asked_for, seconds)
+        question = question_for(text, asked_for)
+        line += f" {question.bound:4} {len(question.clauses()):8} {seconds_of(run)} {learnt:7} {status:6}"
+    print(line, flush=True)
+
+
 def main():
     seconds = int(sys.argv[1]) if len(sys.argv) > 1 else 60
     wanted = sys.argv[2:]
     ratios = {"learnt clauses to conflicts": [], "time of the whole": []}
     others = [tool for tool in programs() if tool != "solve"]
     heads = "".join(f" {tool[:9]:>9}" + (f" {'conflicts':>9}" if tool == "minisat -no-pre" else "") for tool in others)
-    print(f"{'question':>22} {'n':>2} {'k':>2} {'answer':>9} {'rounds':>6} {'Q':>4} {'edges':>6} {'vars':>7} {'clauses':>8} {'learnt':>7}"
+    print(f"{'question':>22} {'n':>2} {'k':>4} {'answer':>9} {'rounds':>6} {'Q':>4} {'edges':>6} {'vars':>7} {'clauses':>8} {'learnt':>7}"
           f" {'small':>9} {'before':>9} {'whole':>9} {'KiB':>8}" + "".join(f" {part:>9}" for part in PARTS) + heads)
     with built() as folder:
         for name, text, sizes in questions():
             if not wanted or any(part in name for part in wanted):
                 row(folder, name, text, sizes, seconds, ratios)
+        heads = "".join(f" {'k':>4} {'clauses':>8} {'whole':>9} {'learnt':>7} {'status':>6}" for _ in range(2))
+        print(f"{'question':>22} {'n':>2}{heads}")
+        for name, text, sizes in questions():
+            if not wanted or any(part in name for part in wanted):
+                print_full(folder, name, text, sizes, seconds)
     for title, members in ratios.items():
         if members:
             print(f"{title} of minisat: median {statistics.median(members):.2f}, most {max(members):.2f} of {len(members)}")
