@@ -86,9 +86,7 @@ const SEARCHES: &[Search] = &[
         b"none\nstates 1\nbound 2\nreason nocounter 2 2\nend\n",
     ),
     (
-        &[
-            "synth", "--states", "1", "--bound", "full", "--rounds", "0",
-        ],
+        &["synth", "--states", "1", "--bound", "full", "--rounds", "0"],
         ARBITER,
         Status::No,
         b"none\nstates 1\nbound 5\nreason rounds 0\nend\n",
