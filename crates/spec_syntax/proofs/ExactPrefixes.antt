@@ -2,7 +2,7 @@
 use Rattle.std.proofs.Common.{◌≡◌, ℕ, zero, suc, ◌<◌, Bool, true, false, List, [], ◌∷◌, ◌++◌, refl, ap, sym, ◌∙◌, arith}
 use Rattle.std.specs.Prelude.{Option, Some, None, codes}
 use Rattle.tsl_text.specs.declared.TokenKind.TheVariants.{OpenRound, CloseRound, OpenSquare, CloseSquare, LeftArrow}
-use Rattle.token_readers.specs.Readers.{Reader, form_at, map_read, below, closed_by}
+use Rattle.token_readers.specs.Readers.{Reader, form_at, map_read, closed_by}
 use Rattle.token_readers.specs.Exact.{Grammar, Begins, Exact}
 use Rattle.token_readers.proofs.Runs.{map_same, exact_as}
 use Rattle.token_readers.proofs.Then.{Any, IsClosed, closed_exact}
@@ -12,7 +12,7 @@ use Rattle.spec_syntax.specs.declared.syntax.Word.TheVariants.{True, False}
 use Rattle.tsl_terms.specs.declared.operator.UnaryOperator.{UnaryOperator}
 use Rattle.spec_syntax.specs.declared.syntax.ArrowKind.{ArrowKind}
 use Rattle.spec_syntax.specs.declared.syntax.ArrowKind.TheVariants.{Single, Double}
-use Rattle.spec_syntax.specs.Syntax.{Terminal, free, word, mark, TermSyntax, alone, FormulaSyntax, truth, falsehood, bare, updated, under}
+use Rattle.spec_syntax.specs.Syntax.{Terminal, free, word, mark, TermSyntax, alone, FormulaSyntax, truth, falsehood, bare, updated, grouped, under}
 use Rattle.spec_syntax.specs.Grammar.{unary_of, IsTerm, signal, IsFormula, chain as chained, IsIff, no_iff}
 use Rattle.spec_syntax.specs.Grammar.{IsImp, no_imp, IsOr, disjunction, no_disjunct, IsAnd, conjunction}
 use Rattle.spec_syntax.specs.Grammar.{no_conjunct, IsPrefix, prefix, atom, IsAtom, true_atom, false_atom}
@@ -180,7 +180,7 @@ update_exact room low b = by_first (end_wrong refl an_update (λ r v h. h)) turn
 abbrev AtomCase : Grammar Terminal FormulaSyntax
 AtomCase r (word True ∷ ys) f = (ys ≡ []) × (f ≡ truth)
 AtomCase r (word False ∷ ys) f = (ys ≡ []) × (f ≡ falsehood)
-AtomCase r (mark OpenRound ∷ ys) f = Up (IsClosed is_close_round IsFormula) r ys f
+AtomCase r (mark OpenRound ∷ ys) f = (g : FormulaSyntax) × Up (IsClosed is_close_round IsFormula) r ys g × (f ≡ grouped g)
 AtomCase r (mark OpenSquare ∷ ys) f = IsUpdate r ys f
 AtomCase r (free p ∷ ys) f = (o : Option (List TermSyntax)) × AreAfterName r ys o × (f ≡ atom_named p o)
 AtomCase r _ f = ⊥
@@ -188,7 +188,7 @@ AtomCase r _ f = ⊥
 atom_case : {r : ℕ} {xs : List Terminal} {f : FormulaSyntax} → IsAtom r xs f → AtomCase r xs f
 atom_case true_atom = (refl, refl)
 atom_case false_atom = (refl, refl)
-atom_case (brackets_atom {room = r} {xs = xs} {a = f} h) = round_closed IsFormula r xs f h
+atom_case (brackets_atom {room = r} {xs = xs} {a = f} h) = (f, round_closed IsFormula r xs f h, refl)
 atom_case (update {xs = xs} {t = t} x h) = (
   t,
   record {
@@ -224,8 +224,8 @@ atom_of_update r _ f h = absurd h
 case_atom : (r : ℕ) (xs : List Terminal) (f : FormulaSyntax) → AtomCase r xs f → IsAtom r xs f
 case_atom r (word True ∷ ys) f h = rw (h.0, h.1) true_atom
 case_atom r (word False ∷ ys) f h = rw (h.0, h.1) false_atom
-case_atom zero (mark OpenRound ∷ ys) f h = absurd h
-case_atom (suc r) (mark OpenRound ∷ ys) f h = let inner = closed_round IsFormula r ys f h in rw inner.1 (brackets_atom inner.2)
+case_atom zero (mark OpenRound ∷ ys) f h = absurd h.1
+case_atom (suc r) (mark OpenRound ∷ ys) f h = let inner = closed_round IsFormula r ys h.0 h.1 in rw (h.2, inner.1) (brackets_atom inner.2)
 case_atom r (mark OpenSquare ∷ ys) f h = atom_of_update r ys f h
 case_atom r (free p ∷ ys) f h = rw h.2 (atom_of_name r p ys h.0 h.1)
 case_atom r _ f h = absurd h
@@ -252,9 +252,8 @@ atom_exact room low b =
       turn (word True) = turn_alone truth (λ rest. refl) (λ r. (refl, refl)) (λ r ys f h. h)
       turn (word False) = turn_alone falsehood (λ rest. refl) (λ r. (refl, refl)) (λ r ys f h. h)
       turn (mark OpenRound) =
-          turn_below {Holds = LevelExact} (λ f. f) low bracketed_formula brackets_below b
-          (λ rest. sym (map_same (below low bracketed_formula (mark OpenRound ∷ rest)))) (λ y h. tt)
-          some_atom low_formula (λ r ys f h. h) (λ r ys f h. (f, h, refl))
+          turn_below {Holds = LevelExact} grouped low bracketed_formula brackets_below b (λ rest. refl) (λ y h. tt)
+          some_atom low_formula (λ r ys f h. (f, h, refl)) (λ r ys f h. h)
       turn (mark OpenSquare) =
           turn_takes (λ f. f) (update_with low) (λ rest. sym (map_same (update_with low rest))) (λ y h. tt) (λ r ys f h. h)
           (λ r ys f h. (f, h, refl))

@@ -3,16 +3,16 @@ use Rattle.std.proofs.Common.{◌≡◌, ℕ, zero, suc, ◌<◌, true, false, L
 use Rattle.std.proofs.lemmas.List.{append-nil}
 use Rattle.std.specs.Prelude.{Option, Some, None, codes}
 use Rattle.tsl_text.specs.declared.TokenKind.TheVariants.{OpenRound, CloseRound, And, Or, Arrow, BothArrow}
-use Rattle.token_readers.specs.Readers.{Answer, below, found_or_wrong}
+use Rattle.token_readers.specs.Readers.{found_or_wrong}
 use Rattle.token_readers.specs.Exact.{Grammar, Begins, Exact}
-use Rattle.token_readers.proofs.Runs.{map_same, exact_map, exact_as}
+use Rattle.token_readers.proofs.Runs.{exact_map, exact_as}
 use Rattle.token_readers.proofs.Then.{Any, IsClosed, lift_closed, closed_exact}
 use Rattle.token_readers.proofs.Terminals.{Turn, by_first, end_wrong, end_as, turn_wrong, turn_deep, turn_alone, turn_takes, turn_as}
 use Rattle.token_readers.proofs.Levels.{Below, Up, lift_up, exact_up, turn_below}
 use Rattle.token_readers.proofs.Iterates.{Steps, stop, more, Stepping, iterate_exact}
 use Rattle.token_readers.proofs.Lists.{AreAll, none, some}
 use Rattle.spec_syntax.specs.declared.syntax.Word.TheVariants.{U, W, R}
-use Rattle.spec_syntax.specs.Syntax.{Terminal, free, word, mark, TermSyntax, alone, applied, no_terms}
+use Rattle.spec_syntax.specs.Syntax.{Terminal, free, word, mark, TermSyntax, alone, applied, grouped_term, no_terms}
 use Rattle.spec_syntax.specs.Grammar.{
   IsTerm,
   signal,
@@ -150,10 +150,11 @@ opened_exact zero None h = by_first (end_wrong refl (some_opened 0) (λ r o e. n
       turn_deep (λ rest. refl) (some_opened 0)
       (record {
         ending = a ∷ mark CloseRound ∷ mark CloseRound ∷ [];
-        value = Some (alone (codes "a"));
+        value = Some (grouped_term (alone (codes "a")));
         derives = (
-          alone (codes "a"),
-          round_closed IsTerm 1 (mark OpenRound ∷ a ∷ mark CloseRound ∷ []) (alone (codes "a")) (brackets (signal (codes "a"))),
+          grouped_term (alone (codes "a")),
+          round_closed IsTerm 1 (mark OpenRound ∷ a ∷ mark CloseRound ∷ []) (grouped_term (alone (codes "a")))
+              (brackets (signal (codes "a"))),
           refl,
         );
       })
@@ -324,7 +325,7 @@ Decoded empty r xs o = (xs ≡ []) × (o ≡ Some [])
 Decoded (name_last ts x) r xs o = (us : List TermSyntax) × AreAll IsArgument r (free x ∷ xs) us × (o ≡ Some (ts ++ us))
 Decoded (term_last ts) r xs o = (us : List TermSyntax) × AreAll IsArgument r xs us × (o ≡ Some (ts ++ us))
 
-bracket_argument : (r : ℕ) (xs : List Terminal) (t : TermSyntax) → IsBracketed r xs t → IsArgument r (mark OpenRound ∷ xs) t
+bracket_argument : (r : ℕ) (xs : List Terminal) (t : TermSyntax) → IsBracketed r xs t → IsArgument r (mark OpenRound ∷ xs) (grouped_term t)
 bracket_argument zero xs t h = absurd h
 bracket_argument (suc r) xs t h = let inner = closed_round IsTerm r xs t h in rw inner.1 (brackets_argument inner.2)
 
@@ -357,14 +358,14 @@ by_brackets r ts x xs ys None o h k =
     rw (opened_empty r xs h)
     (one_more r ts (applied x no_terms) (free x ∷ mark OpenRound ∷ mark CloseRound ∷ []) ys o (constant_argument x) k)
 by_brackets r ts x xs ys (Some t) o h k =
-    let further = one_more r (ts ++ alone x ∷ []) t (mark OpenRound ∷ xs) ys o (bracket_argument r xs t (opened_bracket r xs t h)) k in
+    let further = one_more r (ts ++ alone x ∷ []) (grouped_term t) (mark OpenRound ∷ xs) ys o (bracket_argument r xs t (opened_bracket r xs t h)) k in
     (alone x ∷ further.0, some (signal_argument x) further.1, further.2 ∙ ap (λ us. Some us) (append_assoc ts (alone x ∷ []) further.0))
 
 first_brackets : (r : ℕ) (xs ys : List Terminal) (found : Option TermSyntax) (o : Option (List TermSyntax)) → IsOpened r xs found →
     Decoded (with_brackets found fresh) r ys o → AreAfterName r (mark OpenRound ∷ (xs ++ ys)) o
 first_brackets r xs ys None o h k = rw (opened_empty r xs h, k.0, k.1) no_arguments
 first_brackets r xs ys (Some t) o h k =
-    let further = one_more r [] t (mark OpenRound ∷ xs) ys o (bracket_argument r xs t (opened_bracket r xs t h)) k in
+    let further = one_more r [] (grouped_term t) (mark OpenRound ∷ xs) ys o (bracket_argument r xs t (opened_bracket r xs t h)) k in
     in_order r (mark OpenRound ∷ (xs ++ ys)) further.0 further.1 o further.2 (λ e. cc)
 
 after : (r : ℕ) (s t : Arguments) (f g : List Terminal) (o : Option (List TermSyntax)) → IsArgumentStep s r f t → Decoded t r g o →
@@ -379,8 +380,8 @@ after r (term_last ts) t (free x ∷ ys) g o h k =
     let named : Decoded (name_last ts x) r g o = rw h.1 at k in
     rw h.0 named
 after r (term_last ts) t (mark OpenRound ∷ ys) g o h k =
-    let further : Decoded (term_last (ts ++ h.0 ∷ [])) r g o = rw h.2 at k in
-    one_more r ts h.0 (mark OpenRound ∷ ys) g o (bracket_argument r ys h.0 h.1) further
+    let further : Decoded (term_last (ts ++ grouped_term h.0 ∷ [])) r g o = rw h.2 at k in
+    one_more r ts (grouped_term h.0) (mark OpenRound ∷ ys) g o (bracket_argument r ys h.0 h.1) further
 after r fresh t (mark OpenRound ∷ ys) g o h k = first_brackets r ys g h.0 o h.1 (rw h.2 at k)
 after r (name_last ts x) t (mark OpenRound ∷ ys) g o h k = by_brackets r ts x ys g h.0 o h.1 (rw h.2 at k)
 after r _ t _ g o h k = absurd h
@@ -447,7 +448,7 @@ encode r s ok xs us (some {g = g} {vs = vs} (brackets_argument {room = low} {xs 
       steps = more (term_steps low s inner t ok h) e.steps;
       goes_on = e.goes_on;
       terms = e.terms
-          ∙ append_assoc (complete s) (t ∷ []) vs;
+          ∙ append_assoc (complete s) (grouped_term t ∷ []) vs;
     }
 
 some_complete : (s : Arguments) (t : TermSyntax) (ts : List TermSyntax) → GoesOn s → complete s ≡ t ∷ ts → Some (t ∷ ts) ≡ arguments_of s
@@ -478,14 +479,14 @@ after_name_exact room low b = exact_map arguments_of (decoded) steps_after_name 
 abbrev TermCase : Grammar Terminal TermSyntax
 TermCase r [] t = ⊥
 TermCase r (free f ∷ ys) t = (o : Option (List TermSyntax)) × AreAfterName r ys o × (t ≡ term_named f o)
-TermCase r (mark OpenRound ∷ ys) t = IsBracketed r ys t
+TermCase r (mark OpenRound ∷ ys) t = (u : TermSyntax) × IsBracketed r ys u × (t ≡ grouped_term u)
 TermCase r _ t = ⊥
 
 term_case : {r : ℕ} {xs : List Terminal} {t : TermSyntax} → IsTerm r xs t → TermCase r xs t
 term_case (signal x) = (None, nothing, refl)
 term_case (constant c) = (Some [], no_arguments, refl)
 term_case (application {t = t} {ts = ts} f h) = (Some (t ∷ ts), some_arguments h, refl)
-term_case (brackets {room = room} {xs = xs} {t = t} h) = round_closed IsTerm room xs t h
+term_case (brackets {room = room} {xs = xs} {t = t} h) = (t, round_closed IsTerm room xs t h, refl)
 
 term_of_name : (r : ℕ) (f : List ℕ) (xs : List Terminal) (o : Option (List TermSyntax)) → AreAfterName r xs o →
     IsTerm r (free f ∷ xs) (term_named f o)
@@ -495,8 +496,8 @@ term_of_name r f xs o (some_arguments h) = application f h
 
 case_term : (r : ℕ) (xs : List Terminal) (t : TermSyntax) → TermCase r xs t → IsTerm r xs t
 case_term r (free f ∷ ys) t h = rw h.2 (term_of_name r f ys h.0 h.1)
-case_term zero (mark OpenRound ∷ ys) t h = absurd h
-case_term (suc r) (mark OpenRound ∷ ys) t h = let inner = closed_round IsTerm r ys t h in rw inner.1 (brackets inner.2)
+case_term zero (mark OpenRound ∷ ys) t h = absurd h.1
+case_term (suc r) (mark OpenRound ∷ ys) t h = let inner = closed_round IsTerm r ys h.0 h.1 in rw (h.2, inner.1) (brackets inner.2)
 case_term r _ t h = absurd h
 
 -- a term is read exactly
@@ -511,9 +512,7 @@ term_exact room low b =
       turn (free f) = turn_takes (term_named f) (after_name low) (λ rest. refl) (λ y h. h) (λ r ys o h. (o, h, refl)) (λ r ys t h. h)
           (after_name_exact room low b)
       turn (mark OpenRound) =
-          turn_below {Holds = TermExact} (λ t. t) low bracketed_term brackets_exact b (λ rest. sym (map_same (below_term rest)))
+          turn_below {Holds = TermExact} grouped_term low bracketed_term brackets_exact b (λ rest. refl)
           (λ y h. tt) some_term (low_term room)
-          (λ r ys t h. h) (λ r ys t h. (t, h, refl)) where
-            below_term : List Terminal → Answer Terminal TermSyntax
-            below_term rest = below low bracketed_term (mark OpenRound ∷ rest)
+          (λ r ys t h. (t, h, refl)) (λ r ys t h. h)
       turn _ = turn_wrong (λ rest. refl) some_term (λ r ys t h. h)

@@ -9,8 +9,8 @@ use Rattle.tsl_terms.specs.declared.operator.UnaryOperator.TheVariants.{Negation
 use Rattle.tsl_terms.specs.declared.operator.BinaryOperator.TheVariants.{Implication, Equivalence}
 use Rattle.tsl_terms.specs.declared.operator.ManyOperator.TheVariants.{Conjunction, Disjunction}
 use Rattle.spec_syntax.specs.declared.syntax.Part.TheVariants.{AssumeAlways, GuaranteeFirst}
-use Rattle.spec_syntax.specs.Syntax.{Terminal, free, word, mark, terminal_of, alone, applied, no_terms, more_terms, FormulaSyntax, bare}
-use Rattle.spec_syntax.specs.Syntax.{tested, under, between, joined, no_formulas, more_formulas, SectionSyntax}
+use Rattle.spec_syntax.specs.Syntax.{Terminal, free, word, mark, terminal_of, alone, applied, grouped_term, no_terms, more_terms}
+use Rattle.spec_syntax.specs.Syntax.{FormulaSyntax, bare, tested, grouped, under, between, joined, no_formulas, more_formulas, SectionSyntax}
 use Rattle.token_readers.specs.Readers.{form, deep, Answer, closing, iterate_most, iterate}
 use Rattle.spec_syntax.specs.Reading.{opened, argument, after_name, term_with, update_with, atom_with, prefix_from, prefix_with, further_from}
 use Rattle.spec_syntax.specs.Reading.{further, chain_after, and_with, or_after, arrow_from, arrow_after, imp_after, iff_after, right_with}
@@ -60,7 +60,7 @@ arrows_are_right = refl
 -- `a && b && c` is one conjunction, and one in brackets stays a node of its own
 brackets_keep_conjunctions : sections 1 (guaranteed (a ∷ mark And ∷ b ∷ mark And ∷ mark OpenRound ∷ a ∷ mark And ∷ c ∷ mark CloseRound ∷ [])) ≡
     one_formula (joined Conjunction (more_formulas (bare (codes "a")) (more_formulas (bare (codes "b")) (more_formulas
-    (joined Conjunction (more_formulas (bare (codes "a")) (more_formulas (bare (codes "c")) no_formulas))) no_formulas))))
+    (grouped (joined Conjunction (more_formulas (bare (codes "a")) (more_formulas (bare (codes "c")) no_formulas)))) no_formulas))))
 unfolding closing iterate_most iterate opened argument after_name term_with update_with atom_with prefix_from prefix_with further_from further chain_after and_with or_after arrow_from arrow_after imp_after iff_after right_with formula_from formula_after formula_with above lower item formulas items side section_at section sections
 brackets_keep_conjunctions = refl
 
@@ -78,7 +78,7 @@ brackets_alone = refl
 
 -- `p (a)`
 bracketed_argument : sections 1 (guaranteed (p ∷ mark OpenRound ∷ a ∷ mark CloseRound ∷ []))
-    ≡ one_formula (tested (codes "p") (more_terms (alone (codes "a")) no_terms))
+    ≡ one_formula (tested (codes "p") (more_terms (grouped_term (alone (codes "a"))) no_terms))
 unfolding closing iterate_most iterate opened argument after_name term_with update_with atom_with prefix_from prefix_with further_from further chain_after and_with or_after arrow_from arrow_after imp_after iff_after right_with formula_from formula_after formula_with above lower item formulas items side section_at section sections
 bracketed_argument = refl
 

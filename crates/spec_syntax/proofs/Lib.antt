@@ -2,6 +2,7 @@ mod Examples
 pub mod TreeLemmas
 pub mod ReadLemmas
 pub mod Lift
+pub mod Written
 pub mod ExactTerms
 pub mod ExactPrefixes
 pub mod ExactFormulas

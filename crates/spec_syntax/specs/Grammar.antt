@@ -34,6 +34,7 @@ use Rattle.spec_syntax.specs.Syntax.{
   TermSyntax,
   alone,
   applied,
+  grouped_term,
   no_terms,
   listed_terms,
   FormulaSyntax,
@@ -42,6 +43,7 @@ use Rattle.spec_syntax.specs.Syntax.{
   bare,
   tested,
   updated,
+  grouped,
   under,
   between,
   join,
@@ -75,7 +77,7 @@ mutual
     application : {room : ℕ} {xs : List Terminal} {t : TermSyntax} {ts : List TermSyntax} (f : List ℕ) →
         AreArguments room xs (t ∷ ts) → IsTerm room (free f ∷ xs) (applied f (listed_terms (t ∷ ts)))
     brackets : {room : ℕ} {xs : List Terminal} {t : TermSyntax} →
-        IsTerm room xs t → IsTerm (suc room) (in_brackets xs) t
+        IsTerm room xs t → IsTerm (suc room) (in_brackets xs) (grouped_term t)
 
   -- argument(l) argument(l)*
   pub data AreArguments : ℕ → List Terminal → List TermSyntax → Type 0 where
@@ -90,7 +92,7 @@ mutual
     constant_argument : {room : ℕ} (c : List ℕ) →
         IsArgument room (free c ∷ mark OpenRound ∷ mark CloseRound ∷ []) (applied c no_terms)
     brackets_argument : {room : ℕ} {xs : List Terminal} {t : TermSyntax} →
-        IsTerm room xs t → IsArgument (suc room) (in_brackets xs) t
+        IsTerm room xs t → IsArgument (suc room) (in_brackets xs) (grouped_term t)
 
 mutual
   -- formula(l) = prefix(l) ("U" | "W" | "R") prefix(l) | iff(l)
@@ -145,7 +147,7 @@ mutual
     true_atom : {room : ℕ} → IsAtom room (word True ∷ []) truth
     false_atom : {room : ℕ} → IsAtom room (word False ∷ []) falsehood
     brackets_atom : {room : ℕ} {xs : List Terminal} {a : FormulaSyntax} →
-        IsFormula room xs a → IsAtom (suc room) (in_brackets xs) a
+        IsFormula room xs a → IsAtom (suc room) (in_brackets xs) (grouped a)
     update : {room : ℕ} {xs : List Terminal} {t : TermSyntax} (x : List ℕ) → IsTerm room xs t →
         IsAtom room (mark OpenSquare ∷ free x ∷ mark LeftArrow ∷ (xs ++ mark CloseSquare ∷ [])) (updated x t)
     bare_name : {room : ℕ} (x : List ℕ) → IsAtom room (free x ∷ []) (bare x)

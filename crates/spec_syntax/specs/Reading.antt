@@ -37,6 +37,7 @@ use Rattle.spec_syntax.specs.Syntax.{
   TermSyntax,
   alone,
   applied,
+  grouped_term,
   no_terms,
   listed_terms,
   FormulaSyntax,
@@ -45,6 +46,7 @@ use Rattle.spec_syntax.specs.Syntax.{
   bare,
   tested,
   updated,
+  grouped,
   under,
   between,
   join,
@@ -125,7 +127,7 @@ with_name s x = name_last (complete s) x
 
 -- a further argument in brackets
 abbrev pub with_term : Arguments → TermSyntax → Arguments
-with_term s t = term_last (complete s ++ t ∷ [])
+with_term s t = term_last (complete s ++ grouped_term t ∷ [])
 
 -- brackets after a name: a further argument, or `()`, which is the name's
 abbrev pub with_brackets : Option TermSyntax → Arguments → Arguments
@@ -179,7 +181,7 @@ atom_named p (Some ts) = tested p (listed_terms ts)
 
 unfoldable pub term_with : Option Level → Reader Terminal TermSyntax
 term_with lower (free f ∷ rest) = map_read (term_named f) (after_name lower rest)
-term_with lower (mark OpenRound ∷ rest) = below lower bracketed_term (mark OpenRound ∷ rest)
+term_with lower (mark OpenRound ∷ rest) = map_read grouped_term (below lower bracketed_term (mark OpenRound ∷ rest))
 term_with lower xs = form_at xs
 
 -- an update after its opening bracket
@@ -191,7 +193,7 @@ update_with lower xs = form_at xs
 unfoldable pub atom_with : Option Level → Reader Terminal FormulaSyntax
 atom_with lower (word True ∷ rest) = Ok (truth, rest)
 atom_with lower (word False ∷ rest) = Ok (falsehood, rest)
-atom_with lower (mark OpenRound ∷ rest) = below lower bracketed_formula (mark OpenRound ∷ rest)
+atom_with lower (mark OpenRound ∷ rest) = map_read grouped (below lower bracketed_formula (mark OpenRound ∷ rest))
 atom_with lower (mark OpenSquare ∷ rest) = update_with lower rest
 atom_with lower (free p ∷ rest) = map_read (atom_named p) (after_name lower rest)
 atom_with lower xs = form_at xs

@@ -1,5 +1,5 @@
 -- What the grammar of specifications speaks of: terminals, and the trees that texts are derived from, in which
--- names are still bytes.
+-- names are still bytes. A tree keeps the brackets of its text.
 -- The words and the syntax are those of tsltools' specification format, in this project's profile.
 use Rattle.std.specs.Prelude.{ℕ, List, [], ◌∷◌, codes, Option, Some, None, if◌then◌else◌}
 use Rattle.std.specs.Str.{bytes_eq}
@@ -51,6 +51,8 @@ mutual
   pub data TermSyntax : Type 0 where
     alone : (name : List ℕ) → TermSyntax
     applied : (name : List ℕ) → (arguments : TermsSyntax) → TermSyntax
+    -- a term in brackets
+    grouped_term : TermSyntax → TermSyntax
 
   pub data TermsSyntax : Type 0 where
     no_terms : TermsSyntax
@@ -66,6 +68,8 @@ mutual
     tested : (name : List ℕ) → (arguments : TermsSyntax) → FormulaSyntax
     -- the signal takes the term
     updated : (name : List ℕ) → TermSyntax → FormulaSyntax
+    -- a formula in brackets
+    grouped : FormulaSyntax → FormulaSyntax
     under : UnaryOperator → FormulaSyntax → FormulaSyntax
     between : BinaryOperator → FormulaSyntax → FormulaSyntax → FormulaSyntax
     -- the operands of `&&`, or of `||`

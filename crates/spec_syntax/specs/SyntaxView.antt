@@ -7,17 +7,17 @@ use Rattle.spec_syntax.specs.declared.fault.ReadFault.TheVariants.{Form, Deep, N
 use Rattle.spec_syntax.specs.declared.terminal.Terminal.{Terminal as LentTerminal}
 use Rattle.spec_syntax.specs.declared.terminal.Terminal.TheVariants.{Free, Word as WordOf, Mark}
 use Rattle.spec_syntax.specs.declared.trees.ReadTerm.{ReadTerm}
-use Rattle.spec_syntax.specs.declared.trees.ReadTerm.TheVariants.{Alone, Applied}
+use Rattle.spec_syntax.specs.declared.trees.ReadTerm.TheVariants.{Alone, Applied, Grouped' as GroupedTerm'}
 use Rattle.spec_syntax.specs.declared.trees.ReadTerms.{ReadTerms}
 use Rattle.spec_syntax.specs.declared.trees.ReadTerms.TheVariants.{Empty as NoTerms, More' as MoreTerms'}
 use Rattle.spec_syntax.specs.declared.trees.ReadFormula.{ReadFormula}
-use Rattle.spec_syntax.specs.declared.trees.ReadFormula.TheVariants.{True, False, Bare, Tested, Updated, Under', Between', Joined}
+use Rattle.spec_syntax.specs.declared.trees.ReadFormula.TheVariants.{True, False, Bare, Tested, Updated, Grouped', Under', Between', Joined}
 use Rattle.spec_syntax.specs.declared.trees.ReadFormulas.{ReadFormulas}
 use Rattle.spec_syntax.specs.declared.trees.ReadFormulas.TheVariants.{Empty, More'}
 use Rattle.spec_syntax.specs.declared.trees.ReadSection.{ReadSection}
-use Rattle.spec_syntax.specs.Syntax.{Terminal, free, word, mark, TermSyntax, alone, applied, TermsSyntax, no_terms, more_terms}
-use Rattle.spec_syntax.specs.Syntax.{FormulaSyntax, truth, falsehood, bare, tested, updated, under, between, joined, FormulasSyntax}
-use Rattle.spec_syntax.specs.Syntax.{no_formulas, more_formulas, SectionSyntax}
+use Rattle.spec_syntax.specs.Syntax.{Terminal, free, word, mark, TermSyntax, alone, applied, grouped_term, TermsSyntax, no_terms}
+use Rattle.spec_syntax.specs.Syntax.{more_terms, FormulaSyntax, truth, falsehood, bare, tested, updated, grouped, under, between, joined}
+use Rattle.spec_syntax.specs.Syntax.{FormulasSyntax, no_formulas, more_formulas, SectionSyntax}
 use Rattle.token_readers.specs.Readers.{Answer, Reader, form, deep}
 
 abbrev pub terminal_view : LentTerminal → Terminal
@@ -32,6 +32,7 @@ abbrev mutual
   pub term_syntax : ReadTerm → TermSyntax
   term_syntax (Alone name) = alone name.now
   term_syntax (Applied name arguments) = applied name.now (terms_syntax arguments)
+  term_syntax (GroupedTerm' p t) = grouped_term (term_syntax t)
 
   pub terms_syntax : ReadTerms → TermsSyntax
   terms_syntax NoTerms = no_terms
@@ -44,6 +45,7 @@ abbrev mutual
   formula_syntax (Bare name) = bare name.now
   formula_syntax (Tested name arguments) = tested name.now (terms_syntax arguments)
   formula_syntax (Updated name term) = updated name.now (term_syntax term)
+  formula_syntax (Grouped' p a) = grouped (formula_syntax a)
   formula_syntax (Under' op p a) = under op (formula_syntax a)
   formula_syntax (Between' op p a q b) = between op (formula_syntax a) (formula_syntax b)
   formula_syntax (Joined op fs) = joined op (formulas_syntax fs)

@@ -232,7 +232,10 @@ fn atom_with<'a, 'b>(
     match xs {
         [Terminal::Word(Word::True), rest @ ..] => Ok((ReadFormula::True, rest)),
         [Terminal::Word(Word::False), rest @ ..] => Ok((ReadFormula::False, rest)),
-        [Terminal::Mark(TokenKind::OpenRound), ..] => bracketed_formula(alloc, room, xs),
+        [Terminal::Mark(TokenKind::OpenRound), ..] => {
+            let (formula, rest) = bracketed_formula(alloc, room, xs)?;
+            Ok((ReadFormula::Grouped(Box::new(alloc, formula)?), rest))
+        }
         [Terminal::Mark(TokenKind::OpenSquare), rest @ ..] => update_with(alloc, room, rest),
         [Terminal::Free(name), rest @ ..] => {
             let (arguments, rest) = after_name(alloc, room, rest)?;

@@ -1,9 +1,11 @@
 //! Laws of the grammar and its reading functions.
 
-ghost use Rattle.std.specs.Prelude.{◌≡◌, ℕ, suc, ◌+◌, List, [], ◌∷◌, ◌++◌, length, Ok, Err};
+ghost use Rattle.std.specs.Prelude.{◌≡◌, ℕ, suc, ◌+◌, ◌≤◌, List, [], ◌∷◌, ◌++◌, length, Ok, Err};
 ghost use Rattle.token_readers.specs.Readers.{form, deep};
-ghost use Rattle.spec_syntax.specs.Syntax.{Terminal, SectionSyntax};
-ghost use Rattle.spec_syntax.specs.Grammar.{AreSections};
+ghost use Rattle.spec_syntax.specs.Syntax.{Terminal, FormulaSyntax, SectionSyntax};
+ghost use Rattle.spec_syntax.specs.Grammar.{IsFormula, AreSections};
+ghost use Rattle.spec_syntax.specs.Written.{written};
+ghost use Rattle.spec_syntax.specs.Levels.{depth};
 ghost use Rattle.spec_syntax.specs.Reading.{sections};
 ghost use Rattle.spec_syntax.specs.Texts.{SomeTextBegins, NoTextBegins, IsNoText};
 
@@ -13,6 +15,15 @@ pub fn grammar_has_one_reading()
         → AreSections room xs b → a ≡ b }
     ensures more { (more room : ℕ) (xs : List Terminal) (a : List SectionSyntax)
         → AreSections room xs a → AreSections (more + room) xs a }
+{}
+
+/// The tree of a formula, which keeps its brackets, tells the terminals that it is derived from, and
+/// how many levels it needs at least.
+pub fn trees_tell_their_texts()
+    ensures terminals { (room : ℕ) (xs : List Terminal) (a : FormulaSyntax) → IsFormula room xs a
+        → xs ≡ written a }
+    ensures levels { (room : ℕ) (xs : List Terminal) (a : FormulaSyntax) → IsFormula room xs a
+        → depth a ≤ room }
 {}
 
 /// The reading functions read exactly the texts of the grammar.

@@ -8,7 +8,8 @@
 //!   functions (`specs/Reading.antt`), which compute: sections, or the first fault. What is read keeps
 //!   its names as they stand in the text (`specs/SyntaxView.antt`).
 //! - Laws: the reading functions read exactly the texts of the grammar; a text derives in one way; a
-//!   fault of the form or of a level is the first.
+//!   fault of the form or of a level is the first; a tree, which keeps its brackets, tells its terminals
+//!   (`specs/Written.antt`) and how many levels it needs (`specs/Levels.antt`).
 //!
 //! What its names are and what specification it spells is left to the crate `tsl_reader`.
 #![tactic(auto)]
@@ -25,7 +26,7 @@ mod trees;
 pub use fault::ReadFault;
 pub use laws::{
     deep_faults_are_the_first, form_faults_are_the_first, grammar_has_one_reading,
-    reading_meets_the_grammar,
+    reading_meets_the_grammar, trees_tell_their_texts,
 };
 pub use section_reader::sections;
 pub use syntax::{Part, Word};

@@ -206,7 +206,7 @@ fn with_term<'a>(
         arguments_view next ≡ with_term (arguments_view arguments.entry) (term_syntax term.entry)) }
 {
     let mut terms = complete(alloc, arguments)?;
-    terms.push(term)?;
+    terms.push(ReadTerm::Grouped(Box::new(alloc, term)?))?;
     Ok(Arguments::TermLast(terms))
 }
 
@@ -427,7 +427,10 @@ pub(crate) fn term_with<'a, 'b>(
             let term = term_named(alloc, name, arguments)?;
             Ok((term, rest))
         }
-        [Terminal::Mark(TokenKind::OpenRound), ..] => bracketed_term(alloc, room, xs),
+        [Terminal::Mark(TokenKind::OpenRound), ..] => {
+            let (term, rest) = bracketed_term(alloc, room, xs)?;
+            Ok((ReadTerm::Grouped(Box::new(alloc, term)?), rest))
+        }
         _ => Err(ReadFault::Form(xs.len())),
     }
 }

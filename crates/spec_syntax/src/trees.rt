@@ -18,6 +18,8 @@ pub enum ReadTerm<'a> {
     Alone(&'a [u8]),
     /// A name and its arguments, which may be none.
     Applied(&'a [u8], ReadTerms<'a>),
+    /// A term in brackets.
+    Grouped(Box<ReadTerm<'a>>),
 }
 
 /// A list of terms, in order.
@@ -44,10 +46,7 @@ impl<'a> Drop for ReadTerms<'a> {
 impl<'a> ReadTerms<'a> {
     /// The list of these terms, in their order. An `Err` says that memory ran out.
     #[tactic(auto, using(crate::proofs::TreeLemmas::terms_front_none, crate::proofs::TreeLemmas::with_front_push))]
-    pub(crate) fn from_vec(
-        alloc: Global,
-        mut terms: Vec<ReadTerm<'a>>,
-    ) -> Result<ReadTerms<'a>, NoMemory>
+    pub fn from_vec(alloc: Global, mut terms: Vec<ReadTerm<'a>>) -> Result<ReadTerms<'a>, NoMemory>
         ensures { IfOk result (λ list.
             terms_syntax list ≡ listed_terms (map term_syntax terms.entry.items)) }
     {
@@ -73,6 +72,8 @@ pub enum ReadFormula<'a> {
     Tested(&'a [u8], ReadTerms<'a>),
     /// An update of a signal by a term.
     Updated(&'a [u8], ReadTerm<'a>),
+    /// A formula in brackets.
+    Grouped(Box<ReadFormula<'a>>),
     /// An operator and its operand.
     Under(UnaryOperator, Box<ReadFormula<'a>>),
     /// An operator between its operands.
@@ -105,7 +106,7 @@ impl<'a> Drop for ReadFormulas<'a> {
 impl<'a> ReadFormulas<'a> {
     /// The list of these formulas, in their order. An `Err` says that memory ran out.
     #[tactic(auto, using(crate::proofs::TreeLemmas::formulas_front_none, crate::proofs::TreeLemmas::with_front_push))]
-    pub(crate) fn from_vec(
+    pub fn from_vec(
         alloc: Global,
         mut formulas: Vec<ReadFormula<'a>>,
     ) -> Result<ReadFormulas<'a>, NoMemory>

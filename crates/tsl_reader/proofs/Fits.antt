@@ -17,11 +17,12 @@ use Rattle.tsl_terms.specs.FormulaTree.{no_formulas as no_members, more_formulas
 use Rattle.tsl_terms.specs.Atoms.{atoms, atoms_of_members, has_two, joins_two, all_join_two}
 use Rattle.tsl_terms.specs.WellFormed.{is_usable_at, is_question, term_fits, terms_fit, bracketed as bracketed_tree, brackets}
 use Rattle.tsl_terms.specs.WellFormed.{brackets_of_arguments, deepest as most_brackets, atom_fits, formula_fits}
-use Rattle.spec_syntax.specs.Syntax.{TermSyntax, alone, applied, TermsSyntax, no_terms, more_terms, FormulaSyntax, truth, falsehood, bare}
-use Rattle.spec_syntax.specs.Syntax.{tested, updated, under, between, joined, FormulasSyntax, no_formulas, more_formulas}
+use Rattle.spec_syntax.specs.Syntax.{TermSyntax, alone, applied, grouped_term, TermsSyntax, no_terms, more_terms, FormulaSyntax, truth}
+use Rattle.spec_syntax.specs.Syntax.{falsehood, bare, tested, updated, grouped, under, between, joined, FormulasSyntax, no_formulas}
+use Rattle.spec_syntax.specs.Syntax.{more_formulas}
 use Rattle.tsl_reader.specs.Naming.{use_as, tested_signal, question_use, count_of_arguments, term_uses, terms_uses, uses, members_uses}
 use Rattle.tsl_reader.specs.Naming.{numbered_term, numbered_terms, test_of, numbered_formula, numbered_members, numbered_list}
-use Rattle.tsl_reader.proofs.Shapes.{IsShaped, AreShaped, HasTwo, bracketed, depth, depth_of_arguments}
+use Rattle.tsl_reader.proofs.Shapes.{IsShaped, AreShaped, HasTwo, bracketed, nesting, nesting_of_arguments}
 use Rattle.tsl_reader.proofs.Known.{Known, KnownUse}
 use Rattle.tsl_reader.proofs.Usable.{IsUsable}
 
@@ -39,14 +40,14 @@ record TermGood (names : List Name) (t : TermSyntax) : Type 0 where
   pub tree : TermTree
   pub numbered_is : numbered_term names t ≡ Some tree
   pub fits : term_fits names tree ≡ true
-  pub deep : brackets tree ≡ depth t
+  pub deep : brackets tree ≡ nesting t
   pub shape : (d : ℕ) → bracketed_tree tree d ≡ bracketed t d
 
 record TermsGood (names : List Name) (ts : TermsSyntax) : Type 0 where
   pub trees : TermTrees
   pub numbered_are : numbered_terms names ts ≡ Some trees
   pub fit : terms_fit names trees ≡ true
-  pub deep : brackets_of_arguments trees ≡ depth_of_arguments ts
+  pub deep : brackets_of_arguments trees ≡ nesting_of_arguments ts
   pub count : count_of_terms trees ≡ count_of_arguments ts
   pub shape : (f : ℕ) (name : List ℕ) (d : ℕ) → bracketed_tree (apply f trees) d ≡ bracketed (applied name ts) d
 
@@ -80,6 +81,9 @@ mutual
         deep = arguments.deep;
         shape = arguments.shape u.name.number f;
       }
+  term_good names (grouped_term t) k =
+      let g : TermGood names t = term_good names t k in
+      record { tree = g.tree; numbered_is = g.numbered_is; fits = g.fits; deep = g.deep; shape = g.shape }
 
   terms_good : (names : List Name) (ts : TermsSyntax) → AllByRecursion (KnownUse names) (terms_uses ts) → TermsGood names ts
   terms_good names no_terms k =
@@ -92,8 +96,8 @@ mutual
         numbered_are = ap (option_and_then (λ tree. option_map (more_trees tree) (numbered_terms names ts))) head.numbered_is
             ∙ ap (option_map (more_trees head.tree)) rest.numbered_are;
         fit = and_from (term_fits names head.tree) (terms_fit names rest.trees) head.fits rest.fit;
-        deep = ap (λ d. max d (brackets_of_arguments rest.trees)) (ap (bracketed_tree head.tree) head.deep ∙ head.shape (depth t))
-            ∙ ap (max (bracketed t (depth t))) rest.deep;
+        deep = ap (λ d. max d (brackets_of_arguments rest.trees)) (ap (bracketed_tree head.tree) head.deep ∙ head.shape (nesting t))
+            ∙ ap (max (bracketed t (nesting t))) rest.deep;
         count = ap (λ n. 1 + n) rest.count;
         shape = λ f name d. refl;
       }
@@ -140,7 +144,7 @@ bare_good names x u =
     or_true false = refl
 
 -- a predicate with its arguments
-test_good : (names : List Name) (p : List ℕ) (ts : TermsSyntax) → depth_of_arguments ts ≤ most_brackets →
+test_good : (names : List Name) (p : List ℕ) (ts : TermsSyntax) → nesting_of_arguments ts ≤ most_brackets →
     KnownUse names (use_as Predicate p (count_of_arguments ts)) → TermsGood names ts → Good names (tested p ts)
 test_good names p ts few u arguments =
     let k : Known names (use_as Predicate p (count_of_arguments ts)).name = u.name in
@@ -148,20 +152,20 @@ test_good names p ts few u arguments =
     ap (is_name names k.number Predicate) arguments.count ∙ is_named names (use_as Predicate p (count_of_arguments ts)).name k in
     let there : is_usable_at names k.number ≡ true = is_named_usable names (use_as Predicate p (count_of_arguments ts)).name k u.usable in
     let shallow : nat_le (brackets_of_arguments arguments.trees) most_brackets ≡ true =
-    ap (λ d. nat_le d most_brackets) arguments.deep ∙ le-leb (depth_of_arguments ts) most_brackets few in
+    ap (λ d. nat_le d most_brackets) arguments.deep ∙ le-leb (nesting_of_arguments ts) most_brackets few in
     atom_good names (tested p ts) (test (record { predicate = k.number; arguments = arguments.trees }))
     (ap (option_and_then (λ number. option_map (test_of number) (numbered_terms names ts))) k.numbered
     ∙ ap (option_map (test_of k.number)) arguments.numbered_are)
     (rw (named, arguments.fit, there, shallow) refl)
 
-update_good : (names : List Name) (x : List ℕ) (t : TermSyntax) → depth t ≤ most_brackets → KnownUse names (use_as Signal x 0) →
+update_good : (names : List Name) (x : List ℕ) (t : TermSyntax) → nesting t ≤ most_brackets → KnownUse names (use_as Signal x 0) →
     TermGood names t → Good names (updated x t)
 update_good names x t few u term =
     let k : Known names (use_as Signal x 0).name = u.name in
     let named : is_name names k.number Signal 0 ≡ true = is_named names (use_as Signal x 0).name k in
     let there : is_usable_at names k.number ≡ true = is_named_usable names (use_as Signal x 0).name k u.usable in
     let shallow : nat_le (brackets term.tree) most_brackets ≡ true = ap (λ d. nat_le d most_brackets) term.deep
-    ∙ le-leb (depth t) most_brackets few in
+    ∙ le-leb (nesting t) most_brackets few in
     atom_good names (updated x t) (update k.number term.tree)
     (ap (option_and_then (λ s. option_map (λ tree. atom (update s tree)) (numbered_term names t))) k.numbered
     ∙ ap (option_map (λ tree. atom (update k.number tree))) term.numbered_is)
@@ -180,6 +184,9 @@ mutual
   formula_good names (bare x) shape k = bare_good names x k.0
   formula_good names (tested p ts) shape k = test_good names p ts shape k.0 (terms_good names ts k.1)
   formula_good names (updated x t) shape k = update_good names x t shape k.0 (term_good names t k.1)
+  formula_good names (grouped a) shape k =
+      let g : Good names a = formula_good names a shape k in
+      record { tree = g.tree; numbered_is = g.numbered_is; atoms_fit = g.atoms_fit; joins = g.joins }
   formula_good names (under op a) shape k =
       let g : Good names a = formula_good names a shape k in
       record { tree = unary op g.tree; numbered_is = ap (option_map (unary op)) g.numbered_is; atoms_fit = g.atoms_fit; joins = g.joins }

@@ -4,9 +4,9 @@ use Rattle.std.specs.Prelude.{max}
 use Rattle.std.specs.List.{AllByRecursion}
 use Rattle.tsl_terms.specs.declared.operator.ManyOperator.{ManyOperator}
 use Rattle.tsl_terms.specs.declared.operator.ManyOperator.TheVariants.{Conjunction, Disjunction}
-use Rattle.spec_syntax.specs.Syntax.{Terminal, TermSyntax, alone, applied, TermsSyntax, no_terms, more_terms, listed_terms, FormulaSyntax}
-use Rattle.spec_syntax.specs.Syntax.{truth}
-use Rattle.spec_syntax.specs.Syntax.{falsehood, bare, tested, updated, under, between, joined, FormulasSyntax, no_formulas, more_formulas}
+use Rattle.spec_syntax.specs.Syntax.{Terminal, TermSyntax, alone, applied, grouped_term, TermsSyntax, no_terms, more_terms, listed_terms}
+use Rattle.spec_syntax.specs.Syntax.{FormulaSyntax, truth, falsehood, bare, tested, updated, grouped, under, between, joined}
+use Rattle.spec_syntax.specs.Syntax.{FormulasSyntax, no_formulas, more_formulas}
 use Rattle.spec_syntax.specs.Syntax.{join, listed_formulas, SectionSyntax}
 use Rattle.spec_syntax.specs.Grammar.{IsTerm, signal, constant, application, brackets, AreArguments, one_argument, more_arguments}
 use Rattle.spec_syntax.specs.Grammar.{IsArgument, signal_argument, constant_argument, brackets_argument, IsFormula, temporal}
@@ -18,18 +18,20 @@ use Rattle.tsl_reader.specs.Spells.{deepest_level}
 
 -- how deep the brackets nest where an argument with arguments stands in brackets
 abbrev pub bracketed : TermSyntax → ℕ → ℕ
-bracketed (alone x) depth = depth
-bracketed (applied f no_terms) depth = depth
-bracketed (applied f (more_terms t ts)) depth = 1 + depth
+bracketed (alone x) nesting = nesting
+bracketed (applied f no_terms) nesting = nesting
+bracketed (applied f (more_terms t ts)) nesting = 1 + nesting
+bracketed (grouped_term t) nesting = bracketed t nesting
 
 abbrev mutual
-  pub depth : TermSyntax → ℕ
-  depth (alone x) = 0
-  depth (applied f arguments) = depth_of_arguments arguments
+  pub nesting : TermSyntax → ℕ
+  nesting (alone x) = 0
+  nesting (applied f arguments) = nesting_of_arguments arguments
+  nesting (grouped_term t) = nesting t
 
-  pub depth_of_arguments : TermsSyntax → ℕ
-  depth_of_arguments no_terms = 0
-  depth_of_arguments (more_terms t ts) = max (bracketed t (depth t)) (depth_of_arguments ts)
+  pub nesting_of_arguments : TermsSyntax → ℕ
+  nesting_of_arguments no_terms = 0
+  nesting_of_arguments (more_terms t ts) = max (bracketed t (nesting t)) (nesting_of_arguments ts)
 
 abbrev pub HasTwo : FormulasSyntax → Type 0
 HasTwo no_formulas = ⊥
@@ -42,8 +44,9 @@ abbrev mutual
   IsShaped truth = Unit {0}
   IsShaped falsehood = Unit {0}
   IsShaped (bare x) = Unit {0}
-  IsShaped (tested p arguments) = depth_of_arguments arguments ≤ deepest_level
-  IsShaped (updated x t) = depth t ≤ deepest_level
+  IsShaped (tested p arguments) = nesting_of_arguments arguments ≤ deepest_level
+  IsShaped (updated x t) = nesting t ≤ deepest_level
+  IsShaped (grouped a) = IsShaped a
   IsShaped (under op a) = IsShaped a
   IsShaped (between op a b) = IsShaped a × IsShaped b
   IsShaped (joined op fs) = HasTwo fs × AreShaped fs
@@ -56,23 +59,24 @@ bracketed_within : (t : TermSyntax) (d room : ℕ) → d ≤ room → bracketed 
 bracketed_within (alone x) d room h = omega (arith, h)
 bracketed_within (applied f no_terms) d room h = omega (arith, h)
 bracketed_within (applied f (more_terms t ts)) d room h = omega (arith, h)
+bracketed_within (grouped_term t) d room h = bracketed_within t d room h
 
 mutual
-  term_depth : {room : ℕ} {xs : List Terminal} {t : TermSyntax} → IsTerm room xs t → depth t ≤ room
-  term_depth (signal x) = omega arith
-  term_depth (constant c) = omega arith
-  term_depth (application f h) = arguments_depth h
-  term_depth (brackets h) = omega (arith, term_depth h)
+  term_nests : {room : ℕ} {xs : List Terminal} {t : TermSyntax} → IsTerm room xs t → nesting t ≤ room
+  term_nests (signal x) = omega arith
+  term_nests (constant c) = omega arith
+  term_nests (application f h) = arguments_nest h
+  term_nests (brackets h) = omega (arith, term_nests h)
 
-  arguments_depth : {room : ℕ} {xs : List Terminal} {ts : List TermSyntax} → AreArguments room xs ts →
-      depth_of_arguments (listed_terms ts) ≤ room
-  arguments_depth (one_argument h) = omega (arith, argument_depth h)
-  arguments_depth (more_arguments h k) = omega (arith, argument_depth h, arguments_depth k)
+  arguments_nest : {room : ℕ} {xs : List Terminal} {ts : List TermSyntax} → AreArguments room xs ts →
+      nesting_of_arguments (listed_terms ts) ≤ room
+  arguments_nest (one_argument h) = omega (arith, argument_nests h)
+  arguments_nest (more_arguments h k) = omega (arith, argument_nests h, arguments_nest k)
 
-  argument_depth : {room : ℕ} {xs : List Terminal} {t : TermSyntax} → IsArgument room xs t → bracketed t (depth t) ≤ room
-  argument_depth (signal_argument x) = omega arith
-  argument_depth (constant_argument c) = omega arith
-  argument_depth (brackets_argument {room = room} {t = t} h) = bracketed_within t (depth t) room (term_depth h)
+  argument_nests : {room : ℕ} {xs : List Terminal} {t : TermSyntax} → IsArgument room xs t → bracketed t (nesting t) ≤ room
+  argument_nests (signal_argument x) = omega arith
+  argument_nests (constant_argument c) = omega arith
+  argument_nests (brackets_argument {room = room} {t = t} h) = bracketed_within t (nesting t) room (term_nests h)
 
 join_shaped : (op : ManyOperator) (a : FormulaSyntax) (fs : List FormulaSyntax) → IsShaped a → AreShaped (listed_formulas fs) →
     IsShaped (join op a fs)
@@ -116,10 +120,10 @@ mutual
   atom_shaped true_atom few = tt
   atom_shaped false_atom few = tt
   atom_shaped (brackets_atom h) few = formula_shaped h (omega (arith, few))
-  atom_shaped (update x h) few = omega (arith, term_depth h, few)
+  atom_shaped (update x h) few = omega (arith, term_nests h, few)
   atom_shaped (bare_name x) few = tt
   atom_shaped (no_argument p) few = omega arith
-  atom_shaped (test p h) few = omega (arith, arguments_depth h, few)
+  atom_shaped (test p h) few = omega (arith, arguments_nest h, few)
 
 items_shaped : {room : ℕ} {xs : List Terminal} {fs : List FormulaSyntax} → AreItems room xs fs → room ≤ deepest_level →
     AllByRecursion IsShaped fs

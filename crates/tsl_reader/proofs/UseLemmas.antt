@@ -5,12 +5,13 @@ use Rattle.std.specs.Prelude.{Some, flat_map}
 use Rattle.std.specs.Str.{bytes_eq}
 use Rattle.tsl_terms.specs.Name.{question}
 use Rattle.tsl_terms.proofs.FirstUses.{first_of}
-use Rattle.spec_syntax.specs.Syntax.{TermSyntax, alone, applied, TermsSyntax, no_terms, more_terms}
+use Rattle.spec_syntax.specs.Syntax.{TermSyntax, alone, applied, grouped_term, TermsSyntax, no_terms, more_terms}
 use Rattle.tsl_reader.specs.Naming.{Use, count_of_arguments, term_uses, terms_uses, question_use, named_by}
 
 term_is_one : (t : TermSyntax) → 1 ≤ length (term_uses t)
 term_is_one (alone x) = omega arith
 term_is_one (applied f ts) = omega arith
+term_is_one (grouped_term t) = term_is_one t
 
 -- a list of terms has not more members than uses
 pub count_within : (ts : TermsSyntax) → count_of_arguments ts ≤ length (terms_uses ts)

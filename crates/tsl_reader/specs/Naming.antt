@@ -11,8 +11,9 @@ use Rattle.tsl_terms.specs.FormulaTree.{test, update, FormulaTree, FormulaTrees,
 use Rattle.tsl_terms.specs.FormulaTree.{no_formulas as no_members, more_formulas as more_members}
 use Rattle.spec_syntax.specs.declared.syntax.Part.{Part}
 use Rattle.spec_syntax.specs.declared.syntax.Part.TheVariants.{AssumeFirst, AssumeAlways, GuaranteeFirst, GuaranteeAlways}
-use Rattle.spec_syntax.specs.Syntax.{TermSyntax, alone, applied, TermsSyntax, no_terms, more_terms, FormulaSyntax, truth, falsehood, bare}
-use Rattle.spec_syntax.specs.Syntax.{tested, updated, under, between, joined, FormulasSyntax, no_formulas, more_formulas, SectionSyntax}
+use Rattle.spec_syntax.specs.Syntax.{TermSyntax, alone, applied, grouped_term, TermsSyntax, no_terms, more_terms, FormulaSyntax, truth}
+use Rattle.spec_syntax.specs.Syntax.{falsehood, bare, tested, updated, grouped, under, between, joined, FormulasSyntax, no_formulas}
+use Rattle.spec_syntax.specs.Syntax.{more_formulas, SectionSyntax}
 
 -- A use of a name: the name that it would be, and whether it stands alone in a formula, where the predicate `?` tests it.
 pub record Use : Type 0 where
@@ -35,6 +36,7 @@ abbrev mutual
   pub term_uses : TermSyntax → List Use
   term_uses (alone x) = use_as Signal x 0 ∷ []
   term_uses (applied f arguments) = use_as Function f (count_of_arguments arguments) ∷ terms_uses arguments
+  term_uses (grouped_term t) = term_uses t
 
   pub terms_uses : TermsSyntax → List Use
   terms_uses no_terms = []
@@ -47,6 +49,7 @@ abbrev mutual
   uses (bare x) = tested_signal x ∷ []
   uses (tested p arguments) = use_as Predicate p (count_of_arguments arguments) ∷ terms_uses arguments
   uses (updated x t) = use_as Signal x 0 ∷ term_uses t
+  uses (grouped a) = uses a
   uses (under op a) = uses a
   uses (between op a b) = uses a ++ uses b
   uses (joined op fs) = members_uses fs
@@ -77,13 +80,14 @@ named_by u = u.name ∷ (if u.is_tested then question_use ∷ [] else [])
 abbrev pub names_of : List SectionSyntax → List Name
 names_of sections = first_uses (flat_map named_by (all_uses sections))
 
--- the formulas with numbers
+-- the formulas with numbers, which have no node for brackets
 
 abbrev mutual
   pub numbered_term : List Name → TermSyntax → Option TermTree
   numbered_term names (alone x) = option_map signal (number_of names x)
   numbered_term names (applied f arguments) =
       option_and_then (λ number. option_map (apply number) (numbered_terms names arguments)) (number_of names f)
+  numbered_term names (grouped_term t) = numbered_term names t
 
   pub numbered_terms : List Name → TermsSyntax → Option TermTrees
   numbered_terms names no_terms = Some no_trees
@@ -103,6 +107,7 @@ abbrev mutual
       option_and_then (λ number. option_map (test_of number) (numbered_terms names arguments)) (number_of names p)
   numbered_formula names (updated x t) =
       option_and_then (λ s. option_map (λ tree. atom (update s tree)) (numbered_term names t)) (number_of names x)
+  numbered_formula names (grouped a) = numbered_formula names a
   numbered_formula names (under op a) = option_map (unary op) (numbered_formula names a)
   numbered_formula names (between op a b) =
       option_and_then (λ left. option_map (binary op left) (numbered_formula names b)) (numbered_formula names a)

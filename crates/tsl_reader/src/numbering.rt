@@ -43,6 +43,7 @@ fn numbered_term(alloc: Global, names: &Names, term: &ReadTerm) -> Result<Term, 
             let arguments = numbered_terms(alloc, names, arguments)?;
             Ok(Term::Apply(number, arguments))
         }
+        ReadTerm::Grouped(inner) => numbered_term(alloc, names, inner),
     }
 }
 
@@ -150,6 +151,7 @@ fn numbered_formula(
             let term = numbered_term(alloc, names, term)?;
             Ok(Formula::Update(signal, term))
         }
+        ReadFormula::Grouped(inner) => numbered_formula(alloc, names, inner),
         ReadFormula::Under(op, part) => {
             let part = numbered_formula(alloc, names, part)?;
             under(alloc, *op, part)

@@ -77,6 +77,7 @@ fn add_term<'a>(list: &mut Vec<ReadUse<'a>>, term: &ReadTerm<'a>) -> Result<(), 
             list.push(use_as(NameKind::Function, name, count_of_arguments(arguments)))?;
             add_terms(list, arguments)
         }
+        ReadTerm::Grouped(inner) => add_term(list, inner),
     }
 }
 
@@ -117,6 +118,7 @@ fn add_formula<'a>(list: &mut Vec<ReadUse<'a>>, formula: &ReadFormula<'a>) -> Re
             list.push(use_as(NameKind::Signal, name, 0))?;
             add_term(list, term)
         }
+        ReadFormula::Grouped(inner) => add_formula(list, inner),
         ReadFormula::Under(_, part) => add_formula(list, part),
         ReadFormula::Between(_, left, right) => {
             add_formula(list, left)?;
