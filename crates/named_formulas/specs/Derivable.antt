@@ -1,0 +1,20 @@
+-- Formulas that derive.
+use Rattle.std.specs.Prelude.{◌≡◌, ℕ, List, Option, Some}
+use Rattle.spec_syntax.specs.Syntax.{Terminal, FormulaSyntax}
+use Rattle.spec_syntax.specs.Grammar.{IsFormula}
+use Rattle.spec_syntax.specs.Written.{written}
+use Rattle.named_formulas.specs.Expansion.{Definition}
+
+-- the formula derives from some terminals, with some room
+pub record Derivable (a : FormulaSyntax) : Type 0 where
+  pub room : ℕ
+  pub terminals : List Terminal
+  pub derived : IsFormula room terminals a
+
+-- the formula derives from what it is written with, with this room
+abbrev pub FormulaDerives : ℕ → FormulaSyntax → Type 0
+FormulaDerives room a = IsFormula room (written a) a
+
+-- each definition's body derives
+abbrev pub BodiesDerive : (List ℕ → Option Definition) → Type 0
+BodiesDerive named = (x : List ℕ) (d : Definition) → named x ≡ Some d → Derivable d.body

@@ -1,0 +1,10 @@
+pub mod Expansion
+pub mod TextExpansion
+pub mod WellUsed
+pub mod Derivable
+pub mod Folds
+pub mod UseLevels
+pub mod Reaching
+pub mod Occurrences
+pub mod DefinitionView
+pub mod internal
