@@ -3,6 +3,8 @@
 ghost use Rattle.std.specs.Prelude.{◌≡◌, ◌∷◌, [], ◌<◌, ◌^◌, IfOk, OnOk, length, map};
 ghost use Rattle.sequence.specs.Kept.{is_kept, with_new};
 ghost use Rattle.ltl_formula.specs.LtlTree.{ltl_tree, ltl_trees};
+ghost use Rattle.ltl_formula.specs.LtlOrder.{tree_cmp};
+ghost use Rattle.ltl_formula.specs.Increasing.{IsIncreasing};
 ghost use Rattle.obligations.specs.Expansion.{same_formula};
 ghost use Rattle.obligations.specs.Numbers.{lent_trees, formula_number};
 ghost use Rattle.cobuchi_automata.specs.Automata.{untils_in, untils_in_all, untils_of};
@@ -85,7 +87,8 @@ fn untils_of(alloc: Global, formula: &Ltl) -> Result<Vec<&Ltl>, NoMemory>
 
 /// The numbers of some formulas.
 fn numbers_of(alloc: Global, names: &[&Ltl], formulas: &[&Ltl]) -> Result<Vec<u32>, NoMemory>
-    requires { length names.now < 2 ^ 32 }
+    requires few { length names.now < 2 ^ 32 }
+    requires rising { IsIncreasing tree_cmp (lent_trees names.now) }
     ensures { IfOk result (λ numbers. numbers.items ≡ map (formula_number (lent_trees names.now)) (lent_trees formulas.now)) }
 {
     let mut numbers = Vec::new(alloc);
@@ -102,7 +105,8 @@ pub(crate) fn until_numbers(
     names: &[&Ltl],
     formula: &Ltl,
 ) -> Result<Vec<u32>, NoMemory>
-    requires { length names.now < 2 ^ 32 }
+    requires few { length names.now < 2 ^ 32 }
+    requires rising { IsIncreasing tree_cmp (lent_trees names.now) }
     ensures { IfOk result (λ numbers.
         numbers.items ≡ map (formula_number (lent_trees names.now)) (untils_of (ltl_tree formula.now))) }
 {

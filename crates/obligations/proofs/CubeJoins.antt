@@ -22,7 +22,7 @@ within_bit c w d v a b e f g h = omega arith
 apart_bit : (l c w d v : ℕ) → l < 2 → c < 2 → w < 2 → d < 2 → v < 2 → min l c ≡ w → min l d ≡ v → min ((w + v) % 2) (min c d) ≡ 0
 apart_bit l c w d v a b e f g h k = omega arith
 
-at_and : (m n k i : ℕ) → bit_and m n ≡ k → min (bit_at m i) (bit_at n i) ≡ bit_at k i
+pub at_and : (m n k i : ℕ) → bit_and m n ≡ k → min (bit_at m i) (bit_at n i) ≡ bit_at k i
 at_and m n k i h = sym (bit_at_and m n i) ∙ ap (λ z. bit_at z i) h
 
 module _ (l c w d v : ℕ) where

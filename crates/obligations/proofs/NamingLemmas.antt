@@ -1,15 +1,15 @@
 -- Lists of names that grow.
-use Rattle.std.proofs.Common.{◌≡◌, ◌∙◌, ℕ, ◌+◌, ◌<◌, List, [], ◌∷◌, ◌++◌, length, map, take, drop, get_or, Bor, refl, sym, ap, append_assoc}
+use Rattle.std.proofs.Common.{◌≡◌, ◌∙◌, ℕ, ◌+◌, ◌<◌, List, [], ◌∷◌, ◌++◌, length, map, take, drop, get_or, Bor, refl, sym, ap}
 use Rattle.std.specs.List.{insert}
-use Rattle.std.specs.Ordering.{match_ordering}
 use Rattle.std.specs.declared.cmp.Ordering.{Ordering}
-use Rattle.std.specs.declared.cmp.Ordering.TheVariants.{Less, Equal, Greater}
-use Rattle.std.proofs.lemmas.List.{take-append-drop, take_more, map-append}
+use Rattle.std.proofs.lemmas.List.{map-append}
 use Rattle.sequence.proofs.Lists.{left_at}
 use Rattle.ltl_formula.specs.declared.formula.Ltl.{Ltl}
 use Rattle.ltl_formula.specs.LtlTree.{LtlTree, LtlTrees, more_formulas, ltl_tree}
 use Rattle.ltl_formula.specs.LtlOrder.{tree_cmp}
-use Rattle.ltl_formula.specs.Increasing.{with_member, union}
+use Rattle.ltl_formula.specs.Increasing.{IsIncreasing, with_member, union}
+use Rattle.ltl_formula.proofs.IncreasingLemmas.{rises-with_member}
+use Rattle.ltl_formula.proofs.LtlOrderLaws.{tree_cmp_total}
 use Rattle.obligations.specs.Numbers.{lent_trees}
 use Rattle.obligations.specs.Obligations.{obligations, obligations_of_all, reachable}
 
@@ -20,40 +20,8 @@ union_append cmp xs (y ∷ ys) zs = union_append cmp (with_member cmp y xs) ys z
 pub names_append : (xs ys zs : List LtlTree) → union tree_cmp xs (ys ++ zs) ≡ union tree_cmp (union tree_cmp xs ys) zs
 names_append = union_append tree_cmp
 
-module _ (f : LtlTree) (names : List (Bor Ltl)) (i : ℕ) (n : Bor Ltl) (within : i < length names) (at : n ≡ get_or names i n)
-    (before : with_member tree_cmp f (lent_trees names) ≡ lent_trees (take i names)
-    ++ with_member tree_cmp f (lent_trees (drop i names))) where
-  here : lent_trees (drop i names) ≡ ltl_tree n.now ∷ lent_trees (drop (i + 1) names)
-  here = ap lent_trees (left_at names i n within at)
-
-  opened : (o : Ordering) → tree_cmp f (ltl_tree n.now) ≡ o → with_member tree_cmp f (lent_trees names)
-      ≡ lent_trees (take i names) ++ match_ordering o (f ∷ (ltl_tree n.now ∷ lent_trees (drop (i + 1) names)))
-      (ltl_tree n.now ∷ lent_trees (drop (i + 1) names))
-      (ltl_tree n.now ∷ with_member tree_cmp f (lent_trees (drop (i + 1) names)))
-  opened o is =
-      before ∙ ap (λ w. lent_trees (take i names) ++ with_member tree_cmp f w) here
-      ∙ ap (λ p. lent_trees (take i names) ++ match_ordering p (f ∷ (ltl_tree n.now ∷ lent_trees (drop (i + 1) names)))
-      (ltl_tree n.now ∷ lent_trees (drop (i + 1) names))
-      (ltl_tree n.now ∷ with_member tree_cmp f (lent_trees (drop (i + 1) names)))) is
-
-  pub at_less : tree_cmp f (ltl_tree n.now) ≡ Less → with_member tree_cmp f (lent_trees names)
-      ≡ lent_trees (take i names) ++ f ∷ lent_trees (drop i names)
-  at_less is = opened Less is ∙ ap (λ w. lent_trees (take i names) ++ f ∷ w) (sym here)
-
-  pub at_equal : tree_cmp f (ltl_tree n.now) ≡ Equal → with_member tree_cmp f (lent_trees names) ≡ lent_trees names
-  at_equal is =
-      opened Equal is ∙ ap (λ w. lent_trees (take i names) ++ w) (sym here)
-      ∙ sym (map-append (λ (g : Bor Ltl). ltl_tree g.now) (take i names) (drop i names)) ∙ ap lent_trees (take-append-drop i names)
-
-  pub at_greater : tree_cmp f (ltl_tree n.now) ≡ Greater
-      → with_member tree_cmp f (lent_trees names) ≡ lent_trees (take (i + 1) names)
-      ++ with_member tree_cmp f (lent_trees (drop (i + 1) names))
-  at_greater is =
-      opened Greater is
-      ∙ sym (append_assoc (lent_trees (take i names)) (ltl_tree n.now ∷ []) (with_member tree_cmp f (lent_trees (drop (i + 1) names))))
-      ∙ ap (λ w. w ++ with_member tree_cmp f (lent_trees (drop (i + 1) names)))
-      (sym (map-append (λ (g : Bor Ltl). ltl_tree g.now) (take i names) (n ∷ []))
-      ∙ ap (λ m. lent_trees (take i names ++ m ∷ [])) at ∙ ap lent_trees (sym (take_more names i n within)))
+pub rises_with : (f : LtlTree) (names : List LtlTree) → IsIncreasing tree_cmp names → IsIncreasing tree_cmp (with_member tree_cmp f names)
+rises_with = rises-with_member tree_cmp tree_cmp_total
 
 pub inserted : (f : Bor Ltl) (names seen new : List (Bor Ltl)) (place : ℕ) → seen ≡ names → new ≡ insert names place f
     → with_member tree_cmp (ltl_tree f.now) (lent_trees seen) ≡ lent_trees (take place seen)

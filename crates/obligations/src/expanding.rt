@@ -3,51 +3,40 @@
 ghost use Rattle.std.specs.Prelude.{◌≡◌, ◌<◌, ◌≤◌, ◌^◌, ◌∷◌, ◌++◌, [], Some, None, IfOk, IfErr, nat_eq, length, false, true, cond};
 ghost use Rattle.std.specs.Ordering.{nat_cmp};
 ghost use Rattle.ltl_formula.specs.LtlTree.{ltl_tree, ltl_trees};
+ghost use Rattle.ltl_formula.specs.LtlOrder.{tree_cmp};
+ghost use Rattle.ltl_formula.specs.Increasing.{IsIncreasing};
 ghost use Rattle.obligations.specs.Choices.{formed, product, then_list, goes_on, puts_off, empty_choice, bit_choices, not_bit_choices};
-ghost use Rattle.obligations.specs.Expansion.{all_choices_by, any_choices_by, same_formula};
+ghost use Rattle.obligations.specs.Expansion.{all_choices_by, any_choices_by};
+ghost use Rattle.obligations.specs.internal.Antichains.{IsAntichain};
 ghost use Rattle.obligations.specs.Numbers.{choice_key, choice_keys, lent_trees, formula_number, numbered_expansion};
 
 use crate::numbered::NumberedChoice;
 use crate::products::{product, sum};
+use crate::searching::find;
 use crate::step_error::StepError;
-use ltl_formula::{Ltl, LtlList, compare};
+use ltl_formula::{Ltl, LtlList};
 use sequence::NoMemory;
 use std::alloc::Global;
 
 /// How many bits a letter has.
 pub const LETTER_BITS: u32 = 64;
 
-/// Whether two formulas are the same.
-fn is_same(left: &Ltl, right: &Ltl) -> bool
-    ensures { result ≡ same_formula (ltl_tree left.now) (ltl_tree right.now) }
-{
-    compare(left, right).is_eq()
-}
-
-/// How many formulas stand before the first one that is the same as this one.
-fn place_of(names: &[&Ltl], formula: &Ltl) -> usize
-    ensures place { result ≡ formula_number (lent_trees names.now) (ltl_tree formula.now) }
-    ensures within { result ≤ length names.now }
-{
-    for (place, name) in names.iter().enumerate() {
-        if is_same(name, formula) {
-            return place;
-        }
-    }
-    names.len()
-}
-
-/// The number of a formula: its place among formulas, or their count where it is not there.
+/// The number of a formula: its place among rising formulas, or their count where it is not there.
 pub fn number_of(names: &[&Ltl], formula: &Ltl) -> u32
-    requires { length names.now < 2 ^ 32 }
+    requires few { length names.now < 2 ^ 32 }
+    requires rising { IsIncreasing tree_cmp (lent_trees names.now) }
     ensures { result ≡ formula_number (lent_trees names.now) (ltl_tree formula.now) }
 {
-    place_of(names, formula) as u32
+    match find(names, formula) {
+        Ok(place) => place as u32,
+        Err(_) => names.len() as u32,
+    }
 }
 
 /// The list of one choice.
 fn one(alloc: Global, choice: NumberedChoice) -> Result<Vec<NumberedChoice>, NoMemory>
-    ensures { IfOk result (λ list. choice_keys list.items ≡ choice_key choice ∷ []) }
+    ensures choices { IfOk result (λ list. choice_keys list.items ≡ choice_key choice ∷ []) }
+    ensures antichain { IfOk result (λ list. IsAntichain (choice_keys list.items)) }
 {
     let mut list = Vec::new(alloc);
     list.push(choice)?;
@@ -56,8 +45,9 @@ fn one(alloc: Global, choice: NumberedChoice) -> Result<Vec<NumberedChoice>, NoM
 
 /// The list of the choice that asks for these bits and leaves nothing.
 pub(crate) fn literal(alloc: Global, care: u64, want: u64) -> Result<Vec<NumberedChoice>, NoMemory>
-    ensures { IfOk result (λ list. choice_keys list.items
+    ensures choices { IfOk result (λ list. choice_keys list.items
         ≡ record { care = care; want = want; next_set = []; postponed = [] } ∷ []) }
+    ensures antichain { IfOk result (λ list. IsAntichain (choice_keys list.items)) }
 {
     one(
         alloc,
@@ -72,7 +62,8 @@ pub(crate) fn literal(alloc: Global, care: u64, want: u64) -> Result<Vec<Numbere
 
 /// The choices of a bit that is to be set.
 fn bit_choices(alloc: Global, bit: u32) -> Result<Vec<NumberedChoice>, NoMemory>
-    ensures { IfOk result (λ list. choice_keys list.items ≡ bit_choices bit) }
+    ensures choices { IfOk result (λ list. choice_keys list.items ≡ bit_choices bit) }
+    ensures antichain { IfOk result (λ list. IsAntichain (choice_keys list.items)) }
 {
     if bit < LETTER_BITS {
         let mask = 1u64 << bit;
@@ -84,7 +75,8 @@ fn bit_choices(alloc: Global, bit: u32) -> Result<Vec<NumberedChoice>, NoMemory>
 
 /// The choices of a bit that is not to be set.
 fn not_bit_choices(alloc: Global, bit: u32) -> Result<Vec<NumberedChoice>, NoMemory>
-    ensures { IfOk result (λ list. choice_keys list.items ≡ not_bit_choices bit) }
+    ensures choices { IfOk result (λ list. choice_keys list.items ≡ not_bit_choices bit) }
+    ensures antichain { IfOk result (λ list. IsAntichain (choice_keys list.items)) }
 {
     if bit < LETTER_BITS {
         literal(alloc, 1u64 << bit, 0)
@@ -104,7 +96,8 @@ fn singleton(alloc: Global, number: u32) -> Result<Vec<u32>, NoMemory>
 
 /// The choice that goes on with a formula.
 fn going_on(alloc: Global, number: u32) -> Result<Vec<NumberedChoice>, NoMemory>
-    ensures { IfOk result (λ list. choice_keys list.items ≡ goes_on number ∷ []) }
+    ensures choices { IfOk result (λ list. choice_keys list.items ≡ goes_on number ∷ []) }
+    ensures antichain { IfOk result (λ list. IsAntichain (choice_keys list.items)) }
 {
     one(
         alloc,
@@ -119,7 +112,8 @@ fn going_on(alloc: Global, number: u32) -> Result<Vec<NumberedChoice>, NoMemory>
 
 /// The choice that puts off an until.
 fn putting_off(alloc: Global, number: u32) -> Result<Vec<NumberedChoice>, NoMemory>
-    ensures { IfOk result (λ list. choice_keys list.items ≡ puts_off number ∷ []) }
+    ensures choices { IfOk result (λ list. choice_keys list.items ≡ puts_off number ∷ []) }
+    ensures antichain { IfOk result (λ list. IsAntichain (choice_keys list.items)) }
 {
     one(
         alloc,
@@ -139,8 +133,10 @@ fn until_choices(
     now: Vec<NumberedChoice>,
     later: &[NumberedChoice],
 ) -> Result<Vec<NumberedChoice>, StepError>
+    requires { IsAntichain (choice_keys later.now) }
     ensures choices { IfOk result (λ list. then_list (product nat_eq nat_cmp (choice_keys later.now) (puts_off number ∷ []))
         (λ put_off. formed nat_eq (choice_keys now.items ++ put_off)) ≡ Some (choice_keys list.items)) }
+    ensures antichain { IfOk result (λ list. IsAntichain (choice_keys list.items)) }
     ensures many { IfErr result (λ e. e ≡ StepError.Choices → then_list (product nat_eq nat_cmp (choice_keys later.now) (puts_off number ∷ []))
         (λ put_off. formed nat_eq (choice_keys now.items ++ put_off)) ≡ None) }
 {
@@ -156,8 +152,10 @@ fn release_choices(
     held: &[NumberedChoice],
     freed: Vec<NumberedChoice>,
 ) -> Result<Vec<NumberedChoice>, StepError>
+    requires { IsAntichain (choice_keys held.now) }
     ensures choices { IfOk result (λ list. then_list (formed nat_eq (choice_keys freed.items ++ goes_on number ∷ []))
         (λ ends. product nat_eq nat_cmp (choice_keys held.now) ends) ≡ Some (choice_keys list.items)) }
+    ensures antichain { IfOk result (λ list. IsAntichain (choice_keys list.items)) }
     ensures many { IfErr result (λ e. e ≡ StepError.Choices → then_list (formed nat_eq (choice_keys freed.items ++ goes_on number ∷ []))
         (λ ends. product nat_eq nat_cmp (choice_keys held.now) ends) ≡ None) }
 {
@@ -175,8 +173,10 @@ pub fn expand(
     formula: &Ltl,
     names: &[&Ltl],
 ) -> Result<Vec<NumberedChoice>, StepError>
-    requires { length names.now < 2 ^ 32 }
+    requires few { length names.now < 2 ^ 32 }
+    requires rising { IsIncreasing tree_cmp (lent_trees names.now) }
     ensures choices { IfOk result (λ list. numbered_expansion (lent_trees names.now) (ltl_tree formula.now) ≡ Some (choice_keys list.items)) }
+    ensures antichain { IfOk result (λ list. IsAntichain (choice_keys list.items)) }
     ensures many { IfErr result (λ e. e ≡ StepError.Choices →
         numbered_expansion (lent_trees names.now) (ltl_tree formula.now) ≡ None) }
 {
@@ -208,9 +208,11 @@ fn expand_all(
     formulas: &LtlList,
     names: &[&Ltl],
 ) -> Result<Vec<NumberedChoice>, StepError>
-    requires { length names.now < 2 ^ 32 }
+    requires few { length names.now < 2 ^ 32 }
+    requires rising { IsIncreasing tree_cmp (lent_trees names.now) }
     ensures choices { IfOk result (λ list.
         all_choices_by nat_eq nat_cmp (formula_number (lent_trees names.now)) (empty_choice ∷ []) (ltl_trees formulas.now) ≡ Some (choice_keys list.items)) }
+    ensures antichain { IfOk result (λ list. IsAntichain (choice_keys list.items)) }
     ensures many { IfErr result (λ e. e ≡ StepError.Choices →
         all_choices_by nat_eq nat_cmp (formula_number (lent_trees names.now)) (empty_choice ∷ []) (ltl_trees formulas.now) ≡ None) }
 {
@@ -231,9 +233,11 @@ fn expand_any(
     formulas: &LtlList,
     names: &[&Ltl],
 ) -> Result<Vec<NumberedChoice>, StepError>
-    requires { length names.now < 2 ^ 32 }
+    requires few { length names.now < 2 ^ 32 }
+    requires rising { IsIncreasing tree_cmp (lent_trees names.now) }
     ensures choices { IfOk result (λ list.
         any_choices_by nat_eq nat_cmp (formula_number (lent_trees names.now)) [] (ltl_trees formulas.now) ≡ Some (choice_keys list.items)) }
+    ensures antichain { IfOk result (λ list. IsAntichain (choice_keys list.items)) }
     ensures many { IfErr result (λ e. e ≡ StepError.Choices →
         any_choices_by nat_eq nat_cmp (formula_number (lent_trees names.now)) [] (ltl_trees formulas.now) ≡ None) }
 {

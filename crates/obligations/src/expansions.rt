@@ -4,12 +4,15 @@ ghost use Rattle.std.specs.Prelude.{◌≡◌, ◌<◌, ◌^◌, ◌∷◌, [], 
 ghost use Rattle.std.specs.List.{AllByRecursion};
 ghost use Rattle.std.specs.Ordering.{nat_cmp};
 ghost use Rattle.ltl_formula.specs.LtlTree.{LtlTree};
+ghost use Rattle.ltl_formula.specs.LtlOrder.{tree_cmp};
+ghost use Rattle.ltl_formula.specs.Increasing.{IsIncreasing};
 ghost use Rattle.obligations.specs.Choices.{empty_choice, then_list, product};
 ghost use Rattle.obligations.specs.Expansion.{choices, choices_from};
 ghost use Rattle.obligations.specs.Numbers.{choice_keys, lent_trees, formula_number, numbered_expansion};
 ghost use Rattle.obligations.specs.Named.{formula_named, choice_named, IsWell};
 ghost use Rattle.obligations.specs.Obligations.{closure_of};
 ghost use Rattle.obligations.specs.Expansions.{AreExpansions};
+ghost use Rattle.obligations.specs.internal.Antichains.{IsAntichain};
 
 use crate::expanding::{expand, literal};
 use crate::numbered::NumberedChoice;
@@ -43,9 +46,12 @@ fn product_with(
     number: usize,
 ) -> Result<Vec<NumberedChoice>, StepError>
     requires few { length names.now < 2 ^ 32 }
+    requires rising { IsIncreasing tree_cmp (lent_trees names.now) }
     requires within { number < length names.now }
+    requires antichain { IsAntichain (choice_keys so_far.now) }
     requires expansions { AreExpansions (lent_trees names.now) expansions.old }
     ensures expansions { AreExpansions (lent_trees names.now) expansions.new }
+    ensures antichain { IfOk result (λ list. IsAntichain (choice_keys list.items)) }
     ensures choices { IfOk result (λ list. then_list (numbered_expansion (lent_trees names.now) (formula_named (lent_trees names.now) number))
         (λ cs. product nat_eq nat_cmp (choice_keys so_far.now) cs) ≡ Some (choice_keys list.items)) }
     ensures many { IfErr result (λ e. e ≡ StepError.Choices →
@@ -69,6 +75,7 @@ fn products_of(
     members: &[u32],
 ) -> Result<Vec<NumberedChoice>, StepError>
     requires few { length names.now < 2 ^ 32 }
+    requires rising { IsIncreasing tree_cmp (lent_trees names.now) }
     requires members { AllByRecursion (λ n. n < length names.now) members.now }
     requires expansions { AreExpansions (lent_trees names.now) expansions.old }
     ensures expansions { AreExpansions (lent_trees names.now) expansions.new }

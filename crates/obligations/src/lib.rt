@@ -12,6 +12,7 @@
 //! numbers is what would be made of formulas; `proofs/NamedChoices` shows it.
 #![tactic(auto)]
 
+mod apart;
 mod expanding;
 mod expansions;
 mod joining;
@@ -21,6 +22,7 @@ mod numbered;
 mod products;
 mod reducing;
 mod rounds;
+mod searching;
 mod set;
 mod sets;
 mod step_error;

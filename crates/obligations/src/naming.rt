@@ -3,38 +3,22 @@
 ghost use Rattle.std.specs.Prelude.{◌≡◌, ◌≤◌, ◌∷◌, ◌++◌, [], take, drop, IfOk, IfSome, OnOk, MatchOption, length, map};
 ghost use Rattle.ltl_formula.specs.LtlTree.{ltl_tree, ltl_trees};
 ghost use Rattle.ltl_formula.specs.LtlOrder.{tree_cmp};
-ghost use Rattle.ltl_formula.specs.Increasing.{with_member, union};
+ghost use Rattle.ltl_formula.specs.Increasing.{IsIncreasing, with_member, union};
 ghost use Rattle.obligations.specs.Numbers.{lent_trees};
 ghost use Rattle.obligations.specs.Obligations.{obligations, obligations_of_all, reachable, closure_of};
 
-use ltl_formula::{Ltl, LtlList, compare};
+use crate::searching::find;
+use ltl_formula::{Ltl, LtlList};
 use sequence::NoMemory;
 use std::alloc::Global;
-use std::cmp::Ordering;
-
-/// The place of a new formula among rising ones, or `None` where it is there.
-fn place_for(names: &[&Ltl], formula: &Ltl) -> Option<usize>
-    ensures place { MatchOption result
-        (with_member tree_cmp (ltl_tree formula.now) (lent_trees names.now) ≡ lent_trees names.now)
-        (λ place. with_member tree_cmp (ltl_tree formula.now) (lent_trees names.now)
-        ≡ lent_trees (take place names.now) ++ ltl_tree formula.now ∷ lent_trees (drop place names.now)) }
-    ensures within { IfSome result (λ place. place ≤ length names.now) }
-{
-    for (place, name) in names.iter().enumerate() {
-        match compare(formula, name) {
-            Ordering::Less => return Some(place),
-            Ordering::Equal => return None,
-            Ordering::Greater => {}
-        }
-    }
-    Some(names.len())
-}
 
 /// Puts a formula in its place among rising ones, unless it is there.
 fn insert_name<'a>(names: &mut Vec<&'a Ltl>, formula: &'a Ltl) -> Result<(), NoMemory>
-    ensures { OnOk result (lent_trees names.new.items ≡ with_member tree_cmp (ltl_tree formula.now) (lent_trees names.old.items)) }
+    requires { IsIncreasing tree_cmp (lent_trees names.old.items) }
+    ensures rises { OnOk result (IsIncreasing tree_cmp (lent_trees names.new.items)) }
+    ensures names { OnOk result (lent_trees names.new.items ≡ with_member tree_cmp (ltl_tree formula.now) (lent_trees names.old.items)) }
 {
-    if let Some(place) = place_for(names, formula) {
+    if let Err(place) = find(names, formula) {
         names.insert(place, formula)?;
     }
     Ok(())
@@ -44,7 +28,9 @@ fn insert_name<'a>(names: &mut Vec<&'a Ltl>, formula: &'a Ltl) -> Result<(), NoM
 #[cycle(naming)]
 #[tactic(auto, using(crate::proofs::NamingLemmas::names_append))]
 fn add_obligations<'a>(formula: &'a Ltl, names: &mut Vec<&'a Ltl>) -> Result<(), NoMemory>
-    ensures { OnOk result (lent_trees names.new.items ≡ union tree_cmp (lent_trees names.old.items) (obligations (ltl_tree formula.now))) }
+    requires { IsIncreasing tree_cmp (lent_trees names.old.items) }
+    ensures rises { OnOk result (IsIncreasing tree_cmp (lent_trees names.new.items)) }
+    ensures names { OnOk result (lent_trees names.new.items ≡ union tree_cmp (lent_trees names.old.items) (obligations (ltl_tree formula.now))) }
 {
     match formula {
         Ltl::True | Ltl::False | Ltl::Bit(_) | Ltl::NotBit(_) => Ok(()),
@@ -68,7 +54,9 @@ fn add_obligations_of_all<'a>(
     formulas: &'a LtlList,
     names: &mut Vec<&'a Ltl>,
 ) -> Result<(), NoMemory>
-    ensures { OnOk result (lent_trees names.new.items ≡ union tree_cmp (lent_trees names.old.items) (obligations_of_all (ltl_trees formulas.now))) }
+    requires { IsIncreasing tree_cmp (lent_trees names.old.items) }
+    ensures rises { OnOk result (IsIncreasing tree_cmp (lent_trees names.new.items)) }
+    ensures names { OnOk result (lent_trees names.new.items ≡ union tree_cmp (lent_trees names.old.items) (obligations_of_all (ltl_trees formulas.now))) }
 {
     let mut rest = formulas;
     while let LtlList::More(formula, next) = rest {
@@ -80,7 +68,9 @@ fn add_obligations_of_all<'a>(
 
 /// Adds a formula and what steps from it may leave.
 fn add_formula<'a>(formula: &'a Ltl, names: &mut Vec<&'a Ltl>) -> Result<(), NoMemory>
-    ensures { OnOk result (lent_trees names.new.items
+    requires { IsIncreasing tree_cmp (lent_trees names.old.items) }
+    ensures rises { OnOk result (IsIncreasing tree_cmp (lent_trees names.new.items)) }
+    ensures names { OnOk result (lent_trees names.new.items
         ≡ union tree_cmp (lent_trees names.old.items) (ltl_tree formula.now ∷ obligations (ltl_tree formula.now))) }
 {
     insert_name(names, formula)?;

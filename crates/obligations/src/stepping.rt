@@ -40,7 +40,8 @@ fn numbered_choices(
     members: &[Ltl],
     names: &[&Ltl],
 ) -> Result<Vec<NumberedChoice>, StepError>
-    requires { length names.now < 2 ^ 32 }
+    requires few { length names.now < 2 ^ 32 }
+    requires rising { IsIncreasing tree_cmp (lent_trees names.now) }
     ensures choices { IfOk result (λ list.
         choices_from nat_eq nat_cmp (formula_number (lent_trees names.now)) (empty_choice ∷ []) (map ltl_tree members.now) ≡ Some (choice_keys list.items)) }
     ensures many { IfErr result (λ e. e ≡ StepError.Choices →

@@ -1,4 +1,4 @@
-use Rattle.std.proofs.Common.{◌≡◌, ◌<◌, None, Bor, map, subst}
+use Rattle.std.proofs.Common.{◌≡◌, ◌<◌, None, Bor, map, subst, [], ◌∷◌}
 use Rattle.std.specs.List.{AllByRecursion}
 use Rattle.std.proofs.lemmas.List.{length-map}
 use Rattle.sequence.proofs.Results.{handed_on}
@@ -8,6 +8,7 @@ use Rattle.obligations.specs.declared.step_error.StepError.TheVariants.{Choices}
 use Rattle.obligations.specs.Expansion.{choices}
 use Rattle.obligations.specs.Numbers.{choice_keys, lent_trees}
 use Rattle.obligations.specs.Named.{formula_named}
+use Rattle.obligations.proofs.StepLemmas.{rising}
 use Rattle.obligations.proofs.ClosureLemmas.{set_found, set_well, set_none}
 use Rattle.obligations.proofs.expansions.choices_of_numbers.Goals as goal
 
@@ -29,3 +30,6 @@ returns-clause-choices c = set_found c.requires.names.0 (lent_trees c.args.names
 pub returns-clause-well : goal.returns-clause-well
 returns-clause-well c = set_well c.requires.names.0 (lent_trees c.args.names.now) c.requires.names.1 c.args.members.now
     c.requires.members (choice_keys c.in_ok-list.list.items) c.in_ok-list.ensures.choices
+
+pub products_of-requires-clause-rising : goal.products_of-requires-clause-rising
+products_of-requires-clause-rising c = rising (c.requires.names.0 ∷ []) (lent_trees c.args.names.now) c.requires.names.1

@@ -8,6 +8,7 @@ pub add_obligations_of_all-loop-rest-preserved : goal.add_obligations_of_all-loo
 add_obligations_of_all-loop-rest-preserved t c = record {
   names = rest_step _ _ _ (ltl_tree c.deref.result.now) _ (ltl_trees c.deref-rest.result.now)
       (ap ltl_trees c.in-More.is ∙ (λ i. more_formulas (ltl_tree (sym c.deref.ensures i)) (ltl_trees (sym c.deref-rest.ensures i))))
-      c.loop-rest.invariant.names c.in_ok-add_obligations.ensures;
+      c.loop-rest.invariant.names c.in_ok-add_obligations.ensures.names;
+  rises = c.in_ok-add_obligations.ensures.rises;
   left = search (rules, the_lemmas);
 }

@@ -30,3 +30,6 @@ returns-in_err-numbered-clause-many c =
     handed_on c.from_residual.result c.in_err-numbered.field-0.0
     (λ e. e ≡ Choices → choices (map ltl_tree c.args.members.now) ≡ None) c.from_residual.ensures.1
     (λ is. none (map ltl_tree c.args.members.now) (lent_trees c.args.names.now) c.requires (c.in_err-numbered.ensures.many is))
+
+pub numbered_choices-requires-clause-rising : goal.numbered_choices-requires-clause-rising
+numbered_choices-requires-clause-rising c = rising (map ltl_tree c.args.members.now) (lent_trees c.args.names.now) c.requires
