@@ -62,7 +62,13 @@ fn window_along(
         (environment_tree search.now.environment.now) search.now.cells.now path.now)) }
 {
     let updates = updates_along(alloc, search.space, search.cells, path)?;
-    let table = classes_along(alloc, search.terms, updates.as_slice(), path.len() as u32)?;
+    let table = classes_along(
+        alloc,
+        search.terms,
+        updates.as_slice(),
+        &[],
+        path.len() as u32,
+    )?;
     let look = Look {
         search: *search,
         numbers,

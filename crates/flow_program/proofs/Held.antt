@@ -5,7 +5,7 @@ use Rattle.std.specs.List.{list_all}
 use Rattle.tsl_terms.specs.declared.names.NameKind.TheVariants.{Signal}
 use Rattle.tsl_terms.specs.Name.{Name}
 use Rattle.tsl_terms.specs.TermTree.{TermTree, ProbeTree}
-use Rattle.tsl_terms.specs.WindowTree.{WindowTree, ListedTree}
+use Rattle.tsl_terms.specs.WindowTree.{WindowTree, ListedTree, window_probes}
 use Rattle.sequence.proofs.Passes.{list_all_weaker}
 use Rattle.term_text.specs.TermText.{is_held, term_is_held, probe_is_held}
 use Rattle.term_text.specs.WindowText.{listed_is_held, window_is_held}
@@ -27,19 +27,6 @@ listed_held names u h =
     let parts = and_parts (signal_fits names u.signal) (term_is_writable names u.term) h in
     (signal_held names u.signal parts.0, written_term_held names u.term parts.1)
 
--- what a window that can be written has
-pub record WindowParts (names : List Name) (w : WindowTree) : Type 0 where
-  pub left : IsTrue (probe_is_writable names w.left)
-  pub right : IsTrue (probe_is_writable names w.right)
-  pub updates : IsTrue (list_all (listed_is_writable names) w.updates)
-
-pub window_parts : (names : List Name) (w : WindowTree) → IsTrue (window_is_writable names w) → WindowParts names w
-window_parts names w h =
-    let parts = and_parts (probe_is_writable names w.left && probe_is_writable names w.right)
-    (list_all (listed_is_writable names) w.updates) h in
-    let probes = and_parts (probe_is_writable names w.left) (probe_is_writable names w.right) parts.0 in
-    record { left = probes.0; right = probes.1; updates = parts.1 }
-
 updates_held : (names : List Name) (us : List ListedTree) → IsTrue (list_all (listed_is_writable names) us) →
     IsTrue (list_all (listed_is_held names) us)
 updates_held names us h =
@@ -48,8 +35,7 @@ updates_held names us h =
 
 pub window_held : (names : List Name) (w : WindowTree) → IsTrue (window_is_writable names w) → IsTrue (window_is_held names w)
 window_held names w h =
-    let parts = window_parts names w h in
-    and_from (probe_is_held names w.left && probe_is_held names w.right) (list_all (listed_is_held names) w.updates)
-    (and_from (probe_is_held names w.left) (probe_is_held names w.right) (written_probe_held names w.left parts.left)
-    (written_probe_held names w.right parts.right))
-    (updates_held names w.updates parts.updates)
+    let parts = and_parts (list_all (probe_is_writable names) (window_probes w)) (list_all (listed_is_writable names) w.updates) h in
+    and_from (list_all (probe_is_held names) (window_probes w)) (list_all (listed_is_held names) w.updates)
+    (list_all_weaker (probe_is_writable names) (probe_is_held names) (written_probe_held names) (window_probes w) parts.0)
+    (updates_held names w.updates parts.1)

@@ -20,6 +20,7 @@ use Rattle.std.proofs.lemmas.Bool.{not-false}
 use Rattle.tsl_text.specs.Names.{is_usable}
 use Rattle.tsl_terms.specs.declared.names.NameKind.TheVariants.{Signal}
 use Rattle.tsl_terms.specs.Name.{number_of, is_name, AreDistinct, Name as NameEntry}
+use Rattle.sequence.proofs.Passes.{list_all_from_each}
 use Rattle.tsl_terms.specs.WindowTree.{WindowTree, ListedTree}
 use Rattle.tsl_terms.specs.WellFormed.{is_usable_at}
 use Rattle.tsl_terms.specs.OnlyThese.{reads_only, read_only}
@@ -333,10 +334,10 @@ module _ (names : List NameEntry) (readable : List ℕ) (text : List ℕ) (cell_
               window_numbered names text w l.tree r.tree us.trees l.numbered_is r.numbered_is
               (small_is w.left_at (omega (arith, length_short, left_short))) (small_is w.length (omega (arith, length_short)))
               us.numbered_are;
-          writable = and_from (probe_is_writable names l.tree && probe_is_writable names r.tree) (list_all
+          writable = and_from (list_all (probe_is_writable names) (l.tree ∷ r.tree ∷ [])) (list_all
               (listed_is_writable names) us.trees)
-              (and_from (probe_is_writable names l.tree) (probe_is_writable names r.tree)
-              (test_writable names readable text line w.left l tests.0) (test_writable names readable text line w.right r tests.1))
+              (list_all_from_each (probe_is_writable names) (l.tree ∷ r.tree ∷ [])
+              (test_writable names readable text line w.left l tests.0, (test_writable names readable text line w.right r tests.1, tt)))
               us.writable;
           spelled = window_spelled text w (probe_text names l.tree) (probe_text names r.tree) (flat_map (listed_text names) us.trees)
               l.spelled r.spelled us.spelled;
@@ -344,8 +345,8 @@ module _ (names : List NameEntry) (readable : List ℕ) (text : List ℕ) (cell_
               (window_reads_only readable (window_of l.tree r.tree w.left_at w.length us.trees))
               (and_from is_short _ parts.0 (and_from _ (rises cells us.trees) (keys_within w.length w.updates us.trees us.keys rising.0)
               (keys_rise w.updates us.trees us.keys rising.1)))
-              (and_from _ _ (and_from (read_only readable l.tree.arguments)
-              (read_only readable r.tree.arguments) l.reads r.reads) us.reads);
+              (and_from _ _ (list_all_from_each (λ p. read_only readable p.arguments) (l.tree ∷ r.tree ∷ [])
+              (l.reads, (r.reads, tt))) us.reads);
         }
 
   pub record ResolvedWindows (ws : List WindowLine) : Type 0 where

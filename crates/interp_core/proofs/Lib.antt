@@ -3,5 +3,4 @@ pub mod FreeLists
 pub mod ImagesAreValues
 pub mod ImagesThere
 pub mod Rows
-pub mod SameFrees
 pub mod Total

@@ -1,3 +1,2 @@
 -- Words that only private functions use.
 pub mod LeavesWithin
-pub mod SameFree

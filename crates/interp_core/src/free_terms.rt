@@ -2,7 +2,7 @@
 
 ghost use Rattle.std.specs.Prelude.{◌≡◌, ◌↔◌, map, IfOk, IsTrue};
 ghost use Rattle.interp_core.specs.FreeView.{free_tree, free_trees, frees_of};
-ghost use Rattle.interp_core.specs.internal.SameFree.{same_free, same_frees};
+ghost use Rattle.tsl_terms.specs.SameFree.{same_free, same_frees};
 
 use sequence::NoMemory;
 use std::alloc::Global;

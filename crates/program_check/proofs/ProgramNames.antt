@@ -20,7 +20,7 @@ use Rattle.tsl_terms.specs.SpecView.{spec_tree}
 use Rattle.tsl_terms.specs.Signals.{atom_updates, formula_updates, is_cell, is_output, is_input}
 use Rattle.tsl_terms.specs.Signals.{name_numbers, inputs_of, cells_of, outputs_of, choices_of}
 use Rattle.tsl_terms.specs.Predicates.{predicates_of}
-use Rattle.tsl_terms.specs.WindowTree.{WindowTree, ListedTree}
+use Rattle.tsl_terms.specs.WindowTree.{WindowTree, ListedTree, window_probes}
 use Rattle.tsl_terms.specs.WellFormed.{atom_fits, formula_fits}
 use Rattle.tsl_terms.specs.Laws.{FormulasFit}
 use Rattle.tsl_terms.proofs.WholeAtoms.{fits_all, whole_is_made_of}
@@ -143,8 +143,8 @@ module _ (spec : SpecTree) (fits : FormulasFit spec) where
   window_over : (w : WindowTree) → window_has_bits (spec_space spec) w ≡ true → window_is_over names w ≡ true
   window_over w has =
       let both = and_parts _ _ has in
-      let probes = and_parts _ _ both.0 in
-      and_from _ _ (and_from _ _ (probe_over w.left probes.0) (probe_over w.right probes.1))
+      and_from _ _
+      (list_all_weaker (λ p. is_some (bit_of_probe (spec_space spec) p)) (probe_is_over names) probe_over (window_probes w) both.0)
       (list_all_weaker (λ (u : ListedTree). is_some (bit_of_update (spec_space spec) u.signal u.term)) (listed_is_over names) listed_over
       w.updates both.1)
 

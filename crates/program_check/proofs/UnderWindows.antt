@@ -9,7 +9,7 @@ use Rattle.sequence.proofs.Passes.{each_from_list_all}
 use Rattle.tsl_terms.specs.FormulaTree.{Atom, test, update, FormulaTree, formulas_of}
 use Rattle.tsl_terms.specs.Atoms.{atoms}
 use Rattle.tsl_terms.specs.SpecTree.{SpecTree, conjunction_of, whole_formula}
-use Rattle.tsl_terms.specs.WindowTree.{ListedTree, WindowTree, window_formula_of, under_windows, window_atoms}
+use Rattle.tsl_terms.specs.WindowTree.{ListedTree, WindowTree, window_formula_of, under_windows, window_probes, window_atoms}
 use Rattle.tsl_terms.specs.Laws.{FormulasFit}
 use Rattle.tsl_terms.proofs.WindowAtoms.{windowed_atoms}
 use Rattle.tsl_meaning.specs.Lasso.{Lasso, meets, meet_each, Meets}
@@ -48,11 +48,10 @@ window_atoms_have_bits : (space : SpaceTree) (w : WindowTree) → window_has_bit
     AllByRecursion (HasBit space) (window_atoms w)
 window_atoms_have_bits space w has =
     let both = and_parts _ _ has in
-    let probes = and_parts (is_some (bit_of_probe space w.left)) (is_some (bit_of_probe space w.right)) both.0 in
-    each_joined (HasBit space) (map (λ (u : ListedTree). update u.signal u.term) w.updates) (test w.left ∷ test w.right ∷ [])
+    each_joined (HasBit space) (map (λ (u : ListedTree). update u.signal u.term) w.updates) (map test (window_probes w))
     (each_map (HasBit space) (λ (u : ListedTree). update u.signal u.term) w.updates
     (each_from_list_all (λ (u : ListedTree). is_some (bit_of_update space u.signal u.term)) w.updates both.1))
-    (probes.0, (probes.1, tt))
+    (each_map (HasBit space) test (window_probes w) (each_from_list_all (λ p. is_some (bit_of_probe space p)) (window_probes w) both.0))
 
 pub under_has_bits : (spec : SpecTree) → FormulasFit spec → (ws : List WindowTree) →
     list_all (window_has_bits (spec_space spec)) ws ≡ true → HasBits (spec_space spec) (under_windows ws (whole_formula spec))

@@ -9,7 +9,7 @@ use Rattle.tsl_terms.specs.TermTree.{TermTree, ProbeTree}
 use Rattle.tsl_terms.specs.FormulaTree.{FormulaTree, unary}
 use Rattle.tsl_terms.specs.SpecTree.{SpecTree, whole_formula}
 use Rattle.tsl_terms.specs.Signals.{inputs_of, cells_of, outputs_of}
-use Rattle.tsl_terms.specs.WindowTree.{WindowTree, under_windows}
+use Rattle.tsl_terms.specs.WindowTree.{WindowTree, window_probes, under_windows}
 use Rattle.tsl_terms.specs.Congruence.{IsCongruent}
 use Rattle.program_tree.specs.NodeTree.{branch, assign}
 use Rattle.program_tree.specs.ProgramTree.{ProgramTree}
@@ -66,10 +66,10 @@ pub record RefusesTerms (spec : SpecTree) (program : ProgramTree) (i : ℕ) : Ty
   pub go : ℕ
   pub are_terms : slice_get program.nodes i ≡ Some (assign terms go)
 
--- whether both probes of a window are predicate terms, and each listed update is a choice of its signal
+-- whether the probes of a window are predicate terms, and each listed update is a choice of its signal
 abbrev pub window_has_bits : SpaceTree → WindowTree → Bool
 window_has_bits space w =
-    (is_some (bit_of_probe space w.left) && is_some (bit_of_probe space w.right))
+    list_all (λ p. is_some (bit_of_probe space p)) (window_probes w)
     && list_all (λ u. is_some (bit_of_update space u.signal u.term)) w.updates
 
 -- the first window with a predicate term or an update that the specification lacks

@@ -15,7 +15,7 @@ use Rattle.tsl_terms.specs.SameTree.{same_tree, same_probe_tree}
 use Rattle.tsl_terms.specs.OnlyThese.{reads_only, read_only, atom_reads_only}
 use Rattle.tsl_terms.specs.SpecTree.{SpecTree, whole_formula}
 use Rattle.tsl_terms.specs.Signals.{formula_reads, formula_updates, is_cell, name_numbers, inputs_of, cells_of}
-use Rattle.tsl_terms.specs.WindowTree.{ListedTree, WindowTree}
+use Rattle.tsl_terms.specs.WindowTree.{ListedTree, WindowTree, window_probes}
 use Rattle.tsl_terms.specs.Congruence.{IsCongruent}
 use Rattle.tsl_terms.specs.Laws.{FormulasFit}
 use Rattle.tsl_terms.proofs.SameLemmas.{same_tree_itself, same_probe_itself}
@@ -81,10 +81,10 @@ module _ (space : SpaceTree) where
   -- a window that is spurious is made of the space's predicate terms and choices
   pub spurious_has_bits : (e : EnvironmentTree) (w : WindowTree) → IsSpurious space e w → window_has_bits space w ≡ true
   spurious_has_bits e w spurious =
-      and_from (is_some (bit_of_probe space w.left) && is_some (bit_of_probe space w.right))
+      and_from (list_all (λ p. is_some (bit_of_probe space p)) (window_probes w))
       (list_all (λ (u : ListedTree). is_some (bit_of_update space u.signal u.term)) w.updates)
-      (and_from (is_some (bit_of_probe space w.left)) (is_some (bit_of_probe space w.right))
-      (probe_has_bit spurious.left_bit w.left spurious.is_left) (probe_has_bit spurious.right_bit w.right spurious.is_right))
+      (list_all_from_each (λ p. is_some (bit_of_probe space p)) (window_probes w)
+      (probe_has_bit spurious.left_bit w.left spurious.is_left, (probe_has_bit spurious.right_bit w.right spurious.is_right, tt)))
       (listed_have_bits spurious.vector w.updates spurious.listed)
 
 -- the windows of a chain
@@ -122,8 +122,9 @@ module _ (spec : SpecTree) (fits : FormulasFit spec) where
   window_read : (w : WindowTree) → window_has_bits (spec_space spec) w ≡ true → window_reads_only readable w ≡ true
   window_read w has =
       let both = and_parts _ _ has in
-      let probes = and_parts _ _ both.0 in
-      and_from _ _ (and_from _ _ (probe_read w.left probes.0) (probe_read w.right probes.1))
+      and_from _ _
+      (list_all_weaker (λ p. is_some (bit_of_probe (spec_space spec) p)) (λ p. read_only readable p.arguments) probe_read
+      (window_probes w) both.0)
       (list_all_weaker (λ (u : ListedTree). is_some (bit_of_update (spec_space spec) u.signal u.term))
       (λ (u : ListedTree). reads_only readable u.term) listed_read w.updates both.1)
 

@@ -13,7 +13,7 @@ use Rattle.tsl_terms.specs.FormulaTree.{update}
 use Rattle.tsl_terms.specs.Atoms.{atoms}
 use Rattle.tsl_terms.specs.SpecTree.{SpecTree, whole_formula}
 use Rattle.tsl_terms.specs.Signals.{is_cell}
-use Rattle.tsl_terms.specs.WindowTree.{ListedTree, WindowTree}
+use Rattle.tsl_terms.specs.WindowTree.{ListedTree, WindowTree, window_probes}
 use Rattle.tsl_terms.specs.WellFormed.{atom_fits, term_fits, SpecFits}
 use Rattle.tsl_terms.proofs.WholeAtoms.{whole_is_made_of}
 use Rattle.program_tree.specs.NodeTree.{NodeTree, branch, assign}
@@ -71,8 +71,8 @@ module _ (spec : SpecTree) (fits : SpecFits spec) where
   window_written : (w : WindowTree) → IsKnown spec w → window_is_writable names w ≡ true
   window_written w known =
       let both = and_parts _ _ known.bits in
-      let probes = and_parts _ _ both.0 in
-      and_from _ _ (and_from _ _ (probe_written w.left probes.0) (probe_written w.right probes.1))
+      and_from _ _
+      (list_all_weaker (λ p. is_some (bit_of_probe (spec_space spec) p)) (probe_is_writable names) probe_written (window_probes w) both.0)
       (list_all_from_each (listed_is_writable names) w.updates
       (each_both (λ (u : ListedTree). is_cell spec u.signal ≡ true)
       (λ (u : ListedTree). is_some (bit_of_update (spec_space spec) u.signal u.term) ≡ true)

@@ -1,7 +1,12 @@
 pub mod ShapeLemmas
 pub mod Labels
+pub mod JoinLemmas
+pub mod FoundLemmas
+pub mod TreeLemmas
+pub mod StandingLemmas
 pub mod Listing
 pub mod Cells
+pub mod PairsMade
 pub mod Tables
 pub mod SameLabels
 pub mod CellValues

@@ -4,7 +4,7 @@
 use Rattle.std.specs.Prelude.{ℕ, Bool, ◌&&◌, List, ◌++◌, flat_map, codes, decimal}
 use Rattle.std.specs.List.{list_all}
 use Rattle.tsl_terms.specs.Name.{Name}
-use Rattle.tsl_terms.specs.WindowTree.{WindowTree, ListedTree}
+use Rattle.tsl_terms.specs.WindowTree.{WindowTree, ListedTree, window_probes}
 use Rattle.term_text.specs.TermText.{probe_text, update_text, is_held, term_is_held, probe_is_held}
 
 abbrev pub listed_text : List Name → ListedTree → List ℕ
@@ -21,5 +21,4 @@ abbrev pub listed_is_held : List Name → ListedTree → Bool
 listed_is_held names u = is_held names u.signal && term_is_held names u.term
 
 abbrev pub window_is_held : List Name → WindowTree → Bool
-window_is_held names w =
-    (probe_is_held names w.left && probe_is_held names w.right) && list_all (listed_is_held names) w.updates
+window_is_held names w = list_all (probe_is_held names) (window_probes w) && list_all (listed_is_held names) w.updates

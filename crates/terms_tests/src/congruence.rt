@@ -1,6 +1,7 @@
 //! Tests of congruent windows and of tables of labels.
 
-ghost use Rattle.std.specs.Prelude.{◌<◌, length};
+ghost use Rattle.std.specs.Prelude.{◌≡◌, ◌<◌, length, IfOk};
+ghost use Rattle.tsl_terms.specs.TermTree.{term_trees, count_of_terms};
 
 use program_tree::Program;
 use sequence::NoMemory;
@@ -9,7 +10,7 @@ use std::process::Abort;
 use std::test::Fail;
 use term_congruence::{classes_along, congruent};
 use test_values::{on_two, program_of};
-use tsl_terms::{Listed, Names, Term};
+use tsl_terms::{Equated, Listed, Names, Probe, Term, TermList};
 
 /// What a text has before the window of a program.
 const FRONT: &[u8] = b"tslprogram 1\ninput x\ninput u\ncell y\ncell z\nwindow ";
@@ -152,7 +153,7 @@ fn unfoldings_of_exponential_size_are_labelled(rt: HostRuntime) -> Result<(), Fa
         on_two(alloc, 7, Term::Signal(0), Term::Signal(0))?,
         Term::Signal(1),
     ]?;
-    let table = classes_along(alloc, terms.as_slice(), updates.as_slice(), 200)?;
+    let table = classes_along(alloc, terms.as_slice(), updates.as_slice(), &[], 200)?;
     let rows = table.rows.as_slice();
     assert_eq!(rt; rows.len(), 201);
     for step in 0..200 {
@@ -185,7 +186,7 @@ fn terms_of_200_levels_are_labelled_along_three_steps(rt: HostRuntime) -> Result
         })?;
     }
     let terms = vec![in alloc; Term::Signal(0), nested(alloc, 0, 200)?]?;
-    let table = classes_along(alloc, terms.as_slice(), updates.as_slice(), 3)?;
+    let table = classes_along(alloc, terms.as_slice(), updates.as_slice(), &[], 3)?;
     let rows = table.rows.as_slice();
     assert_eq!(rt; rows.len(), 4);
     for step in 0..3 {
@@ -193,5 +194,40 @@ fn terms_of_200_levels_are_labelled_along_three_steps(rt: HostRuntime) -> Result
         assert_eq!(rt; label(&rt, rows, step + 1, 0), before);
         assert!(rt; label(&rt, rows, step, 0) != before);
     }
+    Ok(())
+}
+
+/// An equality of two terms at an offset.
+fn equality_at(alloc: Global, left: Term, right: Term, offset: u32) -> Result<Equated, NoMemory>
+    ensures { IfOk result (λ made. count_of_terms (term_trees made.probe.arguments) ≡ 2) }
+{
+    let last = TermList::More(Box::new(alloc, right)?, Box::new(alloc, TermList::Empty)?);
+    let arguments = TermList::More(Box::new(alloc, left)?, Box::new(alloc, last)?);
+    Ok(Equated {
+        probe: Probe {
+            predicate: 8,
+            arguments,
+        },
+        offset,
+    })
+}
+
+#[test]
+fn an_equality_joins_what_is_built_on_its_arguments(rt: HostRuntime) -> Result<(), Fail> {
+    let alloc = rt.alloc();
+    let doubled = on_two(alloc, 7, Term::Signal(0), Term::Signal(0))?;
+    let equality = equality_at(alloc, doubled, Term::Signal(0), 1)?;
+    let equalities = vec![in alloc; equality]?;
+    let inner = on_two(alloc, 7, Term::Signal(0), Term::Signal(0))?;
+    let terms = vec![in alloc;
+        Term::Signal(0),
+        on_two(alloc, 7, inner, Term::Signal(0))?,
+        Term::Signal(1),
+    ]?;
+    let table = classes_along(alloc, terms.as_slice(), &[], equalities.as_slice(), 1)?;
+    let rows = table.rows.as_slice();
+    assert!(rt; label(&rt, rows, 0, 0) != label(&rt, rows, 0, 1));
+    assert_eq!(rt; label(&rt, rows, 1, 0), label(&rt, rows, 1, 1));
+    assert!(rt; label(&rt, rows, 1, 0) != label(&rt, rows, 1, 2));
     Ok(())
 }

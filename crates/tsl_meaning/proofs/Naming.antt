@@ -9,7 +9,7 @@ use Rattle.tsl_terms.specs.Name.{Name, is_name}
 use Rattle.tsl_terms.specs.TermTree.{TermTree, signal, apply, TermTrees, no_terms, more_terms, ProbeTree, count_of_terms}
 use Rattle.tsl_terms.specs.FormulaTree.{Atom, test, update}
 use Rattle.tsl_terms.specs.WellFormed.{is_usable_at, term_fits, terms_fit, probe_fits, atom_fits, brackets, brackets_of_arguments, deepest}
-use Rattle.tsl_terms.specs.WindowTree.{WindowTree, ListedTree}
+use Rattle.tsl_terms.specs.WindowTree.{WindowTree, ListedTree, window_probes}
 use Rattle.program_tree.specs.NodeTree.{NodeTree, branch, assign}
 use Rattle.program_tree.specs.ProgramTree.{ProgramTree}
 use Rattle.program_tree.specs.Fits.{IsProgram}
@@ -65,11 +65,9 @@ module _ (names : List Name) where
 
   written_window : (w : WindowTree) → window_is_writable names w ≡ true → window_is_over names w ≡ true
   written_window w written =
-      let parts = and_parts (probe_is_writable names w.left && probe_is_writable names w.right)
-      (list_all (listed_is_writable names) w.updates) written in
-      let probes = and_parts (probe_is_writable names w.left) (probe_is_writable names w.right) parts.0 in
-      and_from (probe_is_over names w.left && probe_is_over names w.right) (list_all (listed_is_over names) w.updates)
-      (and_from (probe_is_over names w.left) (probe_is_over names w.right) (written_probe w.left probes.0) (written_probe w.right probes.1))
+      let parts = and_parts (list_all (probe_is_writable names) (window_probes w)) (list_all (listed_is_writable names) w.updates) written in
+      and_from (list_all (probe_is_over names) (window_probes w)) (list_all (listed_is_over names) w.updates)
+      (list_all_weaker (probe_is_writable names) (probe_is_over names) written_probe (window_probes w) parts.0)
       (list_all_weaker (listed_is_writable names) (listed_is_over names) written_listed w.updates parts.1)
 
   written_node : (n : NodeTree) → node_is_writable names n ≡ true → node_is_over names n ≡ true

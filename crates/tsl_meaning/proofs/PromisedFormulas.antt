@@ -1,22 +1,23 @@
 -- The formulas of a promise speak of the program: the whole formula reads its inputs and cells and updates its cells
 -- and outputs, and so does the formula of each window.
-use Rattle.std.proofs.Common.{◌≡◌, ◌∙◌, ℕ, zero, suc, ◌==◌, Bool, true, ◌&&◌, List, [], ◌∷◌, ◌++◌, map, flat_map, refl, ap}
+use Rattle.std.proofs.Common.{◌≡◌, ◌∙◌, ℕ, ◌==◌, Bool, true, ◌&&◌, List, ◌++◌, map, refl, ap}
 use Rattle.std.specs.Prelude.{nat_le, nat_lt}
 use Rattle.std.specs.List.{list_all, AllByRecursion}
 use Rattle.std.proofs.lemmas.Bool.{and_parts, and_from, or_left}
-use Rattle.std.proofs.lemmas.List.Folds.{list_all-append, list_any-append}
-use Rattle.sequence.proofs.Passes.{list_all_weaker, each_from_list_all}
+use Rattle.std.proofs.lemmas.List.Folds.{list_all-append, list_all-map, list_any-append}
+use Rattle.sequence.proofs.Passes.{list_all_weaker, list_all_from_places, each_from_list_all}
 use Rattle.sequence.proofs.Each.{each_both}
 use Rattle.tsl_terms.specs.Name.{Name}
-use Rattle.tsl_terms.specs.FormulaTree.{Atom, test, update, FormulaTree, atom}
+use Rattle.tsl_terms.specs.FormulaTree.{Atom, test, update, FormulaTree}
 use Rattle.tsl_terms.specs.Atoms.{atoms}
 use Rattle.tsl_terms.specs.OnlyThese.{read_only, atom_reads_only, atom_updates_only}
-use Rattle.tsl_terms.specs.SpecTree.{SpecTree, whole_formula, conjunction_of}
+use Rattle.tsl_terms.specs.SpecTree.{SpecTree, whole_formula}
 use Rattle.tsl_terms.specs.WellFormed.{SpecFits, atom_fits}
 use Rattle.tsl_terms.specs.Signals.{inputs_of, cells_of, outputs_of}
-use Rattle.tsl_terms.specs.WindowTree.{WindowTree, ListedTree, later, listed_formula, window_formula_of}
+use Rattle.tsl_terms.specs.WindowTree.{WindowTree, ListedTree, window_formula_of, window_probes}
 use Rattle.tsl_terms.proofs.SignalFacts.{whole_reads, whole_updates}
-use Rattle.tsl_terms.proofs.WholeAtoms.{whole_is_made_of, conjunction_atoms}
+use Rattle.tsl_terms.proofs.WholeAtoms.{whole_is_made_of}
+use Rattle.tsl_terms.proofs.WindowAtoms.{window_formula_atoms}
 use Rattle.program_tree.specs.ProgramTree.{ProgramTree, controlled}
 use Rattle.sequence.specs.Numbers.{is_among}
 use Rattle.program_tree.specs.Fits.{window_is_shaped, window_reads_only, window_fits, longest}
@@ -58,53 +59,31 @@ module _ (spec : SpecTree) (fits : SpecFits spec) where
       (list_all_weaker (atom_is_over spec.names) (atom_is_over (spec.names ++ more)) (atom_still spec.names more)
       (atoms (whole_formula spec)) atoms_over) inputs cells outputs
 
--- the formula of a window
-later_atoms : (n : ℕ) (f : FormulaTree) → atoms (later n f) ≡ atoms f
-later_atoms zero f = refl
-later_atoms (suc n) f = later_atoms n f
-
-listed_pass : (p : Atom → Bool) (us : List ListedTree) → list_all (λ u. p (update u.signal u.term)) us ≡ true →
-    list_all p (flat_map atoms (map listed_formula us)) ≡ true
-listed_pass p [] all = refl
-listed_pass p (u ∷ us) all =
-    let parts = and_parts (p (update u.signal u.term)) (list_all (λ v. p (update v.signal v.term)) us) all in
-    list_all-append p (atoms (listed_formula u)) (flat_map atoms (map listed_formula us))
-    ∙ and_from (list_all p (atoms (listed_formula u))) (list_all p (flat_map atoms (map listed_formula us)))
-    (ap (list_all p) (later_atoms u.offset (atom (update u.signal u.term))) ∙ and_from (p (update u.signal u.term)) true parts.0 refl)
-    (listed_pass p us parts.1)
-
--- what its probes and its updates pass, all its atoms pass
-window_atoms : (p : Atom → Bool) (w : WindowTree) → p (test w.left) ≡ true → p (test w.right) ≡ true →
+-- what the probes and the updates of a window pass, all atoms of its formula pass
+window_passes : (p : Atom → Bool) (w : WindowTree) → list_all (λ q. p (test q)) (window_probes w) ≡ true →
     list_all (λ u. p (update u.signal u.term)) w.updates ≡ true →
     list_all p (atoms (window_formula_of w)) ≡ true
-window_atoms p w left right updates =
-    let assumed : List Atom = atoms (conjunction_of (map listed_formula w.updates)) in
-    let first : List Atom = atoms (later w.left_at (atom (test w.left))) in
-    let second : List Atom = atoms (later w.length (atom (test w.right))) in
-    list_all-append p assumed (first ++ second)
-    ∙ and_from (list_all p assumed) (list_all p (first ++ second))
-    (ap (list_all p) (conjunction_atoms (map listed_formula w.updates)) ∙ listed_pass p w.updates updates)
-    (list_all-append p first second
-    ∙ and_from (list_all p first) (list_all p second)
-    (ap (list_all p) (later_atoms w.left_at (atom (test w.left))) ∙ and_from (p (test w.left)) true left refl)
-    (ap (list_all p) (later_atoms w.length (atom (test w.right))) ∙ and_from (p (test w.right)) true right refl))
+window_passes p w probes updates =
+    ap (list_all p) (window_formula_atoms w)
+    ∙ list_all-append p (map (λ (u : ListedTree). update u.signal u.term) w.updates) (map test (window_probes w))
+    ∙ and_from _ _ (list_all-map p (λ (u : ListedTree). update u.signal u.term) w.updates ∙ updates)
+    (list_all-map p test (window_probes w) ∙ probes)
 
 window_speaks : (names : List Name) (program : ProgramTree) (w : WindowTree) → window_is_over names w ≡ true →
     window_fits (program.inputs ++ program.cells) program.cells w ≡ true →
     IsFormulaOver names program (window_formula_of w)
 window_speaks names program w over fits =
     let readable : List ℕ = program.inputs ++ program.cells in
-    let named = and_parts (probe_is_over names w.left && probe_is_over names w.right) (list_all (listed_is_over names) w.updates) over in
-    let probes = and_parts (probe_is_over names w.left) (probe_is_over names w.right) named.0 in
+    let named = and_parts (list_all (probe_is_over names) (window_probes w)) (list_all (listed_is_over names) w.updates) over in
     let parts = and_parts (window_is_shaped program.cells w) (window_reads_only readable w) fits in
-    let reads = and_parts (read_only readable w.left.arguments && read_only readable w.right.arguments) _ parts.1 in
-    let read = and_parts (read_only readable w.left.arguments) (read_only readable w.right.arguments) reads.0 in
+    let reads = and_parts (list_all (λ p. read_only readable p.arguments) (window_probes w)) _ parts.1 in
     let listed = and_parts (nat_le w.length longest && nat_le w.left_at w.length) _ parts.0 in
     let cells = (and_parts (list_all (λ u. nat_lt u.offset w.length && is_among program.cells u.signal) w.updates) _ listed.1).0 in
     record {
-      names_fit = window_atoms (atom_is_over names) w probes.0 probes.1 named.1;
-      reads = window_atoms (atom_reads_only readable) w read.0 read.1 reads.1;
-      updates = window_atoms (atom_updates_only (controlled program)) w refl refl
+      names_fit = window_passes (atom_is_over names) w named.0 named.1;
+      reads = window_passes (atom_reads_only readable) w reads.0 reads.1;
+      updates = window_passes (atom_updates_only (controlled program)) w
+          (list_all_from_places (λ q. atom_updates_only (controlled program) (test q)) (window_probes w) (λ i q at. refl))
           (list_all_weaker (λ u. nat_lt u.offset w.length && is_among program.cells u.signal)
           (λ u. is_among (controlled program) u.signal) cell_is_controlled w.updates cells);
     }

@@ -8,7 +8,7 @@ use Rattle.tsl_terms.specs.TermTree.{TermTree, signal, apply, TermTrees, no_term
 use Rattle.tsl_terms.specs.FormulaTree.{Atom, test, update, FormulaTree}
 use Rattle.tsl_terms.specs.Atoms.{atoms}
 use Rattle.tsl_terms.specs.OnlyThese.{formula_reads_only, formula_updates_only}
-use Rattle.tsl_terms.specs.WindowTree.{WindowTree, ListedTree}
+use Rattle.tsl_terms.specs.WindowTree.{WindowTree, ListedTree, window_probes}
 use Rattle.program_tree.specs.NodeTree.{NodeTree, branch, assign}
 use Rattle.program_tree.specs.ProgramTree.{ProgramTree, controlled}
 use Rattle.program_tree.specs.Fits.{IsProgram}
@@ -29,8 +29,7 @@ abbrev pub listed_is_over : List Name → ListedTree → Bool
 listed_is_over names u = is_name names u.signal Signal 0 && term_is_over names u.term
 
 abbrev pub window_is_over : List Name → WindowTree → Bool
-window_is_over names w =
-    (probe_is_over names w.left && probe_is_over names w.right) && list_all (listed_is_over names) w.updates
+window_is_over names w = list_all (probe_is_over names) (window_probes w) && list_all (listed_is_over names) w.updates
 
 abbrev pub node_is_over : List Name → NodeTree → Bool
 node_is_over names (branch t then_node else_node) = probe_is_over names t

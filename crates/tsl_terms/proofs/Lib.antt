@@ -1,12 +1,15 @@
 pub mod AtomLoops
 pub mod CountLemmas
+pub mod EqualityLemmas
 pub mod Examples
 pub mod FirstUses
 pub mod FormulaLemmas
 pub mod MarkLemmas
 pub mod NameLemmas
 pub mod SameLemmas
+pub mod SameFrees
 pub mod SignalFacts
+pub mod SingleClasses
 pub mod TermLemmas
 pub mod WholeAtoms
 pub mod WindowAtoms

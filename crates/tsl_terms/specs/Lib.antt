@@ -3,13 +3,16 @@ pub mod Atoms
 pub mod Clashes
 pub mod Congruence
 pub mod Distinct
+pub mod Equality
 pub mod FormulaTree
 pub mod FreeTree
 pub mod Laws
 pub mod Name
 pub mod Nodes
+pub mod OneClass
 pub mod OnlyThese
 pub mod Predicates
+pub mod SameFree
 pub mod SameTree
 pub mod Signals
 pub mod SpecTree

@@ -4,6 +4,7 @@
 -- (CAV 2019), the refinement of the underapproximation.
 use Rattle.std.specs.Prelude.{ℕ, zero, suc, List, [], ◌∷◌, ◌++◌, map}
 use Rattle.tsl_terms.specs.declared.window.Listed.{Listed}
+use Rattle.tsl_terms.specs.declared.window.Equated.{Equated}
 use Rattle.tsl_terms.specs.declared.window.Window.{Window}
 use Rattle.tsl_terms.specs.TermTree.{TermTree, ProbeTree, term_tree, probe_tree}
 use Rattle.tsl_terms.specs.declared.operator.UnaryOperator.TheVariants.{Next, Globally}
@@ -17,6 +18,11 @@ pub record ListedTree : Type 0 where
   pub term : TermTree
   pub offset : ℕ
 
+-- an equality that is listed at an offset
+pub record EquatedTree : Type 0 where
+  pub probe : ProbeTree
+  pub offset : ℕ
+
 -- the left probe at one step, the right probe at the last step, and the updates between
 pub record WindowTree : Type 0 where
   pub left : ProbeTree
@@ -27,6 +33,9 @@ pub record WindowTree : Type 0 where
 
 abbrev pub listed_tree : Listed → ListedTree
 listed_tree u = record { signal = u.signal; term = term_tree u.term; offset = u.offset }
+
+abbrev pub equated_tree : Equated → EquatedTree
+equated_tree e = record { probe = probe_tree e.probe; offset = e.offset }
 
 abbrev pub window_tree : Window → WindowTree
 window_tree w = record {
@@ -57,6 +66,10 @@ abbrev pub under_windows : List WindowTree → FormulaTree → FormulaTree
 under_windows [] f = f
 under_windows (w ∷ ws) f = binary Implication (conjunction_of (map window_formula_of (w ∷ ws))) f
 
--- what a window updates and tests: its listed updates in order, then its left and its right probe
+-- what a window tests: its left and its right probe
+abbrev pub window_probes : WindowTree → List ProbeTree
+window_probes w = w.left ∷ w.right ∷ []
+
+-- what a window updates and tests: its listed updates in order, then what it tests
 abbrev pub window_atoms : WindowTree → List Atom
-window_atoms w = map (λ u. update u.signal u.term) w.updates ++ test w.left ∷ test w.right ∷ []
+window_atoms w = map (λ u. update u.signal u.term) w.updates ++ map test (window_probes w)

@@ -1,8 +1,10 @@
 //! Laws about the definitions that contracts cite.
 
-ghost use Rattle.std.specs.Prelude.{◌≡◌, ◌↔◌, List, ◌++◌, flat_map, IsTrue};
+ghost use Rattle.std.specs.Prelude.{◌≡◌, ◌↔◌, List, [], ◌++◌, flat_map, IsTrue};
 ghost use Rattle.tsl_terms.specs.TermTree.{TermTree, ProbeTree};
 ghost use Rattle.tsl_terms.specs.SameTree.{same_tree, same_probe_tree};
+ghost use Rattle.tsl_terms.specs.FreeTree.{FreeTree};
+ghost use Rattle.tsl_terms.specs.OneClass.{AreInOneClass};
 ghost use Rattle.tsl_terms.specs.FormulaTree.{FormulaTree};
 ghost use Rattle.tsl_terms.specs.Atoms.{atoms, joins_two};
 ghost use Rattle.tsl_terms.specs.WindowTree.{WindowTree, window_formula_of, window_atoms, under_windows};
@@ -15,6 +17,11 @@ pub fn same_tree_is_equality()
     ensures probes { (p q : ProbeTree) → IsTrue (same_probe_tree p q) ↔ (p ≡ q) }
 {}
 
+/// Where no equality is listed, free terms are in one class exactly where they are equal.
+pub fn classes_without_pairs_are_single()
+    ensures { (x y : FreeTree) → AreInOneClass [] x y ↔ (x ≡ y) }
+{}
+
 /// The atoms of a whole formula are those of the four lists, one list after another, and it fits the
 /// names where each formula of the lists does.
 pub fn whole_formula_has_the_atoms()
@@ -22,8 +29,8 @@ pub fn whole_formula_has_the_atoms()
     ensures fits { WholeFits }
 {}
 
-/// The atoms of a window's formula are the updates that the window lists, in order, and its left and its right
-/// probe; those of a formula under windows are those of the windows, one after another, and its own. Its
+/// The atoms of a window's formula are the updates that the window lists, in order, and then its
+/// probes; those of a formula under windows are those of the windows, one after another, and its own. Its
 /// conjunctions and disjunctions have two members or more where those of the formula itself do.
 pub fn windowed_formulas_have_the_atoms()
     ensures window { (w : WindowTree) → atoms (window_formula_of w) ≡ window_atoms w }

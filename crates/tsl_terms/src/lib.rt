@@ -6,7 +6,8 @@
 //! stand, and a function that gives the tree of a value: `term_tree`, `probe_tree`, `formula_tree`,
 //! `spec_tree`, `window_tree`. Contracts speak of these trees, since values may lie anywhere in memory.
 //!
-//! - `Names` keeps names by first appearance: each call gives its part of the list of names.
+//! - `Names` keeps names by first appearance: each call gives its part of the list of names. `equality_of` gives the
+//!   number of the predicate `eq` with two arguments.
 //! - `first_uses` gives the names of a list of uses, each as it is used first, and `first_clash` the first
 //!   use that is not like the first use of its name.
 //! - `copy_term`, `copy_probe`, `copy_formula` and `copy_window` give a value of the same tree, and
@@ -23,7 +24,7 @@
 //! - `node_count` counts nodes, and stops at the largest number; `whole_node_count` counts those of the
 //!   whole formula and makes no formula.
 //!
-//! Laws: the atoms of a whole formula are those of the four lists, and it fits where they do; those of a
+//! Laws: free terms of one class are equal where no pair is listed; the atoms of a whole formula are those of the four lists, and it fits where they do; those of a
 //! formula under windows are those of the windows and its own; no signal is
 //! twice among inputs, cells and outputs, what is read is an input or a cell, and what is updated a cell
 //! or an output.
@@ -38,6 +39,7 @@ mod choosing;
 mod clash;
 mod copy;
 mod counting;
+mod equality;
 mod formula;
 mod gathering;
 mod joining;
@@ -57,12 +59,13 @@ pub use choosing::choices;
 pub use clash::{NameUse, Quality, first_clash, first_uses};
 pub use copy::{copy_formula, copy_probe, copy_term, copy_window};
 pub use counting::{node_count, whole_node_count};
+pub use equality::equality_of;
 pub use formula::{Formula, FormulaList};
 pub use gathering::predicates;
 pub use joining::whole;
 pub use laws::{
-    same_tree_is_equality, signals_are_told_apart, whole_formula_has_the_atoms,
-    windowed_formulas_have_the_atoms,
+    classes_without_pairs_are_single, same_tree_is_equality, signals_are_told_apart,
+    whole_formula_has_the_atoms, windowed_formulas_have_the_atoms,
 };
 pub use names::{NameKind, Names};
 pub use operator::{BinaryOperator, ManyOperator, UnaryOperator};
@@ -70,5 +73,5 @@ pub use same::{same_probe, same_term};
 pub use signal_lists::{SignalLists, signals};
 pub use spec::Spec;
 pub use term::{DEEPEST_BRACKETS, Probe, Term, TermList};
-pub use window::{Listed, Window};
+pub use window::{Equated, Listed, Window};
 pub use window_formulas::{under, window_formula};

@@ -14,6 +14,15 @@ pub struct Listed {
     pub offset: u32,
 }
 
+/// An equality that is listed.
+#[derive(Debug, Drop)]
+pub struct Equated {
+    /// Its predicate and its two arguments.
+    pub probe: Probe,
+    /// At which step of the window, from 0.
+    pub offset: u32,
+}
+
 /// A window of a few steps: where the listed updates hold at their offsets, the left probe at its
 /// step is as the right one at the last step.
 #[derive(Debug, Drop)]

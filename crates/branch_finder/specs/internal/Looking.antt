@@ -1,6 +1,6 @@
 -- Internal: only private functions of this crate use these words.
 -- A path that is looked at: an environment and its visited states, a space, cells, a path of vectors and the labels along it.
-use Rattle.std.specs.Prelude.{◌≡◌, ◌<◌, ◌≤◌, ◌^◌, map}
+use Rattle.std.specs.Prelude.{◌≡◌, ◌<◌, ◌≤◌, ◌^◌, [], map}
 use Rattle.std.specs.Prelude.{length as count_of}
 use Rattle.std.specs.List.{AllByRecursion}
 use Rattle.letter_space.specs.SpaceView.{space_tree}
@@ -39,7 +39,7 @@ pub record IsLook (look : Look) : Type 0 where
   pub short : count_of look.path.now ≤ 3
   pub labelled : IsClassTable (map probe_term (space_tree look.search.space.now).predicates)
       (updates_along (space_tree look.search.space.now).controlled look.search.cells.now 0 look.path.now)
-      (count_of look.path.now) look.rows.now
+      [] (count_of look.path.now) look.rows.now
 
 -- a pair's step is one of the path, and its bits are predicate terms
 pub record IsPairWithin (look : Look) (pair : Pair) : Type 0 where

@@ -12,7 +12,8 @@ use Rattle.sequence.specs.Options.{all_there}
 use Rattle.tsl_terms.specs.declared.names.NameKind.TheVariants.{Signal}
 use Rattle.tsl_terms.specs.Name.{is_name, AreDistinct, Name as NameEntry}
 use Rattle.tsl_terms.specs.TermTree.{TermTree}
-use Rattle.tsl_terms.specs.WindowTree.{WindowTree, ListedTree}
+use Rattle.sequence.proofs.Passes.{each_from_list_all}
+use Rattle.tsl_terms.specs.WindowTree.{WindowTree, ListedTree, window_probes}
 use Rattle.tsl_terms.specs.WellFormed.{is_usable_at, term_fits, probe_fits, brackets, brackets_of_arguments, deepest}
 use Rattle.tsl_terms.specs.OnlyThese.{reads_only, read_only}
 use Rattle.term_text.specs.TermText.{name_text, term_text, probe_text, update_text}
@@ -220,12 +221,12 @@ module _ (names : List NameEntry) (distinct : AreDistinct names) (readable : Lis
       let e = decimal x.length in
       let apart = window_apart (codes "window ") L (codes " at ") d (codes " is ") R (codes " at ") e U in
       let all = (((((((codes "window " ++ L) ++ codes " at ") ++ d) ++ codes " is ") ++ R) ++ codes " at ") ++ e) ++ U in
-      let write = and_parts (probe_is_writable names x.left && probe_is_writable names x.right) (list_all
+      let write = and_parts (list_all (probe_is_writable names) (window_probes x)) (list_all
       (listed_is_writable names) x.updates)
       writable in
-      let tests = and_parts (probe_is_writable names x.left) (probe_is_writable names x.right) write.0 in
+      let tests = each_from_list_all (probe_is_writable names) (window_probes x) write.0 in
       let left = and_parts (probe_fits names x.left) (nat_le (brackets_of_arguments x.left.arguments) deepest) tests.0 in
-      let right = and_parts (probe_fits names x.right) (nat_le (brackets_of_arguments x.right.arguments) deepest) tests.1 in
+      let right = and_parts (probe_fits names x.right) (nat_le (brackets_of_arguments x.right.arguments) deepest) tests.1.0 in
       let left_text = L ++ (codes " at " ++ d) in
       let right_text = R ++ (codes " at " ++ e) in
       let t4 = right_text ++ U in

@@ -13,7 +13,7 @@ use Rattle.sequence.proofs.Numbers.{among_place}
 use Rattle.sequence.specs.Numbers.{is_among, IsDistinct}
 use Rattle.tsl_terms.specs.Name.{number_of, texts, AreDistinct, Name as NameEntry}
 use Rattle.tsl_terms.specs.Clashes.{with_use, with_uses, added_unless_found, alike_in_kind, same_arity}
-use Rattle.tsl_terms.specs.WindowTree.{WindowTree, ListedTree}
+use Rattle.tsl_terms.specs.WindowTree.{WindowTree, ListedTree, window_probes}
 use Rattle.tsl_terms.specs.OnlyThese.{reads_only, read_only}
 use Rattle.tsl_terms.specs.WellFormed.{is_usable_at}
 use Rattle.term_text.specs.TermText.{name_text}
@@ -320,15 +320,15 @@ kept_window readable cells x fits =
     let short = and_parts (nat_le x.length longest) (nat_le x.left_at x.length) parts.0 in
     let listed = and_parts (list_all (λ u. nat_lt u.offset x.length && is_among cells u.signal) x.updates)
     (rises cells x.updates) parts.1 in
-    let reads = and_parts (read_only readable x.left.arguments && read_only readable x.right.arguments)
+    let reads = and_parts (list_all (λ p. read_only readable p.arguments) (window_probes x))
     (list_all (λ u. reads_only readable u.term) x.updates) halves.1 in
-    let tests = and_parts (read_only readable x.left.arguments) (read_only readable x.right.arguments) reads.0 in
+    let tests = each_from_list_all (λ p. read_only readable p.arguments) (window_probes x) reads.0 in
     record {
       length_short = leb-true x.length longest short.0;
       left_short = leb-true x.left_at x.length short.1;
       below = offsets_below x.length cells x.updates listed.0;
       left_reads = tests.0;
-      right_reads = tests.1;
+      right_reads = tests.1.0;
       reads = reads.1;
     }
 

@@ -1,7 +1,7 @@
 use Rattle.std.proofs.Common.{◌≡◌, rules}
 use Rattle.interp_core.specs.FreeView.{free_tree}
-use Rattle.interp_core.specs.internal.SameFree.{same_free}
-use Rattle.interp_core.proofs.SameFrees.{equal_by_test}
+use Rattle.tsl_terms.specs.SameFree.{same_free}
+use Rattle.tsl_terms.proofs.SameFrees.{equal_by_test}
 use Rattle.interp_core.proofs.free_terms.+same_free.Goals as goal
 
 pub are_equal-returns-then-f-g-clause-equal : goal.are_equal-returns-then-f-g-clause-equal

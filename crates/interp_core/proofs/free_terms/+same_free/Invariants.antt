@@ -1,7 +1,7 @@
 use Rattle.std.proofs.Common.{◌≡◌, ◌≤◌}
 use Rattle.interp_core.specs.declared.free_terms.FreeList.{size-FreeList}
 use Rattle.interp_core.specs.FreeView.{free_trees}
-use Rattle.interp_core.specs.internal.SameFree.{same_frees}
+use Rattle.tsl_terms.specs.SameFree.{same_frees}
 use Rattle.interp_core.proofs.free_terms.+same_free.Given as goal
 
 -- the lists are equal where what is left of them is

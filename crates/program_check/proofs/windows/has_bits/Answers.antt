@@ -1,4 +1,4 @@
-use Rattle.std.proofs.Common.{◌∙◌, sym, ap}
+use Rattle.std.proofs.Common.{◌∙◌, refl, sym, ap}
 use Rattle.std.specs.Prelude.{is_some}
 use Rattle.std.specs.List.{list_all}
 use Rattle.std.proofs.lemmas.Bool.{and_from, false≢true}
@@ -19,7 +19,7 @@ returns-then-is_test-2 c =
     elim c.if-is_test.branch [
       | then-is_test w ↦ and_then _ _ _
           (and_from _ _ (sym c.is_test.ensures ∙ w.if-is_test.true)
-          (sym w.is_test-then-is_test.ensures ∙ sym w.value-is ∙ c.if-is_test-2.true))
+          (and_from _ _ (sym w.is_test-then-is_test.ensures ∙ sym w.value-is ∙ c.if-is_test-2.true) refl))
           updates
       | else-is_test w ↦ absurd (false≢true (sym w.if-is_test.false ∙ sym w.value-is ∙ c.if-is_test-2.true))
     ]

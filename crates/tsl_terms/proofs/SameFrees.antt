@@ -2,7 +2,7 @@
 use Rattle.std.proofs.Common.{◌≡◌, ◌↔◌, IsTrue, Bool, true, ◌==◌, refl, sym, ◌∙◌, eq-eqb}
 use Rattle.std.proofs.lemmas.Bool.{and_parts, and_from, eqb-true, false≢true}
 use Rattle.tsl_terms.specs.FreeTree.{FreeTree, leaf_at, applied, FreeTrees, no_free, more_free}
-use Rattle.interp_core.specs.internal.SameFree.{same_free, same_frees}
+use Rattle.tsl_terms.specs.SameFree.{same_free, same_frees}
 
 mutual
   pub same_free_is : (a b : FreeTree) → same_free a b ≡ true → a ≡ b

@@ -1,5 +1,4 @@
--- Internal: only private functions of this crate use these words.
--- Equality of free terms as a test.
+-- Equality of free terms as a test: two free terms are the same where they are one tree.
 use Rattle.std.specs.Prelude.{Bool, true, false, ◌&&◌, ◌==◌}
 use Rattle.tsl_terms.specs.FreeTree.{FreeTree, leaf_at, applied, FreeTrees, no_free, more_free}
 
