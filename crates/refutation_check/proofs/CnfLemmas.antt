@@ -3,7 +3,7 @@ use Rattle.std.proofs.Common.{◌≡◌, ℕ, suc, ◌+◌, ◌<◌, ◌≤◌, 
 use Rattle.std.proofs.Common.{take, get_or, Option, Some, None, Contains, sym, ap, ◌∙◌, refl, arith, inl, inr}
 use Rattle.std.specs.Prelude.{nat_abs, find, count_by, flat_map}
 use Rattle.std.specs.List.{slice_split, onto_first, cons_option}
-use Rattle.std.proofs.lemmas.Bool.{and_parts, and_from, cond-true, cond-false, false≢true, ltb-true, cases_Bool}
+use Rattle.std.proofs.lemmas.Bool.{and_parts, cond-true, cond-false, ltb-true, cases_Bool}
 use Rattle.std.proofs.lemmas.List.{map_push, append-nil, get_or_default}
 use Rattle.std.proofs.lemmas.List.Elements.{All-contains}
 use Rattle.clause_core.specs.Literals.{Lit, literal_of}
@@ -20,14 +20,13 @@ use Rattle.refutation_check.specs.CnfText.{is_cnf, form_at, too_many_variables, 
 use Rattle.refutation_check.specs.CnfText.{first_wrong, numbers_of, clauses_of_numbers, answer_of_words, answer_of_header}
 use Rattle.refutation_check.specs.CnfText.{cnf_answer_of_lines}
 use Rattle.refutation_check.specs.CnfText.{cnf_answer}
-use Rattle.refutation_check.specs.internal.Reading.{are_within, ended_clauses}
-use Rattle.refutation_check.specs.LogText.{is_literal}
-use Rattle.refutation_check.proofs.NumberLemmas.{zero_from, onto_front, onto_front-nil, onto_front-first, zeros_more}
+use Rattle.refutation_check.specs.internal.Reading.{ended_clauses}
+use Rattle.refutation_check.proofs.NumberLemmas.{onto_front, onto_front-nil, onto_front-first, zeros_more}
 
 abbrev pub wrong_among : Counts → List (ℕ × (ℕ × List ℕ)) → Option (ℕ × (ℕ × List ℕ))
 wrong_among counts words = find (λ word. not (is_right counts word)) words
 
--- ---- the first pass
+-- ---- right words
 
 pub wrong_here : (counts : Counts) (passed : ℕ) (word : ℕ × List ℕ) (words : List (ℕ × List ℕ)) → is_right counts (passed, word) ≡ false →
     wrong_among counts (with_zeros passed (word ∷ words)) ≡ Some (passed, word)
@@ -52,41 +51,22 @@ ended_more word words = by_number (signed_number_in word.1)
     by_number None = omega arith
     by_number (Some n) = zeros_more n (numbers_of words)
 
--- what the first word of right ones means
+-- what right words show: a clause is left for the first, and the others are right
 record StartsRight (counts : Counts) (passed : ℕ) (word : ℕ × List ℕ) (words : List (ℕ × List ℕ)) : Type 0 where
-  number : ℤ
-  is : signed_number_in word.1 ≡ Some number
   left : passed < counts.clauses
-  within : leb (nat_abs number) counts.variables ≡ true
   rest : wrong_among counts (with_zeros (passed + cond (means is_zero word.1) 1 0) words) ≡ None
 
 starts_right : (counts : Counts) (passed : ℕ) (word : ℕ × List ℕ) (words : List (ℕ × List ℕ)) →
     wrong_among counts (with_zeros passed (word ∷ words)) ≡ None → StartsRight counts passed word words
 starts_right counts passed word words h = by_test (is_right counts (passed, word)) refl h
   where
-    by_number : (o : Option ℤ) → signed_number_in word.1 ≡ o → passes (λ n. leb (nat_abs n) counts.variables) o ≡ true →
-        passed < counts.clauses → is_right counts (passed, word) ≡ true → StartsRight counts passed word words
-    by_number None e p left right = absurd (false≢true p)
-    by_number (Some n) e p left right =
-        record { number = n; is = e; left = left; within = p; rest = sym (right_here counts passed word words right) ∙ h }
-
     by_test : (b : Bool) → is_right counts (passed, word) ≡ b →
         cond (not b) (Some (passed, word)) (wrong_among counts (with_zeros (passed + cond (means is_zero word.1) 1 0) words)) ≡ None →
         StartsRight counts passed word words
     by_test false e k = absurd cc
     by_test true e k =
         let parts = and_parts (ltb passed counts.clauses) (means (λ n. leb (nat_abs n) counts.variables) word.1) e in
-        by_number (signed_number_in word.1) refl parts.1 (ltb-true passed counts.clauses parts.0) e
-
--- right words mean numbers within the variables
-pub all_within : (counts : Counts) (words : List (ℕ × List ℕ)) (passed : ℕ) → wrong_among counts (with_zeros passed words) ≡ None →
-    are_within counts.variables words ≡ true
-all_within counts [] passed h = refl
-all_within counts (word ∷ words) passed h =
-    let r = starts_right counts passed word words h in
-    and_from (means (λ n. leb (nat_abs n) counts.variables) word.1) (are_within counts.variables words)
-    (ap (passes (λ n. leb (nat_abs n) counts.variables)) r.is
-    ∙ r.within) (all_within counts words (passed + cond (means is_zero word.1) 1 0) r.rest)
+        record { left = ltb-true passed counts.clauses parts.0; rest = sym (right_here counts passed word words e) ∙ h }
 
 -- right words end no more clauses than there are
 pub few_ended : (counts : Counts) (words : List (ℕ × List ℕ)) (passed : ℕ) → wrong_among counts (with_zeros passed words) ≡ None →
@@ -101,32 +81,7 @@ few_ended counts (word ∷ words) passed h within =
     one_more true left = omega arith
     one_more false left = omega arith
 
--- ---- the second pass
-
--- a word that means no literal, where all are within, means 0
-pub record StartsWithZero (variables : ℕ) (word : ℕ × List ℕ) (words : List (ℕ × List ℕ)) : Type 0 where
-  pub number : ℤ
-  pub is : signed_number_in word.1 ≡ Some number
-  pub zero' : is_zero number ≡ true
-  pub rest : are_within variables words ≡ true
-
-pub starts_with_zero : (variables : ℕ) (word : ℕ × List ℕ) (words : List (ℕ × List ℕ)) → variables < 2147483648 →
-    are_within variables (word ∷ words) ≡ true → passes is_literal (signed_number_in word.1) ≡ false → StartsWithZero variables word words
-starts_with_zero variables word words few h none =
-    by_number (signed_number_in word.1) refl
-    (and_parts (means (λ m. leb (nat_abs m) variables) word.1) (are_within variables words) h).0 none
-  where
-    by_number : (o : Option ℤ) → signed_number_in word.1 ≡ o → passes (λ m. leb (nat_abs m) variables) o ≡ true →
-        passes is_literal o ≡ false → StartsWithZero variables word words
-    by_number None e p q = absurd (false≢true p)
-    by_number (Some n) e p q =
-        record {
-          number = n;
-          is = e;
-          zero' = zero_from n variables few p q;
-          rest =
-              (and_parts (means (λ m. leb (nat_abs m) variables) word.1) (are_within variables words) h).1;
-        }
+-- ---- clauses
 
 pub over_in_order : (variables : ℕ) (literals : List Lit) → IsOver variables literals → IsOver variables (in_order literals)
 over_in_order variables literals over k d within =

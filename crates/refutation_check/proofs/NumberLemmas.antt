@@ -1,27 +1,15 @@
 -- Numbers that are 0, words that mean 0, and lists that are split at zeros.
-use Rattle.std.proofs.Common.{◌≡◌, ℕ, zero, suc, ◌+◌, ◌-◌, ◌*◌, ◌<◌, ◌≤◌, Bool, true, false, not, cond, eqb, leb, ltb, ◌&&◌, ℤ, pos, List}
+use Rattle.std.proofs.Common.{◌≡◌, ℕ, zero, suc, ◌+◌, ◌-◌, ◌*◌, ◌<◌, ◌≤◌, Bool, true, false, not, cond, eqb, leb, ◌&&◌, ℤ, pos, List}
 use Rattle.std.proofs.Common.{[], ◌∷◌, ◌++◌, length, Option, Some, None, sym, ap, ◌∙◌, refl, arith, append_assoc, append-nil}
-use Rattle.std.specs.Prelude.{nat_abs, count_by, fold, option_map, option_and_then}
+use Rattle.std.specs.Prelude.{count_by, fold, option_map, option_and_then}
 use Rattle.std.specs.List.{slice_split, onto_first, list_all}
 use Rattle.std.specs.Char.{is_ascii_digit}
-use Rattle.std.proofs.lemmas.Bool.{and_parts, true≢false, false≢true, leb-true, lt-ltb, eqb-false}
+use Rattle.std.proofs.lemmas.Bool.{and_parts, false≢true, leb-true, eqb-false}
 use Rattle.std.proofs.lemmas.List.Sums.{sum_by-cons}
 use Rattle.sequence.specs.Options.{passes}
 use Rattle.tsl_text.specs.Numbers.{is_digits, value_of, number_in, opposite, signed_number_in}
 use Rattle.refutation_check.specs.Numbers.{is_zero}
 use Rattle.refutation_check.specs.internal.Reading.{begins_with_zero}
-use Rattle.refutation_check.specs.LogText.{is_literal}
-
--- a small number that no literal has is 0
-pub zero_from : (n : ℤ) (most : ℕ) → most < 2147483648 → leb (nat_abs n) most ≡ true → is_literal n ≡ false → is_zero n ≡ true
-zero_from n most few within none = by_test (is_zero n) none
-  where
-    small : ltb (nat_abs n) 2147483648 ≡ true
-    small = lt-ltb (nat_abs n) 2147483648 (omega (arith, leb-true (nat_abs n) most within))
-
-    by_test : (b : Bool) → not b && ltb (nat_abs n) 2147483648 ≡ false → b ≡ true
-    by_test true h = refl
-    by_test false h = absurd (true≢false (sym small ∙ h))
 
 -- ---- lists split at zeros
 

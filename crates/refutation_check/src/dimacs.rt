@@ -1,21 +1,24 @@
 //! The reader of formulas in the DIMACS form.
 
-ghost use Rattle.std.specs.Prelude.{◌≡◌, ◌+◌, ◌^◌, ◌<◌, ◌≤◌, ℕ, true, not, cond, [], ◌∷◌, List, Some, None, Err, IfOk, IfErr, IfSome, IfNone, length, find, option_map, count_by, is_some, All};
+ghost use Rattle.std.specs.Prelude.{◌≡◌, ◌+◌, ◌^◌, ◌<◌, ◌≤◌, ℕ, ℤ, nat_abs, cond, [], ◌∷◌, ◌++◌, List, Some, None, Err, IfOk, OnOk, IfErr, IfSome, IfNone, length, option_map, count_by, is_some, All};
 ghost use Rattle.clause_core.specs.Clauses.{IsOver};
 ghost use Rattle.tsl_text.specs.Lines.{lines, words};
 ghost use Rattle.tsl_text.specs.Cursor.{line_view};
+ghost use Rattle.tsl_text.specs.Numbers.{signed_number_in};
 ghost use Rattle.refutation_check.specs.DataLines.{is_comment, data_lines};
 ghost use Rattle.refutation_check.specs.Numbers.{is_zero};
-ghost use Rattle.refutation_check.specs.CnfText.{header, means, is_right, first_wrong, numbers_of, cnf_answer, is_cnf, form_at, too_many_variables, too_many_clauses};
-ghost use Rattle.refutation_check.specs.internal.Reading.{data_lines_from, words_from, words_left, HasFewLines, are_within, ended_clauses};
+ghost use Rattle.refutation_check.specs.CnfText.{header, is_right, first_wrong, numbers_of, cnf_answer, is_cnf, form_at, too_many_variables, too_many_clauses};
+ghost use Rattle.refutation_check.specs.internal.Reading.{data_lines_from, words_from, words_left, HasFewLines, AreWithinLimits, ended_clauses};
 
 use crate::lines::is_comment;
-use crate::numbers::{ends_list, is_within, literal_in};
-use clause_core::{Clause, Cnf, clause_of};
+use crate::numbers::literal_of;
+use clause_core::{Clause, Cnf, Literal, clause_of};
 use sequence::{NoMemory, Sequence};
 use std::alloc::Global;
 use thiserror::Error;
-use tsl_text::{Line, Lines, first_line, first_word, line_count, lines_of, number_in};
+use tsl_text::{
+    Line, Lines, first_line, first_word, line_count, lines_of, number_in, signed_number_in,
+};
 
 /// How many variables a formula may have.
 pub const MOST_VARIABLES: u64 = 1_048_576;
@@ -86,29 +89,26 @@ pub fn read_dimacs(alloc: Global, text: &[u8]) -> Result<Cnf, CnfError>
     ensures variables { result ≡ Err CnfError.Variables → cnf_answer text.now ≡ too_many_variables }
     ensures clauses { result ≡ Err CnfError.Clauses → cnf_answer text.now ≡ too_many_clauses }
 {
-    let after = line_count(text) + 1;
     let Some((first, left)) = first_data_line(text) else {
-        return Err(CnfError::Form(after));
+        return Err(CnfError::Form(line_count(text) + 1));
     };
     let Some(counts) = header(first.bytes) else {
         return Err(CnfError::Form(first.number));
     };
     let rest = after_line(first.number, left.text);
-    match check_words(counts, rest) {
+    match read_words(alloc, counts, rest)? {
         Err(line) => Err(CnfError::Form(line)),
-        Ok(ended) => {
-            if ended < counts.clauses {
-                Err(CnfError::Form(after))
+        Ok(told) => {
+            if told.ended < counts.clauses {
+                Err(CnfError::Form(line_count(text) + 1))
             } else if counts.variables > MOST_VARIABLES {
                 Err(CnfError::Variables)
             } else if counts.clauses > MOST_CLAUSES {
                 Err(CnfError::Clauses)
             } else {
-                let variables = counts.variables as u32;
-                let clauses = read_clauses(alloc, variables, rest)?;
                 Ok(Cnf {
-                    variables,
-                    clauses: Sequence::from_vec(clauses),
+                    variables: counts.variables as u32,
+                    clauses: Sequence::from_vec(told.clauses),
                 })
             }
         }
@@ -209,61 +209,84 @@ fn next_line(rest: Rest<'_>) -> Option<Rest<'_>>
     }
 }
 
-/// Whether the words are right; then it is how many clauses they end, and otherwise the line of the first
-/// wrong word.
-fn check_words(counts: Counts, rest: Rest<'_>) -> Result<u64, u32>
+/// What the words tell where they are right, and otherwise the line of the first wrong word.
+fn read_words(alloc: Global, counts: Counts, rest: Rest<'_>) -> Result<Result<Told, u32>, NoMemory>
     requires { HasFewLines rest.number rest.text.now }
-    ensures right { IfOk result (λ ended. first_wrong counts (words_left rest.entry.line.now rest.entry.number rest.entry.text.now) ≡ None) }
-    ensures ended { IfOk result (λ ended. ended ≡ count_by is_zero (numbers_of (words_left rest.entry.line.now rest.entry.number rest.entry.text.now))) }
-    ensures wrong { IfErr result (λ line. option_map (λ word. word.1.0) (first_wrong counts (words_left rest.entry.line.now rest.entry.number rest.entry.text.now)) ≡ Some line) }
+    ensures right { IfOk result (λ read. IfOk read (λ told. first_wrong counts (words_left rest.entry.line.now rest.entry.number rest.entry.text.now) ≡ None)) }
+    ensures ended { IfOk result (λ read. IfOk read (λ told. told.ended ≡ count_by is_zero (numbers_of (words_left rest.entry.line.now rest.entry.number rest.entry.text.now)))) }
+    ensures clauses { IfOk result (λ read. IfOk read (λ told. AreWithinLimits counts →
+        told.clauses.items ≡ ended_clauses [] (numbers_of (words_left rest.entry.line.now rest.entry.number rest.entry.text.now)))) }
+    ensures over { IfOk result (λ read. IfOk read (λ told. All (IsOver counts.variables) told.clauses.items)) }
+    ensures wrong { IfOk result (λ read. IfErr read (λ line. option_map (λ word. word.1.0) (first_wrong counts (words_left rest.entry.line.now rest.entry.number rest.entry.text.now)) ≡ Some line)) }
 {
-    let mut ended = 0;
+    let mut told = Told {
+        ended: 0,
+        clauses: Vec::new(alloc),
+        literals: Vec::new(alloc),
+    };
     let mut rest = rest;
     while let Some((word, later)) = next_word(rest) {
-        let Some(more) = ended_by(counts, ended, word.bytes) else {
-            return Err(word.line);
+        let Some(number) = right_number(counts, told.ended, word.bytes) else {
+            return Ok(Err(word.line));
         };
-        ended += more;
+        told.add(alloc, counts, number)?;
         rest = later;
     }
-    Ok(ended)
+    Ok(Ok(told))
 }
 
-/// How many clauses the word ends, one or none, if it is right after so many ended ones.
-fn ended_by(counts: Counts, ended: u64, word: &[u8]) -> Option<u64>
-    ensures value { IfSome result (λ more. more ≡ cond (means is_zero word.now) 1 0) }
-    ensures few { IfSome result (λ more. ended + more ≤ counts.clauses) }
+/// The number that the word means, if the word is right after so many ended clauses.
+fn right_number(counts: Counts, ended: u64, word: &[u8]) -> Option<i64>
+    ensures value { IfSome result (λ number. signed_number_in word.now ≡ Some number) }
+    ensures few { IfSome result (λ number. ended < counts.clauses) }
+    ensures within { IfSome result (λ number. nat_abs number ≤ counts.variables) }
     ensures right { (line : ℕ) → is_right counts (ended, (line, word.now)) ≡ is_some result }
 {
-    if ended >= counts.clauses || !is_within(counts.variables, word) {
-        None
-    } else if ends_list(word) {
-        Some(1)
-    } else {
-        Some(0)
+    match signed_number_in(word) {
+        None => None,
+        Some(number) => {
+            if ended < counts.clauses && number.unsigned_abs() <= counts.variables {
+                Some(number)
+            } else {
+                None
+            }
+        }
     }
 }
 
-/// The clauses that the words tell, which mean numbers up to this one and their opposites.
-fn read_clauses(alloc: Global, variables: u32, rest: Rest<'_>) -> Result<Vec<Clause>, NoMemory>
-    requires few_variables { variables < 2 ^ 31 }
-    requires few { HasFewLines rest.number rest.text.now }
-    requires right { are_within variables (words_left rest.line.now rest.number rest.text.now) ≡ true }
-    ensures value { IfOk result (λ clauses. clauses.items ≡ ended_clauses [] (numbers_of (words_left rest.entry.line.now rest.entry.number rest.entry.text.now))) }
-    ensures over { IfOk result (λ clauses. All (IsOver variables) clauses.items) }
-{
-    let mut clauses = Vec::new(alloc);
-    let mut literals = Vec::new(alloc);
-    let mut rest = rest;
-    while let Some((word, later)) = next_word(rest) {
-        match literal_in(word.bytes) {
-            Some(literal) => literals.push(literal)?,
+/// What words tell: how many clauses they end, these clauses, and the literals after them. Where the
+/// counts pass a limit, no clause is kept.
+#[derive(Drop)]
+struct Told {
+    ended: u64,
+    clauses: Vec<Clause>,
+    literals: Vec<Literal>,
+}
+
+impl Told {
+    /// Adds what one more number tells.
+    fn add(&mut self, alloc: Global, counts: Counts, number: i64) -> Result<(), NoMemory>
+        requires few { self.old.ended < counts.clauses }
+        requires within { nat_abs number ≤ counts.variables }
+        ensures ended { OnOk result (self.new.ended ≡ self.old.ended + cond (is_zero number) 1 0) }
+        ensures clauses { OnOk result (AreWithinLimits counts → (ns : List ℤ) →
+            self.new.clauses.items ++ ended_clauses self.new.literals.items ns
+            ≡ self.old.clauses.items ++ ended_clauses self.old.literals.items (number ∷ ns)) }
+        ensures over { OnOk result (All (IsOver counts.variables) self.old.clauses.items → IsOver counts.variables self.old.literals.items →
+            All (IsOver counts.variables) self.new.clauses.items × IsOver counts.variables self.new.literals.items) }
+    {
+        self.ended += u64::from(number == 0);
+        if counts.variables > MOST_VARIABLES || counts.clauses > MOST_CLAUSES {
+            return Ok(());
+        }
+        match literal_of(number) {
+            Some(literal) => self.literals.push(literal)?,
             None => {
-                clauses.push(clause_of(alloc, literals.as_slice())?)?;
-                literals.clear();
+                self.clauses
+                    .push(clause_of(alloc, self.literals.as_slice())?)?;
+                self.literals.clear();
             }
         }
-        rest = later;
+        Ok(())
     }
-    Ok(clauses)
 }

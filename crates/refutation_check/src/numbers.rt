@@ -1,6 +1,6 @@
 //! Numbers that words mean.
 
-ghost use Rattle.std.specs.Prelude.{◌≡◌, ◌<◌, ◌≤◌, true, Some, pos, nat_le, nat_abs, is_some, IfSome};
+ghost use Rattle.std.specs.Prelude.{◌≡◌, ◌<◌, true, Some, pos, is_some, IfSome};
 ghost use Rattle.sequence.specs.Options.{passes};
 ghost use Rattle.clause_core.specs.Literals.{signed_number_of};
 ghost use Rattle.tsl_text.specs.Numbers.{signed_number_in};
@@ -30,16 +30,6 @@ fn begins_with_zero(word: &[u8]) -> bool
     matches!(word, [b'0', ..])
 }
 
-/// Whether the word means a number up to this one or its opposite.
-pub fn is_within(most: u64, word: &[u8]) -> bool
-    ensures { result ≡ passes (λ n. nat_le (nat_abs n) most) (signed_number_in word.now) }
-{
-    match signed_number_in(word) {
-        None => false,
-        Some(number) => number.unsigned_abs() <= most,
-    }
-}
-
 /// The literal whose number the word means. `None` where it means none, or no literal has its number.
 pub fn literal_in(word: &[u8]) -> Option<Literal>
     ensures value { IfSome result (λ literal. signed_number_in word.now ≡ Some (signed_number_of literal)) }
@@ -47,13 +37,19 @@ pub fn literal_in(word: &[u8]) -> Option<Literal>
 {
     match signed_number_in(word) {
         None => None,
-        Some(number) => {
-            if number.unsigned_abs() < 2_147_483_648 {
-                Literal::new(number as i32)
-            } else {
-                None
-            }
-        }
+        Some(number) => literal_of(number),
+    }
+}
+
+/// The literal of the number. `None` where none has it.
+pub fn literal_of(number: i64) -> Option<Literal>
+    ensures value { IfSome result (λ literal. number ≡ signed_number_of literal) }
+    ensures some { is_some result ≡ is_literal number }
+{
+    if number.unsigned_abs() < 2_147_483_648 {
+        Literal::new(number as i32)
+    } else {
+        None
     }
 }
 

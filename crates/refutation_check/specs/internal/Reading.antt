@@ -1,7 +1,6 @@
 -- Internal: how far a text has been read. Only private functions of this crate use these words.
-use Rattle.std.specs.Prelude.{ℕ, ◌+◌, ◌<◌, ◌≤◌, ◌^◌, ⊤, nat_le, ◌==◌, Bool, false, not, cond, ℤ, pos, nat_abs, List, [], ◌∷◌, ◌++◌, map}
+use Rattle.std.specs.Prelude.{ℕ, ◌+◌, ◌<◌, ◌≤◌, ◌^◌, ⊤, ◌==◌, Bool, false, not, cond, ℤ, pos, List, [], ◌∷◌, ◌++◌, map}
 use Rattle.std.specs.Prelude.{filter, length, flat_map, find, filter_map, Option, Some, None, option_map}
-use Rattle.std.specs.List.{list_all}
 use Rattle.clause_core.specs.Literals.{Lit, signed_number_of, literal_of}
 use Rattle.clause_core.specs.Clauses.{in_order}
 use Rattle.sequence.specs.Options.{all_there}
@@ -9,8 +8,9 @@ use Rattle.tsl_text.specs.Lines.{NumberedLine, lines_from}
 use Rattle.tsl_text.specs.Numbers.{signed_number_in}
 use Rattle.refutation_check.specs.DataLines.{is_comment, words_at, words_beside}
 use Rattle.refutation_check.specs.Numbers.{is_zero}
-use Rattle.refutation_check.specs.CnfText.{means}
 use Rattle.refutation_check.specs.LogText.{LogAnswer, is_log, form_at, step_of_numbers, are_deleted, line_answer, is_wrong, step_in}
+use Rattle.refutation_check.specs.declared.dimacs.Counts.{Counts}
+use Rattle.refutation_check.specs.declared.dimacs.TheConstants.{MOST_VARIABLES, MOST_CLAUSES}
 use Rattle.refutation_check.specs.declared.steps.Step.{Step}
 use Rattle.refutation_check.specs.declared.lrat.Line.{Line}
 use Rattle.refutation_check.specs.declared.lrat.Line.TheVariants.{Says, NoEffect, Wrong}
@@ -38,9 +38,9 @@ words_left line number text = words_at number line ++ words_from (number + 1) te
 abbrev pub HasFewLines : ℕ → List ℕ → Type 0
 HasFewLines number text = (number + 1) + length text < 2 ^ 32
 
--- each word means a number up to this one or its opposite
-abbrev pub are_within : ℕ → List (ℕ × List ℕ) → Bool
-are_within variables words = list_all (λ word. means (λ n. nat_le (nat_abs n) variables) word.1) words
+-- the counts of a header are within the limits
+abbrev pub AreWithinLimits : Counts → Type 0
+AreWithinLimits counts = (counts.variables ≤ MOST_VARIABLES) × (counts.clauses ≤ MOST_CLAUSES)
 
 -- the clauses that zeros end, where the first has these literals already
 abbrev pub ended_clauses : List Lit → List ℤ → List (List Lit)
