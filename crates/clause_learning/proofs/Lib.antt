@@ -1,4 +1,7 @@
-pub mod HeapPlaces
+pub mod Counts
+pub mod NumberBits
+pub mod Rounds
+pub mod Queueing
 pub mod Deciding
 pub mod HintLists
 pub mod Marking

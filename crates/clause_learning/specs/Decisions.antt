@@ -1,12 +1,14 @@
 -- Internal to the solver: no clause of a public function of `sat_core` uses these words.
 -- The order of decisions, and the assignment that is read off a trail.
-use Rattle.std.specs.Prelude.{◌≡◌, ◌≢◌, ℕ, ◌<◌, Bool, true, false, List, length, Some, None, slice_get}
+use Rattle.std.specs.Prelude.{◌≡◌, ◌≢◌, ℕ, ◌<◌, Bool, true, false, List, length, Some, None, slice_get, slice_index_or, ◌⊎◌, Contains}
 use Rattle.clause_core.specs.Literals.{Lit, has}
 use Rattle.sat_trail.specs.declared.entries.Entry.{Entry}
 use Rattle.sat_trail.specs.Entries.{literals_of, place_of}
 use Rattle.sat_trail.specs.States.{TrailState, IsSound, decided}
 use Rattle.clause_learning.specs.declared.choices.Decisions.{Decisions}
-use Rattle.clause_learning.specs.Heaps.{IsHeap, heap_variables, is_queued}
+use Rattle.clause_learning.specs.declared.queue.VariableQueue.{VariableQueue}
+use Rattle.clause_learning.specs.Tournaments.{is_before}
+use Rattle.clause_learning.specs.Queues.{IsVariableQueue, variable_count, is_queued, rank_of}
 
 -- all of the first variables are set
 abbrev pub AreSet : List Entry → ℕ → Type 0
@@ -17,25 +19,37 @@ pub record IsUnset (entries : List Entry) (variables index : ℕ) : Type 0 where
   pub over : index < variables
   pub unset : place_of entries index ≡ None
 
--- each of the variables has an activity and a value to be decided to, and is in the heap while it is not set
+-- The rule of decisions: of the variables that are not set it is the most active one, and of two that are as active the one of the
+-- smaller number.
+pub record IsNextUnset (entries : List Entry) (variables : ℕ) (queue : VariableQueue) (index : ℕ) : Type 0 where
+  pub unset : IsUnset entries variables index
+  pub first : (other : ℕ) → IsUnset entries variables other → other ≢ index → is_before (rank_of queue index) (rank_of queue other) ≡ true
+
+-- what is decided was decided before and is to be repeated, or it is the next variable, to the value that it had last
+abbrev pub IsChosen : List Entry → ℕ → Decisions → Lit → Type 0
+IsChosen entries variables d literal = Contains d.repeated.items literal
+    ⊎ (IsNextUnset entries variables d.queue literal.index × (literal.positive ≡ slice_index_or d.phases.items literal.index false))
+
+-- each of the variables has an activity and a value to be decided to, and is in the queue while it is not set
 pub record AreDecisions (variables : ℕ) (entries : List Entry) (d : Decisions) : Type 0 where
-  pub heap : IsHeap d.heap
-  pub one_activity_each : heap_variables d.heap ≡ variables
+  pub queue : IsVariableQueue d.queue
+  pub one_activity_each : variable_count d.queue ≡ variables
   pub one_value_each : length d.phases.items ≡ variables
-  pub queued : (index : ℕ) → index < variables → place_of entries index ≡ None → is_queued d.heap index ≡ true
+  pub queued : (index : ℕ) → index < variables → place_of entries index ≡ None → is_queued d.queue index ≡ true
 
 -- a variable that was not set is decided
-pub record HasDecided (old new : TrailState) (after : Decisions) : Type 0 where
+pub record HasDecided (old : TrailState) (before : Decisions) (new : TrailState) (after : Decisions) : Type 0 where
   pub literal : Lit
+  pub chosen : IsChosen old.entries old.variables before literal
   pub unset : IsUnset old.entries old.variables literal.index
   pub trail_is : new ≡ decided old literal
   pub sound : IsSound new
   pub decisions : AreDecisions new.variables new.entries after
 
 -- what a decision comes to: a variable is decided, or all are set and nothing changes
-abbrev pub Decides : TrailState → TrailState → Decisions → Bool → Type 0
-Decides old new after true = HasDecided old new after
-Decides old new after false = AreSet old.entries old.variables × (new ≡ old)
+abbrev pub Decides : TrailState → Decisions → TrailState → Decisions → Bool → Type 0
+Decides old before new after true = HasDecided old before new after
+Decides old before new after false = AreSet old.entries old.variables × (new ≡ old)
 
 -- one truth for each variable: whether its positive literal is set
 pub record AreVariableTruths (entries : List Entry) (variables : ℕ) (truths : List Bool) : Type 0 where

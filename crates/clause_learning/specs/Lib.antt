@@ -1,6 +1,8 @@
 pub mod Hints
 pub mod Levels
-pub mod Heaps
+pub mod NumberSets
+pub mod Queues
+pub mod Tournaments
 pub mod Decisions
 pub mod Shelves
 pub mod Lessons

@@ -1,22 +1,22 @@
 //! The order of decisions, and the assignment that is read off a trail.
 
-ghost use Rattle.std.specs.Prelude.{◌≡◌, ◌==◌, ◌||◌, ◌^◌, ◌<◌, ◌++◌, ◌∷◌, [], ℕ, List, length, true, false, All, MatchOption, IfSome, IfOk, OnOk};
+ghost use Rattle.std.specs.Prelude.{◌≡◌, ◌==◌, ◌||◌, ◌^◌, ◌<◌, ◌++◌, ◌∷◌, [], ℕ, List, length, true, false, All, Contains, MatchOption, IfSome, IfOk, OnOk};
 ghost use Rattle.sat_trail.specs.declared.entries.Entry.{Entry};
 ghost use Rattle.sat_trail.specs.States.{TrailState, IsSound, up_to};
-ghost use Rattle.clause_learning.specs.Heaps.{IsHeap, heap_variables, is_queued};
-ghost use Rattle.clause_learning.specs.Decisions.{AreSet, IsUnset, AreDecisions, Decides, AreVariableTruths};
+ghost use Rattle.clause_learning.specs.Queues.{IsVariableQueue, variable_count, is_queued};
+ghost use Rattle.clause_learning.specs.Decisions.{AreSet, IsUnset, AreDecisions, IsNextUnset, Decides, AreVariableTruths};
 
-use crate::heap::VariableHeap;
+use crate::queue::VariableQueue;
 use clause_core::{Assignment, Literal};
 use sat_trail::Trail;
 use sequence::{NoMemory, Sequence};
 use std::alloc::Global;
 
 /// What is decided next: of the variables that are not set the most active one, to the value that it had
-/// last. Each of them is in the heap; those that are set may be there too.
+/// last. Each of them is in the queue; those that are set may be there too.
 #[derive(Drop)]
 pub struct Decisions {
-    heap: VariableHeap,
+    queue: VariableQueue,
     /// For each variable the value that it had last; false at first.
     phases: Vec<bool>,
     /// What is to be decided before all else, the last one first.
@@ -30,7 +30,7 @@ impl Decisions {
         ensures { IfOk result (λ decisions. (entries : List Entry) → AreDecisions variables entries decisions) }
     {
         Ok(Decisions {
-            heap: VariableHeap::new(alloc, variables)?,
+            queue: VariableQueue::new(alloc, variables)?,
             phases: vec![in alloc; false; variables as usize]?,
             repeated: Vec::new(alloc),
         })
@@ -41,7 +41,7 @@ impl Decisions {
         requires usable { trail.old.broken ≡ false }
         requires sound { IsSound trail.old }
         requires decisions { AreDecisions trail.old.variables trail.old.entries self.old }
-        ensures { IfOk result (Decides trail.old trail.new self.new) }
+        ensures { IfOk result (Decides trail.old self.old trail.new self.new) }
     {
         if let Some(literal) = self.next_repeated(trail) {
             trail.decide(literal)?;
@@ -60,6 +60,7 @@ impl Decisions {
         requires usable { trail.now.broken ≡ false }
         requires values { length self.old.phases.items ≡ trail.now.variables }
         ensures unset { IfSome result (λ literal. IsUnset trail.now.entries trail.now.variables literal.index) }
+        ensures repeated { IfSome result (Contains self.old.repeated.items) }
         ensures rest { self.new ≡ record self.old { repeated = self.new.repeated } }
     {
         while let Some(literal) = self.repeated.pop() {
@@ -79,17 +80,18 @@ impl Decisions {
         literal.index() < self.phases.len() && trail.set_place(literal.variable()).is_none()
     }
 
-    /// Takes the next variable that is not set out of the heap; none where all are set.
+    /// Takes the next variable that is not set out of the queue; none where all are set.
     fn next_variable(&mut self, trail: &Trail) -> Option<u32>
         requires usable { trail.now.broken ≡ false }
         requires few { trail.now.variables < 2 ^ 31 }
         requires decisions { AreDecisions trail.now.variables trail.now.entries self.old }
-        ensures found { MatchOption result (AreSet trail.now.entries trail.now.variables) (IsUnset trail.now.entries trail.now.variables) }
-        ensures phases { length self.new.phases.items ≡ trail.now.variables }
+        ensures found { MatchOption result (AreSet trail.now.entries trail.now.variables) (IsNextUnset trail.now.entries trail.now.variables self.old.queue) }
+        ensures values { length self.new.phases.items ≡ trail.now.variables }
+        ensures phases { self.new.phases.items ≡ self.old.phases.items }
         ensures decisions { MatchOption result (AreDecisions trail.now.variables trail.now.entries self.new)
             (λ index. (e : Entry) → e.literal.index ≡ index → AreDecisions trail.now.variables (trail.now.entries ++ e ∷ []) self.new) }
     {
-        while let Some(index) = self.heap.pop() {
+        while let Some(index) = self.queue.pop() {
             if trail.set_place(index + 1).is_none() {
                 return Some(index);
             }
@@ -98,13 +100,12 @@ impl Decisions {
     }
 
     /// Notes that what is above a level will be taken back: those variables may be decided again, and
-    /// each to the value that it has; nothing is to be decided before all else. An `Err` says that memory
-    /// ran out.
-    pub fn take_back(&mut self, trail: &Trail, level: u32) -> Result<(), NoMemory>
+    /// each to the value that it has; nothing is to be decided before all else.
+    pub fn take_back(&mut self, trail: &Trail, level: u32)
         requires usable { trail.now.broken ≡ false }
         requires sound { IsSound trail.now }
         requires decisions { AreDecisions trail.now.variables trail.now.entries self.old }
-        ensures { OnOk result (AreDecisions trail.now.variables (up_to level trail.now.entries) self.new) }
+        ensures { AreDecisions trail.now.variables (up_to level trail.now.entries) self.new }
     {
         self.repeated.clear();
         let mut place = trail.set_count();
@@ -113,10 +114,9 @@ impl Decisions {
             if trail.level_at(last) <= level {
                 break;
             }
-            self.give_back(trail.set_at(last))?;
+            self.give_back(trail.set_at(last));
             place = last;
         }
-        Ok(())
     }
 
     /// Notes that all will be taken back, and what was decided is to be decided again first. An `Err` says
@@ -133,7 +133,7 @@ impl Decisions {
             place -= 1;
             let literal = trail.set_at(place);
             self.repeat_if(literal, trail.reason_at(place).is_none())?;
-            self.give_back(literal)?;
+            self.give_back(literal);
         }
         Ok(())
     }
@@ -149,29 +149,29 @@ impl Decisions {
     }
 
     /// The variable of a literal that is set may be decided again, to the value that it has.
-    fn give_back(&mut self, literal: Literal) -> Result<(), NoMemory>
-        requires heap { IsHeap self.old.heap }
-        requires within { literal.index < heap_variables self.old.heap }
-        requires phases { heap_variables self.old.heap ≡ length self.old.phases.items }
-        ensures queued { OnOk result ((other : ℕ) → is_queued self.new.heap other ≡ (is_queued self.old.heap other || other == literal.index)) }
-        ensures count { OnOk result (heap_variables self.new.heap ≡ heap_variables self.old.heap) }
+    fn give_back(&mut self, literal: Literal)
+        requires queue { IsVariableQueue self.old.queue }
+        requires within { literal.index < variable_count self.old.queue }
+        requires phases { variable_count self.old.queue ≡ length self.old.phases.items }
+        ensures queued { (other : ℕ) → is_queued self.new.queue other ≡ (is_queued self.old.queue other || other == literal.index) }
+        ensures count { variable_count self.new.queue ≡ variable_count self.old.queue }
         ensures phases { length self.new.phases.items ≡ length self.old.phases.items }
-        ensures heap { OnOk result (IsHeap self.new.heap) }
+        ensures queue { IsVariableQueue self.new.queue }
     {
         self.phases[literal.index()] = literal.is_positive();
-        self.heap.push(literal.variable() - 1)
+        self.queue.push(literal.variable() - 1);
     }
 
     /// Makes these variables more active, and those of later conflicts more than these.
     pub fn bump(&mut self, variables: &[u32])
-        requires heap { IsHeap self.old.heap }
-        requires within { All (λ variable. variable < heap_variables self.old.heap) variables.now }
+        requires queue { IsVariableQueue self.old.queue }
+        requires within { All (λ variable. variable < variable_count self.old.queue) variables.now }
         ensures { (variables : ℕ) (entries : List Entry) → AreDecisions variables entries self.old → AreDecisions variables entries self.new }
     {
         for variable in variables {
-            self.heap.bump(*variable);
+            self.queue.bump(*variable);
         }
-        self.heap.grow();
+        self.queue.grow();
     }
 }
 

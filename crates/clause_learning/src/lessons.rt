@@ -59,7 +59,7 @@ pub fn learn(
     let lesson = lesson_of(alloc, trail, units, walk, conflict)?;
     let level = level_after(anew, lesson.back);
     decisions.bump(walk.marks.looked.as_slice());
-    decisions.take_back(trail, level)?;
+    decisions.take_back(trail, level);
     trail.undo_to(level);
     let _ = trail.learn(clause_of(alloc, lesson.clause.literals())?)?;
     journal.add(alloc, lesson.clause, lesson.hints.as_slice())?;

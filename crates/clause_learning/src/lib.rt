@@ -1,7 +1,7 @@
 //! What a search for an assignment decides, learns from its conflicts, and writes in its log.
 //!
 //! `Decisions` say which variable is decided next: of those that are not set the most active one, which
-//! `VariableHeap` has first, to the value that it had last. A variable is active as far as conflicts were
+//! `VariableQueue` has first, to the value that it had last. A variable is active as far as conflicts were
 //! found by it, the later ones the more.
 //!
 //! `learn` walks from a conflict back along the trail to the first unique implication point, as N. Eén and
@@ -17,21 +17,23 @@
 
 mod choices;
 mod drops;
-mod heap;
 mod journal;
 mod lessons;
 mod marks;
+mod numbers;
+mod queue;
 mod restarts;
 mod shelves;
+mod tournament;
 mod units;
 mod walks;
 
 pub use choices::{Decisions, assignment_of};
 pub use drops::Drops;
-pub use heap::VariableHeap;
 pub use journal::Journal;
 pub use lessons::{learn, refute};
 pub use marks::Marks;
+pub use queue::VariableQueue;
 pub use restarts::Restarts;
 pub use shelves::{Kept, Shelf, copies};
 pub use units::Units;

@@ -78,6 +78,30 @@ fn entries_have_levels_and_reasons(rt: HostRuntime) -> Result<(), Fail> {
 }
 
 #[test]
+fn a_trail_whose_memory_ran_out_is_only_dropped(rt: HostRuntime) -> Result<(), Fail> {
+    let alloc = rt.alloc();
+    let cnf = formula_of(alloc, 4, &[&[1, 2], &[-2, 3], &[-3, -4, 2]])?;
+    let mut trail = Trail::new(alloc, &cnf)?;
+    // Behind an error no other call takes the trail: each of them asks that memory never ran out.
+    match trail.propagate() {
+        Ok(conflict) => assert!(rt; conflict.is_none()),
+        Err(_) => return Ok(()),
+    }
+    let denied = literal(-1)?;
+    if denied.variable() <= 4 && trail.value(denied).is_none() {
+        match trail.decide(denied) {
+            Ok(()) => assert_eq!(rt; trail.level(), 1),
+            Err(_) => return Ok(()),
+        }
+        if let Ok(conflict) = trail.propagate() {
+            assert!(rt; conflict.is_none());
+            assert_eq!(rt; trail.set_count(), 3);
+        }
+    }
+    Ok(())
+}
+
+#[test]
 fn the_first_tautology_is_named(rt: HostRuntime) -> Result<(), Fail> {
     let alloc = rt.alloc();
     let cnf = formula_of(alloc, 4, &[&[1, 2], &[-3, 1, 3], &[2, -2]])?;

@@ -55,8 +55,8 @@ pub add-requires-clause-named : goal.add-requires-clause-named
 add-requires-clause-named c = subst (AreHints (length c.args.journal.now.shelf.numbers.items)) (sym c.as_slice-2.ensures.value)
     (subst (λ (n : ℕ). AreHints n c.in_ok-lesson.lesson.hints.items) (sym c.requires.numbers) c.in_ok-lesson.ensures.lesson.named)
 
-pub bump-requires-clause-heap : goal.bump-requires-clause-heap
-bump-requires-clause-heap c = c.requires.decisions.heap
+pub bump-requires-clause-queue : goal.bump-requires-clause-queue
+bump-requires-clause-queue c = c.requires.decisions.queue
 
 pub bump-requires-clause-within : goal.bump-requires-clause-within
 bump-requires-clause-within c = subst (λ (n : ℕ). All (λ variable. variable < n) c.as_slice.result.now)
@@ -75,4 +75,4 @@ returns-clause-marks c = subst (λ (n : ℕ). AreNoMarks n c.lesson_of.new.walk.
 pub returns-clause-decisions : goal.returns-clause-decisions
 returns-clause-decisions c = subst (λ (s : TrailState). AreDecisions s.variables s.entries c.take_back.new.self)
     (sym (c.in_ok-learn.ensures.ok ∙ ap (λ (s : TrailState). with_clause s c.in_ok-clause_of.field-0) c.undo_to.ensures.value))
-    c.in_ok-take_back.ensures
+    c.take_back.ensures

@@ -90,8 +90,8 @@ assignment_of-requires-clause-usable c =
     let p = searching_propagated c.loop-units.invariant.searching e.propagated e.units e.added e.most e.sound in
     let u = c.propagate.new.trail in
     let w = c.decide.new.trail in
-    let all : Decides u w c.decide.new.self false =
-    subst (Decides u w c.decide.new.self) c.if-branch.false c.in_ok-decide.ensures in
+    let all : Decides u c.loop-units.decisions w c.decide.new.self false =
+    subst (Decides u c.loop-units.decisions w c.decide.new.self) c.if-branch.false c.in_ok-decide.ensures in
     ap (λ (s : TrailState). s.broken) all.1 ∙ p.0.logged.search.usable
 
 pub assignment_of-requires-clause-variables : goal.assignment_of-requires-clause-variables
@@ -100,8 +100,8 @@ assignment_of-requires-clause-variables c =
     let p = searching_propagated c.loop-units.invariant.searching e.propagated e.units e.added e.most e.sound in
     let u = c.propagate.new.trail in
     let w = c.decide.new.trail in
-    let all : Decides u w c.decide.new.self false =
-    subst (Decides u w c.decide.new.self) c.if-branch.false c.in_ok-decide.ensures in
+    let all : Decides u c.loop-units.decisions w c.decide.new.self false =
+    subst (Decides u c.loop-units.decisions w c.decide.new.self) c.if-branch.false c.in_ok-decide.ensures in
     sym (ap (λ (s : TrailState). s.variables) all.1 ∙ p.0.logged.search.same_variables)
 
 pub returns-in_default-2 : goal.returns-in_default-2
@@ -110,8 +110,8 @@ returns-in_default-2 c =
     let p = searching_propagated c.loop-units.invariant.searching e.propagated e.units e.added e.most e.sound in
     let u = c.propagate.new.trail in
     let w = c.decide.new.trail in
-    let all : Decides u w c.decide.new.self false =
-    subst (Decides u w c.decide.new.self) c.if-branch.false c.in_ok-decide.ensures in
+    let all : Decides u c.loop-units.decisions w c.decide.new.self false =
+    subst (Decides u c.loop-units.decisions w c.decide.new.self) c.if-branch.false c.in_ok-decide.ensures in
     let cnf = c.args.cnf.now in
     let journal = c.propagate.new.journal in
     let quiet : IsQuiet u.clauses (literals_of u.entries) = subst (λ (o : Option ℕ). EndsWith o u) c.in_default-2.is e.ends in
@@ -127,8 +127,8 @@ loop-units-preserved-then-branch c =
     let p = searching_propagated c.loop-units.invariant.searching e.propagated e.units e.added e.most e.sound in
     let u = c.propagate.new.trail in
     let w = c.decide.new.trail in
-    let decided : HasDecided u w c.decide.new.self =
-    subst (Decides u w c.decide.new.self) c.if-branch.true c.in_ok-decide.ensures in
+    let decided : HasDecided u c.loop-units.decisions w c.decide.new.self =
+    subst (Decides u c.loop-units.decisions w c.decide.new.self) c.if-branch.true c.in_ok-decide.ensures in
     let cnf = c.args.cnf.now in
     let journal = c.propagate.new.journal in
     let quiet : IsQuiet u.clauses (literals_of u.entries) = subst (λ (o : Option ℕ). EndsWith o u) c.in_default-2.is e.ends in
@@ -163,8 +163,8 @@ loop-units-smaller-then-branch c =
     let p = searching_propagated c.loop-units.invariant.searching e.propagated e.units e.added e.most e.sound in
     let u = c.propagate.new.trail in
     let w = c.decide.new.trail in
-    let decided : HasDecided u w c.decide.new.self =
-    subst (Decides u w c.decide.new.self) c.if-branch.true c.in_ok-decide.ensures in
+    let decided : HasDecided u c.loop-units.decisions w c.decide.new.self =
+    subst (Decides u c.loop-units.decisions w c.decide.new.self) c.if-branch.true c.in_ok-decide.ensures in
     let cnf = c.args.cnf.now in
     let after = c.propagate.new.journal in
     let longer = decided_longer c.loop-units.trail u w decided.literal p.1 decided.trail_is in

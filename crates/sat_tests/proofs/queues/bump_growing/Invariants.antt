@@ -1,9 +1,9 @@
 use Rattle.std.proofs.Common.{◌≡◌}
-use Rattle.clause_learning.specs.Heaps.{IsHeap, heap_variables}
+use Rattle.clause_learning.specs.Queues.{IsVariableQueue, variable_count}
 use Rattle.sat_tests.proofs.queues.bump_growing.Given as goal
 
 abbrev pub invariant-loop : goal.invariant-loop
 invariant-loop l = record {
-  heap : IsHeap l.heap;
-  count : heap_variables l.heap ≡ heap_variables l.fn.heap;
+  queue : IsVariableQueue l.queue;
+  count : variable_count l.queue ≡ variable_count l.fn.queue;
 }

@@ -5,8 +5,8 @@ use Rattle.sequence.proofs.Places.{slice_get_some}
 use Rattle.clause_core.specs.Literals.{Lit}
 use Rattle.sat_trail.specs.declared.entries.Entry.{Entry}
 use Rattle.clause_learning.specs.declared.choices.Decisions.{Decisions}
-use Rattle.clause_learning.specs.declared.heap.VariableHeap.{VariableHeap}
-use Rattle.clause_learning.specs.Heaps.{heap_variables, is_queued}
+use Rattle.clause_learning.specs.declared.queue.VariableQueue.{VariableQueue}
+use Rattle.clause_learning.specs.Queues.{variable_count, is_queued}
 use Rattle.clause_learning.proofs.Deciding.{AreGiven, given_more, decisions_given, decisions_repeated, decisions_freed}
 use Rattle.clause_learning.proofs.choices.Decisions.take_all_back.Goals as goal
 
@@ -22,7 +22,7 @@ give_back-requires-clause-within c =
       (c.requires.sound.stand last r.0 r.1).over,
       ap (λ (l : Lit). l.index) is,
       c.loop-place.invariant.decisions.one_activity_each,
-      ap (λ (d : Decisions). heap_variables d.heap) c.repeat_if.ensures,
+      ap (λ (d : Decisions). variable_count d.queue) c.repeat_if.ensures,
     )
 
 pub loop-place-preserved : goal.loop-place-preserved
@@ -33,18 +33,18 @@ loop-place-preserved c =
     let r = slice_get_some t.entries last (omega (arith, c.loop-place-test.true, i.within)) in
     let is : r.0.literal ≡ c.set_at-literal.result = same_Some r.0.literal c.set_at-literal.result
     (ap (option_map (λ (e : Entry). e.literal)) (sym r.1) ∙ c.set_at-literal.ensures) in
-    let given = c.in_ok-give_back.ensures in
+    let given = c.give_back.ensures in
     let before = c.repeat_if.new.self in
     let next : c.loop-place.place ≡ last + 1 = omega (arith, c.loop-place-test.true) in
-    let same : before.heap ≡ c.loop-place.self.heap = ap (λ (d : Decisions). d.heap) c.repeat_if.ensures in
+    let same : before.queue ≡ c.loop-place.self.queue = ap (λ (d : Decisions). d.queue) c.repeat_if.ensures in
     record {
       decisions = decisions_given t.variables t.entries before c.give_back.new.self c.set_at-literal.result.index
-          (decisions_repeated t.variables t.entries c.loop-place.self before c.repeat_if.ensures i.decisions) given.heap
+          (decisions_repeated t.variables t.entries c.loop-place.self before c.repeat_if.ensures i.decisions) given.queue
           given.count given.phases given.queued;
-      given = given_more t.entries last r.0 before.heap c.give_back.new.self.heap r.1
-          (λ other. given.queued other ∙ ap (λ (l : Lit). is_queued before.heap other || eqb other l.index) (sym is))
-          (subst (λ (h : VariableHeap). AreGiven t.entries (last + 1) h) (sym same)
-          (subst (λ (p : ℕ). AreGiven t.entries p c.loop-place.self.heap) next i.given));
+      given = given_more t.entries last r.0 before.queue c.give_back.new.self.queue r.1
+          (λ other. given.queued other ∙ ap (λ (l : Lit). is_queued before.queue other || eqb other l.index) (sym is))
+          (subst (λ (q : VariableQueue). AreGiven t.entries (last + 1) q) (sym same)
+          (subst (λ (p : ℕ). AreGiven t.entries p c.loop-place.self.queue) next i.given));
       within = omega (arith, i.within);
     }
 
@@ -53,4 +53,4 @@ returns c =
     let i = c.loop-place.invariant in
     let none : c.loop-place.place ≡ 0 = omega (arith, c.loop-place-test.false) in
     decisions_freed c.args.trail.now c.loop-place.self i.decisions
-    (subst (λ (p : ℕ). AreGiven c.args.trail.now.entries p c.loop-place.self.heap) none i.given)
+    (subst (λ (p : ℕ). AreGiven c.args.trail.now.entries p c.loop-place.self.queue) none i.given)

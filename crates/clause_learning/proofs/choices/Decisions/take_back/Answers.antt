@@ -4,7 +4,7 @@ use Rattle.std.proofs.lemmas.Option.{same_Some}
 use Rattle.sequence.proofs.Places.{slice_get_some}
 use Rattle.clause_core.specs.Literals.{Lit}
 use Rattle.sat_trail.specs.declared.entries.Entry.{Entry}
-use Rattle.clause_learning.specs.Heaps.{is_queued}
+use Rattle.clause_learning.specs.Queues.{is_queued}
 use Rattle.clause_learning.proofs.Deciding.{AreGiven, given_more, decisions_given, decisions_left}
 use Rattle.clause_learning.proofs.Stages.{entry_levels}
 use Rattle.clause_learning.proofs.choices.Decisions.take_back.Goals as goal
@@ -31,15 +31,15 @@ loop-place-preserved c =
     let r = slice_get_some t.entries last (omega (arith, c.loop-place-test.true, i.within)) in
     let is : r.0.literal ≡ c.set_at.result = same_Some r.0.literal c.set_at.result
     (ap (option_map (λ (e : Entry). e.literal)) (sym r.1) ∙ c.set_at.ensures) in
-    let given = c.in_ok-give_back.ensures in
+    let given = c.give_back.ensures in
     let next : c.loop-place.place ≡ last + 1 = omega (arith, c.loop-place-test.true) in
     record {
-      decisions = decisions_given t.variables t.entries c.loop-place.self c.give_back.new.self c.set_at.result.index i.decisions given.heap
+      decisions = decisions_given t.variables t.entries c.loop-place.self c.give_back.new.self c.set_at.result.index i.decisions given.queue
           given.count given.phases given.queued;
-      given = given_more t.entries last r.0 c.loop-place.self.heap c.give_back.new.self.heap r.1
+      given = given_more t.entries last r.0 c.loop-place.self.queue c.give_back.new.self.queue r.1
           (λ other. given.queued other
-          ∙ ap (λ (l : Lit). is_queued c.loop-place.self.heap other || eqb other l.index) (sym is))
-          (subst (λ (p : ℕ). AreGiven t.entries p c.loop-place.self.heap) next i.given);
+          ∙ ap (λ (l : Lit). is_queued c.loop-place.self.queue other || eqb other l.index) (sym is))
+          (subst (λ (p : ℕ). AreGiven t.entries p c.loop-place.self.queue) next i.given);
       within = omega (arith, i.within);
     }
 

@@ -6,7 +6,7 @@ use Rattle.clause_learning.proofs.choices.Decisions.take_back.Given as goal
 abbrev pub invariant-loop-place : goal.invariant-loop-place
 invariant-loop-place l = record {
   decisions : AreDecisions l.trail.variables l.trail.entries l.self;
-  given : AreGiven l.trail.entries l.place l.self.heap;
+  given : AreGiven l.trail.entries l.place l.self.queue;
   within : l.place ≤ length l.trail.entries;
 }
 

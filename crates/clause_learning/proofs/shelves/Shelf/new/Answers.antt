@@ -1,6 +1,6 @@
 use Rattle.std.proofs.Common.{◌≡◌, ◌+◌, ◌++◌, ◌∷◌, [], ℕ, List, length, replicate, slice_get, ap, ◌∙◌, arith, rules}
 use Rattle.std.proofs.lemmas.List.{length_push, length-replicate}
-use Rattle.clause_learning.proofs.HeapPlaces.{counted_push}
+use Rattle.clause_learning.proofs.Counts.{counted_push}
 use Rattle.clause_learning.proofs.shelves.Shelf.new.Goals as goal
 
 pub loop-place-preserved : goal.loop-place-preserved
