@@ -1,2 +1,3 @@
 pub mod Annotations
+pub mod EdgeLists
 pub mod internal

@@ -20,3 +20,4 @@ mod stepping;
 
 pub use annotating::{Annotation, annotate, annotate_environment};
 pub use laws::annotations_bound_paths;
+pub use pairing::edges_by_state;

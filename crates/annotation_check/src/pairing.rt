@@ -7,7 +7,8 @@ ghost use Rattle.letter_space.specs.SpaceView.{space_tree};
 ghost use Rattle.machines.specs.MachineView.{controller_tree, environment_tree};
 ghost use Rattle.machines.specs.Moves.{MoveTree, FitsSpace, controller_moves, EnvironmentFits, environment_moves};
 ghost use Rattle.annotation_check.specs.Annotations.{edges_from};
-ghost use Rattle.annotation_check.specs.internal.Pairs.{move_lists, edge_lists, moves_in, with_edge, pairs_between};
+ghost use Rattle.annotation_check.specs.EdgeLists.{edge_lists};
+ghost use Rattle.annotation_check.specs.internal.Pairs.{move_lists, moves_in, with_edge, pairs_between};
 ghost use Rattle.annotation_check.specs.internal.PairsView.{pairs_tree};
 
 use crate::growing::Pairs;
@@ -109,8 +110,8 @@ fn environment_moves(
     Ok(table)
 }
 
-/// The edges from each state of an automaton.
-fn edges_by_state(alloc: Global, automaton: &Automaton) -> Result<Vec<Vec<Edge>>, NoMemory>
+/// The edges from each state of an automaton, in their order. An `Err` says that memory ran out.
+pub fn edges_by_state(alloc: Global, automaton: &Automaton) -> Result<Vec<Vec<Edge>>, NoMemory>
     ensures { IfOk result (λ table. edge_lists table.items
         ≡ map (edges_from (edge_trees automaton.now.edges)) (numbers_from 0 automaton.now.states)) }
 {

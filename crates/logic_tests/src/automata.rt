@@ -57,7 +57,7 @@ fn formula_of(
 
 /// The formula that a text spells, operands first: `t`, `f`, a digit for a bit that is set, a letter from
 /// `a` for one that is not, `X`, `U`, `R`, and `&` and `|` over all since the last `(`.
-fn formula(alloc: Global, text: &[u8]) -> Result<Ltl, Fail> {
+pub(crate) fn formula(alloc: Global, text: &[u8]) -> Result<Ltl, Fail> {
     let mut formulas = Vec::new(alloc);
     let mut marks = Vec::new(alloc);
     for byte in text {

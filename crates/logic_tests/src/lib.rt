@@ -1,6 +1,9 @@
-//! Tests of formulas over letters: their spaces, forms, choices, automata, machines, annotations and failing loops.
+//! Tests of formulas over letters: their spaces, forms, choices, automata and what these accept, machines,
+//! annotations and failing loops.
 #![tactic(auto)]
 
+#[cfg(test)]
+mod acceptance;
 #[cfg(test)]
 mod automata;
 #[cfg(test)]
@@ -17,5 +20,7 @@ mod failing;
 mod letters;
 #[cfg(test)]
 mod ltl;
+#[cfg(test)]
+mod made_circuits;
 #[cfg(test)]
 mod spaces;

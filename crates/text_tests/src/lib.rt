@@ -1,7 +1,9 @@
-//! Tests of texts: tokens, places, lines and numbers, letters, how terms are written, and bytes over
+//! Tests of texts: tokens, places, lines and numbers, letters, circuits, how terms are written, and bytes over
 //! memory; and of planes of bits.
 #![tactic(auto)]
 
+#[cfg(test)]
+mod circuit_lines;
 #[cfg(test)]
 mod division;
 #[cfg(test)]

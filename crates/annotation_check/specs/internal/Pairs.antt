@@ -3,13 +3,13 @@
 use Rattle.std.specs.Prelude.{◌≡◌, ℕ, ◌<◌, List, [], ◌∷◌, ◌++◌, map, unwrap_or, slice_get, slice_set, slice_index_or, length, Some, Contains, Vec}
 use Rattle.std.specs.declared.alloc.Global.{Global}
 use Rattle.cobuchi_automata.specs.Automata.{EdgeTree}
-use Rattle.cobuchi_automata.specs.Edges.{edge_trees}
 use Rattle.cobuchi_automata.specs.declared.automaton.Edge.{Edge}
 use Rattle.machines.specs.declared.moves.Move.{Move}
 use Rattle.machines.specs.Moves.{MoveTree}
 use Rattle.machines.specs.MachineView.{move_tree}
 use Rattle.annotation_check.specs.declared.listing.Listing.{Listing}
 use Rattle.annotation_check.specs.Annotations.{edges_from}
+use Rattle.annotation_check.specs.EdgeLists.{edge_lists}
 use Rattle.annotation_check.specs.internal.Listings.{IsMoveListing}
 
 -- the moves in each state of a machine, the edges from each state of an automaton, how many states these have, and a bound
@@ -20,12 +20,9 @@ pub record PairsTree : Type 0 where
   pub automaton_states : ℕ
   pub bound : ℕ
 
--- lists of moves, and lists of edges, one for each state
+-- lists of moves, one for each state
 abbrev pub move_lists : List (Vec Move Global) → List (List MoveTree)
 move_lists table = map (λ ms. map move_tree ms.items) table
-
-abbrev pub edge_lists : List (Vec Edge Global) → List (List EdgeTree)
-edge_lists table = map (λ es. edge_trees es.items) table
 
 -- the moves, and the edges, that are listed for a state
 abbrev pub moves_in : List (Vec Move Global) → ℕ → List MoveTree

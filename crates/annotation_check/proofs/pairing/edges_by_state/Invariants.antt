@@ -2,7 +2,7 @@ use Rattle.std.proofs.Common.{◌≡◌, map, take}
 use Rattle.sequence.specs.Numbers.{numbers_from}
 use Rattle.cobuchi_automata.specs.Edges.{edge_trees}
 use Rattle.annotation_check.specs.Annotations.{edges_from}
-use Rattle.annotation_check.specs.internal.Pairs.{edge_lists}
+use Rattle.annotation_check.specs.EdgeLists.{edge_lists}
 use Rattle.annotation_check.proofs.pairing.edges_by_state.Given as goal
 
 abbrev pub invariant-loop-edge : goal.invariant-loop-edge

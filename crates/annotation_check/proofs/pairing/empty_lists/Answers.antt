@@ -1,7 +1,7 @@
 use Rattle.std.proofs.Common.{◌∙◌, [], ap}
 use Rattle.cobuchi_automata.specs.Edges.{edge_trees}
 use Rattle.annotation_check.specs.Annotations.{edges_from}
-use Rattle.annotation_check.specs.internal.Pairs.{edge_lists}
+use Rattle.annotation_check.specs.EdgeLists.{edge_lists}
 use Rattle.annotation_check.proofs.ListedByState.{listed_more}
 use Rattle.annotation_check.proofs.pairing.empty_lists.Goals as goal
 

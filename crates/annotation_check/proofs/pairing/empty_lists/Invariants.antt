@@ -1,7 +1,7 @@
 use Rattle.std.proofs.Common.{◌≡◌, [], map}
 use Rattle.sequence.specs.Numbers.{numbers_from}
 use Rattle.annotation_check.specs.Annotations.{edges_from}
-use Rattle.annotation_check.specs.internal.Pairs.{edge_lists}
+use Rattle.annotation_check.specs.EdgeLists.{edge_lists}
 use Rattle.annotation_check.proofs.pairing.empty_lists.Given as goal
 
 abbrev pub invariant-loop-state : goal.invariant-loop-state

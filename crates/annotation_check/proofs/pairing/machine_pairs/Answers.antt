@@ -1,7 +1,8 @@
 use Rattle.std.proofs.Common.{arith}
 use Rattle.cobuchi_automata.specs.Edges.{edge_trees}
 use Rattle.annotation_check.specs.Annotations.{edges_from}
-use Rattle.annotation_check.specs.internal.Pairs.{moves_in, edge_lists}
+use Rattle.annotation_check.specs.EdgeLists.{edge_lists}
+use Rattle.annotation_check.specs.internal.Pairs.{moves_in}
 use Rattle.annotation_check.proofs.ListedByState.{listed_length, edges_are_listed, listed_edges_stay}
 use Rattle.annotation_check.proofs.pairing.machine_pairs.Goals as goal
 

@@ -1,0 +1,142 @@
+-- Lines of automata and what they say are each other's.
+use Rattle.std.proofs.Common.{◌≡◌, ◌∙◌, ℕ, suc, ◌+◌, ◌<◌, ◌^◌, ◌==◌, Bool, true, false, ◌&&◌, eqb, ltb, List, [], ◌∷◌, ◌++◌, length, map}
+use Rattle.std.proofs.Common.{Option, Some, None, refl, sym, ap, append_assoc, append-nil, arith, codes, inl, inr}
+use Rattle.std.specs.Prelude.{option_map, option_and_then, flat_map, decimal, if◌then◌else◌}
+use Rattle.std.specs.List.{list_all}
+use Rattle.std.proofs.lemmas.Bool.{and_parts, and_from, ltb-true, lt-ltb, eq-eqb}
+use Rattle.tsl_text.specs.Written.{is_line}
+use Rattle.line_formats.specs.Format.{Value, fits, has, print, value_of_line}
+use Rattle.line_formats.proofs.FormatLaws.{line_read, line_written, print_is_line}
+use Rattle.automaton_text.specs.HoaText.{joined, mark_text, states_text, state_text, quoted_text, bits_text, is_quotable, quotable}
+use Rattle.automaton_text.specs.HoaLines.{PartValue, leaves, any, states_line, state_line, edge_line, mark, is_marked, quoted_name, bit_texts}
+use Rattle.automaton_text.specs.HoaLines.{bits_line, body_line, line_value, line_text, quoted_names, Numbers, number_leaves, literal_line, literal}
+use Rattle.automaton_text.specs.HoaLines.{Literals, literal_leaves, LiteralValue, next_literal, more_literals, label_line, LiteralTree}
+use Rattle.automaton_text.specs.HoaLines.{literal_of, further_literals, literals_of, literals_in, within_brackets}
+use Rattle.automaton_text.proofs.BitLines.{law}
+use Rattle.automaton_text.proofs.LabelBits.{text_of_literal}
+use Rattle.automaton_text.proofs.LiteralLines.{number_law, literal_law}
+
+-- ---- labels
+
+print_literal : (v : LiteralValue) → print Numbers number_leaves literal_line v ≡ text_of_literal (literal_of v)
+print_literal (inl v) = ap (λ xs. codes "!" ++ xs) (append-nil (decimal v.0))
+print_literal (inr v) = append-nil (decimal v.0)
+
+print_more : (vs : List (LiteralValue × Unit {0})) →
+    flat_map (print Literals literal_leaves next_literal) vs
+    ≡ flat_map (λ m. codes "&" ++ m) (map text_of_literal (map (λ (m : LiteralValue × Unit {0}). literal_of m.0) vs))
+print_more [] = refl
+print_more (v ∷ vs) =
+    λ i. (codes "&" ++ (append-nil (print Numbers number_leaves literal_line v.0) ∙ print_literal v.0) i) ++ print_more vs i
+
+print_label : (v : Value Literals label_line) →
+    print Literals literal_leaves label_line v ≡ joined (map text_of_literal (literals_of v))
+print_label (inl v) = refl
+print_label (inr v) =
+    λ i. print_literal v.0 i
+    ++ (append-nil (flat_map (print Literals literal_leaves next_literal) v.1.0) ∙ print_more v.1.0) i
+
+pub label_written : (bytes : List ℕ) (ls : List LiteralTree) → literals_in bytes ≡ Some ls → bytes ≡ joined (map text_of_literal ls)
+label_written bytes ls h = by (value_of_line Literals literal_leaves label_line bytes) refl h where
+  by : (o : Option (Value Literals label_line)) → value_of_line Literals literal_leaves label_line bytes ≡ o →
+      option_map literals_of o ≡ Some ls → bytes ≡ joined (map text_of_literal ls)
+  by None e k = absurd cc
+  by (Some v) e k =
+      let same : literals_of v ≡ ls = cc in
+      (line_written Literals literal_leaves literal_law label_line bytes v e).0 ∙ print_label v
+      ∙ ap (λ xs. joined (map text_of_literal xs)) same
+
+-- numbers that can be written
+abbrev pub is_short : LiteralTree → Bool
+is_short l = ltb l.bit (10 ^ 18)
+
+abbrev as_value : LiteralTree → LiteralValue
+as_value l = if l.wanted then inr (l.bit, tt) else inl (l.bit, tt)
+
+value_is : (l : LiteralTree) → literal_of (as_value l) ≡ l
+value_is l = by l.wanted refl where
+  by : (w : Bool) → l.wanted ≡ w → literal_of (if w then inr (l.bit, tt) else inl (l.bit, tt)) ≡ l
+  by true e = λ i. record { bit = l.bit; wanted = sym e i }
+  by false e = λ i. record { bit = l.bit; wanted = sym e i }
+
+value_fits : (l : LiteralTree) → is_short l ≡ true → fits Numbers number_leaves literal_line (as_value l) ≡ true
+value_fits l short = by l.wanted where
+  by : (w : Bool) → fits Numbers number_leaves literal_line (if w then inr (l.bit, tt) else inl (l.bit, tt)) ≡ true
+  by true = and_from (is_short l) true short refl
+  by false = and_from (is_short l) true short refl
+
+abbrev as_values : List LiteralTree → List (LiteralValue × Unit {0})
+as_values ls = map (λ l. (as_value l, tt)) ls
+
+values_are : (ls : List LiteralTree) → map (λ (m : LiteralValue × Unit {0}). literal_of m.0) (as_values ls) ≡ ls
+values_are [] = refl
+values_are (l ∷ ls) = λ i. value_is l i ∷ values_are ls i
+
+values_fit : (ls : List LiteralTree) → list_all is_short ls ≡ true →
+    list_all (fits Literals literal_leaves next_literal) (as_values ls) ≡ true
+values_fit [] all = refl
+values_fit (l ∷ ls) all =
+    let parts = and_parts (is_short l) (list_all is_short ls) all in
+    and_from (fits Literals literal_leaves next_literal (as_value l, tt)) (list_all (fits Literals literal_leaves next_literal) (as_values ls))
+    (and_from (fits Numbers number_leaves literal_line (as_value l)) true (value_fits l parts.0) refl) (values_fit ls parts.1)
+
+pub label_read : (ls : List LiteralTree) → list_all is_short ls ≡ true → literals_in (joined (map text_of_literal ls)) ≡ Some ls
+label_read [] all = refl
+label_read (l ∷ ls) all =
+    let parts = and_parts (is_short l) (list_all is_short ls) all in
+    let fit : fits Literals literal_leaves label_line (inr (as_value l, (as_values ls, tt))) ≡ true =
+    and_from (fits Numbers number_leaves literal_line (as_value l))
+    (list_all (fits Literals literal_leaves next_literal) (as_values ls) && true) (value_fits l parts.0)
+    (and_from (list_all (fits Literals literal_leaves next_literal) (as_values ls)) true (values_fit ls parts.1) refl) in
+    let are : literals_of (inr (as_value l, (as_values ls, tt))) ≡ l ∷ ls = λ i. value_is l i ∷ values_are ls i in
+    ap (λ xs. literals_in (joined (map text_of_literal xs))) (sym are)
+    ∙ ap literals_in (sym (print_label (inr (as_value l, (as_values ls, tt)))))
+    ∙ ap (option_map literals_of)
+    (line_read Literals literal_leaves literal_law label_line refl (inr (as_value l, (as_values ls, tt))) fit)
+    ∙ ap Some are
+
+-- ---- lines of one number
+
+pub states_print : (n : ℕ) → line_text states_line (n, tt) ≡ states_text n
+states_print n = ap (λ xs. codes "States: " ++ xs) (append-nil (decimal n))
+
+pub state_print : (n : ℕ) → line_text state_line (n, tt) ≡ state_text n
+state_print n = ap (λ xs. codes "State: " ++ xs) (append-nil (decimal n))
+
+-- ---- the line of the bits
+
+abbrev pub as_quoted : List (List ℕ) → List (List ℕ × Unit {0})
+as_quoted names = map (λ n. (n, tt)) names
+
+pub quoted_are : (vs : List (List ℕ × Unit {0})) → as_quoted (map (λ (n : List ℕ × Unit {0}). n.0) vs) ≡ vs
+quoted_are [] = refl
+quoted_are (v ∷ vs) = ap (λ xs. v ∷ xs) (quoted_are vs)
+
+pub names_are : (names : List (List ℕ)) → map (λ (n : List ℕ × Unit {0}). n.0) (as_quoted names) ≡ names
+names_are [] = refl
+names_are (n ∷ names) = ap (λ xs. n ∷ xs) (names_are names)
+
+print_quoted : (vs : List (List ℕ × Unit {0})) →
+    flat_map (print PartValue leaves quoted_name) vs ≡ flat_map quoted_text (map (λ (n : List ℕ × Unit {0}). n.0) vs)
+print_quoted [] = refl
+print_quoted (v ∷ vs) = ap (λ xs. quoted_text v.0 ++ xs) (print_quoted vs)
+
+pub bits_print : (v : Value PartValue bits_line) → v.0 ≡ length (quoted_names v.1) → line_text bits_line v ≡ bits_text (quoted_names v.1)
+bits_print v count =
+    ap (λ xs. codes "AP: " ++ (decimal v.0 ++ xs)) (append-nil (flat_map (print PartValue leaves quoted_name) v.1.0) ∙ print_quoted v.1.0)
+    ∙ ap (λ n. codes "AP: " ++ (decimal n ++ flat_map quoted_text (quoted_names v.1))) count
+
+-- ---- the line of an edge
+
+pub mark_print : (v : Value PartValue mark) → line_text mark v ≡ mark_text (is_marked v)
+mark_print (inl v) = refl
+mark_print (inr v) = refl
+
+pub edge_print : (label : List ℕ) (to : ℕ) (m : Value PartValue mark) →
+    line_text edge_line (label, (to, m)) ≡ codes "[" ++ label ++ codes "] " ++ decimal to ++ mark_text (is_marked m)
+edge_print label to m =
+    ap (λ xs. codes "[" ++ (label ++ (codes "] " ++ (decimal to ++ xs)))) (mark_print m)
+    ∙ flat (codes "[") label (codes "] ") (decimal to) (mark_text (is_marked m))
+  where
+    flat : (a b c d e : List ℕ) → a ++ (b ++ (c ++ (d ++ e))) ≡ a ++ b ++ c ++ d ++ e
+    flat a b c d e = sym (simp append_assoc refl)

@@ -1,0 +1,176 @@
+-- What a reader does with a line is what the line says.
+use Rattle.std.proofs.Common.{◌≡◌, ◌∙◌, ℕ, zero, suc, ◌+◌, ◌<◌, ◌≤◌, ◌==◌, Bool, true, false, ◌&&◌, eqb, ltb, leb, List, [], ◌∷◌, ◌++◌, length, Option, Some, None}
+use Rattle.std.proofs.Common.{slice_get, refl, sym, ap, subst, arith, add-one, inl, inr}
+use Rattle.std.specs.Prelude.{option_map, option_and_then, if◌then◌else◌}
+use Rattle.std.proofs.lemmas.Bool.{and_parts, and_from, lt-ltb, leb-true, ltb-true, le-leb, eq-eqb, false_from_ne_true}
+use Rattle.std.specs.List.{list_all}
+use Rattle.line_formats.specs.Format.{Value}
+use Rattle.cobuchi_automata.specs.Automata.{EdgeTree}
+use Rattle.cobuchi_automata.specs.Edges.{edge_trees}
+use Rattle.automaton_text.specs.HoaLines.{PartValue, bits_line, edge_line, line_value, quoted_names}
+use Rattle.automaton_text.specs.HoaLines.{is_marked, LiteralTree, literals_in, rise, Head, lists, header, State, when}
+use Rattle.automaton_text.specs.HoaLines.{bits_step, head_step, edge_with, may_join, edge_step, step_at}
+use Rattle.automaton_text.specs.HoaView.{are_few, kept_edges, kept, kept_step, edges_read, reader_state}
+use Rattle.automaton_text.specs.declared.reader.HoaReader.{HoaReader}
+use Rattle.automaton_text.specs.internal.Marks.{mark_value}
+use Rattle.automaton_text.proofs.HoaSteps.{head_within, past_header}
+use Rattle.automaton_text.proofs.HoaKept.{pushed}
+
+-- ---- the header
+
+abbrev no_edges : List EdgeTree
+no_edges = []
+
+none_kept : (b : Bool) → (if b then no_edges else []) ≡ []
+none_kept true = refl
+none_kept false = refl
+
+none_read : (r : HoaReader) → r.passed < 7 → edges_read r ≡ []
+none_read r within = ap (λ b. if b then [] else edge_trees r.edges.items) (lt-ltb r.passed 7 within)
+
+none_left : (r : HoaReader) → r.edges.items ≡ [] → edges_read r ≡ []
+none_left r none = ap (λ es. if ltb r.passed 7 then [] else edge_trees es) none ∙ none_kept (ltb r.passed 7)
+
+-- what a reader that passed a line of the header stands for
+pub record Passes (old new : HoaReader) : Type 0 where
+  pub passed : new.passed ≡ old.passed + 1
+  pub edges : new.edges.items ≡ []
+  pub begun : new.begun ≡ old.begun
+  pub ended : new.ended ≡ old.ended
+
+passed_state : (old new : HoaReader) (states bits : ℕ) → old.passed < 7 → Passes old new → new.states ≡ states → new.bits ≡ bits →
+    kept (record (reader_state old) { passed = suc old.passed; states = states; bits = bits }) ≡ reader_state new
+passed_state old new states bits within p same_states same_bits =
+    let edges : kept_edges bits states (kept_edges old.bits old.states (edges_read old)) ≡ kept_edges new.bits new.states (edges_read new) =
+    ap (λ es. kept_edges bits states (kept_edges old.bits old.states es)) (none_read old within)
+    ∙ ap (kept_edges bits states) (none_kept (are_few old.bits old.states))
+    ∙ none_kept (are_few bits states)
+    ∙ sym (ap (kept_edges new.bits new.states) (none_left new p.edges) ∙ none_kept (are_few new.bits new.states)) in
+    λ i. record {
+      passed = (sym (add-one old.passed) ∙ sym p.passed) i;
+      states = sym same_states i;
+      names = [];
+      bits = sym same_bits i;
+      begun = sym p.begun i;
+      edges = edges i;
+      ended = sym p.ended i;
+    }
+
+at_head : (r : HoaReader) (h : Head) (line : List ℕ) → r.ended ≡ false → slice_get header r.passed ≡ Some h →
+    kept_step (reader_state r) line ≡ option_map kept (head_step (reader_state r) h line)
+at_head r h line open' here = λ i. option_map kept (step_at (open' i) (here i) (reader_state r) line)
+
+-- the line of the bits, by its numbers alone
+bits_kept : (old : HoaReader) (line : List ℕ) → old.ended ≡ false → slice_get header old.passed ≡ Some lists →
+    kept_step (reader_state old) line
+    ≡ option_and_then
+    (λ (v : ℕ × ℕ). option_map kept (when (eqb v.0 v.1) (record (reader_state old) { passed = suc old.passed; bits = v.1 })))
+    (option_map {U = ℕ × ℕ} (λ (v : Value PartValue bits_line). (v.0, length v.1.0)) (line_value bits_line line))
+bits_kept old line open' here = at_head old lists line open' here ∙ by (line_value bits_line line) where
+  by_test : (n : ℕ) (ns : List (List ℕ)) (m : ℕ) (b : Bool) → length ns ≡ m →
+      option_map kept (when b (record (reader_state old) { passed = suc old.passed; names = ns; bits = length ns }))
+      ≡ option_map kept (when b (record (reader_state old) { passed = suc old.passed; bits = m }))
+  by_test n ns m false same = refl
+  by_test n ns m true same = λ i. Some (kept (record (reader_state old) { passed = suc old.passed; bits = same i }))
+
+  by : (o : Option (Value PartValue bits_line)) →
+      option_map kept (option_and_then (bits_step (reader_state old)) o)
+      ≡ option_and_then
+      (λ (v : ℕ × ℕ). option_map kept (when (eqb v.0 v.1) (record (reader_state old) { passed = suc old.passed; bits = v.1 })))
+      (option_map {U = ℕ × ℕ} (λ (v : Value PartValue bits_line). (v.0, length v.1.0)) o)
+  by None = refl
+  by (Some v) =
+      let long = length_names v.1.0 in
+      by_test v.0 (quoted_names v.1) (length v.1.0) (eqb v.0 (length (quoted_names v.1))) long
+      ∙ ap (λ k. option_map kept (when (eqb v.0 k) (record (reader_state old) { passed = suc old.passed; bits = length v.1.0 }))) long
+    where
+      length_names : (vs : List (List ℕ × Unit {0})) → length (quoted_names (vs, tt)) ≡ length vs
+      length_names [] = refl
+      length_names (v ∷ vs) = ap suc (length_names vs)
+
+pub bits_read : (old new : HoaReader) (line : List ℕ) (n m : ℕ) → old.ended ≡ false → slice_get header old.passed ≡ Some lists →
+    option_map {U = ℕ × ℕ} (λ (v : Value PartValue bits_line). (v.0, length v.1.0)) (line_value bits_line line) ≡ Some (n, m) → n ≡ m →
+    Passes old new → new.states ≡ old.states → new.bits ≡ n → kept_step (reader_state old) line ≡ Some (reader_state new)
+bits_read old new line n m open' here said same p same_states same_bits =
+    bits_kept old line open' here
+    ∙ ap
+    (option_and_then
+    (λ (v : ℕ × ℕ). option_map kept (when (eqb v.0 v.1) (record (reader_state old) { passed = suc old.passed; bits = v.1 }))))
+    said
+    ∙ ap (λ b. option_map kept (when b (record (reader_state old) { passed = suc old.passed; bits = m }))) (eq-eqb n m same)
+    ∙ ap Some
+    (passed_state old new old.states m (head_within old.passed lists here) p same_states (same_bits ∙ same))
+
+-- ---- edges
+
+mark_is : (r : Bool) → is_marked (mark_value r) ≡ r
+mark_is true = refl
+mark_is false = refl
+
+abbrev edge_from : State → Option (List LiteralTree) → ℕ → Bool → Option State
+edge_from s o to r =
+    option_map kept
+    (option_and_then (λ ls. when (may_join s ls to) (record s { edges = s.edges ++ edge_with s ls to r ∷ [] })) o)
+
+edge_said : (s : State) (line label : List ℕ) (to : ℕ) (r : Bool) (o : Option (List LiteralTree)) →
+    line_value edge_line line ≡ Some (label, (to, mark_value r)) → literals_in label ≡ o →
+    option_map kept (option_and_then (edge_step s) (line_value edge_line line)) ≡ edge_from s o to r
+edge_said s line label to r o said read =
+    ap (λ o. option_map kept (option_and_then (edge_step s) o)) said
+    ∙ ap (λ m. edge_from s (literals_in label) to m) (mark_is r)
+    ∙ ap (λ o. edge_from s o to r) read
+
+pub edges_past : (r : HoaReader) → 7 ≤ r.passed → edges_read r ≡ edge_trees r.edges.items
+edges_past r past = ap (λ b. if b then [] else edge_trees r.edges.items) (not_below r.passed past) where
+  not_below : (n : ℕ) → 7 ≤ n → ltb n 7 ≡ false
+  not_below n past = false_from_ne_true (ltb n 7)
+      (λ e. let below = ltb-true n 7 e in omega (arith, below, past))
+
+pub edge_read : (old new : HoaReader) (line label : List ℕ) (to : ℕ) (r : Bool) (ls : List LiteralTree) (test : Bool) →
+    slice_get header old.passed ≡ None → line_value edge_line line ≡ Some (label, (to, mark_value r)) → literals_in label ≡ Some ls →
+    test ≡ may_join (reader_state old) ls to → test ≡ true →
+    kept_edges old.bits old.states (edge_trees new.edges.items)
+    ≡ kept_edges old.bits old.states (edge_trees old.edges.items ++ edge_with (reader_state old) ls to r ∷ []) →
+    (new.passed ≡ old.passed) × (new.states ≡ old.states) × (new.bits ≡ old.bits) × (new.begun ≡ old.begun) × (new.ended ≡ old.ended) →
+    option_map kept (option_and_then (edge_step (reader_state old)) (line_value edge_line line)) ≡ Some (reader_state new)
+edge_read old new line label to r ls test past said read told right grown same =
+    let over = past_header old.passed past in
+    let passed = same.0 in
+    let e = edge_with (reader_state old) ls to r in
+    let edges : kept_edges old.bits old.states (kept_edges old.bits old.states (edges_read old) ++ e ∷ [])
+    ≡ kept_edges new.bits new.states (edges_read new) =
+    pushed (are_few old.bits old.states) (edges_read old) e
+    ∙ ap (λ es. kept_edges old.bits old.states (es ++ e ∷ [])) (edges_past old over)
+    ∙ sym grown
+    ∙ ap (kept_edges old.bits old.states) (sym (edges_past new (omega (arith, over, passed))))
+    ∙ (λ i. kept_edges (sym same.2 i) (sym same.1 i) (edges_read new)) in
+    edge_said (reader_state old) line label to r (Some ls) said read
+    ∙ ap (λ b. option_map kept (when b (record (reader_state old) { edges = (reader_state old).edges ++ e ∷ [] }))) (sym told ∙ right)
+    ∙ (λ i. Some (record {
+      passed = sym same.0 i;
+      states = sym same.1 i;
+      names = [];
+      bits = sym same.2 i;
+      begun = sym same.3 i;
+      edges = edges i;
+      ended = sym same.4 i;
+    }))
+
+-- the bits of an edge that is kept are low
+pub low_bits : (s : State) (ls : List LiteralTree) (to : ℕ) → may_join s ls to ≡ true → are_few s.bits s.states ≡ true →
+    list_all (λ l. ltb l.bit 64) ls ≡ true
+low_bits s ls to join few =
+    let up = (and_parts (ltb to s.states) (rise s.bits 0 ls)
+    (and_parts (ltb 0 s.begun && leb s.begun s.states) (ltb to s.states && rise s.bits 0 ls) join).1).1 in
+    by 0 ls up
+  where
+    few_bits : s.bits ≤ 64
+    few_bits = leb-true s.bits 64 (and_parts (leb s.bits 64) (leb s.states 4096) few).0
+
+    by : (least : ℕ) (ls : List LiteralTree) → rise s.bits least ls ≡ true → list_all (λ l. ltb l.bit 64) ls ≡ true
+    by least [] up = refl
+    by least (l ∷ ls) up =
+        let parts = and_parts (leb least l.bit && ltb l.bit s.bits) (rise s.bits (suc l.bit) ls) up in
+        let below = ltb-true l.bit s.bits (and_parts (leb least l.bit) (ltb l.bit s.bits) parts.0).1 in
+        let few = few_bits in
+        and_from (ltb l.bit 64) (list_all (λ l. ltb l.bit 64) ls) (lt-ltb l.bit 64 (omega (arith, below, few))) (by (suc l.bit) ls parts.1)

@@ -1,0 +1,335 @@
+-- The text of an automaton is read as this automaton, its edges in the order of their first states.
+use Rattle.std.proofs.Common.{◌≡◌, ◌∙◌, ℕ, zero, suc, ◌+◌, ◌-◌, ◌<◌, ◌≤◌, ◌^◌, ◌==◌, Bool, true, false, cond, ◌&&◌, ◌||◌, eqb, ltb, leb}
+use Rattle.std.proofs.Common.{List, [], ◌∷◌, ◌++◌, length, map, Option, Some, None, refl, sym, ap, subst, arith, append_assoc, append-nil}
+use Rattle.std.proofs.Common.{codes, inl, Result, Ok, slice_get}
+use Rattle.std.specs.Prelude.{option_and_then, flat_map, filter, decimal, if◌then◌else◌}
+use Rattle.std.specs.List.{list_all, AllByRecursion}
+use Rattle.std.specs.Char.{is_ascii_digit}
+use Rattle.std.proofs.lemmas.Bool.{and_parts, and_from, leb-true, ltb-true, le-leb, lt-ltb, eqb-true}
+use Rattle.std.proofs.lemmas.Grind.{flat_map-append}
+use Rattle.sequence.specs.Numbers.{numbers_from}
+use Rattle.sequence.proofs.Passes.{list_all_weaker, list_all_joined, list_all_flat_map}
+use Rattle.tsl_text.specs.Written.{is_line, text_of_lines}
+use Rattle.tsl_text.specs.Lines.{lines_from}
+use Rattle.tsl_text.proofs.NumberLaws.{decimal_digits}
+use Rattle.line_formats.specs.Format.{fits, has}
+use Rattle.line_formats.specs.Machine.{steps, IsText, IsFirstWrong, read_from}
+use Rattle.line_formats.proofs.FormatLaws.{line_read, print_is_line}
+use Rattle.line_formats.proofs.MachineLaws.{steps_append, text_is_read}
+use Rattle.ltl_formula.specs.Cubes.{has_bit}
+use Rattle.cobuchi_automata.specs.Automata.{EdgeTree}
+use Rattle.annotation_check.specs.Annotations.{edges_from}
+use Rattle.automaton_text.specs.HoaText.{number_bound, joined, label_text, literal_text, bits_asked, mark_text, edge_text, state_text}
+use Rattle.automaton_text.specs.HoaText.{is_quotable, states_text, bits_text, state_lines, header_lines, hoa_lines, hoa_text, IsEdgeOf, IsHoa, IsHoaText, grouped}
+use Rattle.automaton_text.specs.HoaLines.{PartValue, leaves, within_brackets, edge_line, mark, body_line, line_value, line_text, is_marked, LiteralTree, literals_in}
+use Rattle.automaton_text.specs.HoaLines.{rise, care_with, want_with, Head, says, counts, lists, header, State, fresh, when, edge_with, may_join}
+use Rattle.automaton_text.specs.HoaLines.{edge_step, body_step, step, whole}
+use Rattle.automaton_text.specs.internal.Marks.{mark_value}
+use Rattle.automaton_text.proofs.BitLines.{law}
+use Rattle.automaton_text.proofs.LabelBits.{text_of_literal, texts_from, literals_from, cube_literals, cube_rises, care_back, want_back}
+use Rattle.automaton_text.proofs.HoaLabels.{label_read, is_short, edge_print}
+use Rattle.automaton_text.proofs.HoaSteps.{head_text, told}
+use Rattle.automaton_text.proofs.HoaLive.{when_true, head_after, head_goes, head_is_line, state_goes, end_goes, state_is_line}
+
+-- ---- labels stand between brackets
+
+digit_inside : (b : ℕ) → is_ascii_digit b ≡ true → has within_brackets b ≡ true
+digit_inside b digit =
+    let parts = and_parts (leb 48 b) (leb b 57) digit in
+    let from = leb-true 48 b parts.0 in
+    let to = leb-true b 57 parts.1 in
+    later (leb 0 b && leb b 9) (leb 11 b && leb b 92) ((leb 94 b && leb b 255) || false)
+    (and_from (leb 11 b) (leb b 92) (le-leb 11 b (omega (arith, from))) (le-leb b 92 (omega (arith, to))))
+  where
+    later : (p q r : Bool) → q ≡ true → (p || (q || r)) ≡ true
+    later true q r h = refl
+    later false true r h = refl
+    later false false r h = absurd cc
+
+abbrev is_inside : List ℕ → Bool
+is_inside bytes = list_all (has within_brackets) bytes
+
+literal_inside : (want b : ℕ) → b < number_bound → is_inside (literal_text want b) ≡ true
+literal_inside want b short =
+    list_all_joined (has within_brackets) (if has_bit b want then [] else codes "!") (decimal b) (sign (has_bit b want))
+    (list_all_weaker is_ascii_digit (has within_brackets) digit_inside (decimal b) (decimal_digits b (omega (arith, short))))
+  where
+    sign : (t : Bool) → is_inside (if t then [] else codes "!") ≡ true
+    sign true = refl
+    sign false = refl
+
+abbrev are_short : List ℕ → Bool
+are_short bs = list_all (λ b. ltb b number_bound) bs
+
+further_inside : (want : ℕ) (bs : List ℕ) → are_short bs ≡ true →
+    is_inside (flat_map (λ m. codes "&" ++ m) (map (literal_text want) bs)) ≡ true
+further_inside want [] short = refl
+further_inside want (b ∷ bs) short =
+    let parts = and_parts (ltb b number_bound) (are_short bs) short in
+    list_all_joined (has within_brackets) (codes "&" ++ literal_text want b) (flat_map (λ m. codes "&" ++ m) (map (literal_text want) bs))
+    (literal_inside want b (ltb-true b number_bound parts.0)) (further_inside want bs parts.1)
+
+joined_inside : (want : ℕ) (bs : List ℕ) → are_short bs ≡ true → is_inside (joined (map (literal_text want) bs)) ≡ true
+joined_inside want [] short = refl
+joined_inside want (b ∷ bs) short =
+    let parts = and_parts (ltb b number_bound) (are_short bs) short in
+    list_all_joined (has within_brackets) (literal_text want b) (flat_map (λ m. codes "&" ++ m) (map (literal_text want) bs))
+    (literal_inside want b (ltb-true b number_bound parts.0)) (further_inside want bs parts.1)
+
+numbers_short : (p : ℕ → Bool) (first count : ℕ) → first + count < number_bound → are_short (filter p (numbers_from first count)) ≡ true
+numbers_short p first zero few = refl
+numbers_short p first (suc count) few = by (p first) (numbers_short p (suc first) count (omega (arith, few))) where
+  by : (t : Bool) → are_short (filter p (numbers_from (suc first) count)) ≡ true →
+      are_short (cond t (first ∷ filter p (numbers_from (suc first) count)) (filter p (numbers_from (suc first) count))) ≡ true
+  by true rest = and_from (ltb first number_bound) (are_short (filter p (numbers_from (suc first) count)))
+      (lt-ltb first number_bound (omega (arith, few))) rest
+  by false rest = rest
+
+literals_short : (want : ℕ) (bs : List ℕ) → are_short bs ≡ true → list_all is_short (literals_from want bs) ≡ true
+literals_short want [] short = refl
+literals_short want (b ∷ bs) short =
+    let parts = and_parts (ltb b number_bound) (are_short bs) short in
+    and_from (ltb b number_bound) (list_all is_short (literals_from want bs)) parts.0 (literals_short want bs parts.1)
+
+go : (s t u : State) (l : List ℕ) (ls : List (List ℕ)) → step s l ≡ Some t → steps step t ls ≡ Some u → steps step s (l ∷ ls) ≡ Some u
+go s t u l ls first rest = ap (option_and_then (λ t. steps step t ls)) first ∙ rest
+
+module _ (names : List (List ℕ)) (states : ℕ) (plain : list_all is_quotable names ≡ true)
+    (few_bits : length names < number_bound) (some : 1 ≤ states) (few_states : states < number_bound) where
+  -- after so many states, with these edges
+  abbrev at : ℕ → List EdgeTree → State
+  at q es = record { passed = 7; states = states; names = names; bits = length names; begun = q; edges = es; ended = false }
+
+  -- ---- an edge
+
+  bits_short : (d : EdgeTree) → are_short (bits_asked (length names) d.care) ≡ true
+  bits_short d = numbers_short (λ b. has_bit b d.care) 0 (length names) (omega (arith, few_bits))
+
+  label_back : (d : EdgeTree) → literals_in (label_text (length names) d) ≡ Some (cube_literals (length names) d.care d.want)
+  label_back d =
+      ap (λ ts. literals_in (joined ts)) (sym (texts_from d.want (bits_asked (length names) d.care)))
+      ∙ label_read (cube_literals (length names) d.care d.want)
+      (literals_short d.want (bits_asked (length names) d.care) (bits_short d))
+
+  mark_same : (r : Bool) → is_marked (mark_value r) ≡ r
+  mark_same true = refl
+  mark_same false = refl
+
+  edge_line_is : (d : EdgeTree) →
+      line_text edge_line (label_text (length names) d, (d.to, mark_value d.rejecting))
+      ≡ edge_text (length names) d
+  edge_line_is d =
+      edge_print (label_text (length names) d) d.to (mark_value d.rejecting)
+      ∙ ap (λ r. codes "[" ++ label_text (length names) d ++ codes "] " ++ decimal d.to ++ mark_text r) (mark_same d.rejecting)
+
+  edge_fits : (d : EdgeTree) → d.to < states →
+      fits PartValue leaves edge_line (label_text (length names) d, (d.to, mark_value d.rejecting)) ≡ true
+  edge_fits d below =
+      and_from (is_inside (label_text (length names) d) && true)
+      (ltb d.to number_bound && fits PartValue leaves mark (mark_value d.rejecting))
+      (and_from (is_inside (label_text (length names) d)) true
+      (joined_inside d.want (bits_asked (length names) d.care) (bits_short d)) refl)
+      (and_from (ltb d.to number_bound) (fits PartValue leaves mark (mark_value d.rejecting))
+      (lt-ltb d.to number_bound (omega (arith, below, few_states))) (mark_fits d.rejecting))
+    where
+      mark_fits : (r : Bool) → fits PartValue leaves mark (mark_value r) ≡ true
+      mark_fits true = refl
+      mark_fits false = refl
+
+  same_edge : (d : EdgeTree) (q : ℕ) (es : List EdgeTree) → d.from ≡ q → IsEdgeOf (length names) states d →
+      edge_with (at (suc q) es) (cube_literals (length names) d.care d.want) d.to (is_marked (mark_value d.rejecting)) ≡ d
+  same_edge d q es from is = let last : suc q - 1 ≡ d.from = omega (arith, from) in λ i. record {
+    from = last i;
+    care = care_back (length names) d.care d.want is.asks i;
+    want = want_back (length names) d.care d.want is.asks is.within i;
+    to = d.to;
+    rejecting = mark_same d.rejecting i;
+  }
+
+  edge_goes : (d : EdgeTree) (q : ℕ) (es : List EdgeTree) → d.from ≡ q → IsEdgeOf (length names) states d →
+      step (at (suc q) es) (edge_text (length names) d) ≡ Some (at (suc q) (es ++ d ∷ []))
+  edge_goes d q es from is =
+      let s = at (suc q) es in
+      let m = mark_value d.rejecting in
+      ap (λ zs. option_and_then (body_step s) (line_value body_line zs)) (sym (edge_line_is d))
+      ∙ ap (option_and_then (body_step s))
+      (line_read PartValue leaves law body_line refl (inl (label_text (length names) d, (d.to, m))) (edge_fits d is.to))
+      ∙ ap
+      (option_and_then
+      (λ ls. when (may_join s ls d.to) (record s { edges = es ++ edge_with s ls d.to (is_marked m) ∷ [] })))
+      (label_back d)
+      ∙ when_true (may_join s (cube_literals (length names) d.care d.want) d.to)
+      (record s { edges = es ++ edge_with s (cube_literals (length names) d.care d.want) d.to (is_marked m) ∷ [] })
+      (and_from (ltb 0 (suc q) && leb (suc q) states) (ltb d.to states && rise (length names) 0 (cube_literals (length names) d.care d.want))
+      (and_from (ltb 0 (suc q)) (leb (suc q) states) (lt-ltb 0 (suc q) (omega arith))
+      (le-leb (suc q) states (let b = is.from in omega (arith, b, from))))
+      (and_from (ltb d.to states) (rise (length names) 0 (cube_literals (length names) d.care d.want)) (lt-ltb d.to states is.to)
+      (cube_rises (length names) d.care d.want)))
+      ∙ ap (λ e. Some (at (suc q) (es ++ e ∷ []))) (same_edge d q es from is)
+
+  edge_is_line : (d : EdgeTree) → d.to < states → is_line (edge_text (length names) d) ≡ true
+  edge_is_line d below =
+      ap is_line (sym (edge_line_is d))
+      ∙ print_is_line PartValue leaves law edge_line refl (label_text (length names) d, (d.to, mark_value d.rejecting)) (edge_fits d below)
+
+  -- ---- the edges of a state, and all states
+
+  edges_go : (ds : List EdgeTree) (q : ℕ) (es : List EdgeTree) →
+      AllByRecursion (λ d. (d.from ≡ q) × IsEdgeOf (length names) states d) ds →
+      (steps step (at (suc q) es) (map (edge_text (length names)) ds) ≡ Some (at (suc q) (es ++ ds)))
+      × (list_all is_line (map (edge_text (length names)) ds) ≡ true)
+  edges_go [] q es all = (ap (λ xs. Some (at (suc q) xs)) (sym (append-nil es)), refl)
+  edges_go (d ∷ ds) q es all =
+      let rest = edges_go ds q (es ++ d ∷ []) all.1 in (
+        go (at (suc q) es) (at (suc q) (es ++ d ∷ [])) (at (suc q) (es ++ d ∷ ds)) (edge_text (length names) d)
+            (map (edge_text (length names)) ds)
+            (edge_goes d q es all.0.0 all.0.1)
+            (rest.0 ∙ ap (λ xs. Some (at (suc q) xs)) (append_assoc es (d ∷ []) ds)),
+        and_from (is_line (edge_text (length names) d)) (list_all is_line (map (edge_text (length names)) ds))
+            (edge_is_line d all.0.1.to) rest.1,
+      )
+
+  from_state : (edges : List EdgeTree) (q : ℕ) → AllByRecursion (IsEdgeOf (length names) states) edges →
+      AllByRecursion (λ d. (d.from ≡ q) × IsEdgeOf (length names) states d) (edges_from edges q)
+  from_state [] q all = tt
+  from_state (e ∷ edges) q all = by (eqb e.from q) refl (from_state edges q all.1) where
+    by : (t : Bool) → eqb e.from q ≡ t → AllByRecursion (λ d. (d.from ≡ q) × IsEdgeOf (length names) states d) (edges_from edges q) →
+        AllByRecursion (λ d. (d.from ≡ q) × IsEdgeOf (length names) states d) (cond t (e ∷ edges_from edges q) (edges_from edges q))
+    by true is rest = ((eqb-true e.from q is, all.0), rest)
+    by false is rest = rest
+
+  states_go : (edges : List EdgeTree) → AllByRecursion (IsEdgeOf (length names) states) edges → (q count : ℕ) (es : List EdgeTree) →
+      q + count ≡ states →
+      (steps step (at q es) (flat_map (state_lines (length names) edges) (numbers_from q count))
+      ≡ Some (at states (es ++ flat_map (edges_from edges) (numbers_from q count))))
+      × (list_all is_line (flat_map (state_lines (length names) edges) (numbers_from q count)) ≡ true)
+  states_go edges all q zero es sum =
+      let all_begun : q ≡ states = omega (arith, sum) in ((λ i. Some (at (all_begun i) (sym (append-nil es) i))), refl)
+  states_go edges all q (suc count) es sum =
+      let below : q < states = omega (arith, sum) in
+      let here = edges_go (edges_from edges q) q es (from_state edges q all) in
+      let rest = states_go edges all (suc q) count (es ++ edges_from edges q) (omega (arith, sum)) in
+      let more = flat_map (state_lines (length names) edges) (numbers_from (suc q) count) in (
+        go (at q es) (at (suc q) es) (at states (es ++ (edges_from edges q ++ flat_map (edges_from edges) (numbers_from (suc q) count))))
+            (state_text q) (map (edge_text (length names)) (edges_from edges q) ++ more)
+            (state_goes (at q es) refl refl below few_states)
+            (steps_append step whole (at (suc q) es) (at (suc q) (es ++ edges_from edges q))
+            (map (edge_text (length names)) (edges_from edges q)) more here.0
+            ∙ rest.0
+            ∙ ap (λ xs. Some (at states xs)) (append_assoc es (edges_from edges q) (flat_map (edges_from edges) (numbers_from (suc q) count)))),
+        and_from (is_line (state_text q)) (list_all is_line (map (edge_text (length names)) (edges_from edges q) ++ more))
+            (state_is_line q (omega (arith, below, few_states)))
+            (list_all_joined is_line (map (edge_text (length names)) (edges_from edges q)) more here.1 rest.1),
+      )
+
+  -- ---- the header
+
+  abbrev in_head : ℕ → ℕ → List (List ℕ) → State
+  in_head passed n ns = record { passed = passed; states = n; names = ns; bits = length ns; begun = 0; edges = []; ended = false }
+
+  head : (s : State) (h : Head) → s.ended ≡ false → slice_get header s.passed ≡ Some h →
+      step s (head_text names states h)
+      ≡ Some (head_after s names states h)
+  head s h open' here = head_goes s names states open' plain few_bits some few_states h here
+
+  -- the lines of the header that are left
+  abbrev after_name : List (List ℕ)
+  after_name = codes "Acceptance: 1 Inf(0)" ∷ codes "--BODY--" ∷ []
+
+  abbrev after_bits : List (List ℕ)
+  after_bits = codes "acc-name: Buchi" ∷ after_name
+
+  abbrev after_start : List (List ℕ)
+  after_start = bits_text names ∷ after_bits
+
+  abbrev after_states : List (List ℕ)
+  after_states = codes "Start: 0" ∷ after_start
+
+  abbrev after_version : List (List ℕ)
+  after_version = states_text states ∷ after_states
+
+  header_goes : steps step fresh (header_lines names states) ≡ Some (at 0 [])
+  header_goes =
+      go fresh (in_head 1 1 []) (at 0 []) (codes "HOA: v1") after_version (head fresh (says (codes "HOA: v1")) refl refl)
+      (go (in_head 1 1 []) (in_head 2 states []) (at 0 []) (states_text states) after_states (head (in_head 1 1 []) counts refl refl)
+      (go (in_head 2 states []) (in_head 3 states []) (at 0 []) (codes "Start: 0") after_start
+      (head (in_head 2 states []) (says (codes "Start: 0")) refl refl)
+      (go (in_head 3 states []) (in_head 4 states names) (at 0 []) (bits_text names) after_bits
+      (head (in_head 3 states []) lists refl refl)
+      (go (in_head 4 states names) (in_head 5 states names) (at 0 []) (codes "acc-name: Buchi") after_name
+      (head (in_head 4 states names) (says (codes "acc-name: Buchi")) refl refl)
+      (go (in_head 5 states names) (in_head 6 states names) (at 0 []) (codes "Acceptance: 1 Inf(0)") (codes "--BODY--" ∷ [])
+      (head (in_head 5 states names) (says (codes "Acceptance: 1 Inf(0)")) refl refl)
+      (go (in_head 6 states names) (at 0 []) (at 0 []) (codes "--BODY--") []
+      (head (in_head 6 states names) (says (codes "--BODY--")) refl refl) refl))))))
+
+  header_lines_are : list_all is_line (header_lines names states) ≡ true
+  header_lines_are =
+      and_from (is_line (states_text states)) (list_all is_line after_states)
+      (head_is_line (in_head 1 1 []) names states refl plain few_bits some few_states counts refl)
+      (and_from (is_line (bits_text names)) (list_all is_line after_bits)
+      (head_is_line (in_head 3 states []) names states refl plain few_bits some few_states lists refl) refl)
+
+  -- ---- the whole text
+
+  abbrev pub read_as : List EdgeTree → State
+  read_as edges = record (at states (grouped states edges)) { ended = true }
+
+  pub is_text : (edges : List EdgeTree) → AllByRecursion (IsEdgeOf (length names) states) edges →
+      IsText step whole fresh (hoa_lines names states edges) (read_as edges)
+  is_text edges all =
+      let body = states_go edges all 0 states [] (omega arith) in
+      let lines = flat_map (state_lines (length names) edges) (numbers_from 0 states) in record {
+        lines = list_all_joined is_line (header_lines names states ++ lines) (codes "--END--" ∷ [])
+            (list_all_joined is_line (header_lines names states) lines header_lines_are body.1) refl;
+        says = steps_append step whole fresh (at states (grouped states edges)) (header_lines names states ++ lines) (codes "--END--" ∷ [])
+            (steps_append step whole fresh (at 0 []) (header_lines names states) lines header_goes ∙ body.0)
+            ∙ ap (option_and_then (λ t. Some t)) (end_goes (at states (grouped states edges)) refl refl refl);
+        done = refl;
+      }
+
+-- ---- laws
+
+pub text_of_hoa : (names : List (List ℕ)) (states : ℕ) (edges : List EdgeTree) (is : IsHoa names states edges) →
+    IsText step whole fresh (hoa_lines names states edges)
+    (read_as names states is.plain is.few_bits is.some_state is.few_states edges)
+text_of_hoa names states edges is = is_text names states is.plain is.few_bits is.some_state is.few_states edges is.are_edges
+
+pub read_back : (names : List (List ℕ)) (states : ℕ) (edges : List EdgeTree) → IsHoa names states edges →
+    IsHoaText (hoa_text names states edges) (length names) states (grouped states edges)
+read_back names states edges is =
+    told (hoa_text names states edges)
+    (read_as names states is.plain is.few_bits is.some_state is.few_states edges)
+    (text_is_read step whole (hoa_lines names states edges) fresh
+    (read_as names states is.plain is.few_bits is.some_state is.few_states edges) (text_of_hoa names states edges is))
+
+pub never_wrong : (text : List ℕ) (bits states line : ℕ) (edges : List EdgeTree) → IsHoaText text bits states edges →
+    IsFirstWrong step whole fresh text line → ⊥
+never_wrong text bits states line edges is wrong =
+    wrong.none (hoa_lines is.names states edges)
+    (read_as is.names states is.is_hoa.plain is.is_hoa.few_bits is.is_hoa.some_state is.is_hoa.few_states edges)
+    (text_of_hoa is.names states edges is.is_hoa) is.written
+
+pub one_automaton : (text : List ℕ) (bits states more_bits more_states : ℕ) (edges more_edges : List EdgeTree) →
+    IsHoaText text bits states edges → IsHoaText text more_bits more_states more_edges →
+    (bits ≡ more_bits) × (states ≡ more_states) × (edges ≡ more_edges)
+one_automaton text bits states more_bits more_states edges more_edges a b =
+    let same = same_ok (read_from step whole fresh 1 (lines_from 1 text)) (end a) (end b) (reads a) (reads b) in (
+      sym a.named ∙ ap (λ (s : State). s.bits) same ∙ b.named,
+      ap (λ (s : State). s.states) same,
+      a.in_order ∙ ap (λ (s : State). s.edges) same ∙ sym b.in_order,
+    )
+  where
+    end : {m n : ℕ} {es : List EdgeTree} → IsHoaText text m n es → State
+    end {m = m} {n = n} {es = es} t =
+        record { passed = 7; states = n; names = t.names; bits = length t.names; begun = n; edges = grouped n es; ended = true }
+
+    reads : {m n : ℕ} {es : List EdgeTree} (t : IsHoaText text m n es) →
+        read_from step whole fresh 1 (lines_from 1 text) ≡ Ok (end t)
+    reads {m = m} {n = n} {es = es} t =
+        ap (λ x. read_from step whole fresh 1 (lines_from 1 x)) t.written
+        ∙ text_is_read step whole (hoa_lines t.names n es) fresh (end t) (text_of_hoa t.names n es t.is_hoa)
+
+    same_ok : (r : Result State ℕ) (s t : State) → r ≡ Ok s →
+        r ≡ Ok t → s ≡ t
+    same_ok r s t h k = cc

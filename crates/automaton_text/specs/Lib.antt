@@ -1,0 +1,6 @@
+pub mod BitNames
+pub mod HoaText
+pub mod HoaLines
+pub mod HoaView
+pub mod HoaRefusals
+pub mod internal

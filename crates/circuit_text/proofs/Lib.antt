@@ -1,0 +1,5 @@
+pub mod CircuitLines
+pub mod ReadCircuits
+pub mod WrittenCircuits
+pub mod FirstWrongLine
+mod Examples

@@ -1,0 +1,4 @@
+pub mod Bits
+pub mod OfController
+pub mod Runs
+pub mod internal

@@ -1,0 +1,13 @@
+pub mod AcceptedLoops
+pub mod ChosenSteps
+pub mod GoingOn
+pub mod JudgedLoops
+pub mod LeavingNodes
+pub mod LoopTurns
+pub mod OpenedNodes
+pub mod ProductSteps
+pub mod RowsFilled
+pub mod Searched
+pub mod TakenSteps
+pub mod TurningBack
+pub mod Walks

@@ -1,0 +1,43 @@
+//! Whether an automaton accepts a letter loop.
+
+ghost use Rattle.std.specs.Prelude.{◌≡◌, ◌↔◌, ◌<◌, true, length, IfOk, List};
+ghost use Rattle.ltl_formula.specs.LtlTree.{LtlTree};
+ghost use Rattle.ltl_formula.specs.LetterLoop.{holds};
+ghost use Rattle.cobuchi_automata.specs.Automata.{StateTree, IsAutomaton};
+ghost use Rattle.cobuchi_automata.specs.Edges.{edge_trees};
+ghost use Rattle.loop_acceptance.specs.Accepts.{loop_of, Accepts};
+
+use crate::product::Product;
+use crate::rows::edges_by_state;
+use crate::search::has_turn;
+use cobuchi_automata::Automaton;
+use sequence::NoMemory;
+use std::alloc::Global;
+
+/// Whether an automaton accepts the loop of these letters whose last one goes on to the one with the number
+/// `back`, from 0: whether it has a path from its start over the loop that turns through a rejecting edge.
+/// On the automaton of a formula that is whether the formula holds on the loop at position 0. It takes time
+/// and memory linear in the number of letters times the numbers of states and edges. An `Err` says that
+/// memory ran out.
+pub fn judge_loop(
+    alloc: Global,
+    automaton: &Automaton,
+    letters: &[u64],
+    back: u32,
+) -> Result<bool, NoMemory>
+    requires back { back < length letters.now }
+    ensures accepts { IfOk result (λ yes. (yes ≡ true) ↔ Accepts (edge_trees automaton.now.edges) (loop_of letters.now back)) }
+    ensures formula { IfOk result (λ yes. (f : LtlTree) (states : List StateTree) → IsAutomaton f states (edge_trees automaton.now.edges) →
+        ((yes ≡ true) ↔ (holds (loop_of letters.now back) f 0 ≡ true))) }
+{
+    let rows = edges_by_state(alloc, automaton)?;
+    let Some(_nodes) = letters.len().checked_mul(rows.len()) else {
+        return Err(NoMemory);
+    };
+    let product = Product {
+        rows: &rows,
+        letters,
+        back: back as usize,
+    };
+    has_turn(alloc, &product)
+}

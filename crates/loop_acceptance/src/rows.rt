@@ -1,0 +1,46 @@
+//! The edges of an automaton by the states that they leave.
+
+ghost use Rattle.std.specs.Prelude.{◌≡◌, ◌<◌, ◌++◌, ◌∷◌, ℕ, [], length, IfOk, OnOk, slice_set, slice_index_or};
+ghost use Rattle.std.specs.List.{AllByRecursion};
+ghost use Rattle.loop_acceptance.specs.internal.Product.{row_lists, AreEdgeRows};
+
+use cobuchi_automata::{Automaton, Edge};
+use sequence::NoMemory;
+use std::alloc::Global;
+
+/// The edges from each state of an automaton.
+pub(crate) fn edges_by_state(
+    alloc: Global,
+    automaton: &Automaton,
+) -> Result<Vec<Vec<Edge>>, NoMemory>
+    ensures states { IfOk result (λ rows. length rows.items ≡ automaton.now.states) }
+    ensures edges { IfOk result (λ rows. AreEdgeRows (row_lists rows.items) automaton.now.edges) }
+{
+    let mut rows = empty_rows(alloc, automaton.states)?;
+    for edge in automaton.edges.as_slice() {
+        add_edge(&mut rows, *edge)?;
+    }
+    Ok(rows)
+}
+
+/// An empty list for each of so many states.
+fn empty_rows(alloc: Global, states: u32) -> Result<Vec<Vec<Edge>>, NoMemory>
+    ensures states { IfOk result (λ rows. length rows.items ≡ states) }
+    ensures none { IfOk result (λ rows. AllByRecursion (λ row. row ≡ []) (row_lists rows.items)) }
+{
+    let mut rows = Vec::new(alloc);
+    for _state in 0..states {
+        rows.push(Vec::new(alloc))?;
+    }
+    Ok(rows)
+}
+
+/// Adds an edge to the list of the state that it leaves.
+fn add_edge(rows: &mut Vec<Vec<Edge>>, edge: Edge) -> Result<(), NoMemory>
+    requires { edge.from < length rows.old.items }
+    ensures { OnOk result (row_lists rows.new.items
+        ≡ slice_set (row_lists rows.old.items) edge.from (slice_index_or (row_lists rows.old.items) edge.from [] ++ edge ∷ [])) }
+{
+    rows[edge.from as usize].push(edge)?;
+    Ok(())
+}
