@@ -29,46 +29,20 @@ same_task given (task.Synth sizes) (task.Synth sizes') same h k =
       rounds = one_number 0 64 (given (codes "rounds")) _ _ h.rounds k.rounds i;
       budget = one_number 1 1000000 (given (codes "budget")) _ _ h.budget k.budget i;
     })
-same_task given (task.Synth sizes) (task.Check bound') same h k = cc
-same_task given (task.Synth sizes) task.Run same h k = cc
-same_task given (task.Synth sizes) (task.Prove sizes') same h k = cc
-same_task given (task.Synth sizes) task.Recheck same h k = cc
-same_task given (task.Synth sizes) (task.Gen n') same h k = cc
-same_task given (task.Check bound) (task.Synth sizes') same h k = cc
 same_task given (task.Check bound) (task.Check bound') same h k = λ i. task.Check (one_number 0 15 (given (codes "bound")) _ _ h k i)
-same_task given (task.Check bound) task.Run same h k = cc
-same_task given (task.Check bound) (task.Prove sizes') same h k = cc
-same_task given (task.Check bound) task.Recheck same h k = cc
-same_task given (task.Check bound) (task.Gen n') same h k = cc
-same_task given task.Run (task.Synth sizes') same h k = cc
-same_task given task.Run (task.Check bound') same h k = cc
 same_task given task.Run task.Run same h k = refl
-same_task given task.Run (task.Prove sizes') same h k = cc
-same_task given task.Run task.Recheck same h k = cc
-same_task given task.Run (task.Gen n') same h k = cc
-same_task given (task.Prove sizes) (task.Synth sizes') same h k = cc
-same_task given (task.Prove sizes) (task.Check bound') same h k = cc
-same_task given (task.Prove sizes) task.Run same h k = cc
 same_task given (task.Prove sizes) (task.Prove sizes') same h k =
     λ i. task.Prove (record {
       states = one_number 1 8 (given (codes "states")) _ _ h.states k.states i;
       bound = one_number 0 15 (given (codes "bound")) _ _ h.bound k.bound i;
       budget = one_number 1 1000000 (given (codes "budget")) _ _ h.budget k.budget i;
     })
-same_task given (task.Prove sizes) task.Recheck same h k = cc
-same_task given (task.Prove sizes) (task.Gen n') same h k = cc
-same_task given task.Recheck (task.Synth sizes') same h k = cc
-same_task given task.Recheck (task.Check bound') same h k = cc
-same_task given task.Recheck task.Run same h k = cc
-same_task given task.Recheck (task.Prove sizes') same h k = cc
 same_task given task.Recheck task.Recheck same h k = refl
-same_task given task.Recheck (task.Gen n') same h k = cc
-same_task given (task.Gen n) (task.Synth sizes') same h k = cc
-same_task given (task.Gen n) (task.Check bound') same h k = cc
-same_task given (task.Gen n) task.Run same h k = cc
-same_task given (task.Gen n) (task.Prove sizes') same h k = cc
-same_task given (task.Gen n) task.Recheck same h k = cc
 same_task given (task.Gen n) (task.Gen n') same h k = λ i. task.Gen (one_number 1 5 (given (codes "n")) _ _ h k i)
+same_task given (task.Circuit bound) (task.Circuit bound') same h k = λ i. task.Circuit (one_number 0 15 (given (codes "bound")) _ _ h k i)
+same_task given task.Automaton task.Automaton same h k = refl
+same_task given task.Accepts task.Accepts same h k = refl
+same_task given _ _ same h k = cc
 
 some_same : (v w : CommandWord) (o : Option CommandWord) → o ≡ Some v → o ≡ Some w → v ≡ w
 some_same v w o h k = let same : Some v ≡ Some w = sym h ∙ k in cc
@@ -88,6 +62,9 @@ bound_is_named given task.Run h = refl
 bound_is_named given (task.Prove sizes) h = refl
 bound_is_named given task.Recheck h = refl
 bound_is_named given (task.Gen n) h = refl
+bound_is_named given (task.Circuit bound) h = refl
+bound_is_named given task.Automaton h = refl
+bound_is_named given task.Accepts h = refl
 
 -- words that ask for something are taken
 pub asking_is_taken : (words : List Text) (task : Task) → AsksFor words task → are_taken words ≡ true

@@ -22,6 +22,9 @@ word_text word.Run = codes "run"
 word_text word.Prove = codes "prove"
 word_text word.Recheck = codes "recheck"
 word_text word.Gen = codes "gen"
+word_text word.Circuit = codes "circuit"
+word_text word.Automaton = codes "automaton"
+word_text word.Accepts = codes "accepts"
 
 -- the arguments of a command: each with its name, its least and its greatest number and, for an option, its default
 abbrev pub command_arguments : CommandWord → List Rule
@@ -41,6 +44,9 @@ command_arguments word.Prove =
     ∷ number_option (codes "budget") 1 1000000 (codes "20000") ∷ []
 command_arguments word.Recheck = []
 command_arguments word.Gen = number_positional (codes "n") 1 5 ∷ []
+command_arguments word.Circuit = number_option (codes "bound") 0 15 (codes "2") ∷ []
+command_arguments word.Automaton = []
+command_arguments word.Accepts = []
 
 -- the simple command of `clap` that reads the words of a command
 abbrev pub command : CommandWord → App
@@ -53,7 +59,10 @@ command_word text = if bytes_eq text (codes "synth") then Some word.Synth
     else (if bytes_eq text (codes "run") then Some word.Run
     else (if bytes_eq text (codes "prove") then Some word.Prove
     else (if bytes_eq text (codes "recheck") then Some word.Recheck
-    else (if bytes_eq text (codes "gen") then Some word.Gen else None)))))
+    else (if bytes_eq text (codes "gen") then Some word.Gen
+    else (if bytes_eq text (codes "circuit") then Some word.Circuit
+    else (if bytes_eq text (codes "automaton") then Some word.Automaton
+    else (if bytes_eq text (codes "accepts") then Some word.Accepts else None))))))))
 
 -- where a command looks its bound up, the word that it is given names one
 abbrev pub has_bound : CommandWord → (Text → Option Text) → Bool
@@ -63,6 +72,9 @@ has_bound word.Run given = true
 has_bound word.Prove given = true
 has_bound word.Recheck given = true
 has_bound word.Gen given = true
+has_bound word.Circuit given = true
+has_bound word.Automaton given = true
+has_bound word.Accepts given = true
 
 -- the first word is a command, `clap` takes the words for it, and the bound of `synth` is named
 abbrev pub are_taken : List Text → Bool
@@ -101,6 +113,9 @@ task_word task.Run = word.Run
 task_word (task.Prove sizes) = word.Prove
 task_word task.Recheck = word.Recheck
 task_word (task.Gen n) = word.Gen
+task_word (task.Circuit bound) = word.Circuit
+task_word task.Automaton = word.Automaton
+task_word task.Accepts = word.Accepts
 
 -- its numbers are those that its arguments have
 abbrev pub AreItsNumbers : (Text → Option Text) → Task → Type 0
@@ -110,6 +125,9 @@ AreItsNumbers given task.Run = Unit {0}
 AreItsNumbers given (task.Prove sizes) = AreProveSizes given sizes
 AreItsNumbers given task.Recheck = Unit {0}
 AreItsNumbers given (task.Gen n) = IsGivenWithin 1 5 (given (codes "n")) n
+AreItsNumbers given (task.Circuit bound) = IsGivenWithin 0 15 (given (codes "bound")) bound
+AreItsNumbers given task.Automaton = Unit {0}
+AreItsNumbers given task.Accepts = Unit {0}
 
 -- The words ask for this: the first names its command, `clap` takes them for that command, and its numbers are those of the words
 -- that `clap` gives the command's arguments.

@@ -22,6 +22,12 @@ pub enum CommandWord {
     Recheck,
     /// `gen`
     Gen,
+    /// `circuit`
+    Circuit,
+    /// `automaton`
+    Automaton,
+    /// `accepts`
+    Accepts,
 }
 
 const STATES: Argument = Argument {
@@ -92,6 +98,7 @@ static OF_SYNTH: [Argument; 7] = [
     BUDGET,
 ];
 
+/// Those of `check`, which `circuit` has too.
 static OF_CHECK: [Argument; 1] = [BOUND];
 
 static OF_PROVE: [Argument; 3] = [STATES, BOUND, BUDGET];
@@ -123,6 +130,15 @@ impl CommandWord {
         if is(word, b"gen") {
             return Some(CommandWord::Gen);
         }
+        if is(word, b"circuit") {
+            return Some(CommandWord::Circuit);
+        }
+        if is(word, b"automaton") {
+            return Some(CommandWord::Automaton);
+        }
+        if is(word, b"accepts") {
+            return Some(CommandWord::Accepts);
+        }
         None
     }
 
@@ -137,6 +153,9 @@ impl CommandWord {
             CommandWord::Prove => "prove",
             CommandWord::Recheck => "recheck",
             CommandWord::Gen => "gen",
+            CommandWord::Circuit => "circuit",
+            CommandWord::Automaton => "automaton",
+            CommandWord::Accepts => "accepts",
         }
     }
 
@@ -151,6 +170,9 @@ impl CommandWord {
             CommandWord::Prove => OF_PROVE.as_slice(),
             CommandWord::Recheck => NONE.as_slice(),
             CommandWord::Gen => OF_GEN.as_slice(),
+            CommandWord::Circuit => OF_CHECK.as_slice(),
+            CommandWord::Automaton => NONE.as_slice(),
+            CommandWord::Accepts => NONE.as_slice(),
         }
     }
 }

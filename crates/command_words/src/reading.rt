@@ -88,6 +88,9 @@ fn task_by(word: CommandWord, matches: &ArgMatches<'_>) -> Option<Task>
         })),
         CommandWord::Recheck => Some(Task::Recheck),
         CommandWord::Gen => Some(Task::Gen(number(matches, "n"))),
+        CommandWord::Circuit => Some(Task::Circuit(number(matches, "bound"))),
+        CommandWord::Automaton => Some(Task::Automaton),
+        CommandWord::Accepts => Some(Task::Accepts),
     }
 }
 

@@ -68,4 +68,10 @@ pub enum Task {
     Recheck,
     /// A generated specification of this number, from 1 to 5, and whether there is a program for it.
     Gen(u32),
+    /// A circuit of a program that is accepted under a specification, by annotations within a bound, from 0 to 15.
+    Circuit(u32),
+    /// An automaton of the negation of a specification.
+    Automaton,
+    /// Whether an automaton accepts a loop of letters.
+    Accepts,
 }

@@ -6,6 +6,7 @@ use Rattle.program_check.specs.declared.verdict.Verdict.{Verdict}
 use Rattle.program_check.specs.declared.verdict.Verdict.TheVariants.{Signals, Test, Choice, Foreign, Unsound, NoAnnotation, Yes}
 use Rattle.tsl_terms.specs.SpecTree.{SpecTree}
 use Rattle.program_tree.specs.ProgramTree.{ProgramTree}
+use Rattle.tool_replies.specs.declared.status.Status.TheVariants.{Done}
 use Rattle.tool_replies.specs.declared.reply.Reply.{Reply}
 use Rattle.judging_replies.specs.Check.{verdict_reply}
 use Rattle.judging_replies.specs.Check.{VerdictOutcome, too_large, judged, spec_refused, program_refused, both_spelled}
@@ -61,3 +62,15 @@ check_says bound bytes reply (of_texts parts are (spec_refused fault h is)) e = 
 check_says bound bytes reply (of_texts parts are (program_refused spec error fault spells cause h is)) e = fault_says fault reply is e
 check_says bound bytes reply (of_texts parts are (both_spelled input spells outcome)) e =
     both_say bound input.spec input.program reply outcome e
+
+-- ---- yes
+
+-- yes comes of one verdict alone
+pub is_yes : (bound : ℕ) (verdict : Verdict) → (verdict_reply bound verdict).status ≡ Done → verdict ≡ Yes
+is_yes bound Signals is = cc
+is_yes bound (Test i) is = cc
+is_yes bound (Choice i) is = cc
+is_yes bound (Foreign i) is = cc
+is_yes bound (Unsound i) is = cc
+is_yes bound NoAnnotation is = cc
+is_yes bound Yes is = refl

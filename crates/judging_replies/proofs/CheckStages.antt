@@ -1,5 +1,5 @@
--- The outcomes of each stage of `check`.
-use Rattle.std.proofs.Common.{◌≡◌, ℕ, List, ap, ◌∙◌}
+-- What is known at each stage of `check`.
+use Rattle.std.proofs.Common.{◌≡◌, ◌≢◌, ℕ, List, ap, sym, ◌∙◌}
 use Rattle.std.specs.Prelude.{Result, Ok, Err, IfOk}
 use Rattle.tsl_terms.specs.SpecTree.{SpecTree}
 use Rattle.program_tree.specs.ProgramTree.{ProgramTree}
@@ -9,57 +9,78 @@ use Rattle.tsl_reader.specs.Spells.{Spells}
 use Rattle.tsl_report.specs.declared.fault.Head.TheVariants.{Program}
 use Rattle.tsl_report.specs.declared.fault.Fault.{Fault}
 use Rattle.tsl_report.specs.declared.fault.Fault.TheVariants.{Parts}
+use Rattle.tool_replies.specs.declared.status.Status.TheVariants.{Done}
 use Rattle.tool_replies.specs.declared.reply.Reply.{Reply}
 use Rattle.tsl_meaning.specs.Promise.{Realizes}
 use Rattle.program_check.specs.declared.verdict.Verdict.{Verdict}
 use Rattle.program_check.specs.declared.verdict.Verdict.TheVariants.{Yes}
 use Rattle.program_check.specs.declared.verdict.Limit.{Limit}
-use Rattle.program_check.specs.declared.verdict.CheckError.TheVariants.{Large}
-use Rattle.program_check.specs.Verdicts.{HasFewBits, IsVerdict, HasCheckCause}
+use Rattle.program_check.specs.Verdicts.{HasFewBits, IsVerdict, IsPassed}
+use Rattle.judging_replies.specs.declared.checking.Judged.{Judged}
+use Rattle.judging_replies.specs.declared.checking.Judged.TheVariants.{Accepted, Replied}
 use Rattle.judging_replies.specs.Check.{verdict_reply, too_large, judged}
-use Rattle.judging_replies.specs.Check.{CheckParts, AreCheckParts, CheckInput, SpellCheckInput, VerdictOutcome, TextsOutcome, spec_refused}
+use Rattle.judging_replies.specs.Check.{CheckParts, AreCheckParts, CheckInput, TextsOutcome, spec_refused}
 use Rattle.judging_replies.specs.Check.{program_refused, both_spelled, CheckOutcome, without_program, of_texts}
+use Rattle.judging_replies.specs.Judged.{IsAcceptedPair, IsJudged}
+use Rattle.judging_replies.specs.internal.CheckView.{AreSpelled, AreTextsJudged}
 use Rattle.tool_replies.specs.HeadLines.{HasNoLine}
 use Rattle.tool_replies.specs.Replies.{fault_reply}
 use Rattle.judging_replies.specs.RunFaults.{IsProgramFault}
 use Rattle.judging_replies.specs.RunParts.{program_line}
 use Rattle.tool_replies.specs.Refusals.{HasSpecFault, fault_at_limit}
+use Rattle.tool_replies.proofs.Statuses.{status_of, fault_not_done}
+use Rattle.judging_replies.proofs.CheckReplies.{is_yes}
 
-module _ {E : Type 0} (bound : ℕ) where
-  pub without_program_outcome : (bytes : List ℕ) (r : Result Reply E) → HasNoLine bytes program_line →
-      IfOk r (λ reply. reply ≡ fault_reply (Parts Program)) → IfOk r (CheckOutcome bound bytes)
-  without_program_outcome bytes (Ok reply) none is = without_program none is
-  without_program_outcome bytes (Err e) none is = tt
+-- that something is refused, and that it is no yes
+abbrev pub IsNoYes : (Reply → Type 0) → Reply → Type 0
+IsNoYes P reply = P reply × (reply.status ≢ Done)
 
-  pub texts_outcome : (bytes : List ℕ) (parts : CheckParts) (r : Result Reply E) → AreCheckParts bytes parts →
-      IfOk r (TextsOutcome bound parts) → IfOk r (CheckOutcome bound bytes)
-  texts_outcome bytes parts (Ok reply) are outcome = of_texts parts are outcome
-  texts_outcome bytes parts (Err e) are outcome = tt
+module _ (bound : ℕ) where
+  -- ---- what is replied
 
-  pub spec_refused_outcome : (parts : CheckParts) (fault : Fault) (r : Result Reply E) → HasSpecFault parts.spec fault →
-      IfOk r (λ reply. reply ≡ fault_reply fault) → IfOk r (TextsOutcome bound parts)
-  spec_refused_outcome parts fault (Ok reply) h is = spec_refused fault h is
-  spec_refused_outcome parts fault (Err e) h is = tt
+  pub accepted_outcome : {E : Type 0} (bytes : List ℕ) (spec : SpecTree) (program : ProgramTree) (r : Result Reply E) →
+      IsAcceptedPair bound bytes spec program → IfOk r (λ reply. reply ≡ verdict_reply bound Yes) → IfOk r (CheckOutcome bound bytes)
+  accepted_outcome bytes spec program (Ok reply) pair is =
+      let h = pair.accepted in
+      of_texts pair.parts pair.are_parts (both_spelled (record { spec = spec; names = h.names; program = program }) h.spelled
+      (judged Yes h.few_bits h.is_verdict (λ same. h.realizes) is))
+  accepted_outcome bytes spec program (Err e) pair is = tt
 
-  pub program_refused_outcome : (parts : CheckParts) (spec : SpecTree) (error : ProgramError) (fault : Fault) (r : Result Reply E) →
+  -- ---- what is known
+
+  pub without_program_known : (bytes : List ℕ) (reply : Reply) → HasNoLine bytes program_line → reply ≡ fault_reply (Parts Program) →
+      IsNoYes (CheckOutcome bound bytes) reply
+  without_program_known bytes reply none is = (without_program none is, fault_not_done (Parts Program) reply is)
+
+  pub texts_known : {E : Type 0} (bytes : List ℕ) (parts : CheckParts) (r : Result Judged E) → AreCheckParts bytes parts →
+      IfOk r (AreTextsJudged bound parts) → IfOk r (IsJudged bound bytes)
+  texts_known bytes parts (Ok (Accepted spec program)) are h = record { parts = parts; are_parts = are; accepted = h }
+  texts_known bytes parts (Ok (Replied reply)) are h = (of_texts parts are h.0, h.1)
+  texts_known bytes parts (Err e) are h = tt
+
+  pub spec_refused_known : (parts : CheckParts) (fault : Fault) (reply : Reply) → HasSpecFault parts.spec fault →
+      reply ≡ fault_reply fault → IsNoYes (TextsOutcome bound parts) reply
+  spec_refused_known parts fault reply h is = (spec_refused fault h is, fault_not_done fault reply is)
+
+  pub program_refused_known : (parts : CheckParts) (spec : SpecTree) (error : ProgramError) (fault : Fault) (reply : Reply) →
       Spells parts.spec spec → HasProgramCause parts.program spec.names error → IsProgramFault parts.program error fault →
-      IfOk r (λ reply. reply ≡ fault_reply fault) → IfOk r (TextsOutcome bound parts)
-  program_refused_outcome parts spec error fault (Ok reply) spells cause h is = program_refused spec error fault spells cause h is
-  program_refused_outcome parts spec error fault (Err e) spells cause h is = tt
+      reply ≡ fault_reply fault → IsNoYes (TextsOutcome bound parts) reply
+  program_refused_known parts spec error fault reply spells cause h is =
+      (program_refused spec error fault spells cause h is, fault_not_done fault reply is)
 
-  pub spelled_outcome : (parts : CheckParts) (input : CheckInput) (r : Result Reply E) → SpellCheckInput parts input →
-      IfOk r (VerdictOutcome bound input.spec input.program) → IfOk r (TextsOutcome bound parts)
-  spelled_outcome parts input (Ok reply) spells outcome = both_spelled input spells outcome
-  spelled_outcome parts input (Err e) spells outcome = tt
+  module _ (parts : CheckParts) (spec : SpecTree) (program : ProgramTree) (spelled : AreSpelled parts spec program) where
+    abbrev input : CheckInput
+    input = record { spec = spec; names = spelled.0; program = program }
 
-  pub too_large_outcome : (spec : SpecTree) (program : ProgramTree) (limit : Limit) (fault : Fault) (r : Result Reply E) →
-      HasCheckCause spec program (Large limit) → fault ≡ fault_at_limit limit → IfOk r (λ reply. reply ≡ fault_reply fault) →
-      IfOk r (VerdictOutcome bound spec program)
-  too_large_outcome spec program limit fault (Ok reply) cause is_limit is = too_large limit cause (is ∙ ap fault_reply is_limit)
-  too_large_outcome spec program limit fault (Err e) cause is_limit is = tt
+    pub too_large_known : (limit : Limit) (fault : Fault) (reply : Reply) → IsPassed spec program limit → fault ≡ fault_at_limit limit →
+        reply ≡ fault_reply fault → IsNoYes (TextsOutcome bound parts) reply
+    too_large_known limit fault reply passed is_limit is =
+        (both_spelled input spelled.1 (too_large limit passed (is ∙ ap fault_reply is_limit)), fault_not_done fault reply is)
 
-  pub judged_outcome : (spec : SpecTree) (program : ProgramTree) (verdict : Verdict) (r : Result Reply E) →
-      HasFewBits spec → IsVerdict spec program bound verdict → (verdict ≡ Yes → Realizes spec program) →
-      IfOk r (λ reply. reply ≡ verdict_reply bound verdict) → IfOk r (VerdictOutcome bound spec program)
-  judged_outcome spec program verdict (Ok reply) few h realizes is = judged verdict few h realizes is
-  judged_outcome spec program verdict (Err e) few h realizes is = tt
+    pub refused_known : (verdict : Verdict) (reply : Reply) → HasFewBits spec → IsVerdict spec program bound verdict →
+        (verdict ≡ Yes → Realizes spec program) → verdict ≢ Yes → reply ≡ verdict_reply bound verdict →
+        IsNoYes (TextsOutcome bound parts) reply
+    refused_known verdict reply few h realizes other is = (
+      both_spelled input spelled.1 (judged verdict few h realizes is),
+      (λ done. other (is_yes bound verdict (sym (status_of is) ∙ done))),
+    )

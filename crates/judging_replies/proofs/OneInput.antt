@@ -3,7 +3,6 @@ use Rattle.std.proofs.Common.{◌≡◌, ℕ, List, take, drop, refl, ap, sym, �
 use Rattle.std.specs.Prelude.{Option, Some, None}
 use Rattle.tsl_terms.specs.Name.{Name, AreDistinct}
 use Rattle.tsl_terms.specs.SpecTree.{SpecTree}
-use Rattle.tsl_reader.specs.Spells.{Spells}
 use Rattle.tsl_reader.proofs.Causes.{one_spec}
 use Rattle.tsl_reader.proofs.SpelledFits.{spelled_fits}
 use Rattle.program_tree.specs.ProgramTree.{ProgramTree}

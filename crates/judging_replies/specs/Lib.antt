@@ -1,4 +1,5 @@
 pub mod Check
+pub mod Judged
 pub mod Recheck
 pub mod Run
 pub mod RunFaults

@@ -1,12 +1,13 @@
 //! The command `check`.
 
-ghost use Rattle.std.specs.Prelude.{◌≡◌, ◌<◌, ◌≤◌, ◌^◌, ◌++◌, length, decimal, IfOk};
+ghost use Rattle.std.specs.Prelude.{◌≡◌, ◌↔◌, ◌<◌, ◌≤◌, ◌^◌, ◌++◌, length, decimal, IfOk, IsTrue};
 ghost use Rattle.tsl_terms.specs.SpecView.{spec_tree};
 ghost use Rattle.tsl_terms.specs.WellFormed.{SpecFits};
 ghost use Rattle.tsl_reader.specs.Spells.{Spells};
 ghost use Rattle.program_tree.specs.ProgramView.{program_tree};
-ghost use Rattle.judging_replies.specs.Check.{CheckOutcome, TextsOutcome, VerdictOutcome, verdict_reply, refused_reply};
-ghost use Rattle.judging_replies.specs.internal.CheckView.{check_parts, AreShortTexts};
+ghost use Rattle.judging_replies.specs.Check.{CheckOutcome, verdict_reply, refused_reply};
+ghost use Rattle.judging_replies.specs.Judged.{IsJudged};
+ghost use Rattle.judging_replies.specs.internal.CheckView.{check_parts, AreShortTexts, AreSpelled, AreTextsJudged};
 
 use crate::run_faults::fault_of_program;
 use flow_program::read_program;
@@ -27,75 +28,121 @@ struct Texts<'a> {
     program: &'a [u8],
 }
 
+/// What is known of a program under its specification.
+#[derive(Drop)]
+pub enum Judged {
+    /// The program is accepted under the specification.
+    Accepted(Spec, Program),
+    /// It is not, or something is refused: what `check` replies.
+    Replied(Reply),
+}
+
 /// What `check` replies to these bytes: the verdict on their program under their specification, for
 /// annotations within a bound, or why there is none.
 pub fn check(alloc: Global, bound: u32, bytes: &[u8]) -> Result<Reply, NoMemory>
     requires { length bytes.now ≤ 2 ^ 24 }
     ensures { IfOk result (CheckOutcome bound bytes.now) }
 {
-    match cut_before(bytes, PROGRAM_LINE) {
-        Some((spec, program)) => reply_to_texts(alloc, bound, &Texts { spec, program }),
-        None => Reply::at_fault(alloc, &Fault::Parts(Head::Program)),
+    let judged = accepted_program(alloc, bound, bytes)?;
+    match judged {
+        Judged::Accepted(_, _) => accepted(alloc),
+        Judged::Replied(reply) => Ok(reply),
     }
 }
 
-/// What is replied to the two texts: first the specification is read.
-fn reply_to_texts(alloc: Global, bound: u32, texts: &Texts<'_>) -> Result<Reply, NoMemory>
+/// The specification and the program of these bytes, where `check` accepts the program within the bound;
+/// otherwise what `check` replies. An `Err` says that memory ran out.
+pub fn accepted_program(alloc: Global, bound: u32, bytes: &[u8]) -> Result<Judged, NoMemory>
+    requires { length bytes.now ≤ 2 ^ 24 }
+    ensures { IfOk result (IsJudged bound bytes.now) }
+{
+    match cut_before(bytes, PROGRAM_LINE) {
+        Some((spec, program)) => texts_judged(alloc, bound, &Texts { spec, program }),
+        None => {
+            let reply = Reply::at_fault(alloc, &Fault::Parts(Head::Program))?;
+            Ok(Judged::Replied(reply))
+        }
+    }
+}
+
+/// What is known of the two texts: first the specification is read.
+fn texts_judged(alloc: Global, bound: u32, texts: &Texts<'_>) -> Result<Judged, NoMemory>
     requires short { AreShortTexts (check_parts texts.now) }
-    ensures { IfOk result (TextsOutcome bound (check_parts texts.now)) }
+    ensures { IfOk result (AreTextsJudged bound (check_parts texts.now)) }
 {
     match read_spec(alloc, texts.spec) {
         Ok(spec) => {
             let names = spec.names.copy()?;
-            reply_to_spec(alloc, bound, texts, &spec, names)
+            spec_judged(alloc, bound, texts, spec, names)
         }
         Err(error) => {
             let fault = fault_of(alloc, texts.spec, &error)?;
-            Reply::at_fault(alloc, &fault)
+            let reply = Reply::at_fault(alloc, &fault)?;
+            Ok(Judged::Replied(reply))
         }
     }
 }
 
-/// What is replied after the specification: the program is read, with its names.
-fn reply_to_spec(
+/// What is known after the specification: the program is read, with its names.
+fn spec_judged(
     alloc: Global,
     bound: u32,
     texts: &Texts<'_>,
-    spec: &Spec,
+    spec: Spec,
     names: Names,
-) -> Result<Reply, NoMemory>
+) -> Result<Judged, NoMemory>
     requires short { AreShortTexts (check_parts texts.now) }
-    requires spells { Spells (check_parts texts.now).spec (spec_tree spec.now) }
-    requires fits { SpecFits (spec_tree spec.now) }
-    requires names { names ≡ (spec_tree spec.now).names }
-    ensures { IfOk result (TextsOutcome bound (check_parts texts.now)) }
+    requires spells { Spells (check_parts texts.now).spec (spec_tree spec) }
+    requires fits { SpecFits (spec_tree spec) }
+    requires names { names ≡ (spec_tree spec).names }
+    ensures { IfOk result (AreTextsJudged bound (check_parts texts.now)) }
 {
     match read_program(alloc, texts.program, names) {
-        Ok((program, _)) => reply_to_program(alloc, bound, spec, &program),
+        Ok((program, _)) => program_judged(alloc, bound, texts, spec, program),
         Err(error) => {
             let fault = fault_of_program(alloc, texts.program, &error)?;
-            Reply::at_fault(alloc, &fault)
+            let reply = Reply::at_fault(alloc, &fault)?;
+            Ok(Judged::Replied(reply))
         }
     }
 }
 
-/// What is replied to a specification and a program: the verdict.
-fn reply_to_program(
+/// What is known of a specification and a program, which these texts spell: the verdict.
+fn program_judged(
     alloc: Global,
     bound: u32,
-    spec: &Spec,
-    program: &Program,
-) -> Result<Reply, NoMemory>
-    requires few_nodes { length program.now.nodes < 2 ^ 32 }
-    requires few_states { length program.now.states < 2 ^ 32 }
-    requires few_windows { length program.now.windows < 2 ^ 32 }
-    ensures { IfOk result (VerdictOutcome bound (spec_tree spec.now) (program_tree program.now)) }
+    texts: &Texts<'_>,
+    spec: Spec,
+    program: Program,
+) -> Result<Judged, NoMemory>
+    requires fits { SpecFits (spec_tree spec) }
+    requires few_nodes { length program.nodes < 2 ^ 32 }
+    requires few_states { length program.states < 2 ^ 32 }
+    requires few_windows { length program.windows < 2 ^ 32 }
+    requires spelled { AreSpelled (check_parts texts.now) (spec_tree spec) (program_tree program) }
+    ensures { IfOk result (AreTextsJudged bound (check_parts texts.now)) }
 {
-    match accept(alloc, spec, program, bound) {
-        Ok(verdict) => reply_of(alloc, bound, verdict),
-        Err(CheckError::Large(limit)) => Reply::at_fault(alloc, &fault_of_limit(limit)),
+    match accept(alloc, &spec, &program, bound) {
+        Ok(verdict) => {
+            if is_yes(verdict) {
+                return Ok(Judged::Accepted(spec, program));
+            }
+            let reply = reply_of(alloc, bound, verdict)?;
+            Ok(Judged::Replied(reply))
+        }
+        Err(CheckError::Large(limit)) => {
+            let reply = Reply::at_fault(alloc, &fault_of_limit(limit))?;
+            Ok(Judged::Replied(reply))
+        }
         Err(CheckError::NoMemory) => Err(NoMemory),
     }
+}
+
+/// Whether a verdict is yes.
+fn is_yes(verdict: Verdict) -> bool
+    ensures { IsTrue result ↔ (verdict ≡ Verdict.Yes) }
+{
+    matches!(verdict, Verdict::Yes)
 }
 
 /// The line of a verdict.

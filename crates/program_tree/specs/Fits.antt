@@ -5,7 +5,7 @@ use Rattle.std.specs.List.{list_all}
 use Rattle.sequence.specs.Numbers.{is_among}
 use Rattle.tsl_terms.specs.TermTree.{TermTree, ProbeTree}
 use Rattle.tsl_terms.specs.OnlyThese.{reads_only, read_only}
-use Rattle.tsl_terms.specs.WindowTree.{WindowTree, ListedTree}
+use Rattle.tsl_terms.specs.WindowTree.{WindowTree, ListedTree, window_probes}
 use Rattle.program_tree.specs.declared.limits.TheConstants.{LONGEST_WINDOW}
 use Rattle.program_tree.specs.NodeTree.{NodeTree, branch, assign}
 use Rattle.program_tree.specs.ProgramTree.{ProgramTree}
@@ -53,7 +53,7 @@ window_is_shaped cells w =
 -- probes and terms read these signals only
 abbrev pub window_reads_only : List ℕ → WindowTree → Bool
 window_reads_only readable w =
-    (read_only readable w.left.arguments && read_only readable w.right.arguments) && list_all (λ u. reads_only readable u.term) w.updates
+    list_all (λ p. read_only readable p.arguments) (window_probes w) && list_all (λ u. reads_only readable u.term) w.updates
 
 abbrev pub window_fits : List ℕ → List ℕ → WindowTree → Bool
 window_fits readable cells w = window_is_shaped cells w && window_reads_only readable w

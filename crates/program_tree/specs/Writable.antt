@@ -5,7 +5,7 @@ use Rattle.tsl_terms.specs.declared.names.NameKind.TheVariants.{Signal}
 use Rattle.tsl_terms.specs.Name.{Name, is_name}
 use Rattle.tsl_terms.specs.TermTree.{TermTree, ProbeTree}
 use Rattle.tsl_terms.specs.WellFormed.{is_usable_at, term_fits, probe_fits, brackets, brackets_of_arguments, deepest}
-use Rattle.tsl_terms.specs.WindowTree.{WindowTree, ListedTree}
+use Rattle.tsl_terms.specs.WindowTree.{WindowTree, ListedTree, window_probes}
 use Rattle.program_tree.specs.declared.limits.TheConstants.{MOST_WINDOWS, MOST_NODES, MOST_STATES}
 use Rattle.program_tree.specs.NodeTree.{NodeTree, branch, assign}
 use Rattle.program_tree.specs.ProgramTree.{ProgramTree, controlled}
@@ -25,9 +25,7 @@ abbrev pub listed_is_writable : List Name → ListedTree → Bool
 listed_is_writable names u = signal_fits names u.signal && term_is_writable names u.term
 
 abbrev pub window_is_writable : List Name → WindowTree → Bool
-window_is_writable names w =
-    (probe_is_writable names w.left && probe_is_writable names w.right)
-    && list_all (listed_is_writable names) w.updates
+window_is_writable names w = list_all (probe_is_writable names) (window_probes w) && list_all (listed_is_writable names) w.updates
 
 abbrev pub node_is_writable : List Name → NodeTree → Bool
 node_is_writable names (branch t then_node else_node) = probe_is_writable names t

@@ -24,7 +24,7 @@ fn says(rt: &impl Abort, alloc: Global, fault: &Fault, line: &[u8]) -> Result<()
 
 #[test]
 fn faults_of_the_words_and_the_source(rt: HostRuntime) -> Result<(), Fail> {
-    let usage = b"usage: tsl synth|check|run|prove|recheck|gen\n";
+    let usage = b"usage: tsl synth|check|run|prove|recheck|gen|circuit|automaton|accepts\n";
     says(&rt, rt.alloc(), &Fault::Usage, usage)?;
     says(&rt, rt.alloc(), &Fault::Read, b"fault read\n")
 }
@@ -50,7 +50,13 @@ fn a_missing_part_is_named_by_its_first_line(rt: HostRuntime) -> Result<(), Fail
         &Fault::Parts(Head::Inputs),
         b"fault parts inputs\n",
     )?;
-    says(&rt, alloc, &Fault::Parts(Head::Lrat), b"fault parts lrat\n")
+    says(&rt, alloc, &Fault::Parts(Head::Lrat), b"fault parts lrat\n")?;
+    says(
+        &rt,
+        alloc,
+        &Fault::Parts(Head::Letters),
+        b"fault parts letters\n",
+    )
 }
 
 #[test]
@@ -158,6 +164,15 @@ fn a_line_of_a_formula_or_a_log_is_told(rt: HostRuntime) -> Result<(), Fail> {
     let alloc = rt.alloc();
     says(&rt, alloc, &Fault::CnfForm(6), b"fault cnf 6 form\n")?;
     says(&rt, alloc, &Fault::LogForm(2), b"fault log 2 form\n")
+}
+
+#[test]
+fn a_line_of_an_automaton_or_a_loop_is_told(rt: HostRuntime) -> Result<(), Fail> {
+    let alloc = rt.alloc();
+    let automaton = Fault::AutomatonForm(9);
+    says(&rt, alloc, &automaton, b"fault automaton 9 form\n")?;
+    let letters = Fault::LettersForm(2);
+    says(&rt, alloc, &letters, b"fault letters 2 form\n")
 }
 
 /// Asserts the lines of limits that are passed.

@@ -1,6 +1,8 @@
-//! Tests of texts that are written: formulas, faults and the answers of searches.
+//! Tests of texts that are written: formulas, faults, the answers of searches, and automata.
 #![tactic(auto)]
 
+#[cfg(test)]
+mod automata;
 #[cfg(test)]
 mod faults;
 #[cfg(test)]

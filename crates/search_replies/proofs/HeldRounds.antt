@@ -1,28 +1,20 @@
 -- The names of a specification hold each number of its bits and of the rounds over them.
-use Rattle.std.proofs.Common.{◌≡◌, ℕ, zero, suc, ◌+◌, ◌≤◌, ◌==◌, ◌&&◌, Bool, true, false, cond, List, [], ◌∷◌, ◌++◌, length, Some, slice_get}
-use Rattle.std.proofs.Common.{IsTrue, filter, refl, sym, subst, arith}
+use Rattle.std.proofs.Common.{◌≡◌, ℕ, ◌==◌, ◌&&◌, Bool, true, false, cond, List, [], ◌∷◌, ◌++◌, Some, slice_get}
+use Rattle.std.proofs.Common.{IsTrue, refl, sym, subst}
 use Rattle.std.specs.List.{list_all, AllByRecursion}
-use Rattle.std.proofs.lemmas.Bool.{and_parts, and_from, eqb-true, lt-ltb}
+use Rattle.std.proofs.lemmas.Bool.{and_parts, and_from, eqb-true}
 use Rattle.std.proofs.lemmas.Option.{none-some}
-use Rattle.sequence.specs.Numbers.{numbers_from}
 use Rattle.sequence.proofs.Each.{each_weaker}
-use Rattle.sequence.proofs.Passes.{passes_at, list_all_joined, list_all_from_each}
-use Rattle.tsl_terms.specs.declared.names.NameKind.TheVariants.{Signal}
+use Rattle.sequence.proofs.Passes.{passes_at, list_all_from_each}
 use Rattle.tsl_terms.specs.Name.{Name}
-use Rattle.tsl_terms.specs.TermTree.{TermTree, ProbeTree, signal}
-use Rattle.tsl_terms.specs.FormulaTree.{update, test}
-use Rattle.tsl_terms.specs.Atoms.{atoms}
-use Rattle.tsl_terms.specs.SpecTree.{SpecTree, whole_formula}
-use Rattle.tsl_terms.specs.Signals.{is_cell, is_output, cells_of, outputs_of, choices_of}
-use Rattle.tsl_terms.specs.WellFormed.{atom_fits, SpecFits}
-use Rattle.tsl_terms.specs.WindowTree.{ListedTree, WindowTree}
-use Rattle.tsl_terms.specs.Predicates.{predicates_of}
-use Rattle.tsl_terms.proofs.WholeAtoms.{whole_is_made_of}
+use Rattle.tsl_terms.specs.TermTree.{TermTree}
+use Rattle.tsl_terms.specs.SpecTree.{SpecTree}
+use Rattle.tsl_terms.specs.WellFormed.{SpecFits}
+use Rattle.tsl_terms.specs.WindowTree.{ListedTree, WindowTree, window_probes}
 use Rattle.term_text.specs.TermText.{is_held, term_is_held, probe_is_held}
 use Rattle.term_text.specs.WindowText.{listed_is_held, window_is_held}
-use Rattle.term_text.proofs.Held.{name_held, term_held, probe_held}
 use Rattle.letter_space.specs.SpaceTree.{ControlledTree, SpaceTree}
-use Rattle.letter_space.specs.SpecSpace.{controlled_from, spec_space}
+use Rattle.letter_space.specs.SpecSpace.{spec_space}
 use Rattle.letter_space.specs.Letters.{term_taken}
 use Rattle.letter_space.specs.Vectors.{picks_of}
 use Rattle.machines.specs.MachineTree.{EnvironmentTree}
@@ -30,8 +22,6 @@ use Rattle.machines.specs.Moves.{EnvironmentFits}
 use Rattle.machines.specs.MachineView.{environment_tree}
 use Rattle.machines.specs.Rounds.{RoundTree}
 use Rattle.branch_finder.specs.Spurious.{IsOneOf, IsSpurious}
-use Rattle.program_check.proofs.ProgramNames.{cell_named}
-use Rattle.program_check.proofs.SpaceTerms.{predicates_pass, choices_pass}
 use Rattle.refinement_loop.specs.declared.outcome.Bound.{Bound}
 use Rattle.refinement_loop.specs.declared.outcome.Bound.TheVariants.{Fixed}
 use Rattle.refinement_loop.specs.declared.outcome.Search.{Search}
@@ -43,6 +33,7 @@ use Rattle.refinement_loop.specs.Chains.{IsChainFrom, IsChain}
 use Rattle.tsl_report.specs.EnvironmentText.{controlled_is_held, space_is_held}
 use Rattle.tsl_report.specs.RoundTexts.{RoundIsHeld, RoundsAreHeld}
 use Rattle.tsl_report.specs.SearchTexts.{ReasonFits}
+use Rattle.tool_replies.proofs.HeldSpaces.{space_held}
 use Rattle.search_replies.specs.internal.SearchReasons.{reason_told}
 
 -- ---- what is over a space that is held
@@ -71,67 +62,20 @@ module _ (names : List Name) where
   spurious_held space e w held h =
       let parts = and_parts (list_all (probe_is_held names) space.predicates) (list_all (controlled_is_held names) space.controlled) held in
       and_from _ _
-      (and_from _ _ (passes_at (probe_is_held names) space.predicates h.left_bit w.left parts.0 h.is_left)
-      (passes_at (probe_is_held names) space.predicates h.right_bit w.right parts.0 h.is_right))
+      (list_all_from_each (probe_is_held names) (window_probes w) (
+        passes_at (probe_is_held names) space.predicates h.left_bit w.left parts.0 h.is_left,
+        (passes_at (probe_is_held names) space.predicates h.right_bit w.right parts.0 h.is_right, tt),
+      ))
       (list_all_from_each (listed_is_held names) w.updates
       (each_weaker (λ (u : ListedTree). IsOneOf space (h.vector u.offset) u) (λ (u : ListedTree). listed_is_held names u ≡ true)
       (λ u one. taken_held space.controlled (picks_of space.controlled (h.vector u.offset)) u.signal u.term parts.1 one)
       w.updates h.listed))
 
--- ---- the bits of a specification
+-- ---- rounds
 
 module _ (spec : SpecTree) (fits : SpecFits spec) where
   abbrev names : List Name
   names = spec.names
-
-  atoms_fit : list_all (atom_fits names) (atoms (whole_formula spec)) ≡ true
-  atoms_fit = (and_parts (list_all (atom_fits names) (atoms (whole_formula spec))) _
-      (whole_is_made_of (atom_fits names) spec fits.formulas)).0
-
-  test_held : (p : ProbeTree) → atom_fits names (test p) ≡ true → probe_is_held names p ≡ true
-  test_held p fit = probe_held names p (and_parts _ _ fit).0
-
-  update_held : (s : ℕ) (t : TermTree) → atom_fits names (update s t) ≡ true → term_is_held names t ≡ true
-  update_held s t fit = let parts = and_parts _ _ fit in term_held names t (and_parts _ _ parts.1).0
-
-  cell_held : (s : ℕ) → is_cell spec s ≡ true → term_is_held names (signal s) ≡ true
-  cell_held s cell = name_held names s Signal 0 (cell_named spec fits.formulas s cell)
-
-  numbers_held : (p : ℕ → Bool) (first count : ℕ) → first + count ≤ length names →
-      list_all (is_held names) (filter p (numbers_from first count)) ≡ true
-  numbers_held p first zero below = refl
-  numbers_held p first (suc count) below = by (p first) (numbers_held p (suc first) count (omega (arith, below)))
-    where
-      by : (b : Bool) → list_all (is_held names) (filter p (numbers_from (suc first) count)) ≡ true →
-          list_all (is_held names) (cond b (first ∷ filter p (numbers_from (suc first) count)) (filter p (numbers_from (suc first) count)))
-          ≡ true
-      by true rest =
-          and_from (is_held names first) (list_all (is_held names) (filter p (numbers_from (suc first) count)))
-          (lt-ltb first (length names) (omega (arith, below))) rest
-      by false rest = rest
-
-  signals_held : list_all (is_held names) (cells_of spec ++ outputs_of spec) ≡ true
-  signals_held =
-      list_all_joined (is_held names) (cells_of spec) (outputs_of spec) (numbers_held (is_cell spec) 0 (length names) (omega arith))
-      (numbers_held (is_output spec) 0 (length names) (omega arith))
-
-  each_held : (first : ℕ) (signals : List ℕ) → list_all (is_held names) signals ≡ true →
-      list_all (controlled_is_held names) (controlled_from (choices_of spec) first signals) ≡ true
-  each_held first [] held = refl
-  each_held first (s ∷ signals) held =
-      let parts = and_parts (is_held names s) (list_all (is_held names) signals) held in
-      and_from _ _
-      (and_from _ _ parts.0
-      (choices_pass spec (atom_fits names) atoms_fit (probe_is_held names) test_held (term_is_held names) update_held cell_held s))
-      (each_held (first + length (choices_of spec s)) signals parts.1)
-
-  pub space_held : IsTrue (space_is_held names (spec_space spec))
-  space_held =
-      and_from _ _
-      (predicates_pass spec (atom_fits names) atoms_fit (probe_is_held names) test_held (term_is_held names) update_held cell_held)
-      (each_held (length (predicates_of spec)) (cells_of spec ++ outputs_of spec) signals_held)
-
-  -- ---- rounds
 
   counterstrategy_fits : (windows : List WindowTree) (states : ℕ) (bound : Bound) (e : EnvironmentTree) →
       IsCounterstrategy spec windows states bound e → EnvironmentFits (spec_space spec) e
@@ -143,7 +87,7 @@ module _ (spec : SpecTree) (fits : SpecFits spec) where
   chain_held search windows (r ∷ rounds) chain = (
     record {
       fits = counterstrategy_fits windows search.env_states (Fixed search.env_bound) r.environment chain.0.environment;
-      window = spurious_held names (spec_space spec) r.environment r.window space_held chain.0.spurious;
+      window = spurious_held names (spec_space spec) r.environment r.window (space_held spec fits) chain.0.spurious;
     },
     chain_held search (windows ++ r.window ∷ []) rounds chain.1,
   )
@@ -152,11 +96,11 @@ module _ (spec : SpecTree) (fits : SpecFits spec) where
       RoundsAreHeld names space rounds
   rounds_held search space rounds same chain =
       subst (λ (s : SpaceTree). RoundsAreHeld names s rounds) (sym same)
-      (record { terms = space_held; rounds = chain_held search [] rounds chain })
+      (record { terms = space_held spec fits; rounds = chain_held search [] rounds chain })
 
   pub no_rounds_held : (space : SpaceTree) → space ≡ spec_space spec → RoundsAreHeld names space []
   no_rounds_held space same =
-      subst (λ (s : SpaceTree). RoundsAreHeld names s []) (sym same) (record { terms = space_held; rounds = tt })
+      subst (λ (s : SpaceTree). RoundsAreHeld names s []) (sym same) (record { terms = space_held spec fits; rounds = tt })
 
   pub environment_fits : (windows : List WindowTree) (states : ℕ) (bound : Bound) (space : SpaceTree) (e : EnvironmentTree) → space ≡ spec_space spec →
       IsCounterstrategy spec windows states bound e → EnvironmentFits space e

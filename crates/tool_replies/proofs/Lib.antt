@@ -1,3 +1,4 @@
+pub mod HeldSpaces
 pub mod RefusalExamples
 pub mod RefusalLaws
 pub mod Statuses

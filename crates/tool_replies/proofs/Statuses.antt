@@ -5,6 +5,7 @@ use Rattle.program_check.specs.declared.verdict.Limit.TheVariants.{Predicates, B
 use Rattle.tsl_reader.specs.declared.SpecError.{SpecError}
 use Rattle.tsl_reader.specs.declared.SpecError.TheVariants.{Byte, OpenComment, Form, Deep, Kind, Arity, Nodes, NoMemory}
 use Rattle.tsl_report.specs.declared.fault.Fault.{Fault}
+use Rattle.tsl_report.specs.declared.fault.Fault.TheVariants as faults
 use Rattle.tsl_report.specs.FaultText.{fault_line, fault_text}
 use Rattle.tool_replies.specs.declared.status.Status.{Status}
 use Rattle.tool_replies.specs.declared.status.Status.TheVariants.{Done, No, Usage, Reading, Large, Spent, ReadFault, WriteFault, Memory}
@@ -83,3 +84,14 @@ line_says fault = some_byte (fault_line fault) 10
 
 pub fault_says : (fault : Fault) (reply : Reply) → reply ≡ fault_reply fault → reply.text ≢ []
 fault_says fault reply is e = line_says fault (sym (text_of is) ∙ e)
+
+-- no fault is an answer
+fault_is_no_answer : (fault : Fault) → is_answer (fault_status fault) ≡ false
+fault_is_no_answer faults.Usage = refl
+fault_is_no_answer faults.Read = refl
+fault_is_no_answer (faults.Large name limit) = refl
+fault_is_no_answer _ = refl
+
+pub fault_not_done : (fault : Fault) (reply : Reply) → reply ≡ fault_reply fault → reply.status ≢ Done
+fault_not_done fault reply is done =
+    let e : false ≡ true = sym (fault_is_no_answer fault) ∙ ap is_answer (sym (status_of is) ∙ done) in cc

@@ -17,16 +17,16 @@ struct Pair {
 }
 
 /// Two requests, each of which is granted some time.
-const ARBITER: &[u8] = b"always guarantee { F [g <- a()]; F [g <- b()]; }\n";
+pub(crate) const ARBITER: &[u8] = b"always guarantee { F [g <- a()]; F [g <- b()]; }\n";
 
 /// A program that grants them in turn.
-const IN_TURN: &[u8] =
+pub(crate) const IN_TURN: &[u8] =
     b"tslprogram 1\noutput g\nnode 0 set [g <- a()] go 1\nnode 1 set [g <- b()] go 0\nstate 0 at 0\nstate 1 at 1\nend\n";
 
 /// A specification with a test, and a program that tests.
-const TESTED: &[u8] = b"always guarantee { p x <-> [y <- x]; q y -> q y; }\n";
+pub(crate) const TESTED: &[u8] = b"always guarantee { p x <-> [y <- x]; q y -> q y; }\n";
 
-const TESTS: &[u8] =
+pub(crate) const TESTS: &[u8] =
     b"tslprogram 1\ninput x\ncell y\nnode 0 set [y <- x] go 0\nnode 1 set [y <- y] go 0\nnode 2 if p x then 0 else 1\nstate 0 at 2\nend\n";
 
 /// Two cells that take one term.

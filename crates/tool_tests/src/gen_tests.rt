@@ -8,6 +8,7 @@ use tsl_tool::Status;
 const FAILING: Device = Device {
     piece: 1,
     fails_at: 1,
+    ..PLAIN
 };
 
 const TWO: &[u8] = b"gen 2\npredicates 2\nupdates 2\noutcome program\n";

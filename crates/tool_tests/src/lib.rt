@@ -6,6 +6,10 @@ mod check_tests;
 #[cfg(test)]
 mod devices;
 #[cfg(test)]
+mod exchange_tests;
+#[cfg(test)]
+mod failing_tests;
+#[cfg(test)]
 mod gen_tests;
 #[cfg(test)]
 mod run_tests;

@@ -1,20 +1,12 @@
-//! What runs say of words and of texts, and what they leave where a device fails.
+//! What runs say of words and of texts.
 
-use crate::devices::{Device, PLAIN, assert_says, run};
+use crate::devices::{
+    COPIED, COPY, Case, Repeated, assert_each, assert_repeated, assert_run, repeated,
+};
 use search_replies::whole_text;
 use std::alloc::{AllocError, Global};
-use std::process::Abort;
 use std::test::Fail;
 use tsl_reader::read_spec;
-use tsl_tool::Status;
-
-/// A text, and what a run says of it.
-type Case = (&'static [u8], &'static [u8]);
-
-const COPY: &[u8] = b"always guarantee { [y <- x]; }";
-
-const COPIED: &[u8] =
-    b"tslprogram 1\ninput x\noutput y\nnode 0 set [y <- x] go 0\nstate 0 at 0\nend\n";
 
 /// The program without signals.
 const EMPTY: &[u8] = b"tslprogram 1\nnode 0 set go 0\nstate 0 at 0\nend\n";
@@ -62,6 +54,10 @@ const OTHER_WORDS: &[&[&str]] = &[
     &["gen"],
     &["gen", "0"],
     &["gen", "6"],
+    &["circuit", "--bound", "16"],
+    &["circuit", "--states", "1"],
+    &["automaton", "--bound", "1"],
+    &["accepts", "x"],
 ];
 
 /// Words with which a source without a byte has the program without signals.
@@ -193,69 +189,49 @@ const LOGS: &[Case] = &[
     (b"5 1 0 1 2 0\n6 0 5 3 4\n", b"fault log 2 form\n"),
 ];
 
-/// A piece, how often it comes in the braces of a section, an end, and what `synth` says for one state.
-const REPEATED: &[(&[u8], u32, &[u8], &[u8])] = &[
+/// What `synth` says for one state.
+const REPEATED: &[Repeated] = &[
     // Level 200 is read and level 201 is deep.
-    (b"!", 200, b"a; }", NONE),
-    (b"!", 201, b"a; }", b"fault spec 1:213 deep\n"),
+    (b"guarantee { ", b"!", 200, b"a; }", NONE),
+    (
+        b"guarantee { ",
+        b"!",
+        201,
+        b"a; }",
+        b"fault spec 1:213 deep\n",
+    ),
     // The conjunction, two nodes for each name and one for `true`: 10,000 nodes, and one more.
-    (b"a; ", 4_999, b"true; }", NONE),
-    (b"a; ", 5_000, b"}", b"large nodes 10000\n"),
+    (b"guarantee { ", b"a; ", 4_999, b"true; }", NONE),
+    (b"guarantee { ", b"a; ", 5_000, b"}", b"large nodes 10000\n"),
+    (
+        b"guarantee { a; ",
+        b"b; ",
+        100_000,
+        b"}",
+        b"large nodes 10000\n",
+    ),
     // A fault of arity goes before too many nodes.
     (
+        b"guarantee { ",
         b"a; ",
         5_000,
         b"p x; p x z; }",
         b"fault spec 1:15018 arity p\n",
     ),
     // With the braces 1,048,576 bytes, and one more.
-    (b" ", 1_048_563, b"}", EMPTY),
-    (b" ", 1_048_564, b"}", b"large text 1048576\n"),
+    (b"guarantee { ", b" ", 1_048_563, b"}", EMPTY),
+    (
+        b"guarantee { ",
+        b" ",
+        1_048_564,
+        b"}",
+        b"large text 1048576\n",
+    ),
 ];
-
-/// The status of a run that says this.
-fn status_of(says: &[u8]) -> Status {
-    match says {
-        [b't' | b'v', ..] => Status::Done,
-        [b'r' | b'n', ..] => Status::No,
-        [b'u', ..] => Status::Usage,
-        [b'l', ..] => Status::Large,
-        _ => Status::Reading,
-    }
-}
-
-/// Asserts what a run says of a text.
-fn assert_run(
-    rt: &impl Abort,
-    alloc: Global,
-    words: &[&str],
-    text: &[u8],
-    says: &[u8],
-) -> Result<(), AllocError> {
-    let ran = run(alloc, words, text, PLAIN, PLAIN, PLAIN)?;
-    assert_says(rt, &ran, status_of(says), says);
-    Ok(())
-}
-
-/// Asserts what runs say of each text after a front.
-fn assert_each(
-    rt: &impl Abort,
-    alloc: Global,
-    words: &[&str],
-    front: &[u8],
-    cases: &[Case],
-) -> Result<(), AllocError> {
-    for (text, says) in cases {
-        let mut whole = Vec::from_slice(alloc, front)?;
-        whole.extend_from_slice(text)?;
-        assert_run(rt, alloc, words, &whole, says)?;
-    }
-    Ok(())
-}
 
 #[test]
 fn other_words_are_usage(rt: HostRuntime) -> Result<(), Fail> {
-    let usage = b"usage: tsl synth|check|run|prove|recheck|gen\n";
+    let usage = b"usage: tsl synth|check|run|prove|recheck|gen|circuit|automaton|accepts\n";
     for words in OTHER_WORDS {
         assert_run(&rt, rt.alloc(), *words, COPY, usage)?;
     }
@@ -280,6 +256,7 @@ fn one_state_is_enough_for_each_specification(rt: HostRuntime) -> Result<(), Fai
 fn each_refusal_has_its_place(rt: HostRuntime) -> Result<(), Fail> {
     assert_each(&rt, rt.alloc(), &["synth"], b"", REFUSED)?;
     assert_each(&rt, rt.alloc(), &["prove"], b"", REFUSED)?;
+    assert_each(&rt, rt.alloc(), &["automaton"], b"", REFUSED)?;
     Ok(())
 }
 
@@ -290,28 +267,19 @@ fn recheck_says_of_each_formula_and_log(rt: HostRuntime) -> Result<(), Fail> {
     Ok(())
 }
 
-/// A section with a piece so many times before its end.
-fn repeated(alloc: Global, piece: &[u8], count: u32, end: &[u8]) -> Result<Vec<u8>, AllocError> {
-    let mut text = Vec::from_slice(alloc, b"guarantee { ")?;
-    for _ in 0..count {
-        text.extend_from_slice(piece)?;
-    }
-    text.extend_from_slice(end)?;
-    Ok(text)
+#[test]
+fn limits_are_exact(rt: HostRuntime) -> Result<(), Fail> {
+    let words = ["synth", "--states", "1", "--rounds", "0"];
+    assert_repeated(&rt, rt.alloc(), &words, REPEATED)?;
+    Ok(())
 }
 
 #[test]
-fn limits_are_exact(rt: HostRuntime) -> Result<(), Fail> {
-    for (piece, count, end, says) in REPEATED {
-        let text = repeated(rt.alloc(), *piece, *count, *end)?;
-        assert_run(
-            &rt,
-            rt.alloc(),
-            &["synth", "--states", "1", "--rounds", "0"],
-            &text,
-            *says,
-        )?;
-    }
+fn the_last_of_two_hundred_and_one_brackets_is_deep(rt: HostRuntime) -> Result<(), Fail> {
+    let alloc = rt.alloc();
+    let opened = repeated(alloc, b"guarantee {", b"(", 201, b"a")?;
+    let text = repeated(alloc, &opened, b")", 201, b";}")?;
+    assert_run(&rt, alloc, &["synth"], &text, b"fault spec 1:212 deep\n")?;
     Ok(())
 }
 
@@ -325,55 +293,6 @@ fn arrows_and_until_are_written_with_brackets(rt: HostRuntime) -> Result<(), Fai
         whole_text(rt.alloc(), &spec)?.as_slice(),
         b"((a -> (b -> c)) && (a U (b || c)))".as_slice()
     );
-    Ok(())
-}
-
-#[test]
-fn a_sink_that_fails_at_any_call_keeps_what_came_before(rt: HostRuntime) -> Result<(), Fail> {
-    let alloc = rt.alloc();
-    assert_eq!(rt; COPIED.len(), 72);
-    // One byte a call: the writes are the calls 1 to 72, and the flush is the last.
-    for fails_at in 1..=73u64 {
-        let to = Device { piece: 1, fails_at };
-        let ran = run(alloc, &["synth", "--states", "1"], COPY, PLAIN, to, PLAIN)?;
-        assert_eq!(rt; ran.status, Status::WriteFault);
-        assert_eq!(rt; ran.out.len() as u64, fails_at - 1);
-        assert_eq!(rt; COPIED.starts_with(&ran.out), true);
-        // What was written is not handed on, also where the flush alone fails.
-        assert_eq!(rt; ran.is_handed_on, fails_at == 1);
-        assert_eq!(rt; ran.err.is_empty(), true);
-    }
-    let errors_to = Device {
-        piece: 7,
-        fails_at: 2,
-    };
-    let ran = run(alloc, &["frob"], COPY, PLAIN, PLAIN, errors_to)?;
-    assert_eq!(rt; ran.status, Status::WriteFault);
-    assert_eq!(rt; ran.err.as_slice(), b"usage: ".as_slice());
-    assert_eq!(rt; ran.out.is_empty(), true);
-    Ok(())
-}
-
-#[test]
-fn a_source_that_fails_at_any_call_is_a_read_fault(rt: HostRuntime) -> Result<(), Fail> {
-    assert_eq!(rt; COPY.len(), 30);
-    // One byte a call: the text takes the calls 1 to 30, and the end the last.
-    for fails_at in 1..=32u64 {
-        let from = Device { piece: 1, fails_at };
-        let ran = run(
-            rt.alloc(),
-            &["synth", "--states", "1"],
-            COPY,
-            from,
-            PLAIN,
-            PLAIN,
-        )?;
-        if fails_at == 32 {
-            assert_says(&rt, &ran, Status::Done, COPIED);
-        } else {
-            assert_says(&rt, &ran, Status::ReadFault, b"fault read\n");
-        }
-    }
     Ok(())
 }
 
@@ -394,5 +313,12 @@ fn a_thousand_updates_have_too_many_bits(rt: HostRuntime) -> Result<(), Fail> {
     let alloc = rt.alloc();
     assert_run(&rt, alloc, &["synth"], &chain(alloc)?, b"large bits 64\n")?;
     assert_run(&rt, alloc, &["prove"], &chain(alloc)?, b"large bits 64\n")?;
+    assert_run(
+        &rt,
+        alloc,
+        &["automaton"],
+        &chain(alloc)?,
+        b"large bits 64\n",
+    )?;
     Ok(())
 }

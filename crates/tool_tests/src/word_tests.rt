@@ -78,6 +78,14 @@ const TAKEN: &[(&str, &str)] = &[
     ("gen|--|3", "gen 3"),
     ("gen|3|--", "gen 3"),
     ("gen|--|+03", "gen 3"),
+    ("circuit", "circuit 2"),
+    ("circuit|--bound|0", "circuit 0"),
+    ("circuit|--bound=15", "circuit 15"),
+    ("circuit|--", "circuit 2"),
+    ("automaton", "automaton"),
+    ("automaton|--", "automaton"),
+    ("accepts", "accepts"),
+    ("accepts|--", "accepts"),
 ];
 
 /// Words that are refused.
@@ -193,6 +201,17 @@ const REFUSED: &[&str] = &[
     "gen|--|--",
     "gen|1|-h",
     "gen|3|--bound|1",
+    "circuit|x",
+    "circuit|--states|1",
+    "circuit|--bound|16",
+    "circuit|--bound|full",
+    "circuits",
+    "automaton|x",
+    "automaton|--bound|1",
+    "automata",
+    "accepts|x",
+    "accepts|--bound|1",
+    "accept",
 ];
 
 fn words_of(alloc: Global, line: &str) -> Result<Vec<String>, Fail> {
@@ -231,6 +250,9 @@ fn told(alloc: Global, words: &[String]) -> Result<String, Fail> {
         }
         Ok(Task::Recheck) => String::from_str(alloc, "recheck")?,
         Ok(Task::Gen(n)) => format!(in alloc; "gen {n}")?,
+        Ok(Task::Circuit(bound)) => format!(in alloc; "circuit {bound}")?,
+        Ok(Task::Automaton) => String::from_str(alloc, "automaton")?,
+        Ok(Task::Accepts) => String::from_str(alloc, "accepts")?,
         Err(WordsError::Usage) => String::from_str(alloc, "refused")?,
         Err(WordsError::NoMemory) => String::from_str(alloc, "no memory")?,
     };

@@ -2,7 +2,7 @@
 use Rattle.std.specs.Prelude.{ℕ, List, ◌++◌, codes, decimal}
 use Rattle.tsl_text.specs.declared.places.Place.{Place}
 use Rattle.tsl_report.specs.declared.fault.Head.{Head}
-use Rattle.tsl_report.specs.declared.fault.Head.TheVariants.{Program as ProgramHead, Tables as TablesHead, Inputs as InputsHead, Lrat}
+use Rattle.tsl_report.specs.declared.fault.Head.TheVariants.{Program as ProgramHead, Tables as TablesHead, Inputs as InputsHead, Lrat, Letters}
 use Rattle.tsl_report.specs.declared.fault.TokenPart.{TokenPart}
 use Rattle.tsl_report.specs.declared.fault.TokenPart.TheVariants.{Spec, Tables as TablesTokens, Inputs as InputsTokens}
 use Rattle.tsl_report.specs.declared.fault.DataPart.{DataPart}
@@ -17,7 +17,7 @@ use Rattle.tsl_report.specs.declared.fault.LimitName.TheVariants.{Predicates, Bi
 use Rattle.tsl_report.specs.declared.fault.Fault.{Fault}
 use Rattle.tsl_report.specs.declared.fault.Fault.TheVariants.{Usage, Read, Parts, Byte, Comment, Form, Deep, Kind, Arity, Unknown, Twice}
 use Rattle.tsl_report.specs.declared.fault.Fault.TheVariants.{Missing, TableCount, TableRange, RowCount, RowRange, Program}
-use Rattle.tsl_report.specs.declared.fault.Fault.TheVariants.{CnfForm, LogForm, Large}
+use Rattle.tsl_report.specs.declared.fault.Fault.TheVariants.{CnfForm, LogForm, AutomatonForm, LettersForm, Large}
 
 -- line and column, as `3:7`
 abbrev pub place_text : Place → List ℕ
@@ -29,6 +29,7 @@ head_text ProgramHead = codes "program"
 head_text TablesHead = codes "tables"
 head_text InputsHead = codes "inputs"
 head_text Lrat = codes "lrat"
+head_text Letters = codes "letters"
 
 -- the name of a part that is read by tokens
 abbrev pub part_text : TokenPart → List ℕ
@@ -86,7 +87,7 @@ name_fault part = place_fault (data_text part)
 
 -- the line without its line feed
 abbrev pub fault_line : Fault → List ℕ
-fault_line Usage = codes "usage: tsl synth|check|run|prove|recheck|gen"
+fault_line Usage = codes "usage: tsl synth|check|run|prove|recheck|gen|circuit|automaton|accepts"
 fault_line Read = codes "fault read"
 fault_line (Parts head) = codes "fault parts " ++ head_text head
 fault_line (Byte part place) = token_fault part place (codes "byte")
@@ -105,6 +106,8 @@ fault_line (RowRange row value) = codes "fault inputs range " ++ decimal row ++ 
 fault_line (Program line rule) = codes "fault program " ++ decimal line ++ codes " " ++ rule_text rule
 fault_line (CnfForm line) = codes "fault cnf " ++ decimal line ++ codes " form"
 fault_line (LogForm line) = codes "fault log " ++ decimal line ++ codes " form"
+fault_line (AutomatonForm line) = codes "fault automaton " ++ decimal line ++ codes " form"
+fault_line (LettersForm line) = codes "fault letters " ++ decimal line ++ codes " form"
 fault_line (Large name limit) = codes "large " ++ limit_text name ++ codes " " ++ decimal limit
 
 abbrev pub fault_text : Fault → List ℕ

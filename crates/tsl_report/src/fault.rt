@@ -19,6 +19,8 @@ pub enum Head {
     Inputs,
     /// The line before a log of clauses.
     Lrat,
+    /// The line before a loop of letters.
+    Letters,
 }
 
 /// A part of an input that is read by tokens.
@@ -144,6 +146,10 @@ pub enum Fault {
     CnfForm(u32),
     /// At this line a log of clauses has not its form.
     LogForm(u32),
+    /// At this line an automaton has not its form.
+    AutomatonForm(u32),
+    /// At this line a loop of letters has not its form.
+    LettersForm(u32),
     /// More is counted than this limit.
     Large(LimitName, u32),
 }
@@ -163,7 +169,10 @@ fn put_fault(out: &mut Vec<u8>, fault: &Fault) -> Result<(), NoMemory>
     ensures { OnOk result (out.new.items ≡ out.old.items ++ fault_line fault.now) }
 {
     match fault {
-        Fault::Usage => put_bytes(out, b"usage: tsl synth|check|run|prove|recheck|gen"),
+        Fault::Usage => put_bytes(
+            out,
+            b"usage: tsl synth|check|run|prove|recheck|gen|circuit|automaton|accepts",
+        ),
         Fault::Read => put_bytes(out, b"fault read"),
         Fault::Parts(head) => put_missing(out, *head),
         Fault::Byte(part, place) => put_token_fault(out, *part, *place, b"byte", b""),
@@ -190,6 +199,8 @@ fn put_fault(out: &mut Vec<u8>, fault: &Fault) -> Result<(), NoMemory>
         Fault::Program(line, rule) => put_program_fault(out, *line, rule),
         Fault::CnfForm(line) => put_line_fault(out, b"fault cnf ", *line),
         Fault::LogForm(line) => put_line_fault(out, b"fault log ", *line),
+        Fault::AutomatonForm(line) => put_line_fault(out, b"fault automaton ", *line),
+        Fault::LettersForm(line) => put_line_fault(out, b"fault letters ", *line),
         Fault::Large(name, limit) => put_large(out, *name, *limit),
     }
 }
@@ -376,6 +387,7 @@ fn head_text(head: Head) -> &'static [u8]
         Head::Tables => b"tables",
         Head::Inputs => b"inputs",
         Head::Lrat => b"lrat",
+        Head::Letters => b"letters",
     }
 }
 

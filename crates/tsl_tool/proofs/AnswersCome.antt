@@ -1,9 +1,9 @@
 -- Where a task can be answered and nothing fails, the run ends with an answer to it, or memory runs out.
-use Rattle.std.proofs.Common.{◌≡◌, ℕ, ◌<◌, ◌⊎◌, true, false, List, [], length, inl, inr, refl, ap, sym, ◌∙◌, subst, arith}
+use Rattle.std.proofs.Common.{◌≡◌, ℕ, ◌<◌, ◌≤◌, ◌⊎◌, true, false, List, [], length, inl, inr, refl, ap, sym, ◌∙◌, subst, arith}
 use Rattle.std.specs.Prelude.{Option, Some, None}
 use Rattle.command_words.specs.declared.task.SynthSizes.{SynthSizes}
 use Rattle.command_words.specs.declared.task.Task.{Task}
-use Rattle.command_words.specs.declared.task.Task.TheVariants.{Synth, Check, Run, Prove, Recheck, Gen}
+use Rattle.command_words.specs.declared.task.Task.TheVariants.{Synth, Check, Run, Prove, Recheck, Gen, Circuit, Automaton, Accepts}
 use Rattle.command_words.specs.Commands.{AsksFor}
 use Rattle.command_words.proofs.OneTask.{asking_is_taken, one_task}
 use Rattle.program_check.specs.declared.verdict.Limit.{Limit}
@@ -25,18 +25,26 @@ use Rattle.judging_replies.proofs.OneInput.{ReadOnce}
 use Rattle.search_replies.proofs.ProveReplies.{question_answers}
 use Rattle.tool_replies.proofs.Statuses.{status_of}
 use Rattle.search_replies.proofs.SynthReplies.{search_answers, controller_found}
+use Rattle.tsl_tool.proofs.ExchangesCome.{circuit_answers, automaton_answers, accepts_answers}
 use Rattle.tsl_tool.proofs.VerdictsCome.{check_answers, run_answers, recheck_answers}
 
 -- ---- each task
 
-pub task_answers : ReadOnce → (task : Task) (bytes : List ℕ) (reply : Reply) → CanBeAnswered task bytes → TaskOutcome task bytes reply →
-    is_answer_to task reply.status ≡ true
-task_answers once (Synth sizes) bytes reply can outcome = search_answers (search_sizes sizes) bytes can.0 can.1 reply can.2 outcome
-task_answers once (Check bound) bytes reply can outcome = check_answers bound bytes reply can outcome
-task_answers once Run bytes reply can outcome = run_answers once bytes reply can outcome
-task_answers once (Prove sizes) bytes reply can outcome = question_answers sizes bytes can.0 reply can.1 can.2 outcome
-task_answers once Recheck bytes reply can outcome = recheck_answers bytes reply can outcome
-task_answers once (Gen n) bytes reply can outcome = gen_answers n can.0 reply can.1 can.2 outcome
+-- as many bytes as are read
+abbrev AreFew : Task → List ℕ → Type 0
+AreFew task bytes = (most : ℕ) → most_bytes task ≡ Some most → length bytes ≤ most
+
+pub task_answers : ReadOnce → (task : Task) (bytes : List ℕ) (reply : Reply) → AreFew task bytes → CanBeAnswered task bytes →
+    TaskOutcome task bytes reply → is_answer_to task reply.status ≡ true
+task_answers once (Synth sizes) bytes reply few can outcome = search_answers (search_sizes sizes) bytes can.0 can.1 reply can.2 outcome
+task_answers once (Check bound) bytes reply few can outcome = check_answers bound bytes reply can outcome
+task_answers once Run bytes reply few can outcome = run_answers once bytes reply can outcome
+task_answers once (Prove sizes) bytes reply few can outcome = question_answers sizes bytes can.0 reply can.1 can.2 outcome
+task_answers once Recheck bytes reply few can outcome = recheck_answers bytes reply can outcome
+task_answers once (Gen n) bytes reply few can outcome = gen_answers n can.0 reply can.1 can.2 outcome
+task_answers once (Circuit bound) bytes reply few can outcome = circuit_answers bound bytes reply can outcome
+task_answers once Automaton bytes reply few can outcome = automaton_answers bytes can.0 can.1 can.2 reply outcome
+task_answers once Accepts bytes reply few can outcome = accepts_answers bytes reply (few 16777216 refl) can outcome
 
 -- ---- how the run ends
 
@@ -86,9 +94,12 @@ pub answers_come : ReadOnce → (words : List (List ℕ)) (task : Task) (bytes :
 answers_come once words task bytes source out err result asks read can none ends =
     by (ends_of_task words task bytes source out err result asks read none ends)
   where
+    few : AreFew task bytes
+    few most is = (subst (λ (m : Option ℕ). CanBeRead m source bytes) is read).1
+
     by : ((reply : Reply) × (result ≡ reply.status) × TaskOutcome task bytes reply) ⊎ (result ≡ Memory) →
         (is_answer_to task result ≡ true) ⊎ (result ≡ Memory)
-    by (inl (reply, is, outcome)) = inl (ap (is_answer_to task) is ∙ task_answers once task bytes reply can outcome)
+    by (inl (reply, is, outcome)) = inl (ap (is_answer_to task) is ∙ task_answers once task bytes reply few can outcome)
     by (inr memory) = inr memory
 
 -- where a controller of the size has an annotation within the bound without windows, a program is written, or the budget is spent

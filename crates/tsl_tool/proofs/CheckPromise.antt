@@ -2,7 +2,7 @@
 use Rattle.std.proofs.Common.{◌≡◌, ◌≢◌, ℕ, List, refl, ap, sym, ◌∙◌, subst}
 use Rattle.command_words.specs.declared.task.Task.TheVariants.{Check}
 use Rattle.program_check.specs.declared.verdict.Verdict.{Verdict}
-use Rattle.program_check.specs.declared.verdict.Verdict.TheVariants.{Signals, Test, Choice, Foreign, Unsound, NoAnnotation, Yes}
+use Rattle.program_check.specs.declared.verdict.Verdict.TheVariants.{Yes}
 use Rattle.program_check.specs.Verdicts.{IsVerdict, HasFewBits}
 use Rattle.tsl_meaning.specs.Promise.{Realizes}
 use Rattle.tsl_report.specs.declared.fault.Head.TheVariants.{Program}
@@ -14,19 +14,11 @@ use Rattle.tool_replies.specs.Refusals.{fault_at_limit}
 use Rattle.judging_replies.specs.Check.{CheckParts, AreCheckParts, CheckInput, SpellCheckInput, verdict_reply}
 use Rattle.judging_replies.specs.Check.{VerdictOutcome, too_large, judged, spec_refused, program_refused, both_spelled}
 use Rattle.judging_replies.specs.Check.{CheckOutcome, without_program, of_texts}
+use Rattle.judging_replies.proofs.CheckReplies.{is_yes}
 use Rattle.tsl_tool.specs.Promise.{Promise}
 use Rattle.tsl_tool.proofs.FaultPromises.{fault_keeps}
 
--- yes comes of one verdict alone, and no of every other one
-is_yes : (bound : ℕ) (verdict : Verdict) → (verdict_reply bound verdict).status ≡ Done → verdict ≡ Yes
-is_yes bound Signals is = cc
-is_yes bound (Test i) is = cc
-is_yes bound (Choice i) is = cc
-is_yes bound (Foreign i) is = cc
-is_yes bound (Unsound i) is = cc
-is_yes bound NoAnnotation is = cc
-is_yes bound Yes is = refl
-
+-- no comes of every other verdict than yes
 is_other : (bound : ℕ) (verdict : Verdict) → (verdict_reply bound verdict).status ≡ No → verdict ≢ Yes
 is_other bound verdict is same =
     let e : Done ≡ No = sym (ap (λ (v : Verdict). (verdict_reply bound v).status) same) ∙ is in cc

@@ -10,7 +10,7 @@ use Rattle.tsl_report.specs.declared.fault.Fault.TheVariants.{Usage as WrongWord
 use Rattle.tool_replies.specs.declared.status.Status.{Status}
 use Rattle.tool_replies.specs.declared.status.Status.TheVariants.{Done, No, Usage, Reading, Large, Spent, ReadFault, WriteFault, Memory}
 use Rattle.command_words.specs.declared.task.Task.{Task}
-use Rattle.command_words.specs.declared.task.Task.TheVariants.{Synth, Check, Run, Prove, Recheck, Gen}
+use Rattle.command_words.specs.declared.task.Task.TheVariants.{Synth, Check, Run, Prove, Recheck, Gen, Circuit, Automaton, Accepts}
 use Rattle.command_words.specs.Commands.{AsksFor, are_taken}
 use Rattle.tool_replies.specs.declared.reply.Reply.{Reply}
 use Rattle.tsl_tool.specs.Causes.{Causes, Rises}
@@ -95,6 +95,9 @@ on_any_bytes (Check bound) bytes other reply reads outcome = cc
 on_any_bytes Run bytes other reply reads outcome = cc
 on_any_bytes (Prove sizes) bytes other reply reads outcome = cc
 on_any_bytes Recheck bytes other reply reads outcome = cc
+on_any_bytes (Circuit bound) bytes other reply reads outcome = cc
+on_any_bytes Automaton bytes other reply reads outcome = cc
+on_any_bytes Accepts bytes other reply reads outcome = cc
 on_any_bytes (Gen n) bytes other reply reads outcome = outcome
 
 pub unread_reply : {E : Type 0} (words : List (List ℕ)) (source : Effect) (r : Result Reply E) (task : Task) (lent : List ℕ) →

@@ -3,7 +3,7 @@ use Rattle.std.proofs.Common.{◌≡◌, ℕ, List, sym, subst}
 use Rattle.tsl_report.specs.declared.fault.Fault.{Fault}
 use Rattle.tsl_report.specs.declared.fault.Fault.TheVariants.{Usage as WrongWords, Read, Large as PastLimit}
 use Rattle.command_words.specs.declared.task.Task.{Task}
-use Rattle.command_words.specs.declared.task.Task.TheVariants.{Synth, Check, Run, Prove, Recheck, Gen}
+use Rattle.command_words.specs.declared.task.Task.TheVariants.{Synth, Check, Run, Prove, Recheck, Gen, Circuit, Automaton, Accepts}
 use Rattle.tool_replies.specs.declared.status.Status.{Status}
 use Rattle.tool_replies.specs.declared.reply.Reply.{Reply}
 use Rattle.tsl_tool.specs.Promise.{Promise}
@@ -35,6 +35,18 @@ fault_promises (Gen n) WrongWords bytes text = tt
 fault_promises (Gen n) Read bytes text = tt
 fault_promises (Gen n) (PastLimit name limit) bytes text = tt
 fault_promises (Gen n) _ bytes text = tt
+fault_promises (Circuit bound) WrongWords bytes text = tt
+fault_promises (Circuit bound) Read bytes text = tt
+fault_promises (Circuit bound) (PastLimit name limit) bytes text = tt
+fault_promises (Circuit bound) _ bytes text = tt
+fault_promises Automaton WrongWords bytes text = tt
+fault_promises Automaton Read bytes text = tt
+fault_promises Automaton (PastLimit name limit) bytes text = tt
+fault_promises Automaton _ bytes text = tt
+fault_promises Accepts WrongWords bytes text = tt
+fault_promises Accepts Read bytes text = tt
+fault_promises Accepts (PastLimit name limit) bytes text = tt
+fault_promises Accepts _ bytes text = tt
 
 -- so the reply at a fault keeps the promise of every task
 pub fault_keeps : (task : Task) (fault : Fault) (bytes : List ℕ) (reply : Reply) → reply ≡ fault_reply fault →

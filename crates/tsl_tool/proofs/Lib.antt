@@ -3,6 +3,8 @@ pub mod CheckLimits
 pub mod CheckPromise
 pub mod EndExamples
 pub mod EndLaws
+pub mod ExchangePromises
+pub mod ExchangesCome
 pub mod FaultPromises
 pub mod GenPromise
 pub mod OutcomeLaws

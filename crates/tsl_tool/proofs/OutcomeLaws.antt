@@ -8,7 +8,7 @@ use Rattle.tsl_report.specs.declared.fault.LimitName.TheVariants.{Text}
 use Rattle.tool_replies.specs.declared.status.Status.{Status}
 use Rattle.tool_replies.specs.declared.status.Status.TheVariants.{Done, No, Usage, Large, ReadFault, WriteFault, Memory}
 use Rattle.command_words.specs.declared.task.Task.{Task}
-use Rattle.command_words.specs.declared.task.Task.TheVariants.{Synth, Check, Run, Prove, Recheck, Gen}
+use Rattle.command_words.specs.declared.task.Task.TheVariants.{Synth, Check, Run, Prove, Recheck, Gen, Circuit, Automaton, Accepts}
 use Rattle.tool_replies.specs.declared.reply.Reply.{Reply}
 use Rattle.tool_replies.specs.Statuses.{is_answer}
 use Rattle.tsl_tool.specs.Tasks.{search_sizes}
@@ -26,7 +26,11 @@ use Rattle.judging_replies.proofs.RecheckReplies.{recheck_comes, recheck_says}
 use Rattle.judging_replies.proofs.RunReplies.{run_comes, run_says}
 use Rattle.tool_replies.proofs.Statuses.{comes_of_bytes, status_of, fault_says}
 use Rattle.search_replies.proofs.SynthReplies.{synth_comes, synth_says}
+use Rattle.exchange_replies.proofs.AcceptsReplies.{accepts_comes, accepts_says}
+use Rattle.exchange_replies.proofs.AutomatonReplies.{automaton_comes, automaton_says}
+use Rattle.exchange_replies.proofs.CircuitReplies.{circuit_comes, circuit_says}
 use Rattle.tsl_tool.proofs.CheckPromise.{check_keeps}
+use Rattle.tsl_tool.proofs.ExchangePromises.{circuit_keeps, automaton_keeps, accepts_keeps}
 use Rattle.tsl_tool.proofs.GenPromise.{gen_keeps}
 use Rattle.tsl_tool.proofs.ProvePromise.{prove_keeps}
 use Rattle.tsl_tool.proofs.RunPromise.{run_keeps}
@@ -39,6 +43,9 @@ task_comes Run bytes reply outcome = run_comes bytes reply outcome
 task_comes (Prove sizes) bytes reply outcome = prove_comes sizes bytes reply outcome
 task_comes Recheck bytes reply outcome = recheck_comes bytes reply outcome
 task_comes (Gen n) bytes reply outcome = gen_comes n reply outcome
+task_comes (Circuit bound) bytes reply outcome = circuit_comes bound bytes reply outcome
+task_comes Automaton bytes reply outcome = automaton_comes bytes reply outcome
+task_comes Accepts bytes reply outcome = accepts_comes bytes reply outcome
 
 -- usage comes of words that are refused
 pub usage_of_words : (words : List (List ℕ)) (bytes : List ℕ) (reply : Reply) → Outcome words bytes reply → reply.status ≡ Usage →
@@ -91,6 +98,9 @@ task_says Run bytes reply outcome e = run_says bytes reply outcome e
 task_says (Prove sizes) bytes reply outcome e = prove_says sizes bytes reply outcome e
 task_says Recheck bytes reply outcome e = recheck_says bytes reply outcome e
 task_says (Gen n) bytes reply outcome e = gen_says n reply outcome e
+task_says (Circuit bound) bytes reply outcome e = circuit_says bound bytes reply outcome e
+task_says Automaton bytes reply outcome e = automaton_says bytes reply outcome e
+task_says Accepts bytes reply outcome e = accepts_says bytes reply outcome e
 
 pub outcome_says : (words : List (List ℕ)) (bytes : List ℕ) (reply : Reply) → Outcome words bytes reply → reply.text ≢ []
 outcome_says words bytes reply (usage none is) = fault_says WrongWords reply is
@@ -115,6 +125,9 @@ task_keeps Recheck bytes reply (of_parts at first is) =
     subst (λ (r : Reply). Promise Recheck r.status bytes r.text) (sym is)
     (recheck_keeps bytes at (recheck_reply bytes at).status first refl)
 task_keeps (Gen n) bytes reply outcome = gen_keeps n bytes reply outcome
+task_keeps (Circuit bound) bytes reply outcome = circuit_keeps bound bytes reply outcome
+task_keeps Automaton bytes reply outcome = automaton_keeps bytes reply outcome
+task_keeps Accepts bytes reply outcome = accepts_keeps bytes reply outcome
 
 -- the reply of an outcome keeps the promise of the task that the words ask for
 pub keeps_promise : (words : List (List ℕ)) (task : Task) (bytes : List ℕ) (reply : Reply) → AsksFor words task →

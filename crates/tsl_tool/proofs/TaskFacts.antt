@@ -2,7 +2,7 @@
 use Rattle.std.proofs.Common.{◌≡◌, ℕ, true, false, List, [], ◌∷◌, sym, ◌∙◌, ap, inl, inr}
 use Rattle.std.specs.Prelude.{None}
 use Rattle.command_words.specs.declared.task.Task.{Task}
-use Rattle.command_words.specs.declared.task.Task.TheVariants.{Synth, Check, Run, Prove, Recheck, Gen}
+use Rattle.command_words.specs.declared.task.Task.TheVariants.{Synth, Check, Run, Prove, Recheck, Gen, Circuit, Automaton, Accepts}
 use Rattle.command_words.specs.Commands.{AsksFor}
 use Rattle.command_words.proofs.OneTask.{asking_is_taken, one_task}
 use Rattle.tsl_tool.specs.Tasks.{ReadNothing, most_bytes}
@@ -34,6 +34,9 @@ in_range (first ∷ rest) (Prove sizes) asks = record {
 }
 in_range (first ∷ rest) Recheck asks = tt
 in_range (first ∷ rest) (Gen n) asks = (asks.2.1, asks.2.2)
+in_range (first ∷ rest) (Circuit bound) asks = tt
+in_range (first ∷ rest) Automaton asks = tt
+in_range (first ∷ rest) Accepts asks = tt
 
 -- where nothing is read for the words, it reads nothing
 pub task_reads_nothing : (words : List (List ℕ)) (task : Task) → AsksFor words task → ReadNothing words → most_bytes task ≡ None

@@ -2,7 +2,7 @@
 -- counted passes its limit, neither in the input nor in the questions that are asked.
 use Rattle.std.specs.Prelude.{◌≡◌, ℕ, ◌+◌, ◌≤◌, Bool, true, false, List, [], length, Option, Some, None}
 use Rattle.command_words.specs.declared.task.Task.{Task}
-use Rattle.command_words.specs.declared.task.Task.TheVariants.{Synth, Check, Run, Prove, Recheck, Gen}
+use Rattle.command_words.specs.declared.task.Task.TheVariants.{Synth, Check, Run, Prove, Recheck, Gen, Circuit, Automaton, Accepts}
 use Rattle.machines.specs.Rounds.{RoundTree}
 use Rattle.program_check.specs.declared.verdict.Limit.{Limit}
 use Rattle.program_check.specs.Verdicts.{IsPassed}
@@ -17,6 +17,9 @@ use Rattle.search_replies.specs.Gen.{OfGenerated}
 use Rattle.judging_replies.specs.Recheck.{FormulaAndLog, OfParts}
 use Rattle.judging_replies.specs.Run.{RunInput, SpellRunInput, meanings_of_input, most_configurations}
 use Rattle.judging_replies.specs.RunParts.{RunParts, AreParts}
+use Rattle.exchange_replies.specs.Automaton.{IsPastFor}
+use Rattle.automaton_text.specs.HoaRefusals.{IsSmall}
+use Rattle.exchange_replies.specs.Accepts.{OfAcceptsInput}
 use Rattle.tool_replies.specs.Statuses.{is_answer}
 use Rattle.search_replies.specs.Synth.{OfSpec}
 use Rattle.tsl_tool.specs.Tasks.{search_sizes}
@@ -40,6 +43,10 @@ pub record CanBeRun (bytes : List ℕ) : Type 0 where
   pub spelled : SpellRunInput parts input
   pub closes : AreDifferent (meanings_of_input input) input.program input.rows (most_configurations + 1) → ⊥
 
+-- The bytes spell an automaton within its limits, and a loop of letters over its propositions.
+abbrev pub CanBeAccepted : List ℕ → Type 0
+CanBeAccepted bytes = OfAcceptsInput bytes (λ input. IsSmall input.bits input.states input.edges)
+
 -- For `synth` the limits are those of each question that is asked after a chain of rounds, for `prove` and `gen` those of the
 -- question for a controller alone. `recheck` asks that the bytes spell a formula and a log, which are within their limits then.
 abbrev pub CanBeAnswered : Task → List ℕ → Type 0
@@ -50,6 +57,9 @@ CanBeAnswered Run bytes = CanBeRun bytes
 CanBeAnswered (Prove sizes) bytes = OfSpec bytes (λ spec. (limit : Limit) → IsLargeFor spec [] sizes.states (Fixed sizes.bound) limit → ⊥)
 CanBeAnswered Recheck bytes = OfParts bytes FormulaAndLog
 CanBeAnswered (Gen n) bytes = OfGenerated n (λ spec. (limit : Limit) → IsLargeFor spec [] n (Fixed n) limit → ⊥)
+CanBeAnswered (Circuit bound) bytes = CanBeChecked bytes
+CanBeAnswered Automaton bytes = OfSpec bytes (λ spec. (limit : Limit) → IsPastFor spec limit → ⊥)
+CanBeAnswered Accepts bytes = CanBeAccepted bytes
 
 -- where at most so many bytes are read, the source tells these and no more than that; otherwise it may tell any
 abbrev pub CanBeRead : Option ℕ → Effect → List ℕ → Type 0
@@ -75,7 +85,12 @@ is_yes_or_no ReadFault = false
 is_yes_or_no WriteFault = false
 is_yes_or_no Memory = false
 
--- `check`, `run` and `recheck` answer a verdict, and the others may have spent their budget too
+abbrev pub is_done : Status → Bool
+is_done Done = true
+is_done _ = false
+
+-- `check`, `run`, `recheck` and `accepts` answer a verdict, `circuit` a text or a verdict, `automaton` a text, and the others may have
+-- spent their budget too
 abbrev pub is_answer_to : Task → Status → Bool
 is_answer_to (Synth sizes) status = is_answer status
 is_answer_to (Check bound) status = is_yes_or_no status
@@ -83,3 +98,6 @@ is_answer_to Run status = is_yes_or_no status
 is_answer_to (Prove sizes) status = is_answer status
 is_answer_to Recheck status = is_yes_or_no status
 is_answer_to (Gen n) status = is_answer status
+is_answer_to (Circuit bound) status = is_yes_or_no status
+is_answer_to Automaton status = is_done status
+is_answer_to Accepts status = is_yes_or_no status

@@ -3,7 +3,7 @@
 use Rattle.std.specs.Prelude.{◌≡◌, ℕ, Some, None}
 use Rattle.command_words.specs.declared.task.SynthSizes.{SynthSizes}
 use Rattle.command_words.specs.declared.task.ProveSizes.{ProveSizes}
-use Rattle.command_words.specs.declared.task.Task.TheVariants.{Synth, Check, Run, Prove, Recheck, Gen}
+use Rattle.command_words.specs.declared.task.Task.TheVariants.{Synth, Check, Run, Prove, Recheck, Gen, Circuit, Automaton, Accepts}
 use Rattle.tsl_text.specs.declared.numbers.TheConstants.{MOST_DIGITS}
 use Rattle.tsl_terms.specs.WellFormed.{deepest as deepest_brackets}
 use Rattle.tsl_reader.specs.Spells.{deepest_level, most_formula_nodes}
@@ -25,6 +25,9 @@ pub record LimitsAreThese : Type 0 where
   pub check_bytes : (bound : ℕ) → most_bytes (Check bound) ≡ Some 16777216
   pub run_bytes : most_bytes Run ≡ Some 16777216
   pub log_bytes : most_bytes Recheck ≡ Some 268435456
+  pub circuit_bytes : (bound : ℕ) → most_bytes (Circuit bound) ≡ Some 16777216
+  pub automaton_bytes : most_bytes Automaton ≡ Some 1048576
+  pub accepts_bytes : most_bytes Accepts ≡ Some 16777216
   pub no_bytes : (n : ℕ) → most_bytes (Gen n) ≡ None
   -- a specification: levels, nodes of the whole formula, brackets of a term
   pub levels : deepest_level ≡ 200

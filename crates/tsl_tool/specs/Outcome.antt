@@ -1,7 +1,7 @@
 -- What the words and the bytes of the source may lead to: a reply, which is a status and one text.
 use Rattle.std.specs.Prelude.{◌≡◌, ◌≢◌, ℕ, ◌<◌, false, List, length, Some, None}
 use Rattle.command_words.specs.declared.task.Task.{Task}
-use Rattle.command_words.specs.declared.task.Task.TheVariants.{Synth, Check, Run, Prove, Recheck, Gen}
+use Rattle.command_words.specs.declared.task.Task.TheVariants.{Synth, Check, Run, Prove, Recheck, Gen, Circuit, Automaton, Accepts}
 use Rattle.command_words.specs.Commands.{AsksFor, are_taken}
 use Rattle.tsl_report.specs.declared.fault.LimitName.TheVariants.{Text}
 use Rattle.tsl_report.specs.declared.fault.Fault.TheVariants.{Usage, Read, Large}
@@ -14,6 +14,9 @@ use Rattle.judging_replies.specs.Check.{CheckOutcome}
 use Rattle.judging_replies.specs.Run.{RunOutcome}
 use Rattle.search_replies.specs.Prove.{ProveOutcome}
 use Rattle.judging_replies.specs.Recheck.{RecheckOutcome}
+use Rattle.exchange_replies.specs.Circuit.{CircuitOutcome}
+use Rattle.exchange_replies.specs.Automaton.{AutomatonOutcome}
+use Rattle.exchange_replies.specs.Accepts.{AcceptsOutcome}
 
 -- what a task replies to bytes that are not too many
 abbrev pub TaskOutcome : Task → List ℕ → Reply → Type 0
@@ -23,6 +26,9 @@ TaskOutcome Run bytes reply = RunOutcome bytes reply
 TaskOutcome (Prove sizes) bytes reply = ProveOutcome sizes bytes reply
 TaskOutcome Recheck bytes reply = RecheckOutcome bytes reply
 TaskOutcome (Gen n) bytes reply = GenOutcome n reply
+TaskOutcome (Circuit bound) bytes reply = CircuitOutcome bound bytes reply
+TaskOutcome Automaton bytes reply = AutomatonOutcome bytes reply
+TaskOutcome Accepts bytes reply = AcceptsOutcome bytes reply
 
 pub data Outcome (words : List (List ℕ)) (bytes : List ℕ) (reply : Reply) : Type 0 where
   -- the words are refused

@@ -1,7 +1,7 @@
 -- What the answers to tasks promise.
 use Rattle.std.specs.Prelude.{◌≡◌, ℕ, List, codes}
 use Rattle.command_words.specs.declared.task.Task.{Task}
-use Rattle.command_words.specs.declared.task.Task.TheVariants.{Synth, Check, Run, Prove, Recheck, Gen}
+use Rattle.command_words.specs.declared.task.Task.TheVariants.{Synth, Check, Run, Prove, Recheck, Gen, Circuit, Automaton, Accepts}
 use Rattle.tool_replies.specs.declared.status.Status.{Status}
 use Rattle.tool_replies.specs.declared.status.Status.TheVariants.{Done, No, Spent}
 use Rattle.search_replies.specs.Synth.{IsWritten, TellsNone, TellsSpent, TellsSpentOn, OfSpec}
@@ -10,6 +10,9 @@ use Rattle.judging_replies.specs.Check.{IsAcceptedProgram, IsRefusedProgram}
 use Rattle.judging_replies.specs.Run.{AllHold, SomeFails}
 use Rattle.judging_replies.specs.Recheck.{IsRefutation, IsRefused, OfParts}
 use Rattle.search_replies.specs.Gen.{OfGenerated, TellsProgram, TellsNoProgram}
+use Rattle.exchange_replies.specs.Circuit.{IsWrittenCircuit}
+use Rattle.exchange_replies.specs.Automaton.{IsWrittenAutomaton}
+use Rattle.exchange_replies.specs.Accepts.{OfAcceptsInput, AcceptsInputLoop, RejectsInputLoop}
 use Rattle.tsl_tool.specs.Tasks.{search_sizes}
 
 -- What a task promises of the bytes and of the text that is written, by the status.
@@ -26,7 +29,11 @@ use Rattle.tsl_tool.specs.Tasks.{search_sizes}
 -- tells a trace of that question. Where `recheck` is done, no assignment meets all clauses of the formula that the bytes spell; where it answers
 -- no, they spell a formula and a log that is refused. Where `gen` is done, a program realizes the specification that the text of the
 -- number spells, and its controller has as many states as the number, and an annotation within it; where it answers no, there is no
--- such controller; where the budget is spent, the text tells a trace of the question.
+-- such controller; where the budget is spent, the text tells a trace of the question. Where `circuit` is done, the bytes spell a
+-- specification and a program that is accepted under it at the bound, and the text is that of a circuit of the program's controller;
+-- where it answers no, it is as for `check`. Where `automaton` is done, the text is that of the automaton of the negation of the whole
+-- formula. Where `accepts` is done, the automaton that the bytes spell accepts the loop of letters that they spell; where it answers
+-- no, it does not.
 abbrev pub Promise : Task → Status → List ℕ → List ℕ → Type 0
 Promise (Synth sizes) Done bytes text = OfSpec bytes (λ spec. IsWritten (search_sizes sizes) spec text)
 Promise (Synth sizes) No bytes text = OfSpec bytes (λ spec. TellsNone (search_sizes sizes) spec text)
@@ -43,4 +50,9 @@ Promise Recheck No bytes text = OfParts bytes IsRefused
 Promise (Gen n) Done bytes text = OfGenerated n (λ spec. TellsProgram n spec text)
 Promise (Gen n) No bytes text = OfGenerated n (λ spec. TellsNoProgram n spec text)
 Promise (Gen n) Spent bytes text = OfGenerated n (λ spec. TellsSpentOn spec n n 20000 text)
+Promise (Circuit bound) Done bytes text = IsWrittenCircuit bound bytes text
+Promise (Circuit bound) No bytes text = IsRefusedProgram bound bytes text
+Promise Automaton Done bytes text = OfSpec bytes (λ spec. IsWrittenAutomaton spec text)
+Promise Accepts Done bytes text = OfAcceptsInput bytes AcceptsInputLoop × (text ≡ codes "accepted\n")
+Promise Accepts No bytes text = OfAcceptsInput bytes RejectsInputLoop × (text ≡ codes "rejected\n")
 Promise _ _ bytes text = Unit {0}

@@ -4,7 +4,7 @@ use Rattle.command_words.specs.declared.synth_bound.SynthBound.{SynthBound}
 use Rattle.command_words.specs.declared.synth_bound.SynthBound.TheVariants.{Number, Full as NamedFull}
 use Rattle.command_words.specs.declared.task.SynthSizes.{SynthSizes}
 use Rattle.command_words.specs.declared.task.Task.{Task}
-use Rattle.command_words.specs.declared.task.Task.TheVariants.{Synth, Check, Run, Prove, Recheck, Gen}
+use Rattle.command_words.specs.declared.task.Task.TheVariants.{Synth, Check, Run, Prove, Recheck, Gen, Circuit, Automaton, Accepts}
 use Rattle.command_words.specs.Commands.{AsksFor, are_taken}
 use Rattle.refinement_loop.specs.declared.outcome.Bound.{Bound}
 use Rattle.refinement_loop.specs.declared.outcome.Bound.TheVariants.{Fixed, Full}
@@ -19,6 +19,9 @@ most_bytes Run = Some MOST_RUN_BYTES
 most_bytes (Prove sizes) = Some MOST_SPECIFICATION_BYTES
 most_bytes Recheck = Some MOST_LOG_BYTES
 most_bytes (Gen n) = None
+most_bytes (Circuit bound) = Some MOST_RUN_BYTES
+most_bytes Automaton = Some MOST_SPECIFICATION_BYTES
+most_bytes Accepts = Some MOST_RUN_BYTES
 
 -- the bytes are no more than may be read, where any are
 abbrev pub AreFewBytes : Option ℕ → List ℕ → Type 0

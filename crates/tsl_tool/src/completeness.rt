@@ -39,7 +39,8 @@ pub fn inputs_get_verdicts()
 
 /// Completeness. Where the words ask for a task, the source tells bytes on which it can be answered, and
 /// nothing fails, a run ends with an answer to the task, or memory runs out: `synth` with a program, that
-/// there is none or a trace; `check`, `run` and `recheck` with their verdict; `prove` with a proof, that a
+/// there is none or a trace; `check`, `run`, `recheck` and `accepts` with their verdict, `circuit` with a circuit
+/// or a verdict, `automaton` with an automaton; `prove` with a proof, that a
 /// controller has an annotation or a trace; `gen` with its summary or a trace. `synth` ends with a program
 /// or a trace where a controller of the size has an annotation within the bound without windows, and no
 /// limit of that question is passed.

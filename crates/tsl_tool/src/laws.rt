@@ -36,6 +36,7 @@ ghost use Rattle.tool_replies.specs.Replies.{fault_reply};
 ghost use Rattle.judging_replies.specs.Check.{AreCheckParts, CheckInput, CheckOutcome, CheckParts, SpellCheckInput};
 ghost use Rattle.judging_replies.specs.Recheck.{IsAccepted, IsRefused, RecheckOutcome, parts_reply, verdict};
 ghost use Rattle.judging_replies.specs.Run.{RunInput, lasso_of, judged_formulas, verdicts_of, run_reply};
+ghost use Rattle.exchange_replies.specs.Circuit.{CircuitOutcome};
 ghost use Rattle.tool_replies.specs.Statuses.{is_answer};
 ghost use Rattle.search_replies.specs.Synth.{SynthOutcome};
 
@@ -81,7 +82,7 @@ pub fn searches_are_answered()
 {}
 
 /// Where a limit of the first question is passed, one of its limits is told, by its line alone; for
-/// `check` where a limit of the work on its specification and its program is passed.
+/// `check` and `circuit` where a limit of the work on their specification and their program is passed.
 pub fn limits_are_told()
     ensures synth { (search : Search) (bytes : List ℕ) (spec : SpecTree) (reply : Reply) (limit : Limit) →
         Spells bytes spec → IsLargeFor spec [] search.states search.bound limit
@@ -96,6 +97,10 @@ pub fn limits_are_told()
     ensures check { (bound : ℕ) (bytes : List ℕ) (parts : CheckParts) (input : CheckInput) (reply : Reply)
         (limit : Limit) → AreCheckParts bytes parts → SpellCheckInput parts input
         → IsPassed input.spec input.program limit → CheckOutcome bound bytes reply
+        → (told : Limit) × IsPassed input.spec input.program told × (reply ≡ fault_reply (fault_at_limit told)) }
+    ensures circuit { (bound : ℕ) (bytes : List ℕ) (parts : CheckParts) (input : CheckInput) (reply : Reply)
+        (limit : Limit) → AreCheckParts bytes parts → SpellCheckInput parts input
+        → IsPassed input.spec input.program limit → CircuitOutcome bound bytes reply
         → (told : Limit) × IsPassed input.spec input.program told × (reply ≡ fault_reply (fault_at_limit told)) }
 {}
 

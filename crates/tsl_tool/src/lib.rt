@@ -15,7 +15,9 @@
 //!    source may lead to. For each task it goes on to `SynthOutcome`, `ProveOutcome` or `GenOutcome`
 //!    (`specs/Synth.antt`, `specs/Prove.antt` and `specs/Gen.antt` of `search_replies`), or to
 //!    `CheckOutcome`, `RunOutcome` or `RecheckOutcome` (`specs/Check.antt`, `specs/Run.antt` and
-//!    `specs/Recheck.antt` of `judging_replies`).
+//!    `specs/Recheck.antt` of `judging_replies`), or to `CircuitOutcome`, `AutomatonOutcome` or
+//!    `AcceptsOutcome` (`specs/Circuit.antt`, `specs/Automaton.antt` and `specs/Accepts.antt` of
+//!    `exchange_replies`).
 //! 5. `Effect` (`specs/Effects.antt` of `tsl_io`): the bytes and the count of faults of a source
 //!    or a sink, before the run and after it, and what can be said of them: untouched, written
 //!    whole, cut off by a fault.
@@ -42,6 +44,14 @@
 //!    - `gen`, at `Done`: the program of a controller with as many states as its number, which has an
 //!      annotation within the same bound, realizes the specification that the text of this number
 //!      spells. At `No`: no such controller has one. At `Spent` as `synth`.
+//!    - `circuit`, at `Done`: the bytes spell a specification and a program that is accepted under it
+//!      at the bound, and the text is that of a circuit of the program's controller, which from the
+//!      digits of each state and under each valuation makes the controller's updates and goes on to the
+//!      digits of its next state. At `No` as `check`.
+//!    - `automaton`, at `Done`: the text is that of the automaton of the negation of the whole formula
+//!      of the specification that the bytes spell.
+//!    - `accepts`, at `Done`: the automaton that the bytes spell has a path over the loop of letters that
+//!      they spell which turns through a rejecting edge. At `No`: it has none.
 //!
 //! The clauses of `tsl` say: the status and what stands in the sinks are those of an `Ends`; an
 //! answer keeps the `Promise` of the task that the words ask for; where nothing is read the source is
@@ -51,9 +61,10 @@
 //!   `outcomes_keep_their_promise` says the promise of the outcomes alone.
 //! - `answers_come` is completeness (`specs/Answerable.antt`): where the source tells bytes that spell
 //!   what the task asks for, no limit is passed and nothing fails, a run ends with an answer to the
-//!   task, or memory runs out; `check`, `run` and `recheck` end with yes or no then, and `synth` with
-//!   a program or a trace where a controller answers its first question. `inputs_get_verdicts` says
-//!   what `check`, `run` and `recheck` reply of the outcomes alone, and these laws what the others do:
+//!   task, or memory runs out; `check`, `run`, `recheck`, `circuit` and `accepts` end with yes or no
+//!   then, `automaton` with its text, and `synth` with a program or a trace where a controller answers
+//!   its first question. `inputs_get_verdicts` says what `check`, `run` and `recheck` reply of the
+//!   outcomes alone, and these laws what `synth` and `prove` do:
 //! - `searches_are_answered`: within the limits of the work `synth` and `prove` answer each text
 //!   that spells a specification. `limits_are_told`: where a limit is passed, that is told.
 //!   `controllers_are_not_missed`: where a controller of the size has an annotation within the
@@ -68,10 +79,11 @@
 //! - Definitions cite limits as the constants of the code; `limits_are_these` says which numbers
 //!   they are.
 //!
-//! `check` and `run` find the parts of their input by lines alone (`specs/Check.antt` and
-//! `specs/RunParts.antt` of `judging_replies`). Each refusal of a specification and each limit of the
-//! work on it has the line of its fault (`specs/Refusals.antt` of `tool_replies`), and so has each
-//! refusal of another part (`specs/RunFaults.antt` of `judging_replies`).
+//! `check`, `circuit`, `run` and `accepts` find the parts of their input by lines alone
+//! (`specs/Check.antt` and `specs/RunParts.antt` of `judging_replies`, `specs/Accepts.antt` of
+//! `exchange_replies`). Each refusal of a specification and each limit of the work on it has the line of
+//! its fault (`specs/Refusals.antt` of `tool_replies`), and so has each refusal of another part
+//! (`specs/RunFaults.antt` of `judging_replies`, `specs/Accepts.antt` of `exchange_replies`).
 //!
 //! A new command adds a variant of `Task` and its words, a reply with a relation of its own in the
 //! crate of its kind, a line of `TaskOutcome`, and its lines of `Promise`.

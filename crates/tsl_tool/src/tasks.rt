@@ -9,7 +9,8 @@ use refinement_loop::{Bound, Search};
 /// The most bytes of a specification.
 const MOST_SPECIFICATION_BYTES: u32 = 1_048_576;
 
-/// The most bytes of a specification and a program, or of these with tables and inputs, together.
+/// The most bytes of a specification and a program, of these with tables and inputs, or of an automaton
+/// and a loop of letters, together.
 const MOST_RUN_BYTES: u32 = 16_777_216;
 
 /// The most bytes of a formula and a log together.
@@ -20,8 +21,8 @@ pub(crate) fn most_bytes(task: Task) -> Option<u32>
     ensures { result ≡ most_bytes task }
 {
     match task {
-        Task::Synth(_) | Task::Prove(_) => Some(MOST_SPECIFICATION_BYTES),
-        Task::Check(_) | Task::Run => Some(MOST_RUN_BYTES),
+        Task::Synth(_) | Task::Prove(_) | Task::Automaton => Some(MOST_SPECIFICATION_BYTES),
+        Task::Check(_) | Task::Run | Task::Circuit(_) | Task::Accepts => Some(MOST_RUN_BYTES),
         Task::Recheck => Some(MOST_LOG_BYTES),
         Task::Gen(_) => None,
     }

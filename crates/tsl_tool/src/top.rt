@@ -15,6 +15,7 @@ ghost use Rattle.tsl_tool.specs.internal.Sending.{IsSent};
 
 use crate::tasks::{most_bytes, search_sizes};
 use command_words::{Task, WordsError, task_of};
+use exchange_replies::{accepts, automaton, circuit};
 use judging_replies::{check, recheck, run};
 use search_replies::{generate, prove, synth};
 use sequence::NoMemory;
@@ -74,6 +75,9 @@ fn reply_to_bytes(alloc: Global, task: Task, bytes: &[u8]) -> Result<Reply, NoMe
         Task::Prove(sizes) => prove(alloc, sizes, bytes),
         Task::Recheck => recheck(alloc, bytes),
         Task::Gen(n) => generate(alloc, n),
+        Task::Circuit(bound) => circuit(alloc, bound, bytes),
+        Task::Automaton => automaton(alloc, bytes),
+        Task::Accepts => accepts(alloc, bytes),
     }
 }
 
@@ -82,17 +86,17 @@ fn reply_to_bytes(alloc: Global, task: Task, bytes: &[u8]) -> Result<Reply, NoMe
 /// The first word names a command, and `clap` reads the others as its options, in any order: those
 /// of `synth` are `--states` and `--env-states` from 1 to 8, `--bound`, one of the words `0` to
 /// `15` and `full`, `--env-bound` from 0 to 15, `--depth` from 1 to 3, `--rounds` from 0 to 64 and
-/// `--budget` from 1 to 1,000,000; `prove` has `--states`, `--bound` and `--budget`, `check` has
-/// `--bound`, `run` and `recheck` have none, and `gen` has one number from 1 to 5 instead. `gen`
-/// reads nothing.
-/// For `synth` and `prove` the source holds a specification of at most 1,048,576 bytes; for
-/// `check` a specification and a program, and for `run` a specification or nothing, a program,
-/// tables and inputs, of at most 16,777,216 bytes together; for `recheck` a formula in conjunctive
-/// normal form, the line `lrat` and a log, of at most 268,435,456 bytes together. Each text is
-/// built whole before its first byte is written. At `Done`, `No` and `Spent` a program, a proof, a
-/// run, a verdict, a summary or a trace went to `out`. At `Usage`, `Reading`, `Large` and `ReadFault` one line
-/// went to `err`. At `WriteFault` some first bytes of the one text went to its sink, and at `Memory`
-/// nothing was written.
+/// `--budget` from 1 to 1,000,000; `prove` has `--states`, `--bound` and `--budget`, `check` and
+/// `circuit` have `--bound`, `gen` has one number from 1 to 5 instead, and the others have none. `gen`
+/// reads nothing. For `synth`, `prove` and `automaton` the source holds a specification of at most
+/// 1,048,576 bytes; for `check` and `circuit` a specification and a program, for `run` a specification
+/// or nothing, a program, tables and inputs, and for `accepts` an automaton, the line `letters` and a
+/// loop of letters, of at most 16,777,216 bytes together; for `recheck` a formula in conjunctive normal
+/// form, the line `lrat` and a log, of at most 268,435,456 bytes together. Each text is built whole
+/// before its first byte is written. At `Done`, `No` and `Spent` a program, a proof, a run, a verdict, a
+/// summary, a trace, a circuit or an automaton went to `out`. At `Usage`, `Reading`, `Large` and
+/// `ReadFault` one line went to `err`. At `WriteFault` some first bytes of the one text went to its sink,
+/// and at `Memory` nothing was written.
 pub fn tsl<S: Source, O: Sink, E: Sink>(
     alloc: Global,
     words: &[String],

@@ -18,6 +18,9 @@ is_simple_command word.Run = refl
 is_simple_command word.Prove = refl
 is_simple_command word.Recheck = refl
 is_simple_command word.Gen = refl
+is_simple_command word.Circuit = refl
+is_simple_command word.Automaton = refl
+is_simple_command word.Accepts = refl
 
 pub returns-in-Ok-clause-taken : goal.returns-in-Ok-clause-taken
 returns-in-Ok-clause-taken c =

@@ -19,6 +19,9 @@ is_ready_command word.Run = refl
 is_ready_command word.Prove = refl
 is_ready_command word.Recheck = refl
 is_ready_command word.Gen = refl
+is_ready_command word.Circuit = refl
+is_ready_command word.Automaton = refl
+is_ready_command word.Accepts = refl
 
 -- the option at a place of a command's arguments
 given : (w : CommandWord) (m : ArgMatches) → ParsedBy (command w) m
@@ -72,3 +75,10 @@ returns-in-Gen-clause-numbers c =
     let p : ParsedBy (command word.Gen) m = rw c.in-Gen.is at c.requires in
     positional_in (codes "gen") (command_arguments word.Gen) refl refl m p 0 (codes "n") 1 5 refl refl refl (omega arith)
     c.number-in-Gen.result c.number-in-Gen.ensures
+
+pub returns-in-Circuit-clause-numbers : goal.returns-in-Circuit-clause-numbers
+returns-in-Circuit-clause-numbers c =
+    let m = c.args.matches.now in
+    let p : ParsedBy (command word.Circuit) m = rw c.in-Circuit.is at c.requires in
+    given word.Circuit m p 0 (codes "bound") 0 15 (codes "2") refl refl refl (omega arith) c.number-in-Circuit.result
+    c.number-in-Circuit.ensures

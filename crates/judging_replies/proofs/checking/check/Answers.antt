@@ -1,7 +1,9 @@
-use Rattle.judging_replies.proofs.CheckStages.{texts_outcome}
+use Rattle.tsl_terms.specs.SpecView.{spec_tree}
+use Rattle.program_tree.specs.ProgramView.{program_tree}
+use Rattle.judging_replies.proofs.CheckStages.{accepted_outcome}
 use Rattle.judging_replies.proofs.checking.check.Goals as goal
 
-pub returns-in-Some : goal.returns-in-Some
-returns-in-Some c =
-    texts_outcome c.args.bound c.args.bytes.now (record { spec = c.in-Some.spec.now; program = c.in-Some.program.now })
-    c.reply_to_texts.result c.in-Some.ensures.found c.reply_to_texts.ensures
+pub returns-in-Accepted : goal.returns-in-Accepted
+returns-in-Accepted c =
+    accepted_outcome c.args.bound c.args.bytes.now (spec_tree c.in-Accepted.field-0) (program_tree c.in-Accepted.field-1)
+    c.accepted.result (rw c.in-Accepted.is at c.in_ok-judged.ensures) c.accepted.ensures

@@ -2,6 +2,7 @@ use Rattle.search_replies.proofs.GenReplies.{gen_is_large}
 use Rattle.search_replies.proofs.ProveReplies.{question_is_large}
 use Rattle.search_replies.proofs.SynthReplies.{search_is_large}
 use Rattle.tsl_tool.proofs.CheckLimits.{check_tells_limits}
+use Rattle.tsl_tool.proofs.ExchangesCome.{circuit_tells_limits}
 use Rattle.tsl_tool.proofs.laws.limits_are_told.Goals as goal
 
 pub returns : goal.returns
@@ -10,4 +11,5 @@ returns c = record {
   prove = question_is_large;
   generated = gen_is_large;
   check = check_tells_limits;
+  circuit = circuit_tells_limits;
 }

@@ -1,0 +1,4 @@
+pub mod Accepts
+pub mod Automaton
+pub mod Circuit
+pub mod Letters
