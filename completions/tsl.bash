@@ -4,7 +4,7 @@ _tsl() {
     if [ "$program" = solve ]; then
         offered='--budget --log'
     elif [ "$COMP_CWORD" -eq 1 ]; then
-        offered='synth check run prove recheck gen'
+        offered='synth check run prove recheck gen circuit automaton accepts'
         [ "$program" = tslx ] && offered="$offered search explain trace names assumed --help --version"
     else
         case $command in
@@ -13,6 +13,7 @@ _tsl() {
         prove) offered='--states --bound --budget' ;;
         search) offered='--most' ;;
         gen) offered='1 2 3 4 5' ;;
+        circuit) offered='--bound' ;;
         esac
         [ "$command ${COMP_WORDS[COMP_CWORD - 1]}" = 'synth --bound' ] && offered=$(echo {0..15} full)
     fi

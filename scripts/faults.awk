@@ -10,6 +10,7 @@ reading == 2 { begin[++files] = $1; sub(/^[0-9]+ /, ""); file[files] = $0; next 
     if ($0 == "tsltables 1" && from["program"] && !from["tables"]) from["tables"] = last
     if ($0 == "tslinputs 1" && from["tables"] && !from["inputs"]) from["inputs"] = last
     if ($0 == "lrat" && !from["log"]) from["log"] = last + 1
+    if ($0 == "letters" && !from["letters"]) from["letters"] = last + 1
 }
 # Before the token `k`: what is open, what stands there, and what may follow.
 function follows(k,    i, open_in, prev) {
@@ -56,7 +57,7 @@ function marked(line, column,    i, c, mark) {
 END {
     n = split(fault, word, " ")
     part = word[2]
-    from["spec"] = from["cnf"] = 1
+    from["spec"] = from["cnf"] = from["automaton"] = 1
     place = ""
     if (word[3] ~ /^[0-9]+(:[0-9]+)?$/) { place = word[3]; kind = word[4]; name = word[5] }
     else { kind = word[3]; name = word[4]; value = word[5] }
