@@ -262,22 +262,40 @@ def same_over_rows(source, first, second):
     return True
 
 
+class Ports:
+    """A circuit whose inputs and outputs stand in another order: that of these places."""
+
+    def __init__(self, circuit, inputs, outputs):
+        self.circuit, self.inputs, self.outputs, self.latches = circuit, inputs, outputs, circuit.latches
+
+    def step(self, row, latches):
+        seen, after = self.circuit.step([row[place] for place in self.inputs], latches)
+        return [seen[self.outputs.index(place)] for place in range(len(seen))], after
+
+
 def through_yosys(folder, name, circuit):
-    """The circuit as `yosys` writes it after reading it. Its binary form stands in the file NAME.aig."""
-    (folder / f"{name}.aag").write_text(circuit.text())
-    script = f"read_aiger {name}.aag; write_aiger {name}.aig; write_aiger -ascii {name}.read"
+    """The circuit as `yosys` writes it after reading it. Its binary form stands in the file NAME.aig. Ports have names, since `yosys`
+    writes them in an order of its own."""
+    names = [*(f"i{k} in{k:03}" for k in range(circuit.inputs)), *(f"o{k} out{k:03}" for k in range(len(circuit.outputs)))]
+    (folder / f"{name}.aag").write_text(circuit.text() + plain.text_of(names))
+    script = f"read_aiger {name}.aag; write_aiger -symbols {name}.aig; write_aiger -ascii -symbols {name}.read"
     subprocess.run(["yosys", "-q", "-p", script], cwd=folder, check=True, capture_output=True)
     text = (folder / f"{name}.read").read_text()
-    return read_circuit("".join(line for line in text.splitlines(True) if re.fullmatch(r"(aag )?[0-9 ]+\n", line)))
+    read = read_circuit("".join(line for line in text.splitlines(True) if re.fullmatch(r"(aag )?[0-9 ]+\n", line)))
+    places = lambda kind: [int(place) for place in re.findall(rf"(?m)^{kind}\d+ (?:in|out)(\d+)$", text)]
+    return Ports(read, places("i"), places("o"))
 
 
 def equivalent(folder, names, circuit):
     """Whether `berkeley-abc` says that two circuits are equivalent."""
     both = " ".join(names)
-    # `dsec` ends in an assertion where there is no input.
-    command = f"cec {both}" if not circuit.latches else f"dsec {both}" if circuit.inputs else f"miter {both}; pdr"
-    done = subprocess.run(["berkeley-abc", "-q", command], cwd=folder, capture_output=True, text=True)
-    return "are equivalent" in done.stdout or "Property proved" in done.stdout
+    # `dsec` ends in an assertion where there is no input, and wants latches in both: `yosys` leaves out those that nothing reads.
+    commands = [f"cec {both}"] if not circuit.latches else [*([f"dsec {both}"] if circuit.inputs else []), f"miter {both}; pdr"]
+    for command in commands:
+        done = subprocess.run(["berkeley-abc", "-q", command], cwd=folder, capture_output=True, text=True)
+        if "are equivalent" in done.stdout or "Property proved" in done.stdout:
+            return True
+    return False
 
 
 def bound_of(words):
