@@ -26,8 +26,8 @@ pub accepts_comes : (bytes : List ℕ) (reply : Reply) → AcceptsOutcome bytes 
 accepts_comes bytes reply (without_letters none is) = ap comes_of_bytes (status_of is)
 accepts_comes bytes reply (of_parts parts are (automaton_refused error fault h is_fault is)) =
     ap comes_of_bytes (status_of is) ∙ automaton_fault_comes error fault is_fault
-accepts_comes bytes reply (of_parts parts are (letters_refused bits states edges line there wrong is)) = ap comes_of_bytes (status_of is)
-accepts_comes bytes reply (of_parts parts are (both_spelled input spelled holds exactly is)) =
+accepts_comes bytes reply (of_parts parts are (letters_refused bits states edges line there small wrong is)) = ap comes_of_bytes (status_of is)
+accepts_comes bytes reply (of_parts parts are (both_spelled input spelled small holds exactly is)) =
     ap comes_of_bytes (status_of is) ∙ verdict_comes holds
 
 verdict_says : (holds : Bool) → (verdict_reply holds).text ≢ []
@@ -37,7 +37,7 @@ verdict_says false e = cc
 pub accepts_says : (bytes : List ℕ) (reply : Reply) → AcceptsOutcome bytes reply → reply.text ≢ []
 accepts_says bytes reply (without_letters none is) = fault_says (Parts Letters) reply is
 accepts_says bytes reply (of_parts parts are (automaton_refused error fault h is_fault is)) = fault_says fault reply is
-accepts_says bytes reply (of_parts parts are (letters_refused bits states edges line there wrong is)) =
+accepts_says bytes reply (of_parts parts are (letters_refused bits states edges line there small wrong is)) =
     fault_says (LettersForm line) reply is
-accepts_says bytes reply (of_parts parts are (both_spelled input spelled holds exactly is)) =
+accepts_says bytes reply (of_parts parts are (both_spelled input spelled small holds exactly is)) =
     λ e. verdict_says holds (sym (text_of is) ∙ e)

@@ -11,7 +11,7 @@ use Rattle.cobuchi_automata.specs.Automata.{EdgeTree}
 use Rattle.loop_acceptance.specs.Accepts.{Accepts, loop_of}
 use Rattle.automaton_text.specs.declared.hoa_error.HoaError.{HoaError}
 use Rattle.automaton_text.specs.HoaText.{IsHoaText}
-use Rattle.automaton_text.specs.HoaRefusals.{IsHoaRefusal}
+use Rattle.automaton_text.specs.HoaRefusals.{IsHoaRefusal, IsSmall}
 use Rattle.tsl_report.specs.declared.fault.Fault.{Fault}
 use Rattle.tsl_report.specs.declared.fault.Fault.TheVariants.{LettersForm}
 use Rattle.tool_replies.specs.declared.reply.Reply.{Reply}
@@ -68,11 +68,12 @@ module _ {E : Type 0} where
   automaton_refused_told parts error fault (Ok reply) h is_fault is = automaton_refused error fault h is_fault is
   automaton_refused_told parts error fault (Err e) h is_fault is = tt
 
-  module _ (parts : AcceptsParts) (bits states : ℕ) (edges : List EdgeTree) (there : IsHoaText parts.automaton bits states edges) where
+  module _ (parts : AcceptsParts) (bits states : ℕ) (edges : List EdgeTree) (there : IsHoaText parts.automaton bits states edges)
+      (small : IsSmall bits states edges) where
     pub letters_refused_told : (line : ℕ) (r : Result Reply E) →
         IsFirstWrong step whole (fresh bits) (with_last_feed parts.letters) line →
         IfOk r (λ reply. reply ≡ fault_reply (LettersForm line)) → IfOk r (LoopOutcome parts)
-    letters_refused_told line (Ok reply) wrong is = letters_refused bits states edges line there wrong is
+    letters_refused_told line (Ok reply) wrong is = letters_refused bits states edges line there small wrong is
     letters_refused_told line (Err e) wrong is = tt
 
     pub verdict_told : (loop : LoopTree) (r : Result Reply E) → IsLoop bits loop → with_last_feed parts.letters ≡ loop_text loop →
@@ -81,5 +82,5 @@ module _ {E : Type 0} where
         IfOk r (LoopOutcome parts)
     verdict_told loop (Ok reply) is_loop same found =
         both_spelled (record { bits = bits; states = states; edges = edges; letters = loop })
-        (record { automaton = there; is_loop = is_loop; letters = same }) found.0 found.2 found.1
+        (record { automaton = there; is_loop = is_loop; letters = same }) small found.0 found.2 found.1
     verdict_told loop (Err e) is_loop same found = tt

@@ -10,7 +10,7 @@ use Rattle.loop_acceptance.specs.Accepts.{Accepts, loop_of}
 use Rattle.automaton_text.specs.declared.hoa_error.HoaError.{HoaError}
 use Rattle.automaton_text.specs.declared.hoa_error.HoaError.TheVariants.{Form, Bits, States, Edges, NoMemory}
 use Rattle.automaton_text.specs.HoaText.{IsHoaText}
-use Rattle.automaton_text.specs.HoaRefusals.{IsHoaRefusal}
+use Rattle.automaton_text.specs.HoaRefusals.{IsHoaRefusal, IsSmall}
 use Rattle.tsl_report.specs.declared.fault.Head.TheVariants.{Letters}
 use Rattle.tsl_report.specs.declared.fault.LimitName.TheVariants.{Bits as BitLimit, States as StateLimit, Edges as EdgeLimit}
 use Rattle.tsl_report.specs.declared.fault.Fault.{Fault}
@@ -76,12 +76,13 @@ pub data LoopOutcome (parts : AcceptsParts) (reply : Reply) : Type 0 where
   -- the automaton is refused
   automaton_refused : (error : HoaError) (fault : Fault) → IsHoaRefusal error parts.automaton → IsAutomatonFault error fault →
       reply ≡ fault_reply fault → LoopOutcome parts reply
-  -- the automaton is spelled, and this is the first line with which no loop of letters over its propositions goes on
+  -- an automaton within the limits is spelled, and this is the first line with which no loop of letters over its propositions goes on
   letters_refused : (bits states : ℕ) (edges : List EdgeTree) (line : ℕ) → IsHoaText parts.automaton bits states edges →
-      IsFirstWrong step whole (fresh bits) (with_last_feed parts.letters) line → reply ≡ fault_reply (LettersForm line) →
+      IsSmall bits states edges → IsFirstWrong step whole (fresh bits) (with_last_feed parts.letters) line → reply ≡ fault_reply (LettersForm line) →
       LoopOutcome parts reply
-  -- both are spelled, and the verdict is that it accepts exactly where the automaton accepts the loop
-  both_spelled : (input : AcceptsInput) → SpellAcceptsInput parts input → (holds : Bool) → (holds ≡ true) ↔ AcceptsInputLoop input →
+  -- both are spelled, the automaton within the limits, and the verdict is that it accepts exactly where the automaton accepts the loop
+  both_spelled : (input : AcceptsInput) → SpellAcceptsInput parts input → IsSmall input.bits input.states input.edges → (holds : Bool) →
+      (holds ≡ true) ↔ AcceptsInputLoop input →
       reply ≡ verdict_reply holds → LoopOutcome parts reply
 
 pub data AcceptsOutcome (bytes : List ℕ) (reply : Reply) : Type 0 where

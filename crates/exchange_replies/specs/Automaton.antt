@@ -1,5 +1,5 @@
 -- What the command `automaton` replies.
-use Rattle.std.specs.Prelude.{◌≡◌, ℕ, List, [], length, ⊤}
+use Rattle.std.specs.Prelude.{◌≡◌, ◌≤◌, ℕ, List, [], length, ⊤}
 use Rattle.tsl_terms.specs.declared.operator.UnaryOperator.TheVariants.{Negation}
 use Rattle.tsl_terms.specs.FormulaTree.{unary}
 use Rattle.tsl_terms.specs.SpecTree.{SpecTree, whole_formula}
@@ -11,7 +11,7 @@ use Rattle.underapprox.specs.LetterForm.{letter_form}
 use Rattle.cobuchi_automata.specs.declared.automaton.Automaton.{Automaton}
 use Rattle.cobuchi_automata.specs.Automata.{StateTree, EdgeTree, IsAutomaton}
 use Rattle.cobuchi_automata.specs.Edges.{edge_trees}
-use Rattle.cobuchi_automata.specs.Refusals.{HasTooManyChoices, HasTooManyStates, HasTooManyEdges}
+use Rattle.cobuchi_automata.specs.Refusals.{HasTooManyChoices, HasTooManyStates, HasTooManyEdges, most_automaton_states, most_automaton_edges}
 use Rattle.program_check.specs.declared.verdict.CheckError.{CheckError}
 use Rattle.program_check.specs.declared.verdict.CheckError.TheVariants.{Large as PastLimit, NoMemory}
 use Rattle.program_check.specs.declared.verdict.Limit.{Limit}
@@ -50,11 +50,15 @@ abbrev pub HasAutomatonCause : SpecTree → CheckError → Type 0
 HasAutomatonCause spec (PastLimit limit) = IsPastFor spec limit
 HasAutomatonCause spec NoMemory = ⊤
 
--- the text is that of the automaton of the negated formula, with some numbering of its states
+-- the specification is within the limits of bits, and the text is that of the automaton of the negated formula, with some numbering of
+-- its states, which is within the limits of automata
 pub record IsWrittenAutomaton (spec : SpecTree) (text : List ℕ) : Type 0 where
+  pub few_bits : HasFewBits spec
   pub states : List StateTree
   pub edges : List EdgeTree
   pub is_automaton : IsAutomaton (negated_form spec) states edges
+  pub few_states : length states ≤ most_automaton_states
+  pub few_edges : length edges ≤ most_automaton_edges
   pub text_is : text ≡ hoa_text (bit_names spec.names (spec_space spec)) (length states) edges
 
 pub record TellsAutomaton (spec : SpecTree) (reply : Reply) : Type 0 where

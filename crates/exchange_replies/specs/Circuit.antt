@@ -5,7 +5,7 @@ use Rattle.program_tree.specs.ProgramTree.{ProgramTree}
 use Rattle.letter_space.specs.SpecSpace.{spec_space}
 use Rattle.machines.specs.MachineTree.{ControllerTree}
 use Rattle.control_flow_model.specs.ControllerOf.{IsControllerOf}
-use Rattle.circuits.specs.Circuits.{CircuitTree}
+use Rattle.circuits.specs.Circuits.{CircuitTree, IsCircuit}
 use Rattle.controller_circuits.specs.OfController.{IsCircuitOf}
 use Rattle.circuit_text.specs.CircuitText.{circuit_text}
 use Rattle.tool_replies.specs.declared.status.Status.TheVariants.{Done}
@@ -13,8 +13,9 @@ use Rattle.tool_replies.specs.declared.reply.Reply.{Reply}
 use Rattle.judging_replies.specs.Check.{CheckOutcome}
 use Rattle.judging_replies.specs.Judged.{IsAcceptedPair}
 
--- this is a circuit of the controller of a program
+-- this is a circuit, and one of the controller of a program
 pub record IsCircuitOfProgram (spec : SpecTree) (program : ProgramTree) (circuit : CircuitTree) : Type 0 where
+  pub in_range : IsCircuit circuit
   pub controller : ControllerTree
   pub is_controller : IsControllerOf (spec_space spec) program controller
   pub is_circuit : IsCircuitOf (spec_space spec) controller circuit

@@ -44,12 +44,12 @@ automaton_keeps bytes reply (of_spec spec spells (told h)) =
 pub accepts_keeps : (bytes : List ℕ) (reply : Reply) → AcceptsOutcome bytes reply → Promise Accepts reply.status bytes reply.text
 accepts_keeps bytes reply (without_letters none is) = fault_keeps Accepts (Parts Letters) bytes reply is
 accepts_keeps bytes reply (of_parts parts are (automaton_refused error fault h is_fault is)) = fault_keeps Accepts fault bytes reply is
-accepts_keeps bytes reply (of_parts parts are (letters_refused bits states edges line there wrong is)) =
+accepts_keeps bytes reply (of_parts parts are (letters_refused bits states edges line there small wrong is)) =
     fault_keeps Accepts (LettersForm line) bytes reply is
-accepts_keeps bytes reply (of_parts parts are (both_spelled input spelled true exactly is)) =
+accepts_keeps bytes reply (of_parts parts are (both_spelled input spelled small true exactly is)) =
     subst (λ (r : Reply). Promise Accepts r.status bytes r.text) (sym is)
     (record { parts = parts; are_parts = are; input = input; spelled = spelled; holds = exactly.0 refl }, refl)
-accepts_keeps bytes reply (of_parts parts are (both_spelled input spelled false exactly is)) =
+accepts_keeps bytes reply (of_parts parts are (both_spelled input spelled small false exactly is)) =
     subst (λ (r : Reply). Promise Accepts r.status bytes r.text) (sym is) (
       record {
         parts = parts;

@@ -120,8 +120,8 @@ module _ (parts : AcceptsParts) (input : AcceptsInput) (spelled : SpellAcceptsIn
 
   loop_answers : (reply : Reply) → LoopOutcome parts reply → is_yes_or_no reply.status ≡ true
   loop_answers reply (automaton_refused error fault h is_fault is) = absurd (automaton_stands error fault h is_fault)
-  loop_answers reply (letters_refused bits states edges line there wrong is) = absurd (letters_stand bits states edges line there wrong)
-  loop_answers reply (both_spelled other there holds exactly is) = ap is_yes_or_no (status_of is) ∙ verdict_answers holds
+  loop_answers reply (letters_refused bits states edges line there within wrong is) = absurd (letters_stand bits states edges line there wrong)
+  loop_answers reply (both_spelled other there within holds exactly is) = ap is_yes_or_no (status_of is) ∙ verdict_answers holds
 
 letters_short : (bytes : List ℕ) (parts : AcceptsParts) → AreAcceptsParts bytes parts → length parts.letters ≤ length bytes
 letters_short bytes parts are =

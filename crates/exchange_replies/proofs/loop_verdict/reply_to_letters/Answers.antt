@@ -19,11 +19,11 @@ verdict_on-requires-clause-few_letters c =
 pub returns-in-Ok : goal.returns-in-Ok
 returns-in-Ok c =
     verdict_told (record { automaton = c.args.text.now; letters = c.args.letters.now }) c.args.hoa.now.bits
-    c.args.hoa.now.automaton.states (edge_trees c.args.hoa.now.automaton.edges) c.requires.spelled (loop_tree c.in-Ok.found)
+    c.args.hoa.now.automaton.states (edge_trees c.args.hoa.now.automaton.edges) c.requires.spelled c.requires.small (loop_tree c.in-Ok.found)
     c.verdict_on.result c.in-Ok.ensures.is_loop c.in-Ok.ensures.ok c.verdict_on.ensures
 
 pub returns-in-Err-Form : goal.returns-in-Err-Form
 returns-in-Err-Form c =
     letters_refused_told (record { automaton = c.args.text.now; letters = c.args.letters.now }) c.args.hoa.now.bits
-    c.args.hoa.now.automaton.states (edge_trees c.args.hoa.now.automaton.edges) c.requires.spelled c.in-Err-Form.line c.at_fault.result
+    c.args.hoa.now.automaton.states (edge_trees c.args.hoa.now.automaton.edges) c.requires.spelled c.requires.small c.in-Err-Form.line c.at_fault.result
     (c.read_letters.ensures.form c.in-Err-Form.line (c.in-Err-Form.is ∙ ap Err c.in-Err-Form.field-0-is)) c.at_fault.ensures

@@ -1,7 +1,9 @@
-use Rattle.std.proofs.Common.{sym, subst, ◌∙◌, IsTrue}
+use Rattle.std.proofs.Common.{◌≤◌, length, sym, subst, ◌∙◌, IsTrue, arith}
+use Rattle.std.proofs.lemmas.List.{length-map}
+use Rattle.letter_space.specs.declared.limits.TheConstants.{MOST_PREDICATES, MOST_BITS}
 use Rattle.tsl_terms.specs.SpecView.{spec_tree}
-use Rattle.letter_space.specs.SpaceTree.{SpaceTree}
-use Rattle.cobuchi_automata.specs.Edges.{edge_trees}
+use Rattle.letter_space.specs.SpaceTree.{SpaceTree, bit_count}
+use Rattle.cobuchi_automata.specs.Edges.{edge_tree, edge_trees}
 use Rattle.automaton_text.specs.BitNames.{bit_names}
 use Rattle.tsl_report.specs.EnvironmentText.{space_is_held}
 use Rattle.automaton_text.specs.HoaText.{hoa_text}
@@ -21,6 +23,13 @@ returns c =
     record {
       status = c.new.ensures.status;
       written = record {
+        few_bits = record {
+          few_predicates = subst (λ (s : SpaceTree). length s.predicates ≤ MOST_PREDICATES) c.requires.space
+              c.args.negation.now.space.is_space.few_predicates;
+          few_bits = subst (λ (s : SpaceTree). bit_count s ≤ MOST_BITS) c.requires.space c.args.negation.now.space.is_space.few_bits;
+        };
+        few_states = omega (arith, made.1, c.requires.few_states);
+        few_edges = omega (arith, length-map c.args.negation.now.automaton.edges edge_tree, c.requires.few_edges);
         states = made.0;
         edges = edges;
         is_automaton = made.2;

@@ -22,6 +22,7 @@ returns c =
     record {
       circuit = circuit;
       of_program = record {
+        in_range = c.in_ok-circuit.circuit.is_circuit;
         controller = controller;
         is_controller = subst (λ (s : SpaceTree). IsControllerOf s (program_tree c.args.program.now) controller) c.in-Ok.ensures.space
             c.in_ok-controller.ensures;
