@@ -41,4 +41,5 @@ def main():
                 before = seconds
 
 
-main()
+if __name__ == "__main__":
+    main()

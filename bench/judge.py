@@ -59,4 +59,5 @@ def main():
             table(folder, reference, family, [(most, MOST_POSITIONS >> k) for k in (3, 2, 1, 0)])
 
 
-main()
+if __name__ == "__main__":
+    main()

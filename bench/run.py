@@ -112,4 +112,5 @@ def main():
     counted()
 
 
-main()
+if __name__ == "__main__":
+    main()
