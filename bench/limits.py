@@ -244,6 +244,8 @@ LIMITS = [
     Family("vectors", SYNTH, lambda n: specification(0, [2] * n), rising(10, 6), "none", 11, "large vectors 1024", two_to),
     Family("branches, depth 3", [*SYNTH, "--depth", "3"], paths, [7, 9, 11, 13], "none", 14, "large branches 10000000",
            lambda n: (n * (n + 3.0)) ** 3),
+    Family("branches of cells, depth 3", [*SYNTH, "--depth", "3"], lambda n: specification(n, []), rising(7), "none", 8,
+           "large branches 10000000", lambda n: 8.0**n),
     Family("nodes of a program", RUN, long_program, doubling(2**16), "loop", 2**16 + 1, "large program-nodes 65536"),
     Family("states of a program", [*CHECK, "--bound", "15"], crossing, doubling(64), "accepted", 65, "large program-states 64"),
     Family("windows", RUN, windows, doubling(64), "formula holds", 65, "large windows 64"),
