@@ -168,10 +168,6 @@ def positions(size):
     return judged("untils", 48, size)
 
 
-def formulas(size):
-    return judged("atoms", size, 65_536)
-
-
 # ---- texts: automata and letters, formulas and logs ----
 
 def loop_text(states, each, propositions, letters):
@@ -224,7 +220,7 @@ def refuted(size):
     return long_formula(size - len(step)) + step
 
 
-SYNTH, PROVE, AUTOMATON, CHECK, RUN = ([PROGRAM, word] for word in ("synth", "prove", "automaton", "check", "run"))
+SYNTH, AUTOMATON, CHECK, RUN = ([PROGRAM, word] for word in ("synth", "automaton", "check", "run"))
 ACCEPTS, RECHECK, SOLVE = [PROGRAM, "accepts"], [PROGRAM, "recheck"], [SOLVER]
 FIRST = [*SYNTH, "--rounds", "0"]
 LIMITS = [
@@ -254,6 +250,7 @@ LIMITS = [
     Family("rows", RUN, long_inputs, doubling(2**16), "loop", 2**16 + 1, "large rows 65536"),
     Family("configurations", RUN, configurations, doubling(2**16), "loop 0 65536", 2**16 + 1, "large run 65536"),
     Family("nodes and positions", RUN, positions, doubling(2**16), "formula"),
+    Family("nodes at 65,536 positions", RUN, lambda n: judged("atoms", n, 65_536), doubling(48), "formula"),
     Family("bytes of accepts", ACCEPTS, many_letters, doubling(2**24), "rejected", 2**24 + 1, "large text 16777216"),
     Family("states of accepts", ACCEPTS, lambda n: loop_text(n, 1, 1, 1), doubling(4096), "rejected", 4097, "large states 4096"),
     Family("edges of accepts", ACCEPTS, lambda n: loop_text(400, n, 1, 1), doubling(500), "rejected", 501, "large edges 200000"),
