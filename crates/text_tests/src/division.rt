@@ -14,6 +14,10 @@ const TOKENS: &[(&[u8], &str)] = &[
     (b"<--> ->", "LeftArrow 0-2 Arrow 2-4 Arrow 5-7 "),
     (b"!!&&||", "Not 0-1 Not 1-2 And 2-4 Or 4-6 "),
     (b"a'b _1?", "Name 0-3 Name 4-6 Question 6-7 "),
+    (
+        b"a==<-=",
+        "Name 0-1 Equals 1-2 Equals 2-3 LeftArrow 3-5 Equals 5-6 ",
+    ),
     (b"1a", "Number 0-1 Name 1-2 "),
     (b"a1 007", "Name 0-2 Number 3-6 "),
     (
@@ -50,7 +54,6 @@ const FAULTS: &[(&[u8], &str)] = &[
     (b"a / b", "Byte(2)"),
     (b"'a", "Byte(0)"),
     (b"a \x80", "Byte(2)"),
-    (b"a = b", "Byte(2)"),
 ];
 
 /// What `tokens` answers: each token's kind and place, or the fault.

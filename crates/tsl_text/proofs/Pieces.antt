@@ -77,6 +77,7 @@ use Rattle.tsl_text.specs.declared.TokenKind.TheVariants.{
   BothArrow,
   LeftArrow,
   Question,
+  Equals,
 }
 use Rattle.tsl_text.specs.declared.front.Piece.{Piece}
 use Rattle.tsl_text.specs.declared.front.Piece.TheVariants.{Gap, Longest, OpenComment, Nothing}
@@ -184,6 +185,7 @@ finds Arrow text more h = finds_symbol Arrow text (45 ∷ 62 ∷ []) more h refl
 finds BothArrow text more h = finds_symbol BothArrow text (60 ∷ 45 ∷ 62 ∷ []) more h refl
 finds LeftArrow text more h = finds_left text more (begins_with 62 more) h refl
 finds Question text more h = finds_symbol Question text (63 ∷ []) more h refl
+finds Equals text more h = finds_symbol Equals text (61 ∷ []) more h refl
 
 -- ---- what is found stands there
 
@@ -282,10 +284,11 @@ symbol_sound first rest =
     pick bytes (eqb first 59) _ _ (one_byte Semicolon 59 first rest refl) (λ _.
     pick bytes (eqb first 33) _ _ (one_byte Not 33 first rest refl) (λ _.
     pick bytes (eqb first 63) _ _ (one_byte Question 63 first rest refl) (λ _.
+    pick bytes (eqb first 61) _ _ (one_byte Equals 61 first rest refl) (λ _.
     pick bytes (eqb first 38) _ _ (pair_sound And 38 38 first rest refl) (λ _.
     pick bytes (eqb first 124) _ _ (pair_sound Or 124 124 first rest refl) (λ _.
     pick bytes (eqb first 45) _ _ (pair_sound Arrow 45 62 first rest refl) (λ _.
-    pick bytes (eqb first 60) _ _ (left_sound first rest) (λ _. tt)))))))))))))
+    pick bytes (eqb first 60) _ _ (left_sound first rest) (λ _. tt))))))))))))))
 
 -- the longest front that passes a test, behind a first byte
 run_sound : (kind : TokenKind) (test : ℕ → Bool) (first : ℕ) (rest : List ℕ) → IsTokenText kind (first ∷ take (prefix_len test rest) rest) →
@@ -473,6 +476,7 @@ token_not_empty Arrow text h = omega (arith, ap length h)
 token_not_empty BothArrow text h = omega (arith, ap length h)
 token_not_empty LeftArrow text h = omega (arith, ap length h)
 token_not_empty Question text h = omega (arith, ap length h)
+token_not_empty Equals text h = omega (arith, ap length h)
 
 -- the part is not empty
 pub part_not_empty : (part : Part) (after : List ℕ) → Stands part after → 0 < length (bytes_of part)

@@ -21,6 +21,7 @@ use Rattle.tsl_text.specs.declared.TokenKind.TheVariants.{
   BothArrow,
   LeftArrow,
   Question,
+  Equals,
 }
 
 -- A token without its place, for grammars: a name or a number with its bytes, or a symbol.
@@ -52,6 +53,7 @@ IsTokenText Arrow text = text ≡ codes "->"
 IsTokenText BothArrow text = text ≡ codes "<->"
 IsTokenText LeftArrow text = text ≡ codes "<-"
 IsTokenText Question text = text ≡ codes "?"
+IsTokenText Equals text = text ≡ codes "="
 
 -- the bytes of a token that stands in the text
 abbrev pub token_text : List ℕ → Token → List ℕ

@@ -60,6 +60,7 @@ fn symbol(text: &[u8]) -> Piece
         [b';', ..] => Piece::Longest(TokenKind::Semicolon, 1),
         [b'!', ..] => Piece::Longest(TokenKind::Not, 1),
         [b'?', ..] => Piece::Longest(TokenKind::Question, 1),
+        [b'=', ..] => Piece::Longest(TokenKind::Equals, 1),
         [b'&', b'&', ..] => Piece::Longest(TokenKind::And, 2),
         [b'|', b'|', ..] => Piece::Longest(TokenKind::Or, 2),
         [b'-', b'>', ..] => Piece::Longest(TokenKind::Arrow, 2),

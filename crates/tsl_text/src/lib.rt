@@ -5,7 +5,7 @@
 //! next line feed or at the end, `/*` one that ends at its `*/`; inside it `/*` and `*/` nest, `//`
 //! means nothing, and any byte may stand. A name begins with an ASCII letter or `_` and goes on with
 //! ASCII letters, digits, `_` and `'`; a number is a run of digits; the symbols are
-//! `{ } ( ) [ ] ; ! && || -> <-> <- ?`. The longest token is taken.
+//! `{ } ( ) [ ] ; ! && || -> <-> <- ? =`. The longest token is taken.
 //!
 //! - `tokens` gives the tokens of the one division of a text into blanks, comments and longest
 //!   tokens (`specs/Division.antt`), or its first fault, and gives up where memory runs out alone.
@@ -82,6 +82,8 @@ pub enum TokenKind {
     LeftArrow,
     /// `?`
     Question,
+    /// `=`
+    Equals,
 }
 
 /// A token of a text: its kind, the offset of its first byte, and the offset after its last byte.

@@ -20,6 +20,7 @@ use Rattle.tsl_text.specs.declared.TokenKind.TheVariants.{
   BothArrow,
   LeftArrow,
   Question,
+  Equals,
 }
 use Rattle.tsl_text.specs.declared.front.Piece.{Piece}
 use Rattle.tsl_text.specs.declared.front.Piece.TheVariants.{Gap, Longest, OpenComment, Nothing}
@@ -52,11 +53,12 @@ symbol_of (first ∷ rest) =
     else (if first == 59 then Longest Semicolon 1
     else (if first == 33 then Longest Not 1
     else (if first == 63 then Longest Question 1
+    else (if first == 61 then Longest Equals 1
     else (if first == 38 then pair_of 38 And rest
     else (if first == 124 then pair_of 124 Or rest
     else (if first == 45 then pair_of 62 Arrow rest
     else (if first == 60 then left_of rest
-    else Nothing))))))))))))
+    else Nothing)))))))))))))
 
 -- the bytes are `/*`
 abbrev pub begins_comment : ℕ → ℕ → Bool
