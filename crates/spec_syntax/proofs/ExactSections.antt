@@ -259,16 +259,16 @@ brace_is (mark CloseBrace) h = refl
 brace_is _ h = cc
 
 -- the items between braces, a section after its first word, and a section
-abbrev ItemsCase : Part → Grammar Terminal SectionSyntax
+abbrev pub ItemsCase : Part → Grammar Terminal SectionSyntax
 ItemsCase part r (mark OpenBrace ∷ ys) s = (fs : List FormulaSyntax) × IsClosed is_close_brace AreItems r ys fs × (s ≡ section_made part fs)
 ItemsCase part r _ s = ⊥
 
-abbrev SideCase : Part → Part → Grammar Terminal SectionSyntax
+abbrev pub SideCase : Part → Part → Grammar Terminal SectionSyntax
 SideCase assumed guaranteed r (word Assume ∷ ys) s = ItemsCase assumed r ys s
 SideCase assumed guaranteed r (word Guarantee ∷ ys) s = ItemsCase guaranteed r ys s
 SideCase assumed guaranteed r _ s = ⊥
 
-abbrev SectionCase : Grammar Terminal SectionSyntax
+abbrev pub SectionCase : Grammar Terminal SectionSyntax
 SectionCase r (word Always ∷ ys) s = SideCase AssumeAlways GuaranteeAlways r ys s
 SectionCase r (word Initially ∷ ys) s = SideCase AssumeFirst GuaranteeFirst r ys s
 SectionCase r xs s = SideCase AssumeFirst GuaranteeFirst r xs s
@@ -352,7 +352,7 @@ closed_items : (r : ℕ) (xs : List Terminal) (fs : List FormulaSyntax) → AreI
 closed_items r xs fs h =
     record { value = fs; front = xs; tail = mark CloseBrace ∷ []; split = refl; first = h; second = (mark CloseBrace, refl, refl, refl) }
 
-section_case : {r : ℕ} {xs : List Terminal} {s : SectionSyntax} → IsSection r xs s → SectionCase r xs s
+pub section_case : {r : ℕ} {xs : List Terminal} {s : SectionSyntax} → IsSection r xs s → SectionCase r xs s
 section_case (braces {room = r} {ys = ys} {fs = fs} assume k) = (fs, closed_items r ys fs k, refl)
 section_case (braces {room = r} {ys = ys} {fs = fs} guarantee k) = (fs, closed_items r ys fs k, refl)
 section_case (braces {room = r} {ys = ys} {fs = fs} initially_assume k) = (fs, closed_items r ys fs k, refl)
@@ -382,6 +382,9 @@ case_section r (word Always ∷ word Guarantee ∷ ys) s h =
     with_items r (word Always ∷ word Guarantee ∷ []) GuaranteeAlways always_guarantee ys s h
 case_section r _ s h = absurd h
 
+pub section_exact : (room : ℕ) → Exact IsSection Any room (section_at room)
+section_exact room = exact_as case_section (λ r xs s h. section_case h) (λ y h. h) (section_at_exact room)
+
 -- ---- whole texts
 
 section_member : (room : ℕ) → Member IsSection Any (λ x. ⊥) room (section room) (λ x. true) (section_at room)
@@ -395,7 +398,7 @@ section_member room = record {
   follows = λ x e. tt;
   stops = λ x h. absurd h;
   weaker = λ x h. tt;
-  turn = λ x e. turn_of (exact_as case_section (λ r xs s h. section_case h) (λ y h. h) (section_at_exact room)) x;
+  turn = λ x e. turn_of (section_exact room) x;
 } where
   some_case : (r : ℕ) (xs : List Terminal) (s : SectionSyntax) → SectionCase r xs s →
       (x : Terminal) × (ys : List Terminal) × (xs ≡ x ∷ ys) × (true ≡ true)

@@ -1,102 +1,49 @@
 -- What a fault of the reading functions says of the grammar.
-use Rattle.std.proofs.Common.{◌≡◌, ℕ, suc, ◌<◌, ◌≤◌, List, [], ◌∷◌, ◌++◌, length, refl, ap, sym, ◌∙◌, append_assoc, length-append, arith}
+use Rattle.std.proofs.Common.{◌≡◌, ℕ, suc, ◌<◌, ◌≤◌, List, [], ◌∷◌, ◌++◌, length}
 use Rattle.std.specs.Prelude.{Err}
 use Rattle.token_readers.specs.Readers.{form, deep}
-use Rattle.token_readers.specs.Exact.{SameFirst, both_begin}
-use Rattle.token_readers.proofs.Runs.{same_first}
-use Rattle.token_readers.proofs.Whole.{FirstForm, FirstDeep, first_form, first_deep}
 use Rattle.spec_syntax.specs.Syntax.{Terminal}
-use Rattle.spec_syntax.specs.Grammar.{AreSections}
 use Rattle.spec_syntax.specs.Reading.{sections}
 use Rattle.spec_syntax.specs.Texts.{SomeTextBegins, NoTextBegins, IsNoText}
 use Rattle.spec_syntax.proofs.ExactSections.{sections_exact}
-
--- a list has one split with a rest of this length
-one_split : (f front r rest : List Terminal) → f ++ r ≡ front ++ rest → length r ≡ length rest → (f ≡ front) × (r ≡ rest)
-one_split [] [] r rest e same = (refl, e)
-one_split [] (x ∷ front) r rest e same =
-    let whole : length r ≡ suc (length (front ++ rest)) = ap length e in
-    absurd (omega (arith, whole, same, length-append front rest))
-one_split (x ∷ f) [] r rest e same =
-    let whole : suc (length (f ++ r)) ≡ length rest = ap length e in
-    absurd (omega (arith, whole, same, length-append f r))
-one_split (x ∷ f) (y ∷ front) r rest e same =
-    let first : x ≡ y = cc in
-    let others : f ++ r ≡ front ++ rest = cc in
-    let tails = one_split f front r rest others same in
-    (ap (λ z. z ∷ f) first ∙ ap (λ zs. y ∷ zs) tails.0, tails.1)
-
-first_of : (y x : Terminal) (ys xs : List Terminal) → y ∷ ys ≡ x ∷ xs → y ≡ x
-first_of y x ys xs e = cc
-
-form_of : (room : ℕ) (xs : List Terminal) (left : ℕ) → sections room xs ≡ Err (form left) → FirstForm AreSections room xs left
-form_of room xs left h = first_form (sections_exact room) xs left h
-
-deep_of : (room : ℕ) (xs : List Terminal) (left : ℕ) → sections room xs ≡ Err (deep left) → FirstDeep AreSections room xs left
-deep_of room xs left h = first_deep (sections_exact room) xs left h
+use Rattle.spec_syntax.proofs.FirstFaults as first
 
 -- a form fault stands among the terminals or at their end
 pub form_is_within : (room : ℕ) (xs : List Terminal) (left : ℕ) → sections room xs ≡ Err (form left) → left ≤ length xs
-form_is_within room xs left h =
-    let first : FirstForm AreSections room xs left = form_of room xs left h in
-    let whole : length xs ≡ length (first.front ++ first.rest) = ap length first.split in
-    omega (arith, whole, first.place, length-append first.front first.rest)
+form_is_within room = first.form_within (sections_exact room)
 
 -- a level too many stands at a terminal
 pub deep_is_within : (room : ℕ) (xs : List Terminal) (left : ℕ) → sections room xs ≡ Err (deep left) → (0 < left) × (left ≤ length xs)
-deep_is_within room xs left h =
-    let first : FirstDeep AreSections room xs left = deep_of room xs left h in
-    let whole : length xs ≡ length (first.front ++ first.at ∷ first.rest) = ap length first.split in
-    (omega (arith, first.place), omega (arith, whole, first.place, length-append first.front (first.at ∷ first.rest)))
+deep_is_within room = first.deep_within (sections_exact room)
 
 -- no text begins with the terminals up to and with the faulty one, for any room
 pub form_stops_all : (room : ℕ) (xs : List Terminal) (left : ℕ) → sections room xs ≡ Err (form left) →
     (front : List Terminal) (x : Terminal) (more : List Terminal) →
     xs ≡ front ++ x ∷ more → left ≡ suc (length more) → (other : ℕ) → NoTextBegins other (front ++ x ∷ [])
-form_stops_all room xs left h front x more split here other zs ss derived =
-    let first : FirstForm AreSections room xs left = form_of room xs left h in
-    let same = one_split first.front front first.rest (x ∷ more) (sym first.split ∙ split) (sym first.place ∙ here) in
-    let begins : SameFirst first.rest (x ∷ zs) = rw same.1 (both_begin x more zs) in
-    first.stops (x ∷ zs) begins other ss (rw (same.0, ← append_assoc front (x ∷ []) zs) derived)
+form_stops_all room = first.form_stops (sections_exact room)
 
 pub deep_stops : (room : ℕ) (xs : List Terminal) (left : ℕ) → sections room xs ≡ Err (deep left) →
     (front : List Terminal) (x : Terminal) (more : List Terminal) →
     xs ≡ front ++ x ∷ more → left ≡ suc (length more) → NoTextBegins room (front ++ x ∷ [])
-deep_stops room xs left h front x more split here zs ss derived =
-    let first : FirstDeep AreSections room xs left = deep_of room xs left h in
-    let same = one_split first.front front (first.at ∷ first.rest) (x ∷ more) (sym first.split ∙ split) (sym first.place ∙ here) in
-    let at : first.at ≡ x = first_of first.at x first.rest more same.1 in
-    first.stops zs ss (rw (same.0, at, ← append_assoc front (x ∷ []) zs) derived)
+deep_stops room = first.deep_stops (sections_exact room)
 
 -- terminals that have a form fault are no text, for any room
 pub no_text : (room : ℕ) (xs : List Terminal) (left : ℕ) → sections room xs ≡ Err (form left) → (other : ℕ) → IsNoText other xs
-no_text room xs left h other ss derived =
-    let first : FirstForm AreSections room xs left = form_of room xs left h in
-    first.stops first.rest (same_first first.rest) other ss (rw (← first.split) derived)
+no_text room = first.no_value (sections_exact room)
 
 -- some text begins with the terminals before a form fault
 pub form_begins : (room : ℕ) (xs : List Terminal) (left : ℕ) → sections room xs ≡ Err (form left) → (front rest : List Terminal) →
     xs ≡ front ++ rest → left ≡ length rest → SomeTextBegins room front
-form_begins room xs left h front rest split here =
-    let first : FirstForm AreSections room xs left = form_of room xs left h in
-    let same = one_split first.front front first.rest rest (sym first.split ∙ split) (sym first.place ∙ here) in
-    rw (← same.0) (first.begins.ending, first.begins.value, first.begins.derives)
+form_begins room = first.form_begins (sections_exact room)
 
 -- and with those before a level too many
 pub deep_begins : (room : ℕ) (xs : List Terminal) (left : ℕ) → sections room xs ≡ Err (deep left) →
     (front : List Terminal) (x : Terminal) (more : List Terminal) →
     xs ≡ front ++ x ∷ more → left ≡ suc (length more) → SomeTextBegins room front
-deep_begins room xs left h front x more split here =
-    let first : FirstDeep AreSections room xs left = deep_of room xs left h in
-    let same = one_split first.front front (first.at ∷ first.rest) (x ∷ more) (sym first.split ∙ split) (sym first.place ∙ here) in
-    rw (← same.0) (first.begins.ending, first.begins.value, first.begins.derives)
+deep_begins room = first.deep_begins (sections_exact room)
 
 -- with two levels more, some text begins with those up to and with it
 pub deep_goes_on : (room : ℕ) (xs : List Terminal) (left : ℕ) → sections room xs ≡ Err (deep left) →
     (front : List Terminal) (x : Terminal) (more : List Terminal) →
     xs ≡ front ++ x ∷ more → left ≡ suc (length more) → SomeTextBegins (suc (suc room)) (front ++ x ∷ [])
-deep_goes_on room xs left h front x more split here =
-    let first : FirstDeep AreSections room xs left = deep_of room xs left h in
-    let same = one_split first.front front (first.at ∷ first.rest) (x ∷ more) (sym first.split ∙ split) (sym first.place ∙ here) in
-    let at : first.at ≡ x = first_of first.at x first.rest more same.1 in
-    rw (← same.0, ← at) (first.goes_on.ending, first.goes_on.value, first.goes_on.derives)
+deep_goes_on room = first.deep_goes_on (sections_exact room)

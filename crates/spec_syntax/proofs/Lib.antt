@@ -7,5 +7,8 @@ pub mod ExactTerms
 pub mod ExactPrefixes
 pub mod ExactFormulas
 pub mod ExactSections
+pub mod ExactDeclarations
 pub mod ReadLoops
+pub mod FirstFaults
 pub mod Faults
+pub mod DeclarationLaws

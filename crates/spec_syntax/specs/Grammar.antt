@@ -2,7 +2,7 @@
 -- how many levels there may be below it, so that the grammar with levels up to 200 has room 200 at level 0, and the
 -- grammar without a bound is that of any room.
 -- The grammar is that of tsltools' specification format, in this project's profile.
-use Rattle.std.specs.Prelude.{◌≡◌, ℕ, suc, List, [], ◌∷◌, ◌++◌, Option, Some, None}
+use Rattle.std.specs.Prelude.{◌≡◌, ℕ, suc, List, [], ◌∷◌, ◌++◌, map, Option, Some, None}
 use Rattle.tsl_text.specs.declared.TokenKind.TheVariants.{
   OpenBrace,
   CloseBrace,
@@ -11,6 +11,7 @@ use Rattle.tsl_text.specs.declared.TokenKind.TheVariants.{
   OpenSquare,
   CloseSquare,
   Semicolon,
+  Equals,
   Not,
   And,
   Or,
@@ -48,6 +49,10 @@ use Rattle.spec_syntax.specs.Syntax.{
   between,
   join,
   SectionSyntax,
+  Definition,
+  Declaration,
+  the_section,
+  the_definition,
 }
 
 -- the operators `!`, `X`, `F` and `G`
@@ -181,3 +186,17 @@ pub data AreSections : ℕ → List Terminal → List SectionSyntax → Type 0 w
   no_section : {room : ℕ} → AreSections room [] []
   section : {room : ℕ} {xs ys : List Terminal} {s : SectionSyntax} {ss : List SectionSyntax} →
       IsSection room xs s → AreSections room ys ss → AreSections room (xs ++ ys) (s ∷ ss)
+
+-- definition = name name* "=" formula(0) ";"
+pub data IsDefinition : ℕ → List Terminal → Definition → Type 0 where
+  equation : {room : ℕ} {xs : List Terminal} {a : FormulaSyntax} (x : List ℕ) (ps : List (List ℕ)) → IsFormula room xs a →
+      IsDefinition room (free x ∷ (map free ps ++ mark Equals ∷ (xs ++ mark Semicolon ∷ [])))
+      (record { name = x; parameters = ps; body = a })
+
+-- declarations = (section | definition)*. The second list of terminals are those of the sections alone.
+pub data AreDeclarations : ℕ → List Terminal → List Terminal → List Declaration → Type 0 where
+  no_declaration : {room : ℕ} → AreDeclarations room [] [] []
+  a_section : {room : ℕ} {xs ys own : List Terminal} {s : SectionSyntax} {ds : List Declaration} →
+      IsSection room xs s → AreDeclarations room ys own ds → AreDeclarations room (xs ++ ys) (xs ++ own) (the_section s ∷ ds)
+  a_definition : {room : ℕ} {xs ys own : List Terminal} {d : Definition} {ds : List Declaration} →
+      IsDefinition room xs d → AreDeclarations room ys own ds → AreDeclarations room (xs ++ ys) own (the_definition d ∷ ds)

@@ -14,6 +14,7 @@ use Rattle.tsl_text.specs.declared.TokenKind.TheVariants.{
   Arrow,
   BothArrow,
   LeftArrow,
+  Equals,
 }
 use Rattle.token_readers.specs.Readers.{Answer, Reader, form_at, deep_at, closed_by, and_then, map_read, iterate, members, below}
 use Rattle.token_readers.specs.Readers.{found_or_wrong}
@@ -26,7 +27,7 @@ use Rattle.tsl_terms.specs.declared.operator.ManyOperator.TheVariants.{Conjuncti
 use Rattle.spec_syntax.specs.declared.syntax.ArrowKind.{ArrowKind}
 use Rattle.spec_syntax.specs.declared.syntax.ArrowKind.TheVariants.{Single, Double}
 use Rattle.spec_syntax.specs.declared.syntax.Closer.{Closer}
-use Rattle.spec_syntax.specs.declared.syntax.Closer.TheVariants.{Round, Square, Brace}
+use Rattle.spec_syntax.specs.declared.syntax.Closer.TheVariants.{Round, Square, Brace, Equals as EqualsAfter, Semicolon as SemicolonAfter}
 use Rattle.spec_syntax.specs.declared.syntax.Part.{Part}
 use Rattle.spec_syntax.specs.declared.syntax.Part.TheVariants.{AssumeFirst, AssumeAlways, GuaranteeFirst, GuaranteeAlways}
 use Rattle.spec_syntax.specs.Syntax.{
@@ -51,6 +52,10 @@ use Rattle.spec_syntax.specs.Syntax.{
   between,
   join,
   SectionSyntax,
+  Definition,
+  Declaration,
+  the_section,
+  the_definition,
 }
 use Rattle.spec_syntax.specs.Grammar.{unary_of, temporal_of}
 
@@ -66,11 +71,21 @@ abbrev pub is_close_brace : Terminal → Bool
 is_close_brace (mark CloseBrace) = true
 is_close_brace _ = false
 
--- whether the terminal closes brackets of this kind
+abbrev pub is_equals : Terminal → Bool
+is_equals (mark Equals) = true
+is_equals _ = false
+
+abbrev pub is_semicolon : Terminal → Bool
+is_semicolon (mark Semicolon) = true
+is_semicolon _ = false
+
+-- whether the terminal is what closes a form so
 abbrev pub closes : Closer → Terminal → Bool
 closes Round = is_close_round
 closes Square = is_close_square
 closes Brace = is_close_brace
+closes EqualsAfter = is_equals
+closes SemicolonAfter = is_semicolon
 
 -- the readers of one level: of the forms on the right of an arrow too
 pub record Level : Type 0 where
@@ -365,3 +380,37 @@ section room (x ∷ xs) = Some (section_at room (x ∷ xs))
 -- the sections of a text
 unfoldable pub sections : ℕ → Reader Terminal (List SectionSyntax)
 sections room = members (section room)
+
+-- the name at the front, unless none stands there
+unfoldable pub name_at : List Terminal → Option (Answer Terminal (List ℕ))
+name_at (free x ∷ rest) = Some (Ok (x, rest))
+name_at _ = None
+
+-- the parameters of a definition, and the `=` behind them
+unfoldable pub parameters : Reader Terminal (List (List ℕ))
+parameters xs = closed_by is_equals (members name_at) xs
+
+-- what a definition stands for, and the `;` behind it
+unfoldable pub body : ℕ → Reader Terminal FormulaSyntax
+body room xs = closed_by is_semicolon (formula_with (lower room)) xs
+
+abbrev pub definition_made : List ℕ → List (List ℕ) → FormulaSyntax → Definition
+definition_made x ps a = record { name = x; parameters = ps; body = a }
+
+-- a definition after its name
+unfoldable pub definition : ℕ → List ℕ → Reader Terminal Definition
+definition room x xs = and_then (parameters xs) (λ ps ys. map_read (definition_made x ps) (body room ys))
+
+-- a definition where a name begins, and else a section
+unfoldable pub declaration_at : ℕ → Reader Terminal Declaration
+declaration_at room (free x ∷ rest) = map_read the_definition (definition room x rest)
+declaration_at room xs = map_read the_section (section_at room xs)
+
+-- the declaration at the front, unless the text ends here
+unfoldable pub declaration : ℕ → List Terminal → Option (Answer Terminal Declaration)
+declaration room [] = None
+declaration room (x ∷ xs) = Some (declaration_at room (x ∷ xs))
+
+-- the sections and definitions of a text
+unfoldable pub declarations : ℕ → Reader Terminal (List Declaration)
+declarations room = members (declaration room)

@@ -97,3 +97,20 @@ join op f (g ∷ gs) = joined op (more_formulas f (listed_formulas (g ∷ gs)))
 pub record SectionSyntax : Type 0 where
   pub part : Part
   pub formulas : List FormulaSyntax
+
+-- a definition: the defined name, its parameters, and the formula that the name stands for
+pub record Definition : Type 0 where
+  pub name : List ℕ
+  pub parameters : List (List ℕ)
+  pub body : FormulaSyntax
+
+-- what a text is made of: sections and definitions
+pub data Declaration : Type 0 where
+  the_section : SectionSyntax → Declaration
+  the_definition : Definition → Declaration
+
+-- the sections among declarations, in order
+abbrev pub sections_among : List Declaration → List SectionSyntax
+sections_among [] = []
+sections_among (the_section s ∷ ds) = s ∷ sections_among ds
+sections_among (the_definition d ∷ ds) = sections_among ds

@@ -15,9 +15,13 @@ use Rattle.spec_syntax.specs.declared.trees.ReadFormula.TheVariants.{True, False
 use Rattle.spec_syntax.specs.declared.trees.ReadFormulas.{ReadFormulas}
 use Rattle.spec_syntax.specs.declared.trees.ReadFormulas.TheVariants.{Empty, More'}
 use Rattle.spec_syntax.specs.declared.trees.ReadSection.{ReadSection}
+use Rattle.spec_syntax.specs.declared.trees.ReadEquation.{ReadEquation}
+use Rattle.spec_syntax.specs.declared.trees.ReadDeclaration.{ReadDeclaration}
+use Rattle.spec_syntax.specs.declared.trees.ReadDeclaration.TheVariants.{Section, Definition as DefinitionOf}
 use Rattle.spec_syntax.specs.Syntax.{Terminal, free, word, mark, TermSyntax, alone, applied, grouped_term, TermsSyntax, no_terms}
 use Rattle.spec_syntax.specs.Syntax.{more_terms, FormulaSyntax, truth, falsehood, bare, tested, updated, grouped, under, between, joined}
 use Rattle.spec_syntax.specs.Syntax.{FormulasSyntax, no_formulas, more_formulas, SectionSyntax}
+use Rattle.spec_syntax.specs.Syntax.{Definition, Declaration, the_section, the_definition}
 use Rattle.token_readers.specs.Readers.{Answer, Reader, form, deep}
 
 abbrev pub terminal_view : LentTerminal → Terminal
@@ -59,6 +63,16 @@ section_syntax s = record { part = s.part; formulas = map formula_syntax s.formu
 
 abbrev pub sections_syntax : Vec ReadSection Global → List SectionSyntax
 sections_syntax sections = map section_syntax sections.items
+
+abbrev pub equation_syntax : ReadEquation → Definition
+equation_syntax d = record { name = d.name.now; parameters = map (λ p. p.now) d.parameters.items; body = formula_syntax d.body }
+
+abbrev pub declaration_syntax : ReadDeclaration → Declaration
+declaration_syntax (Section s) = the_section (section_syntax s)
+declaration_syntax (DefinitionOf d) = the_definition (equation_syntax d)
+
+abbrev pub declarations_syntax : Vec ReadDeclaration Global → List Declaration
+declarations_syntax declarations = map declaration_syntax declarations.items
 
 -- the fault is the answer's, unless memory ran out
 abbrev pub HasSyntaxFault : {V : Type 0} → Answer Terminal V → ReadFault → Type 0

@@ -2,8 +2,8 @@
 use Rattle.std.specs.Prelude.{ℕ, List, ◌++◌, map}
 use Rattle.tsl_text.specs.declared.Token.{Token}
 use Rattle.tsl_text.specs.Lexeme.{lexeme_of}
-use Rattle.spec_syntax.specs.Syntax.{Terminal, terminal_of, SectionSyntax}
-use Rattle.spec_syntax.specs.Grammar.{AreSections}
+use Rattle.spec_syntax.specs.Syntax.{Terminal, terminal_of, SectionSyntax, Declaration}
+use Rattle.spec_syntax.specs.Grammar.{AreSections, AreDeclarations}
 
 abbrev pub terminal_at : List ℕ → Token → Terminal
 terminal_at text token = terminal_of (lexeme_of text token)
@@ -23,3 +23,19 @@ NoTextBegins room front = (rest : List Terminal) (sections : List SectionSyntax)
 -- the terminals are no text of the grammar with this room
 abbrev pub IsNoText : ℕ → List Terminal → Type 0
 IsNoText room xs = (sections : List SectionSyntax) → AreSections room xs sections → ⊥
+
+-- the terminals are a text of sections and definitions, these ones
+abbrev pub IsText : ℕ → List Terminal → List Declaration → Type 0
+IsText room xs declarations = (own : List Terminal) × AreDeclarations room xs own declarations
+
+-- some text of sections and definitions begins with these terminals
+abbrev pub SomeDeclarationsBegin : ℕ → List Terminal → Type 0
+SomeDeclarationsBegin room front = (rest : List Terminal) × (declarations : List Declaration) × IsText room (front ++ rest) declarations
+
+-- none does
+abbrev pub NoDeclarationsBegin : ℕ → List Terminal → Type 0
+NoDeclarationsBegin room front = (rest : List Terminal) (declarations : List Declaration) → IsText room (front ++ rest) declarations → ⊥
+
+-- the terminals are no text of sections and definitions
+abbrev pub AreNoDeclarations : ℕ → List Terminal → Type 0
+AreNoDeclarations room xs = (declarations : List Declaration) → IsText room xs declarations → ⊥

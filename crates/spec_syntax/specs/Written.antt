@@ -1,5 +1,5 @@
 -- The terminals that a tree is written with.
-use Rattle.std.specs.Prelude.{List, [], ◌∷◌, ◌++◌}
+use Rattle.std.specs.Prelude.{ℕ, List, [], ◌∷◌, ◌++◌, flat_map}
 use Rattle.tsl_text.specs.declared.TokenKind.TheVariants.{OpenRound, CloseRound, OpenSquare, CloseSquare, Not, And, Or, Arrow, BothArrow, LeftArrow}
 use Rattle.spec_syntax.specs.declared.syntax.Word.TheVariants.{True, False, X, F, G, U, W, R}
 use Rattle.tsl_terms.specs.declared.operator.UnaryOperator.{UnaryOperator}
@@ -9,6 +9,7 @@ use Rattle.tsl_terms.specs.declared.operator.BinaryOperator.TheVariants.{Implica
 use Rattle.tsl_terms.specs.declared.operator.ManyOperator.{ManyOperator}
 use Rattle.tsl_terms.specs.declared.operator.ManyOperator.TheVariants.{Conjunction, Disjunction}
 use Rattle.spec_syntax.specs.Syntax.{Terminal, free, word, mark, TermSyntax, alone, applied, grouped_term, TermsSyntax, no_terms, more_terms, FormulaSyntax, truth, falsehood, bare, tested, updated, grouped, under, between, joined, FormulasSyntax, no_formulas, more_formulas}
+use Rattle.spec_syntax.specs.Syntax.{SectionSyntax, Declaration, the_section, the_definition}
 use Rattle.spec_syntax.specs.Grammar.{in_brackets}
 
 -- the terminals of the operators
@@ -65,3 +66,19 @@ abbrev mutual
   pub written_further : ManyOperator → FormulasSyntax → List Terminal
   written_further op no_formulas = []
   written_further op (more_formulas f fs) = sign_many op ∷ (written f ++ written_further op fs)
+
+-- the names among terminals, in order
+abbrev pub free_texts : List Terminal → List (List ℕ)
+free_texts [] = []
+free_texts (free x ∷ rest) = x ∷ free_texts rest
+free_texts (word w ∷ rest) = free_texts rest
+free_texts (mark m ∷ rest) = free_texts rest
+
+-- the names of a section in the order of its text
+abbrev pub section_texts : SectionSyntax → List (List ℕ)
+section_texts s = flat_map (λ a. free_texts (written a)) s.formulas
+
+-- and those of a definition: its own, its parameters, and then those of its body
+abbrev pub declaration_texts : Declaration → List (List ℕ)
+declaration_texts (the_section s) = section_texts s
+declaration_texts (the_definition d) = d.name ∷ (d.parameters ++ free_texts (written d.body))

@@ -1,13 +1,16 @@
 //! Laws of the grammar and its reading functions.
 
-ghost use Rattle.std.specs.Prelude.{◌≡◌, ℕ, suc, ◌+◌, ◌≤◌, List, [], ◌∷◌, ◌++◌, length, Ok, Err};
+ghost use Rattle.std.specs.Prelude.{◌≡◌, ℕ, suc, ◌+◌, ◌≤◌, List, [], ◌∷◌, ◌++◌, length, map, flat_map};
+ghost use Rattle.std.specs.Prelude.{Ok, Err};
 ghost use Rattle.token_readers.specs.Readers.{form, deep};
-ghost use Rattle.spec_syntax.specs.Syntax.{Terminal, FormulaSyntax, SectionSyntax};
-ghost use Rattle.spec_syntax.specs.Grammar.{IsFormula, AreSections};
-ghost use Rattle.spec_syntax.specs.Written.{written};
+ghost use Rattle.spec_syntax.specs.Syntax.{Terminal, FormulaSyntax, SectionSyntax, Declaration};
+ghost use Rattle.spec_syntax.specs.Syntax.{the_section, sections_among};
+ghost use Rattle.spec_syntax.specs.Grammar.{IsFormula, AreSections, AreDeclarations};
+ghost use Rattle.spec_syntax.specs.Written.{written, free_texts, section_texts, declaration_texts};
 ghost use Rattle.spec_syntax.specs.Levels.{depth};
-ghost use Rattle.spec_syntax.specs.Reading.{sections};
-ghost use Rattle.spec_syntax.specs.Texts.{SomeTextBegins, NoTextBegins, IsNoText};
+ghost use Rattle.spec_syntax.specs.Reading.{sections, declarations};
+ghost use Rattle.spec_syntax.specs.Texts.{SomeTextBegins, NoTextBegins, IsNoText, IsText};
+ghost use Rattle.spec_syntax.specs.Texts.{SomeDeclarationsBegin, NoDeclarationsBegin, AreNoDeclarations};
 
 /// A text of the grammar derives in one way, and it is one with more levels too, in the same way.
 pub fn grammar_has_one_reading()
@@ -59,4 +62,70 @@ pub fn deep_faults_are_the_first()
     ensures goes_on { (room : ℕ) (front : List Terminal) (x : Terminal) (more : List Terminal)
         → sections room (front ++ x ∷ more) ≡ Err (deep (suc (length more)))
         → SomeTextBegins (suc (suc room)) (front ++ x ∷ []) }
+{}
+
+/// A text of sections and definitions derives in one way, its sections from one list of terminals of
+/// their own; and it is a text with more levels too, in the same way.
+pub fn declarations_have_one_reading()
+    ensures one { (room : ℕ) (xs own other : List Terminal) (a b : List Declaration)
+        → AreDeclarations room xs own a → AreDeclarations room xs other b → a ≡ b }
+    ensures own { (room : ℕ) (xs own other : List Terminal) (a b : List Declaration)
+        → AreDeclarations room xs own a → AreDeclarations room xs other b → own ≡ other }
+    ensures more { (more room : ℕ) (xs own : List Terminal) (a : List Declaration)
+        → AreDeclarations room xs own a → AreDeclarations (more + room) xs own a }
+{}
+
+/// The sections of a text derive from the terminals of their own. A text without a definition is its
+/// sections, and sections are such a text.
+pub fn sections_stand_alone()
+    ensures derived { (room : ℕ) (xs own : List Terminal) (a : List Declaration)
+        → AreDeclarations room xs own a → AreSections room own (sections_among a) }
+    ensures only { (room : ℕ) (xs own : List Terminal) (a : List SectionSyntax)
+        → AreDeclarations room xs own (map the_section a)
+        → (own ≡ xs) × AreSections room xs a }
+    ensures all { (room : ℕ) (xs : List Terminal) (a : List SectionSyntax) → AreSections room xs a
+        → AreDeclarations room xs xs (map the_section a) }
+{}
+
+/// What is read of a text tells its names in their order, and so do the sections for the terminals of
+/// their own.
+pub fn declarations_tell_their_names()
+    ensures whole { (room : ℕ) (xs own : List Terminal) (a : List Declaration)
+        → AreDeclarations room xs own a → free_texts xs ≡ flat_map declaration_texts a }
+    ensures own { (room : ℕ) (xs own : List Terminal) (a : List Declaration)
+        → AreDeclarations room xs own a
+        → free_texts own ≡ flat_map section_texts (sections_among a) }
+{}
+
+/// The reading functions read exactly the texts of sections and definitions.
+pub fn reading_meets_declarations()
+    ensures derived { (room : ℕ) (xs : List Terminal) (a : List Declaration) (rest : List Terminal)
+        → declarations room xs ≡ Ok (a, rest) → (rest ≡ []) × IsText room xs a }
+    ensures read { (room : ℕ) (xs : List Terminal) (a : List Declaration) → IsText room xs a
+        → declarations room xs ≡ Ok (a, []) }
+{}
+
+/// A form fault is the first one among sections and definitions too.
+pub fn form_faults_of_declarations_are_the_first()
+    ensures begins { (room : ℕ) (front rest : List Terminal)
+        → declarations room (front ++ rest) ≡ Err (form (length rest))
+        → SomeDeclarationsBegin room front }
+    ensures stops { (room : ℕ) (front : List Terminal) (x : Terminal) (more : List Terminal)
+        → declarations room (front ++ x ∷ more) ≡ Err (form (suc (length more)))
+        → (any : ℕ) → NoDeclarationsBegin any (front ++ x ∷ []) }
+    ensures at_end { (room : ℕ) (xs : List Terminal) → declarations room xs ≡ Err (form 0)
+        → (any : ℕ) → AreNoDeclarations any xs }
+{}
+
+/// And so is a level too many.
+pub fn deep_faults_of_declarations_are_the_first()
+    ensures begins { (room : ℕ) (front : List Terminal) (x : Terminal) (more : List Terminal)
+        → declarations room (front ++ x ∷ more) ≡ Err (deep (suc (length more)))
+        → SomeDeclarationsBegin room front }
+    ensures stops { (room : ℕ) (front : List Terminal) (x : Terminal) (more : List Terminal)
+        → declarations room (front ++ x ∷ more) ≡ Err (deep (suc (length more)))
+        → NoDeclarationsBegin room (front ++ x ∷ []) }
+    ensures goes_on { (room : ℕ) (front : List Terminal) (x : Terminal) (more : List Terminal)
+        → declarations room (front ++ x ∷ more) ≡ Err (deep (suc (length more)))
+        → SomeDeclarationsBegin (suc (suc room)) (front ++ x ∷ []) }
 {}

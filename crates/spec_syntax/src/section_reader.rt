@@ -3,11 +3,17 @@
 ghost use Rattle.std.specs.Prelude.{◌≡◌, ◌<◌, ℕ, List, ◌∷◌, length, map, None, Some, Ok, IfOk};
 ghost use Rattle.std.specs.Prelude.{IfErr, IfSome, IfNone};
 ghost use Rattle.tsl_text.specs.declared.TokenKind.TheVariants.{Semicolon};
-ghost use Rattle.spec_syntax.specs.Syntax.{mark, FormulaSyntax};
+ghost use Rattle.spec_syntax.specs.Syntax.{mark, FormulaSyntax, the_section};
 ghost use Rattle.spec_syntax.specs.Reading.{item, item_last, begins_item, formulas, items, side};
 ghost use Rattle.spec_syntax.specs.Reading.{section_at, section, sections};
+ghost use Rattle.spec_syntax.specs.Reading.{name_at, parameters, body, definition};
+ghost use Rattle.spec_syntax.specs.Reading.{declaration_at, declaration, declarations};
 ghost use Rattle.spec_syntax.specs.SyntaxView.{terminals_view, section_syntax};
-ghost use Rattle.spec_syntax.specs.internal.InnerView.{listed_syntax};
+ghost use Rattle.spec_syntax.specs.SyntaxView.{formula_syntax, equation_syntax};
+ghost use Rattle.spec_syntax.specs.SyntaxView.{declaration_syntax};
+ghost use Rattle.spec_syntax.specs.SyntaxView.{declarations_syntax};
+ghost use Rattle.token_readers.specs.Readers.{members, map_read};
+ghost use Rattle.spec_syntax.specs.internal.InnerView.{listed_syntax, name_text, names_syntax};
 ghost use Rattle.spec_syntax.specs.SyntaxView.{sections_syntax};
 ghost use Rattle.spec_syntax.specs.SyntaxView.{Reads};
 ghost use Rattle.spec_syntax.specs.internal.InnerView.{HasFaultOfMember};
@@ -17,7 +23,7 @@ use crate::formulas::{Form, form_with};
 use crate::syntax::{Closer, Part, Word};
 use crate::terminal::{Left, Terminal};
 use crate::terms::{Answer, close};
-use crate::trees::{ReadFormula, ReadSection};
+use crate::trees::{ReadDeclaration, ReadEquation, ReadFormula, ReadSection};
 use std::alloc::Global;
 use tsl_text::TokenKind;
 
@@ -159,4 +165,142 @@ pub fn sections<'a, 'b>(
         left = Left { terminals: rest };
     }
     Ok((sections, left.terminals))
+}
+
+/// The name at the front, unless none stands there.
+#[tactic(auto, unfolding(crate::specs::Reading::name_at))]
+fn name_at<'a, 'b>(xs: &'b [Terminal<'a>]) -> Option<(&'a [u8], &'b [Terminal<'a>])>
+    ensures some { IfSome result (λ read. name_at (terminals_view xs.now)
+        ≡ Some (Ok (read.0.now, terminals_view read.1.now))) }
+    ensures none { IfNone result (name_at (terminals_view xs.now) ≡ None) }
+{
+    match xs {
+        [Terminal::Free(name), rest @ ..] => Some((*name, rest)),
+        _ => None,
+    }
+}
+
+/// The names at the front.
+fn names<'a, 'b>(alloc: Global, xs: &'b [Terminal<'a>]) -> Answer<'a, 'b, Vec<&'a [u8]>>
+    ensures { Reads names_syntax (members name_at) xs.now result }
+{
+    let mut names = Vec::new(alloc);
+    let mut left = Left { terminals: xs };
+    while let Some((name, rest)) = name_at(left.terminals) {
+        names.push(name)?;
+        left = Left { terminals: rest };
+    }
+    Ok((names, left.terminals))
+}
+
+/// The parameters of a definition, and the equals sign behind them.
+#[tactic(auto, unfolding(crate::specs::Reading::parameters))]
+fn parameters<'a, 'b>(alloc: Global, xs: &'b [Terminal<'a>]) -> Answer<'a, 'b, Vec<&'a [u8]>>
+    ensures { Reads names_syntax parameters xs.now result }
+{
+    let (names, rest) = names(alloc, xs)?;
+    let (_, rest) = close(Closer::Equals, rest)?;
+    Ok((names, rest))
+}
+
+/// What a definition stands for, and the semicolon behind it.
+#[tactic(auto, unfolding(crate::specs::Reading::body))]
+fn body<'a, 'b>(alloc: Global, room: u32, xs: &'b [Terminal<'a>]) -> Answer<'a, 'b, ReadFormula<'a>>
+    ensures { Reads formula_syntax (body room) xs.now result }
+{
+    let (formula, rest) = form_with(alloc, room, Form::Formula, xs)?;
+    let (_, rest) = close(Closer::Semicolon, rest)?;
+    Ok((formula, rest))
+}
+
+/// A definition after its name.
+#[tactic(auto, unfolding(crate::specs::Reading::definition))]
+fn definition<'a, 'b>(
+    alloc: Global,
+    room: u32,
+    name: &'a [u8],
+    xs: &'b [Terminal<'a>],
+) -> Answer<'a, 'b, ReadEquation<'a>>
+    ensures { Reads equation_syntax (definition room name.now) xs.now result }
+{
+    let (parameters, rest) = parameters(alloc, xs)?;
+    let (body, rest) = body(alloc, room, rest)?;
+    let definition = ReadEquation {
+        name,
+        parameters,
+        body,
+    };
+    Ok((definition, rest))
+}
+
+/// A section, as a declaration.
+fn section_declared<'a, 'b>(
+    alloc: Global,
+    room: u32,
+    xs: &'b [Terminal<'a>],
+) -> Answer<'a, 'b, ReadDeclaration<'a>>
+    ensures { Reads declaration_syntax (λ ys. map_read the_section (section_at room ys)) xs.now result }
+{
+    let (section, rest) = section_at(alloc, room, xs)?;
+    Ok((ReadDeclaration::Section(section), rest))
+}
+
+/// A definition where a name begins, and else a section.
+#[tactic(auto, unfolding(crate::specs::Reading::declaration_at))]
+fn declaration_at<'a, 'b>(
+    alloc: Global,
+    room: u32,
+    xs: &'b [Terminal<'a>],
+) -> Answer<'a, 'b, ReadDeclaration<'a>>
+    ensures { Reads declaration_syntax (declaration_at room) xs.now result }
+{
+    match xs {
+        [Terminal::Free(name), rest @ ..] => {
+            let (definition, rest) = definition(alloc, room, *name, rest)?;
+            Ok((ReadDeclaration::Definition(definition), rest))
+        }
+        _ => section_declared(alloc, room, xs),
+    }
+}
+
+/// The declaration at the front, unless the text ends here.
+#[tactic(auto, unfolding(crate::specs::Reading::declaration))]
+fn declaration<'a, 'b>(
+    alloc: Global,
+    room: u32,
+    xs: &'b [Terminal<'a>],
+) -> Result<Option<(ReadDeclaration<'a>, &'b [Terminal<'a>])>, ReadFault>
+    ensures some { IfOk result (λ found. IfSome found (λ read.
+        declaration room (terminals_view xs.now)
+        ≡ Some (Ok (declaration_syntax read.0, terminals_view read.1.now)))) }
+    ensures none { IfOk result (λ found.
+        IfNone found (declaration room (terminals_view xs.now) ≡ None)) }
+    ensures fault { IfErr result
+        (HasFaultOfMember (declaration room (terminals_view xs.now))) }
+{
+    if xs.is_empty() {
+        return Ok(None);
+    }
+    let read = declaration_at(alloc, room, xs)?;
+    Ok(Some(read))
+}
+
+/// The sections and definitions of a text, in order. It answers an `Ok` only where the text is these
+/// and nothing else. An `Err` has the first fault of the form or of a level above `room`, by how many
+/// terminals are left from it on, or says that memory ran out.
+#[tactic(auto, unfolding(crate::specs::Reading::declarations))]
+pub fn declarations<'a, 'b>(
+    alloc: Global,
+    room: u32,
+    xs: &'b [Terminal<'a>],
+) -> Answer<'a, 'b, Vec<ReadDeclaration<'a>>>
+    ensures { Reads declarations_syntax (declarations room) xs.now result }
+{
+    let mut declarations = Vec::new(alloc);
+    let mut left = Left { terminals: xs };
+    while let Some((declaration, rest)) = declaration(alloc, room, left.terminals)? {
+        declarations.push(declaration)?;
+        left = Left { terminals: rest };
+    }
+    Ok((declarations, left.terminals))
 }

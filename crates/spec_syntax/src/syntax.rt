@@ -53,7 +53,7 @@ pub enum Part {
     GuaranteeAlways,
 }
 
-/// A kind of closing bracket.
+/// What closes a form.
 #[derive(Clone, Copy)]
 pub(crate) enum Closer {
     /// `)`
@@ -62,4 +62,8 @@ pub(crate) enum Closer {
     Square,
     /// `}`
     Brace,
+    /// `=`, behind the parameters of a definition.
+    Equals,
+    /// `;`, behind what a definition stands for.
+    Semicolon,
 }

@@ -64,7 +64,7 @@ pub(crate) fn level_below(room: u32, xs: &[Terminal]) -> Result<u32, ReadFault>
     }
 }
 
-/// Whether the terminal closes brackets of this kind.
+/// Whether the terminal is what closes a form so.
 fn closes(closer: Closer, terminal: &Terminal) -> bool
     ensures { result ≡ closes closer (terminal_view terminal.now) }
 {
@@ -72,10 +72,12 @@ fn closes(closer: Closer, terminal: &Terminal) -> bool
         Closer::Round => matches!(terminal, Terminal::Mark(TokenKind::CloseRound)),
         Closer::Square => matches!(terminal, Terminal::Mark(TokenKind::CloseSquare)),
         Closer::Brace => matches!(terminal, Terminal::Mark(TokenKind::CloseBrace)),
+        Closer::Equals => matches!(terminal, Terminal::Mark(TokenKind::Equals)),
+        Closer::Semicolon => matches!(terminal, Terminal::Mark(TokenKind::Semicolon)),
     }
 }
 
-/// The closing bracket.
+/// What closes a form.
 pub(crate) fn close<'a, 'b>(closer: Closer, xs: &'b [Terminal<'a>]) -> Answer<'a, 'b, ()>
     ensures { Reads (λ _. tt {0}) (closing (closes closer) (tt {0})) xs.now result }
 {

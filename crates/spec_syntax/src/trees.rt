@@ -130,3 +130,23 @@ pub struct ReadSection<'a> {
     /// Its formulas, in order.
     pub formulas: Vec<ReadFormula<'a>>,
 }
+
+/// A definition as it is read: the defined name, its parameters in order, and what it stands for.
+#[derive(Drop)]
+pub struct ReadEquation<'a> {
+    /// The defined name.
+    pub name: &'a [u8],
+    /// Its parameters, in order.
+    pub parameters: Vec<&'a [u8]>,
+    /// The formula that it stands for.
+    pub body: ReadFormula<'a>,
+}
+
+/// What a text is made of.
+#[derive(Drop)]
+pub enum ReadDeclaration<'a> {
+    /// A section.
+    Section(ReadSection<'a>),
+    /// A definition.
+    Definition(ReadEquation<'a>),
+}

@@ -2,6 +2,7 @@
 -- What stands in between while a text is read, without where it lies in memory.
 use Rattle.std.specs.Prelude.{◌≡◌, ℕ, List, map, codes, Option, Some, None, option_map, Err, Vec, if◌then◌else◌}
 use Rattle.std.specs.Str.{bytes_eq}
+use Rattle.std.specs.Borrow.{Bor}
 use Rattle.std.specs.declared.alloc.Global.{Global}
 use Rattle.token_readers.specs.Readers.{Answer, Reader, form, deep}
 use Rattle.spec_syntax.specs.declared.fault.ReadFault.{ReadFault}
@@ -18,6 +19,12 @@ use Rattle.spec_syntax.specs.SyntaxView.{term_syntax, formula_syntax}
 
 abbrev pub FormulaReader : Type 0
 FormulaReader = Reader Terminal FormulaSyntax
+
+abbrev pub name_text : Bor (List ℕ) → List ℕ
+name_text name = name.now
+
+abbrev pub names_syntax : Vec (Bor (List ℕ)) Global → List (List ℕ)
+names_syntax names = map name_text names.items
 
 abbrev pub listed_syntax : Vec ReadFormula Global → List FormulaSyntax
 listed_syntax formulas = map formula_syntax formulas.items

@@ -1,0 +1,271 @@
+-- Sections and definitions, in any order, are read exactly.
+use Rattle.std.proofs.Common.{◌≡◌, ℕ, suc, ◌<◌, ◌+◌, Bool, true, false, List, [], ◌∷◌, ◌++◌, map, refl, ap, sym, ◌∙◌, append_assoc, arith}
+use Rattle.std.proofs.lemmas.List.{append-nil}
+use Rattle.std.specs.Prelude.{Some, None, Ok}
+use Rattle.tsl_text.specs.declared.TokenKind.TheVariants.{Equals, Semicolon}
+use Rattle.token_readers.specs.Readers.{found_or_wrong, push}
+use Rattle.token_readers.specs.Exact.{Grammar, Before, Begins, Exact}
+use Rattle.token_readers.proofs.Runs.{exact_map, exact_as}
+use Rattle.token_readers.proofs.Then.{Any, IsThen, exact_then, lift_then, IsClosed, lift_closed, closed_exact}
+use Rattle.token_readers.proofs.Terminals.{Turn, turn_alone, turn_takes, turn_as}
+use Rattle.token_readers.proofs.Iterates.{Shrinks, step_shrinks, no_step_left, taken}
+use Rattle.token_readers.proofs.Whole.{reads_all}
+use Rattle.token_readers.proofs.Lists.{AreAll, none, some, Member, stepping, members_exact}
+use Rattle.spec_syntax.specs.declared.syntax.Word.TheVariants.{True}
+use Rattle.spec_syntax.specs.Syntax.{Terminal, free, word, mark, FormulaSyntax, truth, SectionSyntax, Definition, Declaration, the_section, the_definition}
+use Rattle.spec_syntax.specs.Grammar.{IsFormula, chain, no_iff, no_imp, disjunction, no_disjunct, conjunction, no_conjunct, atom, true_atom}
+use Rattle.spec_syntax.specs.Grammar.{IsSection, IsDefinition, equation, AreDeclarations, no_declaration, a_section, a_definition}
+use Rattle.spec_syntax.specs.Reading.{is_equals, is_semicolon, lower, section_at, name_at, parameters, body}
+use Rattle.spec_syntax.specs.Reading.{definition_made, definition, declaration_at, declaration, declarations}
+use Rattle.spec_syntax.specs.Texts.{IsText}
+use Rattle.spec_syntax.proofs.Lift.{lift_formula, lift_section}
+use Rattle.spec_syntax.proofs.ExactTerms.{tie}
+use Rattle.spec_syntax.proofs.ExactFormulas.{formula_exact, below_exact}
+use Rattle.spec_syntax.proofs.ExactSections.{section_case, section_exact}
+
+-- ---- names
+
+abbrev IsName : Grammar Terminal (List ℕ)
+IsName r xs x = xs ≡ free x ∷ []
+
+abbrev is_name : Terminal → Bool
+is_name (free x) = true
+is_name _ = false
+
+abbrev NoName : Terminal → Type 0
+NoName x = is_name x ≡ false
+
+name_member : (room : ℕ) → Member IsName Any NoName room name_at is_name (λ xs. found_or_wrong (name_at xs) xs)
+unfolding name_at
+name_member room = record {
+  at_end = refl;
+  none = none_here;
+  some = some_here;
+  begins = λ r xs x h. (free x, [], h, refl);
+  lift = λ r xs x h. h;
+  follows = λ x e. tt;
+  stops = λ x e. e;
+  weaker = λ x h. tt;
+  turn = turn;
+} where
+  none_here : (x : Terminal) (rest : List Terminal) → is_name x ≡ false → name_at (x ∷ rest) ≡ None
+  none_here (free x) rest e = cc
+  none_here _ rest e = refl
+
+  some_here : (x : Terminal) (rest : List Terminal) → is_name x ≡ true →
+      name_at (x ∷ rest) ≡ Some (found_or_wrong (name_at (x ∷ rest)) (x ∷ rest))
+  some_here (free x) rest e = refl
+  some_here _ rest e = cc
+
+  turn : (x : Terminal) → is_name x ≡ true → Turn IsName Any room (λ xs. found_or_wrong (name_at xs) xs) x
+  turn (free x) e = turn_alone x (λ rest. refl) (λ r. refl) (λ r ys j h. (cc, cc))
+  turn _ e = cc
+
+pub name_shrinks : Shrinks (push name_at)
+name_shrinks = step_shrinks (stepping (name_member 0))
+
+more_names : (r : ℕ) (xs : List Terminal) (ps : List (List ℕ)) → AreAll IsName r xs ps → AreAll IsName (suc (suc r)) xs ps
+more_names r xs ps none = none
+more_names r xs ps (some {g = g} {vs = qs} h k) = some h (more_names r g qs k)
+
+names_are : (r : ℕ) (xs : List Terminal) (ps : List (List ℕ)) → AreAll IsName r xs ps → xs ≡ map free ps
+names_are r xs ps none = refl
+names_are r xs ps (some {g = g} {vs = qs} h k) = λ i. h i ++ names_are r g qs k i
+
+all_names : (r : ℕ) (ps : List (List ℕ)) → AreAll IsName r (map free ps) ps
+all_names r [] = none
+all_names r (p ∷ ps) = some {f = free p ∷ []} refl (all_names r ps)
+
+-- ---- definitions
+
+equals_no_name : (x : Terminal) → is_equals x ≡ true → is_name x ≡ false
+equals_no_name (free x) h = cc
+equals_no_name _ h = refl
+
+semicolon_loose : (x : Terminal) → is_semicolon x ≡ true → tie x < 1
+semicolon_loose (mark Semicolon) h = omega arith
+semicolon_loose _ h = cc
+
+equals_is : (x : Terminal) → is_equals x ≡ true → x ≡ mark Equals
+equals_is (mark Equals) h = refl
+equals_is _ h = cc
+
+semicolon_is : (x : Terminal) → is_semicolon x ≡ true → x ≡ mark Semicolon
+semicolon_is (mark Semicolon) h = refl
+semicolon_is _ h = cc
+
+abbrev IsParameters : Grammar Terminal (List (List ℕ))
+IsParameters = IsClosed is_equals (AreAll IsName)
+
+abbrev IsBody : Grammar Terminal FormulaSyntax
+IsBody = IsClosed is_semicolon IsFormula
+
+-- a body after these parameters
+abbrev WithBody : List ℕ → List (List ℕ) → Grammar Terminal Definition
+WithBody x ps r xs d = (a : FormulaSyntax) × IsBody r xs a × (d ≡ definition_made x ps a)
+
+-- a definition after its name
+abbrev IsAfterName : List ℕ → Grammar Terminal Definition
+IsAfterName x = IsThen IsParameters (WithBody x)
+
+parameters_exact : (room : ℕ) → Exact IsParameters Any room parameters
+unfolding parameters
+parameters_exact room = closed_exact is_equals (mark Equals) refl equals_no_name more_names (members_exact (name_member room))
+
+body_exact : (room : ℕ) → Exact IsBody Any room (body room)
+unfolding body
+body_exact room =
+    closed_exact is_semicolon (mark Semicolon) refl semicolon_loose (λ r xs f h. lift_formula (omega arith) h)
+    (formula_exact room (lower room) (below_exact room))
+
+some_formula : (r : ℕ) → IsFormula r (word True ∷ []) truth
+some_formula r =
+    chain (no_iff (no_imp (disjunction {xs = word True ∷ []} {ys = []} {a = truth} {fs = []}
+    (conjunction {xs = word True ∷ []} {ys = []} {a = truth} {fs = []} (atom true_atom) no_conjunct) no_disjunct)))
+
+-- what closes a form, behind it
+closed : {V : Type 0} (is : Terminal → Bool) (closer : Terminal) → is closer ≡ true → (Is : Grammar Terminal V) (r : ℕ) (xs : List Terminal) (v : V) →
+    Is r xs v → IsClosed is Is r (xs ++ closer ∷ []) v
+closed is closer e Is r xs v h =
+    record { value = v; front = xs; tail = closer ∷ []; split = refl; first = h; second = (closer, refl, e, refl) }
+
+opened : {V : Type 0} (is : Terminal → Bool) (closer : Terminal) → ((x : Terminal) → is x ≡ true → x ≡ closer) →
+    (Is : Grammar Terminal V) (r : ℕ) (xs : List Terminal) (v : V) →
+    IsClosed is Is r xs v → (front : List Terminal) × (xs ≡ front ++ closer ∷ []) × Is r front v
+opened is closer only Is r xs v h = (
+  h.front,
+  h.split ∙ ap (λ zs. h.front ++ zs) (h.second.1 ∙ ap (λ x. x ∷ []) (only h.second.0 h.second.2)),
+  rw h.second.3 h.first,
+)
+
+some_body : (x : List ℕ) (r : ℕ) (ps : List (List ℕ)) → Begins (WithBody x ps r) []
+some_body x r ps = record {
+  ending = word True ∷ mark Semicolon ∷ [];
+  value = definition_made x ps truth;
+  derives = (truth, closed is_semicolon (mark Semicolon) refl IsFormula r (word True ∷ []) truth (some_formula r), refl);
+}
+
+pub before_any : (xs : List Terminal) → Before Any xs
+before_any [] = tt
+before_any (x ∷ xs) = tt
+
+definition_exact : (room : ℕ) (x : List ℕ) → Exact (IsAfterName x) Any room (definition room x)
+unfolding definition
+definition_exact room x =
+    exact_then (record { lift = lift_closed is_equals (AreAll IsName) more_names; default = some_body x })
+    (λ r ps xs d h rest b. before_any (xs ++ rest)) (parameters_exact room)
+    (λ ps. exact_map (definition_made x ps) (λ r xs a h. (a, h, refl)) (λ r xs d h. h) (body_exact room))
+
+more_body : (x : List ℕ) (ps : List (List ℕ)) (r : ℕ) (xs : List Terminal) (d : Definition) → WithBody x ps r xs d →
+    WithBody x ps (suc (suc r)) xs d
+more_body x ps r xs d h =
+    (h.0, lift_closed is_semicolon IsFormula (λ q ys f k. lift_formula (omega arith) k) r xs h.0 h.1, h.2)
+
+more_definition : (x : List ℕ) (r : ℕ) (xs : List Terminal) (d : Definition) → IsAfterName x r xs d → IsAfterName x (suc (suc r)) xs d
+more_definition x = lift_then IsParameters (WithBody x) (lift_closed is_equals (AreAll IsName) more_names) (more_body x)
+
+is_definition : (x : List ℕ) (r : ℕ) (xs : List Terminal) (d : Definition) → IsAfterName x r xs d → IsDefinition r (free x ∷ xs) d
+is_definition x r xs d h =
+    let heads = opened is_equals (mark Equals) equals_is (AreAll IsName) r h.front h.value h.first in
+    let inner = opened is_semicolon (mark Semicolon) semicolon_is IsFormula r h.tail h.second.0 h.second.1 in
+    let split : xs ≡ map free h.value ++ mark Equals ∷ (inner.0 ++ mark Semicolon ∷ []) =
+    h.split ∙ (λ i. (heads.1 ∙ ap (λ ns. ns ++ mark Equals ∷ []) (names_are r heads.0 h.value heads.2)) i ++ inner.1 i)
+    ∙ append_assoc (map free h.value) (mark Equals ∷ []) (inner.0 ++ mark Semicolon ∷ []) in
+    rw (split, h.second.2) (equation x h.value inner.2)
+
+after_name : (x : List ℕ) (r : ℕ) (ps : List (List ℕ)) (xs : List Terminal) (a : FormulaSyntax) → IsFormula r xs a →
+    IsAfterName x r (map free ps ++ mark Equals ∷ (xs ++ mark Semicolon ∷ [])) (definition_made x ps a)
+after_name x r ps xs a h = record {
+  value = ps;
+  front = map free ps ++ mark Equals ∷ [];
+  tail = xs ++ mark Semicolon ∷ [];
+  split = sym (append_assoc (map free ps) (mark Equals ∷ []) (xs ++ mark Semicolon ∷ []));
+  first = closed is_equals (mark Equals) refl (AreAll IsName) r (map free ps) ps (all_names r ps);
+  second = (a, closed is_semicolon (mark Semicolon) refl IsFormula r xs a h, refl);
+}
+
+-- ---- declarations
+
+-- a definition where a name begins, and else a section
+abbrev pub IsDeclaration : Grammar Terminal Declaration
+IsDeclaration r (free x ∷ ys) p = (d : Definition) × IsAfterName x r ys d × (p ≡ the_definition d)
+IsDeclaration r xs p = (s : SectionSyntax) × IsSection r xs s × (p ≡ the_section s)
+
+pub section_declares : (r : ℕ) (xs : List Terminal) (s : SectionSyntax) → IsSection r xs s → IsDeclaration r xs (the_section s)
+section_declares r (free x ∷ ys) s h = absurd (section_case h)
+section_declares r [] s h = (s, h, refl)
+section_declares r _ s h = (s, h, refl)
+
+pub definition_declares : {r : ℕ} {xs : List Terminal} {d : Definition} → IsDefinition r xs d → IsDeclaration r xs (the_definition d)
+definition_declares {r = r} (equation {xs = xs} {a = a} x ps h) = (definition_made x ps a, after_name x r ps xs a h, refl)
+
+pub declaration_member : (room : ℕ) → Member IsDeclaration Any (λ x. ⊥) room (declaration room) (λ x. true) (declaration_at room)
+unfolding declaration declaration_at
+declaration_member room = record {
+  at_end = refl;
+  none = λ x rest e. cc;
+  some = λ x rest e. refl;
+  begins = begins;
+  lift = lift;
+  follows = λ x e. tt;
+  stops = λ x h. absurd h;
+  weaker = λ x h. tt;
+  turn = λ x e. turn x;
+} where
+  begins : (r : ℕ) (xs : List Terminal) (p : Declaration) → IsDeclaration r xs p → (x : Terminal) × (ys : List Terminal) × (xs ≡ x ∷ ys) × (true ≡ true)
+  begins r [] p h = absurd (section_case h.1)
+  begins r (x ∷ ys) p h = (x, ys, refl, refl)
+
+  lift : (r : ℕ) (xs : List Terminal) (p : Declaration) → IsDeclaration r xs p → IsDeclaration (suc (suc r)) xs p
+  lift r (free x ∷ ys) p h = (h.0, more_definition x r ys h.0 h.1, h.2)
+  lift r [] p h = (h.0, lift_section (omega arith) h.1, h.2)
+  lift r _ p h = (h.0, lift_section (omega arith) h.1, h.2)
+
+  turn : (x : Terminal) → Turn IsDeclaration Any room (declaration_at room) x
+  turn (free x) =
+      turn_takes the_definition (definition room x) (λ rest. refl) (λ y h. h) (λ r ys d h. (d, h, refl)) (λ r ys p h. h)
+      (definition_exact room x)
+  turn _ = turn_as the_section (section_at room) (λ rest. refl) (λ y h. h) section_declares (λ r ys p h. h) (section_exact room)
+
+pub declaration_shrinks : (room : ℕ) → Shrinks (push (declaration room))
+declaration_shrinks room = step_shrinks (stepping (declaration_member room))
+
+-- ---- whole texts
+
+with_first : (r : ℕ) (f g : List Terminal) (p : Declaration) (ps : List Declaration) → IsDeclaration r f p → IsText r g ps → IsText r (f ++ g) (p ∷ ps)
+with_first r (free x ∷ ys) g p ps h k = rw h.2 (k.0, a_definition (is_definition x r ys h.0 h.1) k.1)
+with_first r [] g p ps h k = absurd (section_case h.1)
+with_first r _ g p ps h k = rw h.2 (_, a_section h.1 k.1)
+
+text_of : (r : ℕ) (xs : List Terminal) (ds : List Declaration) → AreAll IsDeclaration r xs ds → IsText r xs ds
+text_of r xs ds none = ([], no_declaration)
+text_of r xs ds (some {f = f} {g = g} {v = p} {vs = ps} h k) = with_first r f g p ps h (text_of r g ps k)
+
+all_declarations : {r : ℕ} {xs own : List Terminal} {ds : List Declaration} → AreDeclarations r xs own ds → AreAll IsDeclaration r xs ds
+all_declarations no_declaration = none
+all_declarations {r = r} (a_section {xs = xs} {s = s} h k) = some (section_declares r xs s h) (all_declarations k)
+all_declarations (a_definition h k) = some (definition_declares h) (all_declarations k)
+
+-- a whole text is read exactly
+pub declarations_exact : (room : ℕ) → Exact IsText (λ x. ⊥) room (declarations room)
+unfolding declarations
+declarations_exact room = exact_as text_of (λ r xs ds h. all_declarations h.1) (λ x h. h) (members_exact (declaration_member room))
+
+-- nothing is left where a text is read
+pub all_read : (room : ℕ) (xs : List Terminal) (ds : List Declaration) (rest : List Terminal) → declarations room xs ≡ Ok (ds, rest) → rest ≡ []
+unfolding declarations declaration
+all_read room xs ds [] h = refl
+all_read room xs ds (x ∷ rest) h =
+    let none : push (declaration room) ds (x ∷ rest) ≡ None = no_step_left (declaration_shrinks room) [] xs ds (x ∷ rest) h in
+    cc
+
+-- what is read as a whole text derives so
+pub declarations_derive : (room : ℕ) (xs : List Terminal) (ds : List Declaration) (rest : List Terminal) → declarations room xs ≡ Ok (ds, rest) →
+    IsText room xs ds
+declarations_derive room xs ds rest h =
+    let front = taken xs ((declarations_exact room).run xs) ds rest h in
+    let whole : xs ≡ front.0 = front.1 ∙ ap (λ r. front.0 ++ r) (all_read room xs ds rest h) ∙ append-nil front.0 in
+    rw whole front.2
+
+pub declarations_read : (room : ℕ) (xs : List Terminal) (ds : List Declaration) → IsText room xs ds → declarations room xs ≡ Ok (ds, [])
+declarations_read room xs ds h = reads_all (declarations_exact room) room (omega arith) xs ds h
