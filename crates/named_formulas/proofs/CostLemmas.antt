@@ -2,7 +2,8 @@
 use Rattle.std.proofs.Common.{◌≡◌, ℕ, zero, suc, ◌<◌, ◌≤◌, ◌-◌, List, Option, Some, None, ap, sym, ◌∙◌, arith}
 use Rattle.std.specs.Prelude.{option_map}
 use Rattle.spec_syntax.specs.Syntax.{FormulaSyntax, grouped}
-use Rattle.named_formulas.specs.Expansion.{Definition, passed, expanded, expansion_within, ungrouped}
+use Rattle.spec_syntax.specs.Syntax.{Definition}
+use Rattle.named_formulas.specs.Expansion.{passed, expanded, expansion_within, ungrouped}
 use Rattle.named_formulas.specs.Folds.{number_or, number_of_test, fold_by, number_within}
 use Rattle.named_formulas.specs.internal.Costs.{costs}
 

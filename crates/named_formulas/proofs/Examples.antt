@@ -2,7 +2,8 @@
 use Rattle.std.proofs.Common.{◌≡◌, ℕ, List, [], ◌∷◌, refl}
 use Rattle.std.specs.Prelude.{codes}
 use Rattle.spec_syntax.specs.Syntax.{alone, grouped_term, TermsSyntax, no_terms, more_terms, FormulaSyntax, tested, grouped}
-use Rattle.named_formulas.specs.Expansion.{Definition, expanded, expansion_within}
+use Rattle.spec_syntax.specs.Syntax.{Definition}
+use Rattle.named_formulas.specs.Expansion.{expanded, expansion_within}
 use Rattle.named_formulas.specs.DefinitionView.{named_in}
 
 abbrev one : List ℕ → TermsSyntax

@@ -4,7 +4,8 @@ use Rattle.std.specs.Prelude.{option_map}
 use Rattle.spec_syntax.specs.Syntax.{TermSyntax, alone, applied, grouped_term, TermsSyntax, no_terms, more_terms}
 use Rattle.spec_syntax.specs.Syntax.{FormulaSyntax, truth, falsehood, bare, tested, updated, grouped, under, between}
 use Rattle.spec_syntax.specs.Syntax.{joined, FormulasSyntax, no_formulas, more_formulas}
-use Rattle.named_formulas.specs.Expansion.{Definition, Replacing, put_for, passed, passed_names, renamed_term, renamed_terms, replacing_test, expanded, expanded_members, expansion_within}
+use Rattle.spec_syntax.specs.Syntax.{Definition}
+use Rattle.named_formulas.specs.Expansion.{Replacing, put_for, passed, passed_names, renamed_term, renamed_terms, replacing_test, expanded, expanded_members, expansion_within}
 use Rattle.named_formulas.specs.Folds.{Fold, number_or, fold_term, fold_terms, fold, fold_members, number_of_test, fold_by, fold_members_by, number_within, depths}
 use Rattle.spec_syntax.specs.Levels.{term_depth, terms_depth, depth, members_depth}
 

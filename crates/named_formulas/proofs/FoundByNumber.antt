@@ -10,7 +10,8 @@ use Rattle.std.proofs.lemmas.Slice.Eq.{bytes_eq-Decides}
 use Rattle.std.proofs.lemmas.Option.{slice_get_read}
 use Rattle.tsl_terms.specs.Name.{Name, number_of, texts}
 use Rattle.named_formulas.specs.declared.definitions.ReadDefinition.{ReadDefinition}
-use Rattle.named_formulas.specs.Expansion.{Definition, passed}
+use Rattle.spec_syntax.specs.Syntax.{Definition}
+use Rattle.named_formulas.specs.Expansion.{passed}
 use Rattle.named_formulas.specs.internal.Standing.{names_now}
 use Rattle.named_formulas.specs.DefinitionView.{definition_of, named_in, definitions_of, AreHeads}
 

@@ -9,7 +9,7 @@ use Rattle.std.proofs.lemmas.List.{drop_more, take-append-drop, map-append}
 use Rattle.std.proofs.lemmas.Iterator.Adapters.{position_from-zero}
 use Rattle.tsl_terms.specs.Name.{Name, number_of, texts}
 use Rattle.named_formulas.specs.declared.definitions.ReadDefinition.{ReadDefinition}
-use Rattle.named_formulas.specs.Expansion.{Definition}
+use Rattle.spec_syntax.specs.Syntax.{Definition}
 use Rattle.named_formulas.specs.DefinitionView.{definition_of, named_in, AreHeads, IsDefinedTwice}
 use Rattle.named_formulas.proofs.FoundByNumber.{further_on}
 

@@ -7,7 +7,8 @@ use Rattle.spec_syntax.specs.Syntax.{FormulaSyntax, truth, falsehood, bare, test
 use Rattle.spec_syntax.specs.Syntax.{between, joined, FormulasSyntax, no_formulas, more_formulas}
 use Rattle.spec_syntax.specs.Grammar.{brackets_atom}
 use Rattle.spec_syntax.specs.Levels.{depth, members_depth, depth_of_sides}
-use Rattle.named_formulas.specs.Expansion.{Definition, passed, passed_names, expanded, expansion_within}
+use Rattle.spec_syntax.specs.Syntax.{Definition}
+use Rattle.named_formulas.specs.Expansion.{passed, passed_names, expanded, expansion_within}
 use Rattle.named_formulas.specs.Folds.{number_or, fold_terms, number_of_test, fold_by, fold_members_by, number_within, depths}
 use Rattle.named_formulas.specs.UseLevels.{At, level_of_right, test_at, uses_at, members_uses_at, IsUseWithin, AreWithin}
 use Rattle.spec_syntax.proofs.Written.{formula_fits}

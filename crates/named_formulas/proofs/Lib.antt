@@ -10,4 +10,10 @@ pub mod CostLemmas
 pub mod OneExpansion
 pub mod Tables
 pub mod Cycles
+pub mod SectionExpansion
 pub mod NoNewUses
+pub mod NamedLemmas
+pub mod SizeLemmas
+pub mod UseGraphs
+pub mod SizeTables
+pub mod UseRows

@@ -6,7 +6,8 @@ use Rattle.std.proofs.lemmas.Slice.Eq.{bytes_eq-Decides}
 use Rattle.spec_syntax.specs.Syntax.{TermSyntax, alone, applied, grouped_term, TermsSyntax, no_terms, more_terms}
 use Rattle.spec_syntax.specs.Syntax.{FormulaSyntax, truth, falsehood, bare, tested, updated, grouped, under, between}
 use Rattle.spec_syntax.specs.Syntax.{joined, FormulasSyntax, no_formulas, more_formulas}
-use Rattle.named_formulas.specs.Expansion.{Definition, passed, bare_names, put_for, passed_names, renamed_term, renamed_terms, replacing_test, expanded, expanded_members, expansion_within}
+use Rattle.spec_syntax.specs.Syntax.{Definition}
+use Rattle.named_formulas.specs.Expansion.{passed, bare_names, put_for, passed_names, renamed_term, renamed_terms, replacing_test, expanded, expanded_members, expansion_within}
 use Rattle.named_formulas.specs.WellUsed.{IsFree, IsUse, IsTest, no_use, use_of, IsBare, no_bare_use, bare_use, UsesWell, MembersUseWell, AreRanked}
 use Rattle.named_formulas.specs.Reaching.{Among, first, later}
 use Rattle.tsl_terms.specs.declared.names.NameKind.{NameKind}

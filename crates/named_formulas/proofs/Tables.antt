@@ -7,7 +7,8 @@ use Rattle.tsl_terms.specs.Nodes.{nodes_of_sides}
 use Rattle.spec_syntax.specs.Syntax.{TermSyntax, alone, applied, grouped_term, TermsSyntax, no_terms, more_terms}
 use Rattle.spec_syntax.specs.Syntax.{FormulaSyntax, truth, falsehood, bare, tested, updated, grouped, under, between}
 use Rattle.spec_syntax.specs.Syntax.{joined, FormulasSyntax, no_formulas, more_formulas}
-use Rattle.named_formulas.specs.Expansion.{Definition, passed_names}
+use Rattle.spec_syntax.specs.Syntax.{Definition}
+use Rattle.named_formulas.specs.Expansion.{passed_names}
 use Rattle.named_formulas.specs.Folds.{Fold, number_or, fold_term, fold_terms, number_of_test, fold_by, fold_members_by, number_within, node_counts, capped}
 use Rattle.named_formulas.specs.WellUsed.{IsFree, IsTest, no_use, use_of, IsBare, no_bare_use, bare_use, UsesWell, MembersUseWell, AreRanked}
 

@@ -19,7 +19,8 @@ use Rattle.spec_syntax.specs.Syntax.{grouped, under, between, joined, FormulasSy
 use Rattle.spec_syntax.specs.Grammar.{in_brackets}
 use Rattle.spec_syntax.specs.Written.{sign_under, sign_between, sign_many, written_term, written_arguments, written_terms}
 use Rattle.spec_syntax.specs.Written.{written, written_further}
-use Rattle.named_formulas.specs.Expansion.{Definition, passed, bare_names, put_for, passed_names, renamed_term, renamed_terms, replacing_test, expanded, expanded_members, expansion_within}
+use Rattle.spec_syntax.specs.Syntax.{Definition}
+use Rattle.named_formulas.specs.Expansion.{passed, bare_names, put_for, passed_names, renamed_term, renamed_terms, replacing_test, expanded, expanded_members, expansion_within}
 use Rattle.named_formulas.specs.TextExpansion.{renamed_terminal, body_with, is_defined, Expands, nothing, kept, used}
 use Rattle.named_formulas.specs.WellUsed.{text_of, as_written, IsFree, AreFree, IsFreeTerm, AreFreeTerms, IsUse, IsTest, no_use, use_of, IsBare, no_bare_use, bare_use, UsesWell, MembersUseWell, AreRanked}
 
@@ -61,7 +62,7 @@ module _ (all : List ℕ → Option Definition) (rank : List ℕ → ℕ) (m n :
 -- ---- the text law
 
 module _ (all : List ℕ → Option Definition) (rank : List ℕ → ℕ) where
-  both_expand : {xs us ys vs : List Terminal} → Expands (as_written all) xs us → Expands (as_written all) ys vs →
+  pub both_expand : {xs us ys vs : List Terminal} → Expands (as_written all) xs us → Expands (as_written all) ys vs →
       Expands (as_written all) (xs ++ ys) (us ++ vs)
   both_expand nothing k = k
   both_expand (kept x away h) k = kept x away (both_expand h k)

@@ -5,7 +5,7 @@ use Rattle.std.specs.Str.{bytes_eq}
 use Rattle.tsl_terms.specs.Name.{Name, texts}
 use Rattle.spec_syntax.specs.SyntaxView.{formula_syntax}
 use Rattle.named_formulas.specs.declared.definitions.ReadDefinition.{ReadDefinition}
-use Rattle.named_formulas.specs.Expansion.{Definition}
+use Rattle.spec_syntax.specs.Syntax.{Definition}
 
 abbrev pub definition_of : ReadDefinition → Definition
 definition_of d = record { name = d.name.now; parameters = texts d.parameters; body = formula_syntax d.body }

@@ -3,7 +3,7 @@ use Rattle.std.specs.Prelude.{◌≡◌, ℕ, List, Option, Some}
 use Rattle.spec_syntax.specs.Syntax.{Terminal, FormulaSyntax}
 use Rattle.spec_syntax.specs.Grammar.{IsFormula}
 use Rattle.spec_syntax.specs.Written.{written}
-use Rattle.named_formulas.specs.Expansion.{Definition}
+use Rattle.spec_syntax.specs.Syntax.{Definition}
 
 -- the formula derives from some terminals, with some room
 pub record Derivable (a : FormulaSyntax) : Type 0 where

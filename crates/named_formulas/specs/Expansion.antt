@@ -3,12 +3,7 @@ use Rattle.std.specs.Prelude.{ℕ, zero, suc, List, [], ◌∷◌, map, Option, 
 use Rattle.std.specs.Str.{bytes_eq}
 use Rattle.spec_syntax.specs.Syntax.{TermSyntax, alone, applied, grouped_term, TermsSyntax, no_terms, more_terms}
 use Rattle.spec_syntax.specs.Syntax.{FormulaSyntax, truth, falsehood, bare, tested, updated, grouped, under, between}
-use Rattle.spec_syntax.specs.Syntax.{joined, FormulasSyntax, no_formulas, more_formulas}
-
-pub record Definition : Type 0 where
-  pub name : List ℕ
-  pub parameters : List (List ℕ)
-  pub body : FormulaSyntax
+use Rattle.spec_syntax.specs.Syntax.{joined, FormulasSyntax, no_formulas, more_formulas, Definition}
 
 -- what a name in a body stands for: a parameter for the name that the use passes, every other name for itself
 abbrev pub passed : List (List ℕ) → List (List ℕ) → List ℕ → List ℕ

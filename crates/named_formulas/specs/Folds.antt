@@ -5,7 +5,8 @@ use Rattle.tsl_terms.specs.Nodes.{nodes_of_sides}
 use Rattle.spec_syntax.specs.Syntax.{TermSyntax, alone, applied, grouped_term, TermsSyntax, no_terms, more_terms}
 use Rattle.spec_syntax.specs.Syntax.{FormulaSyntax, truth, falsehood, bare, tested, updated, grouped, under, between}
 use Rattle.spec_syntax.specs.Syntax.{joined, FormulasSyntax, no_formulas, more_formulas}
-use Rattle.named_formulas.specs.Expansion.{Definition, passed_names}
+use Rattle.spec_syntax.specs.Syntax.{Definition}
+use Rattle.named_formulas.specs.Expansion.{passed_names}
 use Rattle.spec_syntax.specs.Levels.{depth_of_sides}
 
 -- what each form makes of the numbers of its parts

@@ -6,5 +6,9 @@ pub mod Folds
 pub mod UseLevels
 pub mod Reaching
 pub mod Occurrences
+pub mod SectionExpansion
 pub mod DefinitionView
+pub mod Uses
+pub mod OrderView
+pub mod ExpansionSizes
 pub mod internal

@@ -5,7 +5,7 @@ use Rattle.tsl_terms.specs.declared.names.NameKind.TheVariants.{Signal, Function
 use Rattle.spec_syntax.specs.Syntax.{TermSyntax, alone, applied, grouped_term, TermsSyntax, no_terms, more_terms}
 use Rattle.spec_syntax.specs.Syntax.{FormulaSyntax, truth, falsehood, bare, tested, updated, grouped, under, between}
 use Rattle.spec_syntax.specs.Syntax.{joined, FormulasSyntax, no_formulas, more_formulas}
-use Rattle.named_formulas.specs.Expansion.{Definition}
+use Rattle.spec_syntax.specs.Syntax.{Definition}
 use Rattle.named_formulas.specs.WellUsed.{IsFree}
 use Rattle.named_formulas.specs.Reaching.{Among}
 

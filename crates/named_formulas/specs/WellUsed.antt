@@ -5,7 +5,8 @@ use Rattle.spec_syntax.specs.Syntax.{TermSyntax, alone, applied, grouped_term, T
 use Rattle.spec_syntax.specs.Syntax.{FormulaSyntax, truth, falsehood, bare, tested, updated, grouped, under, between}
 use Rattle.spec_syntax.specs.Syntax.{joined, FormulasSyntax, no_formulas, more_formulas}
 use Rattle.spec_syntax.specs.Written.{written}
-use Rattle.named_formulas.specs.Expansion.{Definition, passed_names}
+use Rattle.spec_syntax.specs.Syntax.{Definition}
+use Rattle.named_formulas.specs.Expansion.{passed_names}
 use Rattle.named_formulas.specs.TextExpansion.{DefinitionText}
 
 -- a definition as it stands in the text

@@ -1,2 +1,4 @@
 pub mod Costs
 pub mod Standing
+pub mod UseNumbers
+pub mod SizeTables

@@ -5,12 +5,16 @@ ghost use Rattle.tsl_terms.specs.declared.names.NameKind.{NameKind};
 ghost use Rattle.spec_syntax.specs.Syntax.{Terminal, FormulaSyntax};
 ghost use Rattle.spec_syntax.specs.Written.{written};
 ghost use Rattle.spec_syntax.specs.Levels.{depth};
-ghost use Rattle.named_formulas.specs.Expansion.{Definition, expanded, expansion_within};
+ghost use Rattle.spec_syntax.specs.Syntax.{Definition};
+ghost use Rattle.named_formulas.specs.Expansion.{expanded, expansion_within};
 ghost use Rattle.named_formulas.specs.TextExpansion.{DefinitionText, Expands};
 ghost use Rattle.named_formulas.specs.WellUsed.{as_written, UsesWell, AreRanked, IsFree};
 ghost use Rattle.named_formulas.specs.Folds.{Fold, fold, fold_by, number_within, depths};
 ghost use Rattle.named_formulas.specs.Folds.{node_counts, capped};
 ghost use Rattle.named_formulas.specs.Derivable.{Derivable, FormulaDerives, BodiesDerive};
+ghost use Rattle.spec_syntax.specs.Syntax.{SectionSyntax};
+ghost use Rattle.spec_syntax.specs.Grammar.{AreSections};
+ghost use Rattle.named_formulas.specs.SectionExpansion.{expanded_sections, SectionsUseWell, FormulasDerive};
 ghost use Rattle.named_formulas.specs.UseLevels.{uses_at, AreWithin};
 ghost use Rattle.named_formulas.specs.Occurrences.{Passing, Occurs, Plain, InBody};
 ghost use Rattle.named_formulas.specs.Reaching.{Reaches, Among, UsesOne, Using};
@@ -31,7 +35,8 @@ pub fn tree_is_written_as_the_expansion()
 {}
 
 /// A number of an expansion, as its levels or its nodes, is computed from one number for each definition.
-/// In the order of ranks each of these comes from those before it, and numbers of nodes may stop at a bound.
+/// In the order of ranks each of these comes from those before it, and numbers of nodes and of levels may
+/// stop at a bound.
 pub fn numbers_are_told_without_expansion()
     ensures whole { (F : Fold) (named : List ℕ → Option Definition) (n : ℕ) (a : FormulaSyntax)
         → fold F (expanded (expansion_within named n) (λ x. x) a)
@@ -45,6 +50,9 @@ pub fn numbers_are_told_without_expansion()
     ensures stopped { (most : ℕ) (exact stopped : List ℕ → Option ℕ)
         → ((x : List ℕ) → stopped x ≡ option_map (min most) (exact x)) → (a : FormulaSyntax)
         → fold_by (capped most node_counts) stopped a ≡ min most (fold_by node_counts exact a) }
+    ensures stopped_levels { (most : ℕ) (exact stopped : List ℕ → Option ℕ)
+        → ((x : List ℕ) → stopped x ≡ option_map (min most) (exact x)) → (a : FormulaSyntax)
+        → min most (fold_by depths stopped a) ≡ min most (fold_by depths exact a) }
 {}
 
 /// Where the bodies of definitions derive, the expansion of a formula that does derives with exactly the
@@ -87,4 +95,23 @@ pub fn cycles_are_there()
     ensures none { (uses : List ℕ → List ℕ → Bool) (rank : List ℕ → ℕ)
         → ((x y : List ℕ) → IsTrue (uses x y) → rank y < rank x)
         → (x : List ℕ) → Reaches (Using uses) x x → ⊥ }
+{}
+
+/// Where each definition uses only those of a lower rank, the text of sections expands to that of the
+/// sections in which each use is replaced, where each formula of these derives with some room; and what it
+/// expands to derives from no other sections, with room for each of their formulas.
+pub fn sections_expand_as_their_formulas()
+    ensures expands { (named : List ℕ → Option Definition) (rank : List ℕ → ℕ) → AreRanked named rank
+        → (n room r : ℕ) (xs : List Terminal) (ss : List SectionSyntax) → AreSections room xs ss
+        → SectionsUseWell named rank n ss
+        → FormulasDerive r (expanded_sections (expansion_within named n) ss)
+        → (ys : List Terminal) × Expands (as_written named) xs ys
+        × AreSections r ys (expanded_sections (expansion_within named n) ss) }
+    ensures alone { (named : List ℕ → Option Definition) (rank : List ℕ → ℕ) → AreRanked named rank
+        → BodiesDerive named
+        → (n room r : ℕ) (xs ys : List Terminal) (ss rs : List SectionSyntax) → AreSections room xs ss
+        → SectionsUseWell named rank n ss
+        → Expands (as_written named) xs ys → AreSections r ys rs
+        → (rs ≡ expanded_sections (expansion_within named n) ss)
+        × FormulasDerive r (expanded_sections (expansion_within named n) ss) }
 {}
