@@ -1,9 +1,14 @@
-//! Tests of the reader of specifications, of expansions, and of generated specifications.
+//! Tests of the reader of specifications, of definitions among sections, of their order and expansions, and
+//! of generated specifications.
 #![tactic(auto)]
 
+#[cfg(test)]
+mod declared;
 #[cfg(test)]
 mod expanded;
 #[cfg(test)]
 mod generated;
+#[cfg(test)]
+mod ordered;
 #[cfg(test)]
 mod spelled;

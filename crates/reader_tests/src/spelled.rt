@@ -289,6 +289,7 @@ const REFUSED: &[(&[u8], &str)] = &[
     (b"guarantee { 1 }", "Form(12)"),
     (b"guarantee { p 1 }", "Form(14)"),
     (b"guarantee { ?a }", "Form(12)"),
+    (b"guarantee { a = b; }", "Form(14)"),
     // a byte or an open comment comes before every other fault
     (b"guarantee { /* a; }", "OpenComment(12)"),
     (b"guarantee { a\x80; }", "Byte(13)"),

@@ -1,0 +1,256 @@
+-- What the sections of a text expand to, where its names are well: they use no name in a new way, and derive exactly where no
+-- use is too deep.
+use Rattle.std.proofs.Common.{◌≡◌, ℕ, zero, suc, ◌+◌, ◌<◌, ◌≤◌, Bool, true, false, not, min, List, [], ◌∷◌, ◌++◌, length, map, refl, ap, sym, ◌∙◌, subst, arith}
+use Rattle.std.specs.Prelude.{◌&&◌, Option, Some, None, option_map, flat_map, slice_get, position, if◌then◌else◌}
+use Rattle.std.specs.List.{list_all, AllByRecursion}
+use Rattle.std.specs.Option.{is_some}
+use Rattle.std.proofs.lemmas.Bool.{and_from}
+use Rattle.std.proofs.lemmas.List.Folds.{list_all-append}
+use Rattle.std.proofs.lemmas.Option.{none-some, same_Some}
+use Rattle.sequence.proofs.Each.{each_from_places}
+use Rattle.tsl_terms.specs.Name.{Name}
+use Rattle.tsl_terms.specs.Clashes.{with_use, first_uses}
+use Rattle.spec_syntax.specs.Syntax.{Terminal, FormulaSyntax, SectionSyntax, Definition, Declaration, the_section, the_definition, sections_among}
+use Rattle.spec_syntax.specs.Grammar.{IsFormula, AreItems, nothing, last_item, item, IsSection, braces, AreSections, no_section, section}
+use Rattle.spec_syntax.specs.Grammar.{IsDefinition, equation, AreDeclarations, no_declaration, a_section, a_definition}
+use Rattle.spec_syntax.specs.Levels.{depth}
+use Rattle.spec_syntax.proofs.Written.{formula_is, formula_fits}
+use Rattle.spec_syntax.proofs.DeclarationLaws.{sections_derive}
+use Rattle.named_formulas.specs.DefinitionView.{named_in}
+use Rattle.named_formulas.specs.Expansion.{expanded, expansion_within}
+use Rattle.named_formulas.specs.TextExpansion.{Expands}
+use Rattle.named_formulas.specs.WellUsed.{as_written, UsesWell, AreRanked}
+use Rattle.named_formulas.specs.Folds.{fold_by, number_within, depths}
+use Rattle.named_formulas.specs.ExpansionSizes.{number_in}
+use Rattle.named_formulas.specs.declared.sizing.TheConstants.{LEVELS_STOP}
+use Rattle.named_formulas.specs.Derivable.{Derivable, FormulaDerives, BodiesDerive}
+use Rattle.named_formulas.specs.UseLevels.{uses_at, AreWithin}
+use Rattle.named_formulas.specs.Occurrences.{Passing, Occurs, Plain, InBody}
+use Rattle.named_formulas.specs.SectionExpansion.{expanded_sections, EachFormula, SectionsUseWell, FormulasDerive}
+use Rattle.named_formulas.specs.internal.UseNumbers.{used_names}
+use Rattle.named_formulas.proofs.NamedLemmas.{named_at}
+use Rattle.named_formulas.proofs.NoNewUses.{no_new_use}
+use Rattle.named_formulas.proofs.LevelLaws.{expansion_derives, expansion_needs, uses_are_within, formula_is_within}
+use Rattle.named_formulas.proofs.SizeLemmas.{StoppedAt, formula_stopped, depths_stop}
+use Rattle.named_formulas.proofs.SectionExpansion.{sections_expand, one_expansion_of_sections}
+use Rattle.declared_names.specs.Heads.{head_of, definitions_in, heads_in}
+use Rattle.declared_names.specs.Occurrences.{Occurrence, of_section, of_body, formula_occurrences, section_occurrences}
+use Rattle.declared_names.specs.Occurrences.{definition_occurrences, declaration_occurrences, occurrences_behind, head_name, parameter_name, is_repeated}
+use Rattle.declared_names.specs.Heads.{is_name}
+use Rattle.declared_names.specs.Faults.{deepest_level, is_deep_use, levels_for}
+use Rattle.declared_names.specs.WellDeclared.{heads_of, names_in, AreNamedWell, is_use_too_deep, AreLevels, RanksFall, IsWellDeclared, UsesFit, occurs_plain, IsPlainlyUsed}
+use Rattle.declared_names.proofs.Ranked.{ranks_are}
+use Rattle.declared_names.proofs.WholeText.{text_well, text_ranked, text_fits, text_plain}
+use Rattle.declared_names.proofs.DeepNames.{within, other_within, names_within, body_within, both_within}
+
+-- ---- sections and definitions, each from a fact on all declarations
+
+sections_well : (named : List ℕ → Option Definition) (rank : List ℕ → ℕ) (below : ℕ) (ds : List Declaration) →
+    AllByRecursion (IsWellDeclared named rank below) ds → SectionsUseWell named rank below (sections_among ds)
+sections_well named rank below [] h = tt
+sections_well named rank below (the_section s ∷ ds) h = (h.0, sections_well named rank below ds h.1)
+sections_well named rank below (the_definition d ∷ ds) h = sections_well named rank below ds h.1
+
+sections_plain : (all : List Occurrence) (named : List ℕ → Option Definition) (rank : List ℕ → ℕ) (ds : List Declaration) →
+    AllByRecursion (IsPlainlyUsed all named rank) ds → EachFormula (Plain (Passing (occurs_plain all)) named rank) (sections_among ds)
+sections_plain all named rank [] h = tt
+sections_plain all named rank (the_section s ∷ ds) h = (h.0, sections_plain all named rank ds h.1)
+sections_plain all named rank (the_definition d ∷ ds) h = sections_plain all named rank ds h.1
+
+sections_fit : (heads : List Name) (levels : List ℕ) (ds : List Declaration) → AllByRecursion (UsesFit heads levels) ds →
+    EachFormula (λ f. AreWithin deepest_level (levels_for heads levels) (uses_at 0 f)) (sections_among ds)
+sections_fit heads levels [] h = tt
+sections_fit heads levels (the_section s ∷ ds) h = (h.0, sections_fit heads levels ds h.1)
+sections_fit heads levels (the_definition d ∷ ds) h = sections_fit heads levels ds h.1
+
+body_plain : (all : List Occurrence) (named : List ℕ → Option Definition) (rank : List ℕ → ℕ) (ds : List Declaration) (i : ℕ) (d : Definition) →
+    slice_get (definitions_in ds) i ≡ Some d → AllByRecursion (IsPlainlyUsed all named rank) ds →
+    Plain (InBody (Passing (occurs_plain all)) d.parameters) named rank d.body
+body_plain all named rank [] i d at h = absurd (none-some d at)
+body_plain all named rank (the_section s ∷ ds) i d at h = body_plain all named rank ds i d at h.1
+body_plain all named rank (the_definition e ∷ ds) zero d at h =
+    subst (λ (f : Definition). Plain (InBody (Passing (occurs_plain all)) f.parameters) named rank f.body) (same_Some e d at) h.0
+body_plain all named rank (the_definition e ∷ ds) (suc i) d at h = body_plain all named rank ds i d at h.1
+
+definition_derives : {room : ℕ} {xs : List Terminal} {d : Definition} → IsDefinition room xs d → Derivable d.body
+definition_derives {room = room} (equation {xs = xs} x ps h) = record { room = room; terminals = xs; derived = h }
+
+body_derives : {room : ℕ} {xs own : List Terminal} {ds : List Declaration} → AreDeclarations room xs own ds → (i : ℕ) (d : Definition) →
+    slice_get (definitions_in ds) i ≡ Some d → Derivable d.body
+body_derives no_declaration i d at = absurd (none-some d at)
+body_derives (a_section h k) i d at = body_derives k i d at
+body_derives (a_definition {d = e} h k) zero d at = subst (λ (f : Definition). Derivable f.body) (same_Some e d at) (definition_derives h)
+body_derives (a_definition h k) (suc i) d at = body_derives k i d at
+
+-- ---- the expansion of a text
+
+module _ (ds : List Declaration) (well : AreNamedWell ds) where
+  abbrev all : List Occurrence
+  all = names_in ds
+
+  abbrev defined : List Definition
+  defined = definitions_in ds
+
+  abbrev named : List ℕ → Option Definition
+  named = named_in defined
+
+  abbrev count : ℕ
+  count = length defined
+
+  abbrev whole : List SectionSyntax → List SectionSyntax
+  whole = expanded_sections (expansion_within named count)
+
+  pub rank : List ℕ → ℕ
+  rank = (ranks_are ds well.once well.acyclic).0
+
+  declared : AllByRecursion (IsWellDeclared named rank count) ds
+  unfolding rank
+  declared = text_well ds rank count well.once well.kinds well.arities (ranks_are ds well.once well.acyclic).1
+
+  pub ranked : AreRanked named rank
+  ranked = text_ranked ds rank count declared
+
+  plainly : AllByRecursion (IsPlainlyUsed all named rank) ds
+  plainly = text_plain ds rank well.kinds well.arities
+
+  bodies_plain : (x : List ℕ) (d : Definition) → named x ≡ Some d → Plain (InBody (Passing (occurs_plain all)) d.parameters) named rank d.body
+  bodies_plain x d found =
+      let at = named_at defined x d found in
+      body_plain all named rank ds at.0 d at.1 plainly
+
+  formulas_occur : (fs : List FormulaSyntax) → AllByRecursion (UsesWell named rank count) fs →
+      AllByRecursion (Plain (Passing (occurs_plain all)) named rank) fs →
+      AllByRecursion (Occurs (Passing (occurs_plain all))) (map (expanded (expansion_within named count) (λ x. x)) fs)
+  formulas_occur [] uses plain = tt
+  formulas_occur (f ∷ fs) uses plain =
+      (no_new_use named rank (Passing (occurs_plain all)) ranked bodies_plain count f uses.0 plain.0, formulas_occur fs uses.1 plain.1)
+
+  sections_occur : (ss : List SectionSyntax) → SectionsUseWell named rank count ss →
+      EachFormula (Plain (Passing (occurs_plain all)) named rank) ss → EachFormula (Occurs (Passing (occurs_plain all))) (whole ss)
+  sections_occur [] uses plain = tt
+  sections_occur (s ∷ ss) uses plain = (formulas_occur s.formulas uses.0 plain.0, sections_occur ss uses.1 plain.1)
+
+  module _ {room : ℕ} {xs own : List Terminal} (derived : AreDeclarations room xs own ds) where
+    bodies : BodiesDerive named
+    bodies x d found =
+        let at = named_at defined x d found in
+        body_derives derived at.0 d at.1
+
+    -- the expanded sections are those in whose formulas each use is replaced
+    pub sections_are : (r : ℕ) (ys : List Terminal) (rs : List SectionSyntax) → Expands (as_written named) own ys → AreSections r ys rs →
+        (rs ≡ whole (sections_among ds)) × FormulasDerive r (whole (sections_among ds))
+    sections_are r ys rs to h =
+        one_expansion_of_sections named rank ranked count bodies r (sections_among ds) rs (sections_derive derived)
+        (sections_well named rank count ds declared) to h
+
+    -- each name of the expanded sections is used as at some plain occurrence
+    pub expanded_names : (r : ℕ) (ys : List Terminal) (rs : List SectionSyntax) → Expands (as_written named) own ys → AreSections r ys rs →
+        EachFormula (Occurs (Passing (occurs_plain all))) rs
+    expanded_names r ys rs to h =
+        subst (EachFormula (Occurs (Passing (occurs_plain all)))) (sym (sections_are r ys rs to h).0)
+        (sections_occur (sections_among ds) (sections_well named rank count ds declared) (sections_plain all named rank ds plainly))
+
+  -- ---- levels
+
+  -- no formula of a section needs a level above the deepest one, in the text as it is written
+  items_derivable : {room : ℕ} {xs : List Terminal} {fs : List FormulaSyntax} → AreItems room xs fs →
+      AllByRecursion (λ f. Derivable f × (depth f ≤ room)) fs
+  items_derivable nothing = tt
+  items_derivable {room = room} (last_item {xs = xs} h) = ((record { room = room; terminals = xs; derived = h }, formula_fits h), tt)
+  items_derivable {room = room} (item {xs = xs} h k) = ((record { room = room; terminals = xs; derived = h }, formula_fits h), items_derivable k)
+
+  sections_derivable : {room : ℕ} {xs own : List Terminal} {es : List Declaration} → AreDeclarations room xs own es →
+      EachFormula (λ f. Derivable f × (depth f ≤ room)) (sections_among es)
+  sections_derivable no_declaration = tt
+  sections_derivable (a_section (braces head items) k) = (items_derivable items, sections_derivable k)
+  sections_derivable (a_definition h k) = sections_derivable k
+
+  module _ {xs own : List Terminal} (derived : AreDeclarations deepest_level xs own ds) where
+    -- a formula whose uses are within the levels derives with them
+    formula_derives : (levels : List ℕ) → AreLevels (heads_of ds) levels defined → (f : FormulaSyntax) → Derivable f → depth f ≤ deepest_level →
+        AreWithin deepest_level (levels_for (heads_of ds) levels) (uses_at 0 f) →
+        FormulaDerives deepest_level (expanded (expansion_within named count) (λ x. x) f)
+    formula_derives levels are f derivable shallow fitting =
+        let needs = levels_for (heads_of ds) levels in
+        let stopped : 0 + fold_by depths needs f ≤ deepest_level =
+        formula_is_within deepest_level needs 0 f (omega (arith, shallow)) fitting in
+        let same : min LEVELS_STOP (fold_by depths needs f) ≡ min LEVELS_STOP (fold_by depths (number_in depths defined) f) =
+        formula_stopped LEVELS_STOP depths (depths_stop LEVELS_STOP) needs (number_in depths defined) f
+        (each_from_places (StoppedAt LEVELS_STOP depths (depths_stop LEVELS_STOP) needs (number_in depths defined)) (used_names f) (λ i x at. are x)) in
+        expansion_derives named (bodies derived) count f derivable deepest_level (omega (arith, stopped, same))
+
+    formulas_derive : (levels : List ℕ) → AreLevels (heads_of ds) levels defined → (fs : List FormulaSyntax) →
+        AllByRecursion (λ f. Derivable f × (depth f ≤ deepest_level)) fs →
+        AllByRecursion (λ f. AreWithin deepest_level (levels_for (heads_of ds) levels) (uses_at 0 f)) fs →
+        AllByRecursion (FormulaDerives deepest_level) (map (expanded (expansion_within named count) (λ x. x)) fs)
+    formulas_derive levels are [] derivable fit = tt
+    formulas_derive levels are (f ∷ fs) derivable fit =
+        (formula_derives levels are f derivable.0.0 derivable.0.1 fit.0, formulas_derive levels are fs derivable.1 fit.1)
+
+    sections_fit_whole : (levels : List ℕ) → AreLevels (heads_of ds) levels defined → (ss : List SectionSyntax) →
+        EachFormula (λ f. Derivable f × (depth f ≤ deepest_level)) ss →
+        EachFormula (λ f. AreWithin deepest_level (levels_for (heads_of ds) levels) (uses_at 0 f)) ss → FormulasDerive deepest_level (whole ss)
+    sections_fit_whole levels are [] derivable fit = tt
+    sections_fit_whole levels are (s ∷ ss) derivable fit =
+        (formulas_derive levels are s.formulas derivable.0 fit.0, sections_fit_whole levels are ss derivable.1 fit.1)
+
+    -- where no use is too deep, the text expands, and the expansion derives within the levels
+    pub expansion_fits : (levels : List ℕ) → AreLevels (heads_of ds) levels defined → position (is_deep_use (heads_of ds) levels) all ≡ None →
+        (ys : List Terminal) × Expands (as_written named) own ys × AreSections deepest_level ys (whole (sections_among ds))
+    expansion_fits levels are deep =
+        sections_expand named rank ranked count deepest_level (sections_among ds) (sections_derive derived)
+        (sections_well named rank count ds declared)
+        (sections_fit_whole levels are (sections_among ds) (sections_derivable derived)
+        (sections_fit (heads_of ds) levels ds (text_fits ds (heads_of ds) levels well.kinds well.arities deep)))
+
+    -- ---- and the reverse
+
+    abbrev needs : List ℕ → Option ℕ
+    needs = number_in depths defined
+
+    from_zero : {m n : ℕ} → m ≤ n → 0 + m ≤ n
+    from_zero h = omega (arith, h)
+
+    formulas_within : (fs : List FormulaSyntax) → AllByRecursion (FormulaDerives deepest_level)
+        (map (expanded (expansion_within named count) (λ x. x)) fs) →
+        list_all (within needs (of_section (heads_of ds))) (flat_map (formula_occurrences (of_section (heads_of ds)) 0) fs) ≡ true
+    formulas_within [] derive = refl
+    formulas_within (f ∷ fs) derive =
+        both_within needs (of_section (heads_of ds)) (formula_occurrences (of_section (heads_of ds)) 0 f)
+        (flat_map (formula_occurrences (of_section (heads_of ds)) 0) fs)
+        (names_within needs (of_section (heads_of ds)) 0 f
+        (uses_are_within deepest_level needs 0 f (from_zero (expansion_needs named (bodies derived) count f deepest_level derive.0))))
+        (formulas_within fs derive.1)
+
+    parameters_within : (is_defined is_twice : List ℕ → Bool) (ps : List (List ℕ)) →
+        list_all (within needs (of_section (heads_of ds))) (map (parameter_name is_defined is_twice) ps) ≡ true
+    parameters_within is_defined is_twice [] = refl
+    parameters_within is_defined is_twice (p ∷ ps) =
+        and_from (within needs (of_section (heads_of ds)) (parameter_name is_defined is_twice p))
+        (list_all (within needs (of_section (heads_of ds))) (map (parameter_name is_defined is_twice) ps))
+        (outside (parameter_name is_defined is_twice p) refl) (parameters_within is_defined is_twice ps)
+      where
+        outside : (o : Occurrence) → o.in_section ≡ false → within needs (of_section (heads_of ds)) o ≡ true
+        outside o e = other_within needs (of_body (heads_of ds) []) refl o e
+
+    declarations_within : (before : List Name) (es : List Declaration) → FormulasDerive deepest_level (whole (sections_among es)) →
+        list_all (within needs (of_section (heads_of ds))) (occurrences_behind (heads_of ds) before es) ≡ true
+    declarations_within before [] derive = refl
+    declarations_within before (the_section s ∷ es) derive =
+        both_within needs (of_section (heads_of ds)) (section_occurrences (heads_of ds) s) (occurrences_behind (heads_of ds) before es)
+        (formulas_within s.formulas derive.0) (declarations_within before es derive.1)
+    declarations_within before (the_definition d ∷ es) derive =
+        let heads = heads_of ds in
+        let parameters = map (parameter_name (is_name heads) (is_repeated d.parameters)) d.parameters in
+        let body = formula_occurrences (of_body heads d.parameters) 0 d.body in
+        both_within needs (of_section heads) (definition_occurrences heads before d) (occurrences_behind heads (with_use before (head_of d)) es)
+        (and_from (within needs (of_section heads) (head_name before d)) (list_all (within needs (of_section heads)) (parameters ++ body))
+        (other_within needs (of_body heads []) refl (head_name before d) refl)
+        (both_within needs (of_section heads) parameters body (parameters_within (is_name heads) (is_repeated d.parameters) d.parameters)
+        (body_within needs (of_body heads d.parameters) refl 0 d.body)))
+        (declarations_within (with_use before (head_of d)) es derive)
+
+    -- where what the text expands to derives within the levels, no use is too deep
+    pub no_deep_use : (ys : List Terminal) (rs : List SectionSyntax) → Expands (as_written named) own ys → AreSections deepest_level ys rs →
+        list_all (λ o. not (is_use_too_deep defined o)) all ≡ true
+    no_deep_use ys rs to h = declarations_within [] ds (sections_are derived deepest_level ys rs to h).1
