@@ -1,6 +1,6 @@
 //! What symbols mean over values of a type.
 
-ghost use Rattle.std.specs.Prelude.{◌≡◌, ◌↔◌, Some, IsSome, IsTrue, IfOk, map};
+ghost use Rattle.std.specs.Prelude.{◌≡◌, ◌↔◌, ℕ, [], ◌∷◌, Option, Some, IsSome, IsTrue, IfOk, map};
 ghost use Rattle.tsl_terms.specs.Value.{Meanings};
 
 use sequence::NoMemory;
@@ -43,10 +43,20 @@ pub trait Algebra {
         ensures { IsTrue result ↔ (seen a.now ≡ seen b.now) };
 }
 
-/// An algebra that also says where predicates hold.
+/// An algebra that also says where predicates hold, and which of them is equality.
 pub trait Judge: Algebra {
-    /// Whether a predicate holds of these arguments. It takes no memory.
+    /// The number of the predicate that is equality, where there is one.
+    ghost equality_number: { Self → Option ℕ };
+
+    /// The predicate that is equality, by its number; `None` exactly where there is none. It takes no memory.
+    fn equality(&self) -> Option<u32>
+        ensures { result ≡ equality_number self.now };
+
+    /// Whether a predicate holds of these arguments. Equality holds of two arguments exactly where they are the same.
+    /// It takes no memory.
     fn test(&self, predicate: u32, arguments: &[Self::Value]) -> bool
         requires had { IsSome ((Self.meanings self.now).predicate predicate (map Self.seen arguments.now)) }
-        ensures { (Self.meanings self.now).predicate predicate (map Self.seen arguments.now) ≡ Some result };
+        ensures value { (Self.meanings self.now).predicate predicate (map Self.seen arguments.now) ≡ Some result }
+        ensures equal { (a b : Self.Seen) → equality_number self.now ≡ Some predicate → map Self.seen arguments.now ≡ a ∷ b ∷ [] →
+            IsTrue result ↔ (a ≡ b) };
 }

@@ -56,6 +56,14 @@ impl Algebra for Wheel {
 }
 
 impl Judge for Wheel {
+    ghost use Rattle.std.specs.Prelude.{None};
+
+    ghost equality_number = { λ judge. None };
+
+    fn equality(&self) -> Option<u32> {
+        None
+    }
+
     fn test(&self, predicate: u32, arguments: &[u32]) -> bool {
         predicate <= digits(self.size, arguments)
     }

@@ -1,6 +1,9 @@
 -- The definitions on small examples, which compute.
 use Rattle.std.specs.Prelude.{◌≡◌, ℕ, ◌==◌, Bool, true, false, List, [], ◌∷◌, Option, Some, None, slice_get, unwrap_or, if◌then◌else◌, refl}
+use Rattle.std.specs.Prelude.{codes}
 use Rattle.std.proofs.Common.{lit≤}
+use Rattle.tsl_terms.specs.declared.names.NameKind.TheVariants.{Predicate}
+use Rattle.tsl_terms.specs.Name.{Name}
 use Rattle.tsl_terms.specs.TermTree.{TermTree, signal, apply, no_terms, more_terms}
 use Rattle.tsl_terms.specs.declared.operator.UnaryOperator.TheVariants.{Negation, Next, Finally, Globally}
 use Rattle.tsl_terms.specs.declared.operator.BinaryOperator.TheVariants.{Implication, Equivalence, Until, WeakUntil, Release}
@@ -88,6 +91,29 @@ what_is_no_value_has_the_entry_0 = refl
 no_value_without_the_signal : value (meanings_in [] no_program by_tables) (λ s. None) nested ≡ None
 unfolding no_program nested by_tables
 no_value_without_the_signal = refl
+
+-- `eq` with two arguments has no table: it holds of two that are the same
+equality_alone : List Name
+equality_alone = record { text = codes "eq"; kind = Predicate; arity = 2 } ∷ []
+
+the_same_are_equal : (meanings_in equality_alone no_program by_tables).predicate 0 (2 ∷ 2 ∷ []) ≡ Some true
+unfolding equality_alone no_program by_tables
+the_same_are_equal = refl
+
+others_are_not : (meanings_in equality_alone no_program by_tables).predicate 0 (2 ∷ 1 ∷ []) ≡ Some false
+unfolding equality_alone no_program by_tables
+others_are_not = refl
+
+-- with another number of arguments it has one, as any predicate
+one_argument : List Name
+one_argument = record { text = codes "eq"; kind = Predicate; arity = 1 } ∷ []
+
+by_its_table : Interpretation
+by_its_table = record { domain = 2; initial = []; tables = (0 ∷ 1 ∷ []) ∷ [] }
+
+holds_where_its_entry_is_1 : (meanings_in one_argument no_program by_its_table).predicate 0 (1 ∷ []) ≡ Some true
+unfolding one_argument no_program by_its_table
+holds_where_its_entry_is_1 = refl
 
 -- Runs of four positions: 0 and 1 once, then 2 and 3 again and again.
 p : FormulaTree

@@ -12,6 +12,7 @@ pub mod Walks
 pub mod Runs
 pub mod Repeats
 pub mod Closing
+pub mod Equal
 pub mod Naming
 pub mod MoreNames
 pub mod PromisedFormulas

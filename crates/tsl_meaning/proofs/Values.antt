@@ -1,8 +1,9 @@
 -- The values of terms and the truths of probes are there, under an interpretation of the names.
 use Rattle.std.proofs.Common.{◌≡◌, ◌∙◌, ℕ, suc, ◌+◌, ◌*◌, ◌^◌, ◌<◌, ◌≤◌, ◌==◌, Bool, true, false, ◌&&◌, List, [], ◌∷◌, length, Option, Some}
-use Rattle.std.proofs.Common.{None, slice_get, refl, sym, ap, arith, subst}
+use Rattle.std.proofs.Common.{None, slice_get, refl, sym, ap, arith, subst, cond, codes}
 use Rattle.std.specs.Prelude.{option_map, option_and_then, fold, nat_lt}
 use Rattle.std.specs.Option.{option_map_or}
+use Rattle.std.specs.Str.{bytes_eq}
 use Rattle.std.proofs.lemmas.Bool.{and_parts, and_from, lt-ltb, ltb-true, eqb-true, eq-eqb, cond-true, false≢true}
 use Rattle.std.proofs.lemmas.List.Elements.{All-get_or}
 use Rattle.std.proofs.lemmas.Option.{get_or_from_slice_get}
@@ -11,6 +12,7 @@ use Rattle.sequence.proofs.Places.{slice_get_some}
 use Rattle.tsl_terms.specs.declared.names.NameKind.{NameKind}
 use Rattle.tsl_terms.specs.declared.names.NameKind.TheVariants.{Signal, Function, Predicate}
 use Rattle.tsl_terms.specs.Name.{Name, is_name, same_kind}
+use Rattle.tsl_terms.specs.Equality.{names_equality, is_equality}
 use Rattle.tsl_terms.specs.TermTree.{TermTree, signal, apply, TermTrees, no_terms, more_terms, ProbeTree, count_of_terms}
 use Rattle.tsl_terms.specs.Value.{value, values, truth}
 use Rattle.program_tree.specs.ProgramTree.{ProgramTree}
@@ -18,7 +20,7 @@ use Rattle.sequence.specs.Numbers.{is_among}
 use Rattle.tsl_terms.specs.OnlyThese.{reads_only, read_only}
 use Rattle.tsl_meaning.specs.OverNames.{term_is_over, terms_are_over, probe_is_over}
 use Rattle.tsl_meaning.specs.Interpretation.{Interpretation, IsInterpretation, IsTable, entry_of, entry_at, are_values, place_of_arguments}
-use Rattle.tsl_meaning.specs.Interpretation.{meanings_in}
+use Rattle.tsl_meaning.specs.Interpretation.{same_two, meanings_in}
 
 -- a value that is there, and is one of so many
 pub record HasValue (domain : ℕ) (found : Option ℕ) : Type 0 where
@@ -71,6 +73,18 @@ place_below domain n (v ∷ vs) all =
     wider : v < domain → n * domain + v + 1 ≤ (n + 1) * domain
     wider below = let e : (n + 1) * domain ≡ n * domain + domain = add-mul n 1 domain ∙ omega arith in omega (arith, below, e)
 
+-- two arguments are the same or not
+two_there : (arguments : List ℕ) → length arguments ≡ 2 → (b : Bool) × (same_two arguments ≡ Some b)
+two_there [] count = absurd (omega (arith, count))
+two_there (a ∷ []) count = absurd (omega (arith, count))
+two_there (a ∷ b ∷ []) count = (a == b, refl)
+two_there (a ∷ b ∷ c ∷ more) count = absurd (omega (arith, count))
+
+equality_takes_two : (name : Name) → names_equality name ≡ true → name.arity ≡ 2
+equality_takes_two name is =
+    let parts = and_parts (bytes_eq (codes "eq") name.text) (same_kind name.kind Predicate && (name.arity == 2)) is in
+    eqb-true name.arity 2 (and_parts (same_kind name.kind Predicate) (name.arity == 2) parts.1).1
+
 module _ (names : List Name) (program : ProgramTree) (interpretation : Interpretation)
     (is : IsInterpretation names program.cells interpretation) where
   -- an entry of a table that is for so many arguments
@@ -92,6 +106,27 @@ module _ (names : List Name) (program : ProgramTree) (interpretation : Interpret
         below = subst (λ n. n < limit) (get_or_from_slice_get table place entry.0 0 entry.1)
             (All-get_or (λ n. n < limit) table place 0 within fits.1);
       }
+
+  abbrev entry_truth : ℕ → List ℕ → Option Bool
+  entry_truth p arguments = option_map (λ n. n == 1) (entry_at interpretation p arguments)
+
+  -- a predicate has a truth of as many values as it takes
+  holds_there : (p : ℕ) (arguments : List ℕ) (name : Name) → slice_get names p ≡ Some name → name.kind ≡ Predicate →
+      length arguments ≡ name.arity → are_values interpretation.domain arguments ≡ true →
+      (b : Bool) × ((meanings_in names program interpretation).predicate p arguments ≡ Some b)
+  holds_there p arguments name there kind count all = by (is_equality names p) refl
+    where
+      by : (equal : Bool) → is_equality names p ≡ equal →
+          (b : Bool) × ((meanings_in names program interpretation).predicate p arguments ≡ Some b)
+      by true equal =
+          let same = two_there arguments (count ∙ equality_takes_two name (sym (ap (λ o. option_map_or names_equality o false) there) ∙ equal)) in
+          (same.0, ap (λ e. cond e (same_two arguments) (entry_truth p arguments)) equal ∙ same.1)
+      by false other =
+          let table = is.predicates p name there kind other in
+          let entry = entry_there p 2 table.0 arguments name.arity table.1 table.2 count all in (
+            entry.value == 1,
+            ap (λ e. cond e (same_two arguments) (entry_truth p arguments)) other ∙ ap (option_map (λ n. n == 1)) entry.is,
+          )
 
   module _ (readable : List ℕ) (at : ℕ → Option ℕ) (known : (s : ℕ) → is_among readable s ≡ true →
       HasValue interpretation.domain (at s)) where
@@ -139,8 +174,5 @@ module _ (names : List Name) (program : ProgramTree) (interpretation : Interpret
         let parts = and_parts (is_name names p.predicate Predicate (count_of_terms p.arguments)) (terms_are_over names p.arguments) over in
         let vs = values_there p.arguments parts.1 reads in
         let name = name_of names p.predicate Predicate (count_of_terms p.arguments) parts.0 in
-        let table = is.predicates p.predicate name.name name.there name.kind_is in
-        let entry =
-        entry_there p.predicate 2 table.0 vs.members name.name.arity table.1 table.2 (vs.count ∙ sym name.arity_is) vs.below in
-        let meaning : List ℕ → Option Bool = λ vs. option_map (λ entry. entry == 1) (entry_at interpretation p.predicate vs) in
-        (entry.value == 1, ap (option_and_then meaning) vs.are ∙ ap (option_map (λ entry. entry == 1)) entry.is)
+        let found = holds_there p.predicate vs.members name.name name.there name.kind_is (vs.count ∙ sym name.arity_is) vs.below in
+        (found.0, ap (option_and_then ((meanings_in names program interpretation).predicate p.predicate)) vs.are ∙ found.1)

@@ -13,6 +13,7 @@ use Rattle.tsl_terms.specs.declared.operator.UnaryOperator.TheVariants.{Negation
 use Rattle.tsl_terms.specs.declared.operator.BinaryOperator.TheVariants.{Implication}
 use Rattle.tsl_terms.specs.declared.operator.ManyOperator.TheVariants.{Conjunction}
 use Rattle.tsl_terms.specs.Name.{Name}
+use Rattle.tsl_terms.specs.Equality.{is_equality}
 use Rattle.tsl_terms.specs.TermTree.{TermTree, signal, apply, no_terms, more_terms, ProbeTree}
 use Rattle.tsl_terms.specs.FormulaTree.{test, update, FormulaTree, atom, unary, binary, many, no_formulas, more_formulas}
 use Rattle.program_tree.specs.NodeTree.{branch, assign}
@@ -135,13 +136,13 @@ functions (suc (suc zero)) name at kind = rw (← same_Some f name at) (1 ∷ 2 
 functions (suc (suc (suc zero))) name at kind = let never : Predicate ≡ Function = kind_at p name Function at kind in absurd cc
 functions (suc (suc (suc (suc i)))) name at kind = absurd cc
 
-predicates : (p : ℕ) (name : Name) → slice_get names p ≡ Some name → name.kind ≡ Predicate →
+predicates : (p : ℕ) (name : Name) → slice_get names p ≡ Some name → name.kind ≡ Predicate → is_equality names p ≡ false →
     (table : List ℕ) × (slice_get interpretation.tables p ≡ Some table) × IsTable 3 name.arity 2 table
-predicates zero name at kind = let never : Signal ≡ Predicate = kind_at x name Predicate at kind in absurd cc
-predicates (suc zero) name at kind = let never : Signal ≡ Predicate = kind_at y name Predicate at kind in absurd cc
-predicates (suc (suc zero)) name at kind = let never : Function ≡ Predicate = kind_at f name Predicate at kind in absurd cc
-predicates (suc (suc (suc zero))) name at kind = rw (← same_Some p name at) (0 ∷ 1 ∷ 1 ∷ [], refl, p_table)
-predicates (suc (suc (suc (suc i)))) name at kind = absurd cc
+predicates zero name at kind other = let never : Signal ≡ Predicate = kind_at x name Predicate at kind in absurd cc
+predicates (suc zero) name at kind other = let never : Signal ≡ Predicate = kind_at y name Predicate at kind in absurd cc
+predicates (suc (suc zero)) name at kind other = let never : Function ≡ Predicate = kind_at f name Predicate at kind in absurd cc
+predicates (suc (suc (suc zero))) name at kind other = rw (← same_Some p name at) (0 ∷ 1 ∷ 1 ∷ [], refl, p_table)
+predicates (suc (suc (suc (suc i)))) name at kind other = absurd cc
 
 interprets : IsInterpretation names (1 ∷ []) interpretation
 interprets = record {

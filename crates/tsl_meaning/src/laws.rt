@@ -1,6 +1,6 @@
 //! Laws of the meaning.
 
-ghost use Rattle.std.specs.Prelude.{◌≡◌, ℕ, ◌+◌, ◌<◌, ◌≤◌, ◌++◌, List};
+ghost use Rattle.std.specs.Prelude.{◌≡◌, ℕ, ◌+◌, ◌<◌, ◌≤◌, ◌++◌, List, Option};
 ghost use Rattle.std.specs.List.{AllByRecursion};
 ghost use Rattle.loop_shape.specs.LoopShape.{LoopShape};
 ghost use Rattle.tsl_terms.specs.Name.{Name};
@@ -14,7 +14,7 @@ ghost use Rattle.program_tree.specs.ProgramTree.{ProgramTree};
 ghost use Rattle.program_tree.specs.Fits.{IsProgram};
 ghost use Rattle.program_tree.specs.Writable.{IsWritable};
 ghost use Rattle.tsl_meaning.specs.OverNames.{IsProgramOver, IsFormulaOver};
-ghost use Rattle.tsl_meaning.specs.Interpretation.{Interpretation, InputRows, IsInterpretation, IsInputLoop, meanings_in};
+ghost use Rattle.tsl_meaning.specs.Interpretation.{Interpretation, InputRows, IsInterpretation, IsInputLoop, IsEqualityOf, meanings_in, meanings_with};
 ghost use Rattle.tsl_meaning.specs.Run.{HasStep, Closed};
 ghost use Rattle.tsl_meaning.specs.Lasso.{IsDecided, meets, closed_run};
 ghost use Rattle.tsl_meaning.specs.Promise.{Realizes, configurations};
@@ -111,4 +111,11 @@ pub fn formulas_are_judged()
         IsInputLoop interpretation.domain program.inputs rows → IsFormulaOver names program formula →
         IsRunOf (meanings_in names program interpretation) program rows run →
         IsJudged (meanings_in names program interpretation) run formula }
+{}
+
+/// Symbols mean the same by the number of equality as by the names: there it is the predicate `eq` with two arguments.
+pub fn meanings_are_by_number()
+    ensures { (names : List Name) (equality : Option ℕ) (program : ProgramTree) (interpretation : Interpretation) →
+        IsEqualityOf names equality →
+        meanings_with equality program.cells interpretation ≡ meanings_in names program interpretation }
 {}
