@@ -21,14 +21,15 @@ use Rattle.tsl_text.specs.declared.Token.{Token}
 use Rattle.tsl_terms.specs.Name.{Name}
 use Rattle.table_syntax.specs.declared.text_tokens.TextToken.{TextToken as LentToken}
 use Rattle.table_syntax.specs.Syntax.{TextToken, InputsSyntax}
-use Rattle.table_interp.specs.Needed.{number_for, is_for, IsFirstAt, IsFirstRepeat, HasNoRepeat}
+use Rattle.entry_names.specs.Needed.{number_for, is_for, IsFirstRepeat, HasNoRepeat}
+use Rattle.table_interp.specs.Inputs.{IsFirstAt}
 use Rattle.sequence.proofs.Places.{slice_get-front}
 use Rattle.table_interp.specs.Inputs.{is_input_name, AreOnce, HasSecondColumn}
-use Rattle.table_interp.specs.internal.Resolving.{IsPlace}
+use Rattle.entry_names.specs.Places.{IsPlace}
 use Rattle.table_interp.specs.internal.Ordered.{HasColumns}
 use Rattle.table_syntax.specs.View.{text_token_view, text_tokens_view, numbers_view}
 use Rattle.table_interp.proofs.Facts.{below_each}
-use Rattle.table_interp.proofs.Repeats.{once_some, first_some}
+use Rattle.entry_names.proofs.Repeats.{once_some, first_some}
 
 abbrev Row : Type 0
 Row = Vec ℕ Global

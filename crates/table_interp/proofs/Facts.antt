@@ -1,7 +1,7 @@
 -- What entries without a cause of refusal say of each needed name, and that they give an interpretation.
-use Rattle.std.proofs.Common.{◌≡◌, ◌∙◌, ℕ, zero, suc, ◌<◌, ◌≤◌, ◌==◌, ◌^◌, true, false, not, ◌&&◌, cond, List, [], ◌∷◌}
+use Rattle.std.proofs.Common.{◌≡◌, ◌∙◌, ℕ, zero, suc, ◌<◌, ◌≤◌, ◌==◌, ◌^◌, Bool, true, false, not, ◌&&◌, cond, List, [], ◌∷◌}
 use Rattle.std.proofs.Common.{length, map, Option, Some, None, refl, sym, ap, subst, arith}
-use Rattle.std.specs.Prelude.{option_map, option_and_then, slice_get, is_some, filter, nat_lt, All, IsTrue}
+use Rattle.std.specs.Prelude.{option_map, option_and_then, slice_get, is_some, filter, nat_lt, All, IsTrue, codes}
 use Rattle.std.specs.Option.{option_map_or}
 use Rattle.std.specs.List.{find, list_all, AllByRecursion}
 use Rattle.std.proofs.lemmas.Bool.{and_parts, ltb-true, eqb-true}
@@ -10,11 +10,10 @@ use Rattle.std.proofs.lemmas.List.{length-map}
 use Rattle.std.proofs.Math.Nat.{pow-zero}
 use Rattle.std.proofs.lemmas.Bool.{not-false}
 use Rattle.std.proofs.lemmas.List.Elements.{All-from_recursion, recursion_from_All}
-use Rattle.sequence.proofs.Each.{each_filtered, each_joined}
 use Rattle.sequence.proofs.Finds.{each_fails}
 use Rattle.sequence.proofs.Gathered.{length-all_there}
-use Rattle.sequence.proofs.Numbers.{numbers_at, numbers_below}
-use Rattle.sequence.proofs.Options.{some_is, none_is}
+use Rattle.sequence.proofs.Numbers.{numbers_at}
+use Rattle.sequence.proofs.Options.{none_is}
 use Rattle.sequence.specs.Numbers.{numbers_from}
 use Rattle.sequence.specs.Options.{all_there, passes}
 use Rattle.sequence.proofs.Each.{each_left, each_right, each_at}
@@ -22,12 +21,16 @@ use Rattle.sequence.proofs.Passes.{filter_has, each_from_list_all, within_from_t
 use Rattle.tsl_terms.specs.declared.names.NameKind.{NameKind}
 use Rattle.tsl_terms.specs.declared.names.NameKind.TheVariants.{Signal, Function, Predicate}
 use Rattle.tsl_terms.specs.Name.{Name, is_name, same_kind}
+use Rattle.tsl_terms.specs.Equality.{names_equality, is_equality}
+use Rattle.std.specs.Str.{bytes_eq}
 use Rattle.tsl_meaning.specs.Interpretation.{Interpretation, IsInterpretation, IsTable}
 use Rattle.table_interp.specs.declared.TheConstants.{MOST_VALUES}
-use Rattle.table_syntax.specs.Syntax.{TablesSyntax}
-use Rattle.table_syntax.specs.Syntax.{has_table}
-use Rattle.table_interp.specs.Needed.{is_symbol_number, needed}
-use Rattle.table_interp.specs.Tables.{numbers_for, has_no_entry, size_of, has_other_length, limit_of, too_large, table_of, IsInRange, Gives}
+use Rattle.table_syntax.specs.Syntax.{Entry, TablesSyntax, has_table}
+use Rattle.entry_names.specs.Needed.{is_symbol_number, needed}
+use Rattle.entry_names.specs.Entries.{subject_of, has_no_entry}
+use Rattle.entry_names.proofs.NeededNames.{needed_within, symbol_within}
+use Rattle.entry_names.proofs.Locate.{found_entry}
+use Rattle.table_interp.specs.Tables.{subjects_of, numbers_for, size_of, has_other_length, limit_of, too_large, table_of, IsInRange, Gives}
 use Rattle.table_interp.specs.internal.Located.{HasSmallTable, HasOneSmall}
 
 -- the cells are names
@@ -38,15 +41,6 @@ cells_within names cells h = All-from_recursion (λ s. s < length names) cells
       by : (xs : List ℕ) → AllByRecursion (λ s. is_name names s Signal 0 ≡ true) xs → AllByRecursion (λ s. s < length names) xs
       by [] each = tt
       by (x ∷ xs) each = (within_from_test names x (λ n. same_kind n.kind Signal && (n.arity == 0)) each.0, by xs each.1)
-
-pub needed_within : (names : List Name) (cells : List ℕ) → All (λ s. s < length names) cells →
-    All (λ id. id < length names) (needed names cells)
-needed_within names cells h =
-    All-from_recursion (λ id. id < length names) (needed names cells)
-    (each_joined (λ id. id < length names) (filter (is_symbol_number names) (numbers_from 0 (length names))) cells
-    (each_filtered (λ id. id < length names) (is_symbol_number names) (numbers_from 0 (length names))
-    (numbers_below 0 (length names) (length names) (omega arith)))
-    (recursion_from_All (λ s. s < length names) cells h))
 
 -- ---- what is known of a needed name
 
@@ -65,12 +59,14 @@ below_each limit xs h = by xs (each_fails (λ v. not (nat_lt v limit)) xs h) whe
   by [] each = tt
   by (y ∷ ys) each = (ltb-true y limit (not-false (nat_lt y limit) each.0), by ys each.1)
 
-is_given : (names : List Name) (given : TablesSyntax) (id : ℕ) → id < length names → has_no_entry names given id ≡ false →
+is_given : (names : List Name) (given : TablesSyntax) (id : ℕ) → id < length names → has_no_entry names (subjects_of given) id ≡ false →
     has_other_length names given id ≡ false → is_some (too_large names given id) ≡ false → IsGiven names given id
 is_given names given id within entry length_is small =
     named (slice_get names id) refl where
       found : (ns : List ℕ) × (numbers_for names given.entries id ≡ Some ns)
-      found = some_is (numbers_for names given.entries id) (not-false _ entry)
+      found =
+          let e = found_entry names id subject_of given.entries entry in
+          (e.0.numbers, ap (option_map (λ (d : Entry). d.numbers)) e.1)
 
       named : (o : Option Name) → slice_get names id ≡ o → IsGiven names given id
       named None e = absurd (there names id within e) where
@@ -113,6 +109,18 @@ name_kind n e =
     let parts = and_parts (same_kind n.kind Signal) (n.arity == 0) e in
     (kind_signal n.kind Signal parts.0, eqb-true n.arity 0 parts.1)
 
+-- a function is not equality
+no_function : (names : List Name) (id : ℕ) (name : Name) → slice_get names id ≡ Some name → name.kind ≡ Function →
+    is_equality names id ≡ false
+no_function names id name there kind =
+    ap (λ o. option_map_or names_equality o false) there
+    ∙ ap (λ k. bytes_eq (codes "eq") name.text && (same_kind k Predicate && (name.arity == 2))) kind
+    ∙ by (bytes_eq (codes "eq") name.text)
+  where
+    by : (b : Bool) → (b && false) ≡ false
+    by true = refl
+    by false = refl
+
 pub paired : (f : ℕ → Option (List ℕ)) (cells initial : List ℕ) → all_there (map f cells) ≡ Some (map (λ v. v ∷ []) initial) →
     length cells ≡ length initial
 paired f cells initial h = sym (length-map cells f) ∙ sym (length-all_there (map f cells) (map (λ v. v ∷ []) initial) h)
@@ -123,11 +131,11 @@ module _ (names : List Name) (cells : List ℕ) (given : TablesSyntax) (within :
   each_given : AllByRecursion (IsGiven names given) (needed names cells)
   each_given =
       by (needed names cells) (recursion_from_All (λ id. id < length names) (needed names cells) (needed_within names cells within))
-      (each_fails (has_no_entry names given) (needed names cells) h.so_far.so_far.so_far.whole)
+      (each_fails (has_no_entry names (subjects_of given)) (needed names cells) h.so_far.so_far.so_far.whole)
       (each_fails (has_other_length names given) (needed names cells) h.so_far.counted)
       (each_fails (λ id. is_some (too_large names given id)) (needed names cells) h.in_range)
     where
-      by : (ids : List ℕ) → AllByRecursion (λ id. id < length names) ids → AllByRecursion (λ id. has_no_entry names given id ≡ false) ids →
+      by : (ids : List ℕ) → AllByRecursion (λ id. id < length names) ids → AllByRecursion (λ id. has_no_entry names (subjects_of given) id ≡ false) ids →
           AllByRecursion (λ id. has_other_length names given id ≡ false) ids →
           AllByRecursion (λ id. is_some (too_large names given id) ≡ false) ids → AllByRecursion (IsGiven names given) ids
       by [] a b c d = tt
@@ -143,11 +151,6 @@ module _ (names : List Name) (cells : List ℕ) (given : TablesSyntax) (within :
       ∙ ap (λ n. Some n) (omega arith)) symbol in
       each_at (IsGiven names given) (filter (is_symbol_number names) (numbers_from 0 (length names))) place.0 id
       (each_left (IsGiven names given) (filter (is_symbol_number names) (numbers_from 0 (length names))) cells each_given) place.1
-    where
-      symbol_within : (xs : List Name) (k : ℕ) → passes (λ n. has_table n.kind) (slice_get xs k) ≡ true → k < length xs
-      symbol_within [] k e = cc
-      symbol_within (x ∷ xs) zero e = omega arith
-      symbol_within (x ∷ xs) (suc k) e = let rest : k < length xs = symbol_within xs k e in omega (arith, rest)
 
   -- a function or a predicate has a table of small numbers
   pub small_table : given.domain ≤ MOST_VALUES → (id : ℕ) → HasSmallTable names given.entries id
@@ -218,10 +221,11 @@ module _ (names : List Name) (cells : List ℕ) (given : TablesSyntax) (within :
         ∙ ap (λ t. Some t) table)
 
     is_table : (id : ℕ) (name : Name) (limit : ℕ) → slice_get names id ≡ Some name → has_table name.kind ≡ true →
-        limit_of given.domain name.kind ≡ limit →
+        is_equality names id ≡ false → limit_of given.domain name.kind ≡ limit →
         (table : List ℕ) × (slice_get interpretation.tables id ≡ Some table) × IsTable interpretation.domain name.arity limit table
-    is_table id name limit there kind is =
-        let symbol : is_symbol_number names id ≡ true = ap (passes (λ n. has_table n.kind)) there ∙ kind in
+    is_table id name limit there kind other is =
+        let symbol : is_symbol_number names id ≡ true =
+        λ i. (ap (passes (λ n. has_table n.kind)) there ∙ kind) i && not (other i) in
         let g : IsGiven names given id = symbol_given id symbol in
         let same : g.name ≡ name = same_Some g.name name (sym g.there ∙ there) in
         let size : length g.numbers ≡ interpretation.domain ^ name.arity =
@@ -238,8 +242,8 @@ module _ (names : List Name) (cells : List ℕ) (given : TablesSyntax) (within :
     interprets some few are = record {
       domain = omega (arith, some, gives.domain);
       functions = λ f name there kind. is_table f name interpretation.domain there (ap has_table kind)
-          (ap (limit_of given.domain) kind ∙ sym gives.domain);
-      predicates = λ p name there kind. is_table p name 2 there (ap has_table kind) (ap (limit_of given.domain) kind);
+          (no_function names f name there kind) (ap (limit_of given.domain) kind ∙ sym gives.domain);
+      predicates = λ p name there kind other. is_table p name 2 there (ap has_table kind) other (ap (limit_of given.domain) kind);
       initial = (
         sym (paired (numbers_for names given.entries) cells interpretation.initial gives.initial),
         All-from_recursion (λ v. v < interpretation.domain) interpretation.initial

@@ -1,9 +1,6 @@
 mod Lookups
-mod Slots
-mod Locate
 mod Growing
-mod Repeats
-mod Located
+mod GivenNumbers
 mod Facts
 mod Refusals
 mod Columns

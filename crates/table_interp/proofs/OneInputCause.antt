@@ -14,13 +14,13 @@ use Rattle.table_interp.specs.declared.InputError.TheVariants as error
 use Rattle.table_syntax.specs.Syntax.{TextToken, InputsSyntax}
 use Rattle.table_syntax.specs.Grammar.{IsInputs}
 use Rattle.table_syntax.specs.Forms.{IsRead}
-use Rattle.table_interp.specs.Needed.{IsFirstAt}
+use Rattle.table_interp.specs.Inputs.{IsFirstAt}
 use Rattle.table_interp.specs.Inputs.{AreKnown, AreOnce, AreWhole, HasFewRows, AreCounted, AreInRange, is_no_value, HasRowCause, HasInputCause}
 use Rattle.table_syntax.proofs.Readings.{same_inputs, no_tokens, form_refuses}
 use Rattle.table_interp.proofs.Refusals.{none_at}
 use Rattle.table_syntax.proofs.OneFault.{one_form, one_text_fault}
 use Rattle.table_interp.proofs.Stages.{one_by_stages}
-use Rattle.table_interp.proofs.OneTableCause.{one_repeat}
+use Rattle.entry_names.proofs.Repeats.{one_repeat}
 
 -- the first place at which a test holds is one place
 one_place : (test : List ℕ → Bool) (rows : List (List ℕ)) (i j : ℕ) → IsFirstAt test rows i → IsFirstAt test rows j → i ≡ j

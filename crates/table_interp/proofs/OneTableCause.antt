@@ -1,7 +1,6 @@
 -- A text has at most one cause why it spells no interpretation of names with cells.
-use Rattle.std.proofs.Common.{◌≡◌, ◌∙◌, ℕ, zero, suc, ◌≤◌, List, refl, sym, ap, subst, arith, inl, inr, ⊎_elim}
+use Rattle.std.proofs.Common.{◌≡◌, ◌∙◌, ℕ, zero, suc, ◌≤◌, List, refl, sym, ap, subst, arith, inl, inr}
 use Rattle.std.specs.Prelude.{◌≢◌, slice_get}
-use Rattle.std.proofs.lemmas.Bool.{cases_lt}
 use Rattle.sequence.proofs.Options.{none_never_some, one_value}
 use Rattle.tsl_text.specs.declared.Token.{Token}
 use Rattle.tsl_text.specs.declared.TextError.{TextError}
@@ -11,30 +10,25 @@ use Rattle.tsl_terms.specs.Name.{Name}
 use Rattle.table_interp.specs.declared.TheConstants.{MOST_VALUES}
 use Rattle.table_interp.specs.declared.TableError.{TableError}
 use Rattle.table_interp.specs.declared.TableError.TheVariants as error
-use Rattle.table_syntax.specs.Syntax.{Entry, TablesSyntax}
+use Rattle.table_syntax.specs.Syntax.{TablesSyntax}
 use Rattle.table_syntax.specs.Grammar.{IsTables}
 use Rattle.table_syntax.specs.Forms.{IsRead}
-use Rattle.table_interp.specs.Needed.{IsFirstRepeat}
-use Rattle.table_interp.specs.Tables.{IsKnown, IsOnce, IsWhole, HasFewEntries, IsCounted, IsInRange, HasFewValues}
+use Rattle.entry_names.specs.Needed.{needed}
+use Rattle.table_interp.specs.Tables.{subjects_of, HasFewEntries, IsCounted, IsInRange, HasFewValues}
+use Rattle.entry_names.specs.Entries.{Subject, AreKnown, AreOnce, AreWhole}
 use Rattle.table_interp.specs.Tables.{too_large, HasEntryCause, HasTableCause}
 use Rattle.table_syntax.proofs.Readings.{same_tables, no_tokens, form_refuses}
 use Rattle.table_syntax.proofs.OneFault.{one_form, one_text_fault}
+use Rattle.entry_names.proofs.Repeats.{one_repeat}
 use Rattle.table_interp.proofs.Stages.{one_by_stages}
-
--- the first place that repeats an earlier one is one place
-pub one_repeat : {A : Type 0} (xs : List A) (i j : ℕ) → IsFirstRepeat xs i → IsFirstRepeat xs j → i ≡ j
-one_repeat xs i j h k =
-    ⊎_elim (λ less. absurd (k.none_before i less h.repeat))
-    (λ back. ⊎_elim (λ less. absurd (h.none_before j less k.repeat)) (λ forth. omega (arith, back, forth)) (cases_lt j i))
-    (cases_lt i j)
 
 module _ (text : List ℕ) (names : List Name) (cells : List ℕ) where
   -- how far entries give an interpretation
   abbrev UpTo : ℕ → TablesSyntax → Type 0
   UpTo zero given = Unit {0}
-  UpTo (suc zero) given = IsKnown names cells given
-  UpTo (suc (suc zero)) given = IsOnce names cells given
-  UpTo (suc (suc (suc zero))) given = IsWhole names cells given
+  UpTo (suc zero) given = AreKnown names (needed names cells) (subjects_of given)
+  UpTo (suc (suc zero)) given = AreOnce names (needed names cells) (subjects_of given)
+  UpTo (suc (suc (suc zero))) given = AreWhole names (needed names cells) (subjects_of given)
   UpTo (suc (suc (suc (suc zero)))) given = HasFewEntries names cells given
   UpTo (suc (suc (suc (suc (suc zero))))) given = IsCounted names cells given
   UpTo (suc (suc (suc (suc (suc (suc n)))))) given = IsInRange names cells given
@@ -136,16 +130,16 @@ module _ (text : List ℕ) (names : List Name) (cells : List ℕ) where
       let cause = h.0.cause in
       let other = moved h.0.given k.0.given h.0.read k.0.read (error.Unknown x y) k.0.cause in
       let entry : cause.entry ≡ other.entry = one_value _ cause.entry other.entry cause.first other.first in
-      λ i. error.Unknown ((cause.starts ∙ ap (λ (d : Entry). d.name.token.start) entry ∙ sym other.starts) i)
-      ((cause.ends ∙ ap (λ (d : Entry). d.name.token.end) entry ∙ sym other.ends) i)
+      λ i. error.Unknown ((cause.starts ∙ ap (λ (d : Subject). d.name.token.start) entry ∙ sym other.starts) i)
+      ((cause.ends ∙ ap (λ (d : Subject). d.name.token.end) entry ∙ sym other.ends) i)
   one_of_stage (error.Twice s f) (error.Twice x y) e h k =
       let cause = h.0.cause in
       let other = moved h.0.given k.0.given h.0.read k.0.read (error.Twice x y) k.0.cause in
       let at : cause.at ≡ other.at = one_repeat _ cause.at other.at cause.first other.first in
-      let entry : cause.entry ≡ other.entry = one_value (slice_get h.0.given.entries other.at) cause.entry other.entry
-      (sym (ap (slice_get h.0.given.entries) at) ∙ cause.there) other.there in
-      λ i. error.Twice ((cause.starts ∙ ap (λ (d : Entry). d.name.token.start) entry ∙ sym other.starts) i)
-      ((cause.ends ∙ ap (λ (d : Entry). d.name.token.end) entry ∙ sym other.ends) i)
+      let entry : cause.entry ≡ other.entry = one_value (slice_get (subjects_of h.0.given) other.at) cause.entry other.entry
+      (sym (ap (slice_get (subjects_of h.0.given)) at) ∙ cause.there) other.there in
+      λ i. error.Twice ((cause.starts ∙ ap (λ (d : Subject). d.name.token.start) entry ∙ sym other.starts) i)
+      ((cause.ends ∙ ap (λ (d : Subject). d.name.token.end) entry ∙ sym other.ends) i)
   one_of_stage (error.Missing x) (error.Missing y) e h k =
       let other = moved h.0.given k.0.given h.0.read k.0.read (error.Missing y) k.0.cause in
       ap error.Missing (one_value _ x y h.0.cause.first other.first)

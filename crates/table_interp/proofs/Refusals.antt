@@ -16,7 +16,9 @@ use Rattle.table_syntax.specs.Syntax.{TablesSyntax}
 use Rattle.table_syntax.specs.Grammar.{IsTables}
 use Rattle.table_syntax.specs.Forms.{IsRead}
 use Rattle.table_interp.specs.Tables.{HasEntryCause, HasFewValues, HasTableCause, IsRefusedAsTables, SpellsTables, Gives}
-use Rattle.table_interp.specs.Tables.{HasUnknownEntry, HasSecondEntry, HasMissingEntry, HasManyEntries, HasOtherLength, HasLargeNumber}
+use Rattle.table_interp.specs.Tables.{subjects_of, HasManyEntries, HasOtherLength, HasLargeNumber}
+use Rattle.entry_names.specs.Needed.{needed}
+use Rattle.entry_names.specs.Entries.{HasUnknownEntry, HasSecondEntry, HasMissingEntry}
 use Rattle.tsl_meaning.specs.Interpretation.{Interpretation}
 use Rattle.table_syntax.specs.Forms.{HasTextFault}
 use Rattle.table_interp.specs.internal.Texts.{table_error, input_error}
@@ -24,7 +26,7 @@ use Rattle.table_interp.specs.declared.InputError.{InputError}
 use Rattle.table_interp.specs.declared.InputError.TheVariants as input
 use Rattle.table_syntax.specs.Syntax.{InputsSyntax}
 use Rattle.table_syntax.specs.Grammar.{IsInputs}
-use Rattle.table_interp.specs.Needed.{IsFirstAt}
+use Rattle.table_interp.specs.Inputs.{IsFirstAt}
 use Rattle.table_interp.specs.Inputs.{GivesRows, HasRowCause, HasInputCause, IsRefusedAsInputs, SpellsInputs}
 use Rattle.tsl_meaning.specs.Interpretation.{InputRows}
 use Rattle.sequence.proofs.Each.{each_at}
@@ -41,15 +43,15 @@ module _ (text : List ℕ) (names : List Name) (cells : List ℕ) where
       subst (λ g. Gives names cells g interpretation)
       (same_tables text spelled.given given spelled.read.read h.read) spelled.gives
 
-  unknown_refuses : (given : TablesSyntax) (start end : ℕ) → HasUnknownEntry names cells given start end → (i : Interpretation) →
+  unknown_refuses : (given : TablesSyntax) (start end : ℕ) → HasUnknownEntry names (needed names cells) (subjects_of given) start end → (i : Interpretation) →
       Gives names cells given i → ⊥
   unknown_refuses given start end h i g = none_never_some _ h.entry g.in_range.so_far.so_far.so_far.so_far.known h.first
 
-  second_refuses : (given : TablesSyntax) (start end : ℕ) → HasSecondEntry names cells given start end → (i : Interpretation) →
+  second_refuses : (given : TablesSyntax) (start end : ℕ) → HasSecondEntry names (needed names cells) (subjects_of given) start end → (i : Interpretation) →
       Gives names cells given i → ⊥
   second_refuses given start end h i g = g.in_range.so_far.so_far.so_far.so_far.once h.at h.first.repeat
 
-  missing_refuses : (given : TablesSyntax) (id : ℕ) → HasMissingEntry names cells given id → (i : Interpretation) →
+  missing_refuses : (given : TablesSyntax) (id : ℕ) → HasMissingEntry names (needed names cells) (subjects_of given) id → (i : Interpretation) →
       Gives names cells given i → ⊥
   missing_refuses given id h i g = none_never_some _ id g.in_range.so_far.so_far.so_far.whole h.first
 

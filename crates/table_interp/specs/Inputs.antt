@@ -1,6 +1,6 @@
 -- Which rows of inputs a text spells, and the cause of each refusal. A refusal has the first of these causes that the
 -- text has: each speaks of texts that have none of those before it.
-use Rattle.std.specs.Prelude.{◌≡◌, ℕ, ◌==◌, ◌<◌, ◌≤◌, Bool, not, List, ◌++◌, length, map, nat_lt}
+use Rattle.std.specs.Prelude.{◌≡◌, ℕ, ◌==◌, ◌<◌, ◌≤◌, Bool, true, false, not, List, ◌++◌, length, map, nat_lt}
 use Rattle.std.specs.Prelude.{Option, Some, None, slice_get, is_some}
 use Rattle.std.specs.List.{find, list_any}
 use Rattle.sequence.specs.Numbers.{is_among}
@@ -26,7 +26,7 @@ use Rattle.table_interp.specs.declared.InputError.TheVariants.{
 use Rattle.table_syntax.specs.Syntax.{TextToken, InputsSyntax}
 use Rattle.table_syntax.specs.Grammar.{IsInputs}
 use Rattle.table_syntax.specs.Forms.{IsRead, HasFormFault}
-use Rattle.table_interp.specs.Needed.{number_for, is_for, IsFirstRepeat, HasNoRepeat, IsFirstAt}
+use Rattle.entry_names.specs.Needed.{number_for, is_for, IsFirstRepeat, HasNoRepeat}
 
 -- ---- what columns and rows give
 
@@ -48,6 +48,13 @@ has_other_width inputs row = not (length row == length inputs)
 -- whether a number is no value
 abbrev pub is_no_value : ℕ → ℕ → Bool
 is_no_value domain n = not (nat_lt n domain)
+
+-- the first member that passes a test stands at this place
+pub record IsFirstAt {A : Type 0} (test : A → Bool) (xs : List A) (at : ℕ) : Type 0 where
+  pub member : A
+  pub there : slice_get xs at ≡ Some member
+  pub passed : test member ≡ true
+  pub none_before : (i : ℕ) (x : A) → i < at → slice_get xs i ≡ Some x → test x ≡ false
 
 -- ---- how far a text gives rows
 

@@ -1,4 +1,3 @@
-pub mod Needed
 pub mod Tables
 pub mod Inputs
 pub mod Meaning

@@ -1,17 +1,14 @@
 -- What tables stand for.
-use Rattle.std.specs.Prelude.{ℕ, ◌==◌, List, option_map}
-use Rattle.tsl_terms.specs.Value.{Meanings, beside}
-use Rattle.tsl_meaning.specs.Interpretation.{Interpretation, entry_at}
+use Rattle.std.specs.Prelude.{ℕ, List, Option}
+use Rattle.tsl_terms.specs.Value.{Meanings}
+use Rattle.tsl_meaning.specs.Interpretation.{Interpretation, meanings_with}
 
--- an interpretation, and the cells whose values at first it has, in its order
+-- an interpretation, the cells whose values at first it has, in its order, and the number of equality
 pub record TablesMeaning : Type 0 where
   pub cells : List ℕ
+  pub equality : Option ℕ
   pub interpretation : Interpretation
 
--- what symbols and cells mean: a predicate holds where its entry is 1
+-- what symbols and cells mean
 abbrev pub meanings_of : TablesMeaning → Meanings ℕ
-meanings_of t = record {
-  function = entry_at t.interpretation;
-  predicate = λ p arguments. option_map (λ entry. entry == 1) (entry_at t.interpretation p arguments);
-  initial = λ s. beside s t.cells t.interpretation.initial;
-}
+meanings_of t = meanings_with t.equality t.cells t.interpretation

@@ -28,20 +28,18 @@ use Rattle.table_interp.specs.declared.TableError.TheVariants.{
 use Rattle.table_syntax.specs.Syntax.{Entry, TablesSyntax}
 use Rattle.table_syntax.specs.Grammar.{IsTables}
 use Rattle.table_syntax.specs.Forms.{IsRead, HasFormFault}
-use Rattle.table_interp.specs.Needed.{is_symbol_number, needed, is_needed_as, number_for, is_for, IsFirstRepeat, HasNoRepeat}
+use Rattle.entry_names.specs.Needed.{is_symbol_number, needed, is_for}
+use Rattle.entry_names.specs.Entries.{Subject, subject_of, AreWhole, HasUnknownEntry, HasSecondEntry, HasMissingEntry}
 
 -- ---- what entries give
 
--- whether tables need the name of an entry in its kind
-abbrev pub is_known : List Name → List ℕ → Entry → Bool
-is_known names cells e = passes (is_needed_as names cells e.kind) (number_for names e.name)
+-- what the entries are for
+abbrev pub subjects_of : TablesSyntax → List Subject
+subjects_of given = map subject_of given.entries
 
 -- the numbers that are given for a name
 abbrev pub numbers_for : List Name → List Entry → ℕ → Option (List ℕ)
 numbers_for names entries id = option_map (λ e. e.numbers) (find (λ e. is_for names id e.name) entries)
-
-abbrev pub has_no_entry : List Name → TablesSyntax → ℕ → Bool
-has_no_entry names given id = not (is_some (numbers_for names given.entries id))
 
 -- how many numbers a name needs: one for each list of arguments, and so one for a cell
 abbrev pub size_of : List Name → ℕ → ℕ → Option ℕ
@@ -68,23 +66,9 @@ too_large names given id =
 -- ---- how far a text gives an interpretation
 
 module _ (names : List Name) (cells : List ℕ) (given : TablesSyntax) where
-  -- each entry is for a needed name, in its kind
-  abbrev pub IsKnown : Type 0
-  IsKnown = find (λ e. not (is_known names cells e)) given.entries ≡ None
-
-  -- and no two for the same one
-  pub record IsOnce : Type 0 where
-    pub known : IsKnown
-    pub once : HasNoRepeat (map (λ e. number_for names e.name) given.entries)
-
-  -- and each needed name has an entry
-  pub record IsWhole : Type 0 where
-    pub so_far : IsOnce
-    pub whole : find (has_no_entry names given) (needed names cells) ≡ None
-
-  -- and none needs too many numbers
+  -- Each entry is for a needed name, in its kind, and each needed name has one; and none needs too many numbers.
   pub record HasFewEntries : Type 0 where
-    pub so_far : IsWhole
+    pub so_far : AreWhole names (needed names cells) (subjects_of given)
     pub few_entries : find (has_many_entries names given) (needed names cells) ≡ None
 
   -- and each has as many as it needs
@@ -97,12 +81,12 @@ module _ (names : List Name) (cells : List ℕ) (given : TablesSyntax) where
     pub so_far : IsCounted
     pub in_range : find (λ id. is_some (too_large names given id)) (needed names cells) ≡ None
 
--- the table of a function or a predicate; a signal has an empty one
+-- the table of a function, or of a predicate other than equality; other names have an empty one
 abbrev pub table_of : List Name → List Entry → ℕ → Option (List ℕ)
 table_of names entries id = if is_symbol_number names id then numbers_for names entries id else Some []
 
--- The entries give the interpretation: the numbers for each function and predicate are its table, and the number for
--- each cell is its value at first.
+-- The entries give the interpretation: the numbers for each function, and for each predicate other than equality, are its
+-- table, and the number for each cell is its value at first.
 pub record Gives (names : List Name) (cells : List ℕ) (given : TablesSyntax) (interpretation : Interpretation) : Type 0 where
   pub in_range : IsInRange names cells given
   pub domain : interpretation.domain ≡ given.domain
@@ -127,31 +111,9 @@ SpellsNoTables text names cells = (interpretation : Interpretation) → SpellsTa
 -- ---- the causes of refusals
 
 module _ (names : List Name) (cells : List ℕ) (given : TablesSyntax) where
-  -- the first entry that is not for a needed name in its kind has its name between these offsets
-  pub record HasUnknownEntry (start end : ℕ) : Type 0 where
-    pub entry : Entry
-    pub first : find (λ e. not (is_known names cells e)) given.entries ≡ Some entry
-    pub starts : start ≡ entry.name.token.start
-    pub ends : end ≡ entry.name.token.end
-
-  -- the first entry for a name that has an earlier one has its name between these offsets
-  pub record HasSecondEntry (start end : ℕ) : Type 0 where
-    pub known : IsKnown names cells given
-    pub at : ℕ
-    pub first : IsFirstRepeat (map (λ e. number_for names e.name) given.entries) at
-    pub entry : Entry
-    pub there : slice_get given.entries at ≡ Some entry
-    pub starts : start ≡ entry.name.token.start
-    pub ends : end ≡ entry.name.token.end
-
-  -- the first needed name without an entry
-  pub record HasMissingEntry (id : ℕ) : Type 0 where
-    pub so_far : IsOnce names cells given
-    pub first : find (has_no_entry names given) (needed names cells) ≡ Some id
-
   -- the first needed name that needs too many numbers
   pub record HasManyEntries (id : ℕ) : Type 0 where
-    pub so_far : IsWhole names cells given
+    pub so_far : AreWhole names (needed names cells) (subjects_of given)
     pub first : find (has_many_entries names given) (needed names cells) ≡ Some id
 
   -- the first needed name that has not as many numbers as it needs
@@ -171,9 +133,9 @@ HasEntryCause names cells given (Byte at) = ⊥
 HasEntryCause names cells given (OpenComment at) = ⊥
 HasEntryCause names cells given (Form at) = ⊥
 HasEntryCause names cells given Domain = ⊥
-HasEntryCause names cells given (Unknown start end) = HasUnknownEntry names cells given start end
-HasEntryCause names cells given (Twice start end) = HasSecondEntry names cells given start end
-HasEntryCause names cells given (Missing id) = HasMissingEntry names cells given id
+HasEntryCause names cells given (Unknown start end) = HasUnknownEntry names (needed names cells) (subjects_of given) start end
+HasEntryCause names cells given (Twice start end) = HasSecondEntry names (needed names cells) (subjects_of given) start end
+HasEntryCause names cells given (Missing id) = HasMissingEntry names (needed names cells) (subjects_of given) id
 HasEntryCause names cells given (Entries id) = HasManyEntries names cells given id
 HasEntryCause names cells given (Count id) = HasOtherLength names cells given id
 HasEntryCause names cells given (Range id value) = HasLargeNumber names cells given id value

@@ -1,4 +1,3 @@
-pub mod Resolving
 pub mod Texts
 pub mod Located
 pub mod Lacks

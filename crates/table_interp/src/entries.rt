@@ -1,41 +1,41 @@
 //! The interpretation that the entries of a text give.
 
-ghost use Rattle.std.specs.Prelude.{◌≡◌, ℕ, ◌<◌, ◌≤◌, ◌^◌, [], ◌∷◌, Some, not, nat_lt, IsTrue, is_some, option_map, length, map, All, IfOk, IfErr, IfSome};
-ghost use Rattle.std.specs.Prelude.{slice_get, IsSomeAnd};
+ghost use Rattle.std.specs.Prelude.{◌≡◌, ◌↔◌, ℕ, ◌<◌, ◌≤◌, ◌^◌, [], ◌∷◌, Some, not, nat_lt, IsTrue, is_some, option_map, length, map, All, IfOk, IfErr, IfSome};
+ghost use Rattle.std.specs.Prelude.{IsSomeAnd};
 ghost use Rattle.std.specs.Option.{SomeIff};
 ghost use Rattle.std.specs.List.{find, list_all};
 ghost use Rattle.sequence.specs.Numbers.{IsDistinct, numbers_from};
 ghost use Rattle.sequence.specs.Options.{all_there};
 ghost use Rattle.tsl_terms.specs.declared.names.NameKind.TheVariants.{Signal};
 ghost use Rattle.tsl_terms.specs.Name.{is_name};
-ghost use Rattle.table_interp.specs.Needed.{needed};
+ghost use Rattle.tsl_terms.specs.Equality.{is_equality};
+ghost use Rattle.tsl_meaning.specs.Interpretation.{IsEqualityOf};
+ghost use Rattle.entry_names.specs.Needed.{needed};
+ghost use Rattle.entry_names.specs.Entries.{AreWhole, AreLocated};
 ghost use Rattle.table_interp.specs.Tables.{
+  subjects_of,
   numbers_for,
-  has_no_entry,
   size_of,
   has_many_entries,
   has_other_length,
   limit_of,
   too_large,
   table_of,
-  IsOnce,
   IsInRange,
   Gives,
   HasEntryCause,
 };
 ghost use Rattle.table_syntax.specs.View.{entries_view, tables_view};
 ghost use Rattle.table_interp.specs.internal.Lacks.{lacks};
-ghost use Rattle.table_interp.specs.internal.Located.{located_tables, IsLocated, AreLocated, HasSmallTable, HasOneSmall};
+ghost use Rattle.table_interp.specs.internal.Located.{located_tables, IsLocated, HasSmallTable, HasOneSmall};
 
-use crate::naming::{NameFault, entry_numbers};
-use crate::resolving::{RepeatFault, has_table, marks, needed, place_of, places};
 use crate::tables::Tables;
 use crate::{MOST_ENTRIES, MOST_VALUES, TableError};
+use entry_names::{entry_places, is_symbol_number, needed, place_of};
 use sequence::{NoMemory, Sequence};
 use std::alloc::{AllocError, Global};
 use table_syntax::{Entry, TablesText};
-use tsl_terms::{NameKind, Names};
-use tsl_text::Token;
+use tsl_terms::{NameKind, Names, equality_of};
 
 /// The entries of a text, and the place of the entry for each name.
 #[derive(Clone, Copy)]
@@ -59,15 +59,6 @@ fn numbers_for<'a, 'b>(given: &Located<'a, 'b>, id: u32) -> Option<&'b [u64]>
             Some(entry) => Some(entry.numbers.as_slice()),
         },
     }
-}
-
-/// Whether a name has no entry.
-fn has_no_entry(given: &Located, id: u32) -> bool
-    requires located { IsLocated given.now }
-    requires within { id < length given.now.names.now }
-    ensures { result ≡ has_no_entry given.now.names.now (located_tables given.now) id }
-{
-    numbers_for(given, id).is_none()
 }
 
 /// How many numbers a name needs. `None` where they are 2^64 or more.
@@ -141,8 +132,6 @@ fn too_large(given: &Located, id: u32) -> Option<u64>
 /// What the entry of a needed name may be refused for, before its numbers are looked at.
 #[derive(Clone, Copy)]
 enum Lack {
-    /// There is none.
-    Entry,
     /// It would have too many numbers.
     Room,
     /// It has not as many numbers as it needs.
@@ -156,7 +145,6 @@ fn lacks(given: &Located, lack: Lack, id: u32) -> bool
     ensures { result ≡ lacks lack given.now.names.now (located_tables given.now) id }
 {
     match lack {
-        Lack::Entry => has_no_entry(given, id),
         Lack::Room => has_many_entries(given, id),
         Lack::Count => has_other_length(given, id),
     }
@@ -193,54 +181,33 @@ fn first_too_large(given: &Located, needed: &[u32]) -> Option<(u32, u64)>
     None
 }
 
-/// The token of the name of the entry at a place.
-fn name_at(entries: &[Entry], at: usize) -> Token
-    requires { at < length entries.now }
-    ensures { IsSomeAnd (slice_get (entries_view entries.now) at) (λ e. result ≡ e.name.token) }
-{
-    entries[at].name.token
-}
-
 /// The place of the entry for each name.
 fn located_entries(
     alloc: Global,
     names: &Names,
     cells: &[u32],
+    ids: &[u32],
     given: &TablesText,
 ) -> Result<Vec<Option<usize>>, TableError>
-    requires cells { All (λ s. s < length names.now) cells.now }
-    ensures once { IfOk result (λ places. IsOnce names.now cells.now (tables_view given.now)) }
-    ensures located { IfOk result (λ places. AreLocated names.now (tables_view given.now).entries places.items) }
+    requires needed { ids.now ≡ needed names.now cells.now }
+    requires within { All (λ id. id < length names.now) ids.now }
+    ensures whole { IfOk result (λ places. AreWhole names.now (needed names.now cells.now) (subjects_of (tables_view given.now))) }
+    ensures located { IfOk result (λ places. AreLocated names.now (subjects_of (tables_view given.now)) places.items) }
     ensures cause { IfErr result (HasEntryCause names.now cells.now (tables_view given.now)) }
 {
-    let marks = marks(alloc, names.count(), cells)?;
-    let numbers = match entry_numbers(alloc, names, cells, &marks, &given.entries) {
-        Ok(numbers) => numbers,
-        Err(NameFault::Unknown(token)) => return Err(TableError::Unknown(token.start, token.end)),
-        Err(NameFault::NoMemory) => return Err(TableError::NoMemory),
-    };
-    match places(alloc, names.count(), &numbers) {
-        Ok(places) => Ok(places),
-        Err(RepeatFault::Repeat(at)) => {
-            let token = name_at(&given.entries, at);
-            Err(TableError::Twice(token.start, token.end))
-        }
-        Err(RepeatFault::NoMemory) => Err(TableError::NoMemory),
-    }
+    let places = entry_places(alloc, names, ids, given.entries.as_slice())?;
+    Ok(places)
 }
 
 /// Whether each needed name has as many numbers as it needs, and none is too large.
 fn check_entries(given: &Located, cells: &[u32], ids: &[u32]) -> Result<(), TableError>
-    requires once { IsOnce given.now.names.now cells.now (located_tables given.now) }
+    requires whole { AreWhole given.now.names.now (needed given.now.names.now cells.now) (subjects_of (located_tables given.now)) }
     requires located { IsLocated given.now }
     requires needed { ids.now ≡ needed given.now.names.now cells.now }
     requires within { All (λ id. id < length given.now.names.now) ids.now }
     ensures ok { IfOk result (λ _. IsInRange given.now.names.now cells.now (located_tables given.now)) }
     ensures cause { IfErr result (HasEntryCause given.now.names.now cells.now (located_tables given.now)) }
 {
-    if let Some(id) = first_lacking(given, Lack::Entry, ids) {
-        return Err(TableError::Missing(id));
-    }
     if let Some(id) = first_lacking(given, Lack::Room, ids) {
         return Err(TableError::Entries(id));
     }
@@ -265,14 +232,21 @@ pub(crate) fn narrow(alloc: Global, numbers: &[u64]) -> Result<Vec<u32>, NoMemor
     Ok(all)
 }
 
-/// The table of a function or a predicate; a signal has an empty one. An `Err` says that memory ran out.
-fn table_of(alloc: Global, given: &Located, id: u32) -> Result<Vec<u32>, NoMemory>
+/// The table of a function or a predicate; a signal and equality have an empty one. An `Err` says that
+/// memory ran out.
+fn table_of(
+    alloc: Global,
+    given: &Located,
+    equality: Option<u32>,
+    id: u32,
+) -> Result<Vec<u32>, NoMemory>
+    requires equality { (n : ℕ) → (equality ≡ Some n) ↔ IsTrue (is_equality given.now.names.now n) }
     requires located { IsLocated given.now }
     requires within { id < length given.now.names.now }
     requires small { HasSmallTable given.now.names.now (located_tables given.now).entries id }
     ensures { IfOk result (λ table. table_of given.now.names.now (located_tables given.now).entries id ≡ Some table.items) }
 {
-    if !has_table(given.names.kind(id)) {
+    if !is_symbol_number(given.names, equality, id) {
         return Ok(Vec::new(alloc));
     }
     match numbers_for(given, id) {
@@ -288,9 +262,10 @@ fn tables_of(alloc: Global, given: &Located) -> Result<Vec<Sequence<u32>>, NoMem
     ensures { IfOk result (λ tables. all_there (map (table_of given.now.names.now (located_tables given.now).entries)
         (numbers_from 0 (length given.now.names.now))) ≡ Some tables.items) }
 {
+    let equality = equality_of(given.names);
     let mut tables = Vec::new(alloc);
     for id in 0..given.names.count() {
-        let table = table_of(alloc, given, id)?;
+        let table = table_of(alloc, given, equality, id)?;
         tables.push(Sequence::from_vec(table))?;
     }
     Ok(tables)
@@ -336,10 +311,11 @@ pub(crate) fn tables_from(
     requires distinct { IsDistinct cells.now }
     ensures gives { IfOk result (λ tables. Gives names.now cells.now (tables_view given.now) tables.interpretation) }
     ensures cells { IfOk result (λ tables. tables.cells ≡ cells.now) }
+    ensures equality { IfOk result (λ tables. IsEqualityOf names.now tables.equality) }
     ensures cause { IfErr result (HasEntryCause names.now cells.now (tables_view given.now)) }
 {
-    let places = located_entries(alloc, names, cells, given)?;
     let needed = needed(alloc, names, cells)?;
+    let places = located_entries(alloc, names, cells, &needed, given)?;
     let located = Located {
         names,
         domain: given.domain as u32,
@@ -349,6 +325,7 @@ pub(crate) fn tables_from(
     check_entries(&located, cells, &needed)?;
     let tables = tables_of(alloc, &located)?;
     let initial = initial_of(alloc, &located, cells)?;
-    let tables = Tables::from_parts(alloc, located.domain, tables, cells, &initial)?;
+    let equality = equality_of(names);
+    let tables = Tables::from_parts(alloc, located.domain, tables, cells, &initial, equality)?;
     Ok(tables)
 }

@@ -8,13 +8,14 @@ ghost use Rattle.sequence.specs.Options.{all_there};
 ghost use Rattle.tsl_terms.specs.declared.names.NameKind.TheVariants.{Signal};
 ghost use Rattle.tsl_terms.specs.Name.{is_name};
 ghost use Rattle.tsl_meaning.specs.Interpretation.{rows_of};
-ghost use Rattle.table_interp.specs.Needed.{is_for, IsFirstAt};
+ghost use Rattle.entry_names.specs.Needed.{is_for};
 ghost use Rattle.table_interp.specs.Inputs.{
   has_no_column,
   has_other_width,
   is_no_value,
   all_rows,
   by_inputs,
+  IsFirstAt,
   AreOnce,
   AreCounted,
   AreInRange,
@@ -26,8 +27,8 @@ ghost use Rattle.table_interp.specs.internal.Ordered.{AreColumnsOf, AreOrdered, 
 
 use crate::entries::first_from;
 use crate::naming::{NameFault, column_numbers};
-use crate::resolving::{RepeatFault, marks, place_of, places};
 use crate::{InputError, MOST_ROWS};
+use entry_names::{RepeatFault, marks, place_of, places};
 use sequence::{NoMemory, Sequence};
 use std::alloc::{AllocError, Global};
 use table_syntax::{InputsText, TextToken};

@@ -1,11 +1,11 @@
 //! Laws of the texts and of what they spell.
 
-ghost use Rattle.std.specs.Prelude.{◌≡◌, ◌≢◌, ℕ, List, IsTrue};
+ghost use Rattle.std.specs.Prelude.{◌≡◌, ◌≢◌, ℕ, List, Option, IsTrue};
 ghost use Rattle.std.specs.List.{list_all};
 ghost use Rattle.tsl_terms.specs.declared.names.NameKind.TheVariants.{Signal};
 ghost use Rattle.tsl_terms.specs.Name.{Name, is_name};
 ghost use Rattle.program_tree.specs.ProgramTree.{ProgramTree};
-ghost use Rattle.tsl_meaning.specs.Interpretation.{Interpretation, InputRows, IsInterpretation, IsInputLoop, meanings_in};
+ghost use Rattle.tsl_meaning.specs.Interpretation.{Interpretation, InputRows, IsInterpretation, IsInputLoop, IsEqualityOf, meanings_in};
 ghost use Rattle.table_interp.specs.Meaning.{meanings_of};
 ghost use Rattle.table_interp.specs.declared.TableError.{TableError};
 ghost use Rattle.table_interp.specs.declared.TableError.TheVariants as table;
@@ -45,8 +45,11 @@ pub fn one_cause()
         HasInputCause text names inputs domain error → IsRefusedAsInputs text names inputs domain error }
 {}
 
-/// Tables with the cells of a program mean what the program's symbols mean under their interpretation.
+/// Tables with the cells of a program, and the number of equality among the names, mean what the program's symbols mean
+/// under their interpretation.
 pub fn meanings_are_those_of_programs()
-    ensures { (names : List Name) (program : ProgramTree) (interpretation : Interpretation) →
-        meanings_of (record { cells = program.cells; interpretation = interpretation }) ≡ meanings_in names program interpretation }
+    ensures { (names : List Name) (equality : Option ℕ) (program : ProgramTree) (interpretation : Interpretation) →
+        IsEqualityOf names equality →
+        meanings_of (record { cells = program.cells; equality = equality; interpretation = interpretation })
+        ≡ meanings_in names program interpretation }
 {}

@@ -5,8 +5,8 @@
 //! - `read_tables` and `read_inputs` answer `Ok` exactly where a text spells an interpretation
 //!   (`specs/Tables.antt`) or rows of inputs (`specs/Inputs.antt`), and then that one, and each refusal
 //!   has its cause there.
-//! - What the two texts are made of and their grammars stand in the crate `table_syntax`; this crate says
-//!   what the names in them stand for, and what the numbers give.
+//! - What the two texts are made of and their grammars stand in the crate `table_syntax`, and which names
+//!   entries are for in `entry_names`; this crate says what the numbers give.
 //! - Laws: a text spells at most one interpretation or input loop, which has a meaning, and has at most one
 //!   cause of refusal; the meanings of tables are those of programs with the same cells.
 #![tactic(auto)]
@@ -16,11 +16,12 @@ ghost use Rattle.std.specs.List.{list_all};
 ghost use Rattle.sequence.specs.Numbers.{IsDistinct};
 ghost use Rattle.tsl_terms.specs.declared.names.NameKind.TheVariants.{Signal};
 ghost use Rattle.tsl_terms.specs.Name.{is_name};
-ghost use Rattle.tsl_meaning.specs.Interpretation.{IsInterpretation, IsInputLoop, rows_of};
+ghost use Rattle.tsl_meaning.specs.Interpretation.{IsInterpretation, IsInputLoop, IsEqualityOf, rows_of};
 ghost use Rattle.table_interp.specs.Tables.{SpellsTables, HasTableCause, IsRefusedAsTables};
 ghost use Rattle.table_interp.specs.Inputs.{SpellsInputs, HasInputCause, IsRefusedAsInputs};
 
 use entries::tables_from;
+use entry_names::EntryFault;
 use inputs::rows_from;
 use sequence::NoMemory;
 use std::alloc::{AllocFailed, Global};
@@ -33,7 +34,6 @@ mod entries;
 mod inputs;
 mod laws;
 mod naming;
-mod resolving;
 mod tables;
 
 pub use laws::{
@@ -52,7 +52,8 @@ pub const MOST_ROWS: u32 = 65_536;
 
 /// Why a text spells no tables for the names. Offsets count bytes from 0. The first cause in this order
 /// is answered, but of `Byte` and `OpenComment` the one that stands first in the text. The names that
-/// tables need are the functions and predicates by their numbers, and then the cells.
+/// tables need are the functions and the predicates other than equality by their numbers, and then the
+/// cells.
 #[derive(Debug, Drop, Error)]
 pub enum TableError {
     /// The byte at this offset begins no blank, comment or token.
@@ -188,6 +189,21 @@ impl From<TextFault> for TableError {
     }
 }
 
+impl From<EntryFault> for TableError {
+    ghost use Rattle.table_interp.specs.internal.Texts.{entry_error};
+
+    ghost from_gives = { λ fault e. e ≡ entry_error fault };
+
+    fn from(fault: EntryFault) -> TableError {
+        match fault {
+            EntryFault::Unknown(start, end) => TableError::Unknown(start, end),
+            EntryFault::Twice(start, end) => TableError::Twice(start, end),
+            EntryFault::Missing(id) => TableError::Missing(id),
+            EntryFault::NoMemory => TableError::NoMemory,
+        }
+    }
+}
+
 impl From<TextFault> for InputError {
     ghost use Rattle.table_interp.specs.internal.Texts.{input_error};
 
@@ -218,6 +234,7 @@ pub fn read_tables(
     ensures ok { IfOk result (λ tables. SpellsTables text.now names.now cells.now tables.interpretation) }
     ensures meaning { IfOk result (λ tables. IsInterpretation names.now cells.now tables.interpretation) }
     ensures cells { IfOk result (λ tables. tables.cells ≡ cells.now) }
+    ensures equality { IfOk result (λ tables. IsEqualityOf names.now tables.equality) }
     ensures cause { IfErr result (HasTableCause text.now names.now cells.now) }
     ensures refused { IfErr result (IsRefusedAsTables text.now names.now cells.now) }
 {

@@ -2,7 +2,7 @@
 
 ghost use Rattle.std.specs.Prelude.{◌≡◌, ◌^◌, ◌<◌, ◌≤◌, Some, IsSome, IsOk, IfOk, length, map, if◌then◌else◌};
 ghost use Rattle.sequence.specs.Numbers.{IsDistinct};
-ghost use Rattle.tsl_meaning.specs.Interpretation.{are_values, place_of_arguments, entry_at};
+ghost use Rattle.tsl_meaning.specs.Interpretation.{are_values, place_of_arguments, entry_at, same_two};
 
 use crate::MOST_VALUES;
 use indexmap::IndexMap;
@@ -11,13 +11,14 @@ use sequence::{NoMemory, Sequence};
 use std::alloc::Global;
 use std::marker::Model;
 
-/// A finite interpretation: a domain, a table for each function and predicate at the place of its number,
-/// and a value at first for each of some cells. Values are the numbers below the domain.
+/// A finite interpretation: a domain, a table for each function and each predicate but equality at the place of its
+/// number, and a value at first for each of some cells. Values are the numbers below the domain.
 #[derive(Debug, Drop)]
 pub struct Tables {
     domain: u32,
     tables: Sequence<Sequence<u32>>,
     initial: IndexMap<u32, u32>,
+    equality: Option<u32>,
 }
 
 impl Model for Tables {
@@ -28,6 +29,7 @@ impl Model for Tables {
 
     ghost view = { λ t. record {
       cells = map (λ e. e.0) t.initial.entries;
+      equality = t.equality;
       interpretation = record {
         domain = t.domain;
         tables = t.tables;
@@ -47,14 +49,15 @@ impl Tables {
         self.domain
     }
 
-    /// The interpretation with these tables, and these values of the cells at first. An `Err` says that
-    /// memory ran out.
+    /// The interpretation with these tables, these values of the cells at first, and equality of this number. An
+    /// `Err` says that memory ran out.
     pub(crate) fn from_parts(
         alloc: Global,
         domain: u32,
         tables: Vec<Sequence<u32>>,
         cells: &[u32],
         initial: &[u32],
+        equality: Option<u32>,
     ) -> Result<Tables, NoMemory>
         requires few { domain ≤ MOST_VALUES }
         requires distinct { IsDistinct cells.now }
@@ -63,12 +66,14 @@ impl Tables {
         ensures domain { IfOk result (λ t. t.interpretation.domain ≡ domain) }
         ensures tables { IfOk result (λ t. t.interpretation.tables ≡ tables.items) }
         ensures initial { IfOk result (λ t. t.interpretation.initial ≡ initial.now) }
+        ensures equality { IfOk result (λ t. t.equality ≡ equality) }
     {
         let values = values_by_cell(alloc, cells, initial)?;
         Ok(Tables {
             domain,
             tables: Sequence::from_vec(tables),
             initial: values,
+            equality,
         })
     }
 
@@ -119,6 +124,17 @@ fn place_of(domain: u32, arguments: &[u32]) -> Option<usize>
     Some(place)
 }
 
+/// Whether two arguments are the same.
+fn are_same(arguments: &[u32]) -> bool
+    requires { IsSome (same_two arguments.now) }
+    ensures { same_two arguments.now ≡ Some result }
+{
+    match arguments {
+        [a, b] => *a == *b,
+        _ => false,
+    }
+}
+
 impl Algebra for Tables {
     ghost use Rattle.std.specs.Prelude.{ℕ};
     ghost use Rattle.table_interp.specs.Meaning.{meanings_of};
@@ -160,7 +176,16 @@ impl Algebra for Tables {
 }
 
 impl Judge for Tables {
+    ghost equality_number = { λ t. t.equality };
+
+    fn equality(&self) -> Option<u32> {
+        self.equality
+    }
+
     fn test(&self, predicate: u32, arguments: &[u32]) -> bool {
+        if self.equality == Some(predicate) {
+            return are_same(arguments);
+        }
         self.entry(predicate, arguments) == 1
     }
 }

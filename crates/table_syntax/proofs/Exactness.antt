@@ -1,21 +1,15 @@
--- The reading functions read exactly the grammars.
-use Rattle.std.proofs.Common.{◌≡◌, ℕ, zero, suc, ◌≤◌, Bool, true, false, List, [], ◌∷◌, ◌++◌, refl, ap, sym, ◌∙◌, arith}
+-- The reading functions read exactly the grammars of tables and of inputs.
+use Rattle.std.proofs.Common.{◌≡◌, ℕ, suc, true, false, List, [], ◌∷◌, ◌++◌, refl, ap, sym, ◌∙◌}
 use Rattle.std.proofs.lemmas.List.{append-nil}
-use Rattle.std.specs.Prelude.{Option, Some, None, option_map, option_and_then, is_some, codes, if◌then◌else◌}
+use Rattle.std.specs.Prelude.{Option, Some, None, option_map, is_some, codes, if◌then◌else◌}
 use Rattle.tsl_terms.specs.declared.names.NameKind.{NameKind}
 use Rattle.tsl_terms.specs.declared.names.NameKind.TheVariants.{Signal, Function, Predicate}
-use Rattle.tsl_text.specs.declared.TokenKind.{TokenKind}
-use Rattle.tsl_text.specs.declared.TokenKind.TheVariants as kinds
-use Rattle.tsl_text.specs.Numbers.{number_in}
-use Rattle.std.specs.Str.{bytes_eq}
-use Rattle.std.proofs.lemmas.Bool.{and_parts}
-use Rattle.sequence.proofs.Bytes.{same_bytes}
-use Rattle.token_readers.specs.Readers.{Reader, value_or_wrong, taking, and_then, after, push}
+use Rattle.token_readers.specs.Readers.{value_or_wrong, taking, and_then, after, push}
 use Rattle.token_readers.specs.Exact.{Grammar, Before, Begins, Exact}
 use Rattle.token_readers.proofs.Runs.{exact_as}
 use Rattle.token_readers.proofs.Then.{Any}
 use Rattle.token_readers.proofs.Terminals.{turn_of, IsAfter}
-use Rattle.token_readers.proofs.Taken.{HasExample, IsOne, taken_begins, taken_exact, IsEnd, Never, end_exact, end_begins}
+use Rattle.token_readers.proofs.Taken.{IsOne, taken_begins, taken_exact, IsEnd, Never, end_exact, end_begins}
 use Rattle.token_readers.proofs.Sequels.{
   IsMapped,
   mapped_exact,
@@ -29,8 +23,7 @@ use Rattle.token_readers.proofs.Sequels.{
 }
 use Rattle.token_readers.proofs.Iterates.{Shrinks, step_shrinks}
 use Rattle.token_readers.proofs.Lists.{AreAll, none, some, Member, stepping, members_exact, marked_member}
-use Rattle.table_syntax.specs.Syntax.{is_name_kind, is_number_kind}
-use Rattle.table_syntax.specs.Syntax.{TextToken, is_name_token, is_symbol, is_word, is_numeral, number_at, Entry, TablesSyntax, InputsSyntax}
+use Rattle.table_syntax.specs.Syntax.{TextToken, is_word, number_at, Entry, TablesSyntax, InputsSyntax}
 use Rattle.table_syntax.specs.Grammar.{
   AreNumbers,
   no_number,
@@ -55,22 +48,19 @@ use Rattle.table_syntax.specs.Grammar.{
 }
 use Rattle.table_syntax.specs.internal.Reading.{
   word_at,
-  numeral_at,
   name_at,
   symbol_at,
-  from_one,
-  positive_at,
   kind_at,
   number_or_none,
   number_member,
   numbers,
   entry_made,
   entry_of_kind,
-  entry_when,
   entry_member,
   entries,
   tables_made,
   tables_text,
+  numeral_at,
   after_word,
   column_member,
   columns,
@@ -81,104 +71,10 @@ use Rattle.table_syntax.specs.internal.Reading.{
   inputs_made,
   inputs_text,
 }
-
--- ---- single terminals
-
-word_if : (b : Bool) → (if b then Some (tt {0}) else None) ≡ Some (tt {0}) → b ≡ true
-word_if true e = refl
-word_if false e = cc
-
-word_is : (w : List ℕ) (x : TextToken) → word_at w x ≡ Some (tt {0}) → is_word w x ≡ true
-word_is w x e = word_if (is_word w x) e
-
-word_taken : (w : List ℕ) (x : TextToken) → is_word w x ≡ true → word_at w x ≡ Some (tt {0})
-word_taken w x e = ap (λ b. if b then Some (tt {0}) else None) e
-
-numeral_is : (w : List ℕ) (x : TextToken) → numeral_at w x ≡ Some (tt {0}) → is_numeral w x ≡ true
-numeral_is w x e = word_if (is_numeral w x) e
-
-numeral_taken : (w : List ℕ) (x : TextToken) → is_numeral w x ≡ true → numeral_at w x ≡ Some (tt {0})
-numeral_taken w x e = ap (λ b. if b then Some (tt {0}) else None) e
-
-itself_if : (b : Bool) (x y : TextToken) → (if b then Some x else None) ≡ Some y → (b ≡ true) × (y ≡ x)
-itself_if true x y e = (refl, cc)
-itself_if false x y e = cc
-
-name_is : (x y : TextToken) → name_at x ≡ Some y → (is_name_token x ≡ true) × (y ≡ x)
-name_is x y e = itself_if (is_name_token x) x y e
-
-name_taken : (x : TextToken) → is_name_token x ≡ true → name_at x ≡ Some x
-name_taken x e = ap (λ b. if b then Some x else None) e
-
-symbol_is : (x y : TextToken) → symbol_at x ≡ Some y → (is_symbol x ≡ true) × (y ≡ x)
-symbol_is x y e = itself_if (is_symbol x) x y e
-
-symbol_taken : (x : TextToken) → is_symbol x ≡ true → symbol_at x ≡ Some x
-symbol_taken x e = ap (λ b. if b then Some x else None) e
-
-from_one_is : (o : Option ℕ) (n : ℕ) → option_and_then from_one o ≡ Some n → (o ≡ Some n) × (1 ≤ n)
-from_one_is None n e = cc
-from_one_is (Some zero) n e = cc
-from_one_is (Some (suc m)) n e =
-    let same : suc m ≡ n = cc in
-    (ap (λ k. Some k) same, omega (arith, same))
-
-from_one_taken : (n : ℕ) → 1 ≤ n → from_one n ≡ Some n
-from_one_taken zero few = absurd (omega (arith, few))
-from_one_taken (suc n) few = refl
-
--- two words are never one
-words_differ : (v w : List ℕ) → bytes_eq v w ≡ false → (x : TextToken) → is_word v x ≡ true → is_word w x ≡ false
-words_differ v w differ x e =
-    let parts = and_parts (is_name_token x) (bytes_eq x.text v) e in
-    let text : x.text ≡ v = same_bytes x.text v parts.1 in
-    rw (parts.0, text) differ
-
-word_is_name : (w : List ℕ) (x : TextToken) → is_word w x ≡ true → is_name_token x ≡ true
-word_is_name w x e = (and_parts (is_name_token x) (bytes_eq x.text w) e).0
-
--- a name is no number
-name_no_number : (x : TextToken) → is_name_token x ≡ true → number_at x ≡ None
-name_no_number x e = by x.token.kind e where
-  by : (kind : TokenKind) → is_name_kind kind ≡ true → (if is_number_kind kind then number_in x.text else None) ≡ None
-  by kinds.Name e = refl
-  by kinds.Number e = cc
-  by kinds.OpenBrace e = cc
-  by kinds.CloseBrace e = cc
-  by kinds.OpenRound e = cc
-  by kinds.CloseRound e = cc
-  by kinds.OpenSquare e = cc
-  by kinds.CloseSquare e = cc
-  by kinds.Semicolon e = cc
-  by kinds.Not e = cc
-  by kinds.And e = cc
-  by kinds.Or e = cc
-  by kinds.Arrow e = cc
-  by kinds.BothArrow e = cc
-  by kinds.LeftArrow e = cc
-  by kinds.Question e = cc
-
--- what an entry is for, by its word
-abbrev word_of_kind : NameKind → List ℕ
-word_of_kind Function = codes "func"
-word_of_kind Predicate = codes "pred"
-word_of_kind Signal = codes "cell"
-
-kind_is : (x : TextToken) (kind : NameKind) → kind_at x ≡ Some kind → is_word (word_of_kind kind) x ≡ true
-kind_is x kind e = by (is_word (codes "func") x) refl (is_word (codes "pred") x) refl (is_word (codes "cell") x) refl e where
-  by : (f : Bool) → is_word (codes "func") x ≡ f → (p : Bool) → is_word (codes "pred") x ≡ p → (c : Bool) → is_word (codes "cell") x ≡ c →
-      (if f then Some Function else (if p then Some Predicate else (if c then Some Signal else None))) ≡ Some kind →
-      is_word (word_of_kind kind) x ≡ true
-  by true f p g c h e = let same : Function ≡ kind = cc in rw (← same) f
-  by false f true g c h e = let same : Predicate ≡ kind = cc in rw (← same) g
-  by false f false g true h e = let same : Signal ≡ kind = cc in rw (← same) h
-  by false f false g false h e = cc
-
-kind_taken : (x : TextToken) (kind : NameKind) → is_word (word_of_kind kind) x ≡ true → kind_at x ≡ Some kind
-kind_taken x Function e = rw e refl
-kind_taken x Predicate e = rw (words_differ (codes "pred") (codes "func") refl x e, e) refl
-kind_taken x Signal e =
-    rw (words_differ (codes "cell") (codes "func") refl x e, words_differ (codes "cell") (codes "pred") refl x e, e) refl
+use Rattle.table_syntax.proofs.Terminals.{word_is, word_taken, numeral_is, numeral_taken, name_is, name_taken, symbol_is, symbol_taken}
+use Rattle.table_syntax.proofs.Terminals.{words_differ, word_is_name, name_no_number, word_of_kind, kind_is, kind_taken, name_example, number_example}
+use Rattle.table_syntax.proofs.Terminals.{has_number, has_name, has_symbol, has_word, has_one}
+use Rattle.table_syntax.proofs.Entries.{IsByKind, by_kind, IsHeaded, HeadedParts, parts_of, of_parts, headed_exact}
 
 -- ---- numbers
 
@@ -189,17 +85,7 @@ IsNumber xs n = (x : TextToken) × (xs ≡ x ∷ []) × (number_at x ≡ Some n)
 abbrev pub NoNumber : TextToken → Type 0
 NoNumber x = number_at x ≡ None
 
--- terminals for examples
-abbrev name_example : List ℕ → TextToken
-name_example text = record { token = record { kind = kinds.Name; start = 0; end = 0 }; text = text }
-
-abbrev number_example : TextToken
-number_example = record { token = record { kind = kinds.Number; start = 0; end = 0 }; text = codes "1" }
-
-has_number : HasExample number_at
-has_number = record { example = number_example; result = 1; is = refl }
-
-number_exact : (room : ℕ) → Exact (λ r. IsNumber) Any room (taking number_at)
+pub number_exact : (room : ℕ) → Exact (λ r. IsNumber) Any room (taking number_at)
 number_exact room = taken_exact number_at has_number room
 
 number_members : (room : ℕ) → Member (λ r. IsNumber) Any NoNumber room number_member (λ x. is_some (number_at x)) (taking number_at)
@@ -245,15 +131,6 @@ numbers_shrink = step_shrinks (stepping (number_members 0))
 
 -- ---- entries
 
-has_name : HasExample name_at
-has_name = record { example = name_example []; result = name_example []; is = refl }
-
-has_symbol : HasExample symbol_at
-has_symbol = record { example = name_example []; result = name_example []; is = refl }
-
-has_kind : HasExample kind_at
-has_kind = record { example = name_example (codes "func"); result = Function; is = refl }
-
 -- an entry after its first word
 abbrev IsForm : NameKind → Grammar TextToken Entry
 IsForm Signal = Then (IsOne name_at) (λ name. IsMapped (λ n. entry_made Signal name (n ∷ [])) (λ r. IsNumber))
@@ -263,7 +140,7 @@ IsForm Predicate = Then (IsOne symbol_at) (λ name. IsMapped (entry_made Predica
 numbers_begin : Begins AreNumbers []
 numbers_begin = record { ending = []; value = []; derives = no_number }
 
-number_begins : Begins IsNumber []
+pub number_begins : Begins IsNumber []
 number_begins = record { ending = number_example ∷ []; value = 1; derives = (number_example, refl, refl) }
 
 form_exact : (kind : NameKind) (room : ℕ) → Exact (IsForm kind) NoNumber room (entry_of_kind kind)
@@ -314,56 +191,13 @@ lift_form Predicate r xs e h = record {
       h.second;
 }
 
-abbrev IsWhole : Grammar TextToken Entry
-IsWhole = Then (IsOne kind_at) IsForm
-
-abbrev whole_entry : Reader TextToken Entry
-whole_entry xs = and_then (taking kind_at xs) entry_of_kind
-
-whole_exact : (room : ℕ) → Exact IsWhole NoNumber room whole_entry
-whole_exact room = then_exact (λ r kind. form_begins kind r) (taken_exact kind_at has_kind room) (λ kind. form_exact kind room)
-
-entry_members : (room : ℕ) → Member IsWhole NoNumber Never room entry_member (λ x. is_some (kind_at x)) whole_entry
-unfolding taking
-entry_members room = record {
-  at_end = refl;
-  none = λ x rest e. none_here (kind_at x) rest e;
-  some = λ x rest e. some_here (kind_at x) x rest e;
-  begins = begins;
-  lift = λ r xs e h. record {
-    value = h.value;
-    front = h.front;
-    tail = h.tail;
-    split = h.split;
-    first = h.first;
-    second = lift_form h.value r h.tail e h.second;
-  };
-  follows = λ x e. follows x (kind_at x) refl e;
-  stops = λ x e. absurd e;
-  weaker = λ x e. absurd e;
-  turn = λ x e. turn_of (whole_exact room) x;
-} where
-  none_here : (o : Option NameKind) (rest : List TextToken) → is_some o ≡ false → entry_when o rest ≡ None
-  none_here None rest e = refl
-  none_here (Some kind) rest e = cc
-
-  some_here : (o : Option NameKind) (x : TextToken) (rest : List TextToken) → is_some o ≡ true →
-      entry_when o rest ≡ Some (and_then (value_or_wrong o x rest) entry_of_kind)
-  some_here None x rest e = cc
-  some_here (Some kind) x rest e = refl
-
-  begins : (r : ℕ) (xs : List TextToken) (e : Entry) → IsWhole r xs e →
-      (x : TextToken) × (ys : List TextToken) × (xs ≡ x ∷ ys) × (is_some (kind_at x) ≡ true)
-  begins r xs e h =
-      (h.first.0, h.tail, h.split ∙ ap (λ front. front ++ h.tail) h.first.1, ap is_some h.first.2)
-
-  follows : (x : TextToken) (o : Option NameKind) → kind_at x ≡ o → is_some o ≡ true → NoNumber x
-  follows x None is e = cc
-  follows x (Some kind) is e = name_no_number x (word_is_name (word_of_kind kind) x (kind_is x kind is))
+entry_members : (room : ℕ) → Member (IsByKind IsForm) NoNumber Never room entry_member (λ x. is_some (kind_at x))
+    (λ xs. and_then (taking kind_at xs) entry_of_kind)
+entry_members = by_kind entry_of_kind IsForm form_exact form_begins lift_form name_no_number
 
 -- what an entry is, by its parts
 
-entry_is : (r : ℕ) (xs : List TextToken) (e : Entry) → IsWhole r xs e → IsEntry xs e
+entry_is : (r : ℕ) (xs : List TextToken) (e : Entry) → IsByKind IsForm r xs e → IsEntry xs e
 entry_is r xs e h = by h.value (kind_is h.first.0 h.value h.first.2) h.second where
   split : xs ≡ h.first.0 ∷ h.tail
   split = h.split ∙ ap (λ front. front ++ h.tail) h.first.1
@@ -384,7 +218,7 @@ entry_is r xs e h = by h.value (kind_is h.first.0 h.value h.first.2) h.second wh
       let tail : h.tail ≡ k.first.0 ∷ k.tail = k.split ∙ ap (λ front. front ++ k.tail) k.first.1 in
       rw (split, tail, k.second.2, name.1) (predicate h.first.0 k.first.0 word name.0 k.second.1)
 
-is_entry : (r : ℕ) (xs : List TextToken) (e : Entry) → IsEntry xs e → IsWhole r xs e
+is_entry : (r : ℕ) (xs : List TextToken) (e : Entry) → IsEntry xs e → IsByKind IsForm r xs e
 is_entry r xs e (function {xs = ys} {ns = ns} x y word name h) = record {
   value = Function;
   front = x ∷ [];
@@ -431,11 +265,11 @@ is_entry r xs e (cell x y z n word name number) = record {
   };
 }
 
-are_entries : (r : ℕ) (xs : List TextToken) (es : List Entry) → AreAll IsWhole r xs es → AreEntries xs es
+are_entries : (r : ℕ) (xs : List TextToken) (es : List Entry) → AreAll (IsByKind IsForm) r xs es → AreEntries xs es
 are_entries r xs es none = no_entry
 are_entries r xs es (some {f = f} {g = g} {v = e} {vs = ds} h rest) = more_entries (entry_is r f e h) (are_entries r g ds rest)
 
-all_entries : (r : ℕ) (xs : List TextToken) (es : List Entry) → AreEntries xs es → AreAll IsWhole r xs es
+all_entries : (r : ℕ) (xs : List TextToken) (es : List Entry) → AreEntries xs es → AreAll (IsByKind IsForm) r xs es
 all_entries r xs es no_entry = none
 all_entries r xs es (more_entries {xs = ys} {ys = zs} {e = e} {es = ds} h rest) = some (is_entry r ys e h) (all_entries r zs ds rest)
 
@@ -447,12 +281,6 @@ pub entries_shrink : Shrinks (push entry_member)
 entries_shrink = step_shrinks (stepping (entry_members 0))
 
 -- ---- columns and rows
-
-has_word : (w : List ℕ) → bytes_eq w w ≡ true → HasExample (word_at w)
-has_word w e = record { example = name_example w; result = tt; is = word_taken w (name_example w) e }
-
-has_one : HasExample (numeral_at (codes "1"))
-has_one = record { example = number_example; result = tt; is = refl }
 
 -- a terminal that is not this name
 abbrev pub NoWord : List ℕ → TextToken → Type 0
@@ -598,106 +426,45 @@ rows_row xs ns h =
 
 -- ---- whole texts
 
-has_positive : HasExample positive_at
-has_positive = record { example = number_example; result = 1; is = refl }
+entries_begin : Begins AreEntries []
+entries_begin = record { ending = []; value = []; derives = no_entry }
 
-module _ where
-  -- a text of tables, from its end
-  abbrev TablesEnd : ℕ → List Entry → Grammar TextToken TablesSyntax
-  TablesEnd n es = IsMapped (λ _. tables_made n es) IsEnd
+abbrev IsTablesText : Grammar TextToken TablesSyntax
+IsTablesText = IsHeaded (codes "tsltables") (codes "domain") AreEntries tables_made
 
-  abbrev TablesEntries : ℕ → Grammar TextToken TablesSyntax
-  TablesEntries n = Then AreEntries (TablesEnd n)
+tables_by : (xs : List TextToken) (t : TablesSyntax) → HeadedParts (codes "tsltables") (codes "domain") AreEntries tables_made xs t →
+    IsTables xs t
+tables_by xs t p =
+    rw (p.split, p.is)
+    (tables p.first p.one p.second p.digits p.number p.is_first p.is_one p.is_second p.is_number p.some p.derived)
 
-  abbrev TablesDomain : Grammar TextToken TablesSyntax
-  TablesDomain = Then (IsOne positive_at) TablesEntries
+is_tables : (r : ℕ) (xs : List TextToken) (t : TablesSyntax) → IsTablesText r xs t → IsTables xs t
+is_tables r xs t h = tables_by xs t (parts_of r xs t h)
 
-  abbrev TablesWord : Grammar TextToken TablesSyntax
-  TablesWord = Then (IsOne (word_at (codes "domain"))) (λ _. TablesDomain)
+tables_are : (r : ℕ) (xs : List TextToken) (t : TablesSyntax) → IsTables xs t → IsTablesText r xs t
+tables_are r xs t (tables {xs = ys} {es = es} a b c d n head one word number few entries) = of_parts r xs t (record {
+  first = a;
+  one = b;
+  second = c;
+  digits = d;
+  number = n;
+  tail = ys;
+  entries = es;
+  split = refl;
+  is_first = head;
+  is_one = one;
+  is_second = word;
+  is_number = number;
+  some = few;
+  derived = entries;
+  is = refl;
+})
 
-  abbrev TablesOne : Grammar TextToken TablesSyntax
-  TablesOne = Then (IsOne (numeral_at (codes "1"))) (λ _. TablesWord)
-
-  abbrev TablesHead : Grammar TextToken TablesSyntax
-  TablesHead = Then (IsOne (word_at (codes "tsltables"))) (λ _. TablesOne)
-
-  entries_begin : Begins AreEntries []
-  entries_begin = record { ending = []; value = []; derives = no_entry }
-
-  end_tables : (r n : ℕ) (es : List Entry) → Begins (TablesEnd n es r) []
-  end_tables r n es = mapped_begins (λ _. tables_made n es) IsEnd r end_begins
-
-  entries_tables : (r n : ℕ) → Begins (TablesEntries n r) []
-  entries_tables r n = then_begins AreEntries (TablesEnd n) r entries_begin (λ es. end_tables r n es)
-
-  domain_tables : (r : ℕ) → Begins (TablesDomain r) []
-  domain_tables r = then_begins (IsOne positive_at) TablesEntries r (taken_begins positive_at has_positive 0) (λ n. entries_tables r n)
-
-  word_tables : (r : ℕ) → Begins (TablesWord r) []
-  word_tables r =
-      then_begins (IsOne (word_at (codes "domain"))) (λ _. TablesDomain) r
-      (taken_begins (word_at (codes "domain")) (has_word (codes "domain") refl) 0) (λ v. domain_tables r)
-
-  one_tables : (r : ℕ) → Begins (TablesOne r) []
-  one_tables r =
-      then_begins (IsOne (numeral_at (codes "1"))) (λ _. TablesWord) r (taken_begins (numeral_at (codes "1")) has_one 0)
-      (λ v. word_tables r)
-
-  head_exact : (room : ℕ) → Exact TablesHead Never room tables_text
-  unfolding tables_text
-  head_exact room =
-      then_exact (λ r v. one_tables r) (taken_exact (word_at (codes "tsltables")) (has_word (codes "tsltables") refl) room) (λ _.
-      then_exact (λ r v. word_tables r) (taken_exact (numeral_at (codes "1")) has_one room) (λ _.
-      then_exact (λ r v. domain_tables r) (taken_exact (word_at (codes "domain")) (has_word (codes "domain") refl) room) (λ _.
-      then_exact (λ r n. entries_tables r n) (taken_exact positive_at has_positive room) (λ n.
-      then_before (λ r es. end_tables r n es) (λ r es xs v h rest b. nothing_follows Never (λ _. tables_made n es) r xs v h rest b)
-      (entries_exact room) (λ es. mapped_exact (λ _. tables_made n es) (end_exact room))))))
-
-  is_tables : (r : ℕ) (xs : List TextToken) (t : TablesSyntax) → TablesHead r xs t → IsTables xs t
-  is_tables r xs t a =
-      let b = a.second in
-      let c = b.second in
-      let d = c.second in
-      let e = d.second in
-      let positive = from_one_is (number_at d.first.0) d.value d.first.2 in
-      let tail : d.tail ≡ e.front = e.split ∙ ap (λ ys. e.front ++ ys) e.second.1 ∙ append-nil e.front in
-      rw (after_one a, after_one b, after_one c, after_one d, tail, e.second.2)
-      (tables a.first.0 b.first.0 c.first.0 d.first.0 d.value (word_is (codes "tsltables") a.first.0 a.first.2)
-      (numeral_is (codes "1") b.first.0 b.first.2) (word_is (codes "domain") c.first.0 c.first.2) positive.0 positive.1 e.first)
-
-  tables_are : (r : ℕ) (xs : List TextToken) (t : TablesSyntax) → IsTables xs t → TablesHead r xs t
-  tables_are r xs t (tables {xs = ys} {es = es} a b c d n head one word number few entries) = record {
-    value = tt;
-    front = a ∷ [];
-    tail = b ∷ c ∷ d ∷ ys;
-    split = refl;
-    first = (a, refl, word_taken (codes "tsltables") a head);
-    second = record {
-      value = tt;
-      front = b ∷ [];
-      tail = c ∷ d ∷ ys;
-      split = refl;
-      first = (b, refl, numeral_taken (codes "1") b one);
-      second = record {
-        value = tt;
-        front = c ∷ [];
-        tail = d ∷ ys;
-        split = refl;
-        first = (c, refl, word_taken (codes "domain") c word);
-        second = record {
-          value = n;
-          front = d ∷ [];
-          tail = ys;
-          split = refl;
-          first = (d, refl, ap (option_and_then from_one) number ∙ from_one_taken n few);
-          second = record { value = es; front = ys; tail = []; split = sym (append-nil ys); first = entries; second = (tt, refl, refl) };
-        };
-      };
-    };
-  }
-
-  pub tables_exact : (room : ℕ) → Exact (λ r. IsTables) Never room tables_text
-  tables_exact room = exact_as is_tables tables_are (λ x e. e) (head_exact room)
+pub tables_exact : (room : ℕ) → Exact (λ r. IsTables) Never room tables_text
+unfolding tables_text
+tables_exact room =
+    exact_as is_tables tables_are (λ x e. e)
+    (headed_exact (has_word (codes "tsltables") refl) (has_word (codes "domain") refl) entries_begin entries_exact tables_made room)
 
 module _ where
   -- a text of inputs, from its end

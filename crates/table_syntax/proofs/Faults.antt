@@ -14,16 +14,19 @@ use Rattle.token_readers.proofs.WholeTexts.{Ends, ends_at_end, ends_map, ends_th
 use Rattle.table_syntax.specs.Syntax.{TextToken, text_token_at, text_tokens}
 use Rattle.table_syntax.specs.Forms.{IsRead, SomeTextBegins, HasWrongToken, HasFormFault}
 use Rattle.table_syntax.specs.declared.text_tokens.TextToken.{TextToken as LentToken}
-use Rattle.table_syntax.specs.internal.Reading.{word_at, numeral_at, positive_at, entries, tables_made, tables_text}
+use Rattle.table_syntax.specs.internal.Reading.{word_at, numeral_at, entries, tables_made, tables_text}
+use Rattle.table_syntax.specs.internal.Reading.{word_entries, words_made, words_text}
 use Rattle.table_syntax.specs.internal.Reading.{columns, rows, some_rows, inputs_made, inputs_text}
 use Rattle.table_syntax.specs.View.{text_tokens_view}
+use Rattle.table_syntax.proofs.Entries.{headed_end}
 
 pub tables_end : Ends tables_text
 unfolding tables_text
-tables_end =
-    ends_then (taking (word_at (codes "tsltables"))) (λ _. ends_then (taking (numeral_at (codes "1"))) (λ _.
-    ends_then (taking (word_at (codes "domain"))) (λ _. ends_then (taking positive_at) (λ n.
-    ends_then entries (λ es. ends_map (λ _. tables_made n es) ends_at_end)))))
+tables_end = headed_end (codes "tsltables") (codes "domain") entries tables_made
+
+pub words_end : Ends words_text
+unfolding words_text
+words_end = headed_end (codes "tslwords") (codes "bits") word_entries words_made
 
 pub inputs_end : Ends inputs_text
 unfolding inputs_text

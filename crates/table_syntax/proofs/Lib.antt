@@ -1,4 +1,7 @@
+mod Terminals
+mod Entries
 mod Exactness
+mod WordExactness
 mod ReadLoops
 mod Faults
 pub mod Readings

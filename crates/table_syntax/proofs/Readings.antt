@@ -10,10 +10,11 @@ use Rattle.token_readers.specs.Readers.{Reader}
 use Rattle.token_readers.specs.Exact.{Exact}
 use Rattle.token_readers.proofs.Whole.{one_value}
 use Rattle.token_readers.proofs.Taken.{Never}
-use Rattle.table_syntax.specs.Syntax.{TextToken, text_token_at, text_tokens, TablesSyntax, InputsSyntax}
-use Rattle.table_syntax.specs.Grammar.{IsTables, tables, IsInputs, inputs}
+use Rattle.table_syntax.specs.Syntax.{TextToken, text_token_at, text_tokens, TablesSyntax, WordsSyntax, InputsSyntax}
+use Rattle.table_syntax.specs.Grammar.{IsTables, tables, IsWords, words, IsInputs, inputs}
 use Rattle.table_syntax.specs.Forms.{IsRead, HasFormFault}
 use Rattle.table_syntax.proofs.Exactness.{tables_exact, inputs_exact}
+use Rattle.table_syntax.proofs.WordExactness.{words_exact}
 
 pub one_list : (text : List ℕ) (a b : List Token) → AreTokens text a → AreTokens text b → a ≡ b
 one_list text a b h k =
@@ -50,6 +51,9 @@ form_refuses Is text at (inr h) v k =
 pub same_tables : (text : List ℕ) (a b : TablesSyntax) → IsRead IsTables text a → IsRead IsTables text b → a ≡ b
 same_tables text a b h k = one_given (tables_exact 0) text a b h k
 
+pub same_words : (text : List ℕ) (a b : WordsSyntax) → IsRead IsWords text a → IsRead IsWords text b → a ≡ b
+same_words text a b h k = one_given (words_exact 0) text a b h k
+
 pub same_inputs : (text : List ℕ) (a b : InputsSyntax) → IsRead IsInputs text a → IsRead IsInputs text b → a ≡ b
 same_inputs text a b h k = one_given (inputs_exact 0) text a b h k
 
@@ -58,6 +62,12 @@ pub has_value : (text : List ℕ) (given : TablesSyntax) → IsRead IsTables tex
 has_value text given h = by (text_tokens text h.tokens) given h.derived where
   by : (xs : List TextToken) (t : TablesSyntax) → IsTables xs t → 1 ≤ t.domain
   by xs t (tables a b c d n head one word number few entries) = few
+
+-- the words of a text have a bit
+pub has_bit : (text : List ℕ) (given : WordsSyntax) → IsRead IsWords text given → 1 ≤ given.bits
+has_bit text given h = by (text_tokens text h.tokens) given h.derived where
+  by : (xs : List TextToken) (t : WordsSyntax) → IsWords xs t → 1 ≤ t.bits
+  by xs t (words a b c d n head one word number few entries) = few
 
 -- the cycle of a text of inputs has a row
 pub has_cycle : (text : List ℕ) (given : InputsSyntax) → IsRead IsInputs text given → 0 < length given.cycle

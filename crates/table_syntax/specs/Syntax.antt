@@ -1,5 +1,5 @@
--- What texts of tables and of inputs are made of.
-use Rattle.std.specs.Prelude.{ℕ, Bool, true, false, ◌&&◌, ◌||◌, List, map, Option, None, if◌then◌else◌}
+-- What texts of tables, of words and of inputs are made of.
+use Rattle.std.specs.Prelude.{ℕ, Bool, true, false, ◌&&◌, ◌||◌, List, [], ◌∷◌, map, codes, Option, Some, None, if◌then◌else◌}
 use Rattle.std.specs.Str.{bytes_eq}
 use Rattle.tsl_text.specs.declared.Token.{Token}
 use Rattle.tsl_text.specs.declared.TokenKind.{TokenKind}
@@ -7,7 +7,13 @@ use Rattle.tsl_text.specs.declared.TokenKind.TheVariants.{Name, Number, Question
 use Rattle.tsl_text.specs.Lexeme.{token_text}
 use Rattle.tsl_text.specs.Numbers.{number_in}
 use Rattle.tsl_terms.specs.declared.names.NameKind.{NameKind}
-use Rattle.tsl_terms.specs.declared.names.NameKind.TheVariants.{Signal}
+use Rattle.tsl_terms.specs.declared.names.NameKind.TheVariants.{Signal, Function, Predicate}
+use Rattle.table_syntax.specs.declared.words.Operation.{Operation as WordOperation}
+use Rattle.table_syntax.specs.declared.words.Operation.TheVariants as operation
+use Rattle.table_syntax.specs.declared.words.Test.{Test as WordTest}
+use Rattle.table_syntax.specs.declared.words.Test.TheVariants as test
+use Rattle.table_syntax.specs.declared.words.Given.{Given}
+use Rattle.table_syntax.specs.declared.words.Given.TheVariants as given
 
 -- A terminal of the grammars: a token with its bytes.
 pub record TextToken : Type 0 where
@@ -68,6 +74,47 @@ pub record Entry : Type 0 where
 pub record TablesSyntax : Type 0 where
   pub domain : ℕ
   pub entries : List Entry
+
+-- what one of these words stands for
+abbrev pub meaning_in : {A : Type 0} → List (List ℕ × A) → TextToken → Option A
+meaning_in [] x = None
+meaning_in (w ∷ ws) x = if is_word w.0 x then Some w.1 else meaning_in ws x
+
+-- the words of operations on words of a width
+abbrev pub operation_words : List (List ℕ × WordOperation)
+operation_words =
+    (codes "add", operation.Add) ∷ (codes "sub", operation.Sub) ∷ (codes "mul", operation.Mul)
+    ∷ (codes "and", operation.And) ∷ (codes "or", operation.Or) ∷ (codes "xor", operation.Xor) ∷ (codes "not", operation.Not)
+    ∷ (codes "inc", operation.Inc) ∷ (codes "dec", operation.Dec) ∷ (codes "shl", operation.Shl) ∷ (codes "shr", operation.Shr) ∷ []
+
+-- the words of tests
+abbrev pub test_words : List (List ℕ × WordTest)
+test_words =
+    (codes "less", test.Less) ∷ (codes "atmost", test.AtMost) ∷ (codes "zero", test.Zero) ∷ (codes "odd", test.Odd)
+    ∷ (codes "nonzero", test.Nonzero) ∷ []
+
+-- the operation and the test that a terminal stands for
+abbrev pub operation_at : TextToken → Option WordOperation
+operation_at = meaning_in operation_words
+
+abbrev pub test_at : TextToken → Option WordTest
+test_at = meaning_in test_words
+
+-- An entry of a text of words: a name, and what is given for it.
+pub record WordEntry : Type 0 where
+  pub name : TextToken
+  pub given : Given
+
+-- what an entry is for, by what it gives: a function, a predicate or, as a signal, a cell
+abbrev pub kind_of : Given → NameKind
+kind_of (given.Operation o) = Function
+kind_of (given.Test t) = Predicate
+kind_of (given.Value n) = Signal
+
+-- a text of words: how many bits they have, and the entries
+pub record WordsSyntax : Type 0 where
+  pub bits : ℕ
+  pub entries : List WordEntry
 
 -- a text of inputs: the names of the columns, and the rows of the stem and of the cycle
 pub record InputsSyntax : Type 0 where

@@ -2,12 +2,14 @@
 
 ghost use Rattle.std.specs.Prelude.{◌≡◌, ◌-◌, ◌≤◌, ◌<◌, ◌^◌, length, slice_get, All, IfOk, IfErr, MatchOption};
 ghost use Rattle.tsl_text.specs.Division.{AreTokens, IsTokenOf};
-ghost use Rattle.table_syntax.specs.Grammar.{IsTables, IsInputs};
+ghost use Rattle.table_syntax.specs.Grammar.{IsTables, IsWords, IsInputs};
 ghost use Rattle.table_syntax.specs.Forms.{IsRead, HasTextFault};
-ghost use Rattle.table_syntax.specs.View.{tables_view, inputs_view};
+ghost use Rattle.table_syntax.specs.View.{tables_view, words_view, inputs_view};
 
 use crate::reading::{InputsText, ReadFault, TablesText, inputs_text, tables_text};
 use crate::text_tokens::text_tokens;
+use crate::word_reading::words_text;
+use crate::words::WordsText;
 use sequence::NoMemory;
 use std::alloc::Global;
 use tsl_text::{TextError, Token, tokens};
@@ -79,6 +81,39 @@ fn tables_in<'a>(
 {
     let text_tokens = text_tokens(alloc, text, tokens)?;
     match tables_text(alloc, &text_tokens) {
+        Ok((given, _)) => Ok(given),
+        Err(ReadFault::Form(left)) => Err(TextFault::Form(start_of(text, tokens, left))),
+        Err(ReadFault::NoMemory) => Err(TextFault::NoMemory),
+    }
+}
+
+/// What a text of words derives from.
+///
+/// An `Err` has the first fault of the text, or says that memory ran out.
+pub fn words_of<'a>(alloc: Global, text: &'a [u8]) -> Result<WordsText<'a>, TextFault>
+    requires { length text.now < 2 ^ 32 - 1 }
+    ensures read { IfOk result (λ given. IsRead IsWords text.now (words_view given)) }
+    ensures fault { IfErr result (HasTextFault IsWords text.now) }
+{
+    let tokens = match tokens(alloc, text) {
+        Ok(tokens) => tokens,
+        Err(TextError::Byte(at)) => return Err(TextFault::Byte(at)),
+        Err(TextError::OpenComment(at)) => return Err(TextFault::OpenComment(at)),
+        Err(TextError::NoMemory) => return Err(TextFault::NoMemory),
+    };
+    words_in(alloc, text, &tokens)
+}
+
+/// What the tokens of a text of words derive from.
+fn words_in<'a>(alloc: Global, text: &'a [u8], tokens: &[Token]) -> Result<WordsText<'a>, TextFault>
+    requires text { length text.now < 2 ^ 32 - 1 }
+    requires tokens { AreTokens text.now tokens.now }
+    requires each { All (IsTokenOf text.now) tokens.now }
+    ensures read { IfOk result (λ given. IsRead IsWords text.now (words_view given)) }
+    ensures fault { IfErr result (HasTextFault IsWords text.now) }
+{
+    let text_tokens = text_tokens(alloc, text, tokens)?;
+    match words_text(alloc, &text_tokens) {
         Ok((given, _)) => Ok(given),
         Err(ReadFault::Form(left)) => Err(TextFault::Form(start_of(text, tokens, left))),
         Err(ReadFault::NoMemory) => Err(TextFault::NoMemory),

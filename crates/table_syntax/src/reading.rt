@@ -9,10 +9,10 @@ ghost use Rattle.table_syntax.specs.internal.Reading.{
   symbol_at,
   positive_at,
   kind_at,
+  first_kind,
   number_member,
   numbers,
   entry_of_kind,
-  entry_member,
   entries,
   tables_text,
   after_word,
@@ -107,7 +107,7 @@ pub struct InputsText<'a> {
 
 /// The terminals after a name with these bytes.
 #[tactic(auto, unfolding(token_readers::specs::Readers::taking))]
-fn word<'a, 'b>(word: &[u8], xs: &'b [TextToken<'a>]) -> Answer<'a, 'b, ()>
+pub(crate) fn word<'a, 'b>(word: &[u8], xs: &'b [TextToken<'a>]) -> Answer<'a, 'b, ()>
     ensures ok { IfOk result (λ read. taking (word_at word.now) (text_tokens_view xs.now) ≡ Ok (tt, text_tokens_view read.1.now)) }
     ensures fault { IfErr result (IsReadFaultOf (taking (word_at word.now) (text_tokens_view xs.now))) }
     ensures shorter { IfOk result (λ read. length read.1.now < length xs.now) }
@@ -126,7 +126,7 @@ fn word<'a, 'b>(word: &[u8], xs: &'b [TextToken<'a>]) -> Answer<'a, 'b, ()>
 
 /// The terminals after a number with these digits.
 #[tactic(auto, unfolding(token_readers::specs::Readers::taking))]
-fn numeral<'a, 'b>(digits: &[u8], xs: &'b [TextToken<'a>]) -> Answer<'a, 'b, ()>
+pub(crate) fn numeral<'a, 'b>(digits: &[u8], xs: &'b [TextToken<'a>]) -> Answer<'a, 'b, ()>
     ensures ok { IfOk result (λ read. taking (numeral_at digits.now) (text_tokens_view xs.now) ≡ Ok (tt, text_tokens_view read.1.now)) }
     ensures fault { IfErr result (IsReadFaultOf (taking (numeral_at digits.now) (text_tokens_view xs.now))) }
 {
@@ -144,7 +144,7 @@ fn numeral<'a, 'b>(digits: &[u8], xs: &'b [TextToken<'a>]) -> Answer<'a, 'b, ()>
 
 /// A name.
 #[tactic(auto, unfolding(token_readers::specs::Readers::taking))]
-fn name<'a, 'b>(xs: &'b [TextToken<'a>]) -> Answer<'a, 'b, TextToken<'a>>
+pub(crate) fn name<'a, 'b>(xs: &'b [TextToken<'a>]) -> Answer<'a, 'b, TextToken<'a>>
     ensures ok { IfOk result (λ read. taking name_at (text_tokens_view xs.now) ≡ Ok (text_token_view read.0, text_tokens_view read.1.now)) }
     ensures fault { IfErr result (IsReadFaultOf (taking name_at (text_tokens_view xs.now))) }
     ensures shorter { IfOk result (λ read. length read.1.now < length xs.now) }
@@ -163,7 +163,7 @@ fn name<'a, 'b>(xs: &'b [TextToken<'a>]) -> Answer<'a, 'b, TextToken<'a>>
 
 /// A name or `?`.
 #[tactic(auto, unfolding(token_readers::specs::Readers::taking))]
-fn symbol<'a, 'b>(xs: &'b [TextToken<'a>]) -> Answer<'a, 'b, TextToken<'a>>
+pub(crate) fn symbol<'a, 'b>(xs: &'b [TextToken<'a>]) -> Answer<'a, 'b, TextToken<'a>>
     ensures ok { IfOk result (λ read. taking symbol_at (text_tokens_view xs.now)
         ≡ Ok (text_token_view read.0, text_tokens_view read.1.now)) }
     ensures fault { IfErr result (IsReadFaultOf (taking symbol_at (text_tokens_view xs.now))) }
@@ -183,7 +183,7 @@ fn symbol<'a, 'b>(xs: &'b [TextToken<'a>]) -> Answer<'a, 'b, TextToken<'a>>
 
 /// A number of at most 18 digits.
 #[tactic(auto, unfolding(token_readers::specs::Readers::taking))]
-fn number<'a, 'b>(xs: &'b [TextToken<'a>]) -> Answer<'a, 'b, u64>
+pub(crate) fn number<'a, 'b>(xs: &'b [TextToken<'a>]) -> Answer<'a, 'b, u64>
     ensures ok { IfOk result (λ read. taking number_at (text_tokens_view xs.now) ≡ Ok (read.0, text_tokens_view read.1.now)) }
     ensures fault { IfErr result (IsReadFaultOf (taking number_at (text_tokens_view xs.now))) }
     ensures shorter { IfOk result (λ read. length read.1.now < length xs.now) }
@@ -209,7 +209,7 @@ fn positive_at(x: TextToken) -> Option<u64>
 
 /// A number of at most 18 digits from 1 on.
 #[tactic(auto, unfolding(token_readers::specs::Readers::taking))]
-fn positive<'a, 'b>(xs: &'b [TextToken<'a>]) -> Answer<'a, 'b, u64>
+pub(crate) fn positive<'a, 'b>(xs: &'b [TextToken<'a>]) -> Answer<'a, 'b, u64>
     ensures ok { IfOk result (λ read. taking positive_at (text_tokens_view xs.now) ≡ Ok (read.0, text_tokens_view read.1.now)) }
     ensures fault { IfErr result (IsReadFaultOf (taking positive_at (text_tokens_view xs.now))) }
 {
@@ -238,10 +238,9 @@ fn kind_at(x: TextToken) -> Option<NameKind>
 }
 
 /// What the entry at the front is for and the terminals after its first word, where one begins.
-fn first_kind<'a, 'b>(xs: &'b [TextToken<'a>]) -> Option<(NameKind, &'b [TextToken<'a>])>
-    ensures some { IfSome result (λ read. entry_member (text_tokens_view xs.now)
-        ≡ Some (entry_of_kind read.0 (text_tokens_view read.1.now))) }
-    ensures none { IfNone result (entry_member (text_tokens_view xs.now) ≡ None) }
+pub(crate) fn first_kind<'a, 'b>(xs: &'b [TextToken<'a>]) -> Option<(NameKind, &'b [TextToken<'a>])>
+    ensures some { IfSome result (λ read. first_kind (text_tokens_view xs.now) ≡ Some (read.0, text_tokens_view read.1.now)) }
+    ensures none { IfNone result (first_kind (text_tokens_view xs.now) ≡ None) }
     ensures shorter { IfSome result (λ read. length read.1.now < length xs.now) }
 {
     match xs {
@@ -362,7 +361,7 @@ fn entries<'a, 'b>(alloc: Global, xs: &'b [TextToken<'a>]) -> Answer<'a, 'b, Vec
 
 /// Nothing more.
 #[tactic(auto, unfolding(token_readers::specs::Readers::at_end))]
-fn at_end<'a, 'b>(xs: &'b [TextToken<'a>]) -> Answer<'a, 'b, ()>
+pub(crate) fn at_end<'a, 'b>(xs: &'b [TextToken<'a>]) -> Answer<'a, 'b, ()>
     ensures ok { IfOk result (λ read. at_end (text_tokens_view xs.now) ≡ Ok (tt, text_tokens_view read.1.now)) }
     ensures fault { IfErr result (IsReadFaultOf (at_end (text_tokens_view xs.now))) }
 {

@@ -5,9 +5,8 @@ use Rattle.tsl_terms.specs.Name.{Name}
 use Rattle.table_syntax.specs.Syntax.{TablesSyntax}
 use Rattle.table_interp.specs.declared.entries.Lack.{Lack}
 use Rattle.table_interp.specs.declared.entries.Lack.TheVariants as lack
-use Rattle.table_interp.specs.Tables.{has_no_entry, has_many_entries, has_other_length}
+use Rattle.table_interp.specs.Tables.{has_many_entries, has_other_length}
 
 abbrev pub lacks : Lack → List Name → TablesSyntax → ℕ → Bool
-lacks lack.Entry = has_no_entry
 lacks lack.Room = has_many_entries
 lacks lack.Count = has_other_length

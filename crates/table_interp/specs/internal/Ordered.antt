@@ -4,8 +4,8 @@ use Rattle.std.specs.Prelude.{◌≡◌, ℕ, List, length, map, Option, Some, s
 use Rattle.tsl_terms.specs.Name.{Name}
 use Rattle.table_interp.specs.declared.inputs.Columns.{Columns}
 use Rattle.table_syntax.specs.Syntax.{TextToken}
-use Rattle.table_interp.specs.Needed.{number_for, HasNoRepeat}
-use Rattle.table_interp.specs.internal.Resolving.{ArePlaces}
+use Rattle.entry_names.specs.Needed.{number_for, HasNoRepeat}
+use Rattle.entry_names.specs.Places.{ArePlaces}
 use Rattle.table_syntax.specs.View.{text_tokens_view}
 
 -- the names have these numbers, no two the same, and these are their places

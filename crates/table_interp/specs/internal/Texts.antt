@@ -1,8 +1,10 @@
 -- Internal: only private functions of this crate use these words.
--- Faults of the form as errors, and which name must not stand in a text.
+-- Faults of the form and of entries as errors, and which name must not stand in a text.
 use Rattle.std.specs.Prelude.{◌≡◌, Option, IsSomeAnd}
 use Rattle.table_syntax.specs.declared.forms.TextFault.{TextFault}
 use Rattle.table_syntax.specs.declared.forms.TextFault.TheVariants as text
+use Rattle.entry_names.specs.declared.locating.EntryFault.{EntryFault}
+use Rattle.entry_names.specs.declared.locating.EntryFault.TheVariants as entry
 use Rattle.table_interp.specs.declared.naming.NameFault.{NameFault}
 use Rattle.table_interp.specs.declared.naming.NameFault.TheVariants as naming
 use Rattle.table_interp.specs.declared.TableError.{TableError}
@@ -16,6 +18,12 @@ table_error (text.Byte at) = table.Byte at
 table_error (text.OpenComment at) = table.OpenComment at
 table_error (text.Form at) = table.Form at
 table_error text.NoMemory = table.NoMemory
+
+abbrev pub entry_error : EntryFault → TableError
+entry_error (entry.Unknown start end) = table.Unknown start end
+entry_error (entry.Twice start end) = table.Twice start end
+entry_error (entry.Missing id) = table.Missing id
+entry_error entry.NoMemory = table.NoMemory
 
 abbrev pub input_error : TextFault → InputError
 input_error (text.Byte at) = input.Byte at

@@ -5,7 +5,12 @@ use Rattle.std.specs.Prelude.{ℕ, zero, suc, List, [], ◌∷◌, codes, Option
 use Rattle.tsl_terms.specs.declared.names.NameKind.{NameKind}
 use Rattle.tsl_terms.specs.declared.names.NameKind.TheVariants.{Signal, Function, Predicate}
 use Rattle.token_readers.specs.Readers.{Answer, Reader, and_then, map_read, members, taking, at_end}
+use Rattle.table_syntax.specs.declared.words.Operation.{Operation as WordOperation}
+use Rattle.table_syntax.specs.declared.words.Operation.TheVariants.{Const}
+use Rattle.table_syntax.specs.declared.words.Given.{Given}
+use Rattle.table_syntax.specs.declared.words.Given.TheVariants.{Operation, Test, Value}
 use Rattle.table_syntax.specs.Syntax.{TextToken, is_name_token, is_symbol, is_word, is_numeral, number_at, Entry, TablesSyntax, InputsSyntax}
+use Rattle.table_syntax.specs.Syntax.{operation_at, test_at, WordEntry, WordsSyntax}
 
 -- ---- what single terminals are
 
@@ -37,6 +42,27 @@ kind_at x =
     else (if is_word (codes "cell") x then Some Signal
     else None))
 
+-- ---- entries, and texts of them
+
+-- what the entry at the front is for and the terminals after its first word, where one begins
+abbrev pub first_kind : List TextToken → Option (NameKind × List TextToken)
+first_kind [] = None
+first_kind (x ∷ rest) = option_map (λ kind. (kind, rest)) (kind_at x)
+
+-- the entry at the front, where one begins, read by what it is for
+abbrev pub member_by : {E : Type 0} → (NameKind → Reader TextToken E) → List TextToken → Option (Answer TextToken E)
+member_by read xs = option_map (λ f. read f.0 f.1) (first_kind xs)
+
+-- a text with this first word: "1", another word, a number from 1 on, and entries, up to the end
+abbrev pub headed_text : {E V : Type 0} → List ℕ → List ℕ → Reader TextToken (List E) → (ℕ → List E → V) → Reader TextToken V
+headed_text head word entries made xs =
+    and_then (taking (word_at head) xs) (λ _ ys.
+    and_then (taking (numeral_at (codes "1")) ys) (λ _ zs.
+    and_then (taking (word_at word) zs) (λ _ us.
+    and_then (taking positive_at us) (λ n vs.
+    and_then (entries vs) (λ es ws.
+    map_read (λ _. made n es) (at_end ws))))))
+
 -- ---- tables
 
 abbrev pub number_or_none : Option ℕ → List TextToken → Option (Answer TextToken ℕ)
@@ -60,14 +86,9 @@ entry_of_kind Signal xs =
     and_then (taking name_at xs) (λ name ys. map_read (λ n. entry_made Signal name (n ∷ [])) (taking number_at ys))
 entry_of_kind kind xs = and_then (taking symbol_at xs) (λ name ys. map_read (entry_made kind name) (numbers ys))
 
-abbrev pub entry_when : Option NameKind → List TextToken → Option (Answer TextToken Entry)
-entry_when None rest = None
-entry_when (Some kind) rest = Some (entry_of_kind kind rest)
-
 -- the entry at the front, where one begins
 abbrev pub entry_member : List TextToken → Option (Answer TextToken Entry)
-entry_member [] = None
-entry_member (x ∷ rest) = entry_when (kind_at x) rest
+entry_member = member_by entry_of_kind
 
 unfoldable pub entries : Reader TextToken (List Entry)
 entries = members entry_member
@@ -77,13 +98,46 @@ tables_made domain entries = record { domain = domain; entries = entries }
 
 -- a text of tables, up to the end
 unfoldable pub tables_text : Reader TextToken TablesSyntax
-tables_text xs =
-    and_then (taking (word_at (codes "tsltables")) xs) (λ _ ys.
-    and_then (taking (numeral_at (codes "1")) ys) (λ _ zs.
-    and_then (taking (word_at (codes "domain")) zs) (λ _ us.
-    and_then (taking positive_at us) (λ domain vs.
-    and_then (entries vs) (λ es ws.
-    map_read (λ _. tables_made domain es) (at_end ws))))))
+tables_text = headed_text (codes "tsltables") (codes "domain") entries tables_made
+
+-- ---- words
+
+-- what stands for an operation: its word; or, for none, the word before a number
+abbrev pub operation_word_at : TextToken → Option (Option WordOperation)
+operation_word_at x = if is_word (codes "const") x then Some None else option_map (λ o. Some o) (operation_at x)
+
+-- an operation after its first word
+abbrev pub rest_of_operation : Option WordOperation → Reader TextToken WordOperation
+rest_of_operation (Some o) xs = Ok (o, xs)
+rest_of_operation None xs = map_read Const (taking number_at xs)
+
+unfoldable pub operation : Reader TextToken WordOperation
+operation xs = and_then (taking operation_word_at xs) rest_of_operation
+
+abbrev pub word_entry_made : TextToken → Given → WordEntry
+word_entry_made name given = record { name = name; given = given }
+
+-- an entry after its first word
+unfoldable pub word_entry_of_kind : NameKind → Reader TextToken WordEntry
+word_entry_of_kind Function xs = and_then (taking name_at xs) (λ name ys. map_read (λ o. word_entry_made name (Operation o)) (operation ys))
+word_entry_of_kind Predicate xs =
+    and_then (taking symbol_at xs) (λ name ys. map_read (λ t. word_entry_made name (Test t)) (taking test_at ys))
+word_entry_of_kind Signal xs =
+    and_then (taking name_at xs) (λ name ys. map_read (λ n. word_entry_made name (Value n)) (taking number_at ys))
+
+-- the entry at the front, where one begins
+abbrev pub word_entry_member : List TextToken → Option (Answer TextToken WordEntry)
+word_entry_member = member_by word_entry_of_kind
+
+unfoldable pub word_entries : Reader TextToken (List WordEntry)
+word_entries = members word_entry_member
+
+abbrev pub words_made : ℕ → List WordEntry → WordsSyntax
+words_made bits entries = record { bits = bits; entries = entries }
+
+-- a text of words, up to the end
+unfoldable pub words_text : Reader TextToken WordsSyntax
+words_text = headed_text (codes "tslwords") (codes "bits") word_entries words_made
 
 -- ---- inputs
 

@@ -1,19 +1,13 @@
-use Rattle.std.proofs.Common.{◌<◌, ℕ, List, length, sym, ap, ◌∙◌, subst}
-use Rattle.std.specs.Prelude.{All}
+use Rattle.std.proofs.Common.{length, sym, ap, ◌∙◌}
 use Rattle.std.proofs.lemmas.List.Elements.{All-from_recursion}
 use Rattle.table_interp.specs.Tables.{numbers_for}
 use Rattle.table_interp.specs.internal.Located.{HasOneSmall}
 use Rattle.table_syntax.specs.View.{entries_view}
-use Rattle.table_interp.proofs.Facts.{cells_within, needed_within, small_table, cells_one, paired}
+use Rattle.table_interp.proofs.Facts.{cells_within, small_table, cells_one, paired}
 use Rattle.table_interp.proofs.entries.tables_from.Goals as goal
 
-pub located_entries-requires : goal.located_entries-requires
-located_entries-requires c = record { cells = cells_within c.args.names.now c.args.cells.now c.requires.cells }
-
-pub check_entries-requires-clause-within : goal.check_entries-requires-clause-within
-check_entries-requires-clause-within c =
-    subst (λ (ids : List ℕ). All (λ id. id < length c.args.names.now) ids) (sym (c.deref-3.ensures.value ∙ c.in_ok-needed.ensures))
-    (needed_within c.args.names.now c.args.cells.now (cells_within c.args.names.now c.args.cells.now c.requires.cells))
+pub needed-requires : goal.needed-requires
+needed-requires c = cells_within c.args.names.now c.args.cells.now c.requires.cells
 
 pub tables_of-requires-clause-small : goal.tables_of-requires-clause-small
 tables_of-requires-clause-small c =
@@ -25,11 +19,11 @@ initial_of-requires-clause-within c = cells_within c.args.names.now c.args.cells
 
 pub initial_of-requires-clause-one : goal.initial_of-requires-clause-one
 initial_of-requires-clause-one c =
-    All-from_recursion (HasOneSmall c.args.names.now (entries_view c.deref.result.now)) c.args.cells.now
+    All-from_recursion (HasOneSmall c.args.names.now (entries_view c.deref-2.result.now)) c.args.cells.now
     (cells_one c.args.names.now c.args.cells.now _ (cells_within c.args.names.now c.args.cells.now c.requires.cells)
     c.in_ok-check_entries.ensures.ok c.requires.few c.requires.cells)
 
 pub from_parts-requires-clause-paired : goal.from_parts-requires-clause-paired
 from_parts-requires-clause-paired c =
-    paired (numbers_for c.args.names.now (entries_view c.deref.result.now)) c.args.cells.now c.in_ok-initial.initial.items
-    c.in_ok-initial.ensures ∙ ap length (sym c.deref-4.ensures.value)
+    paired (numbers_for c.args.names.now (entries_view c.deref-2.result.now)) c.args.cells.now c.in_ok-initial.initial.items
+    c.in_ok-initial.ensures ∙ ap length (sym c.deref-5.ensures.value)

@@ -1,7 +1,7 @@
 use Rattle.std.proofs.Common.{not, sym, ◌∙◌, arith}
 use Rattle.std.specs.List.{list_any}
 use Rattle.sequence.proofs.Finds.{find_past, find_here, find_end}
-use Rattle.table_interp.specs.Needed.{is_for}
+use Rattle.entry_names.specs.Needed.{is_for}
 use Rattle.table_syntax.specs.View.{text_tokens_view}
 use Rattle.table_interp.proofs.inputs.first_without_column.Goals as goal
 

@@ -1,6 +1,6 @@
 use Rattle.std.proofs.Common.{◌≡◌, drop, not}
 use Rattle.std.specs.List.{find, list_any}
-use Rattle.table_interp.specs.Needed.{is_for}
+use Rattle.entry_names.specs.Needed.{is_for}
 use Rattle.table_syntax.specs.View.{text_tokens_view}
 use Rattle.table_interp.proofs.inputs.first_without_column.Given as goal
 

@@ -3,7 +3,7 @@ use Rattle.std.specs.Prelude.{slice_get}
 use Rattle.std.specs.List.{list_any}
 use Rattle.std.proofs.lemmas.List.Elements.{All-get_or}
 use Rattle.sequence.proofs.Lists.{alike_push}
-use Rattle.table_interp.specs.Needed.{is_for}
+use Rattle.entry_names.specs.Needed.{is_for}
 use Rattle.table_syntax.specs.View.{text_tokens_view}
 use Rattle.table_interp.proofs.Columns.{place_stands, place_there}
 use Rattle.table_interp.proofs.inputs.order_of.Goals as goal

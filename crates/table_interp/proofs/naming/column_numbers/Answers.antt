@@ -4,10 +4,10 @@ use Rattle.std.proofs.lemmas.List.Elements.{All-from_recursion}
 use Rattle.sequence.proofs.Finds.{find_image_past, find_image_here, find_image_end}
 use Rattle.sequence.proofs.Options.{not_false_of_some}
 use Rattle.sequence.proofs.Each.{each_joined}
-use Rattle.table_interp.specs.Needed.{number_for}
+use Rattle.entry_names.specs.Needed.{number_for}
 use Rattle.table_interp.specs.Inputs.{is_input_name}
 use Rattle.table_syntax.specs.View.{text_token_view}
-use Rattle.table_interp.proofs.Growing.{numbers_more}
+use Rattle.entry_names.proofs.Growing.{numbers_more}
 use Rattle.table_interp.proofs.naming.column_numbers.Goals as goal
 
 pub loop-column-preserved : goal.loop-column-preserved

@@ -1,6 +1,6 @@
 use Rattle.std.proofs.Common.{◌≡◌, ◌<◌, not, length, map, take, drop, Some}
 use Rattle.std.specs.List.{find, AllByRecursion}
-use Rattle.table_interp.specs.Needed.{number_for}
+use Rattle.entry_names.specs.Needed.{number_for}
 use Rattle.table_interp.specs.Inputs.{is_input_name}
 use Rattle.table_syntax.specs.View.{text_token_view}
 use Rattle.table_interp.proofs.naming.column_numbers.Given as goal

@@ -1,4 +1,4 @@
-use Rattle.table_syntax.specs.Grammar.{IsTables, IsInputs}
+use Rattle.table_syntax.specs.Grammar.{IsTables, IsWords, IsInputs}
 use Rattle.table_syntax.proofs.OneFault.{one_fault, fault_refuses}
 use Rattle.table_syntax.proofs.laws.one_fault.Goals as goal
 
@@ -7,6 +7,12 @@ returns-clause-tables c = one_fault IsTables
 
 pub returns-clause-no_tables : goal.returns-clause-no_tables
 returns-clause-no_tables c = fault_refuses IsTables
+
+pub returns-clause-words : goal.returns-clause-words
+returns-clause-words c = one_fault IsWords
+
+pub returns-clause-no_words : goal.returns-clause-no_words
+returns-clause-no_words c = fault_refuses IsWords
 
 pub returns-clause-inputs : goal.returns-clause-inputs
 returns-clause-inputs c = one_fault IsInputs

@@ -1,0 +1,6 @@
+pub mod Growing
+mod Slots
+pub mod Repeats
+pub mod NeededNames
+pub mod Locate
+pub mod Located

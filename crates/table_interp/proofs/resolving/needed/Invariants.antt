@@ -1,8 +1,0 @@
-use Rattle.std.proofs.Common.{◌≡◌}
-use Rattle.std.specs.Prelude.{filter}
-use Rattle.sequence.specs.Numbers.{numbers_from}
-use Rattle.table_interp.specs.Needed.{is_symbol_number}
-use Rattle.table_interp.proofs.resolving.needed.Given as goal
-
-abbrev pub invariant-loop-id : goal.invariant-loop-id
-invariant-loop-id l = l.all.items ≡ filter (is_symbol_number l.names) (numbers_from 0 l.id)

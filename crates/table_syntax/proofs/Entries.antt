@@ -1,0 +1,226 @@
+-- Entries that their first words decide, and whole texts of entries.
+use Rattle.std.proofs.Common.{◌≡◌, ℕ, suc, ◌≤◌, true, false, List, [], ◌∷◌, ◌++◌, refl, ap, sym, ◌∙◌}
+use Rattle.std.proofs.lemmas.List.{append-nil}
+use Rattle.std.specs.Prelude.{Option, Some, None, option_map, option_and_then, is_some, codes}
+use Rattle.tsl_terms.specs.declared.names.NameKind.{NameKind}
+use Rattle.token_readers.specs.Readers.{Reader, value_or_wrong, taking, and_then}
+use Rattle.token_readers.specs.Exact.{Grammar, Begins, Exact}
+use Rattle.token_readers.proofs.Terminals.{turn_of}
+use Rattle.token_readers.proofs.Taken.{HasExample, IsOne, taken_begins, taken_exact, IsEnd, Never, end_exact, end_begins}
+use Rattle.token_readers.proofs.Sequels.{
+  IsMapped,
+  mapped_exact,
+  mapped_begins,
+  Then,
+  then_begins,
+  then_exact,
+  then_before,
+  nothing_follows,
+  after_one,
+}
+use Rattle.token_readers.proofs.Lists.{Member}
+use Rattle.token_readers.proofs.WholeTexts.{Ends, ends_at_end, ends_map, ends_then}
+use Rattle.table_syntax.specs.Syntax.{TextToken, is_name_token, is_word, is_numeral, number_at}
+use Rattle.table_syntax.specs.internal.Reading.{word_at, numeral_at, from_one, positive_at, kind_at, member_by, headed_text}
+use Rattle.table_syntax.proofs.Terminals.{word_is, word_taken, numeral_is, numeral_taken, from_one_is, from_one_taken, word_is_name, word_of_kind}
+use Rattle.table_syntax.proofs.Terminals.{kind_is, has_kind, has_one, has_positive}
+
+-- ---- entries
+
+-- the first word of an entry, and what it decides
+abbrev pub IsByKind : {E : Type 0} → (NameKind → Grammar TextToken E) → Grammar TextToken E
+IsByKind IsForm = Then (IsOne kind_at) IsForm
+
+module _ {E : Type 0} (read : NameKind → Reader TextToken E) (IsForm : NameKind → Grammar TextToken E) {each : TextToken → Type 0}
+    (form_exact : (kind : NameKind) (room : ℕ) → Exact (IsForm kind) each room (read kind))
+    (form_begins : (kind : NameKind) (r : ℕ) → Begins (IsForm kind r) [])
+    (lift_form : (kind : NameKind) (r : ℕ) (xs : List TextToken) (e : E) → IsForm kind r xs e → IsForm kind (suc (suc r)) xs e)
+    (named : (x : TextToken) → is_name_token x ≡ true → each x) where
+  whole_exact : (room : ℕ) → Exact (IsByKind IsForm) each room (λ xs. and_then (taking kind_at xs) read)
+  whole_exact room = then_exact (λ r kind. form_begins kind r) (taken_exact kind_at has_kind room) (λ kind. form_exact kind room)
+
+  pub by_kind : (room : ℕ) → Member (IsByKind IsForm) each Never room (member_by read) (λ x. is_some (kind_at x))
+      (λ xs. and_then (taking kind_at xs) read)
+  unfolding taking
+  by_kind room = record {
+    at_end = refl;
+    none = λ x rest e. none_here (kind_at x) rest e;
+    some = λ x rest e. some_here (kind_at x) x rest e;
+    begins = begins;
+    lift = λ r xs e h. record {
+      value = h.value;
+      front = h.front;
+      tail = h.tail;
+      split = h.split;
+      first = h.first;
+      second = lift_form h.value r h.tail e h.second;
+    };
+    follows = λ x e. follows x (kind_at x) refl e;
+    stops = λ x e. absurd e;
+    weaker = λ x e. absurd e;
+    turn = λ x e. turn_of (whole_exact room) x;
+  } where
+    none_here : (o : Option NameKind) (rest : List TextToken) → is_some o ≡ false →
+        option_map (λ (f : NameKind × List TextToken). read f.0 f.1) (option_map (λ kind. (kind, rest)) o) ≡ None
+    none_here None rest e = refl
+    none_here (Some kind) rest e = cc
+
+    some_here : (o : Option NameKind) (x : TextToken) (rest : List TextToken) → is_some o ≡ true →
+        option_map (λ (f : NameKind × List TextToken). read f.0 f.1) (option_map (λ kind. (kind, rest)) o)
+        ≡ Some (and_then (value_or_wrong o x rest) read)
+    some_here None x rest e = cc
+    some_here (Some kind) x rest e = refl
+
+    begins : (r : ℕ) (xs : List TextToken) (e : E) → IsByKind IsForm r xs e →
+        (x : TextToken) × (ys : List TextToken) × (xs ≡ x ∷ ys) × (is_some (kind_at x) ≡ true)
+    begins r xs e h =
+        (h.first.0, h.tail, h.split ∙ ap (λ front. front ++ h.tail) h.first.1, ap is_some h.first.2)
+
+    follows : (x : TextToken) (o : Option NameKind) → kind_at x ≡ o → is_some o ≡ true → each x
+    follows x None is e = cc
+    follows x (Some kind) is e = named x (word_is_name (word_of_kind kind) x (kind_is x kind is))
+
+-- ---- whole texts
+
+-- a first word, "1", another word, a number from 1 on, and entries
+abbrev pub IsHeaded : {E V : Type 0} → List ℕ → List ℕ → (List TextToken → List E → Type 0) → (ℕ → List E → V) → Grammar TextToken V
+IsHeaded head word Are made =
+    Then (IsOne (word_at head)) (λ _. Then (IsOne (numeral_at (codes "1"))) (λ _. Then (IsOne (word_at word)) (λ _.
+    Then (IsOne positive_at) (λ n. Then Are (λ es. IsMapped (λ _. made n es) IsEnd)))))
+
+-- the same by its parts
+pub record HeadedParts {E V : Type 0} (head word : List ℕ) (Are : List TextToken → List E → Type 0) (made : ℕ → List E → V)
+    (xs : List TextToken) (v : V) : Type 0 where
+  pub first : TextToken
+  pub one : TextToken
+  pub second : TextToken
+  pub digits : TextToken
+  pub number : ℕ
+  pub tail : List TextToken
+  pub entries : List E
+  pub split : xs ≡ first ∷ one ∷ second ∷ digits ∷ tail
+  pub is_first : is_word head first ≡ true
+  pub is_one : is_numeral (codes "1") one ≡ true
+  pub is_second : is_word word second ≡ true
+  pub is_number : number_at digits ≡ Some number
+  pub some : 1 ≤ number
+  pub derived : Are tail entries
+  pub is : v ≡ made number entries
+
+module _ {E V : Type 0} {head word : List ℕ} {Are : List TextToken → List E → Type 0} {made : ℕ → List E → V} where
+  pub parts_of : (r : ℕ) (xs : List TextToken) (v : V) → IsHeaded head word Are made r xs v → HeadedParts head word Are made xs v
+  parts_of r xs v a =
+      let b = a.second in
+      let c = b.second in
+      let d = c.second in
+      let e = d.second in
+      let positive = from_one_is (number_at d.first.0) d.value d.first.2 in
+      let tail : d.tail ≡ e.front = e.split ∙ ap (λ ys. e.front ++ ys) e.second.1 ∙ append-nil e.front in
+      record {
+        first = a.first.0;
+        one = b.first.0;
+        second = c.first.0;
+        digits = d.first.0;
+        number = d.value;
+        tail = e.front;
+        entries = e.value;
+        split = after_one a ∙ ap (λ ys. a.first.0 ∷ ys) (after_one b ∙ ap (λ ys. b.first.0 ∷ ys) (after_one c
+            ∙ ap (λ ys. c.first.0 ∷ ys) (after_one d ∙ ap (λ ys. d.first.0 ∷ ys) tail)));
+        is_first = word_is head a.first.0 a.first.2;
+        is_one = numeral_is (codes "1") b.first.0 b.first.2;
+        is_second = word_is word c.first.0 c.first.2;
+        is_number = positive.0;
+        some = positive.1;
+        derived = e.first;
+        is = e.second.2;
+      }
+
+  pub of_parts : (r : ℕ) (xs : List TextToken) (v : V) → HeadedParts head word Are made xs v → IsHeaded head word Are made r xs v
+  of_parts r xs v p = record {
+    value = tt;
+    front = p.first ∷ [];
+    tail = p.one ∷ p.second ∷ p.digits ∷ p.tail;
+    split = p.split;
+    first = (p.first, refl, word_taken head p.first p.is_first);
+    second = record {
+      value = tt;
+      front = p.one ∷ [];
+      tail = p.second ∷ p.digits ∷ p.tail;
+      split = refl;
+      first = (p.one, refl, numeral_taken (codes "1") p.one p.is_one);
+      second = record {
+        value = tt;
+        front = p.second ∷ [];
+        tail = p.digits ∷ p.tail;
+        split = refl;
+        first = (p.second, refl, word_taken word p.second p.is_second);
+        second = record {
+          value = p.number;
+          front = p.digits ∷ [];
+          tail = p.tail;
+          split = refl;
+          first = (p.digits, refl, ap (option_and_then from_one) p.is_number ∙ from_one_taken p.number p.some);
+          second = record {
+            value = p.entries;
+            front = p.tail;
+            tail = [];
+            split = sym (append-nil p.tail);
+            first = p.derived;
+            second = (tt, refl, p.is);
+          };
+        };
+      };
+    };
+  }
+
+module _ {E V : Type 0} {head word : List ℕ} (has_head : HasExample (word_at head)) (has_second : HasExample (word_at word))
+    {Are : List TextToken → List E → Type 0} (none : Begins Are []) {read : Reader TextToken (List E)}
+    (exact : (room : ℕ) → Exact (λ r. Are) Never room read) (made : ℕ → List E → V) where
+  -- such a text, from its end
+  abbrev TextEnd : ℕ → List E → Grammar TextToken V
+  TextEnd n es = IsMapped (λ _. made n es) IsEnd
+
+  abbrev TextEntries : ℕ → Grammar TextToken V
+  TextEntries n = Then Are (TextEnd n)
+
+  abbrev TextNumber : Grammar TextToken V
+  TextNumber = Then (IsOne positive_at) TextEntries
+
+  abbrev TextSecond : Grammar TextToken V
+  TextSecond = Then (IsOne (word_at word)) (λ _. TextNumber)
+
+  abbrev TextOne : Grammar TextToken V
+  TextOne = Then (IsOne (numeral_at (codes "1"))) (λ _. TextSecond)
+
+  end_begin : (r n : ℕ) (es : List E) → Begins (TextEnd n es r) []
+  end_begin r n es = mapped_begins (λ _. made n es) IsEnd r end_begins
+
+  entries_begin : (r n : ℕ) → Begins (TextEntries n r) []
+  entries_begin r n = then_begins Are (TextEnd n) r none (λ es. end_begin r n es)
+
+  number_begin : (r : ℕ) → Begins (TextNumber r) []
+  number_begin r = then_begins (IsOne positive_at) TextEntries r (taken_begins positive_at has_positive 0) (λ n. entries_begin r n)
+
+  second_begin : (r : ℕ) → Begins (TextSecond r) []
+  second_begin r = then_begins (IsOne (word_at word)) (λ _. TextNumber) r (taken_begins (word_at word) has_second 0) (λ v. number_begin r)
+
+  one_begin : (r : ℕ) → Begins (TextOne r) []
+  one_begin r =
+      then_begins (IsOne (numeral_at (codes "1"))) (λ _. TextSecond) r (taken_begins (numeral_at (codes "1")) has_one 0)
+      (λ v. second_begin r)
+
+  pub headed_exact : (room : ℕ) → Exact (IsHeaded head word Are made) Never room (headed_text head word read made)
+  headed_exact room =
+      then_exact (λ r v. one_begin r) (taken_exact (word_at head) has_head room) (λ _.
+      then_exact (λ r v. second_begin r) (taken_exact (numeral_at (codes "1")) has_one room) (λ _.
+      then_exact (λ r v. number_begin r) (taken_exact (word_at word) has_second room) (λ _.
+      then_exact (λ r n. entries_begin r n) (taken_exact positive_at has_positive room) (λ n.
+      then_before (λ r es. end_begin r n es) (λ r es xs v h rest b. nothing_follows Never (λ _. made n es) r xs v h rest b)
+      (exact room) (λ es. mapped_exact (λ _. made n es) (end_exact room))))))
+
+pub headed_end : {E V : Type 0} (head word : List ℕ) (read : Reader TextToken (List E)) (made : ℕ → List E → V) →
+    Ends (headed_text head word read made)
+headed_end head word read made =
+    ends_then (taking (word_at head)) (λ _. ends_then (taking (numeral_at (codes "1"))) (λ _.
+    ends_then (taking (word_at word)) (λ _. ends_then (taking positive_at) (λ n.
+    ends_then read (λ es. ends_map (λ _. made n es) ends_at_end)))))

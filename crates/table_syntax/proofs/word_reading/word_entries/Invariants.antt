@@ -1,0 +1,14 @@
+use Rattle.std.proofs.Common.{◌≡◌, length}
+use Rattle.token_readers.specs.Readers.{iterate, push, members}
+use Rattle.table_syntax.specs.internal.Reading.{word_entry_member}
+use Rattle.table_syntax.specs.View.{text_tokens_view, word_entries_view}
+use Rattle.table_syntax.proofs.word_reading.word_entries.Given as goal
+
+-- what was read so far, and then what the terminals that are left give
+abbrev pub invariant-loop-kind : goal.invariant-loop-kind
+invariant-loop-kind l =
+    iterate (push word_entry_member) (word_entries_view l.entries.items) (text_tokens_view l.left.terminals.now)
+    ≡ members word_entry_member (text_tokens_view l.fn.xs)
+
+abbrev pub decreases-loop-kind : goal.decreases-loop-kind
+decreases-loop-kind l = length l.left.terminals.now
