@@ -1,2 +1,3 @@
 mod TestRuns
 mod TotalRuns
+mod WordValues

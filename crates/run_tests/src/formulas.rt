@@ -54,6 +54,14 @@ impl Algebra for Truths {
 }
 
 impl Judge for Truths {
+    ghost use Rattle.std.specs.Prelude.{None};
+
+    ghost equality_number = { λ _. None };
+
+    fn equality(&self) -> Option<u32> {
+        None
+    }
+
     fn test(&self, _: u32, _: &[bool]) -> bool {
         true
     }

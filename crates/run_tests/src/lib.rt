@@ -1,4 +1,5 @@
-//! Tests of meanings and runs: formulas on runs, texts of tables and inputs, and programs that run on them.
+//! Tests of meanings and runs: formulas on runs, texts of tables and inputs, programs that run on them,
+//! and words beside tables.
 #![tactic(auto)]
 
 #[cfg(test)]
@@ -7,3 +8,5 @@ mod formulas;
 mod runs;
 #[cfg(test)]
 mod tables;
+#[cfg(test)]
+mod words;

@@ -1,9 +1,11 @@
 //! Texts and what they are read as.
 
-ghost use Rattle.std.specs.Prelude.{◌≡◌};
+ghost use Rattle.std.specs.Prelude.{◌≡◌, ◌∷◌, [], IfOk};
 ghost use Rattle.tsl_terms.specs.declared.names.NameKind.TheVariants.{Signal};
 ghost use Rattle.tsl_terms.specs.Name.{is_name};
+ghost use Rattle.tsl_meaning.specs.Interpretation.{IsInterpretation, IsEqualityOf};
 
+use interp_core::Judge;
 use sequence::Sequence;
 use std::alloc::Global;
 use std::process::Abort;
@@ -20,19 +22,19 @@ const TABLES: &[(&[u8], &str)] = &[
     (
         b"tsltables 1 domain 2 func f 0 0 1 0 pred p 0 1 pred ? 1 0 func X 1 cell y 1 cell x 0",
         "Tables { domain: 2, tables: Sequence { items: [Sequence { items: [] }, Sequence { items: [] }, Sequence { items: [0, 0, 1, 0] }, \
-            Sequence { items: [0, 1] }, Sequence { items: [1, 0] }, Sequence { items: [1] }] }, initial: {1: 1, 0: 0} }",
+            Sequence { items: [0, 1] }, Sequence { items: [1, 0] }, Sequence { items: [1] }] }, initial: {1: 1, 0: 0}, equality: None }",
     ),
     (
         b"tsltables 1\ndomain 0003 // three\ncell x 2 pred ? 1 0 1 pred p 0 0 0 /* a /* b */ */ cell y 01\nfunc X 2 func f 0 1 2 0 1 2 0 \
             1 2\n",
         "Tables { domain: 3, tables: Sequence { items: [Sequence { items: [] }, Sequence { items: [] }, \
             Sequence { items: [0, 1, 2, 0, 1, 2, 0, 1, 2] }, Sequence { items: [0, 0, 0] }, Sequence { items: [1, 0, 1] }, \
-            Sequence { items: [2] }] }, initial: {1: 1, 0: 2} }",
+            Sequence { items: [2] }] }, initial: {1: 1, 0: 2}, equality: None }",
     ),
     (
         b"tsltables 1 domain 1 func f 0 pred p 1 pred ? 0 func X 0 cell y 0 cell x 0",
         "Tables { domain: 1, tables: Sequence { items: [Sequence { items: [] }, Sequence { items: [] }, Sequence { items: [0] }, \
-            Sequence { items: [1] }, Sequence { items: [0] }, Sequence { items: [0] }] }, initial: {1: 0, 0: 0} }",
+            Sequence { items: [1] }, Sequence { items: [0] }, Sequence { items: [0] }] }, initial: {1: 0, 0: 0}, equality: None }",
     ),
     // bytes and comments
     (b"tsltables 1 domain 2 # func f", "Byte(21)"),
@@ -47,6 +49,7 @@ const TABLES: &[(&[u8], &str)] = &[
     (b"tsltables 1 domain 0 func f 0", "Form(19)"),
     (b"tsltables 1 domain 1234567890123456789", "Form(19)"),
     (b"tsltables 1 domain 2 3", "Form(21)"),
+    (b"tsltables 1 domain = 2", "Form(19)"),
     (b"tsltables 1 domain 2 func f 0 1 cell ? 1", "Form(37)"),
     (b"tsltables 1 domain 2 func f 0 1 cell x x", "Form(39)"),
     (b"tsltables 1 domain 2 cell x 1 1 func f 0", "Form(30)"),
@@ -141,6 +144,7 @@ const INPUTS: &[(&[u8], &str)] = &[
     (b"tslinputs 1 input x $ input y", "Byte(20)"),
     (b"tslinputs 1 input x /* input y $", "OpenComment(20)"),
     (b"tslinputs", "Form(9)"),
+    (b"tslinputs 1 input x = y", "Form(20)"),
     (b"tsltables 1 stem cycle row", "Form(0)"),
     (b"tslinputs 2 stem cycle row", "Form(10)"),
     (b"tslinputs 1 input ? stem cycle row", "Form(18)"),
@@ -186,7 +190,7 @@ const INPUTS: &[(&[u8], &str)] = &[
 ];
 
 /// Whether the number is that of a signal.
-fn is_signal(names: &Names, id: u32) -> bool
+pub(crate) fn is_signal(names: &Names, id: u32) -> bool
     ensures { result ≡ is_name names.now id Signal 0 }
 {
     if id >= names.count() {
@@ -219,12 +223,16 @@ fn some_names(alloc: Global) -> Result<Names, Fail> {
 }
 
 /// The tables of a text, or the refusal.
-fn tables_read(
+pub(crate) fn tables_read(
     rt: &impl Abort,
     alloc: Global,
     names: &Names,
     text: &[u8],
-) -> Result<Tables, TableError> {
+) -> Result<Tables, TableError>
+    ensures cells { IfOk result (λ tables. tables.cells ≡ 1 ∷ 0 ∷ []) }
+    ensures meaning { IfOk result (λ tables. IsInterpretation names.now (1 ∷ 0 ∷ []) tables.interpretation) }
+    ensures equality { IfOk result (λ tables. IsEqualityOf names.now tables.equality) }
+{
     assert!(rt; text.len() < 3_000_000);
     assert!(rt; is_signal(names, 1));
     assert!(rt; is_signal(names, 0));
@@ -294,18 +302,79 @@ fn inputs_are_read_or_refused(rt: HostRuntime) -> Result<(), Fail> {
     Ok(())
 }
 
-/// The signals x and y, and f of some arguments.
-fn few_names(alloc: Global, arity: u32) -> Result<Names, Fail> {
+/// The signals x and y, and a symbol of some arguments.
+pub(crate) fn few_names(
+    alloc: Global,
+    symbol: &[u8],
+    kind: NameKind,
+    arity: u32,
+) -> Result<Names, Fail> {
     let mut names = Names::new(alloc);
     add(&mut names, b"x", NameKind::Signal, 0)?;
     add(&mut names, b"y", NameKind::Signal, 0)?;
-    add(&mut names, b"f", NameKind::Function, arity)?;
+    add(&mut names, symbol, kind, arity)?;
     Ok(names)
+}
+
+/// How many arguments `eq` takes beside the cells y and x, a text of tables, and what it is read as. With two arguments
+/// it is equality, which has no table.
+const EQUALITIES: &[(u32, &[u8], &str)] = &[
+    (
+        2,
+        b"tsltables 1 domain 3 cell y 1 cell x 2",
+        "Tables { domain: 3, tables: Sequence { items: [Sequence { items: [] }, Sequence { items: [] }, Sequence { items: [] }] }, \
+            initial: {1: 1, 0: 2}, equality: Some(2) }",
+    ),
+    (
+        2,
+        b"tsltables 1 domain 2 pred eq 1 0 0 1 cell y 1 cell x 0",
+        "Unknown(26, 28)",
+    ),
+    (2, b"tsltables 1 domain 3 cell x 2", "Missing(1)"),
+    (
+        1,
+        b"tsltables 1 domain 2 pred eq 1 0 cell y 1 cell x 0",
+        "Tables { domain: 2, tables: Sequence { items: [Sequence { items: [] }, Sequence { items: [] }, Sequence { items: [1, 0] }] }, \
+            initial: {1: 1, 0: 0}, equality: None }",
+    ),
+    (1, b"tsltables 1 domain 2 cell y 1 cell x 0", "Missing(2)"),
+];
+
+#[test]
+fn equality_has_no_table(rt: HostRuntime) -> Result<(), Fail> {
+    for &(arity, text, expected) in EQUALITIES {
+        let names = few_names(rt.alloc(), b"eq", NameKind::Predicate, arity)?;
+        let told = match tables_read(&rt, rt.alloc(), &names, text) {
+            Ok(tables) => format!(in rt.alloc(); "{tables:?}")?,
+            Err(error) => format!(in rt.alloc(); "{error:?}")?,
+        };
+        assert_eq!(rt; told.as_str(), expected);
+    }
+    Ok(())
+}
+
+#[test]
+fn equality_is_judged_without_a_table(rt: HostRuntime) -> Result<(), Fail> {
+    let names = few_names(rt.alloc(), b"eq", NameKind::Predicate, 2)?;
+    let read = tables_read(
+        &rt,
+        rt.alloc(),
+        &names,
+        b"tsltables 1 domain 3 cell y 1 cell x 2",
+    );
+    let tables = read.expect(&rt, "the tables are read");
+    let equality = tables.equality().expect(&rt, "there is equality");
+    for a in 0..3 {
+        for b in 0..3 {
+            assert_eq!(rt; tables.test(equality, &[a, b]), a == b);
+        }
+    }
+    Ok(())
 }
 
 /// `read`, or why a text spells no tables for few names.
 fn tables_tried(rt: &impl Abort, alloc: Global, arity: u32, text: &[u8]) -> Result<String, Fail> {
-    let names = few_names(alloc, arity)?;
+    let names = few_names(alloc, b"f", NameKind::Function, arity)?;
     match tables_read(rt, alloc, &names, text) {
         Ok(_) => Ok(String::from_str(alloc, "read")?),
         Err(error) => Ok(format!(in alloc; "{error:?}")?),
@@ -378,7 +447,7 @@ const LATE_ROWS: &[(u32, &[u8], &str)] = &[
 
 /// Asserts what texts of so many rows are read as.
 fn rows_are_read(rt: &impl Abort, alloc: Global, texts: &[(u32, &[u8], &str)]) -> Result<(), Fail> {
-    let names = few_names(alloc, 2)?;
+    let names = few_names(alloc, b"f", NameKind::Function, 2)?;
     let front = b"tslinputs 1 input x input y stem";
     for &(times, last, expected) in texts {
         let text = repeated(alloc, front, times, b" row 1 2", last)?;

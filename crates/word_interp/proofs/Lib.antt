@@ -1,0 +1,9 @@
+mod Tabled
+mod Given
+mod Checked
+mod Facts
+mod Refusals
+mod OneReading
+mod Examples
+mod Stages
+mod OneCause
