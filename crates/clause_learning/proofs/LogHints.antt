@@ -1,11 +1,11 @@
 -- The clauses on a trail by their numbers in the log: hints that name them are turned into hints of the log.
 use Rattle.std.proofs.Common.{◌≡◌, ℕ, suc, ◌+◌, ◌-◌, ◌<◌, ◌≤◌, List, [], ◌∷◌, ◌++◌, length, Option, Some, None, slice_get}
-use Rattle.std.proofs.Common.{sym, ap, ◌∙◌, subst, refl, arith, inl, inr}
+use Rattle.std.proofs.Common.{sym, ap, ◌∙◌, subst, refl, arith, inl, inr, All, Contains}
 use Rattle.std.specs.List.{AllByRecursion}
 use Rattle.std.proofs.lemmas.Option.{none-some, same_Some, slice_get_within, get_or_from_slice_get}
 use Rattle.std.proofs.lemmas.List.{append_assoc, append-nil, length-append, length_push}
-use Rattle.std.proofs.lemmas.List.Elements.{All-from_recursion, recursion_from_All}
-use Rattle.sequence.proofs.Places.{slice_get_some, slice_get-front, slice_get-behind, slice_get_push}
+use Rattle.std.proofs.lemmas.List.Elements.{All-from_recursion, recursion_from_All, All-push, All-nil}
+use Rattle.sequence.proofs.Places.{slice_get_some, slice_get-front, slice_get-behind, slice_get_push, contains_at}
 use Rattle.clause_core.specs.Literals.{Lit}
 use Rattle.refutation_check.specs.Checking.{HintEffect, numbered_from, clause_named, effect_of_named, led_to, refused_hint}
 use Rattle.refutation_check.specs.Checking.HintEffect.{ends, makes, shows_nothing}
@@ -138,38 +138,43 @@ module _ (known clauses : List (List Lit)) (numbers : List ℕ) (are : AreLogNum
 -- ---- what is kept of a trail
 
 -- a clause is left out
-pub kept_less : (formula clauses : List (List Lit)) (numbers : List ℕ) (place : ℕ) (kept : List (List Lit)) (shelf : Shelf) →
-    AreShelved formula clauses numbers place kept shelf → AreShelved formula clauses numbers (place + 1) kept shelf
-kept_less formula clauses numbers place kept shelf are = record {
-  others = are.others;
-  stand = are.stand;
+pub kept_less : (formula clauses : List (List Lit)) (numbers : List ℕ) (place : ℕ) (others : List (List Lit)) (shelf : Shelf) →
+    AreShelved formula clauses numbers place others shelf → AreShelved formula clauses numbers (place + 1) others shelf
+kept_less formula clauses numbers place others shelf are = record {
+  stood = are.stood;
   fewer = omega (arith, are.fewer);
   one_use_each = are.one_use_each;
   named = are.named;
 }
 
 -- a clause is kept with its number
-pub kept_more : (formula clauses : List (List Lit)) (numbers : List ℕ) (place : ℕ) (kept : List (List Lit)) (shelf after : Shelf)
-    (clause : List Lit) (number : ℕ) → AreShelved formula clauses numbers place kept shelf → slice_get clauses place ≡ Some clause →
+pub kept_more : (formula clauses : List (List Lit)) (numbers : List ℕ) (place : ℕ) (others : List (List Lit)) (shelf after : Shelf)
+    (clause : List Lit) (number : ℕ) → AreShelved formula clauses numbers place others shelf → slice_get clauses place ≡ Some clause →
     slice_get numbers place ≡ Some number → after.numbers.items ≡ shelf.numbers.items ++ number ∷ [] →
-    length after.uses.items ≡ length shelf.uses.items + 1 → AreShelved formula clauses numbers (place + 1) (kept ++ clause ∷ []) after
-kept_more formula clauses numbers place kept shelf after clause number are at named numbers_are uses_are = record {
-  others = are.others ++ clause ∷ [];
-  stand = ap (λ (cs : List (List Lit)). cs ++ clause ∷ []) are.stand ∙ append_assoc formula are.others (clause ∷ []);
-  fewer = omega (arith, are.fewer, length_push kept clause);
-  one_use_each = omega (arith, uses_are, are.one_use_each, length_push kept clause);
-  named = λ later old. subst (AreLogNumbers (formula ++ later) (kept ++ clause ∷ [])) (sym numbers_are)
-      (named_again (formula ++ later) clauses kept numbers shelf.numbers.items place number clause old (are.named later old) at named);
-}
+    length after.uses.items ≡ length shelf.uses.items + 1 → AreShelved formula clauses numbers (place + 1) (others ++ clause ∷ []) after
+kept_more formula clauses numbers place others shelf after clause number are at named numbers_are uses_are =
+    let whole : (formula ++ others) ++ clause ∷ [] ≡ formula ++ (others ++ clause ∷ []) = append_assoc formula others (clause ∷ []) in
+    let longer : length (formula ++ (others ++ clause ∷ [])) ≡ length (formula ++ others) + 1 =
+    sym (ap length whole) ∙ length_push (formula ++ others) clause in
+    record {
+      stood = All-push (Contains clauses) others clause are.stood (contains_at clauses place clause at);
+      fewer = omega (arith, are.fewer, longer);
+      one_use_each = omega (arith, uses_are, are.one_use_each, longer);
+      named = λ later old. subst (λ (cs : List (List Lit)). AreLogNumbers (formula ++ later) cs after.numbers.items) whole
+          (subst (AreLogNumbers (formula ++ later) ((formula ++ others) ++ clause ∷ [])) (sym numbers_are)
+          (named_again (formula ++ later) clauses (formula ++ others) numbers shelf.numbers.items place number clause old (are.named later old)
+          at named));
+    }
 
 -- the clauses of the formula alone
-pub first_kept : (formula clauses : List (List Lit)) (numbers : List ℕ) (count : ℕ) (kept : List (List Lit)) (shelf : Shelf) →
-    kept ≡ formula → count ≡ length formula → AreFirst count shelf → AreShelved formula clauses numbers count kept shelf
-first_kept formula clauses numbers count kept shelf same is first = record {
-  others = [];
-  stand = same ∙ sym (append-nil formula);
-  fewer = omega (arith, ap length same, is);
-  one_use_each = omega (arith, ap length same, is, first.one_use_each);
-  named = λ later old. subst (λ (cs : List (List Lit)). AreLogNumbers (formula ++ later) cs shelf.numbers.items) (sym same)
-      (first_named formula later shelf (subst (λ (n : ℕ). AreFirst n shelf) is first));
-}
+pub first_kept : (formula clauses : List (List Lit)) (numbers : List ℕ) (others : List (List Lit)) (shelf : Shelf) → others ≡ [] →
+    AreFirst (length formula) shelf → AreShelved formula clauses numbers (length formula) others shelf
+first_kept formula clauses numbers others shelf none first =
+    let whole : formula ++ others ≡ formula = ap (λ (cs : List (List Lit)). formula ++ cs) none ∙ append-nil formula in
+    record {
+      stood = subst (All (Contains clauses)) (sym none) (All-nil (Contains clauses));
+      fewer = omega (arith, ap length whole);
+      one_use_each = first.one_use_each ∙ sym (ap length whole);
+      named = λ later old. subst (λ (cs : List (List Lit)). AreLogNumbers (formula ++ later) cs shelf.numbers.items) (sym whole)
+          (first_named formula later shelf first);
+    }

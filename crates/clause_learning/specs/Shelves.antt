@@ -1,6 +1,6 @@
 -- Internal to the solver: no clause of a public function of `sat_core` uses these words.
 -- The clauses on a trail by their numbers in the log. A trail may lack clauses that the log has.
-use Rattle.std.specs.Prelude.{◌≡◌, ◌⊎◌, ℕ, ◌+◌, ◌-◌, ◌<◌, ◌≤◌, Bool, true, List, ◌++◌, map, length, Some, slice_get, slice_index_or}
+use Rattle.std.specs.Prelude.{◌≡◌, ◌⊎◌, ℕ, ◌+◌, ◌-◌, ◌<◌, ◌≤◌, Bool, true, List, ◌++◌, map, length, Some, slice_get, slice_index_or, All, Contains}
 use Rattle.clause_core.specs.Literals.{Lit}
 use Rattle.sat_trail.specs.States.{TrailState, started}
 use Rattle.clause_learning.specs.declared.journal.Journal.{Journal}
@@ -26,22 +26,21 @@ pub record AreFirst (count : ℕ) (shelf : Shelf) : Type 0 where
   pub one_use_each : length shelf.uses.items ≡ count
   pub upward : (place : ℕ) → place < count → slice_get shelf.numbers.items place ≡ Some (place + 1)
 
--- So many clauses of a trail were looked at. Those of the formula are kept, and some of the others, with their numbers.
-pub record AreShelved (formula clauses : List (List Lit)) (numbers : List ℕ) (looked : ℕ) (kept : List (List Lit)) (shelf : Shelf) :
+-- So many clauses of a trail were looked at. Those of the formula are kept, and these others, with their numbers.
+pub record AreShelved (formula clauses : List (List Lit)) (numbers : List ℕ) (looked : ℕ) (others : List (List Lit)) (shelf : Shelf) :
     Type 0 where
-  pub others : List (List Lit)
-  pub stand : kept ≡ formula ++ others
-  pub fewer : length kept ≤ looked
-  pub one_use_each : length shelf.uses.items ≡ length kept
+  pub stood : All (Contains clauses) others
+  pub fewer : length (formula ++ others) ≤ looked
+  pub one_use_each : length shelf.uses.items ≡ length (formula ++ others)
   pub named : (later : List (List Lit)) → AreLogNumbers (formula ++ later) clauses numbers →
-      AreLogNumbers (formula ++ later) kept shelf.numbers.items
+      AreLogNumbers (formula ++ later) (formula ++ others) shelf.numbers.items
 
 -- a trail begins with the clauses of the formula and some of the others that stood on the old one
 pub record BeginsAnew (variables : ℕ) (formula : List (List Lit)) (old : TrailState) (numbers : List ℕ) (new : TrailState) (shelf : Shelf) :
     Type 0 where
-  pub clauses : List (List Lit)
-  pub kept : AreShelved formula old.clauses numbers (length old.clauses) clauses shelf
-  pub trail_is : new ≡ started variables clauses
+  pub others : List (List Lit)
+  pub kept : AreShelved formula old.clauses numbers (length old.clauses) others shelf
+  pub trail_is : new ≡ started variables (formula ++ others)
 
 -- the trail stays as it is, or where it may be shortened it begins anew; the steps stay
 abbrev pub IsShortened : Bool → ℕ → List (List Lit) → TrailState → Journal → TrailState → Journal → Type 0

@@ -37,7 +37,7 @@ impl Decisions {
     }
 
     /// Decides the next variable, and answers whether there was one. An `Err` says that memory ran out.
-    pub fn decide(&mut self, trail: &mut Trail) -> Result<bool, NoMemory>
+    pub fn decide(&mut self, trail: &mut Trail<'_>) -> Result<bool, NoMemory>
         requires usable { trail.old.broken ≡ false }
         requires sound { IsSound trail.old }
         requires decisions { AreDecisions trail.old.variables trail.old.entries self.old }
@@ -56,7 +56,7 @@ impl Decisions {
     }
 
     /// The next literal to be decided again that is not set; none where there is none.
-    fn next_repeated(&mut self, trail: &Trail) -> Option<Literal>
+    fn next_repeated(&mut self, trail: &Trail<'_>) -> Option<Literal>
         requires usable { trail.now.broken ≡ false }
         requires values { length self.old.phases.items ≡ trail.now.variables }
         ensures unset { IfSome result (λ literal. IsUnset trail.now.entries trail.now.variables literal.index) }
@@ -72,7 +72,7 @@ impl Decisions {
     }
 
     /// Whether a literal is of one of the variables, which is not set.
-    fn is_unset(&self, trail: &Trail, literal: Literal) -> bool
+    fn is_unset(&self, trail: &Trail<'_>, literal: Literal) -> bool
         requires usable { trail.now.broken ≡ false }
         requires values { length self.now.phases.items ≡ trail.now.variables }
         ensures { result ≡ true → IsUnset trail.now.entries trail.now.variables literal.index }
@@ -81,7 +81,7 @@ impl Decisions {
     }
 
     /// Takes the next variable that is not set out of the queue; none where all are set.
-    fn next_variable(&mut self, trail: &Trail) -> Option<u32>
+    fn next_variable(&mut self, trail: &Trail<'_>) -> Option<u32>
         requires usable { trail.now.broken ≡ false }
         requires few { trail.now.variables < 2 ^ 31 }
         requires decisions { AreDecisions trail.now.variables trail.now.entries self.old }
@@ -101,7 +101,7 @@ impl Decisions {
 
     /// Notes that what is above a level will be taken back: those variables may be decided again, and
     /// each to the value that it has; nothing is to be decided before all else.
-    pub fn take_back(&mut self, trail: &Trail, level: u32)
+    pub fn take_back(&mut self, trail: &Trail<'_>, level: u32)
         requires usable { trail.now.broken ≡ false }
         requires sound { IsSound trail.now }
         requires decisions { AreDecisions trail.now.variables trail.now.entries self.old }
@@ -121,7 +121,7 @@ impl Decisions {
 
     /// Notes that all will be taken back, and what was decided is to be decided again first. An `Err` says
     /// that memory ran out.
-    pub fn take_all_back(&mut self, trail: &Trail) -> Result<(), NoMemory>
+    pub fn take_all_back(&mut self, trail: &Trail<'_>) -> Result<(), NoMemory>
         requires usable { trail.now.broken ≡ false }
         requires sound { IsSound trail.now }
         requires decisions { AreDecisions trail.now.variables trail.now.entries self.old }
@@ -176,7 +176,11 @@ impl Decisions {
 }
 
 /// The assignment of the literals that are set. An `Err` says that memory ran out.
-pub fn assignment_of(alloc: Global, trail: &Trail, variables: u32) -> Result<Assignment, NoMemory>
+pub fn assignment_of(
+    alloc: Global,
+    trail: &Trail<'_>,
+    variables: u32,
+) -> Result<Assignment, NoMemory>
     requires usable { trail.now.broken ≡ false }
     requires variables { variables ≡ trail.now.variables }
     requires few { variables < 2 ^ 31 }

@@ -20,7 +20,7 @@ pub struct Drops {
 
 impl Drops {
     /// None were left out, of a formula of so many clauses: a large one waits longer, since all its clauses
-    /// are copied.
+    /// are looked at again.
     pub fn new(wanted: bool, count: u64) -> Drops
         ensures { result.wanted ≡ wanted }
     {

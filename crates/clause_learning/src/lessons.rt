@@ -30,7 +30,7 @@ struct Lesson {
 /// level 0 where the search begins anew. An `Err` says that memory ran out.
 pub fn learn(
     alloc: Global,
-    trail: &mut Trail,
+    trail: &mut Trail<'_>,
     journal: &mut Journal,
     units: &Units,
     walk: &mut Walk,
@@ -76,7 +76,7 @@ fn level_after(anew: bool, back: u32) -> u32
 /// The log of the steps that is closed by a conflict at level 0. An `Err` says that memory ran out.
 pub fn refute(
     alloc: Global,
-    trail: &Trail,
+    trail: &Trail<'_>,
     mut journal: Journal,
     units: &Units,
     walk: &mut Walk,
@@ -102,7 +102,7 @@ pub fn refute(
 /// memory ran out.
 fn lesson_of(
     alloc: Global,
-    trail: &Trail,
+    trail: &Trail<'_>,
     units: &Units,
     walk: &mut Walk,
     conflict: u32,

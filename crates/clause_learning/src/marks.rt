@@ -64,7 +64,7 @@ impl Marks {
     }
 
     /// Marks the entries of a clause's variables. An `Err` says that memory ran out.
-    pub fn mark_clause(&mut self, trail: &Trail, number: u32) -> Result<(), NoMemory>
+    pub fn mark_clause(&mut self, trail: &Trail<'_>, number: u32) -> Result<(), NoMemory>
         requires usable { trail.now.broken ≡ false }
         requires sound { IsSound trail.now }
         requires given { number < length trail.now.clauses }
@@ -80,7 +80,7 @@ impl Marks {
     }
 
     /// Whether the entry of each variable of a clause is marked, or of level 0.
-    pub fn covers(&self, trail: &Trail, number: u32) -> bool
+    pub fn covers(&self, trail: &Trail<'_>, number: u32) -> bool
         requires usable { trail.now.broken ≡ false }
         requires sound { IsSound trail.now }
         requires given { number < length trail.now.clauses }
@@ -97,7 +97,7 @@ impl Marks {
     }
 
     /// Whether the entry of a literal's variable is marked, or of level 0.
-    fn is_covered(&self, trail: &Trail, literal: Literal) -> bool
+    fn is_covered(&self, trail: &Trail<'_>, literal: Literal) -> bool
         requires usable { trail.now.broken ≡ false }
         requires sound { IsSound trail.now }
         requires over { literal.index < trail.now.variables }
@@ -111,7 +111,7 @@ impl Marks {
     }
 
     /// Takes the mark of the entry at a place away.
-    pub fn clear(&mut self, trail: &Trail, place: u32)
+    pub fn clear(&mut self, trail: &Trail<'_>, place: u32)
         requires usable { trail.now.broken ≡ false }
         requires sound { IsSound trail.now }
         requires within { place < length trail.now.entries }
@@ -125,7 +125,7 @@ impl Marks {
     }
 
     /// Marks the entry of a literal's variable. An `Err` says that memory ran out.
-    fn mark(&mut self, trail: &Trail, literal: Literal) -> Result<(), NoMemory>
+    fn mark(&mut self, trail: &Trail<'_>, literal: Literal) -> Result<(), NoMemory>
         requires usable { trail.now.broken ≡ false }
         requires sound { IsSound trail.now }
         requires over { literal.index < trail.now.variables }
@@ -146,7 +146,7 @@ impl Marks {
     }
 
     /// Notes the variable of a marked entry, if that is above level 0. An `Err` says that memory ran out.
-    fn note(&mut self, trail: &Trail, variable: u32, place: u32) -> Result<(), NoMemory>
+    fn note(&mut self, trail: &Trail<'_>, variable: u32, place: u32) -> Result<(), NoMemory>
         requires usable { trail.now.broken ≡ false }
         requires within { place < length trail.now.entries }
         requires over { variable < trail.now.variables }
@@ -162,7 +162,7 @@ impl Marks {
 }
 
 /// Whether the entry at a place is of the present level.
-fn is_present(trail: &Trail, place: u32) -> bool
+fn is_present(trail: &Trail<'_>, place: u32) -> bool
     requires usable { trail.now.broken ≡ false }
     requires within { place < length trail.now.entries }
     ensures { (entry : Entry) → slice_get trail.now.entries place ≡ Some entry → result ≡ (entry.level == trail.now.level) }

@@ -1,8 +1,7 @@
 //! The clauses on a trail by their numbers in the log.
 
-ghost use Rattle.std.specs.Prelude.{◌≡◌, ℕ, ◌+◌, ◌<◌, ◌≤◌, ◌^◌, ◌++◌, ◌∷◌, [], false, List, All, length, slice_index_or, IfOk, OnOk};
+ghost use Rattle.std.specs.Prelude.{◌≡◌, ℕ, ◌+◌, ◌<◌, ◌≤◌, ◌^◌, ◌++◌, ◌∷◌, [], false, List, length, slice_index_or, IfOk, OnOk};
 ghost use Rattle.clause_core.specs.Literals.{Lit};
-ghost use Rattle.clause_core.specs.Clauses.{IsOver};
 ghost use Rattle.sat_trail.specs.States.{TrailState, IsSound};
 ghost use Rattle.clause_learning.specs.Hints.{AreHints};
 ghost use Rattle.clause_learning.specs.Shelves.{log_hints, AreFirst, AreShelved};
@@ -25,12 +24,12 @@ pub struct Shelf {
     pub uses: Vec<u64>,
 }
 
-/// Clauses of a trail that are kept.
+/// What is kept of a trail beside the clauses of the formula.
 #[derive(Drop)]
 pub struct Kept {
-    /// The clauses.
-    pub clauses: Vec<Clause>,
-    /// Their numbers and uses.
+    /// The learnt clauses.
+    pub learnt: Vec<Clause>,
+    /// The numbers and uses of the formula's clauses and of these.
     pub shelf: Shelf,
 }
 
@@ -92,29 +91,27 @@ impl Shelf {
         self.numbers[place]
     }
 
-    /// The clauses of the formula, and of the others on the trail those that were used from then on. An
-    /// `Err` says that memory ran out.
+    /// The learnt clauses on the trail that were used from then on, and the numbers and uses of the formula's clauses
+    /// and of these. An `Err` says that memory ran out.
     pub fn kept(
         &self,
         alloc: Global,
         formula: &[Clause],
-        trail: &Trail,
+        trail: &Trail<'_>,
         from: u64,
     ) -> Result<Kept, NoMemory>
         requires usable { trail.now.broken ≡ false }
         requires few { length trail.now.clauses < 2 ^ 32 }
         requires formula { length formula.now ≤ length trail.now.clauses }
-        requires over { All (IsOver trail.now.variables) formula.now }
-        requires clauses { All (IsOver trail.now.variables) trail.now.clauses }
         requires numbers { length self.now.numbers.items ≡ length trail.now.clauses }
         requires uses { length self.now.uses.items ≡ length trail.now.clauses }
-        ensures kept { IfOk result (λ kept. AreShelved formula.now trail.now.clauses self.now.numbers.items (length trail.now.clauses)
-            kept.clauses.items kept.shelf) }
-        ensures over { IfOk result (λ kept. All (IsOver trail.now.variables) kept.clauses.items) }
+        ensures { IfOk result (λ kept. AreShelved formula.now trail.now.clauses self.now.numbers.items (length trail.now.clauses)
+            kept.learnt.items kept.shelf) }
     {
+        let shelf = Shelf::new(alloc, formula.len() as u32)?;
         let mut kept = Kept {
-            clauses: copies(alloc, formula)?,
-            shelf: Shelf::new(alloc, formula.len() as u32)?,
+            learnt: Vec::new(alloc),
+            shelf,
         };
         for place in formula.len()..self.numbers.len() {
             self.pass(alloc, trail, place, from, &mut kept)?;
@@ -122,11 +119,11 @@ impl Shelf {
         Ok(kept)
     }
 
-    /// Keeps the clause at a place, if it was used from then on. An `Err` says that memory ran out.
+    /// Keeps the learnt clause at a place, if it was used from then on. An `Err` says that memory ran out.
     fn pass(
         &self,
         alloc: Global,
-        trail: &Trail,
+        trail: &Trail<'_>,
         place: usize,
         from: u64,
         kept: &mut Kept,
@@ -136,18 +133,15 @@ impl Shelf {
         requires within { place < length trail.now.clauses }
         requires numbers { length self.now.numbers.items ≡ length trail.now.clauses }
         requires uses { length self.now.uses.items ≡ length trail.now.clauses }
-        requires clauses { All (IsOver trail.now.variables) trail.now.clauses }
-        requires over { All (IsOver trail.now.variables) kept.old.clauses.items }
-        ensures kept { (formula : List (List Lit)) →
-            AreShelved formula trail.now.clauses self.now.numbers.items place kept.old.clauses.items kept.old.shelf →
-            OnOk result (AreShelved formula trail.now.clauses self.now.numbers.items (place + 1) kept.new.clauses.items kept.new.shelf) }
-        ensures over { OnOk result (All (IsOver trail.now.variables) kept.new.clauses.items) }
+        ensures { (formula : List (List Lit)) →
+            AreShelved formula trail.now.clauses self.now.numbers.items place kept.old.learnt.items kept.old.shelf →
+            OnOk result (AreShelved formula trail.now.clauses self.now.numbers.items (place + 1) kept.new.learnt.items kept.new.shelf) }
     {
         if self.uses[place] < from {
             return Ok(());
         }
         let clause = clause_of(alloc, trail.clause(place as u32).literals())?;
-        kept.clauses.push(clause)?;
+        kept.learnt.push(clause)?;
         kept.shelf.add(self.numbers[place], self.uses[place])
     }
 }
@@ -161,15 +155,4 @@ pub fn first_use(clause: &Clause, now: u64) -> u64
     } else {
         now
     }
-}
-
-/// Copies of the clauses. An `Err` says that memory ran out.
-pub fn copies(alloc: Global, clauses: &[Clause]) -> Result<Vec<Clause>, NoMemory>
-    ensures { IfOk result (λ copies. copies.items ≡ clauses.now) }
-{
-    let mut copies = Vec::new(alloc);
-    for clause in clauses {
-        copies.push(clause_of(alloc, clause.literals())?)?;
-    }
-    Ok(copies)
 }

@@ -44,7 +44,7 @@ impl Units {
     }
 
     /// The number of a clause that has this literal alone; none where none is known.
-    pub fn number_of(&self, trail: &Trail, literal: Literal) -> Option<u32>
+    pub fn number_of(&self, trail: &Trail<'_>, literal: Literal) -> Option<u32>
         requires usable { trail.now.broken ≡ false }
         requires over { literal.index < trail.now.variables }
         requires units { AreUnits trail.now self.now }
@@ -59,7 +59,7 @@ impl Units {
     }
 
     /// Whether there are entries that were not looked at, and clauses may be added for them.
-    pub fn are_due(&self, trail: &Trail) -> bool
+    pub fn are_due(&self, trail: &Trail<'_>) -> bool
         requires usable { trail.now.broken ≡ false }
         ensures { result ≡ (nat_lt self.now.added self.now.most && nat_lt self.now.looked (length trail.now.entries)) }
     {
@@ -67,7 +67,7 @@ impl Units {
     }
 
     /// Begins anew with a trail that has so many clauses.
-    pub fn renew(&mut self, trail: &Trail, count: u32)
+    pub fn renew(&mut self, trail: &Trail<'_>, count: u32)
         requires usable { trail.now.broken ≡ false }
         requires sound { IsSound trail.now }
         requires one_each { length self.old.numbers.items ≡ trail.now.variables }
@@ -84,7 +84,7 @@ impl Units {
     }
 
     /// Notes the clause of a number, where it has one literal.
-    fn find(&mut self, trail: &Trail, number: u32)
+    fn find(&mut self, trail: &Trail<'_>, number: u32)
         requires usable { trail.now.broken ≡ false }
         requires sound { IsSound trail.now }
         requires given { number < length trail.now.clauses }
@@ -103,7 +103,7 @@ impl Units {
     pub fn note_all(
         &mut self,
         alloc: Global,
-        trail: &mut Trail,
+        trail: &mut Trail<'_>,
         journal: &mut Journal,
     ) -> Result<(), NoMemory>
         requires usable { trail.old.broken ≡ false }
@@ -134,7 +134,7 @@ impl Units {
     fn note_entry(
         &mut self,
         alloc: Global,
-        trail: &mut Trail,
+        trail: &mut Trail<'_>,
         journal: &mut Journal,
         place: u32,
     ) -> Result<(), NoMemory>
@@ -188,7 +188,7 @@ impl Units {
     fn hints_of(
         &self,
         alloc: Global,
-        trail: &Trail,
+        trail: &Trail<'_>,
         number: u32,
         literal: Literal,
     ) -> Result<Option<Vec<u64>>, NoMemory>
@@ -213,7 +213,7 @@ impl Units {
     /// `Err` says that memory ran out.
     fn show(
         &self,
-        trail: &Trail,
+        trail: &Trail<'_>,
         literal: Literal,
         other: Literal,
         hints: &mut Vec<u64>,
@@ -237,7 +237,7 @@ impl Units {
     fn add(
         &mut self,
         alloc: Global,
-        trail: &mut Trail,
+        trail: &mut Trail<'_>,
         journal: &mut Journal,
         literal: Literal,
         hints: Vec<u64>,

@@ -42,7 +42,7 @@ impl Walk {
     }
 
     /// Walks from a clause that is false over all entries. An `Err` says that memory ran out.
-    pub fn run(&mut self, trail: &Trail, units: &Units, conflict: u32) -> Result<(), NoMemory>
+    pub fn run(&mut self, trail: &Trail<'_>, units: &Units, conflict: u32) -> Result<(), NoMemory>
         requires usable { trail.now.broken ≡ false }
         requires sound { IsSound trail.now }
         requires units { AreUnits trail.now units.now }
@@ -61,7 +61,7 @@ impl Walk {
     }
 
     /// Begins with a clause that is false. An `Err` says that memory ran out.
-    fn begin(&mut self, trail: &Trail, conflict: u32) -> Result<(), NoMemory>
+    fn begin(&mut self, trail: &Trail<'_>, conflict: u32) -> Result<(), NoMemory>
         requires usable { trail.now.broken ≡ false }
         requires sound { IsSound trail.now }
         requires conflict { IsFalseAt trail.now conflict }
@@ -79,7 +79,7 @@ impl Walk {
     }
 
     /// Passes an entry. An `Err` says that memory ran out.
-    fn step(&mut self, trail: &Trail, units: &Units, place: u32) -> Result<(), NoMemory>
+    fn step(&mut self, trail: &Trail<'_>, units: &Units, place: u32) -> Result<(), NoMemory>
         requires usable { trail.now.broken ≡ false }
         requires sound { IsSound trail.now }
         requires units { AreUnits trail.now units.now }
@@ -96,7 +96,7 @@ impl Walk {
 
     /// Passes a marked entry: its reason takes its place in the clause, or the opposite of its literal
     /// stays. An `Err` says that memory ran out.
-    fn pass(&mut self, trail: &Trail, units: &Units, place: u32) -> Result<(), NoMemory>
+    fn pass(&mut self, trail: &Trail<'_>, units: &Units, place: u32) -> Result<(), NoMemory>
         requires usable { trail.now.broken ≡ false }
         requires sound { IsSound trail.now }
         requires units { AreUnits trail.now units.now }
@@ -112,7 +112,7 @@ impl Walk {
     }
 
     /// The number of the clause that takes an entry's place; none where its literal's opposite stays.
-    fn replacement(&self, trail: &Trail, units: &Units, place: u32) -> Option<u32>
+    fn replacement(&self, trail: &Trail<'_>, units: &Units, place: u32) -> Option<u32>
         requires usable { trail.now.broken ≡ false }
         requires sound { IsSound trail.now }
         requires units { AreUnits trail.now units.now }
@@ -135,7 +135,7 @@ impl Walk {
     }
 
     /// Whether the reason of an entry of this level, above 0, must take its place.
-    fn must_go(&self, trail: &Trail, level: u32) -> bool
+    fn must_go(&self, trail: &Trail<'_>, level: u32) -> bool
         requires { trail.now.broken ≡ false }
         ensures { result ≡ must_go trail.now.level self.now.marks.waiting level }
     {
@@ -144,7 +144,7 @@ impl Walk {
 
     /// The number of an entry's reason, where the entries of its variables are marked or of level 0: the
     /// clause is shorter then.
-    fn covered_reason(&self, trail: &Trail, place: u32) -> Option<u32>
+    fn covered_reason(&self, trail: &Trail<'_>, place: u32) -> Option<u32>
         requires usable { trail.now.broken ≡ false }
         requires sound { IsSound trail.now }
         requires within { place < length trail.now.entries }
@@ -160,7 +160,7 @@ impl Walk {
     }
 
     /// The reason takes the place of an entry. An `Err` says that memory ran out.
-    fn replace(&mut self, trail: &Trail, place: u32, reason: u32) -> Result<(), NoMemory>
+    fn replace(&mut self, trail: &Trail<'_>, place: u32, reason: u32) -> Result<(), NoMemory>
         requires usable { trail.now.broken ≡ false }
         requires within { place < length trail.now.entries }
         requires sound { IsSound trail.now }
@@ -181,7 +181,7 @@ impl Walk {
     }
 
     /// The opposite of an entry's literal stays in the clause. An `Err` says that memory ran out.
-    fn keep(&mut self, trail: &Trail, place: u32) -> Result<(), NoMemory>
+    fn keep(&mut self, trail: &Trail<'_>, place: u32) -> Result<(), NoMemory>
         requires usable { trail.now.broken ≡ false }
         requires sound { IsSound trail.now }
         requires within { place < length trail.now.entries }
@@ -206,7 +206,7 @@ impl Walk {
 }
 
 /// Of an entry of level 0 the number of a clause that has its literal alone, or else of its reason.
-fn start_reason(trail: &Trail, units: &Units, place: u32) -> Option<u32>
+fn start_reason(trail: &Trail<'_>, units: &Units, place: u32) -> Option<u32>
     requires usable { trail.now.broken ≡ false }
     requires sound { IsSound trail.now }
     requires units { AreUnits trail.now units.now }

@@ -510,8 +510,8 @@ search_shortened variables clauses shortens t u steps numbers shelf search is be
       usable = refl;
       sound = subst IsSound begins.trail_is sound;
       same_variables = refl;
-      others = begins.kept.others;
-      stands = begins.kept.stand;
+      others = begins.others;
+      stands = refl;
       fewer = omega (arith, begins.kept.fewer, search.fewer);
       named = begins.kept.named (clauses_of steps) search.named;
       logged = search.logged;

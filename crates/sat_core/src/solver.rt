@@ -42,6 +42,7 @@ pub fn solve(alloc: Global, cnf: &Cnf, budget: u64) -> Result<Answer, NoMemory>
 /// of late are left out of it, and then the learnt clauses may be no trace. An `Err` says that memory ran
 /// out.
 fn search(alloc: Global, cnf: &Cnf, budget: u64, shortens: bool) -> Result<Answer, NoMemory>
+    requires no_tautology { All (λ clause. has_pair clause ≡ false) cnf.now.clauses }
     requires few { length cnf.now.clauses + budget < 2 ^ 32 - 1 }
     ensures { IfOk result (IsSearchAnswer shortens cnf.now.variables cnf.now.clauses budget) }
 {
@@ -111,7 +112,7 @@ fn most_units(cnf: &Cnf, budget: u64, shortens: bool) -> u32
 /// is true then gets clauses of one literal. An `Err` says that memory ran out.
 fn propagate(
     alloc: Global,
-    trail: &mut Trail,
+    trail: &mut Trail<'_>,
     journal: &mut Journal,
     units: &mut Units,
 ) -> Result<Option<u32>, NoMemory>
@@ -140,15 +141,16 @@ fn propagate(
 
 /// The trail, or where clauses are to be left out one that begins anew without them. An `Err` says that
 /// memory ran out.
-fn shortened(
+fn shortened<'f>(
     alloc: Global,
-    cnf: &Cnf,
-    trail: Trail,
+    cnf: &'f Cnf,
+    trail: Trail<'f>,
     journal: &mut Journal,
     units: &mut Units,
     decisions: &mut Decisions,
     drops: &mut Drops,
-) -> Result<Trail, NoMemory>
+) -> Result<Trail<'f>, NoMemory>
+    requires no_tautology { All (λ clause. has_pair clause ≡ false) cnf.now.clauses }
     requires usable { trail.broken ≡ false }
     requires sound { IsSound trail }
     requires variables { cnf.now.variables ≡ trail.variables }
@@ -157,7 +159,7 @@ fn shortened(
     requires uses { length journal.old.shelf.uses.items ≡ length trail.clauses }
     requires units { AreUnits trail units.old }
     requires decisions { AreDecisions trail.variables trail.entries decisions.old }
-    ensures trail { IfOk result (λ new. IsShortened drops.old.wanted cnf.now.variables cnf.now.clauses trail journal.old new journal.new) }
+    ensures trail { IfOk result (λ new. IsShortened drops.old.wanted cnf.now.variables cnf.now.clauses trail.entry journal.old new journal.new) }
     ensures journal { journal.new ≡ record journal.old { shelf = journal.new.shelf } }
     ensures units { IfOk result (λ new. AreUnits new units.new) }
     ensures added { units.new.added ≡ units.old.added }
@@ -174,14 +176,8 @@ fn shortened(
     let kept = journal
         .shelf
         .kept(alloc, cnf.clauses.as_slice(), &trail, from)?;
-    let Kept { clauses, shelf } = kept;
-    let shorter = Cnf {
-        variables: cnf.variables,
-        clauses: Sequence::from_vec(clauses),
-    };
-    let Ok(new) = Trail::new(alloc, &shorter) else {
-        return Err(NoMemory);
-    };
+    let Kept { learnt, shelf } = kept;
+    let new = Trail::with_learnt(alloc, cnf, learnt)?;
     journal.shelf = shelf;
     units.renew(&new, journal.shelf.uses.len() as u32);
     Ok(new)
@@ -191,7 +187,7 @@ fn shortened(
 /// that is false. An `Err` says that memory ran out.
 fn end(
     alloc: Global,
-    mut trail: Trail,
+    mut trail: Trail<'_>,
     journal: Journal,
     units: &Units,
     mut walk: Walk,
@@ -202,7 +198,7 @@ fn end(
     requires next { journal.next + 1 < 2 ^ 64 }
     requires numbers { length journal.shelf.numbers.items ≡ length trail.clauses }
     requires uses { length journal.shelf.uses.items ≡ length trail.clauses }
-    ensures { IfOk result (IsEnd trail.clauses journal) }
+    ensures { IfOk result (IsEnd trail.entry.clauses journal) }
 {
     trail.undo_to(0);
     match trail.propagate()? {

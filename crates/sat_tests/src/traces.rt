@@ -6,7 +6,6 @@ ghost use Rattle.clause_core.specs.Literals.{Lit, negation, same, has};
 ghost use Rattle.clause_core.specs.Propagation.{not_false, IsFalse, IsUnit, Reaches, SomeFalse, ReachesFalse, HasReversePropagation, IsNotFound, IsLearnt, IsTrace};
 
 use clause_core::{Clause, Cnf, Literal, clause_of, is_tautology};
-use clause_learning::copies;
 use sequence::NoMemory;
 use std::alloc::Global;
 
@@ -193,6 +192,17 @@ fn is_learnt(
         return Ok(false);
     }
     Ok(is_found(alloc, known, clause)? && adds(alloc, known, clause)?)
+}
+
+/// Copies of the clauses. An `Err` says that memory ran out.
+fn copies(alloc: Global, clauses: &[Clause]) -> Result<Vec<Clause>, NoMemory>
+    ensures { IfOk result (λ copies. copies.items ≡ clauses.now) }
+{
+    let mut copies = Vec::with_capacity(alloc, clauses.len())?;
+    for clause in clauses {
+        copies.push(clause_of(alloc, clause.literals())?)?;
+    }
+    Ok(copies)
 }
 
 /// Whether the clauses are a trace behind those of the formula: each is learnt behind those before it,

@@ -22,7 +22,7 @@ const CONFLICTS: &[(&[&[i32]], Option<u32>)] = &[
 ];
 
 /// Decides a literal, where that may be done.
-fn decide(trail: &mut Trail, number: i32) -> Result<(), Fail>
+fn decide(trail: &mut Trail<'_>, number: i32) -> Result<(), Fail>
     requires usable { trail.old.broken ≡ false }
     requires variables { trail.old.variables ≡ 4 }
     ensures usable { OnOk result (trail.new.broken ≡ false) }
@@ -36,7 +36,7 @@ fn decide(trail: &mut Trail, number: i32) -> Result<(), Fail>
 }
 
 /// The truth of a literal; none too where its variable is not one of the formula's.
-fn value(trail: &Trail, number: i32) -> Result<Option<bool>, Fail>
+fn value(trail: &Trail<'_>, number: i32) -> Result<Option<bool>, Fail>
     requires usable { trail.now.broken ≡ false }
     requires variables { trail.now.variables ≡ 4 }
 {

@@ -1,12 +1,12 @@
 -- What a call looks at, and what it does with that.
 use Rattle.std.proofs.Common.{replicate, set, leb, ◌≡◌, ℕ, suc, ◌+◌, ◌-◌, ◌*◌, ◌<◌, ◌≤◌, ◌^◌, min, Bool, true, false, not, cond, List, []}
-use Rattle.std.proofs.Common.{◌∷◌, ◌++◌, length, take, Option, Some, None, slice_get, get_or, sym, ap, ◌∙◌, subst, refl, arith, inl, inr}
+use Rattle.std.proofs.Common.{◌∷◌, ◌++◌, length, take, Option, Some, None, slice_get, sym, ap, ◌∙◌, subst, refl, arith, inl, inr}
 use Rattle.std.proofs.Common.{All, Contains}
 use Rattle.std.specs.Prelude.{IsSome, position}
 use Rattle.std.specs.List.{AllByRecursion, position_from}
 use Rattle.std.proofs.lemmas.Iterator.Adapters.{position_from-zero}
 use Rattle.std.proofs.lemmas.Option.{same_Some, none-some, slice_get-get_or}
-use Rattle.std.proofs.lemmas.List.{length-replicate, get_or-replicate, take_more, take_at, append_assoc, append-nil, length_push}
+use Rattle.std.proofs.lemmas.List.{length-replicate, get_or-replicate, take_at, append_assoc, append-nil, length_push}
 use Rattle.std.proofs.lemmas.List.{length-append, take_all, take-take}
 use Rattle.std.proofs.lemmas.List.Elements.{All-push, All-nil, All-append, All-contains, All-from_recursion}
 use Rattle.std.proofs.lemmas.Bool.{or_cases, or_left, or_right, true≢false, false≢true, cases_lt, cases_Bool, le-leb, lt-leb, cond-true}
@@ -15,9 +15,9 @@ use Rattle.sequence.proofs.Places.{slice_get-behind, slice_get_some, contains_at
 use Rattle.sat_trail.specs.declared.stack.Stack.TheInside.{Inside}
 use Rattle.sat_trail.specs.internal.Tables.{IsPlaceTable, AreTruths}
 use Rattle.clause_core.specs.Literals.{Lit, negation, same, has, code_of}
-use Rattle.clause_core.specs.Clauses.{IsIncreasing, in_order, IsOver, has_pair}
+use Rattle.clause_core.specs.Clauses.{IsIncreasing, IsOver, has_pair}
 use Rattle.clause_core.specs.Propagation.{not_false, IsFalse, IsUnit, IsQuiet}
-use Rattle.clause_core.proofs.Sets.{IsIncreasing-apart, same_from, one_increasing, IsIncreasing-in_order, has-in_order, has_from_Contains}
+use Rattle.clause_core.proofs.Sets.{IsIncreasing-apart, same_from, has_from_Contains}
 use Rattle.clause_core.proofs.Sets.{Contains_from_has, same_is, code_within}
 use Rattle.sat_trail.specs.declared.entries.Entry.{Entry}
 use Rattle.sat_trail.specs.Entries.{literals_of, level_of, place_of, truth_of, MayStand}
@@ -282,17 +282,6 @@ left_is variables clauses level start es stand front short top taken left =
 
 -- ---- a trail's beginning
 
-in_order_same : (ls : List Lit) → IsIncreasing ls → in_order ls ≡ ls
-in_order_same ls up = one_increasing (in_order ls) ls (IsIncreasing-in_order ls) up (has-in_order ls)
-
-pub copy_more : (clauses done more : List (List Lit)) (i : ℕ) (clause literals copy : List Lit) → done ≡ take i clauses →
-    i < length clauses → clause ≡ get_or clauses i clause → literals ≡ clause → IsIncreasing clause → copy ≡ in_order literals →
-    more ≡ done ++ copy ∷ [] → more ≡ take (i + 1) clauses
-copy_more clauses done more i clause literals copy so_far below at reads up is pushed =
-    let copied : copy ≡ clause = is ∙ (ap in_order reads ∙ in_order_same clause up) in
-    pushed ∙ (ap (λ (xs : List (List Lit)). xs ++ copy ∷ []) so_far
-    ∙ (ap (λ (c : List Lit). take i clauses ++ c ∷ []) (copied ∙ at) ∙ sym (take_more clauses i clause below)))
-
 none_from : {X : Type 0} (p : X → Bool) (n : ℕ) (xs : List X) → position_from p n xs ≡ None → AllByRecursion (λ x. p x ≡ false) xs
 none_from p n [] h = tt
 none_from p n (x ∷ xs) h = by_test (p x) refl (none_from p (n + 1) xs) h
@@ -302,14 +291,18 @@ none_from p n (x ∷ xs) h = by_test (p x) refl (none_from p (n + 1) xs) h
     by_test true e rest h = absurd (none-some n (sym h))
     by_test false e rest h = (e, rest h)
 
+-- where no first clause is found that has a literal and its negation, no clause has
+pub no_pairs_from : (clauses : List (List Lit)) → position has_pair clauses ≡ None → All (λ c. has_pair c ≡ false) clauses
+no_pairs_from clauses none = All-from_recursion (λ c. has_pair c ≡ false) clauses
+    (none_from has_pair 0 clauses (sym (position_from-zero has_pair clauses) ∙ none))
+
 pub sound_started : (variables : ℕ) (clauses : List (List Lit)) → variables < 2 ^ 31 → length clauses < 2 ^ 32 →
-    All (IsOver variables) clauses → position has_pair clauses ≡ None → IsSound (started variables clauses)
-sound_started variables clauses few_variables few_clauses over none = record {
+    All (IsOver variables) clauses → All (λ c. has_pair c ≡ false) clauses → IsSound (started variables clauses)
+sound_started variables clauses few_variables few_clauses over no_pairs = record {
   few_variables = few_variables;
   few_clauses = few_clauses;
   over = over;
-  no_pairs = All-from_recursion (λ c. has_pair c ≡ false) clauses
-      (none_from has_pair 0 clauses (sym (position_from-zero has_pair clauses) ∙ none));
+  no_pairs = no_pairs;
   stand = λ k e at. absurd (none-some e at);
   level_reached = refl;
 }
@@ -347,7 +340,7 @@ top_none (e ∷ es) level h = absurd (some_there (slice_get_some (e ∷ es) (suc
 
 -- the trail that a stack's fields make
 abbrev pub seen : Inside → TrailState
-seen s = record { variables = s.variables; clauses = s.clauses.items; entries = s.entries.items; level = s.level; broken = s.broken }
+seen s = record { variables = s.variables; clauses = s.clauses; entries = s.entries.items; level = s.level; broken = s.broken }
 
 pub state_same : {v w : ℕ} {cs ds : List (List Lit)} {es fs : List Entry} {m n : ℕ} {a b : Bool} → v ≡ w → cs ≡ ds → es ≡ fs → m ≡ n →
     a ≡ b → ◌≡◌ {A = TrailState} (record { variables = v; clauses = cs; entries = es; level = m; broken = a })

@@ -10,6 +10,7 @@
 //! literals, and is looked at where one of them becomes false.
 #![tactic(auto)]
 
+mod database;
 mod entries;
 mod errors;
 mod stack;

@@ -1,14 +1,14 @@
 //! The literals that are set, and the calls that set and take them back.
 
-ghost use Rattle.std.specs.Prelude.{◌≡◌, ◌↔◌, ◌+◌, ◌-◌, ◌^◌, ◌<◌, ◌≤◌, ℕ, true, false, length, List, [], ◌∷◌, ◌++◌, Some, None, IfOk, OnOk, OnErr, IfSome, IfNone, All, Contains, option_map, slice_get, position, take};
+ghost use Rattle.std.specs.Prelude.{◌≡◌, ◌+◌, ◌-◌, ◌^◌, ◌<◌, ◌≤◌, true, false, length, List, [], ◌∷◌, ◌++◌, Some, None, IfOk, OnOk, OnErr, IfSome, IfNone, All, Contains, option_map, slice_get, take};
 ghost use Rattle.clause_core.specs.Literals.{has};
 ghost use Rattle.clause_core.specs.Clauses.{IsOver, has_pair};
 ghost use Rattle.sat_trail.specs.Entries.{entry_with, place_of, truth_of, literals_of, MayStand};
 ghost use Rattle.sat_trail.specs.States.{IsSound, started, extended, decided, with_clause, undone};
 
+use crate::database::ClauseDatabase;
 use crate::entries::Entry;
-use crate::errors::TrailError;
-use clause_core::{Clause, Cnf, Literal, clause_of, is_tautology};
+use clause_core::{Clause, Cnf, Literal};
 use sequence::NoMemory;
 use std::alloc::Global;
 use std::marker::Model;
@@ -17,9 +17,9 @@ use std::marker::Model;
 /// It has what a trail has but for propagation. Two tables say of each variable at which place it is
 /// set, and of each literal whether it is true.
 #[derive(Drop)]
-pub struct Stack {
+pub struct Stack<'f> {
     variables: u32,
-    clauses: Vec<Clause>,
+    clauses: ClauseDatabase<'f>,
     entries: Vec<Entry>,
     places: Vec<Option<u32>>,
     truths: Vec<bool>,
@@ -27,33 +27,32 @@ pub struct Stack {
     broken: bool,
 }
 
-impl Model for Stack {
+impl<'f> Model for Stack<'f> {
     ghost use Rattle.std.specs.Prelude.{◌≡◌};
     ghost use Rattle.sat_trail.specs.States.{TrailState, IsSound};
     ghost use Rattle.sat_trail.specs.internal.Tables.{IsPlaceTable, AreTruths};
 
     ghost Value = { TrailState };
 
-    ghost view = { λ t. record { variables = t.variables; clauses = t.clauses.items; entries = t.entries.items; level = t.level; broken = t.broken } };
+    ghost view = { λ t. record { variables = t.variables; clauses = t.clauses; entries = t.entries.items; level = t.level; broken = t.broken } };
 
-    ghost invariant = { λ t. IsSound (record { variables = t.variables; clauses = t.clauses.items; entries = t.entries.items; level = t.level; broken = t.broken }) × IsPlaceTable t.variables t.places.items t.entries.items × AreTruths t.variables t.truths.items t.entries.items };
+    ghost invariant = { λ t. IsSound (record { variables = t.variables; clauses = t.clauses; entries = t.entries.items; level = t.level; broken = t.broken }) × IsPlaceTable t.variables t.places.items t.entries.items × AreTruths t.variables t.truths.items t.entries.items };
 }
 
-impl Stack {
-    /// The trail of a formula: at level 0, with no literal set. `Tautology` comes exactly for the first
-    /// clause that has a literal and its negation.
-    pub fn new(alloc: Global, cnf: &Cnf) -> Result<Stack, TrailError>
-        requires { length cnf.now.clauses < 2 ^ 32 }
-        ensures ok { IfOk result (λ trail. trail ≡ started cnf.now.variables cnf.now.clauses) }
+impl<'f> Stack<'f> {
+    /// Over the clauses of a formula, and learnt ones behind them: at level 0, with no literal set. An `Err`
+    /// says that memory ran out.
+    pub fn new(alloc: Global, cnf: &'f Cnf, learnt: Vec<Clause>) -> Result<Stack<'f>, NoMemory>
+        requires few { length cnf.now.clauses + length learnt.items < 2 ^ 32 }
+        requires over { All (IsOver cnf.now.variables) learnt.items }
+        requires formula { All (λ clause. has_pair clause ≡ false) cnf.now.clauses }
+        requires no_pairs { All (λ clause. has_pair clause ≡ false) learnt.items }
+        ensures ok { IfOk result (λ trail. trail ≡ started cnf.now.variables (cnf.now.clauses ++ learnt.items)) }
         ensures sound { IfOk result IsSound }
-        ensures tautology { (place : ℕ) → (result ≡ Err (TrailError.Tautology place)) ↔ (position has_pair cnf.now.clauses ≡ Some place) }
     {
-        if let Some(place) = first_tautology(cnf.clauses.as_slice()) {
-            return Err(TrailError::Tautology(place as u32));
-        }
         Ok(Stack {
             variables: cnf.variables,
-            clauses: copies(alloc, cnf.clauses.as_slice())?,
+            clauses: ClauseDatabase::new(cnf.clauses.as_slice(), learnt),
             entries: Vec::new(alloc),
             places: vec![in alloc; None; cnf.variables as usize]?,
             truths: vec![in alloc; false; 2 * cnf.variables as usize]?,
@@ -86,7 +85,7 @@ impl Stack {
         ensures sound { IsSound self.new }
         ensures err { OnErr result (self.new.broken ≡ true) }
     {
-        let number = self.clauses.len() as u32;
+        let number = self.clauses.len();
         if self.clauses.push(clause).is_err() {
             self.broken = true;
             return Err(NoMemory);
@@ -187,7 +186,7 @@ impl Stack {
         requires given { number < length self.now.clauses }
         ensures { slice_get self.now.clauses number ≡ Some result.now }
     {
-        &self.clauses[number as usize]
+        self.clauses.get(number)
     }
 
     /// How many clauses there are.
@@ -195,7 +194,7 @@ impl Stack {
         ensures value { result ≡ length self.now.clauses }
         ensures over { All (IsOver self.now.variables) self.now.clauses }
     {
-        self.clauses.len() as u32
+        self.clauses.len()
     }
 
     /// Sets a literal at the next place. An `Err` says that memory ran out.
@@ -235,22 +234,4 @@ impl Stack {
     {
         self.broken = true;
     }
-}
-
-/// The place of the first clause that has a literal and its negation.
-fn first_tautology(clauses: &[Clause]) -> Option<usize>
-    ensures { result ≡ position has_pair clauses.now }
-{
-    clauses.iter().position(|clause| is_tautology(clause))
-}
-
-/// The same clauses.
-fn copies(alloc: Global, clauses: &[Clause]) -> Result<Vec<Clause>, NoMemory>
-    ensures { IfOk result (λ copies. copies.items ≡ clauses.now) }
-{
-    let mut copies = Vec::with_capacity(alloc, clauses.len())?;
-    for clause in clauses {
-        copies.push(clause_of(alloc, clause.literals())?)?;
-    }
-    Ok(copies)
 }

@@ -9,19 +9,20 @@ ghost use Rattle.sat_trail.specs.States.{IsSound, started, decided, with_clause,
 use crate::errors::TrailError;
 use crate::stack::Stack;
 use crate::watches::Watches;
-use clause_core::{Clause, Cnf, Literal};
+use clause_core::{Clause, Cnf, Literal, is_tautology};
 use sequence::NoMemory;
 use std::alloc::Global;
 use std::marker::Model;
 
-/// The literals that are set, in the order of setting, over the clauses of a formula and learnt ones.
+/// The literals that are set, in the order of setting, over the clauses of a formula, which are borrowed, and
+/// learnt ones.
 #[derive(Drop)]
-pub struct Trail {
-    stack: Stack,
+pub struct Trail<'f> {
+    stack: Stack<'f>,
     watches: Watches,
 }
 
-impl Model for Trail {
+impl<'f> Model for Trail<'f> {
     ghost use Rattle.std.specs.Prelude.{◌≡◌, false};
     ghost use Rattle.sat_trail.specs.States.{TrailState, IsSound};
     ghost use Rattle.sat_trail.specs.internal.Watching.{AreWatched};
@@ -33,23 +34,41 @@ impl Model for Trail {
     ghost invariant = { λ t. IsSound t.stack × (t.stack.broken ≡ false → AreWatched t.stack t.watches) };
 }
 
-impl Trail {
+impl<'f> Trail<'f> {
     /// The trail of a formula: at level 0, with no literal set. `Tautology` comes exactly for the first
     /// clause that has a literal and its negation.
-    pub fn new(alloc: Global, cnf: &Cnf) -> Result<Trail, TrailError>
+    pub fn new(alloc: Global, cnf: &'f Cnf) -> Result<Trail<'f>, TrailError>
         requires { length cnf.now.clauses < 2 ^ 32 }
         ensures ok { IfOk result (λ trail. trail ≡ started cnf.now.variables cnf.now.clauses) }
         ensures sound { IfOk result IsSound }
         ensures tautology { (place : ℕ) → (result ≡ Err (TrailError.Tautology place)) ↔ (position has_pair cnf.now.clauses ≡ Some place) }
     {
-        let stack = match Stack::new(alloc, cnf) {
-            Ok(stack) => stack,
-            Err(error) => return Err(error),
-        };
-        match Watches::new(alloc, cnf.variables) {
-            Ok(watches) => Ok(Trail { stack, watches }),
+        if let Some(place) = first_tautology(cnf.clauses.as_slice()) {
+            return Err(TrailError::Tautology(place as u32));
+        }
+        match Trail::with_learnt(alloc, cnf, Vec::new(alloc)) {
+            Ok(trail) => Ok(trail),
             Err(_) => Err(TrailError::NoMemory),
         }
+    }
+
+    /// The trail of a formula and learnt clauses behind its own: at level 0, with no literal set. No clause has
+    /// a literal and its negation. An `Err` says that memory ran out.
+    pub fn with_learnt(
+        alloc: Global,
+        cnf: &'f Cnf,
+        learnt: Vec<Clause>,
+    ) -> Result<Trail<'f>, NoMemory>
+        requires few { length cnf.now.clauses + length learnt.items < 2 ^ 32 }
+        requires over { All (IsOver cnf.now.variables) learnt.items }
+        requires formula { All (λ clause. has_pair clause ≡ false) cnf.now.clauses }
+        requires no_pairs { All (λ clause. has_pair clause ≡ false) learnt.items }
+        ensures ok { IfOk result (λ trail. trail ≡ started cnf.now.variables (cnf.now.clauses ++ learnt.items)) }
+        ensures sound { IfOk result IsSound }
+    {
+        let stack = Stack::new(alloc, cnf, learnt)?;
+        let watches = Watches::new(alloc, cnf.variables)?;
+        Ok(Trail { stack, watches })
     }
 
     /// Opens the next level with this literal. An `Err` says that memory ran out.
@@ -182,4 +201,11 @@ impl Trail {
     {
         self.stack.clause(number)
     }
+}
+
+/// The place of the first clause that has a literal and its negation.
+fn first_tautology(clauses: &[Clause]) -> Option<usize>
+    ensures { result ≡ position has_pair clauses.now }
+{
+    clauses.iter().position(|clause| is_tautology(clause))
 }

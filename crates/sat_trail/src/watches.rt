@@ -171,7 +171,7 @@ impl Watches {
 
     /// Propagates until no clause is unit or a clause is false: then it answers that clause's number.
     /// An `Err` says that memory ran out.
-    pub fn propagate(&mut self, stack: &mut Stack) -> Result<Option<u32>, NoMemory>
+    pub fn propagate(&mut self, stack: &mut Stack<'_>) -> Result<Option<u32>, NoMemory>
         requires usable { stack.old.broken ≡ false }
         requires sound { IsSound stack.old }
         requires watched { AreWatched stack.old self.old }
@@ -195,7 +195,7 @@ impl Watches {
     }
 
     /// Looks at the next clause, and answers whether it is not false. An `Err` says that memory ran out.
-    fn look(&mut self, stack: &mut Stack) -> Result<bool, NoMemory>
+    fn look(&mut self, stack: &mut Stack<'_>) -> Result<bool, NoMemory>
         requires usable { stack.old.broken ≡ false }
         requires sound { IsSound stack.old }
         requires watched { AreWatched stack.old self.old }
@@ -231,7 +231,7 @@ impl Watches {
     }
 
     /// Passes the next clause, which has this literal alone and is true with it. It answers true.
-    fn pass_short(&mut self, stack: &mut Stack, only: Literal) -> Result<bool, NoMemory>
+    fn pass_short(&mut self, stack: &mut Stack<'_>, only: Literal) -> Result<bool, NoMemory>
         requires usable { stack.old.broken ≡ false }
         requires sound { IsSound stack.old }
         requires watched { AreWatched stack.old self.old }
@@ -270,7 +270,7 @@ impl Watches {
     /// Passes the next clause, which from now on watches these two of its literals. It answers true.
     fn pass_long(
         &mut self,
-        stack: &mut Stack,
+        stack: &mut Stack<'_>,
         first: Literal,
         second: Literal,
     ) -> Result<bool, NoMemory>
@@ -302,7 +302,7 @@ impl Watches {
     /// out.
     fn excuse(
         &mut self,
-        stack: &mut Stack,
+        stack: &mut Stack<'_>,
         number: u32,
         first: Literal,
         second: Literal,
@@ -327,7 +327,7 @@ impl Watches {
     }
 
     /// Notes that the entry at a place is visited at the present level.
-    fn note_place(&mut self, stack: &Stack, place: u32)
+    fn note_place(&mut self, stack: &Stack<'_>, place: u32)
         requires usable { stack.now.broken ≡ false }
         requires within { place < length stack.now.entries }
         ensures low { (e : Entry) → slice_get stack.now.entries place ≡ Some e →
@@ -367,7 +367,7 @@ impl Watches {
     /// Visits the clauses that watch the literal that the next entry makes false, and answers the
     /// number of one that is false; the entry is then still to be visited. An `Err` says that memory
     /// ran out.
-    fn visit_entry(&mut self, stack: &mut Stack) -> Result<Option<u32>, NoMemory>
+    fn visit_entry(&mut self, stack: &mut Stack<'_>) -> Result<Option<u32>, NoMemory>
         requires usable { stack.old.broken ≡ false }
         requires sound { IsSound stack.old }
         requires watched { AreWatched stack.old self.old }
@@ -397,7 +397,7 @@ impl Watches {
     /// `Err` says that memory ran out.
     fn visit(
         &mut self,
-        stack: &mut Stack,
+        stack: &mut Stack<'_>,
         falsified: Literal,
         index: usize,
     ) -> Result<Option<u32>, NoMemory>
@@ -440,7 +440,7 @@ impl Watches {
 
 /// The pair that a clause watches next, where one of its pair is false and this is the other one: a literal
 /// that is not false, and this one. None where all literals but this one are false.
-fn next_pair(stack: &Stack, number: u32, pair: &Pair, other: Literal) -> Option<Pair>
+fn next_pair(stack: &Stack<'_>, number: u32, pair: &Pair, other: Literal) -> Option<Pair>
     requires usable { stack.now.broken ≡ false }
     requires sound { IsSound stack.now }
     requires pair { IsPairIn stack.now number pair.now }
@@ -468,7 +468,11 @@ fn next_pair(stack: &Stack, number: u32, pair: &Pair, other: Literal) -> Option<
 
 /// Sets the literal of a clause whose others are false, or answers the clause's number if that one is
 /// false too. An `Err` says that memory ran out.
-fn force_or_fail(stack: &mut Stack, number: u32, literal: Literal) -> Result<Option<u32>, NoMemory>
+fn force_or_fail(
+    stack: &mut Stack<'_>,
+    number: u32,
+    literal: Literal,
+) -> Result<Option<u32>, NoMemory>
     requires usable { stack.old.broken ≡ false }
     requires sound { IsSound stack.old }
     requires forced { CanForce stack.old number literal }
@@ -485,7 +489,7 @@ fn force_or_fail(stack: &mut Stack, number: u32, literal: Literal) -> Result<Opt
 
 /// Sets the literal of a clause whose others are false, unless it is true. An `Err` says that memory
 /// ran out.
-fn force(stack: &mut Stack, number: u32, literal: Literal) -> Result<(), NoMemory>
+fn force(stack: &mut Stack<'_>, number: u32, literal: Literal) -> Result<(), NoMemory>
     requires usable { stack.old.broken ≡ false }
     requires sound { IsSound stack.old }
     requires forced { CanForce stack.old number literal }
@@ -509,7 +513,7 @@ fn lowered(limit: u32, number: u32, is_late: bool) -> u32
 }
 
 /// The place of the entry that makes the literal false; none exactly where it is not false.
-fn false_place(stack: &Stack, literal: Literal) -> Option<u32>
+fn false_place(stack: &Stack<'_>, literal: Literal) -> Option<u32>
     requires usable { stack.now.broken ≡ false }
     requires sound { IsSound stack.now }
     requires over { literal.index < stack.now.variables }
@@ -527,7 +531,7 @@ fn number_of_position(position: usize) -> u32 {
 }
 
 /// When the literal was made false: a place; the largest number where it is not false.
-fn rank(stack: &Stack, literal: Literal) -> u32
+fn rank(stack: &Stack<'_>, literal: Literal) -> u32
     requires usable { stack.now.broken ≡ false }
     requires sound { IsSound stack.now }
     requires over { literal.index < stack.now.variables }
@@ -541,7 +545,7 @@ fn rank(stack: &Stack, literal: Literal) -> u32
 
 /// Of the literals but this one, one that is not false, or else the one that was made false last; none
 /// where there are no others.
-fn best(stack: &Stack, literals: &[Literal], except: &Option<Literal>) -> Option<Literal>
+fn best(stack: &Stack<'_>, literals: &[Literal], except: &Option<Literal>) -> Option<Literal>
     requires usable { stack.now.broken ≡ false }
     requires sound { IsSound stack.now }
     requires over { IsOver stack.now.variables literals.now }
@@ -558,7 +562,7 @@ fn best(stack: &Stack, literals: &[Literal], except: &Option<Literal>) -> Option
 }
 
 /// Whether there is a literal, and it is not false.
-fn is_not_false(stack: &Stack, found: &Option<Literal>) -> bool
+fn is_not_false(stack: &Stack<'_>, found: &Option<Literal>) -> bool
     requires { (l : Lit) → found.now ≡ Some l → l.index < stack.now.variables }
     ensures { MatchOption found.now (result ≡ false) (λ l. result ≡ not (has (literals_of stack.now.entries) (negation l))) }
 {
@@ -571,7 +575,7 @@ fn is_not_false(stack: &Stack, found: &Option<Literal>) -> bool
 /// The better one of the literal that was found and another one, which is passed over if it is the one
 /// given.
 fn better(
-    stack: &Stack,
+    stack: &Stack<'_>,
     found: Option<Literal>,
     literal: Literal,
     except: &Option<Literal>,
@@ -593,7 +597,7 @@ fn better(
 }
 
 /// The second literal if it was made false later than the first one, or is not false; else the first.
-fn later(stack: &Stack, first: Literal, second: Literal) -> Literal
+fn later(stack: &Stack<'_>, first: Literal, second: Literal) -> Literal
     requires usable { stack.now.broken ≡ false }
     requires sound { IsSound stack.now }
     requires first_over { first.index < stack.now.variables }
@@ -610,7 +614,7 @@ fn later(stack: &Stack, first: Literal, second: Literal) -> Literal
 /// The position of a literal that is not false, but not of the one given; none where all others are
 /// false. The search begins at a position and goes round.
 fn free_position(
-    stack: &Stack,
+    stack: &Stack<'_>,
     literals: &[Literal],
     except: Literal,
     start: usize,
@@ -628,7 +632,7 @@ fn free_position(
 /// The first of these positions with a literal that is not false and not the one given; none where
 /// there is none.
 fn free_between(
-    stack: &Stack,
+    stack: &Stack<'_>,
     literals: &[Literal],
     except: Literal,
     start: usize,
@@ -647,7 +651,7 @@ fn free_between(
 }
 
 /// Whether the literal is not false, and not the one given.
-fn is_free(stack: &Stack, literal: Literal, except: Literal) -> bool
+fn is_free(stack: &Stack<'_>, literal: Literal, except: Literal) -> bool
     requires over { literal.index < stack.now.variables }
     ensures { result ≡ (not (same literal except) && not (has (literals_of stack.now.entries) (negation literal))) }
 {

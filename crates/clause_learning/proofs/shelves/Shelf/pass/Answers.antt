@@ -1,44 +1,26 @@
-use Rattle.std.proofs.Common.{◌≡◌, ◌+◌, ◌++◌, ◌∷◌, [], List, Some, slice_get, length, sym, ap, subst, ◌∙◌, refl, arith, All}
+use Rattle.std.proofs.Common.{◌≡◌, ◌+◌, ◌++◌, ◌∷◌, [], List, Some, slice_get, length, sym, ap, subst, ◌∙◌, refl, arith}
 use Rattle.std.proofs.lemmas.Option.{slice_get_read}
-use Rattle.std.proofs.lemmas.Result.{on_ok_weaker}
-use Rattle.std.proofs.lemmas.List.Elements.{All-push, All-contains}
-use Rattle.sequence.proofs.Places.{contains_at}
 use Rattle.sequence.proofs.Results.{on_ok_two}
 use Rattle.clause_core.specs.Literals.{Lit}
-use Rattle.clause_core.specs.Clauses.{IsOver}
 use Rattle.clause_learning.specs.Shelves.{AreShelved}
 use Rattle.clause_learning.proofs.LogHints.{kept_more}
 use Rattle.clause_learning.proofs.LessonLemmas.{copied}
 use Rattle.clause_learning.proofs.shelves.Shelf.pass.Goals as goal
 
-pub returns-clause-kept : goal.returns-clause-kept
-returns-clause-kept c = λ formula are.
+pub returns : goal.returns
+returns c = λ formula are.
     let t = c.args.trail.now in
     let self = c.args.self.now in
     let place = c.args.place in
     let clause = c.clause.result.now in
     let copy : c.in_ok-clause.clause ≡ clause = copied c.in_ok-clause.clause clause c.literals.result.now
     c.in_ok-clause.ensures c.literals.ensures.value c.literals.ensures.increasing in
-    let grown : c.push.new.self.items ≡ c.args.kept.now.clauses.items ++ clause ∷ [] = c.in_ok-push.ensures.items
-    ∙ ap (λ (d : List Lit). c.args.kept.now.clauses.items ++ d ∷ []) copy in
+    let grown : c.push.new.self.items ≡ c.args.kept.now.learnt.items ++ clause ∷ [] = c.in_ok-push.ensures.items
+    ∙ ap (λ (d : List Lit). c.args.kept.now.learnt.items ++ d ∷ []) copy in
     let number = c.index-2.result.now in
     let at : slice_get self.numbers.items place ≡ Some number =
     slice_get_read self.numbers.items (length self.numbers.items) place number refl (omega (arith, c.requires.within, c.requires.numbers))
     c.index-2.ensures in
     on_ok_two c.add.result (λ numbers uses. subst (λ (cs : List (List Lit)). AreShelved formula t.clauses self.numbers.items (place + 1) cs
-    c.add.new.self) (sym grown) (kept_more formula t.clauses self.numbers.items place c.args.kept.now.clauses.items c.args.kept.now.shelf
+    c.add.new.self) (sym grown) (kept_more formula t.clauses self.numbers.items place c.args.kept.now.learnt.items c.args.kept.now.shelf
     c.add.new.self clause number are c.clause.ensures at numbers uses)) c.add.ensures.numbers c.add.ensures.uses
-
-pub returns-clause-over : goal.returns-clause-over
-returns-clause-over c =
-    let t = c.args.trail.now in
-    let clause = c.clause.result.now in
-    let copy : c.in_ok-clause.clause ≡ clause = copied c.in_ok-clause.clause clause c.literals.result.now
-    c.in_ok-clause.ensures c.literals.ensures.value c.literals.ensures.increasing in
-    let grown : c.push.new.self.items ≡ c.args.kept.now.clauses.items ++ clause ∷ [] = c.in_ok-push.ensures.items
-    ∙ ap (λ (d : List Lit). c.args.kept.now.clauses.items ++ d ∷ []) copy in
-    let over : IsOver t.variables clause = All-contains (IsOver t.variables) t.clauses clause c.requires.clauses
-    (contains_at t.clauses c.args.place clause c.clause.ensures) in
-    let all : All (IsOver t.variables) c.push.new.self.items = subst (All (IsOver t.variables)) (sym grown)
-    (All-push (IsOver t.variables) c.args.kept.now.clauses.items clause c.requires.over over) in
-    on_ok_weaker c.add.result (λ numbers. all) c.add.ensures.numbers

@@ -12,8 +12,8 @@ pub invariant_of-self : goal.invariant_of-self
 invariant_of-self c =
     let inside = c.self.inside in
     let t = seen inside in
-    let same : c.push.new.self.items ≡ inside.clauses.items = c.push.ensures.items
-    ∙ cond-false (is_ok c.push.result) (inside.clauses.items ++ c.args.clause ∷ []) inside.clauses.items c.if-is_err.ensures.negation in (
+    let same : c.push.new.self ≡ inside.clauses = c.push.ensures
+    ∙ cond-false (is_ok c.push.result) (inside.clauses ++ c.args.clause ∷ []) inside.clauses c.if-is_err.ensures.negation in (
       subst (λ (cs : List (List Lit)). IsSound (record t { clauses = cs; broken = true })) (sym same)
           (sound_broken t true c.self.invariant.0),
       c.self.invariant.1,
@@ -28,9 +28,9 @@ invariant_of-self-else-is_err c =
     let inside = c.self.inside in
     let t = seen inside in
     let is : t ≡ c.args.self.now = c.self.view_is in
-    let same : c.push.new.self.items ≡ inside.clauses.items ++ c.args.clause ∷ [] =
-    c.push.ensures.items ∙ cond-true (is_ok c.push.result) (inside.clauses.items
-    ++ c.args.clause ∷ []) inside.clauses.items c.if-is_err.ensures.negation in
+    let same : c.push.new.self ≡ inside.clauses ++ c.args.clause ∷ [] =
+    c.push.ensures ∙ cond-true (is_ok c.push.result) (inside.clauses
+    ++ c.args.clause ∷ []) inside.clauses c.if-is_err.ensures.negation in
     let few : length t.clauses + 1 < 2 ^ 32 = subst (λ (s : TrailState). length s.clauses + 1 < 2 ^ 32) (sym is) c.requires.few in
     let over : IsOver t.variables c.args.clause = subst (λ (s : TrailState). IsOver s.variables c.args.clause) (sym is) c.requires.over in (
       subst (λ (cs : List (List Lit)). IsSound (record t { clauses = cs })) (sym same)

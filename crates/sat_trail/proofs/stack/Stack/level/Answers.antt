@@ -8,4 +8,4 @@ returns-clause-few c =
     let inside = c.self.inside in
     let sound = c.self.invariant.0 in
     subst (λ (t : TrailState). inside.level ≤ length t.entries) c.self.view_is
-    (omega (arith, sound.level_reached, level_few inside.variables inside.clauses.items inside.entries.items sound.stand))
+    (omega (arith, sound.level_reached, level_few inside.variables inside.clauses inside.entries.items sound.stand))

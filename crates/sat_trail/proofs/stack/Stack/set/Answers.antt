@@ -16,7 +16,7 @@ overflow_cast-place c =
     let sound = c.self.invariant.0 in
     omega (
       arith,
-      length_entries inside.variables inside.clauses.items inside.entries.items sound.stand,
+      length_entries inside.variables inside.clauses inside.entries.items sound.stand,
       sound.few_variables,
       c.len-place.ensures,
       inside.entries.ok.0,

@@ -9,7 +9,7 @@ overflow_cast-result c =
     let sound = c.self.invariant.0 in
     omega (
       arith,
-      length_entries inside.variables inside.clauses.items inside.entries.items sound.stand,
+      length_entries inside.variables inside.clauses inside.entries.items sound.stand,
       sound.few_variables,
       c.len.ensures,
       inside.entries.ok.0,
@@ -22,7 +22,7 @@ returns-clause-few c =
     subst (λ (t : TrailState). c.len.result ≤ t.variables) c.self.view_is
     (omega (
       arith,
-      length_entries inside.variables inside.clauses.items inside.entries.items sound.stand,
+      length_entries inside.variables inside.clauses inside.entries.items sound.stand,
       c.len.ensures,
       inside.entries.ok.0,
     ))

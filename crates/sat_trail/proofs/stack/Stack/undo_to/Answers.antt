@@ -29,10 +29,10 @@ taken : (c : After-index) → TakesBack c.loop-last.self-inside.variables c.args
 taken c =
     let now = c.loop-last.self-inside in
     let kept = c.loop-last.invariant in
-    let stand : AllStand now.variables c.self.inside.clauses.items c.self.inside.entries.items =
-    subst (λ (v : ℕ). AllStand v c.self.inside.clauses.items c.self.inside.entries.items)
+    let stand : AllStand now.variables c.self.inside.clauses c.self.inside.entries.items =
+    subst (λ (v : ℕ). AllStand v c.self.inside.clauses c.self.inside.entries.items)
     (sym kept.variables) c.self.invariant.0.stand in
-    takes_back now.variables c.self.inside.clauses.items c.args.level now.places.items c.self.inside.entries.items now.entries.items
+    takes_back now.variables c.self.inside.clauses c.args.level now.places.items c.self.inside.entries.items now.entries.items
     c.pop.new.self.items c.in-Some.last stand kept.front kept.table (split c) c.if-last-level.false
 
 pub index_mut-requires : goal.index_mut-requires
@@ -89,7 +89,7 @@ left : (c : goal.After-self-2-1) → (c.loop-last.self-inside.entries.items ≡ 
 left c =
     let start = c.self.inside in
     let kept = c.loop-last.invariant in
-    left_is start.variables start.clauses.items c.args.level start.entries.items c.loop-last.self-inside.entries.items
+    left_is start.variables start.clauses c.args.level start.entries.items c.loop-last.self-inside.entries.items
     c.self.invariant.0.stand kept.front kept.short (low c) kept.top kept.left
 
 pub invariant_of-self : goal.invariant_of-self

@@ -7,7 +7,7 @@ use Rattle.sat_trail.proofs.stack.Stack.undo_to.Given as goal
 abbrev pub invariant-loop-last : goal.invariant-loop-last
 invariant-loop-last l = record {
   variables : l.self-inside.variables ≡ l.initial.self-inside.variables;
-  clauses : l.self-inside.clauses.items ≡ l.initial.self-inside.clauses.items;
+  clauses : l.self-inside.clauses ≡ l.initial.self-inside.clauses;
   level : l.self-inside.level ≡ l.initial.self-inside.level;
   broken : l.self-inside.broken ≡ l.initial.self-inside.broken;
   short : length l.self-inside.entries.items ≤ length l.initial.self-inside.entries.items;

@@ -45,7 +45,7 @@ returns-in-Some c =
     let within = slice_get_within es c.in-Some.place f.entry f.there in
     let e = slice_get_one es c.in-Some.place f.entry c.index-in-Some.result.now f.there
     (slice_get_read es (length es) c.in-Some.place c.index-in-Some.result.now refl within c.index-in-Some.ensures) in
-    let set = value_set es (apart_from c.self.inside.variables c.self.inside.clauses.items es c.self.invariant.0.stand) c.in-Some.place
+    let set = value_set es (apart_from c.self.inside.variables c.self.inside.clauses es c.self.invariant.0.stand) c.in-Some.place
     f.entry c.args.literal f.there f.is in
     ap Some (c.eq.ensures ∙ ap (λ (d : Entry). same d.literal c.args.literal) (sym e))
     ∙ sym (ap (λ (t : TrailState). truth_of t.entries c.args.literal) (sym c.self.view_is) ∙ set)

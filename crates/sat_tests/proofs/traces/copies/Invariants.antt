@@ -1,5 +1,5 @@
 use Rattle.std.proofs.Common.{◌≡◌, take}
-use Rattle.clause_learning.proofs.shelves.copies.Given as goal
+use Rattle.sat_tests.proofs.traces.copies.Given as goal
 
 abbrev pub invariant-loop-clause : goal.invariant-loop-clause
 invariant-loop-clause l = l.copies.items ≡ take l.clause-index l.clauses

@@ -2,7 +2,7 @@ use Rattle.std.proofs.Common.{◌≡◌, ℕ, ◌+◌, ◌<◌, ◌++◌, ◌∷
 use Rattle.std.proofs.lemmas.List.{take_more}
 use Rattle.clause_core.specs.Literals.{Lit}
 use Rattle.clause_learning.proofs.LessonLemmas.{copied}
-use Rattle.clause_learning.proofs.shelves.copies.Goals as goal
+use Rattle.sat_tests.proofs.traces.copies.Goals as goal
 
 one_more : (so_far more clauses : List (List Lit)) (i : ℕ) (clause copy : List Lit) → i < length clauses →
     clause ≡ get_or clauses i clause → copy ≡ clause → so_far ≡ take i clauses → more ≡ so_far ++ copy ∷ [] → more ≡ take (i + 1) clauses

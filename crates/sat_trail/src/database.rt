@@ -1,0 +1,64 @@
+//! The clauses on a trail by their numbers.
+
+ghost use Rattle.std.specs.Prelude.{◌≡◌, ◌+◌, ◌<◌, ◌^◌, ◌++◌, ◌∷◌, [], length, Some, slice_get, cond, is_ok};
+
+use clause_core::Clause;
+use sequence::NoMemory;
+use std::marker::Model;
+
+/// The clauses of a formula, which are borrowed, and behind them the learnt ones. A contract sees them as
+/// one list.
+#[derive(Drop)]
+pub struct ClauseDatabase<'f> {
+    formula: &'f [Clause],
+    learnt: Vec<Clause>,
+}
+
+impl<'f> Model for ClauseDatabase<'f> {
+    ghost use Rattle.std.specs.Prelude.{◌+◌, ◌<◌, ◌^◌, ◌++◌, List, length};
+    ghost use Rattle.clause_core.specs.Literals.{Lit};
+
+    ghost Value = { List (List Lit) };
+
+    ghost view = { λ d. d.formula.now ++ d.learnt.items };
+
+    ghost invariant = { λ d. length d.formula.now + length d.learnt.items < 2 ^ 32 };
+}
+
+impl<'f> ClauseDatabase<'f> {
+    /// The clauses of a formula, and behind them these.
+    pub fn new(formula: &'f [Clause], learnt: Vec<Clause>) -> ClauseDatabase<'f>
+        requires { length formula.now + length learnt.items < 2 ^ 32 }
+        ensures { result ≡ formula.now ++ learnt.items }
+    {
+        ClauseDatabase { formula, learnt }
+    }
+
+    /// How many clauses there are.
+    pub fn len(&self) -> u32
+        ensures { result ≡ length self.now }
+    {
+        (self.formula.len() + self.learnt.len()) as u32
+    }
+
+    /// The clause of a number.
+    pub fn get(&self, number: u32) -> &Clause
+        requires { number < length self.now }
+        ensures { slice_get self.now number ≡ Some result.now }
+    {
+        let place = number as usize;
+        match self.formula.get(place) {
+            Some(clause) => clause,
+            None => &self.learnt[place - self.formula.len()],
+        }
+    }
+
+    /// Puts a learnt clause at the end. An `Err` says that memory ran out.
+    pub fn push(&mut self, clause: Clause) -> Result<(), NoMemory>
+        requires { length self.old + 1 < 2 ^ 32 }
+        ensures { self.new ≡ cond (is_ok result) (self.old ++ clause ∷ []) self.old }
+    {
+        self.learnt.push(clause)?;
+        Ok(())
+    }
+}
