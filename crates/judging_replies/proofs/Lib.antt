@@ -11,3 +11,4 @@ pub mod RunNames
 pub mod RunParting
 pub mod RunReplies
 pub mod RunVerdicts
+pub mod WordFaultLaws

@@ -1,6 +1,9 @@
 -- Bytes have at most one division into parts, parts spell at most one input, and a part that is spelled is not refused.
-use Rattle.std.proofs.Common.{◌≡◌, ℕ, List, take, drop, refl, ap, sym, ◌∙◌, subst, arith}
-use Rattle.std.specs.Prelude.{Option, Some, None}
+use Rattle.std.proofs.Common.{◌≡◌, ℕ, List, ◌++◌, length, take, drop, refl, ap, sym, ◌∙◌, subst, arith}
+use Rattle.std.specs.Prelude.{Option, Some, None, slice_get}
+use Rattle.std.proofs.Math.Seq.{drop-append_seam}
+use Rattle.sequence.proofs.Options.{one_value}
+use Rattle.tsl_text.specs.Places.{IsBetweenFeeds}
 use Rattle.tsl_terms.specs.Name.{Name, AreDistinct}
 use Rattle.tsl_terms.specs.SpecTree.{SpecTree}
 use Rattle.tsl_reader.proofs.Causes.{one_spec}
@@ -20,12 +23,17 @@ use Rattle.table_interp.specs.declared.InputError.{InputError}
 use Rattle.table_interp.specs.declared.InputError.TheVariants as inputs
 use Rattle.table_interp.specs.Tables.{SpellsTables, IsRefusedAsTables}
 use Rattle.table_interp.specs.Inputs.{SpellsInputs, IsRefusedAsInputs}
+use Rattle.word_interp.specs.declared.WordError.{WordError}
+use Rattle.word_interp.specs.declared.WordError.TheVariants as words
+use Rattle.word_interp.specs.Words.{SpellsWords, IsRefusedAsWords}
 use Rattle.tsl_report.specs.declared.fault.Fault.{Fault}
 use Rattle.judging_replies.specs.Check.{CheckParts, AreCheckParts, CheckInput, SpellCheckInput}
 use Rattle.tool_replies.specs.HeadLines.{IsFirstLineAt, IsCutBefore}
-use Rattle.judging_replies.specs.Run.{SpellsGiven, given_names, RunInput, SpellRunInput}
-use Rattle.judging_replies.specs.RunFaults.{IsProgramFault, IsTableFault, IsInputFault}
-use Rattle.judging_replies.specs.RunParts.{RunParts, AreParts, program_line, tables_line, inputs_line}
+use Rattle.judging_replies.specs.Run.{SpellsGiven, SpellsMeaning, given_names, HasMeaningFault, RunInput, SpellRunInput}
+use Rattle.judging_replies.specs.RunFaults.{IsProgramFault, IsTableFault, IsWordsFault, IsInputFault}
+use Rattle.judging_replies.specs.RunParts.{RunParts, AreParts, IsCutByStyle, program_line, tables_line, words_line, inputs_line, line_of}
+use Rattle.judging_replies.specs.declared.parting.Style.{Style}
+use Rattle.judging_replies.specs.declared.parting.Style.TheVariants.{Tables, Words}
 
 -- ---- one division into parts
 
@@ -47,21 +55,58 @@ one_division bytes a b h k =
       program = one_after bytes program_line a.spec a.program b.spec b.program h k i;
     }
 
+apart : (found : Option ℕ) → found ≡ Some 116 → found ≡ Some 119 → ⊥
+apart found h k = omega (arith, one_value found 116 119 h k)
+
+-- two different lines do not begin at one place: their fourth bytes differ
+not_both : (text : List ℕ) (a b : ℕ) → IsBetweenFeeds text tables_line a → IsBetweenFeeds text words_line b → a ≡ b → ⊥
+not_both text a b h k same =
+    let from_tables : drop a text ≡ tables_line ++ h.after =
+    ap (λ n. drop n text) (sym h.place) ∙ (ap (λ t. drop (length h.before) t) h.split ∙ drop-append_seam h.before (tables_line ++ h.after)) in
+    let from_words : drop b text ≡ words_line ++ k.after =
+    ap (λ n. drop n text) (sym k.place) ∙ (ap (λ t. drop (length k.before) t) k.split ∙ drop-append_seam k.before (words_line ++ k.after)) in
+    apart (slice_get (drop a text) 3) (ap (λ (t : List ℕ). slice_get t 3) from_tables)
+    (ap (λ (n : ℕ). slice_get (drop n text) 3) same ∙ ap (λ (t : List ℕ). slice_get t 3) from_words)
+
+-- so the next line that begins tables or machine words has one style
+pub one_style : (text : List ℕ) (s t : Style) (before after before' after' : List ℕ) → IsCutByStyle text s before after →
+    IsCutByStyle text t before' after' → s ≡ t
+one_style text Tables Tables before after before' after' h k = refl
+one_style text Words Words before after before' after' h k = refl
+one_style text Tables Words before after before' after' h k =
+    absurd (not_both text h.cut.at k.cut.at h.cut.first.is_line k.cut.first.is_line
+    (omega (arith, h.comes_first k.cut.at k.cut.first.is_line, k.comes_first h.cut.at h.cut.first.is_line)))
+one_style text Words Tables before after before' after' h k =
+    absurd (not_both text k.cut.at h.cut.at k.cut.first.is_line h.cut.first.is_line
+    (omega (arith, h.comes_first k.cut.at k.cut.first.is_line, k.comes_first h.cut.at h.cut.first.is_line)))
+
+-- and what is cut there is one
+pub one_cut : (text : List ℕ) (s t : Style) (before after before' after' : List ℕ) → IsCutByStyle text s before after →
+    IsCutByStyle text t before' after' → (s ≡ t) × (before ≡ before') × (after ≡ after')
+one_cut text s t before after before' after' h k =
+    let style : s ≡ t = one_style text s t before after before' after' h k in
+    let cut : IsCutBefore text (line_of t) before after =
+    subst (λ (u : Style). IsCutBefore text (line_of u) before after) style h.cut in (
+      style,
+      one_before text (line_of t) before after before' after' cut k.cut,
+      one_after text (line_of t) before after before' after' cut k.cut,
+    )
+
 pub one_run_division : (bytes : List ℕ) (a b : RunParts) → AreParts bytes a → AreParts bytes b → a ≡ b
 one_run_division bytes a b h k =
     let from_program : h.from_program ≡ k.from_program =
     one_after bytes program_line a.spec h.from_program b.spec k.from_program h.program_begins k.program_begins in
-    let cut_program : IsCutBefore k.from_program tables_line a.program h.from_tables =
-    subst (λ (text : List ℕ). IsCutBefore text tables_line a.program h.from_tables) from_program h.tables_begin in
-    let from_tables : h.from_tables ≡ k.from_tables =
-    one_after k.from_program tables_line a.program h.from_tables b.program k.from_tables cut_program k.tables_begin in
-    let cut_tables : IsCutBefore k.from_tables inputs_line a.tables a.inputs =
-    subst (λ (text : List ℕ). IsCutBefore text inputs_line a.tables a.inputs) from_tables h.inputs_begin in
+    let cut_program : IsCutByStyle k.from_program a.style a.program h.from_meaning =
+    subst (λ (text : List ℕ). IsCutByStyle text a.style a.program h.from_meaning) from_program h.meaning_begins in
+    let program = one_cut k.from_program a.style b.style a.program h.from_meaning b.program k.from_meaning cut_program k.meaning_begins in
+    let cut_meaning : IsCutBefore k.from_meaning inputs_line a.meaning a.inputs =
+    subst (λ (text : List ℕ). IsCutBefore text inputs_line a.meaning a.inputs) program.2 h.inputs_begin in
     λ i. record {
       spec = one_before bytes program_line a.spec h.from_program b.spec k.from_program h.program_begins k.program_begins i;
-      program = one_before k.from_program tables_line a.program h.from_tables b.program k.from_tables cut_program k.tables_begin i;
-      tables = one_before k.from_tables inputs_line a.tables a.inputs b.tables b.inputs cut_tables k.inputs_begin i;
-      inputs = one_after k.from_tables inputs_line a.tables a.inputs b.tables b.inputs cut_tables k.inputs_begin i;
+      program = program.1 i;
+      style = program.0 i;
+      meaning = one_before k.from_meaning inputs_line a.meaning a.inputs b.meaning b.inputs cut_meaning k.inputs_begin i;
+      inputs = one_after k.from_meaning inputs_line a.meaning a.inputs b.meaning b.inputs cut_meaning k.inputs_begin i;
     }
 
 -- ---- one input
@@ -93,12 +138,26 @@ pub one_program_read : (parts : RunParts) (given : Option SpecTree) (p q : Progr
 one_program_read parts given p q names more spells h k =
     one_reading parts.program (given_names given) p q names more (given_distinct parts.spec given spells) h k
 
--- a text spells at most one interpretation, and at most one input loop, by the law of their readers
+-- a text spells at most one interpretation in a style, and at most one input loop, by the law of their readers
 pub record ReadOnce : Type 0 where
-  pub tables : (text : List ℕ) (names : List Name) (cells : List ℕ) (a b : Interpretation) → SpellsTables text names cells a →
-      SpellsTables text names cells b → a ≡ b
+  pub meaning : (style : Style) (text : List ℕ) (names : List Name) (cells : List ℕ) (a b : Interpretation) →
+      SpellsMeaning style text names cells a → SpellsMeaning style text names cells b → a ≡ b
   pub inputs : (text : List ℕ) (names : List Name) (inputs : List ℕ) (domain : ℕ) (a b : InputRows ℕ) →
       SpellsInputs text names inputs domain a → SpellsInputs text names inputs domain b → a ≡ b
+
+pub read_once :
+    ((text : List ℕ) (names : List Name) (cells : List ℕ) (a b : Interpretation) → SpellsTables text names cells a →
+    SpellsTables text names cells b → a ≡ b) →
+    ((text : List ℕ) (names : List Name) (cells : List ℕ) (a b : Interpretation) → SpellsWords text names cells a →
+    SpellsWords text names cells b → a ≡ b) →
+    ((text : List ℕ) (names : List Name) (inputs : List ℕ) (domain : ℕ) (a b : InputRows ℕ) →
+    SpellsInputs text names inputs domain a → SpellsInputs text names inputs domain b → a ≡ b) → ReadOnce
+read_once by_tables by_words by_rows = record { meaning = of_style; inputs = by_rows }
+  where
+    of_style : (style : Style) (text : List ℕ) (names : List Name) (cells : List ℕ) (a b : Interpretation) →
+        SpellsMeaning style text names cells a → SpellsMeaning style text names cells b → a ≡ b
+    of_style Tables = by_tables
+    of_style Words = by_words
 
 pub one_run_input : ReadOnce → (parts : RunParts) (a b : RunInput) → SpellRunInput parts a → SpellRunInput parts b → a ≡ b
 one_run_input once parts a b h k =
@@ -107,11 +166,11 @@ one_run_input once parts a b h k =
     subst (λ (g : Option SpecTree). IsReading parts.program (given_names g) a.program a.names) given h.program in
     let both : (a.program ≡ b.program) × (a.names ≡ b.names) =
     one_program_read parts b.given a.program b.program a.names b.names k.spec read k.program in
-    let tables_there : SpellsTables parts.tables b.names b.program.cells a.interpretation =
-    subst (λ (names : List Name). SpellsTables parts.tables names b.program.cells a.interpretation) both.1
-    (subst (λ (p : ProgramTree). SpellsTables parts.tables a.names p.cells a.interpretation) both.0 h.tables) in
+    let meaning_there : SpellsMeaning parts.style parts.meaning b.names b.program.cells a.interpretation =
+    subst (λ (names : List Name). SpellsMeaning parts.style parts.meaning names b.program.cells a.interpretation) both.1
+    (subst (λ (p : ProgramTree). SpellsMeaning parts.style parts.meaning a.names p.cells a.interpretation) both.0 h.meaning) in
     let meaning : a.interpretation ≡ b.interpretation =
-    once.tables parts.tables b.names b.program.cells a.interpretation b.interpretation tables_there k.tables in
+    once.meaning parts.style parts.meaning b.names b.program.cells a.interpretation b.interpretation meaning_there k.meaning in
     let rows_there : SpellsInputs parts.inputs b.names b.program.inputs b.interpretation.domain a.rows =
     subst (λ (m : Interpretation). SpellsInputs parts.inputs b.names b.program.inputs m.domain a.rows) meaning
     (subst (λ (names : List Name). SpellsInputs parts.inputs names b.program.inputs a.interpretation.domain a.rows) both.1
@@ -142,7 +201,7 @@ module _ (text : List ℕ) (given : List Name) (p : ProgramTree) (names : List N
   program_not_refused States fault cause is = rules_kept States cause
   program_not_refused NoMemory fault cause is = is
 
-pub tables_not_refused : (text : List ℕ) (names : List Name) (cells : List ℕ) (m : Interpretation) (error : TableError) (fault : Fault) →
+tables_not_refused : (text : List ℕ) (names : List Name) (cells : List ℕ) (m : Interpretation) (error : TableError) (fault : Fault) →
     SpellsTables text names cells m → IsRefusedAsTables text names cells error → IsTableFault text names error fault → ⊥
 tables_not_refused text names cells m (tables.Byte at) fault spells refused is = refused m spells
 tables_not_refused text names cells m (tables.OpenComment at) fault spells refused is = refused m spells
@@ -155,6 +214,26 @@ tables_not_refused text names cells m (tables.Entries id) fault spells refused i
 tables_not_refused text names cells m (tables.Count id) fault spells refused is = refused m spells
 tables_not_refused text names cells m (tables.Range id value) fault spells refused is = refused m spells
 tables_not_refused text names cells m tables.NoMemory fault spells refused is = is
+
+words_not_refused : (text : List ℕ) (names : List Name) (cells : List ℕ) (m : Interpretation) (error : WordError) (fault : Fault) →
+    SpellsWords text names cells m → IsRefusedAsWords text names cells error → IsWordsFault text names error fault → ⊥
+words_not_refused text names cells m (words.Byte at) fault spells refused is = refused m spells
+words_not_refused text names cells m (words.OpenComment at) fault spells refused is = refused m spells
+words_not_refused text names cells m (words.Form at) fault spells refused is = refused m spells
+words_not_refused text names cells m words.Width fault spells refused is = refused m spells
+words_not_refused text names cells m (words.Unknown start end) fault spells refused is = refused m spells
+words_not_refused text names cells m (words.Twice start end) fault spells refused is = refused m spells
+words_not_refused text names cells m (words.Missing id) fault spells refused is = refused m spells
+words_not_refused text names cells m (words.Arity id) fault spells refused is = refused m spells
+words_not_refused text names cells m (words.Range id value) fault spells refused is = refused m spells
+words_not_refused text names cells m words.NoMemory fault spells refused is = is
+
+pub meaning_not_refused : (style : Style) (text : List ℕ) (names : List Name) (cells : List ℕ) (m : Interpretation) (fault : Fault) →
+    SpellsMeaning style text names cells m → HasMeaningFault style text names cells fault → ⊥
+meaning_not_refused Tables text names cells m fault spells h =
+    tables_not_refused text names cells m h.error fault spells h.spells_none h.is_fault
+meaning_not_refused Words text names cells m fault spells h =
+    words_not_refused text names cells m h.error fault spells h.spells_none h.is_fault
 
 pub inputs_not_refused : (text : List ℕ) (names : List Name) (signals : List ℕ) (domain : ℕ) (rows : InputRows ℕ) (error : InputError)
     (fault : Fault) → SpellsInputs text names signals domain rows → IsRefusedAsInputs text names signals domain error →

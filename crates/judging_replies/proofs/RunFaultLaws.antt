@@ -23,23 +23,24 @@ use Rattle.table_syntax.specs.Syntax.{TextToken, text_token_at, text_tokens, Ent
 use Rattle.table_syntax.specs.Grammar.{IsEntry, function, predicate, cell, AreEntries, no_entry, more_entries, IsTables, tables}
 use Rattle.table_syntax.specs.Grammar.{AreColumns, no_column, more_columns, IsInputs, inputs}
 use Rattle.table_syntax.specs.Forms.{IsRead, HasFormFault}
-use Rattle.table_interp.specs.Needed.{is_symbol_number, needed}
-use Rattle.table_interp.specs.Tables.{HasTableCause}
+use Rattle.entry_names.specs.Needed.{is_symbol_number, needed}
+use Rattle.entry_names.specs.Entries.{Subject, subject_of, HasUnknownEntry, HasSecondEntry}
+use Rattle.table_interp.specs.Tables.{HasTableCause, subjects_of}
 use Rattle.table_interp.specs.Inputs.{HasInputCause}
 use Rattle.judging_replies.specs.internal.RunFaultPlaces.{TableStandsIn, InputStandsIn}
 use Rattle.tool_replies.proofs.RefusalLaws.{each_of, token_stands}
 
-form_stands : {V : Type 0} (Is : List TextToken → V → Type 0) (text : List ℕ) (at : ℕ) → HasFormFault Is text at → at ≤ length text
+pub form_stands : {V : Type 0} (Is : List TextToken → V → Type 0) (text : List ℕ) (at : ℕ) → HasFormFault Is text at → at ≤ length text
 form_stands Is text at h = ⊎_elim
     (λ wrong. token_stands text wrong.before wrong.token wrong.after at wrong.tokens_are wrong.place) (λ ends. omega (arith, ends.place)) h
 
 -- ---- tokens
 
 -- the token lies in the text
-abbrev LiesIn : List ℕ → TextToken → Type 0
+abbrev pub LiesIn : List ℕ → TextToken → Type 0
 LiesIn text x = (x.token.start ≤ x.token.end) × (x.token.end ≤ length text)
 
-each_lies : (text : List ℕ) (tokens : List Token) → AreTokens text tokens → AllByRecursion (LiesIn text) (text_tokens text tokens)
+pub each_lies : (text : List ℕ) (tokens : List Token) → AreTokens text tokens → AllByRecursion (LiesIn text) (text_tokens text tokens)
 each_lies text tokens are =
     each_map (LiesIn text) (text_token_at text) tokens
     (each_weaker (IsTokenOf text) (λ t. LiesIn text (text_token_at text t)) (λ t token. (omega (arith, token.not_empty), token.inside)) tokens
@@ -70,9 +71,11 @@ module _ (P : TextToken → Type 0) where
   input_names _ _ (inputs {xs} {ys} {zs} {ns} a b s c is_a is_b columns is_s stem is_c cycle) each =
       column_names xs ns columns (each_left P xs (s ∷ (ys ++ c ∷ zs)) each.1.1)
 
-entries_lie : (text : List ℕ) (given : TablesSyntax) → IsRead IsTables text given → AllByRecursion (λ e. LiesIn text e.name) given.entries
+entries_lie : (text : List ℕ) (given : TablesSyntax) → IsRead IsTables text given →
+    AllByRecursion (λ e. LiesIn text e.name) (subjects_of given)
 entries_lie text given read =
-    table_names (LiesIn text) (text_tokens text read.tokens) given read.derived (each_lies text read.tokens read.tokens_are)
+    each_map (λ e. LiesIn text e.name) subject_of given.entries
+    (table_names (LiesIn text) (text_tokens text read.tokens) given read.derived (each_lies text read.tokens read.tokens_are))
 
 columns_lie : (text : List ℕ) (given : InputsSyntax) → IsRead IsInputs text given → AllByRecursion (LiesIn text) given.names
 columns_lie text given read =
@@ -82,6 +85,18 @@ between : (text : List ℕ) (x : TextToken) (start end : ℕ) → LiesIn text x 
     (start ≤ end) × (end ≤ length text)
 between text x start end lies starts ends = (omega (arith, lies.0, starts, ends), omega (arith, lies.1, ends))
 
+-- ---- what entries are for
+
+module _ (text : List ℕ) (names : List Name) (numbers : List ℕ) (entries : List Subject)
+    (lie : AllByRecursion (λ e. LiesIn text e.name) entries) where
+  pub unknown_stands : (start end : ℕ) → HasUnknownEntry names numbers entries start end → (start ≤ end) × (end ≤ length text)
+  unknown_stands start end h =
+      between text h.entry.name start end (found_has _ (λ e. LiesIn text e.name) entries h.entry lie h.first) h.starts h.ends
+
+  pub second_stands : (start end : ℕ) → HasSecondEntry names numbers entries start end → (start ≤ end) × (end ≤ length text)
+  second_stands start end h =
+      between text h.entry.name start end (each_at (λ e. LiesIn text e.name) entries h.at h.entry lie h.there) h.starts h.ends
+
 -- ---- numbers of names
 
 signals_below : (names : List Name) (signals : List ℕ) → list_all (λ s. is_name names s Signal 0) signals ≡ true →
@@ -90,7 +105,7 @@ signals_below names signals h =
     each_weaker (λ s. is_name names s Signal 0 ≡ true) (λ s. s < length names) (λ s k. within_from_test names s _ k) signals
     (each_from_list_all (λ s. is_name names s Signal 0) signals h)
 
-needed_below : (names : List Name) (cells : List ℕ) → list_all (λ s. is_name names s Signal 0) cells ≡ true →
+pub needed_below : (names : List Name) (cells : List ℕ) → list_all (λ s. is_name names s Signal 0) cells ≡ true →
     AllByRecursion (λ id. id < length names) (needed names cells)
 needed_below names cells h =
     each_joined (λ id. id < length names) (filter (is_symbol_number names) (numbers_from 0 (length names))) cells
@@ -107,13 +122,9 @@ table_cause_stands text names cells (TableComment at) named h = omega (arith, h.
 table_cause_stands text names cells (TableForm at) named h = form_stands IsTables text at h
 table_cause_stands text names cells Domain named h = tt
 table_cause_stands text names cells (UnknownEntry start end) named h =
-    between text h.cause.entry.name start end
-    (found_has _ (λ e. LiesIn text e.name) h.given.entries h.cause.entry (entries_lie text h.given h.read.read) h.cause.first)
-    h.cause.starts h.cause.ends
+    unknown_stands text names (needed names cells) (subjects_of h.given) (entries_lie text h.given h.read.read) start end h.cause
 table_cause_stands text names cells (SecondEntry start end) named h =
-    between text h.cause.entry.name start end
-    (each_at (λ e. LiesIn text e.name) h.given.entries h.cause.at h.cause.entry (entries_lie text h.given h.read.read) h.cause.there)
-    h.cause.starts h.cause.ends
+    second_stands text names (needed names cells) (subjects_of h.given) (entries_lie text h.given h.read.read) start end h.cause
 table_cause_stands text names cells (MissingEntry id) named h =
     found_has _ (λ i. i < length names) (needed names cells) id (needed_below names cells named) h.cause.first
 table_cause_stands text names cells (Entries id) named h = tt

@@ -1,5 +1,5 @@
--- What holds of a program with its tables and inputs, once they are read: it can run, and its run can be judged and
--- written.
+-- What holds of a program with its interpretation and inputs, once they are read: it can run, and its run can be judged
+-- and written.
 use Rattle.std.proofs.Common.{◌≡◌, ℕ, ◌+◌, ◌<◌, ◌^◌, true, List, [], ◌∷◌, ◌++◌, length, map, refl, ap, sym, ◌∙◌, subst, arith}
 use Rattle.std.specs.Prelude.{Option, Some, None, Result, Ok, Err, IfOk, is_some, slice_get}
 use Rattle.std.specs.List.{list_all, flat_map, AllByRecursion}
@@ -21,19 +21,19 @@ use Rattle.term_text.specs.TermText.{term_is_held}
 use Rattle.program_tree.specs.ProgramTree.{ProgramTree}
 use Rattle.flow_program.specs.Uses.{uses_of, entries_of_use}
 use Rattle.tsl_meaning.specs.declared.run.InputLoop.{InputLoop}
-use Rattle.tsl_meaning.specs.Interpretation.{InputRows, IsInterpretation, IsInputLoop, IsRow, meanings_in, rows_of}
+use Rattle.tsl_meaning.specs.Interpretation.{Interpretation, InputRows, IsInterpretation, IsInputLoop, IsRow, IsEqualityOf, meanings_in, meanings_with, rows_of}
 use Rattle.tsl_meaning.specs.Lasso.{meets}
 use Rattle.tsl_meaning.specs.OverNames.{term_is_over, IsFormulaOver}
 use Rattle.tsl_meaning.specs.Run.{configuration_at, action_in}
 use Rattle.tsl_meaning.specs.RunTree.{PositionTree, RunTree}
 use Rattle.tsl_meaning.specs.RunLasso.{shape_of, IsJudged}
 use Rattle.tsl_meaning.specs.RunOf.{IsStepOf, configuration_of, IsRunOf, IsFirstRepetition, AreDifferent}
+use Rattle.tsl_meaning.proofs.Equal.{same_meanings}
 use Rattle.tsl_meaning.proofs.Naming.{written_program}
 use Rattle.tsl_meaning.proofs.PromisedFormulas.{windows_speak}
 use Rattle.tsl_meaning.proofs.Runs.{step_there, atoms_decided, configuration_there, action_there, IsConfiguration}
 use Rattle.tsl_meaning.proofs.RunsOf.{run_means, decided_judged}
 use Rattle.table_interp.specs.Inputs.{SpellsInputs, by_inputs}
-use Rattle.table_interp.specs.Meaning.{TablesMeaning, meanings_of}
 use Rattle.table_runner.specs.Running.{rows_seen, CanRun}
 use Rattle.tsl_report.specs.TraceText.{position_is_held, RunIsHeld}
 use Rattle.tsl_report.specs.declared.fault.LimitName.TheVariants.{Run as RunLimit}
@@ -57,10 +57,13 @@ seen_rows inputs = λ i. record { stem = each inputs.stem i; cycle = each inputs
     each [] = refl
     each (row ∷ rows) = λ i. map-id row i ∷ each rows i
 
-pub same_meanings : (tables : TablesMeaning) (names : List Name) (program : ProgramTree) → tables.cells ≡ program.cells →
-    meanings_of tables ≡ meanings_in names program tables.interpretation
-same_meanings tables names program same =
-    ap (λ (cells : List ℕ). meanings_of (record { cells = cells; interpretation = tables.interpretation })) same
+-- what is read means what it does in programs
+pub read_means : (names : List Name) (equality : Option ℕ) (cells given : List ℕ) (interpretation : Interpretation) →
+    IsEqualityOf names equality → given ≡ cells → (program : ProgramTree) → program.cells ≡ cells →
+    meanings_with equality given interpretation ≡ meanings_in names program interpretation
+read_means names equality cells given interpretation is same program there =
+    ap (λ (cs : List ℕ). meanings_with equality cs interpretation) (same ∙ sym there)
+    ∙ same_meanings names equality program interpretation is
 
 -- ---- what is read is ready
 
@@ -194,65 +197,65 @@ traced_outcome input ready run (Ok reply) closes same is =
     (is ∙ ap (trace_reply input.names run (is_some input.given)) (verdicts_same input ready run closes.is_first (judged_formulas input)))
 traced_outcome input ready run (Err e) closes same is = tt
 
--- ---- in the words of the code: over tables as they are seen, and rows as they are seen
+-- ---- in the words of the code: under meanings as they are read, and over rows as they are seen
 
-module _ (given : Option SpecTree) (names : List Name) (program : ProgramTree) (tables : TablesMeaning) (inputs : InputLoop ℕ)
-    (same : tables.cells ≡ program.cells) where
+module _ (given : Option SpecTree) (names : List Name) (program : ProgramTree) (interpretation : Interpretation) (inputs : InputLoop ℕ)
+    (meanings : Meanings ℕ) (same : meanings ≡ meanings_in names program interpretation) where
   abbrev pub input_of : RunInput
   input_of = record {
     given = given;
     names = names;
     program = program;
-    interpretation = tables.interpretation;
+    interpretation = interpretation;
     rows = rows_of inputs;
   }
 
   -- what holds of the meanings and the rows holds of them as they are seen
   to_seen : (P : Meanings ℕ → InputRows ℕ → Type 0) → P (meanings_of_input input_of) (rows_of inputs) →
-      P (meanings_of tables) (rows_seen (λ v. v) inputs)
+      P meanings (rows_seen (λ v. v) inputs)
   to_seen P h =
-      subst (λ (m : Meanings ℕ). P m (rows_seen (λ v. v) inputs)) (sym (same_meanings tables names program same))
+      subst (λ (m : Meanings ℕ). P m (rows_seen (λ v. v) inputs)) (sym same)
       (subst (λ (rows : InputRows ℕ). P (meanings_of_input input_of) rows) (sym (seen_rows inputs)) h)
 
-  from_seen : (P : Meanings ℕ → InputRows ℕ → Type 0) → P (meanings_of tables) (rows_seen (λ v. v) inputs) →
+  from_seen : (P : Meanings ℕ → InputRows ℕ → Type 0) → P meanings (rows_seen (λ v. v) inputs) →
       P (meanings_of_input input_of) (rows_of inputs)
   from_seen P h =
       subst (λ (rows : InputRows ℕ). P (meanings_of_input input_of) rows) (seen_rows inputs)
-      (subst (λ (m : Meanings ℕ). P m (rows_seen (λ v. v) inputs)) (same_meanings tables names program same) h)
+      (subst (λ (m : Meanings ℕ). P m (rows_seen (λ v. v) inputs)) same h)
 
-  pub can_run_seen : IsReady input_of → CanRun (meanings_of tables) program (rows_seen (λ v. v) inputs)
+  pub can_run_seen : IsReady input_of → CanRun meanings program (rows_seen (λ v. v) inputs)
   can_run_seen ready = to_seen (λ m rows. CanRun m program rows) (can_run input_of ready)
 
-  pub first_run_seen : (run : RunTree ℕ) → IsRunOf (meanings_of tables) program (rows_seen (λ v. v) inputs) run →
-      IsFirstRepetition (meanings_of tables) program (rows_seen (λ v. v) inputs) (shape_of run) → IsFirstRun input_of run
+  pub first_run_seen : (run : RunTree ℕ) → IsRunOf meanings program (rows_seen (λ v. v) inputs) run →
+      IsFirstRepetition meanings program (rows_seen (λ v. v) inputs) (shape_of run) → IsFirstRun input_of run
   first_run_seen run is first = record {
     is_run = from_seen (λ m rows. IsRunOf m program rows run) is;
     is_first = from_seen (λ m rows. IsFirstRepetition m program rows (shape_of run)) first;
   }
 
   pub too_long_seen : {E : Type 0} (r : Result Reply E) →
-      AreDifferent (meanings_of tables) program (rows_seen (λ v. v) inputs) (most_configurations + 1) →
+      AreDifferent meanings program (rows_seen (λ v. v) inputs) (most_configurations + 1) →
       IfOk r (λ reply. reply ≡ fault_reply (Large RunLimit most_configurations)) → IfOk r (InputOutcome input_of)
   too_long_seen (Ok reply) different is =
       runs_on (from_seen (λ m rows. AreDifferent m program rows (most_configurations + 1)) different) is
   too_long_seen (Err e) different is = tt
 
   pub judged_seen : IsReady input_of → (run : RunTree ℕ) → IsFirstRun input_of run → HasGivenSignals given program →
-      AllByRecursion (IsJudged (meanings_of tables) run) (formulas_to_judge program given)
+      AllByRecursion (IsJudged meanings run) (formulas_to_judge program given)
   judged_seen ready run first signals =
       subst (λ (m : Meanings ℕ). AllByRecursion (IsJudged m run) (formulas_to_judge program given))
-      (sym (same_meanings tables names program same)) (run_judged input_of ready run first signals)
+      (sym same) (run_judged input_of ready run first signals)
 
   pub traced_seen : {E : Type 0} (r : Result Reply E) → IsReady input_of → (run : RunTree ℕ) → Closes input_of run →
       HasGivenSignals given program →
-      IfOk r (λ reply. reply ≡ trace_reply names run (is_some given) (verdicts_in (meanings_of tables) run
+      IfOk r (λ reply. reply ≡ trace_reply names run (is_some given) (verdicts_in meanings run
       (formulas_to_judge program given))) →
       IfOk r (InputOutcome input_of)
   traced_seen r ready run closes signals is =
       traced_outcome input_of ready run r closes signals
       (subst (λ (m : Meanings ℕ). IfOk r (λ reply. reply ≡
       trace_reply names run (is_some given) (verdicts_in m run (formulas_to_judge program given))))
-      (same_meanings tables names program same) is)
+      same is)
 
   pub other_seen : {E : Type 0} (r : Result Reply E) (run : RunTree ℕ) → Closes input_of run → (HasGivenSignals given program → ⊥) →
       IfOk r (λ reply. reply ≡ signals_reply) → IfOk r (InputOutcome input_of)

@@ -1,14 +1,36 @@
 -- The parts of what `run` reads, and the outcomes of each stage.
-use Rattle.std.proofs.Common.{◌≡◌, ℕ, ◌==◌, Bool, false, List, [], ◌∷◌, length}
+use Rattle.std.proofs.Common.{◌≡◌, ℕ, ◌≤◌, ◌==◌, Bool, false, List, [], ◌∷◌, length}
 use Rattle.std.specs.Prelude.{Result, Ok, Err, IfOk}
 use Rattle.tsl_report.specs.declared.fault.Head.{Head}
 use Rattle.tsl_report.specs.declared.fault.Fault.{Fault}
 use Rattle.tsl_report.specs.declared.fault.Fault.TheVariants.{Parts}
 use Rattle.tool_replies.specs.declared.reply.Reply.{Reply}
 use Rattle.tool_replies.specs.Replies.{fault_reply}
-use Rattle.judging_replies.specs.RunParts.{RunParts, AreParts, LacksPart}
+use Rattle.tsl_text.specs.Places.{IsBetweenFeeds}
+use Rattle.tool_replies.specs.HeadLines.{HasNoLine}
+use Rattle.judging_replies.specs.declared.parting.Style.{Style}
+use Rattle.judging_replies.specs.declared.parting.Style.TheVariants.{Tables, Words}
+use Rattle.judging_replies.specs.RunParts.{RunParts, AreParts, LacksPart, tables_line, words_line, line_of, other_style}
+use Rattle.judging_replies.specs.internal.RunView.{IsFirstLine, HasNoMeaning}
 use Rattle.judging_replies.specs.Run.{HasPartFault, RunInput, SpellRunInput, InputOutcome, PartsOutcome, part_refused, spelled, RunOutcome}
 use Rattle.judging_replies.specs.Run.{missing, of_all_parts}
+
+-- ---- the first line of tables or of machine words
+
+pub no_meaning : (text : List ℕ) → HasNoLine text tables_line → HasNoLine text words_line → HasNoMeaning text
+no_meaning text tables words Tables = tables
+no_meaning text tables words Words = words
+
+-- a first line of one style, before which none of the other begins
+pub first_line : (text : List ℕ) (style : Style) (at : ℕ) → IsBetweenFeeds text (line_of style) at →
+    ((other : ℕ) → IsBetweenFeeds text (line_of style) other → at ≤ other) →
+    ((other : ℕ) → IsBetweenFeeds text (line_of (other_style style)) other → at ≤ other) → IsFirstLine text style at
+first_line text style at is first comes_first = record {
+  first = record { is_line = is; first = first };
+  comes_first = comes_first;
+}
+
+-- ---- outcomes
 
 -- what a test of a text without bytes says
 pub not_empty : (xs : List ℕ) (empty : Bool) → empty ≡ (length xs == 0) → empty ≡ false → xs ≡ [] → ⊥

@@ -13,6 +13,10 @@ use Rattle.table_interp.specs.declared.TableError.{TableError}
 use Rattle.table_interp.specs.declared.TableError.TheVariants.{Byte as TableByte, OpenComment as TableComment, Form as TableForm, Domain}
 use Rattle.table_interp.specs.declared.TableError.TheVariants.{Unknown as UnknownEntry, Twice as SecondEntry, Missing as MissingEntry}
 use Rattle.table_interp.specs.declared.TableError.TheVariants.{Entries, Count as EntryCount, Range as EntryRange, NoMemory as NoTableMemory}
+use Rattle.word_interp.specs.declared.WordError.{WordError}
+use Rattle.word_interp.specs.declared.WordError.TheVariants.{Byte as WordByte, OpenComment as WordComment, Form as WordForm, Width}
+use Rattle.word_interp.specs.declared.WordError.TheVariants.{Unknown as UnknownWord, Twice as SecondWord, Missing as MissingWord}
+use Rattle.word_interp.specs.declared.WordError.TheVariants.{Arity as WordArity, Range as WordRange, NoMemory as NoWordMemory}
 use Rattle.table_interp.specs.declared.InputError.{InputError}
 use Rattle.table_interp.specs.declared.InputError.TheVariants.{Byte as InputByte, OpenComment as InputComment, Form as InputForm}
 use Rattle.table_interp.specs.declared.InputError.TheVariants.{Unknown as UnknownInput, Twice as SecondInput, Missing as MissingInput}
@@ -24,10 +28,12 @@ use Rattle.tsl_report.specs.TraceText.{positions_text, loop_text, verdicts_text,
 use Rattle.tool_replies.specs.declared.status.Status.TheVariants.{Done, No}
 use Rattle.tool_replies.specs.declared.reply.Reply.{Reply}
 use Rattle.tool_replies.specs.Replies.{fault_status}
-use Rattle.judging_replies.specs.RunFaults.{IsProgramFault, IsTableFault, IsInputFault}
+use Rattle.judging_replies.specs.RunFaults.{IsProgramFault, IsTableFault, IsWordsFault, IsInputFault}
+use Rattle.judging_replies.specs.declared.parting.Style.{Style}
+use Rattle.judging_replies.specs.declared.parting.Style.TheVariants.{Tables, Words}
 use Rattle.judging_replies.specs.RunParts.{RunParts}
-use Rattle.judging_replies.specs.Run.{RunInput, verdicts_of, verdict_status, signals_reply, most_configurations, HasPartFault, in_spec}
-use Rattle.judging_replies.specs.Run.{in_program, in_tables, in_inputs, InputOutcome, runs_on, other_signals, traced, part_refused, spelled}
+use Rattle.judging_replies.specs.Run.{RunInput, verdicts_of, verdict_status, signals_reply, most_configurations, HasMeaningFault, HasPartFault, in_spec}
+use Rattle.judging_replies.specs.Run.{in_program, in_meaning, in_inputs, InputOutcome, runs_on, other_signals, traced, part_refused, spelled}
 use Rattle.judging_replies.specs.Run.{RunOutcome, missing, of_all_parts}
 use Rattle.tool_replies.proofs.Statuses.{comes_of_bytes, status_of, text_of, refusal_comes, fault_says}
 
@@ -62,6 +68,24 @@ table_fault_comes text names (EntryCount id) fault h = ap (λ f. comes_of_bytes 
 table_fault_comes text names (EntryRange id value) fault h = ap (λ f. comes_of_bytes (fault_status f)) h
 table_fault_comes text names NoTableMemory fault h = absurd h
 
+words_fault_comes : (text : List ℕ) (names : List Name) (error : WordError) (fault : Fault) → IsWordsFault text names error fault →
+    comes_of_bytes (fault_status fault) ≡ true
+words_fault_comes text names (WordByte at) fault h = ap (λ f. comes_of_bytes (fault_status f)) h.2
+words_fault_comes text names (WordComment at) fault h = ap (λ f. comes_of_bytes (fault_status f)) h.2
+words_fault_comes text names (WordForm at) fault h = ap (λ f. comes_of_bytes (fault_status f)) h.2
+words_fault_comes text names Width fault h = ap (λ f. comes_of_bytes (fault_status f)) h
+words_fault_comes text names (UnknownWord start end) fault h = ap (λ f. comes_of_bytes (fault_status f)) h.2
+words_fault_comes text names (SecondWord start end) fault h = ap (λ f. comes_of_bytes (fault_status f)) h.2
+words_fault_comes text names (MissingWord id) fault h = ap (λ f. comes_of_bytes (fault_status f)) h
+words_fault_comes text names (WordArity id) fault h = ap (λ f. comes_of_bytes (fault_status f)) h
+words_fault_comes text names (WordRange id value) fault h = ap (λ f. comes_of_bytes (fault_status f)) h
+words_fault_comes text names NoWordMemory fault h = absurd h
+
+meaning_fault_comes : (style : Style) (text : List ℕ) (names : List Name) (cells : List ℕ) (fault : Fault) →
+    HasMeaningFault style text names cells fault → comes_of_bytes (fault_status fault) ≡ true
+meaning_fault_comes Tables text names cells fault h = table_fault_comes text names h.error fault h.is_fault
+meaning_fault_comes Words text names cells fault h = words_fault_comes text names h.error fault h.is_fault
+
 input_fault_comes : (text : List ℕ) (names : List Name) (error : InputError) (fault : Fault) → IsInputFault text names error fault →
     comes_of_bytes (fault_status fault) ≡ true
 input_fault_comes text names (InputByte at) fault h = ap (λ f. comes_of_bytes (fault_status f)) h.2
@@ -78,9 +102,9 @@ input_fault_comes text names NoInputMemory fault h = absurd h
 part_fault_comes : (parts : RunParts) (fault : Fault) → HasPartFault parts fault → comes_of_bytes (fault_status fault) ≡ true
 part_fault_comes parts fault (in_spec some h) = refusal_comes parts.spec h.error fault h.is_fault
 part_fault_comes parts fault (in_program given error spec cause is_fault) = program_fault_comes parts.program error fault is_fault
-part_fault_comes parts fault (in_tables given names program error spec read cause none is_fault) =
-    table_fault_comes parts.tables names error fault is_fault
-part_fault_comes parts fault (in_inputs given names program interpretation error spec read tables cause none is_fault) =
+part_fault_comes parts fault (in_meaning given names program spec read h) =
+    meaning_fault_comes parts.style parts.meaning names program.cells fault h
+part_fault_comes parts fault (in_inputs given names program interpretation error spec read spells cause none is_fault) =
     input_fault_comes parts.inputs names error fault is_fault
 
 verdicts_come : (verdicts : List Bool) → comes_of_bytes (verdict_status verdicts) ≡ true

@@ -18,22 +18,26 @@ use Rattle.tsl_meaning.specs.RunTree.{RunTree}
 use Rattle.tsl_meaning.specs.RunLasso.{shape_of}
 use Rattle.tsl_meaning.specs.RunOf.{IsRunOf, IsFirstRepetition, AreDifferent}
 use Rattle.program_check.specs.Verdicts.{HasSignals}
-use Rattle.table_interp.specs.declared.TableError.{TableError}
 use Rattle.table_interp.specs.declared.InputError.{InputError}
+use Rattle.table_interp.specs.declared.TableError.{TableError}
 use Rattle.table_interp.specs.Tables.{SpellsTables, HasTableCause, IsRefusedAsTables}
 use Rattle.table_interp.specs.Inputs.{SpellsInputs, HasInputCause, IsRefusedAsInputs}
+use Rattle.word_interp.specs.declared.WordError.{WordError}
+use Rattle.word_interp.specs.Words.{SpellsWords, HasWordsCause, IsRefusedAsWords}
 use Rattle.tsl_report.specs.declared.fault.Head.{Head}
 use Rattle.tsl_report.specs.declared.fault.LimitName.TheVariants.{Run as RunLimit}
 use Rattle.tsl_report.specs.declared.fault.Fault.{Fault}
 use Rattle.tsl_report.specs.declared.fault.Fault.TheVariants.{Parts, Large}
 use Rattle.tsl_report.specs.TraceText.{trace_text}
+use Rattle.judging_replies.specs.declared.parting.Style.{Style}
+use Rattle.judging_replies.specs.declared.parting.Style.TheVariants.{Tables, Words}
 use Rattle.judging_replies.specs.declared.running.TheConstants.{MOST_CONFIGURATIONS}
 use Rattle.tool_replies.specs.declared.status.Status.{Status}
 use Rattle.tool_replies.specs.declared.status.Status.TheVariants.{Done, No}
 use Rattle.tool_replies.specs.declared.reply.Reply.{Reply}
 use Rattle.tool_replies.specs.Refusals.{HasSpecFault}
 use Rattle.tool_replies.specs.Replies.{fault_reply}
-use Rattle.judging_replies.specs.RunFaults.{IsProgramFault, IsTableFault, IsInputFault}
+use Rattle.judging_replies.specs.RunFaults.{IsProgramFault, IsTableFault, IsWordsFault, IsInputFault}
 use Rattle.judging_replies.specs.RunParts.{RunParts, AreParts, LacksPart}
 
 -- ---- what the parts spell
@@ -48,6 +52,11 @@ abbrev pub given_names : Option SpecTree → List Name
 given_names None = []
 given_names (Some spec) = spec.names
 
+-- the text spells the interpretation in this style: by tables, or by operations on machine words
+abbrev pub SpellsMeaning : Style → List ℕ → List Name → List ℕ → Interpretation → Type 0
+SpellsMeaning Tables = SpellsTables
+SpellsMeaning Words = SpellsWords
+
 -- a specification or none, a program over names that begin with those of the specification, an interpretation of all
 -- these names, and rows of inputs
 pub record RunInput : Type 0 where
@@ -60,7 +69,7 @@ pub record RunInput : Type 0 where
 pub record SpellRunInput (parts : RunParts) (input : RunInput) : Type 0 where
   pub spec : SpellsGiven parts.spec input.given
   pub program : IsReading parts.program (given_names input.given) input.program input.names
-  pub tables : SpellsTables parts.tables input.names input.program.cells input.interpretation
+  pub meaning : SpellsMeaning parts.style parts.meaning input.names input.program.cells input.interpretation
   pub inputs : SpellsInputs parts.inputs input.names input.program.inputs input.interpretation.domain input.rows
 
 -- ---- the run and its verdicts
@@ -68,7 +77,7 @@ pub record SpellRunInput (parts : RunParts) (input : RunInput) : Type 0 where
 abbrev pub meanings_of_input : RunInput → Meanings ℕ
 meanings_of_input input = meanings_in input.names input.program input.interpretation
 
--- this is the run of the program over the tables and the inputs that closes at the first configuration that stood before
+-- this is the run of the program under the interpretation and over the inputs that closes at the first configuration that stood before
 pub record IsFirstRun (input : RunInput) (run : RunTree ℕ) : Type 0 where
   pub is_run : IsRunOf (meanings_of_input input) input.program input.rows run
   pub is_first : IsFirstRepetition (meanings_of_input input) input.program input.rows (shape_of run)
@@ -116,18 +125,36 @@ signals_reply = record { status = No; text = codes "refused signals\n" }
 
 -- ---- the reply
 
+-- the text spells no interpretation of the names by tables for a cause, and this is its fault
+pub record HasTablesFault (text : List ℕ) (names : List Name) (cells : List ℕ) (fault : Fault) : Type 0 where
+  pub error : TableError
+  pub cause : HasTableCause text names cells error
+  pub spells_none : IsRefusedAsTables text names cells error
+  pub is_fault : IsTableFault text names error fault
+
+-- nor one by machine words
+pub record HasWordsFault (text : List ℕ) (names : List Name) (cells : List ℕ) (fault : Fault) : Type 0 where
+  pub error : WordError
+  pub cause : HasWordsCause text names cells error
+  pub spells_none : IsRefusedAsWords text names cells error
+  pub is_fault : IsWordsFault text names error fault
+
+-- nor one in this style
+abbrev pub HasMeaningFault : Style → List ℕ → List Name → List ℕ → Fault → Type 0
+HasMeaningFault Tables = HasTablesFault
+HasMeaningFault Words = HasWordsFault
+
 -- a part is refused at a fault, and what comes before it is spelled
 pub data HasPartFault (parts : RunParts) (fault : Fault) : Type 0 where
   in_spec : (parts.spec ≡ [] → ⊥) → HasSpecFault parts.spec fault → HasPartFault parts fault
   in_program : (given : Option SpecTree) (error : ProgramError) → SpellsGiven parts.spec given →
       HasProgramCause parts.program (given_names given) error → IsProgramFault parts.program error fault → HasPartFault parts fault
-  in_tables : (given : Option SpecTree) (names : List Name) (program : ProgramTree) (error : TableError) →
+  in_meaning : (given : Option SpecTree) (names : List Name) (program : ProgramTree) →
       SpellsGiven parts.spec given → IsReading parts.program (given_names given) program names →
-      HasTableCause parts.tables names program.cells error → IsRefusedAsTables parts.tables names program.cells error →
-      IsTableFault parts.tables names error fault → HasPartFault parts fault
+      HasMeaningFault parts.style parts.meaning names program.cells fault → HasPartFault parts fault
   in_inputs : (given : Option SpecTree) (names : List Name) (program : ProgramTree) (interpretation : Interpretation)
       (error : InputError) → SpellsGiven parts.spec given → IsReading parts.program (given_names given) program names →
-      SpellsTables parts.tables names program.cells interpretation →
+      SpellsMeaning parts.style parts.meaning names program.cells interpretation →
       HasInputCause parts.inputs names program.inputs interpretation.domain error →
       IsRefusedAsInputs parts.inputs names program.inputs interpretation.domain error →
       IsInputFault parts.inputs names error fault → HasPartFault parts fault
@@ -141,7 +168,7 @@ pub record Closes (input : RunInput) (run : RunTree ℕ) : Type 0 where
   pub is_first : IsFirstRun input run
   pub within : run.start + run.length ≤ most_configurations
 
--- The reply to a program with its tables and inputs. Whether the run closes is asked before the signals are compared.
+-- The reply to a program with its interpretation and inputs. Whether the run closes is asked before the signals are compared.
 pub data InputOutcome (input : RunInput) (reply : Reply) : Type 0 where
   -- more configurations than the limit are all different
   runs_on : AreDifferent (meanings_of_input input) input.program input.rows (most_configurations + 1) →
@@ -156,7 +183,7 @@ pub data InputOutcome (input : RunInput) (reply : Reply) : Type 0 where
 pub data PartsOutcome (parts : RunParts) (reply : Reply) : Type 0 where
   -- a part is refused at a fault
   part_refused : (fault : Fault) → HasPartFault parts fault → reply ≡ fault_reply fault → PartsOutcome parts reply
-  -- the parts spell a program with its tables and inputs
+  -- the parts spell a program with its interpretation and inputs
   spelled : (input : RunInput) → SpellRunInput parts input → InputOutcome input reply → PartsOutcome parts reply
 
 pub data RunOutcome (bytes : List ℕ) (reply : Reply) : Type 0 where

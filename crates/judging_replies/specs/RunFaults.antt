@@ -1,4 +1,4 @@
--- The fault that is answered where a text is refused as a program, as tables or as inputs.
+-- The fault that is answered where a text is refused as a program, as tables, as machine words or as inputs.
 use Rattle.std.specs.Prelude.{◌≡◌, ℕ, List}
 use Rattle.tsl_text.specs.declared.places.Place.{Place}
 use Rattle.tsl_terms.specs.Name.{Name}
@@ -17,16 +17,21 @@ use Rattle.table_interp.specs.declared.InputError.{InputError}
 use Rattle.table_interp.specs.declared.InputError.TheVariants.{Byte as InputByte, OpenComment as InputComment, Form as InputForm}
 use Rattle.table_interp.specs.declared.InputError.TheVariants.{Unknown as UnknownInput, Twice as SecondInput, Missing as MissingInput}
 use Rattle.table_interp.specs.declared.InputError.TheVariants.{Rows, Count as RowWidth, Range as RowValue, NoMemory as NoInputMemory}
-use Rattle.tsl_report.specs.declared.fault.TokenPart.TheVariants.{Tables, Inputs}
-use Rattle.tsl_report.specs.declared.fault.DataPart.TheVariants.{Tables as TableData, Inputs as InputData}
+use Rattle.word_interp.specs.declared.TheConstants.{MOST_BITS}
+use Rattle.word_interp.specs.declared.WordError.{WordError}
+use Rattle.word_interp.specs.declared.WordError.TheVariants.{Byte as WordByte, OpenComment as WordComment, Form as WordForm, Width}
+use Rattle.word_interp.specs.declared.WordError.TheVariants.{Unknown as UnknownWord, Twice as SecondWord, Missing as MissingWord}
+use Rattle.word_interp.specs.declared.WordError.TheVariants.{Arity as WordArity, Range as WordRange, NoMemory as NoWordMemory}
+use Rattle.tsl_report.specs.declared.fault.TokenPart.TheVariants.{Tables, Words, Inputs}
+use Rattle.tsl_report.specs.declared.fault.DataPart.TheVariants.{Tables as TableData, Words as WordData, Inputs as InputData}
 use Rattle.tsl_report.specs.declared.fault.ProgramRule.TheVariants.{Form as LineForm, Order as LineOrder, Target as LineTarget}
 use Rattle.tsl_report.specs.declared.fault.ProgramRule.TheVariants.{Updates as LineUpdates, Window as LineWindow}
 use Rattle.tsl_report.specs.declared.fault.ProgramRule.TheVariants.{Unknown as LineUnknown, Kind as LineKind, Arity as LineArity}
 use Rattle.tsl_report.specs.declared.fault.LimitName.TheVariants.{Windows as WindowLimit, ProgramNodes, ProgramStates}
-use Rattle.tsl_report.specs.declared.fault.LimitName.TheVariants.{Domain as DomainLimit, Entries as EntryLimit, Rows as RowLimit}
+use Rattle.tsl_report.specs.declared.fault.LimitName.TheVariants.{Domain as DomainLimit, Width as WidthLimit, Entries as EntryLimit, Rows as RowLimit}
 use Rattle.tsl_report.specs.declared.fault.Fault.{Fault}
 use Rattle.tsl_report.specs.declared.fault.Fault.TheVariants.{Byte, Comment, Form as FormFault, Unknown as UnknownName, Twice as SecondName}
-use Rattle.tsl_report.specs.declared.fault.Fault.TheVariants.{Missing as MissingName, TableCount, TableRange, RowCount, RowRange, Program}
+use Rattle.tsl_report.specs.declared.fault.Fault.TheVariants.{Missing as MissingName, TableCount, TableRange, WordsArity, WordsRange, RowCount, RowRange, Program}
 use Rattle.tsl_report.specs.declared.fault.Fault.TheVariants.{Large}
 use Rattle.tool_replies.specs.Refusals.{IsPlaceOf, name_between}
 
@@ -64,6 +69,21 @@ IsTableFault text names (Entries id) fault = fault ≡ Large EntryLimit MOST_ENT
 IsTableFault text names (EntryCount id) fault = fault ≡ TableCount (name_text names id)
 IsTableFault text names (EntryRange id value) fault = fault ≡ TableRange (name_text names id) value
 IsTableFault text names NoTableMemory fault = ⊥
+
+-- of machine words over these names, likewise
+abbrev pub IsWordsFault : List ℕ → List Name → WordError → Fault → Type 0
+IsWordsFault text names (WordByte at) fault = (place : Place) × IsPlaceOf text at place × (fault ≡ Byte Words place)
+IsWordsFault text names (WordComment at) fault = (place : Place) × IsPlaceOf text at place × (fault ≡ Comment Words place)
+IsWordsFault text names (WordForm at) fault = (place : Place) × IsPlaceOf text at place × (fault ≡ FormFault Words place)
+IsWordsFault text names Width fault = fault ≡ Large WidthLimit MOST_BITS
+IsWordsFault text names (UnknownWord start end) fault =
+    (place : Place) × IsPlaceOf text start place × (fault ≡ UnknownName WordData place (name_between text start end))
+IsWordsFault text names (SecondWord start end) fault =
+    (place : Place) × IsPlaceOf text start place × (fault ≡ SecondName WordData place (name_between text start end))
+IsWordsFault text names (MissingWord id) fault = fault ≡ MissingName WordData (name_text names id)
+IsWordsFault text names (WordArity id) fault = fault ≡ WordsArity (name_text names id)
+IsWordsFault text names (WordRange id value) fault = fault ≡ WordsRange (name_text names id) value
+IsWordsFault text names NoWordMemory fault = ⊥
 
 -- of inputs over these names, likewise; rows are told by their numbers
 abbrev pub IsInputFault : List ℕ → List Name → InputError → Fault → Type 0

@@ -1,9 +1,9 @@
-//! The fault of each refusal of a program, of tables and of inputs.
+//! The fault of each refusal of a program, of tables, of machine words and of inputs.
 
 ghost use Rattle.std.specs.Prelude.{◌≡◌, ◌-◌, ◌<◌, ◌≤◌, ◌^◌, length, IfOk};
 ghost use Rattle.term_text.specs.TermText.{name_text};
-ghost use Rattle.judging_replies.specs.RunFaults.{name_in_text, IsProgramFault, IsTableFault, IsInputFault};
-ghost use Rattle.judging_replies.specs.internal.RunFaultPlaces.{ProgramStandsIn, TableStandsIn, InputStandsIn};
+ghost use Rattle.judging_replies.specs.RunFaults.{name_in_text, IsProgramFault, IsTableFault, IsWordsFault, IsInputFault};
+ghost use Rattle.judging_replies.specs.internal.RunFaultPlaces.{ProgramStandsIn, TableStandsIn, WordStandsIn, InputStandsIn};
 
 use flow_program::{MOST_NODES, MOST_STATES, MOST_WINDOWS, Name, ProgramError};
 use sequence::{NoMemory, Sequence};
@@ -12,6 +12,7 @@ use table_interp::{InputError, MOST_ENTRIES, MOST_ROWS, MOST_VALUES, TableError}
 use tool_replies::{name_between, place_in};
 use tsl_report::{DataPart, Fault, LimitName, ProgramRule, TokenPart};
 use tsl_terms::Names;
+use word_interp::{MOST_BITS, WordError};
 
 /// The fault of a refusal of this text as a program. An `Err` says that memory ran out, here or at
 /// the reading.
@@ -104,6 +105,42 @@ fn name_of(alloc: Global, names: &Names, id: u32) -> Result<Sequence<u8>, NoMemo
 {
     let name = Vec::from_slice(alloc, names.text(id))?;
     Ok(Sequence::from_vec(name))
+}
+
+/// The fault of a refusal of this text as machine words over these names. An `Err` says that memory ran
+/// out, here or at the reading.
+pub(crate) fn fault_of_words(
+    alloc: Global,
+    text: &[u8],
+    names: &Names,
+    error: &WordError,
+) -> Result<Fault, NoMemory>
+    requires short { length text.now < 2 ^ 32 - 1 }
+    requires stands { WordStandsIn text.now names.now error.now }
+    ensures { IfOk result (λ fault. IsWordsFault text.now names.now error.now fault) }
+{
+    match error {
+        WordError::Byte(at) => Ok(Fault::Byte(TokenPart::Words, place_in(text, *at))),
+        WordError::OpenComment(at) => Ok(Fault::Comment(TokenPart::Words, place_in(text, *at))),
+        WordError::Form(at) => Ok(Fault::Form(TokenPart::Words, place_in(text, *at))),
+        WordError::Width => Ok(Fault::Large(LimitName::Width, MOST_BITS)),
+        WordError::Unknown(start, end) => Ok(Fault::Unknown(
+            DataPart::Words,
+            place_in(text, *start),
+            name_between(alloc, text, *start, *end)?,
+        )),
+        WordError::Twice(start, end) => Ok(Fault::Twice(
+            DataPart::Words,
+            place_in(text, *start),
+            name_between(alloc, text, *start, *end)?,
+        )),
+        WordError::Missing(id) => Ok(Fault::Missing(DataPart::Words, name_of(alloc, names, *id)?)),
+        WordError::Arity(id) => Ok(Fault::WordsArity(name_of(alloc, names, *id)?)),
+        WordError::Range(id, value) => {
+            Ok(Fault::WordsRange(name_of(alloc, names, *id)?, *value))
+        }
+        WordError::NoMemory => Err(NoMemory),
+    }
 }
 
 /// The fault of a refusal of this text as inputs over these names. An `Err` says that memory ran

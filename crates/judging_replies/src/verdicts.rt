@@ -9,19 +9,18 @@ ghost use Rattle.program_tree.specs.ProgramView.{program_tree};
 ghost use Rattle.tsl_meaning.specs.Lasso.{meets};
 ghost use Rattle.tsl_meaning.specs.RunTree.{run_tree};
 ghost use Rattle.tsl_meaning.specs.RunLasso.{run_lasso, IsJudged};
-ghost use Rattle.table_interp.specs.Meaning.{meanings_of};
 ghost use Rattle.tsl_report.specs.TraceText.{RunIsHeld};
 ghost use Rattle.program_check.specs.Verdicts.{HasSignals};
 ghost use Rattle.judging_replies.specs.Run.{HasGivenSignals, formulas_to_judge, given_formulas, signals_reply, trace_reply};
 ghost use Rattle.judging_replies.specs.Run.{verdict_status};
-ghost use Rattle.judging_replies.specs.internal.RunView.{given_spec, verdict_in, verdicts_in};
+ghost use Rattle.judging_replies.specs.internal.RunView.{given_spec, meanings_read, verdict_in, verdicts_in};
 
+use crate::meaning::Meaning;
 use program_tree::Program;
 use sequence::NoMemory;
 use std::alloc::Global;
-use table_interp::Tables;
 use tool_replies::{Reply, Status};
-use tsl_meaning::{LoopRun, judge};
+use tsl_meaning::LoopRun;
 use tsl_report::trace_text;
 use tsl_terms::{Names, Spec, Window, signals, whole, window_formula};
 
@@ -69,18 +68,18 @@ pub(crate) fn trace_reply(
     spec: Option<&Spec>,
     program: &Program,
     names: &Names,
-    tables: &Tables,
+    meaning: &Meaning,
     run: &LoopRun<u32>,
 ) -> Result<Reply, NoMemory>
     requires held { RunIsHeld names.now (run_tree (λ v. v) run.now) }
-    requires judged { AllByRecursion (IsJudged (meanings_of tables.now) (run_tree (λ v. v) run.now))
+    requires judged { AllByRecursion (IsJudged (meanings_read meaning.now) (run_tree (λ v. v) run.now))
         (formulas_to_judge (program_tree program.now) (given_spec spec)) }
     ensures { IfOk result (λ reply.
         reply ≡ trace_reply names.now (run_tree (λ v. v) run.now) (is_some (given_spec spec.entry))
-        (verdicts_in (meanings_of tables.now) (run_tree (λ v. v) run.now)
+        (verdicts_in (meanings_read meaning.now) (run_tree (λ v. v) run.now)
         (formulas_to_judge (program_tree program.now) (given_spec spec.entry)))) }
 {
-    let verdicts = verdicts_on(alloc, spec, program, tables, run)?;
+    let verdicts = verdicts_on(alloc, spec, program, meaning, run)?;
     let text = trace_text(alloc, names, run, &verdicts, spec.is_some())?;
     Ok(Reply::new(status_of(&verdicts), text))
 }
@@ -90,18 +89,18 @@ fn verdicts_on(
     alloc: Global,
     spec: Option<&Spec>,
     program: &Program,
-    tables: &Tables,
+    meaning: &Meaning,
     run: &LoopRun<u32>,
 ) -> Result<Vec<bool>, NoMemory>
-    requires { AllByRecursion (IsJudged (meanings_of tables.now) (run_tree (λ v. v) run.now))
+    requires { AllByRecursion (IsJudged (meanings_read meaning.now) (run_tree (λ v. v) run.now))
         (formulas_to_judge (program_tree program.now) (given_spec spec)) }
     ensures { IfOk result (λ verdicts. verdicts.items
-        ≡ verdicts_in (meanings_of tables.now) (run_tree (λ v. v) run.now)
+        ≡ verdicts_in (meanings_read meaning.now) (run_tree (λ v. v) run.now)
         (formulas_to_judge (program_tree program.now) (given_spec spec.entry))) }
 {
-    let mut verdicts = window_verdicts(alloc, program.windows.as_slice(), tables, run)?;
+    let mut verdicts = window_verdicts(alloc, program.windows.as_slice(), meaning, run)?;
     if let Some(spec) = spec {
-        verdicts.push(spec_verdict(alloc, spec, tables, run)?)?;
+        verdicts.push(spec_verdict(alloc, spec, meaning, run)?)?;
     }
     Ok(verdicts)
 }
@@ -110,18 +109,18 @@ fn verdicts_on(
 fn window_verdicts(
     alloc: Global,
     windows: &[Window],
-    tables: &Tables,
+    meaning: &Meaning,
     run: &LoopRun<u32>,
 ) -> Result<Vec<bool>, NoMemory>
-    requires { AllByRecursion (IsJudged (meanings_of tables.now) (run_tree (λ v. v) run.now))
+    requires { AllByRecursion (IsJudged (meanings_read meaning.now) (run_tree (λ v. v) run.now))
         (map window_formula_of (map window_tree windows.now)) }
     ensures { IfOk result (λ verdicts. verdicts.items
-        ≡ verdicts_in (meanings_of tables.now)
+        ≡ verdicts_in (meanings_read meaning.now)
         (run_tree (λ v. v) run.now) (map window_formula_of (map window_tree windows.now))) }
 {
     let mut verdicts = Vec::new(alloc);
     for window in windows {
-        verdicts.push(window_verdict(alloc, window, tables, run)?)?;
+        verdicts.push(window_verdict(alloc, window, meaning, run)?)?;
     }
     Ok(verdicts)
 }
@@ -130,34 +129,34 @@ fn window_verdicts(
 fn window_verdict(
     alloc: Global,
     window: &Window,
-    tables: &Tables,
+    meaning: &Meaning,
     run: &LoopRun<u32>,
 ) -> Result<bool, NoMemory>
-    requires { IsJudged (meanings_of tables.now)
+    requires { IsJudged (meanings_read meaning.now)
         (run_tree (λ v. v) run.now) (window_formula_of (window_tree window.now)) }
     ensures { IfOk result (λ holds. holds
-        ≡ verdict_in (meanings_of tables.now)
+        ≡ verdict_in (meanings_read meaning.now)
         (run_tree (λ v. v) run.now) (window_formula_of (window_tree window.now))) }
 {
     let formula = window_formula(alloc, window)?;
-    judge(alloc, tables, run, &formula)
+    meaning.judge(alloc, run, &formula)
 }
 
 /// Whether the whole formula of a specification holds in the run.
 fn spec_verdict(
     alloc: Global,
     spec: &Spec,
-    tables: &Tables,
+    meaning: &Meaning,
     run: &LoopRun<u32>,
 ) -> Result<bool, NoMemory>
     requires { IsJudged
-        (meanings_of tables.now) (run_tree (λ v. v) run.now) (whole_formula (spec_tree spec.now)) }
+        (meanings_read meaning.now) (run_tree (λ v. v) run.now) (whole_formula (spec_tree spec.now)) }
     ensures { IfOk result (λ holds. holds
         ≡ verdict_in
-        (meanings_of tables.now) (run_tree (λ v. v) run.now) (whole_formula (spec_tree spec.now))) }
+        (meanings_read meaning.now) (run_tree (λ v. v) run.now) (whole_formula (spec_tree spec.now))) }
 {
     let formula = whole(alloc, spec)?;
-    judge(alloc, tables, run, &formula)
+    meaning.judge(alloc, run, &formula)
 }
 
 /// The status of verdicts: yes where all of them hold.

@@ -12,6 +12,8 @@ mod failing_tests;
 #[cfg(test)]
 mod gen_tests;
 #[cfg(test)]
+mod machine_word_tests;
+#[cfg(test)]
 mod run_tests;
 #[cfg(test)]
 mod search_tests;

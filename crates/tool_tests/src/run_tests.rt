@@ -103,6 +103,14 @@ const RUNS: &[Input] = &[
         says: b"at 0 place 0 state 0 x 1 y 0 do [y <- y]\nloop 0 1\nwindow 0 fails\n",
         ..WHOLE
     },
+    // Equality of two arguments has no table, and is true of the same values.
+    Input {
+        spec: b"guarantee { !eq x y; X eq x y; [y <- x]; }\n",
+        program: SIMPLE,
+        tables: SIMPLE_TABLES,
+        says: b"at 0 place 0 state 0 x 1 y 0 do [y <- x]\nat 1 place 0 state 0 x 1 y 1 do [y <- x]\nloop 1 1\nformula holds\n",
+        ..WHOLE
+    },
     // The program has an output that the specification has not.
     Input {
         program: b"tslprogram 1\ninput x\ncell y\noutput q\nnode 0 set [y <- y] [q <- x] go 0\nstate 0 at 0\nend\n",
@@ -208,6 +216,14 @@ const REFUSED: &[Input] = &[
         tables: b"tsltables 1\ndomain 2\npred p 0 1\nfunc g 0 1\ncell y 0\n",
         status: Status::Reading,
         says: b"fault tables 4:6 unknown g\n",
+        ..WHOLE
+    },
+    Input {
+        spec: b"guarantee { eq x y; [y <- x]; }\n",
+        program: SIMPLE,
+        tables: b"tsltables 1\ndomain 2\npred eq 1 0 0 1\ncell y 0\n",
+        status: Status::Reading,
+        says: b"fault tables 3:6 unknown eq\n",
         ..WHOLE
     },
     Input {

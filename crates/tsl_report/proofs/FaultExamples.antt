@@ -5,8 +5,8 @@ use Rattle.tsl_report.specs.declared.fault.Head.TheVariants.{Tables as TablesHea
 use Rattle.tsl_report.specs.declared.fault.TokenPart.TheVariants.{Spec}
 use Rattle.tsl_report.specs.declared.fault.DataPart.TheVariants.{Inputs}
 use Rattle.tsl_report.specs.declared.fault.ProgramRule.TheVariants.{Order}
-use Rattle.tsl_report.specs.declared.fault.LimitName.TheVariants.{Text, Run}
-use Rattle.tsl_report.specs.declared.fault.Fault.TheVariants.{Parts, Byte, Deep, Arity, Twice, TableRange, Program, CnfForm, Large}
+use Rattle.tsl_report.specs.declared.fault.LimitName.TheVariants.{Text, Run, Width}
+use Rattle.tsl_report.specs.declared.fault.Fault.TheVariants.{Parts, Byte, Deep, Arity, Twice, TableRange, WordsArity, Program, CnfForm, Large}
 use Rattle.tsl_report.specs.FaultText.{fault_text}
 
 missing_line : fault_text (Parts Lrat) ≡ codes "fault parts lrat\n"
@@ -42,6 +42,13 @@ second_input = refl
 large_entry : fault_text (TableRange (codes "p") 2) ≡ codes "fault tables range p 2\n"
 unfolding digits
 large_entry = refl
+
+other_operation : fault_text (WordsArity (codes "f")) ≡ codes "fault words arity f\n"
+other_operation = refl
+
+wide_words : fault_text (Large Width 16) ≡ codes "large width 16\n"
+unfolding digits
+wide_words = refl
 
 wrong_order : fault_text (Program 5 Order) ≡ codes "fault program 5 order\n"
 unfolding digits

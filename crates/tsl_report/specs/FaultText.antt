@@ -4,19 +4,19 @@ use Rattle.tsl_text.specs.declared.places.Place.{Place}
 use Rattle.tsl_report.specs.declared.fault.Head.{Head}
 use Rattle.tsl_report.specs.declared.fault.Head.TheVariants.{Program as ProgramHead, Tables as TablesHead, Inputs as InputsHead, Lrat, Letters}
 use Rattle.tsl_report.specs.declared.fault.TokenPart.{TokenPart}
-use Rattle.tsl_report.specs.declared.fault.TokenPart.TheVariants.{Spec, Tables as TablesTokens, Inputs as InputsTokens}
+use Rattle.tsl_report.specs.declared.fault.TokenPart.TheVariants.{Spec, Tables as TablesTokens, Words as WordsTokens, Inputs as InputsTokens}
 use Rattle.tsl_report.specs.declared.fault.DataPart.{DataPart}
-use Rattle.tsl_report.specs.declared.fault.DataPart.TheVariants.{Tables, Inputs}
+use Rattle.tsl_report.specs.declared.fault.DataPart.TheVariants.{Tables, Words, Inputs}
 use Rattle.tsl_report.specs.declared.fault.ProgramRule.{ProgramRule}
 use Rattle.tsl_report.specs.declared.fault.ProgramRule.TheVariants.{Form as LineForm, Order, Target, Updates, Window}
 use Rattle.tsl_report.specs.declared.fault.ProgramRule.TheVariants.{Unknown as UnknownSignal, Kind as OtherKind, Arity as OtherArity}
 use Rattle.tsl_report.specs.declared.fault.LimitName.{LimitName}
-use Rattle.tsl_report.specs.declared.fault.LimitName.TheVariants.{Text, Nodes, Clauses, Run, Domain, Entries, Rows}
+use Rattle.tsl_report.specs.declared.fault.LimitName.TheVariants.{Text, Nodes, Clauses, Run, Domain, Width, Entries, Rows}
 use Rattle.tsl_report.specs.declared.fault.LimitName.TheVariants.{Windows, ProgramNodes, ProgramStates, Variables}
 use Rattle.tsl_report.specs.declared.fault.LimitName.TheVariants.{Predicates, Bits, Choices, States, Edges, Vectors, Branches}
 use Rattle.tsl_report.specs.declared.fault.Fault.{Fault}
 use Rattle.tsl_report.specs.declared.fault.Fault.TheVariants.{Usage, Read, Parts, Byte, Comment, Form, Deep, Kind, Arity, Unknown, Twice}
-use Rattle.tsl_report.specs.declared.fault.Fault.TheVariants.{Missing, TableCount, TableRange, RowCount, RowRange, Program}
+use Rattle.tsl_report.specs.declared.fault.Fault.TheVariants.{Missing, TableCount, TableRange, WordsArity, WordsRange, RowCount, RowRange, Program}
 use Rattle.tsl_report.specs.declared.fault.Fault.TheVariants.{CnfForm, LogForm, AutomatonForm, LettersForm, Large}
 
 -- line and column, as `3:7`
@@ -35,11 +35,13 @@ head_text Letters = codes "letters"
 abbrev pub part_text : TokenPart → List ℕ
 part_text Spec = codes "spec"
 part_text TablesTokens = codes "tables"
+part_text WordsTokens = codes "words"
 part_text InputsTokens = codes "inputs"
 
 -- the name of a part that gives values to names
 abbrev pub data_text : DataPart → List ℕ
 data_text Tables = codes "tables"
+data_text Words = codes "words"
 data_text Inputs = codes "inputs"
 
 -- the word for a rule of programs, and the name that it speaks of
@@ -59,6 +61,7 @@ limit_text Nodes = codes "nodes"
 limit_text Clauses = codes "clauses"
 limit_text Run = codes "run"
 limit_text Domain = codes "domain"
+limit_text Width = codes "width"
 limit_text Entries = codes "entries"
 limit_text Rows = codes "rows"
 limit_text Windows = codes "windows"
@@ -85,6 +88,10 @@ token_fault part = place_fault (part_text part)
 abbrev pub name_fault : DataPart → Place → List ℕ → List ℕ
 name_fault part = place_fault (data_text part)
 
+-- a number that such a part gives for a name, and that is too large
+abbrev pub range_fault : DataPart → List ℕ → ℕ → List ℕ
+range_fault part name value = codes "fault " ++ data_text part ++ codes " range " ++ name ++ codes " " ++ decimal value
+
 -- the line without its line feed
 abbrev pub fault_line : Fault → List ℕ
 fault_line Usage = codes "usage: tsl synth|check|run|prove|recheck|gen|circuit|automaton|accepts"
@@ -100,7 +107,9 @@ fault_line (Unknown part place name) = name_fault part place (codes "unknown " +
 fault_line (Twice part place name) = name_fault part place (codes "twice " ++ name)
 fault_line (Missing part name) = codes "fault " ++ data_text part ++ codes " missing " ++ name
 fault_line (TableCount name) = codes "fault tables count " ++ name
-fault_line (TableRange name value) = codes "fault tables range " ++ name ++ codes " " ++ decimal value
+fault_line (TableRange name value) = range_fault Tables name value
+fault_line (WordsArity name) = codes "fault words arity " ++ name
+fault_line (WordsRange name value) = range_fault Words name value
 fault_line (RowCount row) = codes "fault inputs count " ++ decimal row
 fault_line (RowRange row value) = codes "fault inputs range " ++ decimal row ++ codes " " ++ decimal value
 fault_line (Program line rule) = codes "fault program " ++ decimal line ++ codes " " ++ rule_text rule

@@ -2,7 +2,7 @@
 
 ghost use Rattle.std.specs.Prelude.{◌≡◌, ◌++◌, OnOk, IfOk, codes, decimal};
 ghost use Rattle.tsl_report.specs.FaultText.{fault_text, fault_line, place_text, place_fault, token_fault, name_fault, part_text};
-ghost use Rattle.tsl_report.specs.FaultText.{data_text, head_text, rule_text, limit_text};
+ghost use Rattle.tsl_report.specs.FaultText.{range_fault, data_text, head_text, rule_text, limit_text};
 
 use sequence::{NoMemory, Sequence};
 use std::alloc::Global;
@@ -13,7 +13,7 @@ use tsl_text::{Place, put_bytes, put_number};
 pub enum Head {
     /// The first line of a program.
     Program,
-    /// The first line of tables.
+    /// The first line of tables, or of machine words.
     Tables,
     /// The first line of inputs.
     Inputs,
@@ -30,6 +30,8 @@ pub enum TokenPart {
     Spec,
     /// The tables of functions and predicates, and what cells hold at first.
     Tables,
+    /// The operations of functions and predicates on machine words, and what cells hold at first.
+    Words,
     /// The rows of inputs.
     Inputs,
 }
@@ -39,6 +41,8 @@ pub enum TokenPart {
 pub enum DataPart {
     /// The tables of functions and predicates, and what cells hold at first.
     Tables,
+    /// The operations of functions and predicates on machine words, and what cells hold at first.
+    Words,
     /// The rows of inputs.
     Inputs,
 }
@@ -77,6 +81,8 @@ pub enum LimitName {
     Run,
     /// The values of tables.
     Domain,
+    /// The bits of machine words.
+    Width,
     /// The entries of one table.
     Entries,
     /// The rows of inputs.
@@ -136,6 +142,10 @@ pub enum Fault {
     TableCount(Sequence<u8>),
     /// The table of this name has this entry, which is too large.
     TableRange(Sequence<u8>, u64),
+    /// The operation of this name on machine words has another number of arguments.
+    WordsArity(Sequence<u8>),
+    /// The entry of this name on machine words has this number, which is no word.
+    WordsRange(Sequence<u8>, u64),
     /// The row of this number, from 0, has not one value for each input.
     RowCount(u32),
     /// The row of this number, from 0, has this value, which is too large.
@@ -193,7 +203,9 @@ fn put_fault(out: &mut Vec<u8>, fault: &Fault) -> Result<(), NoMemory>
         }
         Fault::Missing(part, name) => put_missing_name(out, *part, name.as_slice()),
         Fault::TableCount(name) => put_table_count(out, name.as_slice()),
-        Fault::TableRange(name, value) => put_table_range(out, name.as_slice(), *value),
+        Fault::TableRange(name, value) => put_range(out, DataPart::Tables, name.as_slice(), *value),
+        Fault::WordsArity(name) => put_words_arity(out, name.as_slice()),
+        Fault::WordsRange(name, value) => put_range(out, DataPart::Words, name.as_slice(), *value),
         Fault::RowCount(row) => put_row_count(out, *row),
         Fault::RowRange(row, value) => put_row_range(out, *row, *value),
         Fault::Program(line, rule) => put_program_fault(out, *line, rule),
@@ -282,12 +294,22 @@ fn put_table_count(out: &mut Vec<u8>, name: &[u8]) -> Result<(), NoMemory>
     put_bytes(out, name)
 }
 
-/// Appends that an entry of a table is too large.
-fn put_table_range(out: &mut Vec<u8>, name: &[u8], value: u64) -> Result<(), NoMemory>
-    ensures { OnOk result (out.new.items
-        ≡ out.old.items ++ codes "fault tables range " ++ name.now ++ codes " " ++ decimal value) }
+/// Appends that an operation on machine words has another number of arguments than its name.
+fn put_words_arity(out: &mut Vec<u8>, name: &[u8]) -> Result<(), NoMemory>
+    ensures { OnOk result
+        (out.new.items ≡ out.old.items ++ codes "fault words arity " ++ name.now) }
 {
-    put_bytes(out, b"fault tables range ")?;
+    put_bytes(out, b"fault words arity ")?;
+    put_bytes(out, name)
+}
+
+/// Appends that a number is too large which a part gives for a name.
+fn put_range(out: &mut Vec<u8>, part: DataPart, name: &[u8], value: u64) -> Result<(), NoMemory>
+    ensures { OnOk result (out.new.items ≡ out.old.items ++ range_fault part name.now value) }
+{
+    put_bytes(out, b"fault ")?;
+    put_bytes(out, data_text(part))?;
+    put_bytes(out, b" range ")?;
     put_bytes(out, name)?;
     put_bytes(out, b" ")?;
     put_number(out, value)
@@ -398,6 +420,7 @@ fn part_text(part: TokenPart) -> &'static [u8]
     match part {
         TokenPart::Spec => b"spec",
         TokenPart::Tables => b"tables",
+        TokenPart::Words => b"words",
         TokenPart::Inputs => b"inputs",
     }
 }
@@ -408,6 +431,7 @@ fn data_text(part: DataPart) -> &'static [u8]
 {
     match part {
         DataPart::Tables => b"tables",
+        DataPart::Words => b"words",
         DataPart::Inputs => b"inputs",
     }
 }
@@ -422,6 +446,7 @@ fn limit_text(name: LimitName) -> &'static [u8]
         LimitName::Clauses => b"clauses",
         LimitName::Run => b"run",
         LimitName::Domain => b"domain",
+        LimitName::Width => b"width",
         LimitName::Entries => b"entries",
         LimitName::Rows => b"rows",
         LimitName::Windows => b"windows",

@@ -218,6 +218,24 @@ causes words source out err result (out_of_memory is same_out same_err) = record
   memory = λ e. (same_out, same_err);
 }
 
+-- what went to the first sink was handed on
+pub out_handed_on : (reply : Reply) (sink : Effect) (result : Status) (out err : Type 0) → is_answer reply.status ≡ true →
+    IsSent reply sink result → (result ≢ WriteFault → out) → HandedOn result out err
+out_handed_on reply sink result out err answer (sent_whole is whole) flushed = by result (ap is_answer is ∙ answer) flushed
+  where
+    by : (status : Status) → is_answer status ≡ true → (status ≢ WriteFault → out) → HandedOn status out err
+    by Done h f = f (λ e. cc)
+    by No h f = f (λ e. cc)
+    by Spent h f = f (λ e. cc)
+    by Usage h f = cc
+    by Reading h f = cc
+    by Large h f = cc
+    by ReadFault h f = cc
+    by WriteFault h f = tt
+    by Memory h f = tt
+out_handed_on reply sink result out err answer (sent_in_part is part) flushed =
+    subst (λ (status : Status). HandedOn status out err) (sym is) tt
+
 -- what went to the second sink was handed on
 pub err_handed_on : (reply : Reply) (sink : Effect) (result : Status) (out err : Type 0) → is_answer reply.status ≡ false →
     IsSent reply sink result → (result ≢ WriteFault → err) → HandedOn result out err

@@ -15,7 +15,6 @@ use Rattle.tsl_meaning.specs.RunOf.{AreDifferent}
 use Rattle.tsl_terms.specs.Name.{Name}
 use Rattle.tsl_terms.specs.SpecTree.{SpecTree}
 use Rattle.tsl_reader.proofs.Causes.{one_spec}
-use Rattle.table_interp.specs.Tables.{SpellsTables}
 use Rattle.table_interp.specs.Inputs.{SpellsInputs}
 use Rattle.tsl_report.specs.declared.fault.Head.{Head}
 use Rattle.tsl_report.specs.declared.fault.Fault.{Fault}
@@ -28,13 +27,14 @@ use Rattle.tool_replies.specs.HeadLines.{IsCutBefore}
 use Rattle.judging_replies.specs.Recheck.{RecheckOutcome, without_log, of_parts, head_line, verdict, FormulaAndLog, OfParts, refusal_of}
 use Rattle.judging_replies.specs.Recheck.{recheck_reply}
 use Rattle.tool_replies.specs.Refusals.{HasSpecFault}
-use Rattle.judging_replies.specs.Run.{SpellsGiven, given_names, RunInput, SpellRunInput, HasPartFault, in_spec, in_program, in_tables, in_inputs}
+use Rattle.judging_replies.specs.Run.{SpellsGiven, SpellsMeaning, given_names, RunInput, SpellRunInput, HasPartFault, in_spec}
+use Rattle.judging_replies.specs.Run.{in_program, in_meaning, in_inputs}
 use Rattle.judging_replies.specs.Run.{InputOutcome, runs_on, other_signals, traced, PartsOutcome, part_refused, spelled, RunOutcome, missing}
 use Rattle.judging_replies.specs.Run.{of_all_parts, meanings_of_input, most_configurations, verdict_status, verdicts_of}
-use Rattle.judging_replies.specs.RunParts.{RunParts, AreParts, LacksPart, lacks_program, lacks_tables, lacks_inputs}
-use Rattle.judging_replies.specs.RunParts.{program_line, tables_line, inputs_line}
-use Rattle.judging_replies.proofs.OneInput.{one_place, one_after, one_division, one_run_division, one_check_input, one_given, one_program_read}
-use Rattle.judging_replies.proofs.OneInput.{ReadOnce, one_run_input, program_not_refused, tables_not_refused, inputs_not_refused}
+use Rattle.judging_replies.specs.RunParts.{RunParts, AreParts, IsCutByStyle, LacksPart, lacks_program, lacks_meaning, lacks_inputs}
+use Rattle.judging_replies.specs.RunParts.{program_line, inputs_line}
+use Rattle.judging_replies.proofs.OneInput.{one_place, one_after, one_cut, one_division, one_run_division, one_check_input, one_given, one_program_read}
+use Rattle.judging_replies.proofs.OneInput.{ReadOnce, one_run_input, program_not_refused, meaning_not_refused, inputs_not_refused}
 use Rattle.judging_replies.proofs.RecheckLaws.{is_verdict}
 use Rattle.tool_replies.proofs.Statuses.{status_of}
 use Rattle.tool_replies.proofs.RefusalLaws.{not_refused}
@@ -93,16 +93,17 @@ module _ (once : ReadOnce) (parts : RunParts) (input : RunInput) (spells : Spell
         (subst (λ (g : Option SpecTree). IsReading parts.program (given_names g) input.program input.names)
         (one_given parts.spec input.given given spells.spec given_too) spells.program) read
 
-    tables_there : SpellsTables parts.tables names program.cells input.interpretation
-    tables_there =
-        subst (λ (ns : List Name). SpellsTables parts.tables ns program.cells input.interpretation) same_read.1
-        (subst (λ (p : ProgramTree). SpellsTables parts.tables input.names p.cells input.interpretation) same_read.0 spells.tables)
+    meaning_there : SpellsMeaning parts.style parts.meaning names program.cells input.interpretation
+    meaning_there =
+        subst (λ (ns : List Name). SpellsMeaning parts.style parts.meaning ns program.cells input.interpretation) same_read.1
+        (subst (λ (p : ProgramTree). SpellsMeaning parts.style parts.meaning input.names p.cells input.interpretation) same_read.0
+        spells.meaning)
 
-    inputs_there : (m : Interpretation) → SpellsTables parts.tables names program.cells m →
+    inputs_there : (m : Interpretation) → SpellsMeaning parts.style parts.meaning names program.cells m →
         SpellsInputs parts.inputs names program.inputs m.domain input.rows
-    inputs_there m tables =
+    inputs_there m spelled_too =
         subst (λ (n : Interpretation). SpellsInputs parts.inputs names program.inputs n.domain input.rows)
-        (once.tables parts.tables names program.cells input.interpretation m tables_there tables)
+        (once.meaning parts.style parts.meaning names program.cells input.interpretation m meaning_there spelled_too)
         (subst (λ (ns : List Name). SpellsInputs parts.inputs ns program.inputs input.interpretation.domain input.rows) same_read.1
         (subst (λ (p : ProgramTree). SpellsInputs parts.inputs input.names p.inputs input.interpretation.domain input.rows)
         same_read.0 spells.inputs))
@@ -118,12 +119,12 @@ module _ (once : ReadOnce) (parts : RunParts) (input : RunInput) (spells : Spell
       program_not_refused parts.program (given_names input.given) input.program input.names spells.program error fault
       (subst (λ (g : Option SpecTree). HasProgramCause parts.program (given_names g) error)
       (one_given parts.spec given input.given there spells.spec) cause) h
-  no_part_refused fault (in_tables given names program error there read cause refused h) =
-      tables_not_refused parts.tables names program.cells input.interpretation error fault
-      (tables_there given names program there read) refused h
-  no_part_refused fault (in_inputs given names program m error there read tables cause refused h) =
+  no_part_refused fault (in_meaning given names program there read h) =
+      meaning_not_refused parts.style parts.meaning names program.cells input.interpretation fault
+      (meaning_there given names program there read) h
+  no_part_refused fault (in_inputs given names program m error there read spelled_too cause refused h) =
       inputs_not_refused parts.inputs names program.inputs m.domain input.rows error fault
-      (inputs_there given names program there read m tables) refused h
+      (inputs_there given names program there read m spelled_too) refused h
 
   module _ (closes : AreDifferent (meanings_of_input input) input.program input.rows (most_configurations + 1) → ⊥) (reply : Reply) where
     input_answers : InputOutcome input reply → is_yes_or_no reply.status ≡ true
@@ -139,18 +140,21 @@ module _ (once : ReadOnce) (parts : RunParts) (input : RunInput) (spells : Spell
 -- no part is missing
 none_missing : (bytes : List ℕ) (parts : RunParts) (head : Head) → AreParts bytes parts → LacksPart bytes head → ⊥
 none_missing bytes parts head are (lacks_program is none) = none are.program_begins.at are.program_begins.first.is_line
-none_missing bytes parts head are (lacks_tables spec from_program is cut none) =
+none_missing bytes parts head are (lacks_meaning spec from_program is cut none) =
     let same : are.from_program ≡ from_program =
     one_after bytes program_line parts.spec are.from_program spec from_program are.program_begins cut in
-    let there = subst (λ (text : List ℕ). IsCutBefore text tables_line parts.program are.from_tables) same are.tables_begin in
-    none there.at there.first.is_line
-none_missing bytes parts head are (lacks_inputs spec from_program program from_tables is cut cut_again none) =
+    let there : IsCutByStyle from_program parts.style parts.program are.from_meaning =
+    subst (λ (text : List ℕ). IsCutByStyle text parts.style parts.program are.from_meaning) same are.meaning_begins in
+    none parts.style there.cut.at there.cut.first.is_line
+none_missing bytes parts head are (lacks_inputs spec from_program program from_meaning style is cut cut_again none) =
     let same : are.from_program ≡ from_program =
     one_after bytes program_line parts.spec are.from_program spec from_program are.program_begins cut in
-    let there = subst (λ (text : List ℕ). IsCutBefore text tables_line parts.program are.from_tables) same are.tables_begin in
-    let same_again : are.from_tables ≡ from_tables =
-    one_after from_program tables_line parts.program are.from_tables program from_tables there cut_again in
-    let last = subst (λ (text : List ℕ). IsCutBefore text inputs_line parts.tables parts.inputs) same_again are.inputs_begin in
+    let there : IsCutByStyle from_program parts.style parts.program are.from_meaning =
+    subst (λ (text : List ℕ). IsCutByStyle text parts.style parts.program are.from_meaning) same are.meaning_begins in
+    let same_again : are.from_meaning ≡ from_meaning =
+    (one_cut from_program parts.style style parts.program are.from_meaning program from_meaning there cut_again).2 in
+    let last : IsCutBefore from_meaning inputs_line parts.meaning parts.inputs =
+    subst (λ (text : List ℕ). IsCutBefore text inputs_line parts.meaning parts.inputs) same_again are.inputs_begin in
     none last.at last.first.is_line
 
 pub run_answers : ReadOnce → (bytes : List ℕ) (reply : Reply) → CanBeRun bytes → RunOutcome bytes reply →

@@ -34,8 +34,8 @@ pub record CanBeChecked (bytes : List ℕ) : Type 0 where
   pub spelled : SpellCheckInput parts input
   pub within : (limit : Limit) → IsPassed input.spec input.program limit → ⊥
 
--- The bytes spell a program with tables and inputs, and a specification if there is one, and of the first configurations, one more
--- than there may be, two are equal.
+-- The bytes spell a program with an interpretation, by tables or by machine words, and with inputs, and a specification if there is
+-- one, and of the first configurations, one more than there may be, two are equal.
 pub record CanBeRun (bytes : List ℕ) : Type 0 where
   pub parts : RunParts
   pub are_parts : AreParts bytes parts

@@ -10,6 +10,7 @@ use Rattle.tsl_reader.specs.Spells.{deepest_level, most_formula_nodes}
 use Rattle.program_tree.specs.Fits.{longest as longest_window}
 use Rattle.program_tree.specs.Writable.{most_windows, most_nodes as most_program_nodes, most_states as most_program_states}
 use Rattle.table_interp.specs.declared.TheConstants.{MOST_VALUES, MOST_ENTRIES, MOST_ROWS}
+use Rattle.word_interp.specs.declared.TheConstants.{MOST_BITS as MOST_WORD_BITS}
 use Rattle.refutation_check.specs.declared.dimacs.TheConstants.{MOST_VARIABLES, MOST_CLAUSES}
 use Rattle.letter_space.specs.declared.limits.TheConstants.{MOST_PREDICATES, MOST_BITS, MOST_VECTORS}
 use Rattle.branch_finder.specs.declared.limits.TheConstants.{MOST_BRANCHES}
@@ -48,9 +49,10 @@ pub record LimitsAreThese : Type 0 where
   -- the vectors of an environment, and the cases of a search for a window
   pub vectors : MOST_VECTORS ≡ 1024
   pub branches : MOST_BRANCHES ≡ 10000000
-  -- tables, inputs, and the configurations of a run
+  -- tables, the bits of machine words, inputs, and the configurations of a run
   pub values : MOST_VALUES ≡ 256
   pub entries : MOST_ENTRIES ≡ 65536
+  pub word_bits : MOST_WORD_BITS ≡ 16
   pub rows : MOST_ROWS ≡ 65536
   pub configurations : MOST_CONFIGURATIONS ≡ 65536
   -- numbers in formulas in conjunctive normal form and in logs, and what such a formula may have, be it read or be it that of a question

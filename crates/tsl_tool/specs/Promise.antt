@@ -22,7 +22,7 @@ use Rattle.tsl_tool.specs.Tasks.{search_sizes}
 -- annotation, and why no further round is made, and with the full bound each controller of that size fails on some loop of letters;
 -- where the budget is spent, it tells rounds and a trace of the question after them.
 -- Where `check` is done, the bytes spell a specification and a program that realizes it, whose verdict at the bound is yes; where it
--- answers no, the text is that of a verdict that refuses the program. Where `run` is done, the text is that of the closed run of the program, tables and inputs that
+-- answers no, the text is that of a verdict that refuses the program. Where `run` is done, the text is that of the closed run of the program, interpretation and inputs that
 -- the bytes spell, and the formula of each window and that of the specification hold in it; where it answers no, one of them fails,
 -- or the program has other signals than the specification. Where `prove` is done, the text spells a refutation that `recheck`
 -- verifies, and no controller of the size has an annotation; where it answers no, one has; where the budget is spent, the text

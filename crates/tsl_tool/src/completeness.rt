@@ -23,6 +23,7 @@ ghost use Rattle.tsl_tool.specs.Tasks.{bound_asked, most_bytes};
 
 use table_interp::one_reading;
 use tool_replies::Status;
+use word_interp::one_reading as one_words_reading;
 
 /// Where the parts of the bytes are spelled and no limit is passed, what `check`, `run` and `recheck`
 /// reply is a verdict: yes or no.
@@ -35,6 +36,7 @@ pub fn inputs_get_verdicts()
         → RecheckOutcome bytes reply → IsTrue (is_yes_or_no reply.status) }
 {
     one_reading();
+    one_words_reading();
 }
 
 /// Completeness. Where the words ask for a task, the source tells bytes on which it can be answered, and
@@ -58,4 +60,5 @@ pub fn answers_come()
         → ((result ≡ Status.Done) ⊎ (result ≡ Status.Spent)) ⊎ (result ≡ Status.Memory) }
 {
     one_reading();
+    one_words_reading();
 }

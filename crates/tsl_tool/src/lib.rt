@@ -35,9 +35,9 @@
 //!    - `check`, at `Done`: the bytes spell a specification and a program of which the same holds
 //!      as of one that `synth` writes, and its verdict at the bound that was asked is yes. At `No`:
 //!      the verdict that is written applies. At both the specification is within the limits of bits.
-//!    - `run`, at `Done`: the text is the closed run of the program over the tables and the inputs
-//!      that the bytes spell, and the formula of each window and that of the specification hold in
-//!      it. At `No`: one of them fails, or the program has other signals than the specification.
+//!    - `run`, at `Done`: the text is the closed run of the program under the interpretation and over
+//!      the inputs that the bytes spell, and the formula of each window and that of the specification
+//!      hold in it. At `No`: one of them fails, or the program has other signals than the specification.
 //!    - `prove`, at `Done`: the text spells a refutation of the encoding, which `recheck` verifies,
 //!      and no controller of the size has an annotation. At `No`: one has. At `Spent` as `synth`.
 //!    - `recheck`, at `Done`: no assignment meets all clauses of the formula that the bytes spell.

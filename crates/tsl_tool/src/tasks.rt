@@ -9,8 +9,8 @@ use refinement_loop::{Bound, Search};
 /// The most bytes of a specification.
 const MOST_SPECIFICATION_BYTES: u32 = 1_048_576;
 
-/// The most bytes of a specification and a program, of these with tables and inputs, or of an automaton
-/// and a loop of letters, together.
+/// The most bytes of a specification and a program, of these with tables or machine words and with inputs,
+/// or of an automaton and a loop of letters, together.
 const MOST_RUN_BYTES: u32 = 16_777_216;
 
 /// The most bytes of a formula and a log together.

@@ -90,8 +90,8 @@ fn reply_to_bytes(alloc: Global, task: Task, bytes: &[u8]) -> Result<Reply, NoMe
 /// `circuit` have `--bound`, `gen` has one number from 1 to 5 instead, and the others have none. `gen`
 /// reads nothing. For `synth`, `prove` and `automaton` the source holds a specification of at most
 /// 1,048,576 bytes; for `check` and `circuit` a specification and a program, for `run` a specification
-/// or nothing, a program, tables and inputs, and for `accepts` an automaton, the line `letters` and a
-/// loop of letters, of at most 16,777,216 bytes together; for `recheck` a formula in conjunctive normal
+/// or nothing, a program, tables or machine words, and inputs, and for `accepts` an automaton, the line
+/// `letters` and a loop of letters, of at most 16,777,216 bytes together; for `recheck` a formula in conjunctive normal
 /// form, the line `lrat` and a log, of at most 268,435,456 bytes together. Each text is built whole
 /// before its first byte is written. At `Done`, `No` and `Spent` a program, a proof, a run, a verdict, a
 /// summary, a trace, a circuit or an automaton went to `out`. At `Usage`, `Reading`, `Large` and

@@ -1,7 +1,7 @@
 use Rattle.program_tree.specs.ProgramView.{program_tree}
 use Rattle.tsl_meaning.specs.Interpretation.{rows_of}
 use Rattle.judging_replies.specs.Run.{in_inputs}
-use Rattle.judging_replies.specs.internal.RunView.{run_parts, given_spec}
+use Rattle.judging_replies.specs.internal.RunView.{run_parts, given_spec, interpretation_read}
 use Rattle.judging_replies.proofs.RunFaultLaws.{input_cause_stands}
 use Rattle.judging_replies.proofs.RunLaws.{is_ready}
 use Rattle.judging_replies.proofs.RunNames.{inputs_named, inputs_distinct}
@@ -24,16 +24,16 @@ reply_to_run-requires-clause-ready c =
       given = given_spec c.args.spec;
       names = c.args.names.now;
       program = program_tree c.args.program.now;
-      interpretation = c.args.tables.now.interpretation;
+      interpretation = interpretation_read c.args.meaning.now;
       rows = rows_of c.in-Ok.inputs;
     })
     (record {
       spec = c.requires.spec;
       program = c.requires.program;
-      tables = c.requires.tables;
-      inputs = rw (c.as_slice.ensures, c.domain-domain.ensures.domain) at c.in-Ok.ensures.ok;
+      meaning = c.requires.spells;
+      inputs = rw (c.as_slice.ensures, c.domain-domain.ensures) at c.in-Ok.ensures.ok;
     })
-    c.requires.fits c.requires.meaning (rw (c.as_slice.ensures, c.domain-domain.ensures.domain) at c.in-Ok.ensures.rows)
+    c.requires.fits c.requires.interprets (rw (c.as_slice.ensures, c.domain-domain.ensures) at c.in-Ok.ensures.rows)
 
 pub fault_of_inputs-requires-clause-stands : goal.fault_of_inputs-requires-clause-stands
 fault_of_inputs-requires-clause-stands c =
@@ -48,24 +48,24 @@ returns-in-Ok c =
       given = given_spec c.args.spec;
       names = c.args.names.now;
       program = program_tree c.args.program.now;
-      interpretation = c.args.tables.now.interpretation;
+      interpretation = interpretation_read c.args.meaning.now;
       rows = rows_of c.in-Ok.inputs;
     })
     c.reply_to_run.result
     (record {
       spec = c.requires.spec;
       program = c.requires.program;
-      tables = c.requires.tables;
-      inputs = rw (c.as_slice.ensures, c.domain-domain.ensures.domain) at c.in-Ok.ensures.ok;
+      meaning = c.requires.spells;
+      inputs = rw (c.as_slice.ensures, c.domain-domain.ensures) at c.in-Ok.ensures.ok;
     })
     c.reply_to_run.ensures
 
 pub returns-in_ok-fault-in-Err : goal.returns-in_ok-fault-in-Err
 returns-in_ok-fault-in-Err c =
     refused_outcome (run_parts c.args.parts.now) c.in_ok-fault-in-Err.fault c.at_fault.result
-    (in_inputs (given_spec c.args.spec) c.args.names.now (program_tree c.args.program.now) c.args.tables.now.interpretation c.in-Err.error
-    c.requires.spec c.requires.program c.requires.tables
-    (rw (c.as_slice.ensures, c.domain-domain.ensures.domain) at c.in-Err.ensures.cause)
-    (rw (c.as_slice.ensures, c.domain-domain.ensures.domain) at c.in-Err.ensures.refused)
+    (in_inputs (given_spec c.args.spec) c.args.names.now (program_tree c.args.program.now) (interpretation_read c.args.meaning.now) c.in-Err.error
+    c.requires.spec c.requires.program c.requires.spells
+    (rw (c.as_slice.ensures, c.domain-domain.ensures) at c.in-Err.ensures.cause)
+    (rw (c.as_slice.ensures, c.domain-domain.ensures) at c.in-Err.ensures.refused)
     c.in_ok-fault-in-Err.ensures)
     c.at_fault.ensures

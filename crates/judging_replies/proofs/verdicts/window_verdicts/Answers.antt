@@ -6,8 +6,7 @@ use Rattle.tsl_terms.specs.FormulaTree.{FormulaTree}
 use Rattle.tsl_terms.specs.WindowTree.{window_tree, window_formula_of}
 use Rattle.tsl_meaning.specs.RunTree.{run_tree}
 use Rattle.tsl_meaning.specs.RunLasso.{IsJudged}
-use Rattle.table_interp.specs.Meaning.{meanings_of}
-use Rattle.judging_replies.specs.internal.RunView.{verdict_in, verdicts_in}
+use Rattle.judging_replies.specs.internal.RunView.{meanings_read, verdict_in, verdicts_in}
 use Rattle.judging_replies.proofs.verdicts.window_verdicts.Goals as goal
 
 window_at : (P : FormulaTree → Type 0) (ws : List Window) (i : ℕ) (d : Window) →
@@ -19,7 +18,7 @@ window_at P (w ∷ ws) (suc i) d each within = window_at P ws i d each.1 (omega 
 pub window_verdict-requires : goal.window_verdict-requires
 window_verdict-requires c =
     rw c.window-item.is
-    (window_at (IsJudged (meanings_of c.args.tables.now) (run_tree (λ v. v) c.args.run.now)) c.args.windows.now c.loop-window.window-index
+    (window_at (IsJudged (meanings_read c.args.meaning.now) (run_tree (λ v. v) c.args.run.now)) c.args.windows.now c.loop-window.window-index
     c.window-item.result c.requires c.loop-window-test.true)
 
 module _ (holds : FormulaTree → Bool) where
@@ -41,7 +40,7 @@ module _ (holds : FormulaTree → Bool) where
 
 pub loop-window-preserved : goal.loop-window-preserved
 loop-window-preserved c =
-    verdicts_more (verdict_in (meanings_of c.args.tables.now) (run_tree (λ v. v) c.args.run.now)) c.args.windows.now
+    verdicts_more (verdict_in (meanings_read c.args.meaning.now) (run_tree (λ v. v) c.args.run.now)) c.args.windows.now
     c.loop-window.window-index c.window-item.result c.loop-window.verdicts.items c.push.new.self.items c.in_ok-window_verdict.field-0
     c.loop-window-test.true c.window-item.is c.loop-window.invariant c.in_ok-window_verdict.ensures c.in_ok-push.ensures.items
 
@@ -49,6 +48,6 @@ pub returns : goal.returns
 returns c =
     c.loop-window.invariant
     ∙ ap
-    (λ (ws : List Window). verdicts_in (meanings_of c.args.tables.now) (run_tree (λ v. v) c.args.run.now) (map window_formula_of
+    (λ (ws : List Window). verdicts_in (meanings_read c.args.meaning.now) (run_tree (λ v. v) c.args.run.now) (map window_formula_of
     (map window_tree ws)))
     (take_all c.loop-window.window-index c.args.windows.now c.loop-window-test.false)

@@ -1,8 +1,9 @@
+use Rattle.judging_replies.proofs.OneInput.{read_once}
 use Rattle.tsl_tool.proofs.AnswersCome.{answers_come, program_or_spent}
 use Rattle.tsl_tool.proofs.completeness.answers_come.Goals as goal
 
 pub returns : goal.returns
 returns c = record {
-  answer = answers_come (record { tables = c.one_reading.ensures.tables; inputs = c.one_reading.ensures.inputs });
+  answer = answers_come (read_once c.one_reading.ensures.tables c.one_reading-2.ensures c.one_reading.ensures.inputs);
   found = program_or_spent;
 }

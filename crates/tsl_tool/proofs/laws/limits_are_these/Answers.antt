@@ -29,6 +29,7 @@ returns c = record {
   branches = refl;
   values = refl;
   entries = refl;
+  word_bits = refl;
   rows = refl;
   configurations = refl;
   digits = refl;

@@ -1,7 +1,7 @@
 use Rattle.std.proofs.Common.{refl, sym, ◌∙◌, map, Global}
 use Rattle.std.specs.Prelude.{string_bytes}
 use Rattle.tsl_io.specs.Effects.{effect}
-use Rattle.tsl_tool.proofs.EndLaws.{reply_says, out_ends, err_ends, out_promises, err_handed_on}
+use Rattle.tsl_tool.proofs.EndLaws.{reply_says, out_ends, err_ends, out_promises, out_handed_on, err_handed_on}
 use Rattle.tsl_tool.proofs.top.tsl.Goals as goal
 
 pub send-requires : goal.send-requires
@@ -32,6 +32,11 @@ returns-in-Ok-clause-promises g c =
     (effect g.O.Sink.written g.O.Sink.faults c.args.out.now c.send.new.sink)
     (effect g.E.Sink.written g.E.Sink.faults c.args.err.now c.args.err.now)
     c.in-Ok.reply c.send.result c.in-Ok.ensures.replies c.send.ensures.sent
+
+pub returns-in-Ok-clause-handed_on : goal.returns-in-Ok-clause-handed_on
+returns-in-Ok-clause-handed_on g c =
+    out_handed_on c.in-Ok.reply (effect g.O.Sink.written g.O.Sink.faults c.args.out.now c.send.new.sink) c.send.result _ _
+    (sym c.is_answer.ensures ∙ c.if-is_answer.true) c.send.ensures.sent c.send.ensures.handed_on
 
 pub returns-in-Ok-2-clause-answers : goal.returns-in-Ok-2-clause-answers
 returns-in-Ok-2-clause-answers g c =
