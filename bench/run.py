@@ -8,8 +8,8 @@ SIZES = [2**power for power in range(11, 17)]
 CLEAR = 0.002  # seconds; a shorter time is lost in the noise of starting a process
 
 
-def text_of(program, tables, inputs):
-    return "\n".join(["tslprogram 1", *program, "end", "tsltables 1", *tables, "tslinputs 1", *inputs, ""]).encode()
+def text_of(program, meaning, inputs, head="tsltables 1"):
+    return "\n".join(["tslprogram 1", *program, "end", head, *meaning, "tslinputs 1", *inputs, ""]).encode()
 
 
 DELAY = ["input x", "cell y", "node 0 set [y <- x] go 0", "state 0 at 0"]
@@ -57,6 +57,51 @@ def long_run(count):
     return text_of(program, tables, ["stem", "cycle row"])
 
 
+def three_cells(count):
+    """Few rows, and a run of about so many configurations of three cells: two count in digits of a base, one takes the lower digit."""
+    base = int(count**0.5)
+    program = [
+        "cell low",
+        "cell high",
+        "cell before",
+        "node 0 set [low <- zero()] [high <- next high] [before <- low] go 0",
+        "node 1 set [low <- next low] [high <- high] [before <- low] go 0",
+        "node 2 if last low then 0 else 1",
+        "state 0 at 2",
+    ]
+    tables = [
+        f"domain {base}",
+        "func zero 0",
+        "func next " + " ".join(str((i + 1) % base) for i in range(base)),
+        "pred last " + " ".join(str(int(i == base - 1)) for i in range(base)),
+        f"cell low 0 cell high 0 cell before {base - 1}",
+    ]
+    return text_of(program, tables, ["stem", "cycle row"])
+
+
+def three_cells_of_words(count):
+    """A run of so many configurations, a power of two, of three cells over words: one counts, and two take what stood before."""
+    program = [
+        "cell low",
+        "cell before",
+        "cell changed",
+        "node 0 set [low <- zero()] [before <- low] [changed <- differ low before] go 0",
+        "node 1 set [low <- next low] [before <- low] [changed <- differ low before] go 0",
+        "node 2 if last top() low then 0 else 1",
+        "state 0 at 2",
+    ]
+    words = [
+        f"bits {count.bit_length() - 1}",
+        "func zero const 0",
+        f"func top const {count - 1}",
+        "func next inc",
+        "func differ xor",
+        "pred last atmost",
+        f"cell low 0 cell before {count - 1} cell changed 1",
+    ]
+    return text_of(program, words, ["stem", "cycle row"], "tslwords 1")
+
+
 def plain_reading(text):
     """Words by lines and numbers, and nothing of what they mean: the least that a reading in Python does."""
     return [[int(word) if word.isdigit() else word for word in line.split()] for line in text.split("\n")]
@@ -69,11 +114,15 @@ def plain_seconds(text):
     return time.perf_counter() - begun
 
 
+OVER_TABLES = "configurations of three cells over tables"
+OVER_WORDS = "configurations of three cells over words"
 FAMILIES = [
     ("nodes of a program", long_program),
     ("entries of a table", long_tables),
     ("rows of inputs", long_inputs),
     ("configurations of a run", long_run),
+    (OVER_TABLES, three_cells),
+    (OVER_WORDS, three_cells_of_words),
 ]
 
 
@@ -95,6 +144,7 @@ def main():
         start, _, _ = measured(folder, long_inputs(2), [PROGRAM, "run"])
         print(f"the start of a process: {start * 1000:.3f} ms, taken off below")
         worst = 0.0
+        largest = {}
         for title, family in FAMILIES:
             print(title)
             print(f"{'members':>9} {'bytes':>9} {'seconds':>9} {'growth':>7} {'peak KiB':>9} {'Python reads':>12}")
@@ -108,7 +158,9 @@ def main():
                     worst = max(worst, seconds / before)
                 print(f"{count:9} {len(text):9} {seconds:9.4f} {growth} {peak:9} {plain_seconds(text):12.4f}")
                 before = seconds
+            largest[title] = before
         print(f"the largest growth for a doubling: {worst:.2f}")
+        print(f"words take {largest[OVER_WORDS] / largest[OVER_TABLES]:.2f} times what tables take for {SIZES[-1]} configurations of three cells")
     counted()
 
 

@@ -7,8 +7,8 @@ reading == 2 { begin[++files] = $1; sub(/^[0-9]+ /, ""); file[files] = $0; next 
 {
     shown[++last] = $0
     if ($0 == "tslprogram 1" && !from["program"]) from["program"] = last
-    if ($0 == "tsltables 1" && from["program"] && !from["tables"]) from["tables"] = last
-    if ($0 == "tslinputs 1" && from["tables"] && !from["inputs"]) from["inputs"] = last
+    if ($0 ~ /^tsl(tables|words) 1$/ && from["program"] && !from["meaning"]) from["meaning"] = from[substr($0, 4, length($0) - 5)] = last
+    if ($0 == "tslinputs 1" && from["meaning"] && !from["inputs"]) from["inputs"] = last
     if ($0 == "lrat" && !from["log"]) from["log"] = last + 1
     if ($0 == "letters" && !from["letters"]) from["letters"] = last + 1
 }
@@ -73,10 +73,10 @@ END {
             m = split(shown[i], w, /[ \t]+/)
             for (j = 1; j <= m; j++) {
                 if (part == "inputs" && w[j] == "row" && ++row == name) found = i
-                if (part == "tables" && w[j] ~ /^(func|pred|cell)$/ && w[j + 1] == name) found = i
+                if (part ~ /^(tables|words)$/ && w[j] ~ /^(func|pred|cell)$/ && w[j + 1] == name) found = i
             }
             if (found) { line = found; break }
-            if (part == "tables" && i + 1 == from["inputs"]) break
+            if (part ~ /^(tables|words)$/ && i + 1 == from["inputs"]) break
         }
     }
     said = what[key]

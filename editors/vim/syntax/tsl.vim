@@ -7,7 +7,7 @@ syntax keyword tslTruth true false
 syntax keyword tslTemporal X F G U W R A
 syntax match tslOperator "&&\|||\|<->\|->\|<-\|!"
 syntax match tslNumber "\<[0-9]\+\>"
-syntax match tslHead "^\(tslprogram\|tsltables\|tslinputs\) 1$"
+syntax match tslHead "^\(tslprogram\|tsltables\|tslwords\|tslinputs\) 1$"
 syntax match tslComment "//.*$"
 syntax region tslComment start="/\*" end="\*/" contains=tslNested
 syntax region tslNested start="/\*" end="\*/" contains=tslNested contained
