@@ -122,19 +122,6 @@ fn a_table_is_told_with_its_name(rt: HostRuntime) -> Result<(), Fail> {
 }
 
 #[test]
-fn a_fault_of_machine_words_is_told_with_their_name(rt: HostRuntime) -> Result<(), Fail> {
-    let alloc = rt.alloc();
-    let form = Fault::Form(TokenPart::Words, PLACE);
-    says(&rt, alloc, &form, b"fault words 3:7 form\n")?;
-    let missing = Fault::Missing(DataPart::Words, name(alloc, b"f")?);
-    says(&rt, alloc, &missing, b"fault words missing f\n")?;
-    let arity = Fault::WordsArity(name(alloc, b"f")?);
-    says(&rt, alloc, &arity, b"fault words arity f\n")?;
-    let range = Fault::WordsRange(name(alloc, b"u")?, 4);
-    says(&rt, alloc, &range, b"fault words range u 4\n")
-}
-
-#[test]
 fn a_row_is_told_with_its_number(rt: HostRuntime) -> Result<(), Fail> {
     let alloc = rt.alloc();
     says(&rt, alloc, &Fault::RowCount(0), b"fault inputs count 0\n")?;
