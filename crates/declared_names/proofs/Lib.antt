@@ -15,3 +15,4 @@ pub mod DeepNames
 pub mod Expanded
 pub mod AlikePlain
 pub mod HeadPlaces
+pub mod NoNames

@@ -44,13 +44,21 @@ struct ReadScope<'b> {
     in_section: bool,
 }
 
+/// Whether a text is one of the names. Where there are none, as in most texts, it is not looked for.
+#[tactic(auto, using(crate::proofs::NoNames::none_is_named))]
+fn is_name(names: &Names, text: &[u8]) -> bool
+    ensures { result ≡ is_name names.now text.now }
+{
+    names.count() > 0 && names.find(text).is_some()
+}
+
 /// The role of a name that is no use.
 fn role_in(scope: &ReadScope, name: &[u8]) -> Role
     ensures { result ≡ role_in (scope_of scope.now) name.now }
 {
-    if scope.heads.find(name).is_some() {
+    if is_name(scope.heads, name) {
         Role::Misused
-    } else if scope.parameters.find(name).is_some() {
+    } else if is_name(scope.parameters, name) {
         Role::Parameter
     } else {
         Role::Plain
@@ -66,7 +74,7 @@ fn are_free_names(heads: &Names, terms: &ReadTerms) -> bool
     while let ReadTerms::More(term, next) = rest {
         match &**term {
             ReadTerm::Alone(name) => {
-                if heads.find(name).is_some() {
+                if is_name(heads, name) {
                     return false;
                 }
             }
@@ -85,7 +93,7 @@ fn is_use(scope: &ReadScope, name: &[u8], arguments: &ReadTerms) -> bool
     if matches!(arguments, ReadTerms::Empty) {
         return false;
     }
-    if scope.heads.find(name).is_none() {
+    if !is_name(scope.heads, name) {
         return false;
     }
     are_free_names(scope.heads, arguments)
@@ -107,7 +115,7 @@ fn atom_role(scope: &ReadScope, name: &[u8], arguments: &ReadTerms) -> Role
 fn role_alone(scope: &ReadScope, name: &[u8]) -> Role
     ensures { result ≡ atom_role (scope_of scope.now) name.now (Some []) }
 {
-    if scope.heads.find(name).is_some() {
+    if is_name(scope.heads, name) {
         Role::Used
     } else {
         role_in(scope, name)
@@ -348,7 +356,7 @@ fn in_head(kind: NameKind, arity: u32, role: Role, text: &[u8]) -> ReadOccurrenc
 fn head_role(before: &Names, name: &[u8]) -> Role
     ensures { result ≡ (if is_name before.now name.now then Redefined else Head) }
 {
-    if before.find(name).is_some() {
+    if is_name(before, name) {
         Role::Redefined
     } else {
         Role::Head
@@ -360,7 +368,7 @@ fn parameter_role(heads: &Names, repeated: &Names, name: &[u8]) -> Role
     ensures { result ≡ (if is_name heads.now name.now || is_name repeated.now name.now
         then Redefined else Parameter) }
 {
-    if heads.find(name).is_some() || repeated.find(name).is_some() {
+    if is_name(heads, name) || is_name(repeated, name) {
         Role::Redefined
     } else {
         Role::Parameter

@@ -1,3 +1,4 @@
 pub mod WalkLemmas
-pub mod SearchLemmas
+pub mod GraphRows
 pub mod Orders
+pub mod CycleLemmas

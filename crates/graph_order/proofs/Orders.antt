@@ -1,8 +1,8 @@
 -- What is ranked one after another is an order.
-use Rattle.std.proofs.Common.{◌≡◌, ◌∙◌, ℕ, ◌+◌, ◌<◌, ◌≤◌, ◌⊎◌, inl, inr, Bool, true, false, ◌||◌, ◌==◌, List, [], ◌∷◌, ◌++◌, length}
+use Rattle.std.proofs.Common.{◌≡◌, ◌∙◌, ℕ, ◌<◌, inl, inr, Bool, true, false, ◌||◌, ◌==◌, List, [], ◌∷◌, ◌++◌, length}
 use Rattle.std.proofs.Common.{reverse, Some, slice_get, nat_eq, refl, sym, ap, subst, arith}
 use Rattle.std.proofs.lemmas.Bool.{false≢true}
-use Rattle.std.specs.List.{IsDistinct as AreApart, list_any}
+use Rattle.std.specs.List.{IsDistinct as AreApart}
 use Rattle.std.proofs.lemmas.List.{reverse-append, reverse-reverse}
 use Rattle.std.proofs.lemmas.Map.Keys.{any_passes_from_place}
 use Rattle.std.proofs.lemmas.Map.Steps.{length-le_from_distinct_below, le-length_from_below}
@@ -14,7 +14,7 @@ use Rattle.graph_order.specs.Graphs.{goes, IsOrder}
 use Rattle.graph_order.specs.internal.Walks.{AreRanked}
 use Rattle.sequence.proofs.Booleans.{eqb_self}
 use Rattle.sequence.proofs.Passes.{list_any_place}
-use Rattle.graph_order.proofs.SearchLemmas.{none_twice, distinct_more, equal_numbers}
+use Rattle.graph_order.proofs.GraphRows.{none_twice, distinct_more, equal_numbers}
 
 turned : (a b : Bool) → (a || b) ≡ (b || a)
 turned true true = refl

@@ -1,16 +1,15 @@
 -- The walk that gives an order: its steps, and that a use of one on the path closes a cycle.
 use Rattle.std.proofs.Common.{◌≡◌, ◌∙◌, ℕ, zero, suc, ◌+◌, ◌-◌, ◌<◌, ◌≤◌, ◌⊎◌, ◌==◌, inl, inr, Bool, true, false, ◌||◌, List, [], ◌∷◌, ◌++◌, length, map, get_or, set, Vec}
 use Rattle.std.proofs.Common.{reverse, Some, None, slice_get, take, refl, sym, ap, subst, arith, length-set, take_all}
-use Rattle.std.specs.List.{sum_by}
 use Rattle.std.specs.Option.{option_map_or}
 use Rattle.std.proofs.lemmas.Bool.{eqb-true, eqb-false, ne_eqb, false≢true}
 use Rattle.std.proofs.lemmas.List.{reverse-append}
 use Rattle.std.proofs.lemmas.List.Sums.{sum_by-set}
 use Rattle.std.proofs.lemmas.Option.{none-some, same_Some, slice_get_within, get_or_from_slice_get}
 use Rattle.sequence.specs.Numbers.{is_among}
-use Rattle.sequence.proofs.Numbers.{among_first, among_next, among_at, among_place}
+use Rattle.sequence.proofs.Numbers.{among_first, among_next, among_place}
 use Rattle.sequence.proofs.Places.{slice_get_some, slice_get_set, slice_get_set_same, last_split}
-use Rattle.graph_order.specs.Reaching.{Reaches, one, more, Using}
+use Rattle.graph_order.specs.Reaching.{one, more}
 use Rattle.graph_order.specs.declared.walking.Stage.{Stage}
 use Rattle.graph_order.specs.declared.walking.Stage.TheVariants.{New, Open, Ranked}
 use Rattle.graph_order.specs.declared.walking.Progress.{Progress}
@@ -18,7 +17,7 @@ use Rattle.graph_order.specs.declared.walking.Walk.{Walk}
 use Rattle.std.specs.declared.alloc.Global.{Global}
 use Rattle.graph_order.specs.Graphs.{graph_of, goes, ReachesFrom, HasCycle, IsOrder}
 use Rattle.graph_order.proofs.Orders.{order_is}
-use Rattle.graph_order.specs.internal.Walks.{GoesFromFirst, IsPath, AreRanked, IsAtStage, IsWalk, IsWalkOf, is_met, is_met_by, weight_of_stage, steps_left, GoesOn, IsGoingOn, is_new}
+use Rattle.graph_order.specs.internal.Walks.{GoesFromFirst, IsPath, IsAtStage, IsWalk, IsWalkOf, is_met, is_met_by, weight_of_stage, steps_left, GoesOn, IsGoingOn, is_new}
 
 -- ---- numbers among others
 

@@ -6,8 +6,8 @@
 //! - `first_on_cycle` gives the first number that reaches itself (`specs/Reaching.antt`).
 #![tactic(auto)]
 
-mod searching;
+mod cycling;
 mod walking;
 
-pub use searching::first_on_cycle;
+pub use cycling::first_on_cycle;
 pub use walking::order;

@@ -1,9 +1,9 @@
 -- Internal: only private functions of this crate use these words.
--- The walk that gives an order, and the search from one number.
-use Rattle.std.specs.Prelude.{◌≡◌, ℕ, ◌+◌, ◌<◌, ◌≤◌, Bool, true, false, ◌||◌, List, [], ◌∷◌, ◌++◌, length, reverse, Some, slice_get, nat_eq, ◌⊎◌}
-use Rattle.std.specs.List.{IsDistinct, sum_by}
+-- The walk that gives an order.
+use Rattle.std.specs.Prelude.{◌≡◌, ℕ, ◌+◌, ◌<◌, ◌≤◌, Bool, true, false, ◌||◌, List, [], ◌∷◌, length, reverse, Some, slice_get}
+use Rattle.std.specs.List.{sum_by}
 use Rattle.sequence.specs.Numbers.{is_among}
-use Rattle.graph_order.specs.Graphs.{goes, ReachesFrom}
+use Rattle.graph_order.specs.Graphs.{goes}
 use Rattle.graph_order.specs.declared.walking.Stage.{Stage}
 use Rattle.graph_order.specs.declared.walking.Stage.TheVariants.{New, Open, Ranked}
 use Rattle.graph_order.specs.declared.walking.Progress.{Progress}
@@ -78,25 +78,3 @@ pub record IsGoingOn (graph : List (List ℕ)) (start : ℕ) (old now : Walk) : 
   pub walk : IsWalkOf graph now
   pub met : (i : ℕ) → is_met_by old i ≡ true → is_met_by now i ≡ true
   pub started : is_met_by now start ≡ true
-
--- ---- the search from one number
-
--- a mark for each that is found
-pub record AreMarked (graph : List (List ℕ)) (marks : List Bool) (found : List ℕ) : Type 0 where
-  pub sizes : length marks ≡ length graph
-  pub each : (i : ℕ) (b : Bool) → slice_get marks i ≡ Some b → b ≡ is_among found i
-  pub within : (i : ℕ) → is_among found i ≡ true → i < length graph
-  pub once : IsDistinct nat_eq found
-
--- these are found too
-pub record FindsThese (js old new : List ℕ) : Type 0 where
-  pub added : List ℕ
-  pub is : new ≡ old ++ added
-  pub found : (j : ℕ) → is_among js j ≡ true → is_among new j ≡ true
-  pub alone : (j : ℕ) → is_among new j ≡ true → (is_among old j ≡ true) ⊎ (is_among js j ≡ true)
-
--- what is found from a number, where those before a place have been gone through
-pub record IsFound (graph : List (List ℕ)) (start place : ℕ) (found : List ℕ) : Type 0 where
-  pub starts : (j : ℕ) → goes graph start j ≡ true → is_among found j ≡ true
-  pub reached : (i : ℕ) → is_among found i ≡ true → ReachesFrom graph start i
-  pub closed : (p i j : ℕ) → p < place → slice_get found p ≡ Some i → goes graph i j ≡ true → is_among found j ≡ true

@@ -1,6 +1,6 @@
 use Rattle.std.proofs.Common.{arith}
 use Rattle.graph_order.specs.Graphs.{graph_of}
-use Rattle.graph_order.proofs.SearchLemmas.{rows_count}
+use Rattle.graph_order.proofs.GraphRows.{rows_count}
 use Rattle.graph_order.proofs.WalkLemmas.{walk_order}
 use Rattle.graph_order.proofs.walking.order.Goals as goal
 

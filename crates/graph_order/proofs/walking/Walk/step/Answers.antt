@@ -1,9 +1,9 @@
-use Rattle.std.proofs.Common.{◌≡◌, ◌∙◌, suc, ◌-◌, ◌<◌, true, length, reverse, take, Some, slice_get, refl, sym, subst, arith}
+use Rattle.std.proofs.Common.{◌≡◌, ◌∙◌, ◌-◌, ◌<◌, true, length, reverse, take, refl, sym, subst, arith}
 use Rattle.std.proofs.lemmas.Option.{slice_get_read}
 use Rattle.sequence.proofs.Numbers.{among_at}
 use Rattle.graph_order.specs.Graphs.{graph_of, goes}
 use Rattle.graph_order.specs.internal.Walks.{GoesFromFirst}
-use Rattle.graph_order.proofs.SearchLemmas.{rows_count, row_of, row_within, goes_in_row}
+use Rattle.graph_order.proofs.GraphRows.{rows_count, row_of, row_within, goes_in_row}
 use Rattle.graph_order.proofs.WalkLemmas.{reversed_last, last_of, last_within, open_at, goes_on_entered, goes_on_advanced, goes_on_ranked}
 use Rattle.graph_order.proofs.WalkLemmas.{closes_cycle, on_path_if_open, done_if_ranked}
 use Rattle.graph_order.proofs.walking.Walk.step.Goals as goal

@@ -1,6 +1,6 @@
 use Rattle.std.proofs.Common.{◌∙◌, sym, arith}
 use Rattle.graph_order.specs.Graphs.{graph_of}
-use Rattle.graph_order.proofs.SearchLemmas.{rows_count}
+use Rattle.graph_order.proofs.GraphRows.{rows_count}
 use Rattle.graph_order.proofs.WalkLemmas.{old_start, started_walk}
 use Rattle.graph_order.proofs.walking.Walk.walk_from.Goals as goal
 
