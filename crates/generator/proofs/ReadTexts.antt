@@ -26,6 +26,7 @@ use Rattle.spec_syntax.specs.Grammar.{IsFormula, AreItems, IsSection, AreSection
 use Rattle.tsl_reader.specs.Naming.{written_uses, names_of, numbered_list}
 use Rattle.spec_syntax.specs.Texts.{terminal_at, terminals}
 use Rattle.tsl_reader.specs.Spells.{Spells, deepest_level, most_formula_nodes}
+use Rattle.tsl_reader.proofs.WithoutDefinitions.{derived_alone}
 
 -- ---- the grammar
 
@@ -159,21 +160,10 @@ pub is_spelled : (text : List ℕ) (rs : List (List ℕ)) (parts : List Part) (f
     nodes (whole_formula (spec_of rs formulas)) ≤ most_formula_nodes → Spells text (spec_of rs formulas)
 is_spelled text rs parts formulas divides are meant numbered few = record {
   few_nodes = few;
-  derived = record {
-    tokens = tokens_from 0 parts;
-    sections = section_of rs ∷ [];
-    derives = record {
-      tokens_are = record { parts = parts; divides = divides; places = refl };
-      derived = subst (λ xs. AreSections deepest_level xs (section_of rs ∷ []))
-          (sym (each_terminal text (tokens_from 0 parts) ∙ ap (map terminal_of) (lexemes_of_tokens text parts divides) ∙ are))
-          (are_sections rs);
-    };
-    one_kind = no_clash alike_in_kind one_kind (written_uses (section_of rs ∷ [])) meant;
-    one_arity = no_clash same_arity one_arity (written_uses (section_of rs ∷ [])) meant;
-    names = refl;
-    assume_first = refl;
-    assume_always = refl;
-    guarantee_first = refl;
-    guarantee_always = numbered;
-  };
+  derived = derived_alone text (spec_of rs formulas) (tokens_from 0 parts) (section_of rs ∷ [])
+      (record { parts = parts; divides = divides; places = refl })
+      (subst (λ xs. AreSections deepest_level xs (section_of rs ∷ []))
+      (sym (each_terminal text (tokens_from 0 parts) ∙ ap (map terminal_of) (lexemes_of_tokens text parts divides) ∙ are)) (are_sections rs))
+      (no_clash alike_in_kind one_kind (written_uses (section_of rs ∷ [])) meant)
+      (no_clash same_arity one_arity (written_uses (section_of rs ∷ [])) meant) refl refl refl refl numbered;
 }

@@ -5,10 +5,14 @@
 #[cfg(test)]
 mod declared;
 #[cfg(test)]
+mod defined;
+#[cfg(test)]
 mod expanded;
 #[cfg(test)]
 mod generated;
 #[cfg(test)]
 mod ordered;
+#[cfg(test)]
+mod reading;
 #[cfg(test)]
 mod spelled;

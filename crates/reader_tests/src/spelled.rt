@@ -1,11 +1,11 @@
 //! Texts and what they are read as.
 
+use crate::reading::{lists, names, nested, outcome, reading};
 use std::alloc::Global;
 use std::process::Abort;
 use std::test::Fail;
-use test_values::{names_told, repeated};
-use tsl_reader::{SpecError, read_spec};
-use tsl_terms::{FormulaList, Spec};
+use test_values::repeated;
+use tsl_terms::FormulaList;
 
 /// What stands between the braces of a section of guarantees, and the first formula that it is read as,
 /// or the refusal.
@@ -263,7 +263,6 @@ const LISTS: &[(&[u8], &str)] = &[
 const REFUSED: &[(&[u8], &str)] = &[
     // the token that no specification goes on with
     (b"guarantee { a; } }", "Form(17)"),
-    (b"a", "Form(0)"),
     (b"{", "Form(0)"),
     (b"always", "Form(6)"),
     (b"always always", "Form(7)"),
@@ -509,20 +508,6 @@ const AROUND: &[(&[u8], &[u8], &str)] = &[
     (b"guarantee { p (", b"); }", "Form(15)"),
 ];
 
-/// The specification of a text, or the refusal.
-fn reading(rt: &impl Abort, alloc: Global, text: &[u8]) -> Result<Spec, SpecError> {
-    assert!(rt; text.len() < 3_000_000);
-    read_spec(alloc, text)
-}
-
-/// `read`, or the refusal.
-fn outcome(rt: &impl Abort, alloc: Global, text: &[u8]) -> Result<String, Fail> {
-    match reading(rt, alloc, text) {
-        Ok(_) => Ok(String::from_str(alloc, "read")?),
-        Err(error) => Ok(format!(in alloc; "{error:?}")?),
-    }
-}
-
 /// The first guarantee of a section with this between its braces, or the refusal.
 fn formula(rt: &impl Abort, alloc: Global, items: &[u8]) -> Result<String, Fail> {
     let text = repeated(alloc, b"guarantee { ", 1, items, b" }")?;
@@ -533,45 +518,6 @@ fn formula(rt: &impl Abort, alloc: Global, items: &[u8]) -> Result<String, Fail>
         },
         Err(error) => Ok(format!(in alloc; "{error:?}")?),
     }
-}
-
-/// The four lists of formulas, or the refusal.
-fn lists(rt: &impl Abort, alloc: Global, text: &[u8]) -> Result<String, Fail> {
-    match reading(rt, alloc, text) {
-        Ok(
-            Spec {
-                assume_first,
-                assume_always,
-                guarantee_first,
-                guarantee_always,
-                ..
-            },
-        ) => Ok(format!(in alloc;
-            "{assume_first:?} {assume_always:?} {guarantee_first:?} {guarantee_always:?}"
-        )?),
-        Err(error) => Ok(format!(in alloc; "{error:?}")?),
-    }
-}
-
-/// The names of a section of guarantees, each with its kind and how many arguments it takes.
-fn names(rt: &impl Abort, alloc: Global, items: &[u8]) -> Result<Vec<u8>, Fail> {
-    let text = repeated(alloc, b"guarantee { ", 1, items, b" }")?;
-    match reading(rt, alloc, &text) {
-        Ok(spec) => names_told(alloc, &spec.names),
-        Err(_) => Err("the specification is refused".into()),
-    }
-}
-
-/// `read`, or the refusal, of a text that begins with `start`, then has so many times `front`, then
-/// `middle`, so many times `back`, and `end`.
-fn nested(
-    rt: &impl Abort,
-    alloc: Global,
-    [start, front, middle, back, end]: [&[u8]; 5],
-    times: u32,
-) -> Result<String, Fail> {
-    let before = repeated(alloc, start, times, front, middle)?;
-    outcome(rt, alloc, &repeated(alloc, &before, times, back, end)?)
 }
 
 #[test]
@@ -585,8 +531,9 @@ fn formulas_are_read_as_trees(rt: HostRuntime) -> Result<(), Fail> {
 #[test]
 fn names_are_numbered_by_first_appearance(rt: HostRuntime) -> Result<(), Fail> {
     for &(items, expected) in NAMES {
+        let text = repeated(rt.alloc(), b"guarantee { ", 1, items, b" }")?;
         assert_eq!(rt;
-            names(&rt, rt.alloc(), items)?.as_slice(),
+            names(&rt, rt.alloc(), &text)?.as_slice(),
             expected.as_bytes()
         );
     }

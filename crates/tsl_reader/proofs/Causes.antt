@@ -16,18 +16,24 @@ use Rattle.tsl_terms.specs.SpecTree.{SpecTree, whole_formula}
 use Rattle.tsl_terms.specs.Nodes.{nodes}
 use Rattle.spec_syntax.specs.declared.syntax.Part.{Part}
 use Rattle.spec_syntax.specs.declared.syntax.Part.TheVariants.{AssumeFirst, AssumeAlways, GuaranteeFirst, GuaranteeAlways}
-use Rattle.spec_syntax.specs.Syntax.{SectionSyntax}
-use Rattle.spec_syntax.specs.Grammar.{AreSections}
+use Rattle.spec_syntax.specs.Syntax.{Terminal, SectionSyntax, Declaration}
+use Rattle.spec_syntax.specs.Grammar.{AreSections, AreDeclarations}
 use Rattle.token_readers.specs.Readers.{form, deep}
-use Rattle.spec_syntax.specs.Reading.{sections}
+use Rattle.spec_syntax.specs.Reading.{declarations}
 use Rattle.tsl_reader.specs.Naming.{names_of, numbered_list, formulas_of_part}
 use Rattle.spec_syntax.specs.Texts.{terminal_at, terminals}
 use Rattle.tsl_reader.specs.Spells.{deepest_level, most_formula_nodes, Derives, IsDerived, Spells, HasWrongToken}
 use Rattle.tsl_reader.specs.Spells.{HasFormFault}
 use Rattle.tsl_reader.specs.Spells.{HasDeepFault, HasTooManyNodes}
 use Rattle.spec_syntax.proofs.ExactSections.{one_tree}
-use Rattle.spec_syntax.proofs.Faults.{form_is_within, deep_is_within, form_stops_all, form_begins, deep_stops, deep_begins, deep_goes_on}
-use Rattle.spec_syntax.proofs.Faults.{no_text}
+use Rattle.spec_syntax.proofs.DeclarationLaws as declared
+use Rattle.named_formulas.specs.DefinitionView.{named_in}
+use Rattle.named_formulas.specs.TextExpansion.{Expands}
+use Rattle.named_formulas.specs.WellUsed.{as_written}
+use Rattle.named_formulas.proofs.OneExpansion.{one_expansion}
+use Rattle.declared_names.specs.Heads.{definitions_in}
+use Rattle.tsl_reader.proofs.DeclarationFaults.{form_is_within, deep_is_within, form_stops_all, form_begins, deep_stops, deep_begins}
+use Rattle.tsl_reader.proofs.DeclarationFaults.{deep_goes_on, no_text}
 
 -- the terminals of tokens before and behind one
 terminals_split : (text : List ℕ) (before : List Token) (token : Token) (after : List Token) →
@@ -60,7 +66,7 @@ stop_at text tokens left token there some few =
     }
 
 wrong_token : (text : List ℕ) (tokens : List Token) → AreTokens text tokens → (left : ℕ) →
-    sections deepest_level (terminals text tokens) ≡ Err (form left) →
+    declarations deepest_level (terminals text tokens) ≡ Err (form left) →
     (token : Token) → slice_get tokens (length tokens - left) ≡ Some token → 0 < left → HasWrongToken text token.start
 wrong_token text tokens are left h token there some =
     let few : left ≤ length tokens = omega (
@@ -84,7 +90,7 @@ wrong_token text tokens are left h token there some =
 
 -- a form fault at a token
 pub form_at_token : (text : List ℕ) (tokens : List Token) → AreTokens text tokens → (left : ℕ) →
-    sections deepest_level (terminals text tokens) ≡ Err (form left) →
+    declarations deepest_level (terminals text tokens) ≡ Err (form left) →
     (token : Token) → slice_get tokens (length tokens - left) ≡ Some token → HasFormFault text token.start
 form_at_token text tokens are zero h token there = no_token (slice_get_past tokens (length tokens - 0) (omega arith)) where
   no_token : slice_get tokens (length tokens - 0) ≡ None → HasFormFault text token.start
@@ -93,7 +99,7 @@ form_at_token text tokens are (suc left) h token there = inl (wrong_token text t
 
 -- a form fault at the end of the text
 pub form_at_end : (text : List ℕ) (tokens : List Token) → AreTokens text tokens → (left : ℕ) →
-    sections deepest_level (terminals text tokens) ≡ Err (form left) → left ≡ 0 →
+    declarations deepest_level (terminals text tokens) ≡ Err (form left) → left ≡ 0 →
     HasFormFault text (length text)
 form_at_end text tokens are left h none =
     inr (record {
@@ -107,7 +113,7 @@ form_at_end text tokens are left h none =
 
 -- a level too many, at a token
 pub deep_at_token : (text : List ℕ) (tokens : List Token) → AreTokens text tokens → (left : ℕ) →
-    sections deepest_level (terminals text tokens) ≡ Err (deep left) →
+    declarations deepest_level (terminals text tokens) ≡ Err (deep left) →
     (token : Token) → slice_get tokens (length tokens - left) ≡ Some token → HasDeepFault text token.start
 deep_at_token text tokens are left h token there =
     let within = deep_is_within deepest_level (terminals text tokens) left h in
@@ -131,7 +137,7 @@ deep_at_token text tokens are left h token there =
     }
 
 -- a level too many has a token
-pub deep_has_token : (text : List ℕ) (tokens : List Token) (left : ℕ) → sections deepest_level (terminals text tokens) ≡ Err (deep left) →
+pub deep_has_token : (text : List ℕ) (tokens : List Token) (left : ℕ) → declarations deepest_level (terminals text tokens) ≡ Err (deep left) →
     (0 < left) × (left ≤ length tokens)
 deep_has_token text tokens left h =
     let within = deep_is_within deepest_level (terminals text tokens) left h in
@@ -148,12 +154,27 @@ no_tokens text fault h tokens are =
     let same : Err fault ≡ Ok tokens = one_answer text (Err fault) (Ok tokens) h are in
     cc
 
--- a text derives from one list of sections
-pub one_derivation : (text : List ℕ) (a b : List Token) (ss rs : List SectionSyntax) → Derives text a ss → Derives text b rs → ss ≡ rs
-one_derivation text a b ss rs h k =
+-- a text derives from one list of sections and definitions, and its sections from one list of terminals
+pub one_derivation : (text : List ℕ) (a b : List Token) (own other : List Terminal) (ds es : List Declaration) → Derives text a own ds →
+    Derives text b other es → (ds ≡ es) × (own ≡ other)
+one_derivation text a b own other ds es h k =
     let same : a ≡ b = one_list text a b h.tokens_are k.tokens_are in
-    one_tree deepest_level (terminals text b) ss rs (subst (λ tokens. AreSections deepest_level
-    (terminals text tokens) ss) same h.derived) k.derived
+    let derived : AreDeclarations deepest_level (terminals text b) own ds = subst (λ tokens. AreDeclarations deepest_level
+    (terminals text tokens) own ds) same h.derived in (
+      declared.one_list deepest_level (terminals text b) own other ds es derived k.derived,
+      declared.one_own deepest_level (terminals text b) own other ds es derived k.derived,
+    )
+
+-- what the sections' own terminals expand to derives from one list of sections
+one_expanded : (ds es : List Declaration) (own other xs ys : List Terminal) (ss rs : List SectionSyntax) → ds ≡ es → own ≡ other →
+    Expands (as_written (named_in (definitions_in ds))) own xs → Expands (as_written (named_in (definitions_in es))) other ys →
+    AreSections deepest_level xs ss → AreSections deepest_level ys rs → ss ≡ rs
+one_expanded ds es own other xs ys ss rs same alike h k s r =
+    let first : Expands (as_written (named_in (definitions_in es))) other xs =
+    subst (λ os. Expands (as_written (named_in (definitions_in es))) os xs) alike
+    (subst (λ qs. Expands (as_written (named_in (definitions_in qs))) own xs) same h) in
+    let texts : xs ≡ ys = one_expansion (as_written (named_in (definitions_in es))) other xs ys first k in
+    one_tree deepest_level ys ss rs (subst (λ zs. AreSections deepest_level zs ss) texts s) r
 
 -- the parts of a specification make it
 abbrev spec_from : List Name → List FormulaTree → List FormulaTree → List FormulaTree → List FormulaTree → SpecTree
@@ -170,7 +191,9 @@ numbered_alike m n ss rs part x y names sections h k =
 -- a text derives from one specification
 pub one_derived : (text : List ℕ) (a b : SpecTree) → IsDerived text a → IsDerived text b → a ≡ b
 one_derived text a b x y =
-    let sections : x.sections ≡ y.sections = one_derivation text x.tokens y.tokens x.sections y.sections x.derives y.derives in
+    let whole = one_derivation text x.tokens y.tokens x.own y.own x.declarations y.declarations x.derives y.derives in
+    let sections : x.sections ≡ y.sections = one_expanded x.declarations y.declarations x.own y.own x.expanded y.expanded x.sections y.sections whole.0 whole.1
+    x.expands y.expands x.sections_are y.sections_are in
     let names : a.names ≡ b.names = x.names ∙ ap names_of sections ∙ sym y.names in
     let assume_first : a.assume_first ≡ b.assume_first =
     numbered_alike a.names b.names x.sections y.sections AssumeFirst a.assume_first b.assume_first names sections x.assume_first

@@ -6,11 +6,11 @@ use Rattle.tsl_text.specs.declared.Token.{Token}
 use Rattle.tsl_text.specs.Division.{Part, blank, comment, lexeme, Divides, tokens_from, AreTokens}
 use Rattle.tsl_text.specs.Lexeme.{token_text}
 use Rattle.tsl_text.proofs.Pieces.{token_not_empty}
-use Rattle.spec_syntax.specs.Syntax.{SectionSyntax}
-use Rattle.tsl_reader.specs.Naming.{all_uses, written_uses}
+use Rattle.spec_syntax.specs.Syntax.{Terminal, Declaration}
+use Rattle.declared_names.specs.WellDeclared.{names_in}
 use Rattle.spec_syntax.specs.Texts.{terminal_at}
 use Rattle.tsl_reader.specs.Spells.{is_free, name_tokens, Derives}
-use Rattle.tsl_reader.proofs.UsePlaces.{texts_of_uses}
+use Rattle.tsl_reader.proofs.UsePlaces.{texts_of_names}
 
 parts_within : (text : List ℕ) (at : ℕ) (parts : List Part) → Divides text parts [] → length (tokens_from at parts) ≤ length text
 parts_within text at [] h = omega arith
@@ -22,17 +22,16 @@ parts_within text at (lexeme kind t ∷ parts) h =
 pub tokens_within : (text : List ℕ) (tokens : List Token) → AreTokens text tokens → length tokens ≤ length text
 tokens_within text tokens are = omega (arith, ap length are.places, parts_within text 0 are.parts are.divides)
 
--- there are not more uses in a text than bytes
-pub uses_within : (text : List ℕ) (tokens : List Token) (ss : List SectionSyntax) → Derives text tokens ss →
-    length (all_uses ss) ≤ length text
-uses_within text tokens ss d =
-    let same : length (map (λ n. n.text) (written_uses ss)) ≡ length (map (token_text text) (name_tokens text tokens)) =
-    ap length (texts_of_uses text tokens ss d) in
+-- there are not more names in a text than bytes
+pub names_in_text : (text : List ℕ) (tokens : List Token) (own : List Terminal) (ds : List Declaration) → Derives text tokens own ds →
+    length (names_in ds) ≤ length text
+names_in_text text tokens own ds d =
+    let same : length (map (λ o. o.text) (names_in ds)) ≡ length (map (token_text text) (name_tokens text tokens)) =
+    ap length (texts_of_names text tokens own ds d) in
     omega (
       arith,
       same,
-      length-map (written_uses ss) (λ n. n.text),
-      length-map (all_uses ss) (λ u. u.name),
+      length-map (names_in ds) (λ o. o.text),
       length-map (name_tokens text tokens) (token_text text),
       filter_within (λ t. is_free (terminal_at text t)) tokens,
       tokens_within text tokens d.tokens_are,

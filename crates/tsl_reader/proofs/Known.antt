@@ -1,12 +1,10 @@
 -- The names of a specification know each use: its number names what it is used as.
 use Rattle.std.proofs.Common.{◌≡◌, ℕ, ◌==◌, Bool, true, false, List, [], ◌∷◌, ◌++◌, refl, ap, sym, ◌∙◌, inl, inr, ⊎_elim}
-use Rattle.std.specs.Prelude.{Option, Some, None, zero, suc, cond, slice_get, flat_map, option_map, option_and_then, IsTrue, ◌⊎◌}
+use Rattle.std.specs.Prelude.{Option, Some, None, zero, suc, cond, slice_get, flat_map, option_and_then, IsTrue, ◌⊎◌}
 use Rattle.std.specs.List.{AllByRecursion}
 use Rattle.std.specs.Str.{bytes_eq}
-use Rattle.std.proofs.lemmas.Option.{slice_get-map}
 use Rattle.sequence.proofs.Bytes.{same_bytes}
-use Rattle.sequence.proofs.Each.{each_at, each_from_places}
-use Rattle.tsl_text.specs.declared.Token.{Token}
+use Rattle.sequence.proofs.Each.{each_at}
 use Rattle.tsl_text.specs.Names.{is_usable}
 use Rattle.tsl_terms.specs.Name.{Name, number_of, same_kind, question}
 use Rattle.tsl_terms.specs.Clashes.{alike_in_kind, same_arity, HasNoClash}
@@ -14,9 +12,8 @@ use Rattle.tsl_terms.specs.internal.FirstUse.{name_with}
 use Rattle.tsl_terms.proofs.FirstUses.{first_of, named_first, first_some, FirstAt, first_at, clash_of}
 use Rattle.spec_syntax.specs.Syntax.{SectionSyntax}
 use Rattle.tsl_reader.specs.Naming.{Use, all_uses, written_uses, question_use, named_by, names_of}
-use Rattle.tsl_reader.specs.Spells.{Derives}
 use Rattle.tsl_reader.proofs.UseLemmas.{first_other}
-use Rattle.tsl_reader.proofs.Usable.{IsUsable, usable_uses}
+use Rattle.tsl_reader.proofs.Usable.{IsUsable}
 
 -- the number of a use names it in its kind and with its number of arguments
 pub record Known (names : List Name) (u : Name) : Type 0 where
@@ -69,7 +66,7 @@ like_first alike us none at u f there first = by (alike f u) refl where
 
 module _ (ss : List SectionSyntax) (usable : AllByRecursion (λ u. IsUsable u.name.text) (all_uses ss))
     (kinds : HasNoClash alike_in_kind (written_uses ss)) (arities : HasNoClash same_arity (written_uses ss)) where
-  known_name : (at : ℕ) (u : Name) → slice_get (written_uses ss) at ≡ Some u → IsUsable u.text → Known (names_of ss) u
+  pub known_name : (at : ℕ) (u : Name) → slice_get (written_uses ss) at ≡ Some u → IsUsable u.text → Known (names_of ss) u
   known_name at u there h =
       let first = first_some (written_uses ss) at u there in
       let stands : FirstAt (written_uses ss) u.text first.0 = first_at (written_uses ss) u.text first.0 first.1 in
@@ -92,7 +89,7 @@ module _ (ss : List SectionSyntax) (usable : AllByRecursion (λ u. IsUsable u.na
     by true h = (1, refl)
     by false h = (suc h.0, h.1)
 
-  known_question : (at : ℕ) (u : Use) → slice_get (all_uses ss) at ≡ Some u → IsTrue u.is_tested → Known (names_of ss) question_use
+  pub known_question : (at : ℕ) (u : Use) → slice_get (all_uses ss) at ≡ Some u → IsTrue u.is_tested → Known (names_of ss) question_use
   known_question at u there asks =
       let stands_at = asked_at (all_uses ss) at u there asks in
       let first = first_some (flat_map named_by (all_uses ss)) stands_at.0 question_use stands_at.1 in
@@ -109,18 +106,3 @@ pub record KnownUse (names : List Name) (u : Use) : Type 0 where
   pub name : Known names u.name
   pub usable : IsUsable u.name.text
   pub asked : IsTrue u.is_tested → Known names question_use
-
--- the names of a text that derives know each of its uses
-pub all_known : (text : List ℕ) (tokens : List Token) (ss : List SectionSyntax) → Derives text tokens ss →
-    HasNoClash alike_in_kind (written_uses ss) →
-    HasNoClash same_arity (written_uses ss) → AllByRecursion (KnownUse (names_of ss)) (all_uses ss)
-all_known text tokens ss d kinds arities =
-    let usable = usable_uses text tokens ss d in
-    each_from_places (KnownUse (names_of ss)) (all_uses ss) (λ at u there.
-    let fine : IsUsable u.name.text = each_at (λ v. IsUsable v.name.text) (all_uses ss) at u usable there in
-    record {
-      name = known_name ss usable kinds arities at u.name (slice_get-map (λ v. v.name) (all_uses ss) at
-          ∙ ap (option_map (λ v. v.name)) there) fine;
-      usable = fine;
-      asked = known_question ss usable kinds arities at u there;
-    })

@@ -3,40 +3,44 @@ use Rattle.std.proofs.Common.{◌≡◌, ℕ, zero, suc, ◌≤◌, Bool, List, 
 use Rattle.std.proofs.Common.{append_assoc, arith}
 use Rattle.std.proofs.lemmas.Bool.{cases_lt}
 use Rattle.std.proofs.lemmas.List.{map-append, append-nil}
-use Rattle.std.specs.Prelude.{Some, Err, slice_get}
+use Rattle.std.specs.Prelude.{Some, None, Err, slice_get, position}
 use Rattle.tsl_text.specs.declared.Token.{Token}
 use Rattle.tsl_text.specs.declared.TextError.TheVariants.{Byte, OpenComment}
 use Rattle.tsl_text.specs.Division.{AreTokens}
 use Rattle.tsl_text.proofs.Parts.{one_answer}
-use Rattle.tsl_terms.specs.Name.{Name}
-use Rattle.tsl_terms.specs.Clashes.{alike_in_kind, same_arity, IsFirstClash, HasNoClash}
 use Rattle.tsl_terms.specs.SpecTree.{SpecTree}
 use Rattle.tsl_reader.specs.declared.SpecError.{SpecError}
 use Rattle.tsl_reader.specs.declared.SpecError.TheVariants as error
-use Rattle.spec_syntax.specs.Syntax.{SectionSyntax}
-use Rattle.spec_syntax.specs.Grammar.{AreSections}
-use Rattle.tsl_reader.specs.Naming.{written_uses}
-use Rattle.spec_syntax.specs.Texts.{terminals, SomeTextBegins, NoTextBegins}
-use Rattle.tsl_reader.specs.Spells.{deepest_level, Derives, Spells, HasWrongToken}
-use Rattle.tsl_reader.specs.Spells.{HasFormFault, HasDeepFault, HasClashAt, HasCause, SpellsNoSpec, IsOfText}
+use Rattle.spec_syntax.specs.Syntax.{Terminal, Definition, Declaration}
+use Rattle.spec_syntax.specs.Grammar.{AreDeclarations}
+use Rattle.spec_syntax.specs.Texts.{terminals, IsText, SomeDeclarationsBegin, NoDeclarationsBegin}
+use Rattle.named_formulas.specs.Uses.{IsFirstOnCycle}
+use Rattle.declared_names.specs.Heads.{definitions_in}
+use Rattle.declared_names.specs.Occurrences.{Occurrence}
+use Rattle.declared_names.specs.Faults.{is_redefined, is_head_of, has_kind_fault, has_arity_fault}
+use Rattle.declared_names.specs.WellDeclared.{heads_of, names_in, NoneOnCycle, AreNamedWell, is_use_too_deep}
+use Rattle.declared_names.proofs.Expanded.{no_deep_use}
+use Rattle.tsl_reader.specs.Spells.{deepest_level, Derives, IsDerived, Spells, HasWrongToken}
+use Rattle.tsl_reader.specs.Spells.{HasFormFault, HasDeepFault, IsFirstName, HasCycleFault, HasCause, SpellsNoSpec, IsOfText}
 use Rattle.tsl_reader.proofs.Causes.{one_list, one_derivation, no_tokens, nodes_refuse}
+use Rattle.tsl_reader.proofs.NamePlaces.{none_there}
 
 -- ---- the first token that no text goes on with
 
 -- some text begins with the tokens before this one, and none with those up to and with it
 record StopsAt (text : List ℕ) (before : List Token) (token : Token) : Type 0 where
-  pub begins : SomeTextBegins deepest_level (terminals text before)
-  pub stops : NoTextBegins deepest_level (terminals text (before ++ token ∷ []))
+  pub begins : SomeDeclarationsBegin deepest_level (terminals text before)
+  pub stops : NoDeclarationsBegin deepest_level (terminals text (before ++ token ∷ []))
 
 -- no text that begins with the tokens up to and with one that stops it goes on
 no_more : (text : List ℕ) (before : List Token) (token : Token) (after : List Token) →
-    NoTextBegins deepest_level (terminals text (before ++ token ∷ [])) →
-    SomeTextBegins deepest_level (terminals text (before ++ token ∷ after)) → ⊥
+    NoDeclarationsBegin deepest_level (terminals text (before ++ token ∷ [])) →
+    SomeDeclarationsBegin deepest_level (terminals text (before ++ token ∷ after)) → ⊥
 no_more text before token after stops begins =
     let front : terminals text (before ++ token ∷ after) ≡ terminals text (before ++ token ∷ []) ++ terminals text after =
     ap (terminals text) (sym (append_assoc before (token ∷ []) after)) ∙ map-append _ (before ++ token ∷ []) after in
     stops (terminals text after ++ begins.0) begins.1
-    (subst (λ xs. AreSections deepest_level xs begins.1)
+    (subst (λ xs. IsText deepest_level xs begins.1)
     (ap (λ xs. xs ++ begins.0) front ∙ append_assoc (terminals text (before ++ token ∷ [])) (terminals text after) begins.0) begins.2)
 
 -- two splits of a list are the same, or one is within the front of the other
@@ -66,17 +70,17 @@ places (x ∷ b) t a (y ∷ c) u e h =
 one_stop : (text : List ℕ) (b c : List Token) (t u : Token) → Places b t c u → StopsAt text b t → StopsAt text c u → (b ≡ c) × (t ≡ u)
 one_stop text b c t u (together e h) x y = (e, h)
 one_stop text b c t u (sooner more e) x y =
-    absurd (no_more text b t more x.stops (subst (λ ts. SomeTextBegins deepest_level (terminals text ts)) e y.begins))
+    absurd (no_more text b t more x.stops (subst (λ ts. SomeDeclarationsBegin deepest_level (terminals text ts)) e y.begins))
 one_stop text b c t u (later more e) x y =
-    absurd (no_more text c u more y.stops (subst (λ ts. SomeTextBegins deepest_level (terminals text ts)) e x.begins))
+    absurd (no_more text c u more y.stops (subst (λ ts. SomeDeclarationsBegin deepest_level (terminals text ts)) e x.begins))
 
 -- tokens with which some text begins have none that stops it
 no_stop : (text : List ℕ) (tokens before : List Token) (token : Token) (after : List Token) → AreTokens text tokens →
-    AreTokens text (before ++ token ∷ after) → SomeTextBegins deepest_level (terminals text tokens) →
-    NoTextBegins deepest_level (terminals text (before ++ token ∷ [])) → ⊥
+    AreTokens text (before ++ token ∷ after) → SomeDeclarationsBegin deepest_level (terminals text tokens) →
+    NoDeclarationsBegin deepest_level (terminals text (before ++ token ∷ [])) → ⊥
 no_stop text tokens before token after are k begins stops =
     no_more text before token after stops
-    (subst (λ ts. SomeTextBegins deepest_level (terminals text ts)) (one_list text tokens (before ++ token ∷ after) are k) begins)
+    (subst (λ ts. SomeDeclarationsBegin deepest_level (terminals text ts)) (one_list text tokens (before ++ token ∷ after) are k) begins)
 
 one_wrong : (text : List ℕ) (x y : ℕ) → HasWrongToken text x → HasWrongToken text y → x ≡ y
 one_wrong text x y h k =
@@ -107,57 +111,110 @@ no_form_and_deep text x y (inl h) k =
     (places h.before h.token h.after k.before k.token k.after (one_list text _ _ h.tokens_are k.tokens_are))
     (record { begins = h.begins; stops = h.stops deepest_level }) (record { begins = k.begins; stops = k.stops }) in
     h.stops k.room k.goes_on.0 k.goes_on.1
-    (subst (λ ts. AreSections k.room (terminals text ts ++ k.goes_on.0) k.goes_on.1)
+    (subst (λ ts. IsText k.room (terminals text ts ++ k.goes_on.0) k.goes_on.1)
     (ap (λ b. b ++ k.token ∷ []) (sym same.0) ∙ ap (λ t. h.before ++ t ∷ []) (sym same.1)) k.goes_on.2)
 no_form_and_deep text x y (inr h) k = no_stop text h.tokens k.before k.token k.after h.tokens_are k.tokens_are h.begins k.stops
 
--- ---- the first use that differs
+-- ---- the first name that is wrong
 
-one_place : (alike : Name → Name → Bool) (us : List Name) (i j : ℕ) → IsFirstClash alike us i → IsFirstClash alike us j → i ≡ j
-one_place alike us i j h k =
-    ⊎_elim (λ less. absurd (k.none_before i less h.clash))
-    (λ back. ⊎_elim (λ less. absurd (h.none_before j less k.clash)) (λ forth. omega (arith, back, forth)) (cases_lt j i))
-    (cases_lt i j)
-
-one_clash : (alike : Name → Name → Bool) (text : List ℕ) (tokens : List Token) (ss : List SectionSyntax) (s e x y : ℕ) →
-    HasClashAt alike text tokens ss s e → HasClashAt alike text tokens ss x y → (s ≡ x) × (e ≡ y)
-one_clash alike text tokens ss s e x y h k =
-    let at : h.at ≡ k.at = one_place alike (written_uses ss) h.at k.at h.clash k.clash in
+one_named : (is_such : Occurrence → Bool) (text : List ℕ) (tokens : List Token) (ds : List Declaration) (s e x y : ℕ) →
+    IsFirstName is_such text tokens ds s e → IsFirstName is_such text tokens ds x y → (s ≡ x) × (e ≡ y)
+one_named is_such text tokens ds s e x y h k =
+    let place : Some h.at ≡ Some k.at = sym h.first ∙ k.first in
+    let at : h.at ≡ k.at = cc in
     let token : Some h.token ≡ Some k.token = sym h.there ∙ ap (slice_get _) at ∙ k.there in
     let same : h.token ≡ k.token = cc in
     (h.starts ∙ ap (λ (t : Token). t.start) same ∙ sym k.starts, h.ends ∙ ap (λ (t : Token). t.end) same ∙ sym k.ends)
 
--- the same of clashes in two derivations, which are one
-one_clash_of : (alike : Name → Name → Bool) (text : List ℕ) (ts us : List Token) (ss rs : List SectionSyntax) (s e x y : ℕ) →
-    Derives text ts ss → Derives text us rs → HasClashAt alike text ts ss s e → HasClashAt alike text us rs x y → (s ≡ x) × (e ≡ y)
-one_clash_of alike text ts us ss rs s e x y d f h k =
-    one_clash alike text us rs s e x y
-    (subst (λ qs. HasClashAt alike text us qs s e) (one_derivation text ts us ss rs d f)
-    (subst (λ qs. HasClashAt alike text qs ss s e) (one_list text ts us d.tokens_are f.tokens_are) h)) k
+-- the same in two derivations, which are one
+one_named_of : (is_such : List Declaration → Occurrence →
+    Bool) (text : List ℕ) (ts us : List Token) (own other : List Terminal) (ds es : List Declaration) (s e x y : ℕ) →
+    Derives text ts own ds → Derives text us other es →
+    IsFirstName (is_such ds) text ts ds s e → IsFirstName (is_such es) text us es x y → (s ≡ x) × (e ≡ y)
+one_named_of is_such text ts us own other ds es s e x y d f h k =
+    one_named (is_such es) text us es s e x y
+    (subst (λ qs. IsFirstName (is_such qs) text us qs s e) (one_derivation text ts us own other ds es d f).0
+    (subst (λ qs. IsFirstName (is_such ds) text qs ds s e) (one_list text ts us d.tokens_are f.tokens_are) h)) k
+
+-- where no name is such, none is the first
+none_named : (is_such : List Declaration → Occurrence →
+    Bool) (text : List ℕ) (ts us : List Token) (own other : List Terminal) (ds es : List Declaration) (s e : ℕ) →
+    Derives text ts own ds → Derives text us other es → IsFirstName (is_such ds) text ts ds s e →
+    position (is_such es) (names_in es) ≡ None → ⊥
+none_named is_such text ts us own other ds es s e d f h none =
+    let same : ds ≡ es = (one_derivation text ts us own other ds es d f).0 in
+    let gone : position (is_such ds) (names_in ds) ≡ None =
+    subst (λ qs. position (is_such qs) (names_in qs) ≡ None) (sym same) none in
+    let never : Some h.at ≡ None = sym h.first ∙ gone in
+    cc
+
+-- ---- the first definition that reaches itself
+
+one_number : (ds : List Definition) (i j : ℕ) → IsFirstOnCycle ds i → IsFirstOnCycle ds j → i ≡ j
+one_number ds i j h k =
+    ⊎_elim (λ less. absurd (k.first i h.definition less h.here h.reaches))
+    (λ back. ⊎_elim (λ less. absurd (h.first j k.definition less k.here k.reaches))
+    (λ forth. omega (arith, back, forth)) (cases_lt j i))
+    (cases_lt i j)
+
+one_cycle : (ds : List Definition) (i j : ℕ) → (h : IsFirstOnCycle ds i) → (k : IsFirstOnCycle ds j) →
+    h.definition.name ≡ k.definition.name
+one_cycle ds i j h k =
+    let both : Some h.definition ≡ Some k.definition = sym h.here ∙ ap (slice_get ds) (one_number ds i j h k) ∙ k.here in
+    let same : h.definition ≡ k.definition = cc in
+    ap (λ (d : Definition). d.name) same
+
+one_cycle_of : (ds es : List Declaration) (i j : ℕ) → ds ≡ es → (h : IsFirstOnCycle (definitions_in ds) i) →
+    (k : IsFirstOnCycle (definitions_in es) j) → h.definition.name ≡ k.definition.name
+one_cycle_of ds es i j same =
+    subst (λ qs. (h : IsFirstOnCycle (definitions_in ds) i) (k : IsFirstOnCycle (definitions_in qs) j) →
+    h.definition.name ≡ k.definition.name) same (one_cycle (definitions_in ds) i j)
+
+one_cycle_place : (text : List ℕ) (s e x y : ℕ) → HasCycleFault text s e → HasCycleFault text x y → (s ≡ x) × (e ≡ y)
+one_cycle_place text s e x y h k =
+    let same = one_derivation text h.tokens k.tokens h.own k.own h.declarations k.declarations h.derives k.derives in
+    let name = one_cycle_of h.declarations k.declarations h.number k.number same.0 h.cycle k.cycle in
+    one_named_of (λ qs. is_head_of k.cycle.definition.name) text h.tokens k.tokens h.own k.own h.declarations k.declarations s e x y
+    h.derives k.derives (subst (λ n. IsFirstName (is_head_of n) text h.tokens h.declarations s e) name h.named) k.named
+
+none_cyclic : (ds es : List Declaration) (i : ℕ) → ds ≡ es → IsFirstOnCycle (definitions_in ds) i → NoneOnCycle (definitions_in es) → ⊥
+none_cyclic ds es i same h =
+    subst (λ qs. NoneOnCycle (definitions_in qs) → ⊥) same (λ none. none i h.definition h.here h.reaches)
 
 -- ---- how far a text is read
 
--- The text has tokens; they derive; no name has two kinds, nor two numbers of arguments; and the text spells a specification.
+abbrev none_redefined : List Declaration → Type 0
+none_redefined ds = position (λ o. is_redefined o.role) (names_in ds) ≡ None
+
+-- The text has tokens; they derive; no name in a head is wrong; no definition reaches itself; no name is of a wrong kind, nor has a
+-- wrong number; what the sections expand to derives; and the text spells a specification.
 abbrev Reaches : ℕ → List ℕ → Type 0
 Reaches zero text = Unit {0}
 Reaches (suc zero) text = (tokens : List Token) × AreTokens text tokens
-Reaches (suc (suc zero)) text = (tokens : List Token) × (ss : List SectionSyntax) × Derives text tokens ss
+Reaches (suc (suc zero)) text = (tokens : List Token) × (own : List Terminal) × (ds : List Declaration) × Derives text tokens own ds
 Reaches (suc (suc (suc zero))) text =
-    (tokens : List Token) × (ss : List SectionSyntax) × Derives text tokens ss × HasNoClash alike_in_kind (written_uses ss)
+    (tokens : List Token) × (own : List Terminal) × (ds : List Declaration) × Derives text tokens own ds × none_redefined ds
 Reaches (suc (suc (suc (suc zero)))) text =
-    (tokens : List Token) × (ss : List SectionSyntax) × Derives text tokens ss × HasNoClash alike_in_kind (written_uses ss)
-    × HasNoClash same_arity (written_uses ss)
-Reaches (suc (suc (suc (suc (suc n))))) text = (spec : SpecTree) × Spells text spec
+    (tokens : List Token) × (own : List Terminal) × (ds : List Declaration) × Derives text tokens own ds × none_redefined ds
+    × NoneOnCycle (definitions_in ds)
+Reaches (suc (suc (suc (suc (suc zero))))) text =
+    (tokens : List Token) × (own : List Terminal) × (ds : List Declaration) × Derives text tokens own ds × none_redefined ds
+    × NoneOnCycle (definitions_in ds) × (position (has_kind_fault (names_in ds)) (names_in ds) ≡ None)
+Reaches (suc (suc (suc (suc (suc (suc zero)))))) text =
+    (tokens : List Token) × (own : List Terminal) × (ds : List Declaration) × Derives text tokens own ds × AreNamedWell ds
+Reaches (suc (suc (suc (suc (suc (suc (suc zero))))))) text = (spec : SpecTree) × IsDerived text spec
+Reaches (suc (suc (suc (suc (suc (suc (suc (suc n)))))))) text = (spec : SpecTree) × Spells text spec
 
 one_back : (n : ℕ) (text : List ℕ) → Reaches (suc n) text → Reaches n text
 one_back zero text h = tt
-one_back (suc zero) text h = (h.0, h.2.tokens_are)
-one_back (suc (suc zero)) text h = (h.0, h.1, h.2)
-one_back (suc (suc (suc zero))) text h = (h.0, h.1, h.2, h.3)
-one_back (suc (suc (suc (suc zero)))) text h =
-    let d = h.1.derived in
-    (d.tokens, d.sections, d.derives, d.one_kind, d.one_arity)
-one_back (suc (suc (suc (suc (suc n))))) text h = h
+one_back (suc zero) text h = (h.0, h.3.tokens_are)
+one_back (suc (suc zero)) text h = (h.0, h.1, h.2, h.3)
+one_back (suc (suc (suc zero))) text h = (h.0, h.1, h.2, h.3, h.4)
+one_back (suc (suc (suc (suc zero)))) text h = (h.0, h.1, h.2, h.3, h.4, h.5)
+one_back (suc (suc (suc (suc (suc zero))))) text h = (h.0, h.1, h.2, h.3, h.4.once, h.4.acyclic, h.4.kinds)
+one_back (suc (suc (suc (suc (suc (suc zero)))))) text h = (h.1.tokens, h.1.own, h.1.declarations, h.1.derives, h.1.named_well)
+one_back (suc (suc (suc (suc (suc (suc (suc zero))))))) text h = (h.0, h.1.derived)
+one_back (suc (suc (suc (suc (suc (suc (suc (suc n)))))))) text h = h
 
 back : (m n : ℕ) (text : List ℕ) → m ≤ n → Reaches n text → Reaches m text
 back m zero text few h =
@@ -174,10 +231,13 @@ stage (error.Byte at) = 0
 stage (error.OpenComment at) = 0
 stage (error.Form at) = 1
 stage (error.Deep at) = 1
-stage (error.Kind start end) = 2
-stage (error.Arity start end) = 3
-stage error.Nodes = 4
-stage error.NoMemory = 5
+stage (error.Defined start end) = 2
+stage (error.Cycle start end) = 3
+stage (error.Kind start end) = 4
+stage (error.Arity start end) = 5
+stage (error.DeepUse start end) = 6
+stage error.Nodes = 7
+stage error.NoMemory = 8
 
 reached : (text : List ℕ) (e : SpecError) → IsOfText e → HasCause text e → Reaches (stage e) text
 reached text (error.Byte at) of h = tt
@@ -185,35 +245,46 @@ reached text (error.OpenComment at) of h = tt
 reached text (error.Form at) of (inl h) = (_, h.tokens_are)
 reached text (error.Form at) of (inr h) = (_, h.tokens_are)
 reached text (error.Deep at) of h = (_, h.tokens_are)
-reached text (error.Kind start end) of h = (h.tokens, h.sections, h.derives)
-reached text (error.Arity start end) of h = (h.tokens, h.sections, h.derives, h.one_kind)
-reached text error.Nodes of h =
-    let d = h.derived in
-    (d.tokens, d.sections, d.derives, d.one_kind, d.one_arity)
+reached text (error.Defined start end) of h = (h.tokens, h.own, h.declarations, h.derives)
+reached text (error.Cycle start end) of h = (h.tokens, h.own, h.declarations, h.derives, h.once)
+reached text (error.Kind start end) of h = (h.tokens, h.own, h.declarations, h.derives, h.once, h.acyclic)
+reached text (error.Arity start end) of h = (h.tokens, h.own, h.declarations, h.derives, h.once, h.acyclic, h.kinds)
+reached text (error.DeepUse start end) of h = (h.tokens, h.own, h.declarations, h.derives, h.named_well)
+reached text error.Nodes of h = (h.spec, h.derived)
 reached text error.NoMemory of h = absurd of
 
--- sections that the tokens derive from begin some text with them
-derived_begins : (text : List ℕ) (tokens : List Token) (ss : List SectionSyntax) → Derives text tokens ss →
-    SomeTextBegins deepest_level (terminals text tokens)
-derived_begins text tokens ss d = ([], ss, rw append-nil d.derived)
-
-no_clash_in : (alike : Name → Name → Bool) (text : List ℕ) (ts us : List Token) (ss rs : List SectionSyntax) (s e : ℕ) →
-    Derives text ts ss → Derives text us rs → HasClashAt alike text ts ss s e → HasNoClash alike (written_uses rs) → ⊥
-no_clash_in alike text ts us ss rs s e d f h none =
-    none h.at (subst (λ qs. IsFirstClash alike (written_uses qs) h.at) (one_derivation text ts us ss rs d f) h.clash).clash
+-- declarations that the tokens derive from begin some text with them
+derived_begins : (text : List ℕ) (tokens : List Token) (own : List Terminal) (ds : List Declaration) → Derives text tokens own ds →
+    SomeDeclarationsBegin deepest_level (terminals text tokens)
+derived_begins text tokens own ds d =
+    ([], ds, (own, subst (λ xs. AreDeclarations deepest_level xs own ds) (sym (append-nil (terminals text tokens))) d.derived))
 
 stuck : (text : List ℕ) (e : SpecError) → IsOfText e → HasCause text e → Reaches (suc (stage e)) text → ⊥
 stuck text (error.Byte at) of h k = no_tokens text (Byte at) h k.0 k.1
 stuck text (error.OpenComment at) of h k = no_tokens text (OpenComment at) h k.0 k.1
 stuck text (error.Form at) of (inl h) k =
-    no_stop text k.0 h.before h.token h.after k.2.tokens_are h.tokens_are (derived_begins text k.0 k.1 k.2) (h.stops deepest_level)
+    no_stop text k.0 h.before h.token h.after k.3.tokens_are h.tokens_are (derived_begins text k.0 k.1 k.2 k.3) (h.stops deepest_level)
 stuck text (error.Form at) of (inr h) k =
-    h.no_text deepest_level k.1
-    (subst (λ ts. AreSections deepest_level (terminals text ts) k.1) (one_list text k.0 h.tokens k.2.tokens_are h.tokens_are) k.2.derived)
+    h.no_text deepest_level k.2
+    (subst (λ ts. IsText deepest_level (terminals text ts) k.2) (one_list text k.0 h.tokens k.3.tokens_are h.tokens_are)
+    (k.1, k.3.derived))
 stuck text (error.Deep at) of h k =
-    no_stop text k.0 h.before h.token h.after k.2.tokens_are h.tokens_are (derived_begins text k.0 k.1 k.2) h.stops
-stuck text (error.Kind start end) of h k = no_clash_in alike_in_kind text h.tokens k.0 h.sections k.1 start end h.derives k.2 h.clash k.3
-stuck text (error.Arity start end) of h k = no_clash_in same_arity text h.tokens k.0 h.sections k.1 start end h.derives k.2 h.clash k.4
+    no_stop text k.0 h.before h.token h.after k.3.tokens_are h.tokens_are (derived_begins text k.0 k.1 k.2 k.3) h.stops
+stuck text (error.Defined start end) of h k =
+    none_named (λ qs o. is_redefined o.role) text h.tokens k.0 h.own k.1 h.declarations k.2 start end h.derives k.3 h.named k.4
+stuck text (error.Cycle start end) of h k =
+    none_cyclic h.declarations k.2 h.number (one_derivation text h.tokens k.0 h.own k.1 h.declarations k.2 h.derives k.3).0 h.cycle k.5
+stuck text (error.Kind start end) of h k =
+    none_named (λ qs. has_kind_fault (names_in qs)) text h.tokens k.0 h.own k.1 h.declarations k.2 start end h.derives k.3 h.named k.6
+stuck text (error.Arity start end) of h k =
+    none_named (λ qs. has_arity_fault (heads_of qs) (names_in qs)) text h.tokens k.0 h.own k.1 h.declarations k.2 start end
+    h.derives k.3 h.named k.4.arities
+stuck text (error.DeepUse start end) of h k =
+    let d = k.1 in
+    none_named (λ qs. is_use_too_deep (definitions_in qs)) text h.tokens d.tokens h.own d.own h.declarations d.declarations start end
+    h.derives d.derives h.named
+    (none_there (is_use_too_deep (definitions_in d.declarations)) (names_in d.declarations)
+    (no_deep_use d.declarations d.named_well d.derives.derived d.expanded d.sections d.expands d.sections_are))
 stuck text error.Nodes of h k = nodes_refuse text h k.0 k.1
 stuck text error.NoMemory of h k = absurd of
 
@@ -234,12 +305,25 @@ at_one_stage text (error.Form x) (error.Form y) e of h k = ap error.Form (one_fo
 at_one_stage text (error.Form x) (error.Deep y) e of h k = absurd (no_form_and_deep text x y h k)
 at_one_stage text (error.Deep x) (error.Form y) e of h k = absurd (no_form_and_deep text y x k h)
 at_one_stage text (error.Deep x) (error.Deep y) e of h k = ap error.Deep (one_deep text x y h k)
+at_one_stage text (error.Defined s f) (error.Defined x y) e of h k =
+    let same = one_named_of (λ qs o. is_redefined o.role) text h.tokens k.tokens h.own k.own h.declarations k.declarations s f x y
+    h.derives k.derives h.named k.named in
+    λ i. error.Defined (same.0 i) (same.1 i)
+at_one_stage text (error.Cycle s f) (error.Cycle x y) e of h k =
+    let same = one_cycle_place text s f x y h k in
+    λ i. error.Cycle (same.0 i) (same.1 i)
 at_one_stage text (error.Kind s f) (error.Kind x y) e of h k =
-    let same = one_clash_of alike_in_kind text h.tokens k.tokens h.sections k.sections s f x y h.derives k.derives h.clash k.clash in
+    let same = one_named_of (λ qs. has_kind_fault (names_in qs)) text h.tokens k.tokens h.own k.own h.declarations k.declarations s f x y
+    h.derives k.derives h.named k.named in
     λ i. error.Kind (same.0 i) (same.1 i)
 at_one_stage text (error.Arity s f) (error.Arity x y) e of h k =
-    let same = one_clash_of same_arity text h.tokens k.tokens h.sections k.sections s f x y h.derives k.derives h.clash k.clash in
+    let same = one_named_of (λ qs. has_arity_fault (heads_of qs) (names_in qs)) text h.tokens k.tokens h.own k.own h.declarations k.declarations s f x y
+    h.derives k.derives h.named k.named in
     λ i. error.Arity (same.0 i) (same.1 i)
+at_one_stage text (error.DeepUse s f) (error.DeepUse x y) e of h k =
+    let same = one_named_of (λ qs. is_use_too_deep (definitions_in qs)) text h.tokens k.tokens h.own k.own h.declarations k.declarations s f x y
+    h.derives k.derives h.named k.named in
+    λ i. error.DeepUse (same.0 i) (same.1 i)
 at_one_stage text error.Nodes error.Nodes e of h k = refl
 at_one_stage text error.NoMemory b e of h k = absurd of
 at_one_stage text a b e of h k = absurd (omega (arith, e))
@@ -247,7 +331,7 @@ at_one_stage text a b e of h k = absurd (omega (arith, e))
 -- where a refusal has its cause, the text spells no specification
 pub cause_refuses : (text : List ℕ) (e : SpecError) → HasCause text e → SpellsNoSpec text e
 cause_refuses text error.NoMemory h = tt
-cause_refuses text e h = λ spec spelled. stuck text e tt h (back (suc (stage e)) 5 text (omega arith) (spec, spelled))
+cause_refuses text e h = λ spec spelled. stuck text e tt h (back (suc (stage e)) 8 text (omega arith) (spec, spelled))
 
 -- a text has at most one cause
 pub one_cause : (text : List ℕ) (a b : SpecError) → IsOfText a → IsOfText b → HasCause text a → HasCause text b → a ≡ b

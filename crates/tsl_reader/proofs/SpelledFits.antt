@@ -14,9 +14,8 @@ use Rattle.spec_syntax.specs.declared.syntax.Part.{Part}
 use Rattle.spec_syntax.specs.declared.syntax.Part.TheVariants.{AssumeFirst, AssumeAlways, GuaranteeFirst, GuaranteeAlways}
 use Rattle.tsl_reader.specs.Naming.{all_uses, named_by, names_of, numbered_list, formulas_of_part}
 use Rattle.tsl_reader.specs.Spells.{IsDerived, Spells}
-use Rattle.tsl_reader.proofs.Usable.{usable_uses}
 use Rattle.tsl_reader.proofs.Known.{MayBeNamed, each_named}
-use Rattle.tsl_reader.proofs.Results.{list_of_part}
+use Rattle.tsl_reader.proofs.ExpandedTexts.{TextExpands, usable, list_good}
 
 name_is_fit : (n : Name) → MayBeNamed n → name_fits n ≡ true
 name_is_fit n (inl asks) = ap name_fits asks
@@ -34,10 +33,15 @@ names_fit : (us names : List Name) → IsTrue (list_all name_fits names) → All
 names_fit [] names fit may = fit
 names_fit (u ∷ us) names fit may = names_fit us (with_use names u) (added_fits names u (number_of names u.text) fit may.0) may.1
 
+text_expands : (text : List ℕ) (spec : SpecTree) → (d : IsDerived text spec) →
+    TextExpands text d.tokens d.own d.declarations d.expanded d.sections
+text_expands text spec d =
+    record { derives = d.derives; well = d.named_well; expands = d.expands; sections_are = d.sections_are }
+
 list_fits : (text : List ℕ) (spec : SpecTree) → (d : IsDerived text spec) → (part : Part) (fs : List FormulaTree) →
     numbered_list spec.names (formulas_of_part part d.sections) ≡ Some fs → list_all (formula_fits spec.names) fs ≡ true
 list_fits text spec d part fs is =
-    let good = list_of_part text d.tokens d.sections d.derives d.one_kind d.one_arity part in
+    let good = list_good text d.tokens d.own d.declarations d.expanded d.sections (text_expands text spec d) part in
     let same : Some good.trees ≡ Some fs = sym good.numbered_are
     ∙ ap (λ names. numbered_list names (formulas_of_part part d.sections)) (sym d.names) ∙ is in
     let trees : good.trees ≡ fs = cc in
@@ -47,7 +51,7 @@ pub derived_fits : (text : List ℕ) (spec : SpecTree) → IsDerived text spec �
 derived_fits text spec d = record {
   distinct = rw d.names (first_uses_distinct (flat_map named_by (all_uses d.sections)));
   names = rw d.names (names_fit (flat_map named_by (all_uses d.sections)) [] refl
-      (each_named (all_uses d.sections) (usable_uses text d.tokens d.sections d.derives)));
+      (each_named (all_uses d.sections) (usable text d.tokens d.own d.declarations d.expanded d.sections (text_expands text spec d))));
   formulas = four (formula_fits spec.names) spec.assume_first spec.assume_always spec.guarantee_first spec.guarantee_always
       (list_fits text spec d AssumeFirst spec.assume_first d.assume_first)
       (list_fits text spec d AssumeAlways spec.assume_always d.assume_always)

@@ -1,40 +1,35 @@
 -- Steps of reading a text, over plain variables.
-use Rattle.std.proofs.Common.{◌≡◌, ℕ, zero, suc, ◌+◌, ◌-◌, ◌<◌, ◌≤◌, ◌^◌, Bool, true, false, cond, List, ◌∷◌, length, map, get_or, drop}
-use Rattle.std.proofs.Common.{refl, ap, sym, ◌∙◌, subst, arith}
+use Rattle.std.proofs.Common.{◌≡◌, ℕ, zero, suc, ◌+◌, ◌-◌, ◌<◌, ◌≤◌, ◌^◌, Bool, true, false, cond, List, ◌∷◌, length, get_or, drop}
+use Rattle.std.proofs.Common.{refl, ap, sym, ◌∙◌, arith}
 use Rattle.std.proofs.lemmas.Bool.{leb-true, leb-false}
-use Rattle.std.proofs.lemmas.List.{drop_more, length-map}
+use Rattle.std.proofs.lemmas.List.{drop_more}
 use Rattle.std.specs.List.{list_all}
 use Rattle.std.specs.Prelude.{Option, Some, None, Ok, Err, slice_get, flat_map, nat_le, MatchOption}
 use Rattle.sequence.proofs.Places.{slice_get_some}
 use Rattle.tsl_text.specs.declared.Token.{Token}
 use Rattle.tsl_text.specs.Division.{AreTokens}
-use Rattle.tsl_text.specs.Lexeme.{token_text}
 use Rattle.tsl_terms.specs.Name.{Name}
-use Rattle.tsl_terms.specs.Clashes.{alike_in_kind, same_arity, first_uses, IsFirstClash, HasNoClash}
+use Rattle.tsl_terms.specs.Clashes.{first_uses}
 use Rattle.tsl_terms.specs.FormulaTree.{FormulaTrees, formulas_in as members_in}
 use Rattle.tsl_terms.specs.Nodes.{nodes}
 use Rattle.tsl_terms.specs.SpecTree.{SpecTree, whole_formula}
 use Rattle.tsl_terms.specs.WellFormed.{formula_fits, formulas_fit}
-use Rattle.spec_syntax.specs.declared.syntax.Part.{Part}
 use Rattle.spec_syntax.specs.declared.syntax.Part.TheVariants.{AssumeFirst, AssumeAlways, GuaranteeFirst, GuaranteeAlways}
 use Rattle.spec_syntax.specs.declared.terminal.Terminal.{Terminal as LentTerminal}
-use Rattle.spec_syntax.specs.Syntax.{Terminal, FormulaSyntax, SectionSyntax}
+use Rattle.spec_syntax.specs.Syntax.{Terminal, FormulaSyntax, SectionSyntax, Declaration}
 use Rattle.token_readers.specs.Readers.{form, deep}
-use Rattle.spec_syntax.specs.Reading.{sections}
-use Rattle.tsl_reader.specs.Naming.{Use, all_uses, written_uses, named_by, names_of, numbered_list, formulas_of_part}
+use Rattle.spec_syntax.specs.Reading.{declarations}
+use Rattle.tsl_reader.specs.Naming.{Use, all_uses, named_by, names_of, numbered_list, formulas_of_part}
 use Rattle.tsl_reader.specs.Numbering.{HasNumbers}
 use Rattle.spec_syntax.specs.Texts.{terminal_at, terminals}
-use Rattle.tsl_reader.specs.Spells.{deepest_level, is_free, name_tokens, Derives, HasFormFault, HasDeepFault}
-use Rattle.tsl_reader.specs.Spells.{HasClashAt}
+use Rattle.tsl_reader.specs.Spells.{deepest_level, is_free, name_tokens, HasFormFault, HasDeepFault}
 use Rattle.tsl_reader.specs.Spells.{IsDerived, Spells, HasTooManyNodes, most_formula_nodes}
+use Rattle.tsl_reader.specs.ReadText.{AreDeclared, AreExpanded}
 use Rattle.spec_syntax.specs.SyntaxView.{terminals_view}
-use Rattle.spec_syntax.proofs.Faults.{form_is_within}
+use Rattle.tsl_reader.proofs.DeclarationFaults.{form_is_within}
 use Rattle.tsl_reader.proofs.Causes.{length_terminals, form_at_token, form_at_end, deep_at_token, deep_has_token}
-use Rattle.spec_syntax.proofs.ExactSections.{sections_derive}
-use Rattle.tsl_reader.proofs.Counts.{uses_within}
-use Rattle.tsl_reader.proofs.NameBounds.{names_within, firsts_within}
-use Rattle.tsl_reader.proofs.Results.{list_of_part}
-use Rattle.tsl_reader.proofs.UsePlaces.{token_of_use}
+use Rattle.spec_syntax.proofs.ExactDeclarations.{declarations_derive}
+use Rattle.tsl_reader.proofs.NameBounds.{names_within}
 
 is_there : (tokens : List Token) (i : ℕ) → i < length tokens → slice_get tokens i ≡ None → ⊥
 is_there tokens i within none =
@@ -76,29 +71,31 @@ name_skipped text ts i left same d at within is e h =
 
 -- what was read
 
-pub derives : (text : List ℕ) (tokens : List Token) (xs : List LentTerminal) (ss : List SectionSyntax) (rest : List Terminal) →
+pub derives : (text : List ℕ) (tokens : List Token) (xs : List LentTerminal) (ds : List Declaration) (rest : List Terminal) →
     AreTokens text tokens →
-    terminals_view xs ≡ terminals text tokens → sections deepest_level (terminals_view xs) ≡ Ok (ss, rest) → Derives text tokens ss
-derives text tokens xs ss rest are is h =
-    record { tokens_are = are; derived = sections_derive deepest_level (terminals text tokens) ss rest (rw is at h) }
+    terminals_view xs ≡ terminals text tokens → declarations deepest_level (terminals_view xs) ≡ Ok (ds, rest) →
+    AreDeclared text tokens ds
+derives text tokens xs ds rest are is h =
+    let read = declarations_derive deepest_level (terminals text tokens) ds rest (rw is at h) in
+    (read.0, record { tokens_are = are; derived = read.1 })
 
 -- faults, with as many tokens left as terminals
 
 pub form_left : (text : List ℕ) (tokens : List Token) (xs : List LentTerminal) (left : ℕ) → terminals_view xs ≡ terminals text tokens →
-    sections deepest_level (terminals_view xs) ≡ Err (form left) → left ≤ length tokens
+    declarations deepest_level (terminals_view xs) ≡ Err (form left) → left ≤ length tokens
 form_left text tokens xs left is h =
     omega (arith, form_is_within deepest_level (terminals text tokens) left (rw is at h), length_terminals text tokens)
 
 pub deep_left : (text : List ℕ) (tokens : List Token) (xs : List LentTerminal) (left : ℕ) → terminals_view xs ≡ terminals text tokens →
-    sections deepest_level (terminals_view xs) ≡ Err (deep left) → left ≤ length tokens
+    declarations deepest_level (terminals_view xs) ≡ Err (deep left) → left ≤ length tokens
 deep_left text tokens xs left is h = (deep_has_token text tokens left (rw is at h)).1
 
 pub form_fault : (text : List ℕ) (tokens : List Token) (xs : List LentTerminal) (left at : ℕ) → AreTokens text tokens →
     terminals_view xs ≡ terminals text tokens →
-    sections deepest_level (terminals_view xs) ≡ Err (form left) →
+    declarations deepest_level (terminals_view xs) ≡ Err (form left) →
     MatchOption (slice_get tokens (length tokens - left)) (at ≡ length text) (λ token. at ≡ token.start) → HasFormFault text at
 form_fault text tokens xs left at are is h place = by (slice_get tokens (length tokens - left)) refl place where
-  read : sections deepest_level (terminals text tokens) ≡ Err (form left)
+  read : declarations deepest_level (terminals text tokens) ≡ Err (form left)
   read = rw is at h
 
   by : (found : Option Token) → slice_get tokens (length tokens - left) ≡ found →
@@ -108,10 +105,10 @@ form_fault text tokens xs left at are is h place = by (slice_get tokens (length 
 
 pub deep_fault : (text : List ℕ) (tokens : List Token) (xs : List LentTerminal) (left at : ℕ) → AreTokens text tokens →
     terminals_view xs ≡ terminals text tokens →
-    sections deepest_level (terminals_view xs) ≡ Err (deep left) →
+    declarations deepest_level (terminals_view xs) ≡ Err (deep left) →
     MatchOption (slice_get tokens (length tokens - left)) (at ≡ length text) (λ token. at ≡ token.start) → HasDeepFault text at
 deep_fault text tokens xs left at are is h place = by (slice_get tokens (length tokens - left)) refl place where
-  read : sections deepest_level (terminals text tokens) ≡ Err (deep left)
+  read : declarations deepest_level (terminals text tokens) ≡ Err (deep left)
   read = rw is at h
 
   within : length tokens - left < length tokens
@@ -121,52 +118,6 @@ deep_fault text tokens xs left at are is h place = by (slice_get tokens (length 
       MatchOption found (at ≡ length text) (λ token. at ≡ token.start) → HasDeepFault text at
   by None e k = absurd (is_there tokens (length tokens - left) within e)
   by (Some token) e k = rw k (deep_at_token text tokens are left read token e)
-
--- clashes
-
--- the first use that is not like the first use of its name has its token
-pub clash_told : (alike : Name → Name → Bool) (text : List ℕ) (tokens : List Token) (us : List Name) (at : ℕ) (found : Option Token) →
-    map (λ n. n.text) us ≡ map (token_text text) (name_tokens text tokens) → IsFirstClash alike us at →
-    found ≡ slice_get (name_tokens text tokens) at →
-    MatchOption found (HasNoClash alike us) (λ token. (k : ℕ) × IsFirstClash alike us k ×
-    (slice_get (name_tokens text tokens) k ≡ Some token))
-clash_told alike text tokens us at None spelled h e =
-    let token = token_of_use us (name_tokens text tokens) text at h.clash.usage spelled h.clash.use_there in
-    let never : None ≡ Some token.0 = e ∙ token.1 in
-    cc
-clash_told alike text tokens us at (Some token) spelled h e = (at, h, sym e)
-
--- the names that are used are those of the sections
-pub written_are : (us : List Use) (names : List Name) (ss : List SectionSyntax) → names ≡ map (λ u. u.name) us → us ≡ all_uses ss →
-    names ≡ written_uses ss
-written_are us names ss is are = is ∙ ap (map (λ u. u.name)) are
-
-pub few_firsts : (text : List ℕ) (tokens : List Token) (ss : List SectionSyntax) (names : List Name) → Derives text tokens ss →
-    length text < 2 ^ 32 - 1 → names ≡ written_uses ss →
-    length (first_uses names) < 2 ^ 32
-few_firsts text tokens ss names d short are =
-    omega (arith, short, firsts_within names, ap length are, length-map (all_uses ss) (λ u. u.name), uses_within text tokens ss d)
-
-pub few_names : (text : List ℕ) (tokens : List Token) (ss : List SectionSyntax) (us : List Use) (names : List Name) →
-    Derives text tokens ss → length text < 2 ^ 32 - 1 →
-    names ≡ flat_map named_by us → us ≡ all_uses ss → length (first_uses names) < 2 ^ 32
-few_names text tokens ss us names d short is are =
-    rw (is, are) (omega (arith, short, names_within (all_uses ss), uses_within text tokens ss d))
-
-pub clash_in : (alike : Name → Name →
-    Bool) (text : List ℕ) (tokens : List Token) (ss : List SectionSyntax) (us : List Name) (token : Token) → us ≡ written_uses ss →
-    (k : ℕ) × IsFirstClash alike us k × (slice_get (name_tokens text tokens) k ≡ Some token) →
-    HasClashAt alike text tokens ss token.start token.end
-clash_in alike text tokens ss us token are h =
-    record {
-      at = h.0;
-      clash = subst (λ names. IsFirstClash alike names h.0) are h.1;
-      token = token;
-      there = h.2;
-      starts = refl;
-      ends =
-          refl;
-    }
 
 -- a list that has its numbers fits the names
 
@@ -180,33 +131,34 @@ list_fits names fs list h is =
 
 -- the specification
 
-pub numbers_of : (text : List ℕ) (tokens : List Token) (ss rs : List SectionSyntax) (names : List Name) → Derives text tokens ss →
-    HasNoClash alike_in_kind (written_uses ss) →
-    HasNoClash same_arity (written_uses ss) → names ≡ names_of ss → rs ≡ ss → (part : Part) → HasNumbers names (formulas_of_part part rs)
-numbers_of text tokens ss rs names d kinds arities named same part =
-    let good = list_of_part text tokens ss d kinds arities part in
-    rw (named, same) (record { trees = good.trees; numbered = good.numbered_are; fit = good.fit })
-
-pub derives_spec : (text : List ℕ) (tokens : List Token) (ss : List SectionSyntax) (names : List Name) (spec : SpecTree) →
-    Derives text tokens ss →
-    HasNoClash alike_in_kind (written_uses ss) → HasNoClash same_arity (written_uses ss) → names ≡ names_of ss → spec.names ≡ names →
+pub derives_spec : (text : List ℕ) (ss : List SectionSyntax) (names : List Name) (spec : SpecTree) → (e : AreExpanded text ss) →
+    names ≡ names_of ss → spec.names ≡ names →
     numbered_list names (formulas_of_part AssumeFirst ss) ≡ Some spec.assume_first →
     numbered_list names (formulas_of_part AssumeAlways ss) ≡ Some spec.assume_always →
     numbered_list names (formulas_of_part GuaranteeFirst ss) ≡ Some spec.guarantee_first →
     numbered_list names (formulas_of_part GuaranteeAlways ss) ≡ Some spec.guarantee_always →
     IsDerived text spec
-derives_spec text tokens ss names spec d kinds arities named are a b c e = record {
-  tokens = tokens;
-  sections = ss;
-  derives = d;
-  one_kind = kinds;
-  one_arity = arities;
-  names = are ∙ named;
-  assume_first = rw are a;
-  assume_always = rw are b;
-  guarantee_first = rw are c;
-  guarantee_always = rw are e;
+derives_spec text ss names spec e named are a b c d = record {
+  tokens = e.tokens;
+  own = e.own;
+  declarations = e.declarations;
+  derives = e.derives;
+  named_well = e.named_well;
+  expanded = e.expanded;
+  expands = e.expands;
+  sections = e.sections;
+  sections_are = e.sections_are;
+  names = are ∙ named ∙ ap (λ us. first_uses (flat_map named_by us)) e.stand_for.uses;
+  assume_first = sym (e.stand_for.numbers spec.names AssumeFirst) ∙ (rw are a);
+  assume_always = sym (e.stand_for.numbers spec.names AssumeAlways) ∙ (rw are b);
+  guarantee_first = sym (e.stand_for.numbers spec.names GuaranteeFirst) ∙ (rw are c);
+  guarantee_always = sym (e.stand_for.numbers spec.names GuaranteeAlways) ∙ (rw are d);
 }
+
+-- not more names than fit
+pub few_firsts : (ss : List SectionSyntax) (us : List Use) (names : List Name) → suc (length (all_uses ss)) < 2 ^ 32 →
+    names ≡ flat_map named_by us → us ≡ all_uses ss → length (first_uses names) < 2 ^ 32
+few_firsts ss us names few is are = rw (is, are) (omega (arith, few, names_within (all_uses ss)))
 
 -- how many nodes the whole formula has
 

@@ -1,5 +1,5 @@
 -- The names of a text's tokens are usable where they are no reserved words.
-use Rattle.std.proofs.Common.{◌≡◌, ℕ, Bool, true, false, ◌||◌, List, [], ◌∷◌, map, refl, sym, subst}
+use Rattle.std.proofs.Common.{◌≡◌, ℕ, Bool, true, false, ◌||◌, List, [], ◌∷◌, refl}
 use Rattle.std.specs.Prelude.{Option, Some, None, codes, IsTrue, if◌then◌else◌}
 use Rattle.std.specs.List.{AllByRecursion}
 use Rattle.std.specs.Str.{bytes_eq}
@@ -13,11 +13,9 @@ use Rattle.tsl_text.proofs.Parts.{each_token}
 use Rattle.tsl_text.specs.Names.{is_name_text, is_reserved, is_usable}
 use Rattle.spec_syntax.specs.declared.syntax.Word.{Word}
 use Rattle.spec_syntax.specs.declared.syntax.Word.TheVariants.{Assume, Guarantee, Always, Initially, True, False, X, F, G, U, W, R, A}
-use Rattle.spec_syntax.specs.Syntax.{Terminal, free, word, mark, word_of, free_unless, terminal_of, SectionSyntax}
+use Rattle.spec_syntax.specs.Syntax.{Terminal, free, word, mark, word_of, free_unless, terminal_of}
 use Rattle.spec_syntax.specs.Texts.{terminal_at, terminals}
-use Rattle.tsl_reader.specs.Spells.{Derives}
-use Rattle.tsl_reader.specs.Naming.{Use, all_uses}
-use Rattle.tsl_reader.proofs.UseTexts.{free_texts, text_of, sections_texts}
+use Rattle.tsl_reader.proofs.UseTexts.{free_texts}
 
 abbrev pub IsUsable : List ℕ → Type 0
 IsUsable text = IsTrue (is_usable text)
@@ -64,15 +62,5 @@ usable_each text (t ∷ tokens) h =
     (usable_each text tokens h.1)
 
 -- the names of a text are usable
-usable_terminals : (text : List ℕ) (tokens : List Token) → AreTokens text tokens → AreUsable (terminals text tokens)
+pub usable_terminals : (text : List ℕ) (tokens : List Token) → AreTokens text tokens → AreUsable (terminals text tokens)
 usable_terminals text tokens are = usable_each text tokens (recursion_from_All (IsTokenOf text) tokens (each_token text tokens are))
-
-of_texts : (us : List Use) → AllByRecursion IsUsable (map text_of us) → AllByRecursion (λ u. IsUsable u.name.text) us
-of_texts [] h = tt
-of_texts (u ∷ us) h = (h.0, of_texts us h.1)
-
--- and so are those of its uses
-pub usable_uses : (text : List ℕ) (tokens : List Token) (ss : List SectionSyntax) → Derives text tokens ss →
-    AllByRecursion (λ u. IsUsable u.name.text) (all_uses ss)
-usable_uses text tokens ss d =
-    of_texts (all_uses ss) (subst (AllByRecursion IsUsable) (sym (sections_texts d.derived)) (usable_terminals text tokens d.tokens_are))

@@ -1,17 +1,18 @@
--- Each use that stands in a text has its token, in the same order.
-use Rattle.std.proofs.Common.{◌≡◌, ℕ, zero, suc, List, [], ◌∷◌, map, refl, ap, sym, ◌∙◌}
+-- Each name that stands in a text has its token, in the same order.
+use Rattle.std.proofs.Common.{◌≡◌, ℕ, zero, suc, List, [], ◌∷◌, map, refl, ap, ◌∙◌}
 use Rattle.std.specs.Prelude.{Option, Some, None, cond, slice_get}
 use Rattle.tsl_text.specs.declared.Token.{Token}
 use Rattle.tsl_text.specs.declared.TokenKind.{TokenKind}
 use Rattle.tsl_text.specs.declared.TokenKind.TheVariants.{Name as NameKind}
 use Rattle.tsl_text.specs.Lexeme.{lexeme_from, token_text}
-use Rattle.tsl_terms.specs.Name.{Name}
 use Rattle.spec_syntax.specs.declared.syntax.Word.{Word}
-use Rattle.spec_syntax.specs.Syntax.{Terminal, free, word, mark, word_of, free_unless, terminal_of, SectionSyntax}
-use Rattle.tsl_reader.specs.Naming.{written_uses}
+use Rattle.spec_syntax.specs.Syntax.{Terminal, free, word, mark, word_of, free_unless, terminal_of, Declaration}
 use Rattle.spec_syntax.specs.Texts.{terminal_at, terminals}
 use Rattle.tsl_reader.specs.Spells.{deepest_level, Derives, is_free, name_tokens}
-use Rattle.tsl_reader.proofs.UseTexts.{free_texts, written_texts}
+use Rattle.declared_names.specs.Occurrences.{Occurrence}
+use Rattle.declared_names.specs.WrittenNames.{free_names}
+use Rattle.declared_names.specs.WellDeclared.{heads_of, names_in}
+use Rattle.declared_names.proofs.WrittenTexts.{occurrences_texts}
 
 -- the terminal of a token is a name with the token's bytes, or no name
 data IsOf (text : List ℕ) : Terminal → Type 0 where
@@ -28,31 +29,28 @@ is_of NameKind text = of_unless text (word_of text)
 is_of kind text = of_mark kind
 
 one_token : (text : List ℕ) (t : Token) (rest : List Token) (x : Terminal) → IsOf (token_text text t) x →
-    free_texts (terminals text rest) ≡ map (token_text text) (name_tokens text rest) →
-    free_texts (x ∷ terminals text rest) ≡ map (token_text text) (cond (is_free x) (t ∷ name_tokens text rest) (name_tokens text rest))
+    free_names (terminals text rest) ≡ map (token_text text) (name_tokens text rest) →
+    free_names (x ∷ terminals text rest) ≡ map (token_text text) (cond (is_free x) (t ∷ name_tokens text rest) (name_tokens text rest))
 one_token text t rest x of_name h = ap (λ ts. token_text text t ∷ ts) h
 one_token text t rest x (of_word w) h = h
 one_token text t rest x (of_mark m) h = h
 
-each_name : (text : List ℕ) (tokens : List Token) → free_texts (terminals text tokens) ≡ map (token_text text) (name_tokens text tokens)
+each_name : (text : List ℕ) (tokens : List Token) → free_names (terminals text tokens) ≡ map (token_text text) (name_tokens text tokens)
 each_name text [] = refl
 each_name text (t ∷ tokens) = one_token text t tokens (terminal_at text t) (is_of t.kind (token_text text t)) (each_name text tokens)
 
--- the bytes of the tokens that are names are those of the written uses, in order
-pub texts_of_uses : (text : List ℕ) (tokens : List Token) (ss : List SectionSyntax) → Derives text tokens ss →
-    map (λ n. n.text) (written_uses ss) ≡ map (token_text text) (name_tokens text tokens)
-texts_of_uses text tokens ss d = written_texts deepest_level (terminals text tokens) ss d.derived ∙ each_name text tokens
+-- the bytes of the tokens that are names are those of the names of what is read, in order
+pub texts_of_names : (text : List ℕ) (tokens : List Token) (own : List Terminal) (ds : List Declaration) → Derives text tokens own ds →
+    map (λ o. o.text) (names_in ds) ≡ map (token_text text) (name_tokens text tokens)
+texts_of_names text tokens own ds d =
+    occurrences_texts (heads_of ds) deepest_level (terminals text tokens) own ds d.derived ∙ each_name text tokens
 
--- a use of a list has its token in the list of theirs
-pub token_of_use : (us : List Name) (ts : List Token) (text : List ℕ) (at : ℕ) (u : Name) →
-    map (λ n. n.text) us ≡ map (token_text text) ts → slice_get us at ≡ Some u →
-    (token : Token) × (slice_get ts at ≡ Some token) × (token_text text token ≡ u.text)
-token_of_use [] ts text at u same h = cc
-token_of_use (v ∷ us) [] text at u same h = cc
-token_of_use (v ∷ us) (t ∷ ts) text zero u same h =
-    let first : v.text ≡ token_text text t = cc in
-    let is : v ≡ u = cc in
-    (t, refl, sym first ∙ ap (λ n. n.text) is)
-token_of_use (v ∷ us) (t ∷ ts) text (suc at) u same h =
-    let others : map (λ n. n.text) us ≡ map (token_text text) ts = cc in
-    token_of_use us ts text at u others h
+-- a name of a list has its token in the list of theirs
+pub token_of_name : (os : List Occurrence) (ts : List Token) (text : List ℕ) (at : ℕ) (o : Occurrence) →
+    map (λ o. o.text) os ≡ map (token_text text) ts → slice_get os at ≡ Some o → (token : Token) × (slice_get ts at ≡ Some token)
+token_of_name [] ts text at o same h = cc
+token_of_name (v ∷ os) [] text at o same h = cc
+token_of_name (v ∷ os) (t ∷ ts) text zero o same h = (t, refl)
+token_of_name (v ∷ os) (t ∷ ts) text (suc at) o same h =
+    let others : map (λ o. o.text) os ≡ map (token_text text) ts = cc in
+    token_of_name os ts text at o others h

@@ -1,22 +1,31 @@
--- Which specification a text spells, and the cause of each refusal.
-use Rattle.std.specs.Prelude.{◌≡◌, ℕ, ◌≤◌, ◌<◌, Bool, true, false, List, [], ◌∷◌, ◌++◌, length, filter, Some, slice_get, ◌⊎◌}
+-- Which specification a text spells, and the cause of each refusal. Definitions with parameters are this project's own addition
+-- to the format of specifications.
+use Rattle.std.specs.Prelude.{◌≡◌, ℕ, ◌≤◌, ◌<◌, Bool, true, false, List, [], ◌∷◌, ◌++◌, length, filter, Some, None, slice_get, position}
+use Rattle.std.specs.Prelude.{◌⊎◌}
 use Rattle.tsl_text.specs.declared.Token.{Token}
 use Rattle.tsl_text.specs.Division.{AreTokens, HasBadByte, HasOpenComment}
-use Rattle.tsl_terms.specs.Name.{Name}
-use Rattle.tsl_terms.specs.Clashes.{alike_in_kind, same_arity, IsFirstClash, HasNoClash}
 use Rattle.tsl_terms.specs.Nodes.{nodes}
 use Rattle.tsl_terms.specs.SpecTree.{SpecTree, whole_formula}
 use Rattle.tsl_reader.specs.declared.TheConstants.{MOST_NODES}
 use Rattle.tsl_reader.specs.declared.stages.TheConstants.{DEEPEST}
 use Rattle.tsl_reader.specs.declared.SpecError.{SpecError}
-use Rattle.tsl_reader.specs.declared.SpecError.TheVariants.{Byte, OpenComment, Form, Deep, Kind, Arity, Nodes, NoMemory}
+use Rattle.tsl_reader.specs.declared.SpecError.TheVariants.{Byte, OpenComment, Form, Deep, Defined, Cycle, Kind, Arity, DeepUse}
+use Rattle.tsl_reader.specs.declared.SpecError.TheVariants.{Nodes, NoMemory}
 use Rattle.spec_syntax.specs.declared.syntax.Part.TheVariants.{AssumeFirst, AssumeAlways, GuaranteeFirst, GuaranteeAlways}
-use Rattle.spec_syntax.specs.Syntax.{Terminal, free, word, mark, SectionSyntax}
-use Rattle.spec_syntax.specs.Grammar.{AreSections}
-use Rattle.spec_syntax.specs.Texts.{terminal_at, terminals, SomeTextBegins, NoTextBegins, IsNoText}
-use Rattle.tsl_reader.specs.Naming.{written_uses, names_of, numbered_list, formulas_of_part}
+use Rattle.spec_syntax.specs.Syntax.{Terminal, free, word, mark, SectionSyntax, Declaration}
+use Rattle.spec_syntax.specs.Grammar.{AreSections, AreDeclarations}
+use Rattle.spec_syntax.specs.Texts.{terminal_at, terminals, SomeDeclarationsBegin, NoDeclarationsBegin, AreNoDeclarations}
+use Rattle.named_formulas.specs.DefinitionView.{named_in}
+use Rattle.named_formulas.specs.TextExpansion.{Expands}
+use Rattle.named_formulas.specs.WellUsed.{as_written}
+use Rattle.named_formulas.specs.Uses.{IsFirstOnCycle}
+use Rattle.declared_names.specs.Heads.{definitions_in}
+use Rattle.declared_names.specs.Occurrences.{Occurrence}
+use Rattle.declared_names.specs.Faults.{is_redefined, is_head_of, has_kind_fault, has_arity_fault}
+use Rattle.declared_names.specs.WellDeclared.{heads_of, names_in, NoneOnCycle, AreNamedWell, is_use_too_deep}
+use Rattle.tsl_reader.specs.Naming.{names_of, numbered_list, formulas_of_part}
 
--- the deepest_level level
+-- the deepest level
 abbrev pub deepest_level : ℕ
 deepest_level = DEEPEST
 
@@ -24,19 +33,25 @@ deepest_level = DEEPEST
 abbrev pub most_formula_nodes : ℕ
 most_formula_nodes = MOST_NODES
 
--- the text has these tokens, and they derive from these sections with levels up to 200
-pub record Derives (text : List ℕ) (tokens : List Token) (sections : List SectionSyntax) : Type 0 where
+-- The text has these tokens, and they derive from these sections and definitions with levels up to 200. The sections' own
+-- terminals are those of the text without its definitions.
+pub record Derives (text : List ℕ) (tokens : List Token) (own : List Terminal) (declarations : List Declaration) : Type 0 where
   pub tokens_are : AreTokens text tokens
-  pub derived : AreSections deepest_level (terminals text tokens) sections
+  pub derived : AreDeclarations deepest_level (terminals text tokens) own declarations
 
--- Everything but the limit on nodes: the specification has the derived formulas in order, with names numbered by
--- first appearance, and no name is used in two kinds or with two numbers of arguments.
+-- Everything but the limit on nodes: no name of the text is wrong where it stands; the sections' own terminals expand, each use of
+-- a definition by its body; what they expand to derives from sections with levels up to 200; and the specification has the
+-- formulas of these in order, with names numbered by first appearance.
 pub record IsDerived (text : List ℕ) (spec : SpecTree) : Type 0 where
   pub tokens : List Token
+  pub own : List Terminal
+  pub declarations : List Declaration
+  pub derives : Derives text tokens own declarations
+  pub named_well : AreNamedWell declarations
+  pub expanded : List Terminal
+  pub expands : Expands (as_written (named_in (definitions_in declarations))) own expanded
   pub sections : List SectionSyntax
-  pub derives : Derives text tokens sections
-  pub one_kind : HasNoClash alike_in_kind (written_uses sections)
-  pub one_arity : HasNoClash same_arity (written_uses sections)
+  pub sections_are : AreSections deepest_level expanded sections
   pub names : spec.names ≡ names_of sections
   pub assume_first : numbered_list spec.names (formulas_of_part AssumeFirst sections) ≡ Some spec.assume_first
   pub assume_always : numbered_list spec.names (formulas_of_part AssumeAlways sections) ≡ Some spec.assume_always
@@ -56,8 +71,8 @@ pub record HasWrongToken (text : List ℕ) (at : ℕ) : Type 0 where
   pub after : List Token
   pub tokens_are : AreTokens text (before ++ token ∷ after)
   pub place : at ≡ token.start
-  pub begins : SomeTextBegins deepest_level (terminals text before)
-  pub stops : (room : ℕ) → NoTextBegins room (terminals text (before ++ token ∷ []))
+  pub begins : SomeDeclarationsBegin deepest_level (terminals text before)
+  pub stops : (room : ℕ) → NoDeclarationsBegin room (terminals text (before ++ token ∷ []))
 
 -- The text ends at this offset. Some text with levels up to 200 begins with its tokens, and they are none with any number of
 -- levels.
@@ -65,8 +80,8 @@ pub record EndsTooEarly (text : List ℕ) (at : ℕ) : Type 0 where
   pub tokens : List Token
   pub tokens_are : AreTokens text tokens
   pub place : at ≡ length text
-  pub begins : SomeTextBegins deepest_level (terminals text tokens)
-  pub no_text : (room : ℕ) → IsNoText room (terminals text tokens)
+  pub begins : SomeDeclarationsBegin deepest_level (terminals text tokens)
+  pub no_text : (room : ℕ) → AreNoDeclarations room (terminals text tokens)
 
 -- the first token, or the end, at which the text stops to be one of the grammar without a bound on levels
 abbrev pub HasFormFault : List ℕ → ℕ → Type 0
@@ -80,10 +95,10 @@ pub record HasDeepFault (text : List ℕ) (at : ℕ) : Type 0 where
   pub after : List Token
   pub tokens_are : AreTokens text (before ++ token ∷ after)
   pub place : at ≡ token.start
-  pub begins : SomeTextBegins deepest_level (terminals text before)
-  pub stops : NoTextBegins deepest_level (terminals text (before ++ token ∷ []))
+  pub begins : SomeDeclarationsBegin deepest_level (terminals text before)
+  pub stops : NoDeclarationsBegin deepest_level (terminals text (before ++ token ∷ []))
   pub room : ℕ
-  pub goes_on : SomeTextBegins room (terminals text (before ++ token ∷ []))
+  pub goes_on : SomeDeclarationsBegin room (terminals text (before ++ token ∷ []))
 
 -- whether a token is a name that is no reserved word
 abbrev pub is_free : Terminal → Bool
@@ -95,30 +110,71 @@ is_free (mark kind) = false
 abbrev pub name_tokens : List ℕ → List Token → List Token
 name_tokens text tokens = filter (λ t. is_free (terminal_at text t)) tokens
 
--- The name that begins and ends at these offsets is the first one that is not used like at its first use.
-pub record HasClashAt (alike : Name → Name →
-    Bool) (text : List ℕ) (tokens : List Token) (sections : List SectionSyntax) (start end : ℕ) : Type 0 where
+-- Of the names of a text, which its name tokens are in order, the first one that this test tells begins and ends at these offsets.
+pub record IsFirstName (is_such : Occurrence →
+    Bool) (text : List ℕ) (tokens : List Token) (declarations : List Declaration) (start end : ℕ) : Type 0 where
   pub at : ℕ
-  pub clash : IsFirstClash alike (written_uses sections) at
+  pub first : position is_such (names_in declarations) ≡ Some at
   pub token : Token
   pub there : slice_get (name_tokens text tokens) at ≡ Some token
   pub starts : start ≡ token.start
   pub ends : end ≡ token.end
 
--- a name is used in two kinds, for the first time at these offsets
+-- A name in a head that may not stand there begins and ends at these offsets, the first in the text: a defined name that an earlier
+-- definition defines, or a parameter that is a defined name or another parameter of its definition.
+pub record HasHeadFault (text : List ℕ) (start end : ℕ) : Type 0 where
+  pub tokens : List Token
+  pub own : List Terminal
+  pub declarations : List Declaration
+  pub derives : Derives text tokens own declarations
+  pub named : IsFirstName (λ o. is_redefined o.role) text tokens declarations start end
+
+-- No name in a head is wrong, and some definition reaches itself through uses. The name of the first such definition in the text
+-- begins and ends at these offsets where it is defined.
+pub record HasCycleFault (text : List ℕ) (start end : ℕ) : Type 0 where
+  pub tokens : List Token
+  pub own : List Terminal
+  pub declarations : List Declaration
+  pub derives : Derives text tokens own declarations
+  pub once : position (λ o. is_redefined o.role) (names_in declarations) ≡ None
+  pub number : ℕ
+  pub cycle : IsFirstOnCycle (definitions_in declarations) number
+  pub named : IsFirstName (is_head_of cycle.definition.name) text tokens declarations start end
+
+-- Besides no definition reaches itself. A name of a wrong kind begins and ends at these offsets, the first in the text: a defined
+-- name that is neither where it is defined nor a use, a parameter that is no signal, or a name that is neither and of another kind
+-- than where it stands first.
 pub record HasKindFault (text : List ℕ) (start end : ℕ) : Type 0 where
   pub tokens : List Token
-  pub sections : List SectionSyntax
-  pub derives : Derives text tokens sections
-  pub clash : HasClashAt alike_in_kind text tokens sections start end
+  pub own : List Terminal
+  pub declarations : List Declaration
+  pub derives : Derives text tokens own declarations
+  pub once : position (λ o. is_redefined o.role) (names_in declarations) ≡ None
+  pub acyclic : NoneOnCycle (definitions_in declarations)
+  pub named : IsFirstName (has_kind_fault (names_in declarations)) text tokens declarations start end
 
--- no name is used in two kinds, and one with two numbers of arguments, for the first time at these offsets
+-- Besides no name is of a wrong kind. A name with a wrong number begins and ends at these offsets, the first in the text: a use with
+-- another number of names than its definition has parameters, or a function or predicate with another number of arguments than
+-- where it stands first.
 pub record HasArityFault (text : List ℕ) (start end : ℕ) : Type 0 where
   pub tokens : List Token
-  pub sections : List SectionSyntax
-  pub derives : Derives text tokens sections
-  pub one_kind : HasNoClash alike_in_kind (written_uses sections)
-  pub clash : HasClashAt same_arity text tokens sections start end
+  pub own : List Terminal
+  pub declarations : List Declaration
+  pub derives : Derives text tokens own declarations
+  pub once : position (λ o. is_redefined o.role) (names_in declarations) ≡ None
+  pub acyclic : NoneOnCycle (definitions_in declarations)
+  pub kinds : position (has_kind_fault (names_in declarations)) (names_in declarations) ≡ None
+  pub named : IsFirstName (has_arity_fault (heads_of declarations) (names_in declarations)) text tokens declarations start end
+
+-- No name of the text is wrong where it stands. The first use in a section such that what stands in its place passes level 200
+-- begins and ends at these offsets with its name.
+pub record HasDeepUse (text : List ℕ) (start end : ℕ) : Type 0 where
+  pub tokens : List Token
+  pub own : List Terminal
+  pub declarations : List Declaration
+  pub derives : Derives text tokens own declarations
+  pub named_well : AreNamedWell declarations
+  pub named : IsFirstName (is_use_too_deep (definitions_in declarations)) text tokens declarations start end
 
 -- the text would spell a specification whose formula has more than 10,000 nodes
 pub record HasTooManyNodes (text : List ℕ) : Type 0 where
@@ -132,8 +188,11 @@ HasCause text (Byte at) = HasBadByte text at
 HasCause text (OpenComment at) = HasOpenComment text at
 HasCause text (Form at) = HasFormFault text at
 HasCause text (Deep at) = HasDeepFault text at
+HasCause text (Defined start end) = HasHeadFault text start end
+HasCause text (Cycle start end) = HasCycleFault text start end
 HasCause text (Kind start end) = HasKindFault text start end
 HasCause text (Arity start end) = HasArityFault text start end
+HasCause text (DeepUse start end) = HasDeepUse text start end
 HasCause text Nodes = HasTooManyNodes text
 HasCause text NoMemory = Unit {0}
 

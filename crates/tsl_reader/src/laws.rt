@@ -1,14 +1,23 @@
 //! Laws of the definitions that the contracts cite.
 
-ghost use Rattle.std.specs.Prelude.{◌≡◌, ℕ, List, map};
+ghost use Rattle.std.specs.Prelude.{◌≡◌, ◌≤◌, ℕ, suc, List, length, map};
 ghost use Rattle.tsl_text.specs.declared.Token.{Token};
 ghost use Rattle.tsl_text.specs.Lexeme.{token_text};
 ghost use Rattle.tsl_terms.specs.SpecTree.{SpecTree};
 ghost use Rattle.tsl_terms.specs.WellFormed.{SpecFits};
 ghost use Rattle.tsl_reader.specs.declared.SpecError.{SpecError};
-ghost use Rattle.spec_syntax.specs.Syntax.{SectionSyntax};
+ghost use Rattle.spec_syntax.specs.Syntax.{Terminal, SectionSyntax, Declaration, the_section};
+ghost use Rattle.spec_syntax.specs.Grammar.{AreSections};
+ghost use Rattle.spec_syntax.specs.Texts.{terminals};
+ghost use Rattle.tsl_text.specs.Division.{AreTokens};
+ghost use Rattle.tsl_terms.specs.Clashes.{alike_in_kind, same_arity, HasNoClash};
+ghost use Rattle.named_formulas.specs.DefinitionView.{named_in};
+ghost use Rattle.named_formulas.specs.TextExpansion.{Expands};
+ghost use Rattle.named_formulas.specs.WellUsed.{as_written};
+ghost use Rattle.declared_names.specs.Heads.{definitions_in};
+ghost use Rattle.declared_names.specs.WellDeclared.{names_in, AreNamedWell};
 ghost use Rattle.tsl_reader.specs.Naming.{written_uses};
-ghost use Rattle.tsl_reader.specs.Spells.{Spells, Derives};
+ghost use Rattle.tsl_reader.specs.Spells.{Spells, Derives, deepest_level};
 ghost use Rattle.tsl_reader.specs.Spells.{name_tokens, HasCause, IsOfText};
 ghost use Rattle.tsl_reader.specs.Spells.{SpellsNoSpec};
 
@@ -30,10 +39,30 @@ pub fn spelled_specifications_fit()
     ensures { (text : List ℕ) (spec : SpecTree) → Spells text spec → SpecFits spec }
 {}
 
-/// The tokens of a text that are names and no reserved words are, in order, the uses of names in
-/// what it derives from.
+/// The tokens of a text that are names and no reserved words are, in order, the names of what it derives
+/// from.
 pub fn names_stand_in_order()
-    ensures { (text : List ℕ) (tokens : List Token) (a : List SectionSyntax) → Derives text tokens a
-        → map (λ name. name.text) (written_uses a)
-        ≡ map (token_text text) (name_tokens text tokens) }
+    ensures { (text : List ℕ) (tokens : List Token) (own : List Terminal) (ds : List Declaration)
+        → Derives text tokens own ds
+        → map (λ o. o.text) (names_in ds) ≡ map (token_text text) (name_tokens text tokens) }
+{}
+
+/// A text without a definition has no more to it than its sections: their terminals expand to themselves,
+/// and no name is wrong where it stands where none clashes with its first use.
+pub fn texts_without_definitions_are_their_sections()
+    ensures derived { (text : List ℕ) (tokens : List Token) (ss : List SectionSyntax) → AreTokens text tokens
+        → AreSections deepest_level (terminals text tokens) ss
+        → Derives text tokens (terminals text tokens) (map the_section ss) }
+    ensures named { (ss : List SectionSyntax) → HasNoClash alike_in_kind (written_uses ss)
+        → HasNoClash same_arity (written_uses ss) → AreNamedWell (map the_section ss) }
+    ensures alone { (ss : List SectionSyntax) (xs : List Terminal)
+        → Expands (as_written (named_in (definitions_in (map the_section ss)))) xs xs }
+    ensures only { (ss : List SectionSyntax) (xs ys : List Terminal)
+        → Expands (as_written (named_in (definitions_in (map the_section ss)))) xs ys → xs ≡ ys }
+{}
+
+/// A specification has at most one name more than its text has bytes, whatever its definitions stand for.
+pub fn names_are_few()
+    ensures { (text : List ℕ) (spec : SpecTree) → Spells text spec
+        → length spec.names ≤ suc (length text) }
 {}

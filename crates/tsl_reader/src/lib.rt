@@ -3,9 +3,13 @@
 //! - `read_spec` reads a text as a specification: it answers `Ok` exactly where the text spells one
 //!   (`specs/Spells.antt`), and then that one, and each refusal has its cause there.
 //! - The grammar, as a relation by cases on whole lists of terminals, and the reading of terminals as
-//!   sections stand in the crate `spec_syntax`.
-//! - The names (`specs/Naming.antt`) are a second pass over what was read: each use that stands in the
-//!   text, and the names by first appearance, where `?` comes directly after the signal that it tests.
+//!   sections and definitions stand in the crate `spec_syntax`.
+//! - Which name of the text is what, and the first that is wrong where it stands, is told by the crate
+//!   `declared_names`; what a text with definitions expands to, by `named_formulas`. The size of an
+//!   expansion is computed before it is made.
+//! - The names of the specification (`specs/Naming.antt`) are a last pass over the expanded sections: each
+//!   use that stands in them, and the names by first appearance, where `?` comes directly after the signal
+//!   that it tests.
 //! - Laws: a text spells at most one specification, which fits its names, or has at most one cause of
 //!   refusal; a text derives in one way; a fault of the form or of a level is the first.
 #![tactic(auto)]
@@ -21,16 +25,22 @@ use std::alloc::{AllocFailed, Global};
 use thiserror::Error;
 use tsl_terms::Spec;
 
+mod expanding;
 mod laws;
 mod naming;
 mod numbering;
+mod splitting;
 mod stages;
+mod text_names;
 mod uses;
 
-pub use laws::{names_stand_in_order, one_cause, one_specification, spelled_specifications_fit};
+pub use laws::{
+    names_are_few, names_stand_in_order, one_cause, one_specification, spelled_specifications_fit,
+    texts_without_definitions_are_their_sections,
+};
 pub use spec_syntax::{
-    deep_faults_are_the_first, form_faults_are_the_first, grammar_has_one_reading,
-    reading_meets_the_grammar,
+    declarations_have_one_reading, deep_faults_of_declarations_are_the_first,
+    form_faults_of_declarations_are_the_first, reading_meets_declarations,
 };
 
 /// The most nodes that the whole formula of a specification may have.
@@ -54,14 +64,29 @@ pub enum SpecError {
     /// nests at most 200 levels deep.
     #[error("the token at byte {0} nests too deep")]
     Deep(u32),
+    /// The name between these offsets stands in the head of a definition and may not stand there: an
+    /// earlier definition defines it, or it is a parameter and a defined name or another parameter of
+    /// its definition. It is the first such name.
+    #[error("the name at byte {0} is defined or a parameter already")]
+    Defined(u32, u32),
+    /// The name between these offsets is that of a definition, in its head, that reaches itself through
+    /// uses. It is the first such definition.
+    #[error("the definition at byte {0} reaches itself")]
+    Cycle(u32, u32),
     /// The name between these offsets was used before as something else: a signal, a function or a
-    /// predicate. It is the first such use.
-    #[error("the name at byte {0} was used before as something else")]
+    /// predicate. Or it is a defined name and neither its definition nor a use, which is the name alone
+    /// or the name and bare names that are not defined; or a parameter of its definition, and no signal.
+    /// It is the first such name.
+    #[error("the name at byte {0} is used as something else")]
     Kind(u32, u32),
-    /// The name between these offsets had another number of arguments at its first use. It is the
-    /// first such use.
-    #[error("the name at byte {0} had another number of arguments before")]
+    /// The name between these offsets had another number of arguments at its first use. Or it is a use of
+    /// a definition, with another number of names than that has parameters. It is the first such name.
+    #[error("the name at byte {0} has another number of arguments")]
     Arity(u32, u32),
+    /// The name between these offsets is a use in a section, and what stands in its place nests deeper
+    /// than 200 levels. It is the first such use.
+    #[error("what the use at byte {0} stands for nests too deep")]
+    DeepUse(u32, u32),
     /// The whole formula has more than 10,000 nodes.
     #[error("the whole formula has more than 10000 nodes")]
     Nodes,

@@ -1,4 +1,4 @@
-//! The names that uses are of.
+//! The names that get numbers by uses.
 
 ghost use Rattle.std.specs.Prelude.{◌≡◌, map, flat_map, IfOk, OnOk, ◌++◌};
 ghost use Rattle.tsl_terms.specs.Clashes.{name_use};
@@ -9,21 +9,6 @@ use crate::uses::ReadUse;
 use sequence::NoMemory;
 use std::alloc::Global;
 use tsl_terms::{NameKind, NameUse};
-
-/// The names that uses are of, one for each. An `Err` says that memory ran out.
-pub(crate) fn written_names<'a>(
-    alloc: Global,
-    uses: &[ReadUse<'a>],
-) -> Result<Vec<NameUse<'a>>, NoMemory>
-    ensures { IfOk result (λ list.
-        map name_use list.items ≡ map (λ u. u.name) (map read_use uses.now)) }
-{
-    let mut list = Vec::new(alloc);
-    for usage in uses {
-        list.push(usage.usage)?;
-    }
-    Ok(list)
-}
 
 /// The names that get numbers by uses: after each signal that is tested comes `?`. An `Err` says that
 /// memory ran out.

@@ -1,7 +1,7 @@
 use Rattle.std.proofs.Common.{sym, ◌∙◌}
 use Rattle.tsl_reader.proofs.StageLemmas.{name_passed, name_skipped}
-use Rattle.tsl_reader.proofs.stages.name_token.Goals as goal
-use Rattle.tsl_reader.proofs.stages.name_token.Goals.{then-is_free+else-left-eq0, else-is_free}
+use Rattle.tsl_reader.proofs.text_names.name_token.Goals as goal
+use Rattle.tsl_reader.proofs.text_names.name_token.Goals.{then-is_free+else-left-eq0, else-is_free}
 
 pub loop-token-preserved : goal.loop-token-preserved
 loop-token-preserved c =
