@@ -81,6 +81,22 @@ fn a_form_or_a_depth_is_told_with_its_part(rt: HostRuntime) -> Result<(), Fail> 
 }
 
 #[test]
+fn a_use_that_is_too_deep_is_told_with_its_place(rt: HostRuntime) -> Result<(), Fail> {
+    let alloc = rt.alloc();
+    let deep = Fault::DeepUse(PLACE, name(alloc, b"moves")?);
+    says(&rt, alloc, &deep, b"fault spec 3:7 deepuse moves\n")
+}
+
+#[test]
+fn a_definition_is_told_with_its_place(rt: HostRuntime) -> Result<(), Fail> {
+    let alloc = rt.alloc();
+    let defined = Fault::Defined(PLACE, name(alloc, b"a")?);
+    says(&rt, alloc, &defined, b"fault spec 3:7 defined a\n")?;
+    let cycle = Fault::Cycle(PLACE, name(alloc, b"b")?);
+    says(&rt, alloc, &cycle, b"fault spec 3:7 cycle b\n")
+}
+
+#[test]
 fn a_name_of_a_specification_is_told_with_its_place(rt: HostRuntime) -> Result<(), Fail> {
     let alloc = rt.alloc();
     let kind = Fault::Kind(PLACE, name(alloc, b"f")?);

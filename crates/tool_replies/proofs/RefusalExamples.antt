@@ -1,9 +1,9 @@
 -- The definitions of places and faults on small examples.
 use Rattle.std.proofs.Common.{inl, inr}
 use Rattle.std.specs.Prelude.{◌≡◌, ℕ, List, codes, refl}
-use Rattle.tsl_reader.specs.declared.SpecError.TheVariants.{Kind, Nodes}
+use Rattle.tsl_reader.specs.declared.SpecError.TheVariants.{Kind, DeepUse, Nodes}
 use Rattle.tsl_report.specs.declared.fault.LimitName.TheVariants.{Nodes as NodesLimit}
-use Rattle.tsl_report.specs.declared.fault.Fault.TheVariants.{Kind as KindFault, Large}
+use Rattle.tsl_report.specs.declared.fault.Fault.TheVariants.{Kind as KindFault, DeepUse as DeepUseFault, Large}
 use Rattle.tool_replies.specs.Refusals.{IsPlaceOf, name_between, IsFaultOf}
 
 -- the second byte of the second line
@@ -29,6 +29,16 @@ kind_fault = (
   record {
     line = refl;
     column = record { lines = codes ""; line = codes "f x; [y <- "; split = refl; begins = inl refl; whole = refl; count = refl };
+  },
+  refl,
+)
+
+deep_use_fault : IsFaultOf (codes "guarantee { ab; }") (DeepUse 12 14) (DeepUseFault (record { line = 1; column = 13 }) (codes "ab"))
+deep_use_fault = (
+  record { line = 1; column = 13 },
+  record {
+    line = refl;
+    column = record { lines = codes ""; line = codes "guarantee { "; split = refl; begins = inl refl; whole = refl; count = refl };
   },
   refl,
 )

@@ -5,11 +5,12 @@ use Rattle.std.proofs.lemmas.List.Elements.{recursion_from_All}
 use Rattle.tsl_text.specs.declared.Token.{Token}
 use Rattle.tsl_text.specs.Division.{AreTokens, IsTokenOf}
 use Rattle.tsl_text.proofs.Parts.{each_token}
-use Rattle.tsl_terms.specs.Name.{Name}
 use Rattle.tsl_reader.specs.declared.SpecError.{SpecError}
-use Rattle.tsl_reader.specs.declared.SpecError.TheVariants.{Byte, OpenComment, Form, Deep, Kind, Arity, Nodes, NoMemory}
-use Rattle.spec_syntax.specs.Syntax.{SectionSyntax}
-use Rattle.tsl_reader.specs.Spells.{Derives, HasClashAt, HasCause, Spells, SpellsNoSpec, name_tokens}
+use Rattle.tsl_reader.specs.declared.SpecError.TheVariants.{Byte, OpenComment, Form, Deep, Defined, Cycle, Kind, Arity}
+use Rattle.tsl_reader.specs.declared.SpecError.TheVariants.{DeepUse, Nodes, NoMemory}
+use Rattle.spec_syntax.specs.Syntax.{Terminal, Declaration}
+use Rattle.declared_names.specs.Occurrences.{Occurrence}
+use Rattle.tsl_reader.specs.Spells.{Derives, IsFirstName, HasCause, Spells, SpellsNoSpec, name_tokens}
 use Rattle.tsl_report.specs.declared.fault.Fault.{Fault}
 use Rattle.tsl_terms.specs.SpecTree.{SpecTree}
 use Rattle.tool_replies.specs.RefusalPlaces.{StandsIn}
@@ -25,9 +26,10 @@ token_stands text before t after at are place =
     let token : IsTokenOf text t = each_between (IsTokenOf text) before t after (each_of text (before ++ t ∷ after) are) in
     omega (arith, place, token.not_empty, token.inside)
 
-clash_stands : (alike : Name → Name → Bool) (text : List ℕ) (tokens : List Token) (sections : List SectionSyntax) (start end : ℕ) →
-    Derives text tokens sections → HasClashAt alike text tokens sections start end → (start ≤ end) × (end ≤ length text)
-clash_stands alike text tokens sections start end derives h =
+name_stands : (is_such : Occurrence → Bool) (text : List ℕ) (tokens : List Token) (own : List Terminal) (declarations : List Declaration)
+    (start end : ℕ) → Derives text tokens own declarations → IsFirstName is_such text tokens declarations start end →
+    (start ≤ end) × (end ≤ length text)
+name_stands is_such text tokens own declarations start end derives h =
     let token : IsTokenOf text h.token =
     each_at (IsTokenOf text) (name_tokens text tokens) h.at h.token
     (each_filtered (IsTokenOf text) _ tokens (each_of text tokens derives.tokens_are)) h.there in
@@ -40,8 +42,11 @@ cause_stands text (OpenComment at) h = omega (arith, h.place)
 cause_stands text (Form at) h = ⊎_elim
     (λ wrong. token_stands text wrong.before wrong.token wrong.after at wrong.tokens_are wrong.place) (λ ends. omega (arith, ends.place)) h
 cause_stands text (Deep at) h = token_stands text h.before h.token h.after at h.tokens_are h.place
-cause_stands text (Kind start end) h = clash_stands _ text h.tokens h.sections start end h.derives h.clash
-cause_stands text (Arity start end) h = clash_stands _ text h.tokens h.sections start end h.derives h.clash
+cause_stands text (Defined start end) h = name_stands _ text h.tokens h.own h.declarations start end h.derives h.named
+cause_stands text (Cycle start end) h = name_stands _ text h.tokens h.own h.declarations start end h.derives h.named
+cause_stands text (Kind start end) h = name_stands _ text h.tokens h.own h.declarations start end h.derives h.named
+cause_stands text (Arity start end) h = name_stands _ text h.tokens h.own h.declarations start end h.derives h.named
+cause_stands text (DeepUse start end) h = name_stands _ text h.tokens h.own h.declarations start end h.derives h.named
 cause_stands text Nodes h = tt
 cause_stands text NoMemory h = tt
 
@@ -52,7 +57,10 @@ not_refused bytes spec (Byte at) fault spells none is = none spec spells
 not_refused bytes spec (OpenComment at) fault spells none is = none spec spells
 not_refused bytes spec (Form at) fault spells none is = none spec spells
 not_refused bytes spec (Deep at) fault spells none is = none spec spells
+not_refused bytes spec (Defined start end) fault spells none is = none spec spells
+not_refused bytes spec (Cycle start end) fault spells none is = none spec spells
 not_refused bytes spec (Kind start end) fault spells none is = none spec spells
 not_refused bytes spec (Arity start end) fault spells none is = none spec spells
+not_refused bytes spec (DeepUse start end) fault spells none is = none spec spells
 not_refused bytes spec Nodes fault spells none is = none spec spells
 not_refused bytes spec NoMemory fault spells none is = is

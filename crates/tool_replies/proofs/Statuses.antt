@@ -3,7 +3,8 @@ use Rattle.std.proofs.Common.{◌≡◌, ◌≢◌, ℕ, Bool, true, false, List
 use Rattle.program_check.specs.declared.verdict.Limit.{Limit}
 use Rattle.program_check.specs.declared.verdict.Limit.TheVariants.{Predicates, Bits, Choices, States, Edges, Vectors, Clauses, Branches}
 use Rattle.tsl_reader.specs.declared.SpecError.{SpecError}
-use Rattle.tsl_reader.specs.declared.SpecError.TheVariants.{Byte, OpenComment, Form, Deep, Kind, Arity, Nodes, NoMemory}
+use Rattle.tsl_reader.specs.declared.SpecError.TheVariants.{Byte, OpenComment, Form, Deep, Defined, Cycle, Kind, Arity}
+use Rattle.tsl_reader.specs.declared.SpecError.TheVariants.{DeepUse, Nodes, NoMemory}
 use Rattle.tsl_report.specs.declared.fault.Fault.{Fault}
 use Rattle.tsl_report.specs.declared.fault.Fault.TheVariants as faults
 use Rattle.tsl_report.specs.FaultText.{fault_line, fault_text}
@@ -38,8 +39,11 @@ refusal_comes bytes (Byte at) fault h = ap (λ f. comes_of_bytes (fault_status f
 refusal_comes bytes (OpenComment at) fault h = ap (λ f. comes_of_bytes (fault_status f)) h.2
 refusal_comes bytes (Form at) fault h = ap (λ f. comes_of_bytes (fault_status f)) h.2
 refusal_comes bytes (Deep at) fault h = ap (λ f. comes_of_bytes (fault_status f)) h.2
+refusal_comes bytes (Defined start end) fault h = ap (λ f. comes_of_bytes (fault_status f)) h.2
+refusal_comes bytes (Cycle start end) fault h = ap (λ f. comes_of_bytes (fault_status f)) h.2
 refusal_comes bytes (Kind start end) fault h = ap (λ f. comes_of_bytes (fault_status f)) h.2
 refusal_comes bytes (Arity start end) fault h = ap (λ f. comes_of_bytes (fault_status f)) h.2
+refusal_comes bytes (DeepUse start end) fault h = ap (λ f. comes_of_bytes (fault_status f)) h.2
 refusal_comes bytes Nodes fault h = ap (λ f. comes_of_bytes (fault_status f)) h
 refusal_comes bytes NoMemory fault h = absurd h
 
@@ -95,3 +99,7 @@ fault_is_no_answer _ = refl
 pub fault_not_done : (fault : Fault) (reply : Reply) → reply ≡ fault_reply fault → reply.status ≢ Done
 fault_not_done fault reply is done =
     let e : false ≡ true = sym (fault_is_no_answer fault) ∙ ap is_answer (sym (status_of is) ∙ done) in cc
+
+pub fault_not_no : (fault : Fault) (reply : Reply) → reply ≡ fault_reply fault → reply.status ≢ No
+fault_not_no fault reply is says =
+    let e : false ≡ true = sym (fault_is_no_answer fault) ∙ ap is_answer (sym (status_of is) ∙ says) in cc

@@ -3,7 +3,8 @@ use Rattle.std.specs.Prelude.{◌≡◌, ℕ, ◌+◌, ◌-◌, ◌==◌, List, 
 use Rattle.tsl_text.specs.declared.places.Place.{Place}
 use Rattle.tsl_text.specs.Places.{IsColumn}
 use Rattle.tsl_reader.specs.declared.SpecError.{SpecError}
-use Rattle.tsl_reader.specs.declared.SpecError.TheVariants.{Byte, OpenComment, Form, Deep, Kind, Arity, Nodes, NoMemory}
+use Rattle.tsl_reader.specs.declared.SpecError.TheVariants.{Byte, OpenComment, Form, Deep, Defined, Cycle, Kind, Arity}
+use Rattle.tsl_reader.specs.declared.SpecError.TheVariants.{DeepUse, Nodes, NoMemory}
 use Rattle.tsl_reader.specs.Spells.{HasCause, SpellsNoSpec, most_formula_nodes}
 use Rattle.letter_space.specs.declared.limits.TheConstants.{MOST_PREDICATES, MOST_BITS, MOST_VECTORS}
 use Rattle.obligations.specs.Choices.{most_choices}
@@ -17,7 +18,8 @@ use Rattle.tsl_report.specs.declared.fault.LimitName.TheVariants.{Nodes as Nodes
 use Rattle.tsl_report.specs.declared.fault.LimitName.TheVariants.{Vectors, Clauses, Branches}
 use Rattle.tsl_report.specs.declared.fault.Fault.{Fault}
 use Rattle.tsl_report.specs.declared.fault.Fault.TheVariants.{Byte as ByteFault, Comment as CommentFault, Form as FormFault}
-use Rattle.tsl_report.specs.declared.fault.Fault.TheVariants.{Deep as DeepFault, Kind as KindFault, Arity as ArityFault, Large}
+use Rattle.tsl_report.specs.declared.fault.Fault.TheVariants.{Deep as DeepFault, Defined as DefinedFault, Cycle as CycleFault}
+use Rattle.tsl_report.specs.declared.fault.Fault.TheVariants.{Kind as KindFault, Arity as ArityFault, DeepUse as DeepUseFault, Large}
 
 -- the place of the byte at this offset, or of the text's end
 pub record IsPlaceOf (text : List ℕ) (at : ℕ) (place : Place) : Type 0 where
@@ -28,16 +30,22 @@ pub record IsPlaceOf (text : List ℕ) (at : ℕ) (place : Place) : Type 0 where
 abbrev pub name_between : List ℕ → ℕ → ℕ → List ℕ
 name_between text start end = take (end - start) (drop start text)
 
--- the fault of each refusal: its kind, its place, and for `kind` and `arity` the name that stands there
+-- the fault of each refusal: its kind, its place, and the name that stands there where it speaks of a name
 abbrev pub IsFaultOf : List ℕ → SpecError → Fault → Type 0
 IsFaultOf text (Byte at) fault = (place : Place) × IsPlaceOf text at place × (fault ≡ ByteFault Spec place)
 IsFaultOf text (OpenComment at) fault = (place : Place) × IsPlaceOf text at place × (fault ≡ CommentFault Spec place)
 IsFaultOf text (Form at) fault = (place : Place) × IsPlaceOf text at place × (fault ≡ FormFault Spec place)
 IsFaultOf text (Deep at) fault = (place : Place) × IsPlaceOf text at place × (fault ≡ DeepFault place)
+IsFaultOf text (Defined start end) fault =
+    (place : Place) × IsPlaceOf text start place × (fault ≡ DefinedFault place (name_between text start end))
+IsFaultOf text (Cycle start end) fault =
+    (place : Place) × IsPlaceOf text start place × (fault ≡ CycleFault place (name_between text start end))
 IsFaultOf text (Kind start end) fault =
     (place : Place) × IsPlaceOf text start place × (fault ≡ KindFault place (name_between text start end))
 IsFaultOf text (Arity start end) fault =
     (place : Place) × IsPlaceOf text start place × (fault ≡ ArityFault place (name_between text start end))
+IsFaultOf text (DeepUse start end) fault =
+    (place : Place) × IsPlaceOf text start place × (fault ≡ DeepUseFault place (name_between text start end))
 IsFaultOf text Nodes fault = fault ≡ Large NodesLimit most_formula_nodes
 IsFaultOf text NoMemory fault = ⊥
 

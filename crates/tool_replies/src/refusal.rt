@@ -27,11 +27,23 @@ pub fn fault_of(alloc: Global, text: &[u8], error: &SpecError) -> Result<Fault, 
         SpecError::OpenComment(at) => Ok(Fault::Comment(TokenPart::Spec, place_in(text, *at))),
         SpecError::Form(at) => Ok(Fault::Form(TokenPart::Spec, place_in(text, *at))),
         SpecError::Deep(at) => Ok(Fault::Deep(place_in(text, *at))),
+        SpecError::Defined(start, end) => Ok(Fault::Defined(
+            place_in(text, *start),
+            name_between(alloc, text, *start, *end)?,
+        )),
+        SpecError::Cycle(start, end) => Ok(Fault::Cycle(
+            place_in(text, *start),
+            name_between(alloc, text, *start, *end)?,
+        )),
         SpecError::Kind(start, end) => Ok(Fault::Kind(
             place_in(text, *start),
             name_between(alloc, text, *start, *end)?,
         )),
         SpecError::Arity(start, end) => Ok(Fault::Arity(
+            place_in(text, *start),
+            name_between(alloc, text, *start, *end)?,
+        )),
+        SpecError::DeepUse(start, end) => Ok(Fault::DeepUse(
             place_in(text, *start),
             name_between(alloc, text, *start, *end)?,
         )),

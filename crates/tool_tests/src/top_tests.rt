@@ -116,10 +116,26 @@ const BUILT: &[Case] = &[
         b"tslprogram 1\ninput x\ncell y\nnode 0 set [y <- x] go 0\nnode 1 set [y <- y] go 0\nnode 2 if p x then 0 else 1\nstate 0 at 2\nend\n",
     ),
     (
+        b"moves s v = [s <- v]; always guarantee { moves y x; }",
+        COPIED,
+    ),
+    (
+        b"always guarantee { copied; } copied = [y <- x]; never q = p q z;",
+        COPIED,
+    ),
+    (
         b"assume { false; p0 x; p1 x; p2 x; p3 x; p4 x; p5 x; p6 x; p7 x; p8 x; p9 x; }",
         b"tslprogram 1\ninput x\nnode 0 set go 0\nstate 0 at 0\nend\n",
     ),
 ];
+
+/// Each of twenty names stands for the one before it, twice.
+const DOUBLED: &[u8] =
+    b"a0 = b; a1 = a0 && a0; a2 = a1 && a1; a3 = a2 && a2; a4 = a3 && a3; a5 = a4 && a4; \
+          a6 = a5 && a5; a7 = a6 && a6; a8 = a7 && a7; a9 = a8 && a8; a10 = a9 && a9; \
+          a11 = a10 && a10; a12 = a11 && a11; a13 = a12 && a12; a14 = a13 && a13; \
+          a15 = a14 && a14; a16 = a15 && a15; a17 = a16 && a16; a18 = a17 && a17; \
+          a19 = a18 && a18; a20 = a19 && a19; guarantee { a20; }";
 
 /// Texts that are refused: each refusal has its place and its name.
 const REFUSED: &[Case] = &[
@@ -141,7 +157,8 @@ const REFUSED: &[Case] = &[
     ),
     (b"always guarantee { [X <- x]; }", b"fault spec 1:21 form\n"),
     (b"always guarantee { [y <- 7]; }", b"fault spec 1:26 form\n"),
-    (b"alwaysguarantee { [y <- x]; }", b"fault spec 1:1 form\n"),
+    // A name where a section may begin begins a definition.
+    (b"alwaysguarantee { [y <- x]; }", b"fault spec 1:17 form\n"),
     // A bad byte or an open comment goes before a fault of form that stands in front of it.
     (b"} \x80", b"fault spec 1:3 byte\n"),
     (b"} /*", b"fault spec 1:3 comment\n"),
@@ -155,6 +172,22 @@ const REFUSED: &[Case] = &[
         b"fault spec 1:31 kind p\n",
     ),
     (b"guarantee { a; } guarantee {", b"fault spec 1:29 form\n"),
+    // The faults of definitions.
+    (
+        b"a = b; b = X a; guarantee { a; }",
+        b"fault spec 1:1 cycle a\n",
+    ),
+    (b"a = b; a = c;", b"fault spec 1:8 defined a\n"),
+    (
+        b"moves s v = [s <- v]; guarantee { moves y; }",
+        b"fault spec 1:35 arity moves\n",
+    ),
+    (
+        b"slow = p x; guarantee { f slow; }",
+        b"fault spec 1:27 kind slow\n",
+    ),
+    // A text that doubles at each definition.
+    (DOUBLED, b"large nodes 10000\n"),
 ];
 
 /// What `recheck` says of texts.
@@ -199,6 +232,15 @@ const REPEATED: &[Repeated] = &[
         201,
         b"a; }",
         b"fault spec 1:213 deep\n",
+    ),
+    // What a use stands for at level 198, in its brackets, nests to level 200; and one more.
+    (b"d = X a; guarantee { ", b"!", 198, b"d; }", NONE),
+    (
+        b"d = X a; guarantee { ",
+        b"!",
+        199,
+        b"d; }",
+        b"fault spec 1:221 deepuse d\n",
     ),
     // The conjunction, two nodes for each name and one for `true`: 10,000 nodes, and one more.
     (b"guarantee { ", b"a; ", 4_999, b"true; }", NONE),

@@ -6,7 +6,8 @@ use Rattle.tsl_report.specs.declared.fault.TokenPart.TheVariants.{Spec}
 use Rattle.tsl_report.specs.declared.fault.DataPart.TheVariants.{Inputs}
 use Rattle.tsl_report.specs.declared.fault.ProgramRule.TheVariants.{Order}
 use Rattle.tsl_report.specs.declared.fault.LimitName.TheVariants.{Text, Run, Width}
-use Rattle.tsl_report.specs.declared.fault.Fault.TheVariants.{Parts, Byte, Deep, Arity, Twice, TableRange, WordsArity, Program, CnfForm, Large}
+use Rattle.tsl_report.specs.declared.fault.Fault.TheVariants.{Parts, Byte, Deep, Defined, Cycle, Arity, DeepUse, Twice}
+use Rattle.tsl_report.specs.declared.fault.Fault.TheVariants.{TableRange, WordsArity, Program, CnfForm, Large}
 use Rattle.tsl_report.specs.FaultText.{fault_text}
 
 missing_line : fault_text (Parts Lrat) ≡ codes "fault parts lrat\n"
@@ -23,6 +24,18 @@ too_deep = refl
 other_arity : fault_text (Arity (record { line = 1; column = 18 }) (codes "p")) ≡ codes "fault spec 1:18 arity p\n"
 unfolding digits
 other_arity = refl
+
+defined_twice : fault_text (Defined (record { line = 1; column = 8 }) (codes "a")) ≡ codes "fault spec 1:8 defined a\n"
+unfolding digits
+defined_twice = refl
+
+own_use : fault_text (Cycle (record { line = 1; column = 1 }) (codes "a")) ≡ codes "fault spec 1:1 cycle a\n"
+unfolding digits
+own_use = refl
+
+deep_use : fault_text (DeepUse (record { line = 2; column = 13 }) (codes "moves")) ≡ codes "fault spec 2:13 deepuse moves\n"
+unfolding digits
+deep_use = refl
 
 missing_clause : fault_text (CnfForm 6) ≡ codes "fault cnf 6 form\n"
 unfolding digits

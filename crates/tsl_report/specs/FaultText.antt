@@ -15,7 +15,8 @@ use Rattle.tsl_report.specs.declared.fault.LimitName.TheVariants.{Text, Nodes, C
 use Rattle.tsl_report.specs.declared.fault.LimitName.TheVariants.{Windows, ProgramNodes, ProgramStates, Variables}
 use Rattle.tsl_report.specs.declared.fault.LimitName.TheVariants.{Predicates, Bits, Choices, States, Edges, Vectors, Branches}
 use Rattle.tsl_report.specs.declared.fault.Fault.{Fault}
-use Rattle.tsl_report.specs.declared.fault.Fault.TheVariants.{Usage, Read, Parts, Byte, Comment, Form, Deep, Kind, Arity, Unknown, Twice}
+use Rattle.tsl_report.specs.declared.fault.Fault.TheVariants.{Usage, Read, Parts, Byte, Comment, Form, Deep, Unknown, Twice}
+use Rattle.tsl_report.specs.declared.fault.Fault.TheVariants.{Defined, Cycle, Kind, Arity, DeepUse}
 use Rattle.tsl_report.specs.declared.fault.Fault.TheVariants.{Missing, TableCount, TableRange, WordsArity, WordsRange, RowCount, RowRange, Program}
 use Rattle.tsl_report.specs.declared.fault.Fault.TheVariants.{CnfForm, LogForm, AutomatonForm, LettersForm, Large}
 
@@ -101,8 +102,11 @@ fault_line (Byte part place) = token_fault part place (codes "byte")
 fault_line (Comment part place) = token_fault part place (codes "comment")
 fault_line (Form part place) = token_fault part place (codes "form")
 fault_line (Deep place) = token_fault Spec place (codes "deep")
+fault_line (Defined place name) = token_fault Spec place (codes "defined " ++ name)
+fault_line (Cycle place name) = token_fault Spec place (codes "cycle " ++ name)
 fault_line (Kind place name) = token_fault Spec place (codes "kind " ++ name)
 fault_line (Arity place name) = token_fault Spec place (codes "arity " ++ name)
+fault_line (DeepUse place name) = token_fault Spec place (codes "deepuse " ++ name)
 fault_line (Unknown part place name) = name_fault part place (codes "unknown " ++ name)
 fault_line (Twice part place name) = name_fault part place (codes "twice " ++ name)
 fault_line (Missing part name) = codes "fault " ++ data_text part ++ codes " missing " ++ name

@@ -128,10 +128,16 @@ pub enum Fault {
     Form(TokenPart, Place),
     /// At this place a specification nests too deep.
     Deep(Place),
+    /// At this place a name stands in the head of a definition that may not stand there.
+    Defined(Place, Sequence<u8>),
+    /// At this place a definition of this name stands that reaches itself.
+    Cycle(Place, Sequence<u8>),
     /// At this place a specification uses this name in another kind than before.
     Kind(Place, Sequence<u8>),
     /// At this place a specification uses this name with another number of arguments than before.
     Arity(Place, Sequence<u8>),
+    /// At this place stands a use of this name such that what it stands for nests too deep.
+    DeepUse(Place, Sequence<u8>),
     /// At this place this name gets values that it does not need.
     Unknown(DataPart, Place, Sequence<u8>),
     /// At this place this name stands a second time.
@@ -189,11 +195,20 @@ fn put_fault(out: &mut Vec<u8>, fault: &Fault) -> Result<(), NoMemory>
         Fault::Comment(part, place) => put_token_fault(out, *part, *place, b"comment", b""),
         Fault::Form(part, place) => put_token_fault(out, *part, *place, b"form", b""),
         Fault::Deep(place) => put_token_fault(out, TokenPart::Spec, *place, b"deep", b""),
+        Fault::Defined(place, name) => {
+            put_token_fault(out, TokenPart::Spec, *place, b"defined ", name.as_slice())
+        }
+        Fault::Cycle(place, name) => {
+            put_token_fault(out, TokenPart::Spec, *place, b"cycle ", name.as_slice())
+        }
         Fault::Kind(place, name) => {
             put_token_fault(out, TokenPart::Spec, *place, b"kind ", name.as_slice())
         }
         Fault::Arity(place, name) => {
             put_token_fault(out, TokenPart::Spec, *place, b"arity ", name.as_slice())
+        }
+        Fault::DeepUse(place, name) => {
+            put_token_fault(out, TokenPart::Spec, *place, b"deepuse ", name.as_slice())
         }
         Fault::Unknown(part, place, name) => {
             put_name_fault(out, *part, *place, b"unknown ", name.as_slice())
