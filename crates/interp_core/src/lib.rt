@@ -5,8 +5,8 @@
 //! themselves: each algebra says what is seen of a value (`seen`), and its `meanings` are over what is seen.
 //!
 //! `evaluate` gives the value of a term, and `test_term` the truth of a probe, where `Leaves` gives the values of
-//! signals. Both answer exactly what `value` and `truth` of `tsl_terms` say for the algebra's meanings. `Wheel` is
-//! such an algebra.
+//! signals. Both answer exactly what `value` and `truth` of `tsl_terms` say for the algebra's meanings. `push_value` and
+//! `push_values` put values at the end of a list, where many are wanted. `Wheel` is such an algebra.
 //!
 //! `TermAlgebra` is the algebra of free terms, in which a function is its own application, and `image` gives the
 //! value that a free term has in another algebra, where rows give the values of signals at steps. That the image of
@@ -23,7 +23,7 @@ mod term_algebra;
 mod wheel;
 
 pub use algebra::{Algebra, Judge};
-pub use evaluation::{evaluate, test_term};
+pub use evaluation::{evaluate, push_value, push_values, test_term};
 pub use free_terms::{FreeList, FreeTerm};
 pub use images::image;
 pub use laws::images_are_values;

@@ -2,4 +2,4 @@ mod CarryLemmas
 mod WordLemmas
 mod PositionLemmas
 pub mod PlaneLemmas
-mod SetLemmas
+pub mod TruthWords

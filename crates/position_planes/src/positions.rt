@@ -1,8 +1,9 @@
 //! Truths at the positions of a loop, as planes.
 
-ghost use Rattle.std.specs.Prelude.{◌≡◌, ℕ, ◌*◌, ◌<◌, ◌==◌, ◌||◌, true, false, Bool, length, slice_index_or, IfOk};
+ghost use Rattle.std.specs.Prelude.{◌≡◌, ℕ, ◌+◌, ◌*◌, ◌<◌, ◌≤◌, true, false, Bool, length, slice_index_or, IfOk};
 ghost use Rattle.lane_planes.specs.Planes.{has_bit};
-ghost use Rattle.position_planes.specs.Positions.{IsPlaneOf, words_of};
+ghost use Rattle.position_planes.specs.Positions.{IsPlaneOf, bit_of, words_of};
+ghost use Rattle.position_planes.specs.Carries.{word_bit};
 
 use crate::operators::negated;
 use sequence::NoMemory;
@@ -16,14 +17,27 @@ pub fn plane_of(alloc: Global, truths: &[bool]) -> Result<Vec<u64>, NoMemory>
     ensures { IfOk result
         (λ plane. IsPlaneOf (length truths.now) (λ i. slice_index_or truths.now i false) plane.items) }
 {
-    let positions = truths.len();
-    let mut plane: Vec<u64> = vec![in alloc; 0; positions / WORD + 1]?;
-    for i in 0..positions {
-        if truths[i] {
-            set(&mut plane, positions - 1 - i);
-        }
+    let words = truths.len() / WORD + 1;
+    let mut plane = Vec::with_capacity(alloc, words)?;
+    for place in 0..words {
+        plane.push(word_of(truths, place))?;
     }
     Ok(plane)
+}
+
+/// The word at a place of the plane of these truths. Each truth goes in at the lowest bit, and those before it move up.
+fn word_of(truths: &[bool], place: usize) -> u64
+    requires { 64 * place ≤ length truths.now }
+    ensures { (j : ℕ) → j < 64 → place * 64 + j < length truths.now →
+        word_bit result j ≡ slice_index_or truths.now (bit_of (length truths.now) (place * 64 + j)) false }
+{
+    let end = truths.len() - place * WORD;
+    let start = end.saturating_sub(WORD);
+    let mut word = 0u64;
+    for i in start..end {
+        word = 2 * word + u64::from(truths[i]);
+    }
+    word
 }
 
 /// The plane of what holds at each of so many positions.
@@ -55,12 +69,4 @@ pub(crate) fn is_set(plane: &[u64], bit: usize) -> bool
     ensures { result ≡ has_bit plane.now bit }
 {
     plane[bit / WORD] >> (bit % WORD) & 1 == 1
-}
-
-/// Sets a bit.
-fn set(plane: &mut [u64], bit: usize)
-    requires { bit < 64 * length plane.old }
-    ensures { (i : ℕ) → has_bit plane.new i ≡ ((i == bit) || has_bit plane.old i) }
-{
-    plane[bit / WORD] |= 1 << (bit % WORD);
 }

@@ -4,7 +4,7 @@ use Rattle.std.proofs.Common.{subst}
 use Rattle.std.specs.Prelude.{option_map, IsSome}
 use Rattle.std.proofs.lemmas.List.{append-nil, drop_all}
 use Rattle.sequence.specs.Options.{all_there}
-use Rattle.sequence.proofs.Options.{map_there}
+use Rattle.sequence.proofs.Options.{map_there, some_mapped}
 use Rattle.sequence.proofs.Lists.{left_at}
 use Rattle.sequence.proofs.Gathered.{copied_more}
 
@@ -38,6 +38,13 @@ module _ {S : Type 0} where
         IsGathered i found → IsGathered (i + 1) (found ++ v ∷ [])
     one_gathered i found x v within is value so_far =
         copied_more f xs i x found (found ++ v ∷ []) v whole within refl (ap f (sym is) ∙ value) so_far
+
+    -- the same where the value was put behind those that were found
+    pub pushed_gathered : (i : ℕ) (found more : List S) (x : X) → i < length xs → x ≡ get_or xs i x →
+        option_map (λ v. found ++ v ∷ []) (f x) ≡ Some more → IsGathered i found → IsGathered (i + 1) more
+    pushed_gathered i found more x within is pushed so_far =
+        let made = some_mapped (λ v. found ++ v ∷ []) (f x) more pushed in
+        subst (IsGathered (i + 1)) made.2 (one_gathered i found x made.0 within is made.1 so_far)
 
     pub all_gathered : (i : ℕ) (found : List S) → length xs ≤ i → IsGathered i found → whole ≡ Some found
     all_gathered i found past so_far =

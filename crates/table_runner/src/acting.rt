@@ -8,7 +8,7 @@ ghost use Rattle.program_tree.specs.ProgramView.{program_tree};
 ghost use Rattle.program_tree.specs.Walk.{walk};
 ghost use Rattle.interp_core.specs.LeafValue.{leaf_value};
 
-use interp_core::{Algebra, Judge, Leaves, evaluate, test_term};
+use interp_core::{Algebra, Judge, Leaves, push_value, test_term};
 use program_tree::{Node, Program};
 use sequence::NoMemory;
 use std::alloc::Global;
@@ -112,7 +112,7 @@ pub(crate) fn next_values<A: Algebra>(
 {
     let mut values = copies(alloc, algebra, row)?;
     for term in terms {
-        values.push(evaluate(alloc, algebra, leaves, term)?)?;
+        push_value(alloc, algebra, leaves, term, &mut values)?;
     }
     Ok(values)
 }

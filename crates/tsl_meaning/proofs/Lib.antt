@@ -11,6 +11,7 @@ pub mod Values
 pub mod Walks
 pub mod Runs
 pub mod Repeats
+pub mod BySignal
 pub mod Closing
 pub mod Equal
 pub mod Naming

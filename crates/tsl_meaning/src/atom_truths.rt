@@ -1,6 +1,6 @@
 //! Where atoms hold in a run.
 
-ghost use Rattle.std.specs.Prelude.{◌≡◌, ◌+◌, ◌++◌, ◌==◌, false, map, position, slice_get, option_and_then, Some, IsSome, IfOk, OnOk};
+ghost use Rattle.std.specs.Prelude.{◌≡◌, ◌+◌, ◌++◌, ◌==◌, [], ◌∷◌, false, map, position, slice_get, option_and_then, Some, IsSome, IfOk, OnOk};
 ghost use Rattle.std.specs.Option.{option_map_or};
 ghost use Rattle.std.specs.List.{AllByRecursion};
 ghost use Rattle.tsl_terms.specs.TermTree.{term_tree, term_trees, probe_tree};
@@ -11,9 +11,11 @@ ghost use Rattle.interp_core.specs.LeafValue.{leaf_value};
 ghost use Rattle.position_planes.specs.Positions.{IsPlaneOf};
 ghost use Rattle.tsl_meaning.specs.RunTree.{run_tree};
 ghost use Rattle.tsl_meaning.specs.RunLasso.{value_at, run_lasso, HasTruths};
+ghost use Rattle.tsl_meaning.specs.internal.Columns.{HaveColumns, HaveValues};
 
+use crate::columns::{RunValues, only_column};
 use crate::run::{LoopRun, Position};
-use interp_core::{Algebra, Judge, Leaves, evaluate};
+use interp_core::{Algebra, Judge, Leaves, push_values};
 use position_planes::plane_of;
 use sequence::NoMemory;
 use std::alloc::Global;
@@ -24,18 +26,17 @@ pub(crate) fn atom_plane<J: Judge>(
     alloc: Global,
     judge: &J,
     run: &LoopRun<J::Value>,
-    leaves: &[Leaves<J::Value>],
+    values: &RunValues<J::Value>,
     atom: AtomRef,
 ) -> Result<Vec<u64>, NoMemory>
     requires had { HasTruths (J.meanings judge.now) (run_tree J.seen run.now) (atom_tree atom) }
-    requires leaves { map (leaf_value J.seen) leaves.now
-        ≡ map (value_at (run_tree J.seen run.now)) (run_tree J.seen run.now).positions }
+    requires values { HaveValues J.seen (map (value_at (run_tree J.seen run.now)) (run_tree J.seen run.now).positions) values.now }
     ensures { IfOk result (λ plane. IsPlaneOf (run.now.start + run.now.length)
         (λ i. (run_lasso (J.meanings judge.now) (run_tree J.seen run.now)).holds i (atom_tree atom.entry)) plane.items) }
 {
     match atom {
         AtomRef::Test(probe) => {
-            let truths = test_truths(alloc, judge, leaves, probe)?;
+            let truths = test_truths(alloc, judge, values, probe)?;
             plane_of(alloc, &truths)
         }
         AtomRef::Update(signal, term) => {
@@ -47,6 +48,44 @@ pub(crate) fn atom_plane<J: Judge>(
 
 /// Where a probe holds, by the values of the signals at each position.
 fn test_truths<J: Judge>(
+    alloc: Global,
+    judge: &J,
+    values: &RunValues<J::Value>,
+    probe: &Probe,
+) -> Result<Vec<bool>, NoMemory>
+    requires had { AllByRecursion
+        (λ l. IsSome (truth (J.meanings judge.now) (leaf_value J.seen l) (probe_tree probe.now))) values.now.leaves.items }
+    requires columns { HaveColumns J.seen values.now.leaves.items values.now.columns.items }
+    ensures { IfOk result (λ truths. truths.items
+        ≡ map (λ l. option_map_or (λ holds. holds) (truth (J.meanings judge.now) (leaf_value J.seen l) (probe_tree probe.now)) false)
+        values.now.leaves.items) }
+{
+    match only_column(judge, values, &probe.arguments) {
+        Some(column) => column_truths(alloc, judge, probe.predicate, column),
+        None => row_truths(alloc, judge, &values.leaves, probe),
+    }
+}
+
+/// Where a predicate holds of each of these values alone.
+fn column_truths<J: Judge>(
+    alloc: Global,
+    judge: &J,
+    predicate: u32,
+    column: &[J::Value],
+) -> Result<Vec<bool>, NoMemory>
+    requires had { AllByRecursion (λ v. IsSome ((J.meanings judge.now).predicate predicate (J.seen v ∷ []))) column.now }
+    ensures { IfOk result (λ truths. truths.items
+        ≡ map (λ v. option_map_or (λ holds. holds) ((J.meanings judge.now).predicate predicate (J.seen v ∷ [])) false) column.now) }
+{
+    let mut truths: Vec<bool> = vec![in alloc; false; column.len()]?;
+    for i in 0..column.len() {
+        truths[i] = judge.test(predicate, &column[i..i + 1]);
+    }
+    Ok(truths)
+}
+
+/// Where a probe holds, position by position.
+fn row_truths<J: Judge>(
     alloc: Global,
     judge: &J,
     leaves: &[Leaves<J::Value>],
@@ -95,12 +134,7 @@ fn fill<A: Algebra>(
         ≡ Some (map A.seen found.new.items)) }
 {
     found.clear();
-    let mut rest = terms;
-    while let TermList::More(term, next) = rest {
-        found.push(evaluate(alloc, algebra, leaves, term)?)?;
-        rest = next;
-    }
-    Ok(())
+    push_values(alloc, algebra, leaves, terms, found)
 }
 
 /// Where a signal is assigned a term.

@@ -4,18 +4,18 @@ ghost use Rattle.std.specs.Prelude.{◌≡◌, ◌+◌, map, IfOk};
 ghost use Rattle.std.specs.List.{AllByRecursion};
 ghost use Rattle.tsl_terms.specs.FormulaTree.{many, formula_tree, formula_trees};
 ghost use Rattle.tsl_terms.specs.Atoms.{atoms_of_members};
-ghost use Rattle.interp_core.specs.LeafValue.{leaf_value};
 ghost use Rattle.tsl_meaning.specs.Lasso.{meets};
 ghost use Rattle.tsl_meaning.specs.RunTree.{run_tree};
 ghost use Rattle.position_planes.specs.Positions.{IsPlaneOf};
 ghost use Rattle.tsl_meaning.specs.RunLasso.{value_at, run_lasso, HasTruths, IsJudged};
 ghost use Rattle.tsl_meaning.specs.internal.SharedAtoms.{HavePlanes};
+ghost use Rattle.tsl_meaning.specs.internal.Columns.{HaveValues};
 
+use crate::columns::{RunValues, values_of};
 use crate::joining::{constant_plane, joined_plane, of_none};
-use crate::leaves::leaves_of;
 use crate::run::LoopRun;
 use crate::shared_atoms::{SharedAtoms, plane_of_atom, shared_atoms};
-use interp_core::{Judge, Leaves};
+use interp_core::Judge;
 use position_planes::{
     finally, globally, holds_at, implied, negated, next, release, same, until, weak_until,
 };
@@ -37,9 +37,9 @@ pub fn judge<J: Judge>(
     ensures { IfOk result
         (λ holds. holds ≡ meets (run_lasso (J.meanings judge.now) (run_tree J.seen run.now)) (formula_tree formula.now) 0) }
 {
-    let leaves = leaves_of(alloc, judge, run)?;
-    let shared = shared_atoms(alloc, judge, run, &leaves, formula)?;
-    let plane = formula_plane(alloc, judge, run, &leaves, &shared, formula)?;
+    let values = values_of(alloc, judge, run)?;
+    let shared = shared_atoms(alloc, judge, run, &values, formula)?;
+    let plane = formula_plane(alloc, judge, run, &values, &shared, formula)?;
     let positions = run.start as usize + run.length as usize;
     Ok(holds_at(&plane, positions, 0))
 }
@@ -50,13 +50,12 @@ fn formula_plane<J: Judge>(
     alloc: Global,
     judge: &J,
     run: &LoopRun<J::Value>,
-    leaves: &[Leaves<J::Value>],
+    values: &RunValues<J::Value>,
     shared: &SharedAtoms,
     formula: &Formula,
 ) -> Result<Vec<u64>, NoMemory>
     requires had { IsJudged (J.meanings judge.now) (run_tree J.seen run.now) (formula_tree formula.now) }
-    requires leaves { map (leaf_value J.seen) leaves.now
-        ≡ map (value_at (run_tree J.seen run.now)) (run_tree J.seen run.now).positions }
+    requires values { HaveValues J.seen (map (value_at (run_tree J.seen run.now)) (run_tree J.seen run.now).positions) values.now }
     requires shared { HavePlanes (run.now.start + run.now.length)
         (run_lasso (J.meanings judge.now) (run_tree J.seen run.now)).holds shared.now.atoms.items }
     ensures { IfOk result (λ plane. IsPlaneOf (run.now.start + run.now.length)
@@ -71,7 +70,7 @@ fn formula_plane<J: Judge>(
             alloc,
             judge,
             run,
-            leaves,
+            values,
             shared,
             AtomRef::Test(probe),
         ),
@@ -80,13 +79,13 @@ fn formula_plane<J: Judge>(
                 alloc,
                 judge,
                 run,
-                leaves,
+                values,
                 shared,
                 AtomRef::Update(*signal, term),
             )
         }
         Formula::Not(part) => {
-            let plane = formula_plane(alloc, judge, run, leaves, shared, part)?;
+            let plane = formula_plane(alloc, judge, run, values, shared, part)?;
             Ok(negated(plane))
         }
         Formula::All(members) => {
@@ -94,7 +93,7 @@ fn formula_plane<J: Judge>(
                 alloc,
                 judge,
                 run,
-                leaves,
+                values,
                 shared,
                 ManyOperator::Conjunction,
                 members,
@@ -105,47 +104,47 @@ fn formula_plane<J: Judge>(
                 alloc,
                 judge,
                 run,
-                leaves,
+                values,
                 shared,
                 ManyOperator::Disjunction,
                 members,
             )
         }
         Formula::Implies(left, right) => {
-            let left = formula_plane(alloc, judge, run, leaves, shared, left)?;
-            let right = formula_plane(alloc, judge, run, leaves, shared, right)?;
+            let left = formula_plane(alloc, judge, run, values, shared, left)?;
+            let right = formula_plane(alloc, judge, run, values, shared, right)?;
             Ok(implied(left, &right))
         }
         Formula::Iff(left, right) => {
-            let left = formula_plane(alloc, judge, run, leaves, shared, left)?;
-            let right = formula_plane(alloc, judge, run, leaves, shared, right)?;
+            let left = formula_plane(alloc, judge, run, values, shared, left)?;
+            let right = formula_plane(alloc, judge, run, values, shared, right)?;
             Ok(same(left, &right))
         }
         Formula::Next(part) => {
-            let plane = formula_plane(alloc, judge, run, leaves, shared, part)?;
+            let plane = formula_plane(alloc, judge, run, values, shared, part)?;
             Ok(next(plane, start, round))
         }
         Formula::Finally(part) => {
-            let plane = formula_plane(alloc, judge, run, leaves, shared, part)?;
+            let plane = formula_plane(alloc, judge, run, values, shared, part)?;
             finally(alloc, plane, start, round)
         }
         Formula::Globally(part) => {
-            let plane = formula_plane(alloc, judge, run, leaves, shared, part)?;
+            let plane = formula_plane(alloc, judge, run, values, shared, part)?;
             globally(alloc, plane, start, round)
         }
         Formula::Until(left, right) => {
-            let left = formula_plane(alloc, judge, run, leaves, shared, left)?;
-            let right = formula_plane(alloc, judge, run, leaves, shared, right)?;
+            let left = formula_plane(alloc, judge, run, values, shared, left)?;
+            let right = formula_plane(alloc, judge, run, values, shared, right)?;
             Ok(until(left, &right, start, round))
         }
         Formula::Weak(left, right) => {
-            let left = formula_plane(alloc, judge, run, leaves, shared, left)?;
-            let right = formula_plane(alloc, judge, run, leaves, shared, right)?;
+            let left = formula_plane(alloc, judge, run, values, shared, left)?;
+            let right = formula_plane(alloc, judge, run, values, shared, right)?;
             Ok(weak_until(left, right, start, round))
         }
         Formula::Release(left, right) => {
-            let left = formula_plane(alloc, judge, run, leaves, shared, left)?;
-            let right = formula_plane(alloc, judge, run, leaves, shared, right)?;
+            let left = formula_plane(alloc, judge, run, values, shared, left)?;
+            let right = formula_plane(alloc, judge, run, values, shared, right)?;
             Ok(release(left, right, start, round))
         }
     }
@@ -157,15 +156,14 @@ fn member_plane<J: Judge>(
     alloc: Global,
     judge: &J,
     run: &LoopRun<J::Value>,
-    leaves: &[Leaves<J::Value>],
+    values: &RunValues<J::Value>,
     shared: &SharedAtoms,
     operator: ManyOperator,
     members: &FormulaList,
 ) -> Result<Vec<u64>, NoMemory>
     requires had { AllByRecursion (HasTruths (J.meanings judge.now) (run_tree J.seen run.now))
         (atoms_of_members (formula_trees members.now)) }
-    requires leaves { map (leaf_value J.seen) leaves.now
-        ≡ map (value_at (run_tree J.seen run.now)) (run_tree J.seen run.now).positions }
+    requires values { HaveValues J.seen (map (value_at (run_tree J.seen run.now)) (run_tree J.seen run.now).positions) values.now }
     requires shared { HavePlanes (run.now.start + run.now.length)
         (run_lasso (J.meanings judge.now) (run_tree J.seen run.now)).holds shared.now.atoms.items }
     ensures { IfOk result (λ plane. IsPlaneOf (run.now.start + run.now.length)
@@ -174,7 +172,7 @@ fn member_plane<J: Judge>(
     let mut plane = constant_plane(alloc, run, of_none(operator))?;
     let mut rest = members;
     while let FormulaList::More(member, next) = rest {
-        let more = formula_plane(alloc, judge, run, leaves, shared, member)?;
+        let more = formula_plane(alloc, judge, run, values, shared, member)?;
         plane = joined_plane(operator, plane, &more);
         rest = next;
     }

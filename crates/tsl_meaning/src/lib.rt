@@ -14,6 +14,7 @@
 #![tactic(auto)]
 
 mod atom_truths;
+mod columns;
 mod joining;
 mod judging;
 mod laws;

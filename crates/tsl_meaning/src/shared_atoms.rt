@@ -3,17 +3,18 @@
 ghost use Rattle.std.specs.Prelude.{◌≡◌, ℕ, ◌+◌, map, Bool, IfOk, OnOk, IfSome};
 ghost use Rattle.tsl_terms.specs.FormulaTree.{Atom, formula_tree};
 ghost use Rattle.tsl_terms.specs.AtomView.{atom_tree};
-ghost use Rattle.interp_core.specs.LeafValue.{leaf_value};
 ghost use Rattle.position_planes.specs.Positions.{IsPlaneOf};
 ghost use Rattle.tsl_meaning.specs.RunTree.{run_tree};
 ghost use Rattle.tsl_meaning.specs.RunLasso.{value_at, run_lasso, HasTruths, IsJudged};
 ghost use Rattle.tsl_meaning.specs.internal.SharedAtoms.{same_atom, HavePlanes};
+ghost use Rattle.tsl_meaning.specs.internal.Columns.{HaveValues};
 
 use crate::atom_truths::atom_plane;
+use crate::columns::RunValues;
 use crate::marks::mark_of;
 use crate::run::LoopRun;
 use indexmap::IndexMap;
-use interp_core::{Judge, Leaves};
+use interp_core::Judge;
 use sequence::NoMemory;
 use std::alloc::Global;
 use tsl_terms::{AtomRef, Formula, atoms, same_probe, same_term};
@@ -37,12 +38,11 @@ pub(crate) fn shared_atoms<'a, J: Judge>(
     alloc: Global,
     judge: &J,
     run: &LoopRun<J::Value>,
-    leaves: &[Leaves<J::Value>],
+    values: &RunValues<J::Value>,
     formula: &'a Formula,
 ) -> Result<SharedAtoms<'a>, NoMemory>
     requires had { IsJudged (J.meanings judge.now) (run_tree J.seen run.now) (formula_tree formula.now) }
-    requires leaves { map (leaf_value J.seen) leaves.now
-        ≡ map (value_at (run_tree J.seen run.now)) (run_tree J.seen run.now).positions }
+    requires values { HaveValues J.seen (map (value_at (run_tree J.seen run.now)) (run_tree J.seen run.now).positions) values.now }
     ensures { IfOk result (λ shared. HavePlanes (run.now.start + run.now.length)
         (run_lasso (J.meanings judge.now) (run_tree J.seen run.now)).holds shared.atoms.items) }
 {
@@ -51,7 +51,7 @@ pub(crate) fn shared_atoms<'a, J: Judge>(
     let mut shared = Vec::new(alloc);
     for atom in &list {
         if comes_again(&mut places, mark_of(*atom), shared.len())? {
-            share(alloc, judge, run, leaves, &mut shared, *atom)?;
+            share(alloc, judge, run, values, &mut shared, *atom)?;
         }
     }
     Ok(SharedAtoms {
@@ -87,19 +87,18 @@ fn share<'a, J: Judge>(
     alloc: Global,
     judge: &J,
     run: &LoopRun<J::Value>,
-    leaves: &[Leaves<J::Value>],
+    values: &RunValues<J::Value>,
     shared: &mut Vec<SharedAtom<'a>>,
     atom: AtomRef<'a>,
 ) -> Result<(), NoMemory>
     requires had { HasTruths (J.meanings judge.now) (run_tree J.seen run.now) (atom_tree atom) }
-    requires leaves { map (leaf_value J.seen) leaves.now
-        ≡ map (value_at (run_tree J.seen run.now)) (run_tree J.seen run.now).positions }
+    requires values { HaveValues J.seen (map (value_at (run_tree J.seen run.now)) (run_tree J.seen run.now).positions) values.now }
     requires shared { HavePlanes (run.now.start + run.now.length)
         (run_lasso (J.meanings judge.now) (run_tree J.seen run.now)).holds shared.old.items }
     ensures { OnOk result (HavePlanes (run.now.start + run.now.length)
         (run_lasso (J.meanings judge.now) (run_tree J.seen run.now)).holds shared.new.items) }
 {
-    let plane = atom_plane(alloc, judge, run, leaves, atom)?;
+    let plane = atom_plane(alloc, judge, run, values, atom)?;
     shared.push(SharedAtom { atom, plane })?;
     Ok(())
 }
@@ -109,13 +108,12 @@ pub(crate) fn plane_of_atom<J: Judge>(
     alloc: Global,
     judge: &J,
     run: &LoopRun<J::Value>,
-    leaves: &[Leaves<J::Value>],
+    values: &RunValues<J::Value>,
     shared: &SharedAtoms,
     atom: AtomRef,
 ) -> Result<Vec<u64>, NoMemory>
     requires had { HasTruths (J.meanings judge.now) (run_tree J.seen run.now) (atom_tree atom) }
-    requires leaves { map (leaf_value J.seen) leaves.now
-        ≡ map (value_at (run_tree J.seen run.now)) (run_tree J.seen run.now).positions }
+    requires values { HaveValues J.seen (map (value_at (run_tree J.seen run.now)) (run_tree J.seen run.now).positions) values.now }
     requires shared { HavePlanes (run.now.start + run.now.length)
         (run_lasso (J.meanings judge.now) (run_tree J.seen run.now)).holds shared.now.atoms.items }
     ensures { IfOk result (λ plane. IsPlaneOf (run.now.start + run.now.length)
@@ -123,7 +121,7 @@ pub(crate) fn plane_of_atom<J: Judge>(
 {
     match shared_plane(shared, atom) {
         Some(plane) => Vec::from_slice(alloc, plane),
-        None => atom_plane(alloc, judge, run, leaves, atom),
+        None => atom_plane(alloc, judge, run, values, atom),
     }
 }
 

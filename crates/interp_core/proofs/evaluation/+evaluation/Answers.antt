@@ -1,18 +1,23 @@
-use Rattle.std.proofs.Common.{◌≡◌, Some, sym, ap}
-use Rattle.std.proofs.lemmas.Result.{IfOk-weaker}
-use Rattle.sequence.proofs.Options.{there_mapped}
-use Rattle.interp_core.proofs.Besides.{beside-map}
+use Rattle.std.proofs.Common.{◌≡◌, map, length, rules, Some, OnOk, subst}
+use Rattle.tsl_terms.specs.TermTree.{term_trees}
+use Rattle.tsl_terms.specs.Value.{values}
+use Rattle.interp_core.specs.LeafValue.{leaf_value}
+use Rattle.interp_core.proofs.Pushed.{last_there, last_replaced}
 use Rattle.interp_core.proofs.evaluation.+evaluation.Goals as goal
 
-pub evaluate-unwrap-requires : goal.evaluate-unwrap-requires
-evaluate-unwrap-requires g t c =
-    let e = beside-map g.A.Algebra.seen c.in-Signal.signal c.args.leaves.now.signals c.args.leaves.now.values in
-    let had = rw (c.in-Signal.is, e, ← c.value_of.ensures) at c.requires.had in
-    there_mapped _ _ (there_mapped _ _ had)
+pub push_value-apply_to_last-requires-clause-had : goal.push_value-apply_to_last-requires-clause-had
+push_value-apply_to_last-requires-clause-had g t c =
+    let here : c.len-before.result ≡ length c.args.found.now.items = search rules in
+    last_there g.A.Algebra.seen c.args.found.now.items c.push_values.new.found.items
+    ((g.A.Algebra.meanings c.args.algebra.now).function c.in-Apply.function)
+    (values (g.A.Algebra.meanings c.args.algebra.now) (leaf_value g.A.Algebra.seen c.args.leaves.now) (term_trees c.in-Apply.arguments))
+    c.len-before.result here c.in_ok-push_values-in-Apply.ensures (rw c.in-Apply.is at c.requires.had)
 
-pub evaluate-returns-in-Signal : goal.evaluate-returns-in-Signal
-evaluate-returns-in-Signal g t c =
-    let e = beside-map g.A.Algebra.seen c.in-Signal.signal c.args.leaves.now.signals c.args.leaves.now.values in
-    let found = rw c.unwrap.ensures at c.value_of.ensures in
-    rw (c.in-Signal.is, e, ← found) (IfOk-weaker c.copy.result (λ v. g.A.Algebra.seen v ≡ g.A.Algebra.seen c.unwrap.result.now)
-    (λ v. Some (g.A.Algebra.seen c.unwrap.result.now) ≡ Some (g.A.Algebra.seen v)) (λ v same. ap Some (sym same)) c.copy.ensures)
+pub push_value-returns-in_ok-push_values-in-Apply : goal.push_value-returns-in_ok-push_values-in-Apply
+push_value-returns-in_ok-push_values-in-Apply g t c =
+    let here : c.len-before.result ≡ length c.args.found.now.items = search rules in
+    rw c.in-Apply.is (subst (λ o. OnOk c.apply_to_last.result (o ≡ Some (map g.A.Algebra.seen c.apply_to_last.new.found.items)))
+    (last_replaced g.A.Algebra.seen c.args.found.now.items c.push_values.new.found.items
+    ((g.A.Algebra.meanings c.args.algebra.now).function c.in-Apply.function)
+    (values (g.A.Algebra.meanings c.args.algebra.now) (leaf_value g.A.Algebra.seen c.args.leaves.now) (term_trees c.in-Apply.arguments))
+    c.len-before.result here c.in_ok-push_values-in-Apply.ensures) c.apply_to_last.ensures)

@@ -1,7 +1,7 @@
-use Rattle.std.proofs.Common.{◌≡◌, ◌∙◌, ℕ, ◌+◌, Bool, true, false, not, ap, refl}
+use Rattle.std.proofs.Common.{◌≡◌, ◌∙◌, ◌+◌, Bool, true, false, not, refl}
 use Rattle.loop_shape.specs.AlongLoop.{finally_at, globally_at}
 use Rattle.loop_shape.proofs.Words.{not_finally}
-use Rattle.position_planes.specs.Positions.{IsPlaneOf, loop_of}
+use Rattle.position_planes.specs.Positions.{loop_of}
 use Rattle.position_planes.proofs.PlaneLemmas.{same_truths}
 use Rattle.position_planes.proofs.operators.globally.Goals as goal
 

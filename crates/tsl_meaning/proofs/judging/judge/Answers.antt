@@ -11,4 +11,4 @@ returns g c =
     let meant = meets (run_lasso (g.J.Algebra.meanings c.args.judge.now) (run_tree g.J.Algebra.seen c.args.run.now))
     (formula_tree c.args.formula.now) in
     c.holds_at.ensures meant
-    (subst (IsPlaneOf (c.args.run.now.start + c.args.run.now.length) meant) (sym c.deref-3.ensures.value) c.in_ok-plane.ensures)
+    (subst (IsPlaneOf (c.args.run.now.start + c.args.run.now.length) meant) (sym c.deref.ensures.value) c.in_ok-plane.ensures)

@@ -3,7 +3,7 @@ use Rattle.std.specs.Option.{option_map_or}
 use Rattle.tsl_terms.specs.TermTree.{probe_tree}
 use Rattle.tsl_terms.specs.Value.{truth}
 use Rattle.interp_core.specs.LeafValue.{leaf_value}
-use Rattle.tsl_meaning.proofs.atom_truths.test_truths.Given as goal
+use Rattle.tsl_meaning.proofs.atom_truths.row_truths.Given as goal
 
 -- the truths at the positions so far
 abbrev pub invariant-loop-values : goal.invariant-loop-values
