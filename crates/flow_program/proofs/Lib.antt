@@ -17,3 +17,5 @@ pub mod Composed
 pub mod KeptProgram
 pub mod WrittenIsRead
 pub mod ReadingLaws
+pub mod Renamed
+pub mod Renumbered

@@ -25,7 +25,7 @@ use Rattle.flow_program.proofs.WrittenIsRead.ListingOfProgram.{ListingOfProgram,
 
 -- ---- a text that spells a program is read
 
-is_listing_of : (text : List ℕ) (names : List Name) (p : ProgramTree) → (r : ListingOfProgram text names p) → IsListing text r.listing
+pub is_listing_of : (text : List ℕ) (names : List Name) (p : ProgramTree) → (r : ListingOfProgram text names p) → IsListing text r.listing
 is_listing_of text names p r = listing_from text r.listing r.end r.stands r.within r.once r.has_node r.has_state
 
 pub spelled_is_read : (text : List ℕ) (names : List Name) (p : ProgramTree) → AreDistinct names → ProgramText text names p →
@@ -52,14 +52,18 @@ one_program names bytes p q distinct h k =
     one_listing bytes r.listing s.listing (is_listing_of bytes names p r) (is_listing_of bytes names q s) in
     same_program names bytes s.listing p q (subst (λ l. Numbered names bytes l p) lines r.numbers) s.numbers
 
+pub names_read_are_distinct : (text : List ℕ) (given : List Name) (p : ProgramTree) (names : List Name) → AreDistinct given →
+    IsReading text given p names → AreDistinct names
+names_read_are_distinct text given p names distinct h =
+    subst AreDistinct (sym (h.names_are ∙ are_first given (flat_map entries_of_use (uses_of text h.listing)) distinct))
+    (first_uses_distinct (given ++ flat_map entries_of_use (uses_of text h.listing)))
+
 pub one_reading : (text : List ℕ) (given : List Name) (p q : ProgramTree) (names more : List Name) → AreDistinct given →
     IsReading text given p names → IsReading text given q more → (p ≡ q) × (names ≡ more)
 one_reading text given p q names more distinct h k =
     let lines : h.listing ≡ k.listing = one_listing text h.listing k.listing h.is_listing k.is_listing in
     let same : names ≡ more = h.names_are ∙ ap (λ l. names_after given (uses_of text l)) lines ∙ sym k.names_are in
-    let apart : AreDistinct names = subst AreDistinct
-    (sym (h.names_are ∙ are_first given (flat_map entries_of_use (uses_of text h.listing)) distinct))
-    (first_uses_distinct (given ++ flat_map entries_of_use (uses_of text h.listing))) in
+    let apart : AreDistinct names = names_read_are_distinct text given p names distinct h in
     (one_program names text p q apart h.spelled (subst (λ ns. ProgramText text ns q) (sym same) k.spelled), same)
 
 rule_fault_spells_none : (text : List ℕ) (given names : List Name) (e : ProgramError) (p : ProgramTree) → AreDistinct names →

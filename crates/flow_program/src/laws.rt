@@ -1,7 +1,9 @@
 //! What holds of program texts.
 
 ghost use Rattle.std.specs.Prelude.{◌≡◌, ℕ, List};
+ghost use Rattle.std.specs.List.{AllByRecursion};
 ghost use Rattle.tsl_terms.specs.Name.{Name, AreDistinct};
+ghost use Rattle.tsl_terms.specs.Congruence.{IsCongruent};
 ghost use Rattle.flow_program.specs.declared.reading.ProgramError.{ProgramError};
 ghost use Rattle.program_tree.specs.ProgramTree.{ProgramTree};
 ghost use Rattle.flow_program.specs.ProgramText.{ProgramText};
@@ -37,4 +39,14 @@ pub fn one_program_cause()
         → AreDistinct names
         → GoOnFrom given names
         → IsOfProgramText e → HasProgramCause text given e → ProgramText text names p → ⊥ }
+{}
+
+/// Whether the windows of a program text are congruent does not depend on the numbers of its names: those
+/// that are so over the names that it was written with are so over the names that it is read with.
+pub fn congruence_does_not_depend_on_numbers()
+    ensures { (text : List ℕ) (names given more : List Name) (p q : ProgramTree)
+        → AreDistinct names → AreDistinct given
+        → ProgramText text names p → IsReading text given q more
+        → AllByRecursion (IsCongruent p.cells) p.windows
+        → AllByRecursion (IsCongruent q.cells) q.windows }
 {}

@@ -24,7 +24,10 @@ mod rules;
 mod uses;
 mod writing;
 
-pub use laws::{one_program, one_program_cause, one_reading, spelled_programs_are_read};
+pub use laws::{
+    congruence_does_not_depend_on_numbers, one_program, one_program_cause, one_reading,
+    spelled_programs_are_read,
+};
 pub use program_listing::{Name, one_listing};
 pub use program_tree::{LONGEST_WINDOW, MOST_NODES, MOST_STATES, MOST_WINDOWS, Node, Program};
 pub use reading::{ProgramError, read_program};

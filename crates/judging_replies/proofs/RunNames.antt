@@ -16,10 +16,8 @@ use Rattle.tsl_terms.specs.TermTree.{TermTree, signal, apply, TermTrees, no_term
 use Rattle.tsl_terms.specs.SpecTree.{SpecTree}
 use Rattle.term_text.specs.TermText.{is_held, term_is_held, terms_are_held}
 use Rattle.term_text.proofs.Held.{name_held}
-use Rattle.tsl_reader.specs.Naming.{all_uses}
 use Rattle.tsl_reader.specs.Spells.{Spells}
-use Rattle.tsl_reader.proofs.Counts.{uses_within}
-use Rattle.tsl_reader.proofs.NameBounds.{names_within}
+use Rattle.tsl_reader.proofs.FewNames.{few_names as derived_few}
 use Rattle.program_tree.specs.ProgramTree.{ProgramTree, controlled}
 use Rattle.program_tree.specs.Fits.{IsProgram}
 use Rattle.program_tree.specs.Writable.{IsWritable, signal_fits}
@@ -30,9 +28,7 @@ use Rattle.judging_replies.specs.Run.{SpellsGiven, given_names}
 
 -- a specification has at most one name more than its text has bytes
 pub few_names : (text : List ℕ) (spec : SpecTree) → Spells text spec → length spec.names ≤ suc (length text)
-few_names text spec h =
-    let d = h.derived in
-    omega (arith, ap length d.names, names_within (all_uses d.sections), uses_within text d.tokens d.sections d.derives)
+few_names text spec h = derived_few text spec h.derived
 
 pub given_few : (text : List ℕ) (given : Option SpecTree) → SpellsGiven text given → length (given_names given) ≤ suc (length text)
 given_few text None h = omega arith

@@ -15,3 +15,4 @@ pub mod RunPromise
 pub mod SynthPromise
 pub mod TaskFacts
 pub mod VerdictsCome
+pub mod WrittenRuns

@@ -26,6 +26,7 @@ use Rattle.spec_syntax.specs.Grammar.{IsFormula, AreItems, IsSection, AreSection
 use Rattle.tsl_reader.specs.Naming.{Use, use_as, uses, all_uses, written_uses, named_by, names_of, numbered_formula, numbered_list}
 use Rattle.spec_syntax.specs.Texts.{terminal_at, terminals}
 use Rattle.tsl_reader.specs.Spells.{Spells, deepest_level, most_formula_nodes}
+use Rattle.tsl_reader.proofs.WithoutDefinitions.{derived_alone}
 use Rattle.tsl_tool.specs.Form.{Pair, update_lexemes, form_lexemes, sides, has_usable_names, signal_named, AreUpdates, IsForm}
 use Rattle.tsl_tool.specs.Form.{SpellsUpdates}
 use Rattle.tsl_tool.specs.Form as form
@@ -211,22 +212,12 @@ few_nodes spec pairs first always guaranteed updates few =
 pub plain_is_spelled : (bytes : List ℕ) (spec : SpecTree) → SpellsUpdates bytes spec → Spells bytes spec
 plain_is_spelled bytes spec x = record {
   few_nodes = few_nodes spec x.pairs x.nothing_assumed_first x.nothing_assumed_always x.nothing_guaranteed_first x.guarantees x.form.few;
-  derived = record {
-    tokens = tokens_from 0 x.form.parts;
-    sections = section_of x.pairs ∷ [];
-    derives = record {
-      tokens_are = record { parts = x.form.parts; divides = x.form.divides; places = refl };
-      derived = subst (λ xs. AreSections deepest_level xs (section_of x.pairs ∷ [])) (sym (terminals_are bytes x.pairs x.form))
-          (are_sections x.pairs);
-    };
-    one_kind = no_clash alike_in_kind (λ a b. refl) (written_uses (section_of x.pairs ∷ [])) (written_plain x.pairs);
-    one_arity = no_clash same_arity (λ a b. refl) (written_uses (section_of x.pairs ∷ [])) (written_plain x.pairs);
-    names = x.names ∙ names_are x.pairs;
-    assume_first = ap Some (sym x.nothing_assumed_first);
-    assume_always = ap Some (sym x.nothing_assumed_always);
-    guarantee_first = ap Some (sym x.nothing_guaranteed_first);
-    guarantee_always =
-        ap (numbered_list spec.names) (append-nil (map formula_of x.pairs))
-        ∙ numbers_are spec.names x.pairs spec.guarantee_always x.guarantees;
-  };
+  derived = derived_alone bytes spec (tokens_from 0 x.form.parts) (section_of x.pairs ∷ [])
+      (record { parts = x.form.parts; divides = x.form.divides; places = refl })
+      (subst (λ xs. AreSections deepest_level xs (section_of x.pairs ∷ [])) (sym (terminals_are bytes x.pairs x.form)) (are_sections x.pairs))
+      (no_clash alike_in_kind (λ a b. refl) (written_uses (section_of x.pairs ∷ [])) (written_plain x.pairs))
+      (no_clash same_arity (λ a b. refl) (written_uses (section_of x.pairs ∷ [])) (written_plain x.pairs)) (x.names ∙ names_are x.pairs)
+      (ap Some (sym x.nothing_assumed_first)) (ap Some (sym x.nothing_assumed_always)) (ap Some (sym x.nothing_guaranteed_first))
+      (ap (numbered_list spec.names) (append-nil (map formula_of x.pairs))
+      ∙ numbers_are spec.names x.pairs spec.guarantee_always x.guarantees);
 }

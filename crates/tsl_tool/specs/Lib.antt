@@ -7,3 +7,4 @@ pub mod Outcome
 pub mod Promise
 pub mod Limits
 pub mod Tasks
+pub mod WrittenPrograms

@@ -3,7 +3,9 @@
 ghost use Rattle.std.specs.Prelude.{◌≡◌, ◌≢◌, ◌↔◌, ◌⊎◌, ℕ, List, [], Contains, false, None, IsTrue};
 ghost use Rattle.std.specs.List.{AllByRecursion};
 ghost use Rattle.command_words.specs.declared.task.ProveSizes.{ProveSizes};
+ghost use Rattle.command_words.specs.declared.task.SynthSizes.{SynthSizes};
 ghost use Rattle.command_words.specs.declared.task.Task.{Task};
+ghost use Rattle.command_words.specs.declared.task.Task.TheVariants.{Synth};
 ghost use Rattle.command_words.specs.Commands.{AsksFor};
 ghost use Rattle.generator.specs.Generated.{generated_text};
 ghost use Rattle.refutation_check.specs.CnfText.{cnf_answer};
@@ -30,17 +32,20 @@ ghost use Rattle.search_replies.specs.Gen.{GenOutcome};
 ghost use Rattle.tsl_tool.specs.Limits.{LimitsAreThese};
 ghost use Rattle.tsl_tool.specs.Outcome.{Outcome};
 ghost use Rattle.tsl_tool.specs.Promise.{Promise};
+ghost use Rattle.tsl_tool.specs.WrittenPrograms.{RunsProgramOf};
 ghost use Rattle.search_replies.specs.Prove.{IsProof, ProveOutcome};
 ghost use Rattle.tool_replies.specs.Refusals.{fault_at_limit};
 ghost use Rattle.tool_replies.specs.Replies.{fault_reply};
 ghost use Rattle.judging_replies.specs.Check.{AreCheckParts, CheckInput, CheckOutcome, CheckParts, SpellCheckInput};
 ghost use Rattle.judging_replies.specs.Recheck.{IsAccepted, IsRefused, RecheckOutcome, parts_reply, verdict};
-ghost use Rattle.judging_replies.specs.Run.{RunInput, lasso_of, judged_formulas, verdicts_of, run_reply};
+ghost use Rattle.judging_replies.specs.Run.{RunInput, RunOutcome, lasso_of, judged_formulas, verdicts_of, run_reply};
 ghost use Rattle.exchange_replies.specs.Circuit.{CircuitOutcome};
 ghost use Rattle.tool_replies.specs.Statuses.{is_answer};
 ghost use Rattle.search_replies.specs.Synth.{SynthOutcome};
 
+use table_interp::what_is_spelled_has_a_meaning;
 use tool_replies::Status;
+use word_interp::what_is_spelled_has_a_meaning as what_words_spell_has_a_meaning;
 
 /// A text spells at most one specification.
 pub fn one_specification()
@@ -147,6 +152,17 @@ pub fn verdicts_are_those_of_runs()
     ensures no { (input : RunInput) (run : RunTree ℕ) → ((run_reply input run).status ≡ Status.No)
         ↔ Contains (verdicts_of input (shape_of run)) false }
 {}
+
+/// A program that `synth` wrote has no verdict that a formula fails, whether tables or machine words give
+/// the interpretation, where it is run with the specification that it was written from, or with none.
+pub fn written_programs_do_not_fail()
+    ensures { (sizes : SynthSizes) (specification text bytes : List ℕ) (reply : Reply) →
+        Promise (Synth sizes) Status.Done specification text → RunsProgramOf specification text bytes →
+        RunOutcome bytes reply → reply.status ≢ Status.No }
+{
+    what_is_spelled_has_a_meaning();
+    what_words_spell_has_a_meaning();
+}
 
 /// The limits of texts, of what they spell, and of the work on it are these numbers.
 pub fn limits_are_these()

@@ -99,6 +99,7 @@ pub use laws::{
     controllers_are_not_missed, ends_have_causes, limits_are_these, limits_are_told,
     one_specification, outcomes_keep_their_promise, plain_updates_are_spelled, proofs_are_verified,
     searches_are_answered, verdicts_are_those_of_logs, verdicts_are_those_of_runs,
+    written_programs_do_not_fail,
 };
 pub use tool_replies::Status;
 pub use top::tsl;

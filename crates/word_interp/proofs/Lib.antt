@@ -7,3 +7,4 @@ mod OneReading
 mod Examples
 mod Stages
 mod OneCause
+pub mod Reduced

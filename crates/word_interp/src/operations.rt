@@ -1,11 +1,24 @@
 //! What operations and tests give on words.
 
-ghost use Rattle.std.specs.Prelude.{◌≡◌, ◌≤◌, ℕ, Some, true, IsSome};
+ghost use Rattle.std.specs.Prelude.{◌≡◌, ◌<◌, ◌≤◌, ◌+◌, ◌%◌, ℕ, Some, true, IsSome};
 ghost use Rattle.tsl_meaning.specs.Interpretation.{are_values, entry_of};
 ghost use Rattle.word_interp.specs.Operations.{arity_of, operation_of, test_of, arity_given, table_given, value_given, number_in};
 ghost use Rattle.word_interp.specs.internal.Applied.{applied, given_at};
 
 use table_syntax::{Given, Operation, Test};
+
+/// A number below twice the domain, modulo the domain.
+#[tactic(auto, using(crate::proofs::Reduced::below, crate::proofs::Reduced::past))]
+fn reduced(domain: u32, number: u32) -> u32
+    requires { number < domain + domain }
+    ensures { result ≡ number % domain }
+{
+    if number < domain {
+        number
+    } else {
+        number - domain
+    }
+}
 
 /// The value of an operation on words below the domain.
 fn value_of(domain: u32, operation: Operation, arguments: &[u32]) -> u32
@@ -16,16 +29,16 @@ fn value_of(domain: u32, operation: Operation, arguments: &[u32]) -> u32
     ensures { applied (operation_of domain operation) arguments.now ≡ Some result }
 {
     match (operation, arguments) {
-        (Operation::Add, [x, y]) => (*x + *y) % domain,
-        (Operation::Sub, [x, y]) => (*x + domain - *y) % domain,
+        (Operation::Add, [x, y]) => reduced(domain, *x + *y),
+        (Operation::Sub, [x, y]) => reduced(domain, *x + domain - *y),
         (Operation::Mul, [x, y]) => *x * *y % domain,
         (Operation::And, [x, y]) => *x & *y,
         (Operation::Or, [x, y]) => *x | *y,
         (Operation::Xor, [x, y]) => *x ^ *y,
         (Operation::Not, [x]) => *x ^ (domain - 1),
-        (Operation::Inc, [x]) => (*x + 1) % domain,
-        (Operation::Dec, [x]) => (*x + domain - 1) % domain,
-        (Operation::Shl, [x]) => 2 * *x % domain,
+        (Operation::Inc, [x]) => reduced(domain, *x + 1),
+        (Operation::Dec, [x]) => reduced(domain, *x + domain - 1),
+        (Operation::Shl, [x]) => reduced(domain, 2 * *x),
         (Operation::Shr, [x]) => *x / 2,
         (Operation::Const(number), []) => (number % u64::from(domain)) as u32,
         _ => 0,

@@ -1,0 +1,14 @@
+-- Programs that are run with the specification that they were written from, or with none.
+use Rattle.std.specs.Prelude.{◌≡◌, ◌⊎◌, ℕ, List, []}
+use Rattle.judging_replies.specs.RunParts.{RunParts, AreParts}
+
+-- what stands before a program is the text of its specification, or nothing
+abbrev pub IsGivenWith : List ℕ → List ℕ → Type 0
+IsGivenWith specification given = (given ≡ specification) ⊎ (given ≡ [])
+
+-- the bytes have the parts that `run` reads; their program is this text, and before it stands that specification, or nothing
+pub record RunsProgramOf (specification text bytes : List ℕ) : Type 0 where
+  pub parts : RunParts
+  pub are_parts : AreParts bytes parts
+  pub program : parts.program ≡ text
+  pub given : IsGivenWith specification parts.spec
