@@ -17,9 +17,37 @@ RESERVED = "assume guarantee always initially true false X F G U W R A".split()
 
 def tokens(text):
     text = re.sub(r"//[^\n]*", " ", text)
-    found = re.findall(r"\s+|[A-Za-z_][A-Za-z0-9_']*|[0-9]+|&&|\|\||<->|->|<-|[{}()\[\];!?]", text)
+    found = re.findall(r"\s+|[A-Za-z_][A-Za-z0-9_']*|[0-9]+|&&|\|\||<->|->|<-|[{}()\[\];!?=]", text)
     assert "".join(found) == text, "a byte that begins no token"
     return [t for t in found if not t.isspace()]
+
+
+def expanded(left):
+    """The tokens of the sections alone, where each use of a definition is replaced by its body in brackets, with the names that
+    it passes for the parameters, until no use is left."""
+    definitions, own = {}, []
+    while left:
+        if left[0] in RESERVED:
+            end = left.index("}") + 1
+            own += left[:end]
+        else:
+            equals, end = left.index("="), left.index(";") + 1
+            definitions[left[0]] = left[1:equals], left[equals + 1:end - 1]
+        left = left[end:]
+
+    def put(some):
+        found, at = [], 0
+        while at < len(some):
+            token, at = some[at], at + 1
+            if token not in definitions:
+                found.append(token)
+                continue
+            parameters, body = definitions[token]
+            passed = dict(zip(parameters, some[at:]))
+            at += len(parameters)
+            found += ["(", *put([passed.get(t, t) for t in body]), ")"]
+        return found
+    return put(own)
 
 
 class Reader:
@@ -40,6 +68,7 @@ class Reader:
     def spec(self):
         lists = {(kind, when): [] for kind in ("assume", "guarantee") for when in ("first", "always")}
         lists["text"] = []
+        self.left = expanded(self.left)
         while self.left:
             when = "first"
             if self.peek() in ("always", "initially"):

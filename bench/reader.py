@@ -22,6 +22,28 @@ def numbered(before, form, after, size):
     return before + b"".join(members) + after
 
 
+def chained(last, after, size):
+    """Definitions that each use the next one, up to a size; the last one stands for what is told of its number."""
+    links = []
+    left = size - len(last(0)) - len(after) - len(b"%d" % size)
+    while left >= len(b"a%d=a%d;" % (len(links), len(links) + 1)):
+        links.append(b"a%d=a%d;" % (len(links), len(links) + 1))
+        left -= len(links[-1])
+    return b"".join(links) + last(len(links)) + after
+
+
+def passing(uses_each, size):
+    """A definition with parameters, a body that uses each or none of them, and a use of it, up to a size."""
+    names = []
+    left = size - len(b"f=p;guarantee{f}")
+    while left >= len(b" s%d" % len(names)) * (1 + uses_each) + 2:
+        names.append(b" s%d" % len(names))
+        left -= len(names[-1]) * (1 + uses_each) + 2
+    heads = b"".join(names)
+    body = b"p" + heads if uses_each else b"p"
+    return b"f" + heads + b"=" + body + b";guarantee{f" + b" x" * len(names) + b"}"
+
+
 def nested(front, middle, back, levels=200):
     return front * levels + middle + back * levels
 
@@ -44,6 +66,16 @@ SHAPES = [
     ("long names that differ at their end", lambda n: numbered(START, b"a" * 1000 + b"%d;", END, n)),
     ("blanks", lambda n: b" " * n),
     ("comments that nest", lambda n: filled(b"", b"/*", b"", n // 2) + filled(b"", b"*/", b"", n // 2)),
+    ("definitions that none uses", lambda n: numbered(b"", b"a%d=b;", b"", n)),
+    ("a chain of definitions that none uses", lambda n: chained(lambda k: b"a%d=b;" % k, b"", n)),
+    ("a chain of definitions that is used", lambda n: chained(lambda k: b"a%d=b;" % k, START + b"a0" + END, n)),
+    ("a chain of definitions to one that uses itself", lambda n: chained(lambda k: b"a%d=a%d;" % (k, k), b"", n)),
+    ("definitions that each use one that uses itself", lambda n: numbered(b"", b"a%d=z;", b"z=z;", n)),
+    ("uses of one definition", lambda n: filled(b"d=true;" + START, b"d;", END, n)),
+    ("parameters of one definition", lambda n: numbered(b"f", b" s%d", b"=a;", n)),
+    ("one parameter again and again", lambda n: filled(b"f", b" s", b"=a;", n)),
+    ("names that one use passes", lambda n: passing(False, n)),
+    ("names that one use passes, each used", lambda n: passing(True, n)),
     ("a fault at the end", lambda n: filled(START, b"a;", b"(", n)),
     ("a name in another kind at the end", lambda n: numbered(START, b"a%d;", b"a0()}", n)),
 ]

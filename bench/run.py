@@ -57,49 +57,40 @@ def long_run(count):
     return text_of(program, tables, ["stem", "cycle row"])
 
 
-def three_cells(count):
-    """Few rows, and a run of about so many configurations of three cells: two count in digits of a base, one takes the lower digit."""
-    base = int(count**0.5)
+def three_cells(count, meaning, head):
+    """A run of so many configurations, a power of two, of three cells: two count in digits of a base, one takes the lower digit.
+    The base is a power of two; where its square is twice the count, the higher digit goes on by two."""
+    base = 2 ** (count.bit_length() // 2)
+    on = "next next" if base * base > count else "next"
     program = [
         "cell low",
         "cell high",
         "cell before",
-        "node 0 set [low <- zero()] [high <- next high] [before <- low] go 0",
+        f"node 0 set [low <- next low] [high <- {on} high] [before <- low] go 0",
         "node 1 set [low <- next low] [high <- high] [before <- low] go 0",
-        "node 2 if last low then 0 else 1",
+        "node 2 if first low then 0 else 1",
         "state 0 at 2",
     ]
-    tables = [
-        f"domain {base}",
-        "func zero 0",
-        "func next " + " ".join(str((i + 1) % base) for i in range(base)),
-        "pred last " + " ".join(str(int(i == base - 1)) for i in range(base)),
-        f"cell low 0 cell high 0 cell before {base - 1}",
-    ]
-    return text_of(program, tables, ["stem", "cycle row"])
+    cells = f"cell low 0 cell high 0 cell before {base - 1}"
+    return text_of(program, [*meaning(base), cells], ["stem", "cycle row"], head)
 
 
-def three_cells_of_words(count):
-    """A run of so many configurations, a power of two, of three cells over words: one counts, and two take what stood before."""
-    program = [
-        "cell low",
-        "cell before",
-        "cell changed",
-        "node 0 set [low <- zero()] [before <- low] [changed <- differ low before] go 0",
-        "node 1 set [low <- next low] [before <- low] [changed <- differ low before] go 0",
-        "node 2 if last top() low then 0 else 1",
-        "state 0 at 2",
-    ]
-    words = [
-        f"bits {count.bit_length() - 1}",
-        "func zero const 0",
-        f"func top const {count - 1}",
-        "func next inc",
-        "func differ xor",
-        "pred last atmost",
-        f"cell low 0 cell before {count - 1} cell changed 1",
-    ]
-    return text_of(program, words, ["stem", "cycle row"], "tslwords 1")
+def three_cells_over_tables(count):
+    """The run of three cells, where tables say what is next and which digit is the first."""
+    return three_cells(
+        count,
+        lambda base: [
+            f"domain {base}",
+            "func next " + " ".join(str((i + 1) % base) for i in range(base)),
+            "pred first " + " ".join(str(int(i == 0)) for i in range(base)),
+        ],
+        "tsltables 1",
+    )
+
+
+def three_cells_over_words(count):
+    """The same run of the same program, over machine words."""
+    return three_cells(count, lambda base: [f"bits {base.bit_length() - 1}", "func next inc", "pred first zero"], "tslwords 1")
 
 
 def plain_reading(text):
@@ -121,22 +112,25 @@ FAMILIES = [
     ("entries of a table", long_tables),
     ("rows of inputs", long_inputs),
     ("configurations of a run", long_run),
-    (OVER_TABLES, three_cells),
-    (OVER_WORDS, three_cells_of_words),
+    (OVER_TABLES, three_cells_over_tables),
+    (OVER_WORDS, three_cells_over_words),
 ]
 
 
 def counted():
     """The growth by instructions, where valgrind is installed: what noise does to seconds it does not do to these."""
     worst = 0.0
+    largest = {}
     for title, family in FAMILIES:
         counts = [instructions(family(count), [PROGRAM, "run"]) for count in SIZES]
         if None in counts:
             return
         growths = [after / before for before, after in zip(counts, counts[1:])]
         worst = max(worst, *growths)
+        largest[title] = counts[-1]
         print(f"{title}: {counts[-1]} instructions for {SIZES[-1]}, growths " + " ".join(f"{g:.2f}" for g in growths))
     print(f"the largest growth of instructions for a doubling: {worst:.2f}")
+    print(f"words take {largest[OVER_WORDS] / largest[OVER_TABLES]:.2f} times the instructions of tables")
 
 
 def main():

@@ -14,27 +14,36 @@ reading == 2 { begin[++files] = $1; sub(/^[0-9]+ /, ""); file[files] = $0; next 
 }
 # Before the token `k`: what is open, what stands there, and what may follow.
 function follows(k,    i, open_in, prev) {
-    opens = 0
+    opens = until_at[0] = 0
+    within = ""
     for (i = 1; i < k; i++) {
+        if (!opens && token[i] ~ /^(always|initially|assume|guarantee)$/) within = "section"
+        else if (within == "" && is_name(token[i])) { within = "head"; head = token[i] }
+        else if (within == "head" && token[i] == "=") within = "body"
+        else if (!opens && within == "body" && token[i] == ";") within = ""
         if (token[i] ~ /^[\[({]$/) { open[++opens] = i; until_at[opens] = 0 }
-        else if (token[i] ~ /^[\])}]$/) opens--
+        else if (token[i] ~ /^[\])}]$/) { if (!--opens && token[i] == "}") within = "" }
         else if (token[i] == ";") until_at[opens] = 0
         else if (token[i] ~ /^[UWR]$/) until_at[opens] = i
     }
     prev = token[k - 1]
     open_in = opens ? token[open[opens]] : ""
     for (i = 1; i <= opens; i++) if (token[open[i]] == "[") open_in = open_in == "[" ? "[" : "[("
-    if (open_in == "") return prev ~ /^(always|initially)$/ ? "assume or guarantee" : prev ~ /^(assume|guarantee)$/ ? "{" : "always, initially, assume or guarantee"
+    if (open_in == "" && within == "head") return "a parameter or ="
+    if (open_in == "" && within != "body") return prev ~ /^(always|initially)$/ ? "assume or guarantee" : prev ~ /^(assume|guarantee)$/ ? "{" : "always, initially, assume, guarantee or a definition"
     if (open_in == "[") return prev == "[" ? "a signal" : token[k - 2] == "[" ? "<-" : prev == "<-" ? "a term" : "] or an argument"
     if (open_in == "[(") return prev == "(" ? "a term" : ") or an argument"
-    if (prev ~ /^([{;(!XFGUWR]|&&|\|\||->|<->)$/) return "a test, an update [s <- t], !, X, F, G or (" (prev == "{" || prev == ";" ? ", or }" : "")
-    return "an operator (&&, ||, ->, <->, U, W, R)" (is_name(prev) ? ", an argument" : "") (open_in == "{" ? ", ; or }" : " or )")
+    if (prev ~ /^([{;(=!XFGUWR]|&&|\|\||->|<->)$/) return "a test, an update [s <- t], !, X, F, G or (" (prev == "{" || prev == ";" ? ", or }" : "")
+    return "an operator (&&, ||, ->, <->, U, W, R)" (is_name(prev) ? ", an argument" : "") (open_in == "{" ? ", ; or }" : open_in == "" ? " or ;" : " or )")
 }
 function place_of(k) { return line_of[k] ":" column_of[k] }
 # The usual reason why the token `k` cannot stand there.
 function reason(k,    met, top) {
     met = token[k]
     top = opens ? token[open[opens]] : ""
+    if (within == "head") return "outside of braces a name begins a definition, as both a = p a && q a; formulas stand in always guarantee { .. }"
+    if (within == "body" && !opens && (k > tokens || met ~ /^(always|initially|assume|guarantee|})$/)) return "the definition of " head " has no ; at its end"
+    if (met == "=") return top != "{" ? "an update is written [s <- t]; that two values are equal is eq x y" : "that two values are equal is eq x y; a definition stands outside of the braces"
     if (k > tokens || (top != "" && met ~ /^(;|}|always|initially|assume|guarantee)$/)) return opens ? "the " top " of " place_of(open[opens]) " is not closed" : "a section is missing"
     if (met ~ /^[0-9]/) return "a number is no term; name a constant, as zero()"
     if (met ~ /^[UWR]$/ || (opens in until_at && until_at[opens])) return "both sides of U, W and R that are more than an atom with prefixes stand in brackets, and so does the whole: (a && b) U c"
@@ -90,9 +99,14 @@ END {
             may = follows(k)
             if (kind == "form") { said = (k > tokens ? "the text ends" : "met " token[k]) ", where " may " may follow"; hint = reason(k) }
         }
-        if (kind == "kind" || kind == "arity") {
-            for (i = 1; i <= tokens && token[i] != name; i++) ;
-            said = said ", at " place_of(i)
+        define()
+        if ((name in defined) && defined[name] != k) {
+            if ((key " use") in what) { said = what[key " use"]; hint = why[key " use"] }
+            said = said ", defined at " place_of(defined[name])
+        }
+        else if (kind == "kind" || kind == "arity") {
+            for (i = 1; i < tokens && token[i] != name; i++) ;
+            if (i != k) said = said ", at " place_of(i)
         }
         met = substr(shown[line], column, 1)
         if (kind == "byte" && ("met " met) in what) { said = what["met " met]; hint = why["met " met] }

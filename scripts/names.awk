@@ -1,9 +1,10 @@
-# What a specification names: awk -f tokens.awk -f names.awk SPECIFICATION. The specification is one that `tsl` reads.
+# What a specification names, with what definitions stand for in the place of their uses: awk -f tokens.awk -f names.awk SPECIFICATION. The
+# specification is one that `tsl` reads.
 { text = text $0 "\n" }
 function use(name, kind) {
     if (!(name in kind_of)) order[++names] = name
     kind_of[name] = kind
-    uses[name]++
+    if (!((name, key_of[at]) in counted)) { counted[name, key_of[at]]; uses[name]++ }
     if (!(name in first)) first[name] = line_of[at]
 }
 # A term from the token `at` on, as text; `whole` where arguments without brackets may follow its name.
@@ -47,6 +48,7 @@ function list(title, wanted,    i, j, name) {
 }
 END {
     tokenize()
+    expand()
     for (at = 1; at <= tokens;) {
         if (token[at] == "[") {
             at++
@@ -70,4 +72,6 @@ END {
     for (w = 1; w <= 5; w++) list("", wanted[w])
     for (i = 1; i <= names; i++) if (uses[order[i]] == 1)
         print "once " order[i] ": a " kind_of[order[i]] " that stands only in line " first[order[i]] "; is it a typing error?"
+    for (i = 1; i <= definitions; i++) if (!used[definition[i]])
+        print "unused " definition[i] ": a definition that no section needs"
 }

@@ -44,3 +44,70 @@ function tokenize(    at, rest, depth, two, word, line, line_start) {
 function is_name(word) {
     return word ~ /^[A-Za-z_]/ && word !~ /^(assume|guarantee|always|initially|true|false|X|F|G|U|W|R|A)$/
 }
+# Where the tokens define names: defined[name] is the token of its head, equals[name] the one behind the head, and ends[name] the one behind the
+# body, a semicolon where the text is read by `tsl`. definition[1..definitions] are the defined names in order.
+function define(    i, name) {
+    split("", defined)
+    definitions = 0
+    for (i = 1; i <= tokens; i++) {
+        if (token[i] == "{") while (i <= tokens && token[i] != "}") i++
+        else if (is_name(token[i])) {
+            name = token[i]
+            if (name in defined) name = ""
+            if (name != "") { defined[name] = i; definition[++definitions] = name }
+            while (i <= tokens && is_name(token[i])) i++
+            if (name != "") equals[name] = i
+            while (i <= tokens && token[i] !~ /^(;|always|initially|assume|guarantee)$/) i++
+            if (name != "") ends[name] = i
+            if (token[i] != ";") i--
+        }
+    }
+}
+function copy(word, from, stands) {
+    copy_of[++copies] = word
+    line_there[copies] = line_of[from]
+    key_there[copies] = from " " stands
+}
+# Appends tokens. What stands for the parameter x is value[x], a name, which is the token origin[x] of the text.
+function put(first, last, value, origin,    i, k, count, name, given, place) {
+    for (i = first; i <= last; i++) {
+        name = token[i]
+        if (name in value) copy(value[name], origin[name], i)
+        else if (name in defined) {
+            count = equals[name] - defined[name] - 1
+            split("", given)
+            split("", place)
+            for (k = 1; k <= count; k++) {
+                given[token[defined[name] + k]] = token[i + k] in value ? value[token[i + k]] : token[i + k]
+                place[token[defined[name] + k]] = token[i + k] in value ? origin[token[i + k]] : i + k
+            }
+            used[name]++
+            copy("(", i, i)
+            put(equals[name] + 1, ends[name] - 1, given, place)
+            copy(")", i, i)
+            i += count
+        } else copy(name, i, i)
+    }
+}
+# Puts what they stand for in the place of uses, and leaves definitions out: of a text that `tsl` reads. line_of is where a token stands in the
+# text, and key_of is alike for those that stand there once.
+function expand(    i, first, none, nowhere) {
+    define()
+    copies = 0
+    split("", none)
+    split("", nowhere)
+    for (i = 1; i <= tokens; i++) {
+        if (is_name(token[i])) while (token[i] != ";") i++
+        else {
+            first = i
+            while (token[i] != "}") i++
+            put(first, i, none, nowhere)
+        }
+    }
+    tokens = copies
+    for (i = 1; i <= tokens; i++) {
+        token[i] = copy_of[i]
+        line_of[i] = line_there[i]
+        key_of[i] = key_there[i]
+    }
+}

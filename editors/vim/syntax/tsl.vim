@@ -5,7 +5,7 @@ endif
 syntax keyword tslSection assume guarantee always initially
 syntax keyword tslTruth true false
 syntax keyword tslTemporal X F G U W R A
-syntax match tslOperator "&&\|||\|<->\|->\|<-\|!"
+syntax match tslOperator "&&\|||\|<->\|->\|<-\|!\|="
 syntax match tslNumber "\<[0-9]\+\>"
 syntax match tslHead "^\(tslprogram\|tsltables\|tslwords\|tslinputs\) 1$"
 syntax match tslComment "//.*$"
