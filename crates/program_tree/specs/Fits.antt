@@ -1,11 +1,12 @@
 -- What every program keeps.
-use Rattle.std.specs.Prelude.{◌≡◌, ℕ, ◌<◌, Bool, true, false, ◌&&◌, ◌||◌, ◌==◌, nat_le, nat_lt, List, [], ◌∷◌, length, Some, slice_get}
-use Rattle.std.specs.Prelude.{IsTrue, ◌+◌, ◌++◌}
+use Rattle.std.specs.Prelude.{◌≡◌, ℕ, ◌<◌, Bool, true, false, not, ◌&&◌, ◌||◌, ◌==◌, nat_le, nat_lt, List, [], ◌∷◌, length, slice_get}
+use Rattle.std.specs.Prelude.{Option, Some, None, IsTrue, ◌+◌, ◌++◌}
 use Rattle.std.specs.List.{list_all}
 use Rattle.sequence.specs.Numbers.{is_among}
-use Rattle.tsl_terms.specs.TermTree.{TermTree, ProbeTree}
+use Rattle.tsl_terms.specs.TermTree.{TermTree, ProbeTree, count_of_terms}
+use Rattle.tsl_terms.specs.SameTree.{same_probe_tree}
 use Rattle.tsl_terms.specs.OnlyThese.{reads_only, read_only}
-use Rattle.tsl_terms.specs.WindowTree.{WindowTree, ListedTree, window_probes}
+use Rattle.tsl_terms.specs.WindowTree.{WindowTree, ListedTree, EquatedTree, window_probes, equality_probes}
 use Rattle.program_tree.specs.declared.limits.TheConstants.{LONGEST_WINDOW}
 use Rattle.program_tree.specs.NodeTree.{NodeTree, branch, assign}
 use Rattle.program_tree.specs.ProgramTree.{ProgramTree}
@@ -43,12 +44,33 @@ rises cells (u ∷ v ∷ us) = comes_before cells u v && rises cells (v ∷ us)
 abbrev pub longest : ℕ
 longest = LONGEST_WINDOW
 
+-- whether an equality may stand behind another one: its offset is larger, or the same with another probe
+abbrev pub may_follow : EquatedTree → EquatedTree → Bool
+may_follow d e = nat_lt d.offset e.offset || ((d.offset == e.offset) && not (same_probe_tree d.probe e.probe))
+
+-- whether the offsets of equalities do not fall, and none stands twice at one offset
+abbrev pub are_in_order : List EquatedTree → Bool
+are_in_order [] = true
+are_in_order (e ∷ es) = list_all (may_follow e) es && are_in_order es
+
+-- the listed equalities stand within the window, in order, and each probe that has to be an equality has two arguments
+abbrev pub equalities_are_shaped : WindowTree → Bool
+equalities_are_shaped w =
+    (list_all (λ e. nat_le e.offset w.length) w.equalities && are_in_order w.equalities)
+    && list_all (λ p. count_of_terms p.arguments == 2) (equality_probes w)
+
+-- the left step is 0 where there is no left probe
+abbrev pub left_is_shaped : Option ProbeTree → ℕ → Bool
+left_is_shaped None left_at = left_at == 0
+left_is_shaped (Some left) left_at = true
+
 -- The length is at most 3, the left probe stands within it, and the listed updates are of cells, at offsets below the
--- length, in rising order.
+-- length, in rising order. Without a left probe its step is 0. The equalities are shaped.
 abbrev pub window_is_shaped : List ℕ → WindowTree → Bool
 window_is_shaped cells w =
-    (nat_le w.length longest && nat_le w.left_at w.length)
-    && (list_all (λ u. nat_lt u.offset w.length && is_among cells u.signal) w.updates && rises cells w.updates)
+    ((nat_le w.length longest && nat_le w.left_at w.length)
+    && (list_all (λ u. nat_lt u.offset w.length && is_among cells u.signal) w.updates && rises cells w.updates))
+    && (left_is_shaped w.left w.left_at && equalities_are_shaped w)
 
 -- probes and terms read these signals only
 abbrev pub window_reads_only : List ℕ → WindowTree → Bool

@@ -11,5 +11,7 @@ pub mod Tables
 pub mod SameLabels
 pub mod CellValues
 pub mod UnfoldingsAreValues
+pub mod EqualImages
+pub mod EqualWindows
 pub mod CongruentWindows
 mod Examples

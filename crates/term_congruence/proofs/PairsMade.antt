@@ -78,7 +78,7 @@ flat_push : (f : EquatedTree → List PairTree) (xs : List EquatedTree) (y : Equ
 flat_push f [] y = append-nil (f y)
 flat_push f (x ∷ xs) y = ap (λ (ps : List PairTree). f x ++ ps) (flat_push f xs y) ∙ sym (append_assoc (f x) (flat_map f xs) (f y))
 
-item_at : (es : List Equated) (i : ℕ) (e : Equated) → i < length es → e ≡ get_or es i e → slice_get (map equated_tree es) i ≡ Some
+pub item_at : (es : List Equated) (i : ℕ) (e : Equated) → i < length es → e ≡ get_or es i e → slice_get (map equated_tree es) i ≡ Some
     (equated_tree e)
 item_at es i e within is = slice_get-map equated_tree es i ∙ ap (option_map equated_tree) (slice_get_read es (length es) i e refl within is)
 

@@ -23,11 +23,8 @@ use Rattle.tsl_terms.specs.Unfolding.{unfolded}
 use Rattle.tsl_terms.specs.WindowTree.{EquatedTree, equated_tree}
 use Rattle.tsl_terms.specs.OneClass.{PairTree, IsCongruence, AreInOneClass, pair_of, listed_pairs}
 use Rattle.tsl_terms.proofs.SingleClasses.{one_class_is_one}
-use Rattle.term_congruence.specs.internal.Closing.{LabelPairTree, AreSmallest}
-use Rattle.term_congruence.specs.internal.PairLabels.{ArePairLabels}
 use Rattle.term_congruence.specs.internal.Rows.{AreStepRows}
-use Rattle.term_congruence.specs.internal.Shapes.{AllStand}
-use Rattle.term_congruence.proofs.TreeLemmas.{one_class_exactly}
+use Rattle.term_congruence.specs.internal.Sides.{AreExactClasses, pairs_by}
 use Rattle.term_congruence.proofs.StandingLemmas.{labels_within}
 
 -- what is in one class stays there where the same pairs are listed
@@ -88,12 +85,10 @@ module _ (updates : List ListedTree) (terms : List TermTree) where
       let label = slice_get_mapped (λ l. get_or classes l 0) old.0 k a (subst (λ r. slice_get r k ≡ Some a) (sym old.2) here) in
       (label.0, ap (option_and_then (λ r. slice_get r k)) old.1 ∙ label.1, label.2))
 
-  pub is_class_table : (shapes : List ShapeTree) (rows : List (List ℕ)) (last : ℕ) → AllStand shapes → AreDifferent shapes →
-      AreStepRows updates terms shapes rows (suc last) → (equalities : List EquatedTree) (pairs : List LabelPairTree) →
-      ArePairLabels shapes (flat_map (λ e. pair_of (all_unfolded_by updates e.offset e.probe.arguments)) equalities) pairs →
-      (classes : List ℕ) → AreSmallest shapes pairs classes →
+  pub is_class_table : (shapes : List ShapeTree) (rows : List (List ℕ)) (last : ℕ) → AreStepRows updates terms shapes rows (suc last) →
+      (equalities : List EquatedTree) (classes : List ℕ) → AreExactClasses shapes (pairs_by (term_listed updates) equalities) classes →
       IsClassTable terms updates equalities last (map (λ row. map (λ l. get_or classes l 0) row) rows)
-  is_class_table shapes rows last stand different are equalities pairs of classes smallest = record {
+  is_class_table shapes rows last are equalities classes exact = record {
     one_row_each = length-map rows (λ row. map (λ l. get_or classes l 0) row) ∙ are.counted;
     one_label_each = λ step row at.
         let old = slice_get_mapped (λ row. map (λ l. get_or classes l 0) row) rows step row at in
@@ -106,13 +101,10 @@ module _ (updates : List ListedTree) (terms : List TermTree) where
         let second = labelled shapes rows (suc last) are j l n.0 y at_y n.1 in
         let one = unfolded_alike (updated_signals updates) updates (own_signals updates) i x in
         let two = unfolded_alike (updated_signals updates) updates (own_signals updates) j y in
-        let listed : listed_pairs (updated_signals updates) updates equalities
-        ≡ flat_map (λ e. pair_of (all_unfolded_by updates e.offset e.probe.arguments)) equalities =
+        let listed : listed_pairs (updated_signals updates) updates equalities ≡ pairs_by (term_listed updates) equalities =
         λ z. flat_map (λ e. pair_of
         (all_unfolded_alike (updated_signals updates) updates (own_signals updates) e.offset e.probe.arguments z)) equalities in
-        let exactly = one_class_exactly shapes stand different _ pairs of classes smallest (unfolded_by updates i x)
-        (unfolded_by updates j y)
-        m.0 n.0 first second in (
+        let exactly = exact.exact (unfolded_by updates i x) (unfolded_by updates j y) m.0 n.0 first second in (
           λ same. moved_class (sym listed) (sym one) (sym two) (exactly.1 (m.2 ∙ same ∙ sym n.2)),
           λ in_one. sym m.2 ∙ exactly.0 (moved_class listed one two in_one) ∙ n.2,
         );

@@ -1,17 +1,18 @@
 //! Tables of labels.
 
-ghost use Rattle.std.specs.Prelude.{◌≡◌, ◌<◌, [], ◌∷◌, length, map, flat_map, get_or, IfOk, OnOk};
+ghost use Rattle.std.specs.Prelude.{◌≡◌, ◌<◌, [], ◌∷◌, length, map, get_or, IfOk, OnOk};
 ghost use Rattle.std.specs.List.{AllByRecursion};
 ghost use Rattle.tsl_terms.specs.TermTree.{term_tree, term_trees, count_of_terms};
-ghost use Rattle.tsl_terms.specs.WindowTree.{listed_tree};
-ghost use Rattle.tsl_terms.specs.WindowTree.{equated_tree};
+ghost use Rattle.tsl_terms.specs.WindowTree.{listed_tree, equated_tree};
+ghost use Rattle.tsl_terms.specs.Unfolding.{term_listed};
 ghost use Rattle.tsl_terms.specs.OneClass.{pair_of};
 ghost use Rattle.term_congruence.specs.Classes.{IsClassTable};
-ghost use Rattle.term_congruence.specs.internal.Shapes.{KeepsShapes, all_unfolded_by};
+ghost use Rattle.term_congruence.specs.internal.Shapes.{AllStand, AreDifferent, KeepsShapes, all_unfolded_by};
 ghost use Rattle.term_congruence.specs.internal.ShapeView.{shape_trees};
 ghost use Rattle.term_congruence.specs.internal.PairView.{pair_tree};
 ghost use Rattle.term_congruence.specs.internal.PairLabels.{ArePairLabels};
 ghost use Rattle.term_congruence.specs.internal.Rows.{AreLabelRows};
+ghost use Rattle.term_congruence.specs.internal.Sides.{AreExactClasses, pairs_by};
 
 use crate::closing::{LabelPair, classes_of};
 use crate::congruence::labels_at;
@@ -20,7 +21,7 @@ use crate::shapes::{Shape, classes_at};
 use indexmap::IndexSet;
 use sequence::{NoMemory, Sequence};
 use std::alloc::Global;
-use tsl_terms::{Equated, Listed, Term};
+use tsl_terms::{Equated, Listed, Term, TermList};
 
 /// Labels of terms at steps.
 #[derive(Drop)]
@@ -29,25 +30,20 @@ pub struct ClassTable {
     pub rows: Sequence<Sequence<u32>>,
 }
 
-/// The labels of the two arguments of an equality at its offset.
-fn pair_of_labels(
+/// The labels of two arguments at a step.
+pub(crate) fn pair_of_labels(
     alloc: Global,
     shapes: &mut IndexSet<Shape>,
     updates: &[Listed],
-    equality: &Equated,
+    step: u32,
+    arguments: &TermList,
 ) -> Result<LabelPair, NoMemory>
-    requires { count_of_terms (term_trees equality.now.probe.arguments) ≡ 2 }
+    requires { count_of_terms (term_trees arguments.now) ≡ 2 }
     ensures keeps { OnOk result (KeepsShapes (shape_trees shapes.old.keys) (shape_trees shapes.new.keys)) }
     ensures labels { IfOk result (λ p. ArePairLabels (shape_trees shapes.new.keys)
-        (pair_of (all_unfolded_by (map listed_tree updates.now) equality.now.offset (term_trees equality.now.probe.arguments))) (pair_tree p ∷ [])) }
+        (pair_of (all_unfolded_by (map listed_tree updates.now) step (term_trees arguments.now))) (pair_tree p ∷ [])) }
 {
-    let labels = labels_at(
-        alloc,
-        shapes,
-        updates,
-        equality.offset,
-        &equality.probe.arguments,
-    )?;
+    let labels = labels_at(alloc, shapes, updates, step, arguments)?;
     Ok(LabelPair {
         left: labels[0],
         right: labels[1],
@@ -64,14 +60,32 @@ fn pairs_of_labels(
     requires { AllByRecursion (λ e. count_of_terms e.probe.arguments ≡ 2) (map equated_tree equalities.now) }
     ensures keeps { OnOk result (KeepsShapes (shape_trees shapes.old.keys) (shape_trees shapes.new.keys)) }
     ensures labels { IfOk result (λ pairs. ArePairLabels (shape_trees shapes.new.keys)
-        (flat_map (λ e. pair_of (all_unfolded_by (map listed_tree updates.now) e.offset e.probe.arguments)) (map equated_tree equalities.now))
-        (map pair_tree pairs.items)) }
+        (pairs_by (term_listed (map listed_tree updates.now)) (map equated_tree equalities.now)) (map pair_tree pairs.items)) }
 {
     let mut pairs = Vec::new(alloc);
     for equality in equalities {
-        pairs.push(pair_of_labels(alloc, shapes, updates, equality)?)?;
+        let arguments = &equality.probe.arguments;
+        pairs.push(pair_of_labels(alloc, shapes, updates, equality.offset, arguments)?)?;
     }
     Ok(pairs)
+}
+
+/// The class of each label, where equalities are listed. An `Err` says that memory ran out.
+pub(crate) fn classes_of_labels(
+    alloc: Global,
+    shapes: &mut IndexSet<Shape>,
+    updates: &[Listed],
+    equalities: &[Equated],
+) -> Result<Vec<u32>, NoMemory>
+    requires two { AllByRecursion (λ e. count_of_terms e.probe.arguments ≡ 2) (map equated_tree equalities.now) }
+    requires standing { AllStand (shape_trees shapes.old.keys) }
+    requires different { AreDifferent (shape_trees shapes.old.keys) }
+    ensures keeps { OnOk result (KeepsShapes (shape_trees shapes.old.keys) (shape_trees shapes.new.keys)) }
+    ensures exact { IfOk result (λ classes. AreExactClasses (shape_trees shapes.new.keys)
+        (pairs_by (term_listed (map listed_tree updates.now)) (map equated_tree equalities.now)) classes.items) }
+{
+    let pairs = pairs_of_labels(alloc, shapes, updates, equalities)?;
+    Ok(classes_of(alloc, shapes.as_slice(), &pairs)?)
 }
 
 /// Rows of labels, with the class of each label in its place.
@@ -131,8 +145,7 @@ pub fn classes_along(
     if equalities.is_empty() {
         return Ok(ClassTable { rows: labels });
     }
-    let pairs = pairs_of_labels(alloc, &mut shapes, updates, equalities)?;
-    let classes = classes_of(alloc, shapes.as_slice(), &pairs)?;
+    let classes = classes_of_labels(alloc, &mut shapes, updates, equalities)?;
     let rows = rows_by_classes(alloc, &classes, labels.as_slice())?;
     Ok(ClassTable { rows })
 }

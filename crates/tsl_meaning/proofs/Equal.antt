@@ -1,11 +1,9 @@
 -- The number of equality says what the names say.
-use Rattle.std.proofs.Common.{◌≡◌, ◌∙◌, ◌↔◌, ℕ, ◌==◌, Bool, true, false, List, Option, Some, None, IsTrue, refl, sym, ap}
+use Rattle.std.proofs.Common.{◌≡◌, ◌∙◌, ℕ, ◌==◌, Bool, true, false, List, Option, Some, None, refl, sym, ap}
 use Rattle.std.proofs.lemmas.Bool.{eqb-true, eq-eqb}
-use Rattle.std.proofs.lemmas.Option.{none-some, same_Some}
 use Rattle.sequence.specs.Options.{passes}
 use Rattle.tsl_terms.specs.Name.{Name}
 use Rattle.tsl_terms.specs.Equality.{is_equality}
-use Rattle.tsl_terms.specs.Value.{Meanings}
 use Rattle.program_tree.specs.ProgramTree.{ProgramTree}
 use Rattle.tsl_meaning.specs.Interpretation.{Interpretation, meanings_by, meanings_in, meanings_with, IsEqualityOf}
 

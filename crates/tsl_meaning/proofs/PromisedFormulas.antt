@@ -8,7 +8,7 @@ use Rattle.std.proofs.lemmas.List.Folds.{list_all-append, list_all-map, list_any
 use Rattle.sequence.proofs.Passes.{list_all_weaker, list_all_from_places, each_from_list_all}
 use Rattle.sequence.proofs.Each.{each_both}
 use Rattle.tsl_terms.specs.Name.{Name}
-use Rattle.tsl_terms.specs.FormulaTree.{Atom, test, update, FormulaTree}
+use Rattle.tsl_terms.specs.FormulaTree.{Atom, test, update}
 use Rattle.tsl_terms.specs.Atoms.{atoms}
 use Rattle.tsl_terms.specs.OnlyThese.{read_only, atom_reads_only, atom_updates_only}
 use Rattle.tsl_terms.specs.SpecTree.{SpecTree, whole_formula}
@@ -20,7 +20,7 @@ use Rattle.tsl_terms.proofs.WholeAtoms.{whole_is_made_of}
 use Rattle.tsl_terms.proofs.WindowAtoms.{window_formula_atoms}
 use Rattle.program_tree.specs.ProgramTree.{ProgramTree, controlled}
 use Rattle.sequence.specs.Numbers.{is_among}
-use Rattle.program_tree.specs.Fits.{window_is_shaped, window_reads_only, window_fits, longest}
+use Rattle.program_tree.specs.Fits.{window_is_shaped, window_reads_only, window_fits, longest, rises}
 use Rattle.tsl_meaning.specs.OverNames.{probe_is_over, listed_is_over, window_is_over, atom_is_over, IsProgramOver, IsFormulaOver}
 use Rattle.tsl_meaning.proofs.Naming.{atom_over}
 use Rattle.tsl_meaning.proofs.MoreNames.{atom_still}
@@ -77,7 +77,9 @@ window_speaks names program w over fits =
     let named = and_parts (list_all (probe_is_over names) (window_probes w)) (list_all (listed_is_over names) w.updates) over in
     let parts = and_parts (window_is_shaped program.cells w) (window_reads_only readable w) fits in
     let reads = and_parts (list_all (λ p. read_only readable p.arguments) (window_probes w)) _ parts.1 in
-    let listed = and_parts (nat_le w.length longest && nat_le w.left_at w.length) _ parts.0 in
+    let of_cells = list_all (λ u. nat_lt u.offset w.length && is_among program.cells u.signal) w.updates && rises program.cells w.updates in
+    let short = nat_le w.length longest && nat_le w.left_at w.length in
+    let listed = and_parts short of_cells (and_parts (short && of_cells) _ parts.0).0 in
     let cells = (and_parts (list_all (λ u. nat_lt u.offset w.length && is_among program.cells u.signal) w.updates) _ listed.1).0 in
     record {
       names_fit = window_passes (atom_is_over names) w named.0 named.1;

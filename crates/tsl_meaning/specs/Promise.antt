@@ -7,6 +7,7 @@ use Rattle.tsl_terms.specs.FormulaTree.{FormulaTree}
 use Rattle.tsl_terms.specs.SpecTree.{SpecTree, whole_formula}
 use Rattle.tsl_terms.specs.Signals.{inputs_of, cells_of, outputs_of}
 use Rattle.tsl_terms.specs.WindowTree.{window_formula_of}
+use Rattle.tsl_terms.specs.Equality.{equality_in}
 use Rattle.tsl_terms.specs.Congruence.{IsCongruent}
 use Rattle.program_tree.specs.ProgramTree.{ProgramTree}
 use Rattle.tsl_meaning.specs.OverNames.{IsProgramOver}
@@ -31,12 +32,12 @@ EveryRunMeets names program formula =
 -- What a program promises that realizes a specification. It is a program over the specification's names, so that
 -- each of its steps is there under every interpretation. It has exactly the inputs, cells and outputs of the
 -- specification, so that every signal of its formula is one of the program's. Every run of it meets the whole
--- formula. Each of its windows is congruent for its cells, and every run of it meets the window's formula.
+-- formula. Each of its windows is congruent for its cells and the names' equality, and every run of it meets the window's formula.
 pub record Realizes (spec : SpecTree) (program : ProgramTree) : Type 0 where
   pub over_names : IsProgramOver spec.names program
   pub inputs : program.inputs ≡ inputs_of spec
   pub cells : program.cells ≡ cells_of spec
   pub outputs : program.outputs ≡ outputs_of spec
   pub runs : EveryRunMeets spec.names program (whole_formula spec)
-  pub congruent : AllByRecursion (IsCongruent program.cells) program.windows
+  pub congruent : AllByRecursion (IsCongruent program.cells (equality_in spec.names)) program.windows
   pub windows : AllByRecursion (λ w. EveryRunMeets spec.names program (window_formula_of w)) program.windows

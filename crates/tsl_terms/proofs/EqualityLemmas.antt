@@ -1,11 +1,11 @@
 -- One name at most is equality, and it is the one that is found.
-use Rattle.std.proofs.Common.{◌≡◌, ◌∙◌, ◌↔◌, ℕ, ◌<◌, Bool, true, false, ◌&&◌, ◌==◌, cond, List, [], ◌∷◌, length, map, slice_get}
-use Rattle.std.proofs.Common.{Option, Some, None, IsTrue, nat_lt, codes, refl, sym, ap, arith, eq-eqb, true≢false, IsSomeAnd}
+use Rattle.std.proofs.Common.{◌≡◌, ◌∙◌, ◌↔◌, ℕ, Bool, true, false, ◌&&◌, ◌==◌, cond, List, [], ◌∷◌, length, slice_get}
+use Rattle.std.proofs.Common.{Option, Some, None, IsTrue, nat_lt, codes, refl, sym, ap, arith, true≢false}
 use Rattle.std.specs.Prelude.{position, option_map}
 use Rattle.std.specs.List.{position_or_len}
 use Rattle.std.specs.Option.{option_map_or}
 use Rattle.std.specs.Str.{bytes_eq}
-use Rattle.std.proofs.lemmas.Bool.{and_parts, and_from, eqb-true, ltb-false}
+use Rattle.std.proofs.lemmas.Bool.{and_parts, and_from, ltb-false}
 use Rattle.std.proofs.lemmas.Option.{none-some, same_Some, slice_get_within, slice_get-get_or, slice_get-map, get_or_from_slice_get}
 use Rattle.std.proofs.lemmas.List.Quantifiers.{position-Some}
 use Rattle.std.proofs.lemmas.List.Sums.{fails_before_first}
@@ -35,6 +35,12 @@ first_passes p [] k is = absurd (none-some k is)
 first_passes p (y ∷ xs) k is =
     let found = position-Some p (y ∷ xs) k y is in (_, slice_get-get_or (y ∷ xs) k y found.0, found.1)
 
+-- what is found among names is equality
+pub found_is_equality : (names : List Name) (id : ℕ) → equality_in names ≡ Some id → is_equality names id ≡ true
+found_is_equality names id is =
+    let first = first_passes names_equality names id is in
+    ap (λ o. option_map_or names_equality o false) first.1 ∙ first.2
+
 module _ (names : List Name) (distinct : AreDistinct names) where
   -- what has a number has its text
   text_at : (id : ℕ) → number_of names (codes "eq") ≡ Some id → (n : Name) × (slice_get names id ≡ Some n) × (codes "eq" ≡ n.text)
@@ -61,8 +67,7 @@ module _ (names : List Name) (distinct : AreDistinct names) where
     where
       by : (found : Option ℕ) → equality_in names ≡ found → (s : Option ℕ) → r ≡ s → r ≡ equality_in names
       by (Some k) there s is =
-          let passes = first_passes names_equality names k there in
-          (exact k).1 (ap (λ o. option_map_or names_equality o false) passes.1 ∙ passes.2) ∙ sym there
+          (exact k).1 (found_is_equality names k there) ∙ sym there
       by None there None is = is ∙ sym there
       by None there (Some id) is =
           let named = some_passes (slice_get names id) names_equality ((exact id).0 is) in

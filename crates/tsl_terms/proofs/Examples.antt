@@ -34,6 +34,7 @@ use Rattle.tsl_terms.specs.SameTree.{same_tree, same_probe_tree}
 use Rattle.tsl_terms.specs.SpecTree.{SpecTree, whole_formula}
 use Rattle.tsl_terms.specs.Signals.{inputs_of, cells_of, outputs_of, choices_of}
 use Rattle.tsl_terms.specs.Predicates.{predicates_of}
+use Rattle.tsl_terms.specs.WindowTree.{WindowTree, window_formula_of, window_probes, equality_probes}
 use Rattle.tsl_terms.specs.Nodes.{nodes}
 use Rattle.tsl_terms.specs.Value.{Meanings, value, truth}
 use Rattle.tsl_terms.specs.WellFormed.{brackets, formula_fits}
@@ -273,6 +274,38 @@ predicates_have_no_repeats = refl
 
 update_has_no_predicate : predicates_of (spec_of [] [] [] (y_takes_x ∷ [])) ≡ []
 update_has_no_predicate = refl
+
+-- windows
+
+-- y takes x at first, and x equals y at the second step, by the predicate 6
+abbrev equal : ProbeTree
+equal = record { predicate = 6; arguments = two x y }
+
+abbrev window_of : Option ProbeTree → WindowTree
+window_of left = record {
+  left = left;
+  left_at = 0;
+  right = probe 2 y;
+  length = 1;
+  updates = record { signal = 0; term = x; offset = 0 } ∷ [];
+  equalities = record { probe = equal; offset = 1 } ∷ [];
+}
+
+abbrev listed_of_window : FormulaTree
+listed_of_window = many Conjunction (more_formulas y_takes_x (more_formulas (unary Next (atom (test equal))) no_formulas))
+
+sides_are_as_each_other : window_formula_of (window_of (Some (probe 2 x)))
+    ≡ unary Globally (binary Implication listed_of_window (binary Equivalence px (unary Next py)))
+sides_are_as_each_other = refl
+
+right_side_holds_alone : window_formula_of (window_of None) ≡ unary Globally (binary Implication listed_of_window (unary Next py))
+right_side_holds_alone = refl
+
+window_tests_its_equalities_first : window_probes (window_of (Some (probe 2 x))) ≡ equal ∷ probe 2 x ∷ probe 2 y ∷ []
+window_tests_its_equalities_first = refl
+
+right_side_alone_has_to_be_an_equality : equality_probes (window_of None) ≡ equal ∷ probe 2 y ∷ []
+right_side_alone_has_to_be_an_equality = refl
 
 -- nodes
 

@@ -5,7 +5,9 @@ pub mod Examples
 pub mod FirstUses
 pub mod FormulaLemmas
 pub mod MarkLemmas
+pub mod MoreListed
 pub mod NameLemmas
+pub mod PlainWindows
 pub mod SameLemmas
 pub mod SameFrees
 pub mod SignalFacts

@@ -1,8 +1,8 @@
 -- Where no pair is listed, free terms of one class are equal.
-use Rattle.std.proofs.Common.{◌≡◌, ◌∙◌, ◌↔◌, [], true, refl, sym, subst}
+use Rattle.std.proofs.Common.{◌≡◌, ◌∙◌, ◌↔◌, Bool, List, [], true, refl, subst}
 use Rattle.tsl_terms.specs.FreeTree.{FreeTree, applied, FreeTrees, no_free, more_free}
 use Rattle.tsl_terms.specs.SameFree.{same_free}
-use Rattle.tsl_terms.specs.OneClass.{AreAllIn, IsCongruence, AreInOneClass}
+use Rattle.tsl_terms.specs.OneClass.{PairTree, AreAllIn, IsCongruence, AreInOneClass, AreInOneClasses}
 use Rattle.tsl_terms.proofs.SameFrees.{same_free_is, same_free_itself}
 
 all_in : (xs ys : FreeTrees) → AreAllIn same_free xs ys → xs ≡ ys
@@ -26,3 +26,14 @@ one_class_is_one x y = (
   λ one. same_free_is x y (one same_free equality_congruence),
   λ same R congruence. subst (λ z. R x z ≡ true) same (congruence.itself x),
 )
+
+-- a congruence has each list of free terms with itself
+pub all_in_itself : (pairs : List PairTree) (R : FreeTree → FreeTree → Bool) → IsCongruence pairs R → (xs : FreeTrees) → AreAllIn R xs xs
+all_in_itself pairs R congruence no_free = tt
+all_in_itself pairs R congruence (more_free x xs) = (congruence.itself x, all_in_itself pairs R congruence xs)
+
+pub same_are_in_one : (pairs : List PairTree) (xs ys : FreeTrees) → xs ≡ ys → AreInOneClasses pairs xs ys
+same_are_in_one pairs xs ys same R congruence = subst (λ zs. AreAllIn R xs zs) same (all_in_itself pairs R congruence xs)
+
+pub one_classes_are_one : (xs ys : FreeTrees) → AreInOneClasses [] xs ys ↔ (xs ≡ ys)
+one_classes_are_one xs ys = (λ one. all_in xs ys (one same_free equality_congruence), same_are_in_one [] xs ys)

@@ -31,6 +31,10 @@ pub record IsCongruence (pairs : List PairTree) (R : FreeTree → FreeTree → B
 abbrev pub AreInOneClass : List PairTree → FreeTree → FreeTree → Type 0
 AreInOneClass pairs x y = (R : FreeTree → FreeTree → Bool) → IsCongruence pairs R → R x y ≡ true
 
+-- free terms pairwise in one class, in lists of one length
+abbrev pub AreInOneClasses : List PairTree → FreeTrees → FreeTrees → Type 0
+AreInOneClasses pairs xs ys = (R : FreeTree → FreeTree → Bool) → IsCongruence pairs R → AreAllIn R xs ys
+
 -- the pair of two free terms
 abbrev pub pair_of : FreeTrees → List PairTree
 pair_of (more_free x (more_free y no_free)) = record { left = x; right = y } ∷ []

@@ -1,13 +1,13 @@
 //! Copies of terms, probes, formulas and windows.
 
-ghost use Rattle.std.specs.Prelude.{◌≡◌, map, IfOk};
+ghost use Rattle.std.specs.Prelude.{◌≡◌, map, option_map, IfOk};
 ghost use Rattle.tsl_terms.specs.TermTree.{term_tree, term_trees, probe_tree};
 ghost use Rattle.tsl_terms.specs.FormulaTree.{formula_tree, member_trees};
-ghost use Rattle.tsl_terms.specs.WindowTree.{listed_tree, window_tree};
+ghost use Rattle.tsl_terms.specs.WindowTree.{listed_tree, equated_tree, window_tree};
 
 use crate::formula::{Formula, FormulaList};
 use crate::term::{Probe, Term, TermList};
-use crate::window::{Listed, Window};
+use crate::window::{Equated, Listed, Window};
 use sequence::{NoMemory, Sequence};
 use std::alloc::Global;
 
@@ -124,13 +124,25 @@ pub fn copy_window(alloc: Global, window: &Window) -> Result<Window, NoMemory>
     ensures { IfOk result (λ copy. window_tree copy ≡ window_tree window.now) }
 {
     let updates = copy_updates(alloc, window.updates.as_slice())?;
+    let equalities = copy_equalities(alloc, window.equalities.as_slice())?;
     Ok(Window {
-        left: copy_probe(alloc, &window.left)?,
+        left: copy_left(alloc, &window.left)?,
         left_at: window.left_at,
         right: copy_probe(alloc, &window.right)?,
         length: window.length,
         updates: Sequence::from_vec(updates),
+        equalities: Sequence::from_vec(equalities),
     })
+}
+
+/// A copy of the left probe, where there is one.
+fn copy_left(alloc: Global, left: &Option<Probe>) -> Result<Option<Probe>, NoMemory>
+    ensures { IfOk result (λ copy. option_map probe_tree copy ≡ option_map probe_tree left.now) }
+{
+    match left {
+        None => Ok(None),
+        Some(probe) => Ok(Some(copy_probe(alloc, probe)?)),
+    }
 }
 
 /// Copies of the updates that a window lists, in order.
@@ -143,6 +155,20 @@ fn copy_updates(alloc: Global, updates: &[Listed]) -> Result<Vec<Listed>, NoMemo
             signal: update.signal,
             term: copy_term(alloc, &update.term)?,
             offset: update.offset,
+        })?;
+    }
+    Ok(copies)
+}
+
+/// Copies of the equalities that a window lists, in order.
+fn copy_equalities(alloc: Global, equalities: &[Equated]) -> Result<Vec<Equated>, NoMemory>
+    ensures { IfOk result (λ copies. map equated_tree copies.items ≡ map equated_tree equalities.now) }
+{
+    let mut copies = Vec::new(alloc);
+    for equality in equalities {
+        copies.push(Equated {
+            probe: copy_probe(alloc, &equality.probe)?,
+            offset: equality.offset,
         })?;
     }
     Ok(copies)

@@ -24,10 +24,11 @@
 //! - `node_count` counts nodes, and stops at the largest number; `whole_node_count` counts those of the
 //!   whole formula and makes no formula.
 //!
-//! Laws: free terms of one class are equal where no pair is listed; the atoms of a whole formula are those of the four lists, and it fits where they do; those of a
-//! formula under windows are those of the windows and its own; no signal is
-//! twice among inputs, cells and outputs, what is read is an input or a cell, and what is updated a cell
-//! or an output.
+//! Laws: free terms of one class are equal where no pair is listed, and a window without equalities is
+//! congruent where its sides unfold to the same; a congruent window stays so where more is listed; the atoms
+//! of a whole formula are those of the four lists, and it fits where they do; those of a formula under windows
+//! are those of the windows and its own; no signal is twice among inputs, cells and outputs, what is read is an
+//! input or a cell, and what is updated a cell or an output.
 //!
 //! The only error is out of memory. Lists of members are walked, built, copied and dropped by loops, so
 //! they may be long; how deep formulas and terms nest is up to what makes them, and calls go as deep.
@@ -64,8 +65,9 @@ pub use formula::{Formula, FormulaList};
 pub use gathering::predicates;
 pub use joining::whole;
 pub use laws::{
-    classes_without_pairs_are_single, same_tree_is_equality, signals_are_told_apart,
-    whole_formula_has_the_atoms, windowed_formulas_have_the_atoms,
+    classes_without_pairs_are_single, more_keep_windows_congruent, plain_windows_are_congruent,
+    same_tree_is_equality, signals_are_told_apart, whole_formula_has_the_atoms,
+    windowed_formulas_have_the_atoms,
 };
 pub use names::{NameKind, Names};
 pub use operator::{BinaryOperator, ManyOperator, UnaryOperator};

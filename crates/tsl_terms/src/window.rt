@@ -23,13 +23,14 @@ pub struct Equated {
     pub offset: u32,
 }
 
-/// A window of a few steps: where the listed updates hold at their offsets, the left probe at its
-/// step is as the right one at the last step.
+/// A window of a few steps: where the listed updates and equalities hold at their offsets, the left
+/// probe at its step is as the right one at the last step. Without a left probe the right one, an
+/// equality, holds.
 #[derive(Debug, Drop)]
 pub struct Window {
-    /// The left probe.
-    pub left: Probe,
-    /// The left probe's step, from 0.
+    /// The left probe, or none.
+    pub left: Option<Probe>,
+    /// The left probe's step, from 0, which is 0 where there is no left probe.
     pub left_at: u32,
     /// The right probe, which stands at the last step.
     pub right: Probe,
@@ -37,4 +38,6 @@ pub struct Window {
     pub length: u32,
     /// The updates, by rising offset.
     pub updates: Sequence<Listed>,
+    /// The equalities, by offset.
+    pub equalities: Sequence<Equated>,
 }

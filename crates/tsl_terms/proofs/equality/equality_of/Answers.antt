@@ -1,4 +1,4 @@
-use Rattle.std.proofs.Common.{◌≡◌, ◌∙◌, ◌↔◌, ℕ, IsTrue, Option, sym, subst, rules, codes, None, Some}
+use Rattle.std.proofs.Common.{◌≡◌, ◌∙◌, ◌↔◌, ℕ, IsTrue, sym, subst, rules, codes, None, Some}
 use Rattle.tsl_terms.specs.Name.{number_of}
 use Rattle.tsl_terms.specs.Equality.{is_equality}
 use Rattle.tsl_terms.proofs.EqualityLemmas.{unnamed, named_otherwise, named_so}
