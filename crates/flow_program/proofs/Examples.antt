@@ -9,6 +9,7 @@ use Rattle.tsl_terms.specs.declared.names.NameKind.TheVariants.{Signal, Function
 use Rattle.tsl_terms.specs.Name.{Name}
 use Rattle.tsl_terms.specs.TermTree.{TermTree, signal, apply, no_terms, more_terms, ProbeTree}
 use Rattle.tsl_terms.specs.WindowTree.{WindowTree}
+use Rattle.term_text.specs.WindowText.{window_text}
 use Rattle.program_tree.specs.NodeTree.{branch, assign}
 use Rattle.program_tree.specs.ProgramTree.{ProgramTree}
 use Rattle.program_tree.specs.Walk.{walk}
@@ -124,11 +125,12 @@ compares = record { predicate = 4; arguments = more_terms nested (more_terms (si
 
 abbrev window_of_two : WindowTree
 window_of_two = record {
-  left = asks_a;
+  left = Some asks_a;
   left_at = 0;
   right = compares;
   length = 2;
   updates = record { signal = 1; term = nested; offset = 0 } ∷ record { signal = 1; term = signal 0; offset = 1 } ∷ [];
+  equalities = [];
 }
 
 abbrev two_states : ProgramTree
@@ -150,6 +152,32 @@ two_states_text : program_text more_names two_states
     ++ codes "node 3 if at (f c (f a none())) c then 2 else 0\nstate 0 at 3\nstate 1 at 1\nend\n"
 unfolding digits
 two_states_text = refl
+
+-- equality, and a window that has no left test and lists an equality
+abbrev equal_names : List Name
+equal_names = named (codes "c") Signal 0 ∷ named (codes "eq") Predicate 2 ∷ named (codes "f") Function 1 ∷ []
+
+-- `eq c (f c)`, and `eq (f c) c`
+abbrev once_more : ProbeTree
+once_more = record { predicate = 1; arguments = more_terms (signal 0) (more_terms (apply 2 (more_terms (signal 0) no_terms)) no_terms) }
+
+abbrev turned : ProbeTree
+turned = record { predicate = 1; arguments = more_terms (apply 2 (more_terms (signal 0) no_terms)) (more_terms (signal 0) no_terms) }
+
+abbrev window_of_equality : WindowTree
+window_of_equality = record {
+  left = None;
+  left_at = 0;
+  right = turned;
+  length = 1;
+  updates = record { signal = 0; term = signal 0; offset = 0 } ∷ [];
+  equalities = record { probe = once_more; offset = 0 } ∷ record { probe = turned; offset = 0 } ∷ [];
+}
+
+equality_text : window_text equal_names window_of_equality
+    ≡ codes "window true is eq (f c) c at 1 when [c <- c] at 0 when eq c (f c) at 0 when eq (f c) c at 0\n"
+unfolding digits
+equality_text = refl
 
 -- ---- what is spelled and what is not
 
@@ -194,6 +222,7 @@ one_node_spelled = record {
   is_writable = record {
     signals = refl;
     windows = refl;
+    equalities = tt;
     nodes = refl;
     few_windows = omega arith;
     few_nodes = omega arith;
@@ -206,6 +235,7 @@ two_states_writable : IsWritable more_names two_states
 two_states_writable = record {
   signals = refl;
   windows = refl;
+  equalities = (tt, tt);
   nodes = refl;
   few_windows = omega arith;
   few_nodes = omega arith;
@@ -249,6 +279,18 @@ longer_window = refl
 
 left_too_late : window_is_shaped (1 ∷ []) (record window_of_two { left_at = 3 }) ≡ false
 left_too_late = refl
+
+-- a window of equalities is shaped, but not with one of them twice, or with one after its end
+equalities_shaped : window_is_shaped (0 ∷ []) window_of_equality ≡ true
+equalities_shaped = refl
+
+one_twice : window_is_shaped (0 ∷ []) (record window_of_equality {
+  equalities = record { probe = turned; offset = 1 } ∷ record { probe = turned; offset = 1 } ∷ [];
+}) ≡ false
+one_twice = refl
+
+one_too_late : window_is_shaped (0 ∷ []) (record window_of_equality { equalities = record { probe = turned; offset = 2 } ∷ [] }) ≡ false
+one_too_late = refl
 
 reads_both : window_reads_only (0 ∷ 1 ∷ []) window_of_two ≡ true
 reads_both = refl

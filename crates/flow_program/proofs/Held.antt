@@ -1,5 +1,5 @@
 -- What can be written is held by the names.
-use Rattle.std.proofs.Common.{ℕ, ◌&&◌, List, IsTrue}
+use Rattle.std.proofs.Common.{ℕ, List, IsTrue}
 use Rattle.std.proofs.lemmas.Bool.{and_parts, and_from}
 use Rattle.std.specs.List.{list_all}
 use Rattle.tsl_terms.specs.declared.names.NameKind.TheVariants.{Signal}

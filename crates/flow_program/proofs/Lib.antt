@@ -6,6 +6,7 @@ pub mod UseLemmas
 pub mod WithUses
 pub mod KnownUses
 pub mod SpelledLines
+pub mod EquatedLines
 pub mod ResolvedTerms
 pub mod ResolvedLines
 pub mod ResolvedNodes

@@ -7,9 +7,11 @@ use Rattle.std.proofs.lemmas.Bool.{eqb-true, false≢true}
 use Rattle.sequence.proofs.Booleans.{eqb_self}
 use Rattle.sequence.specs.Numbers.{is_among}
 use Rattle.tsl_terms.specs.TermTree.{TermTree, signal, apply, TermTrees, no_terms, more_terms, ProbeTree}
-use Rattle.tsl_terms.specs.WindowTree.{ListedTree, WindowTree}
+use Rattle.tsl_terms.specs.WindowTree.{ListedTree, EquatedTree, WindowTree, right_alone, equality_probes}
 use Rattle.tsl_terms.specs.FreeTree.{FreeTree, leaf_at, applied, FreeTrees, no_free, more_free}
-use Rattle.tsl_terms.specs.Congruence.{IsCongruent}
+use Rattle.tsl_terms.specs.OneClass.{PairTree, AreAllIn, IsCongruence, AreInOneClass, AreInOneClasses, pair_of, listed_pairs}
+use Rattle.tsl_terms.specs.Congruence.{IsEquality, SidesAreOne, IsCongruent}
+use Rattle.sequence.proofs.Each.{each_joined, each_left, each_right, each_unmapped}
 use Rattle.tsl_terms.specs.Unfolding.{with_leaves, all_with_leaves, leaf_after, signal_unfolded, term_listed, term_taken_by_cell, all_unfolded}
 
 module _ (stands_for : ℕ → ℕ) where
@@ -39,14 +41,71 @@ module _ (stands_for : ℕ → ℕ) where
   abbrev pub listed_renamed : ListedTree → ListedTree
   listed_renamed u = record { signal = stands_for u.signal; term = renamed u.term; offset = u.offset }
 
+  abbrev pub equated_renamed : EquatedTree → EquatedTree
+  equated_renamed e = record { probe = probe_renamed e.probe; offset = e.offset }
+
   abbrev pub window_renamed : WindowTree → WindowTree
   window_renamed w = record {
-    left = probe_renamed w.left;
+    left = option_map probe_renamed w.left;
     left_at = w.left_at;
     right = probe_renamed w.right;
     length = w.length;
     updates = map listed_renamed w.updates;
+    equalities = map equated_renamed w.equalities;
   }
+
+  -- ---- classes with other numbers: a relation of what free terms become is one of the free terms
+
+  abbrev pulled_back : (FreeTree → FreeTree → Bool) → FreeTree → FreeTree → Bool
+  pulled_back R x y = R (free_renamed x) (free_renamed y)
+
+  all_renamed_in : (R : FreeTree → FreeTree → Bool) (xs ys : FreeTrees) → AreAllIn (pulled_back R) xs ys →
+      AreAllIn R (all_free_renamed xs) (all_free_renamed ys)
+  all_renamed_in R no_free no_free are = tt
+  all_renamed_in R no_free (more_free y ys) are = absurd are
+  all_renamed_in R (more_free x xs) no_free are = absurd are
+  all_renamed_in R (more_free x xs) (more_free y ys) are = (are.0, all_renamed_in R xs ys are.1)
+
+  pulled_back_congruence : (pairs others : List PairTree) (R : FreeTree → FreeTree → Bool) → IsCongruence others R →
+      AllByRecursion (λ p. pulled_back R p.left p.right ≡ true) pairs → IsCongruence pairs (pulled_back R)
+  pulled_back_congruence pairs others R congruence listed = record {
+    itself = λ x. congruence.itself (free_renamed x);
+    turned = λ x y e. congruence.turned (free_renamed x) (free_renamed y) e;
+    through = λ x y z e f. congruence.through (free_renamed x) (free_renamed y) (free_renamed z) e f;
+    listed = listed;
+    applications = λ f xs ys are.
+        congruence.applications (stands_for f) (all_free_renamed xs) (all_free_renamed ys) (all_renamed_in R xs ys are);
+  }
+
+  -- each pair, with other numbers, is put together by the others
+  abbrev AreKept : List PairTree → List PairTree → Type 0
+  AreKept pairs others = (R : FreeTree → FreeTree → Bool) → IsCongruence others R →
+      AllByRecursion (λ p. pulled_back R p.left p.right ≡ true) pairs
+
+  classes_renamed : (pairs others : List PairTree) → AreKept pairs others → (xs ys : FreeTrees) → AreInOneClasses pairs xs ys →
+      AreInOneClasses others (all_free_renamed xs) (all_free_renamed ys)
+  classes_renamed pairs others kept xs ys one R congruence =
+      all_renamed_in R xs ys (one (pulled_back R) (pulled_back_congruence pairs others R congruence (kept R congruence)))
+
+  pair_renamed : (pairs others : List PairTree) → AreKept pairs others → (xs : FreeTrees) →
+      AllByRecursion (λ p. AreInOneClass pairs p.left p.right) (pair_of xs) →
+      AllByRecursion (λ p. AreInOneClass others p.left p.right) (pair_of (all_free_renamed xs))
+  pair_renamed pairs others kept no_free one = tt
+  pair_renamed pairs others kept (more_free x no_free) one = tt
+  pair_renamed pairs others kept (more_free x (more_free y no_free)) one = (
+    λ R congruence. one.0 (pulled_back R) (pulled_back_congruence pairs others R congruence (kept R congruence)),
+    tt,
+  )
+  pair_renamed pairs others kept (more_free x (more_free y (more_free z zs))) one = tt
+
+  -- what a relation has of the pair with other numbers it has, pulled back, of the pair
+  pair_back : (R : FreeTree → FreeTree → Bool) (xs : FreeTrees) →
+      AllByRecursion (λ p. R p.left p.right ≡ true) (pair_of (all_free_renamed xs)) →
+      AllByRecursion (λ p. pulled_back R p.left p.right ≡ true) (pair_of xs)
+  pair_back R no_free are = tt
+  pair_back R (more_free x no_free) are = tt
+  pair_back R (more_free x (more_free y no_free)) are = are
+  pair_back R (more_free x (more_free y (more_free z zs))) are = tt
 
   -- ---- where the numbers of some names do not become one
 
@@ -178,18 +237,79 @@ module _ (stands_for : ℕ → ℕ) where
 
     -- ---- windows
 
+    abbrev pub LeftHasNames : Option ProbeTree → Type 0
+    LeftHasNames None = Unit {0}
+    LeftHasNames (Some left) = HaveNames left.arguments
+
     -- the names of a window
     pub record WindowHasNames (w : WindowTree) : Type 0 where
       pub updates : AllByRecursion IsListedOf w.updates
-      pub left : HaveNames w.left.arguments
+      pub equalities : AllByRecursion (λ e. HaveNames e.probe.arguments) w.equalities
+      pub left : LeftHasNames w.left
       pub right : HaveNames w.right.arguments
 
-    -- a congruent window is congruent with the other numbers
-    pub congruent_renamed : (cells : List ℕ) → AllByRecursion IsNamed cells → (w : WindowTree) → WindowHasNames w → IsCongruent cells w →
-        IsCongruent (map stands_for cells) (window_renamed w)
-    congruent_renamed cells cells_named w named is = record {
-      predicate = ap stands_for is.predicate;
-      arguments = unfolded_renamed cells w.updates cells_named named.updates w.left_at w.left.arguments named.left
-          ∙ ap all_free_renamed is.arguments
-          ∙ sym (unfolded_renamed cells w.updates cells_named named.updates w.length w.right.arguments named.right);
-    }
+    module _ (cells : List ℕ) (cells_named : AllByRecursion IsNamed cells) (w : WindowTree) (named : WindowHasNames w) where
+      abbrev pairs : List PairTree
+      pairs = listed_pairs cells w.updates w.equalities
+
+      abbrev others : List PairTree
+      others = listed_pairs (map stands_for cells) (map listed_renamed w.updates) (map equated_renamed w.equalities)
+
+      unfolds : (step : ℕ) (ts : TermTrees) → HaveNames ts →
+          all_unfolded (map stands_for cells) (map listed_renamed w.updates) step (all_renamed ts)
+          ≡ all_free_renamed (all_unfolded cells w.updates step ts)
+      unfolds = unfolded_renamed cells w.updates cells_named named.updates
+
+      -- the listed pairs of the window with other numbers are those of the window
+      pairs_back : (R : FreeTree → FreeTree → Bool) (es : List EquatedTree) → AllByRecursion (λ e. HaveNames e.probe.arguments) es →
+          AllByRecursion (λ p. R p.left p.right ≡ true)
+          (listed_pairs (map stands_for cells) (map listed_renamed w.updates) (map equated_renamed es)) →
+          AllByRecursion (λ p. pulled_back R p.left p.right ≡ true) (listed_pairs cells w.updates es)
+      pairs_back R [] have all = tt
+      pairs_back R (e ∷ es) have all =
+          let first = pair_of (all_unfolded (map stands_for cells) (map listed_renamed w.updates) e.offset (all_renamed e.probe.arguments)) in
+          let rest = listed_pairs (map stands_for cells) (map listed_renamed w.updates) (map equated_renamed es) in
+          let holds = λ (p : PairTree). R p.left p.right ≡ true in
+          each_joined (λ p. pulled_back R p.left p.right ≡ true) (pair_of (all_unfolded cells w.updates e.offset e.probe.arguments))
+          (listed_pairs cells w.updates es)
+          (pair_back R (all_unfolded cells w.updates e.offset e.probe.arguments)
+          (subst (λ xs. AllByRecursion holds (pair_of xs)) (unfolds e.offset e.probe.arguments have.0) (each_left holds first rest all)))
+          (pairs_back R es have.1 (each_right holds first rest all))
+
+      kept : AreKept pairs others
+      kept R congruence = pairs_back R w.equalities named.equalities congruence.listed
+
+      sides_renamed : (equality other : Option ℕ) → ((p : ProbeTree) → p ≡ probe_renamed w.right → w.left ≡ None → IsEquality other p) →
+          (left : Option ProbeTree) → w.left ≡ left → LeftHasNames left → SidesAreOne cells equality w left →
+          SidesAreOne (map stands_for cells) other (window_renamed w) (option_map probe_renamed left)
+      sides_renamed equality other equal None is have one = (
+        equal (probe_renamed w.right) refl is,
+        subst (λ xs. AllByRecursion (λ p. AreInOneClass others p.left p.right) (pair_of xs))
+            (sym (unfolds w.length w.right.arguments named.right))
+            (pair_renamed pairs others kept (all_unfolded cells w.updates w.length w.right.arguments) one.1),
+      )
+      sides_renamed equality other equal (Some left) is have one = (
+        ap stands_for one.0,
+        subst (λ xs. AreInOneClasses others xs (all_unfolded (map stands_for cells) (map listed_renamed w.updates) w.length
+            (all_renamed w.right.arguments))) (sym (unfolds w.left_at left.arguments have))
+            (subst (λ ys. AreInOneClasses others (all_free_renamed (all_unfolded cells w.updates w.left_at left.arguments)) ys)
+            (sym (unfolds w.length w.right.arguments named.right))
+            (classes_renamed pairs others kept (all_unfolded cells w.updates w.left_at left.arguments)
+            (all_unfolded cells w.updates w.length w.right.arguments) one.1)),
+      )
+
+    -- a congruent window is congruent with the other numbers, where what has to be an equality is one
+    pub congruent_renamed : (cells : List ℕ) → AllByRecursion IsNamed cells → (equality other : Option ℕ) (w : WindowTree) →
+        WindowHasNames w → AllByRecursion (IsEquality other) (equality_probes (window_renamed w)) → IsCongruent cells equality w →
+        IsCongruent (map stands_for cells) other (window_renamed w)
+    congruent_renamed cells cells_named equality other w named equal is =
+        let probes = map (λ (e : EquatedTree). e.probe) (map equated_renamed w.equalities) in
+        let alone = each_right (IsEquality other) probes (right_alone (option_map probe_renamed w.left) (probe_renamed w.right)) equal in
+        record {
+          equalities = each_unmapped (IsEquality other) (λ (e : EquatedTree). e.probe) (map equated_renamed w.equalities)
+              (each_left (IsEquality other) probes (right_alone (option_map probe_renamed w.left) (probe_renamed w.right)) equal);
+          sides = sides_renamed cells cells_named w named equality other
+              (λ p p_is none. subst (IsEquality other) (sym p_is) (subst (λ (left : Option ProbeTree). AllByRecursion (IsEquality other)
+              (right_alone (option_map probe_renamed left) (probe_renamed w.right))) none alone).0)
+              w.left refl named.left is.sides;
+        }

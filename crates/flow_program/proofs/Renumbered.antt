@@ -1,6 +1,6 @@
 -- A program text over two lists of names: its windows that are congruent over the first are congruent over the second.
 use Rattle.std.proofs.Common.{◌≡◌, ℕ, ◌∷◌, [], List, map, refl, ap, sym, ◌∙◌, subst}
-use Rattle.std.specs.Prelude.{Option, Some, None, option_and_then, slice_get}
+use Rattle.std.specs.Prelude.{Option, Some, None, option_map, option_and_then, slice_get}
 use Rattle.std.specs.List.{AllByRecursion}
 use Rattle.std.specs.Option.{option_map_or}
 use Rattle.std.proofs.lemmas.Option.{same_Some, option_and_then_some}
@@ -9,22 +9,25 @@ use Rattle.sequence.proofs.Options.{one_value, some_mapped}
 use Rattle.sequence.proofs.Places.{slice_get_mapped}
 use Rattle.tsl_terms.specs.Name.{Name, number_of, texts, question, AreDistinct}
 use Rattle.tsl_terms.specs.TermTree.{TermTree, signal, apply, TermTrees, no_terms, more_terms, ProbeTree}
-use Rattle.tsl_terms.specs.WindowTree.{ListedTree, WindowTree}
+use Rattle.tsl_terms.specs.WindowTree.{ListedTree, EquatedTree, WindowTree}
+use Rattle.tsl_terms.specs.Equality.{equality_in}
 use Rattle.tsl_terms.specs.Congruence.{IsCongruent}
 use Rattle.program_listing.specs.declared.listing.Name.{Name as Place}
 use Rattle.program_listing.specs.Listing.{PhraseTree, bare, applied, PhraseTrees, no_phrases, more_phrases, name_bytes}
-use Rattle.program_listing.specs.Listing.{ListedLine, WindowLine}
+use Rattle.program_listing.specs.Listing.{ListedLine, PlacedLine, WindowLine, left_step}
 use Rattle.program_listing.proofs.OneListing.{one_listing}
 use Rattle.program_tree.specs.ProgramTree.{ProgramTree}
+use Rattle.program_tree.specs.Writable.{HasEqualities}
 use Rattle.flow_program.specs.ProgramText.{ProgramText}
 use Rattle.flow_program.specs.Reading.{IsReading}
 use Rattle.flow_program.specs.internal.Numbering.{small, numbered, numbered_term, numbered_terms, numbered_test, probe_with}
-use Rattle.flow_program.specs.internal.Numbering.{listed_of, window_of, numbered_listed, numbered_window, Numbered}
+use Rattle.flow_program.specs.internal.Numbering.{listed_of, equated_of, window_of, numbered_listed, numbered_equated, numbered_left}
+use Rattle.flow_program.specs.internal.Numbering.{numbered_window, Numbered}
 use Rattle.flow_program.proofs.ResolvedLines.{place_at}
 use Rattle.flow_program.proofs.WrittenIsRead.ListingOfProgram.{ListingOfProgram, listing_of_program}
 use Rattle.flow_program.proofs.ReadingLaws.{is_listing_of, names_read_are_distinct}
-use Rattle.flow_program.proofs.Renamed.{renamed, all_renamed, probe_renamed, listed_renamed, window_renamed}
-use Rattle.flow_program.proofs.Renamed.{HasNames, HaveNames, IsListedOf, WindowHasNames, congruent_renamed}
+use Rattle.flow_program.proofs.Renamed.{renamed, all_renamed, probe_renamed, listed_renamed, equated_renamed, window_renamed}
+use Rattle.flow_program.proofs.Renamed.{HasNames, HaveNames, LeftHasNames, IsListedOf, WindowHasNames, congruent_renamed}
 
 -- lists whose members are made in two ways from the same
 both_made : {X Y : Type 0} (f g : X → Option Y) (rename : Y → Y) (P : Y → Type 0) →
@@ -216,34 +219,74 @@ module _ (names more : List Name) where
 
     -- ---- windows
 
+    -- the equalities that windows list
+
+    abbrev HasEquatedNames : EquatedTree → Type 0
+    HasEquatedNames e = HaveNames stands_for IsNamed stands_apart e.probe.arguments
+
+    equated_renamed_too : (line : PlacedLine) (d e : EquatedTree) → numbered_equated names text line ≡ Some d →
+        numbered_equated more text line ≡ Some e → (e ≡ equated_renamed stands_for d) × HasEquatedNames d
+    equated_renamed_too line d e is too =
+        option_and_then_some _ (numbered_test names text line.test) d is (λ p p_is is_offset.
+        option_and_then_some _ (numbered_test more text line.test) e too (λ q q_is too_offset. made p q p_is q_is
+        (some_mapped (equated_of p) (small line.step) d is_offset)
+        (some_mapped (equated_of q) (small line.step) e too_offset)))
+      where
+        made : (p q : ProbeTree) → numbered_test names text line.test ≡ Some p → numbered_test more text line.test ≡ Some q →
+            (i : ℕ) × (small line.step ≡ Some i) × (equated_of p i ≡ d) → (j : ℕ) × (small line.step ≡ Some j) × (equated_of q j ≡ e) →
+            (e ≡ equated_renamed stands_for d) × HasEquatedNames d
+        made p q p_is q_is a b =
+            let test = test_renamed line.test p q p_is q_is in
+            let offset : b.0 ≡ a.0 = one_value (small line.step) b.0 a.0 b.1 a.1 in
+            subst (λ x. (e ≡ equated_renamed stands_for x) × HasEquatedNames x) a.2
+            (sym b.2 ∙ (λ i. equated_of (test.is i) (offset i)), test.arguments)
+
+    left_renamed_too : (line : Option PlacedLine) (l m : Option ProbeTree) → numbered_left names text line ≡ Some l →
+        numbered_left more text line ≡ Some m → (m ≡ option_map (probe_renamed stands_for) l) × LeftHasNames stands_for IsNamed stands_apart l
+    left_renamed_too None l m is too =
+        subst (λ x. (m ≡ option_map (probe_renamed stands_for) x) × LeftHasNames stands_for IsNamed stands_apart x) (same_Some None l is)
+        (sym (same_Some None m too), tt)
+    left_renamed_too (Some t) l m is too =
+        let a = some_mapped Some (numbered_test names text t.test) l is in
+        let b = some_mapped Some (numbered_test more text t.test) m too in
+        let test = test_renamed t.test a.0 b.0 a.1 b.1 in
+        subst (λ x. (m ≡ option_map (probe_renamed stands_for) x) × LeftHasNames stands_for IsNamed stands_apart x) a.2
+        (sym b.2 ∙ ap Some test.is, test.arguments)
+
     -- what a window's line is made of
     record Parts (ns : List Name) (line : WindowLine) (w : WindowTree) : Type 0 where
-      left : numbered_test ns text line.left ≡ Some w.left
-      right : numbered_test ns text line.right ≡ Some w.right
-      left_at : small line.left_at ≡ Some w.left_at
-      length : small line.length ≡ Some w.length
+      left : numbered_left ns text line.left ≡ Some w.left
+      right : numbered_test ns text line.right.test ≡ Some w.right
+      left_at : small (left_step line.left) ≡ Some w.left_at
+      length : small line.right.step ≡ Some w.length
       updates : all_there (map (numbered_listed ns text) line.updates) ≡ Some w.updates
+      equalities : all_there (map (numbered_equated ns text) line.equalities) ≡ Some w.equalities
 
     parts_of : (ns : List Name) (line : WindowLine) (w : WindowTree) → numbered_window ns text line ≡ Some w → Parts ns line w
     parts_of ns line w is =
-        option_and_then_some _ (numbered_test ns text line.left) w is (λ left left_is a.
-        option_and_then_some _ (numbered_test ns text line.right) w a (λ right right_is b.
-        option_and_then_some _ (small line.left_at) w b (λ left_at left_at_is c.
-        option_and_then_some _ (small line.length) w c (λ length length_is d.
-        made left right left_at length left_is right_is left_at_is length_is (some_mapped (window_of left right left_at length)
-        (all_there (map (numbered_listed ns text) line.updates)) w d)))))
+        option_and_then_some _ (numbered_left ns text line.left) w is (λ left left_is a.
+        option_and_then_some _ (numbered_test ns text line.right.test) w a (λ right right_is b.
+        option_and_then_some _ (small (left_step line.left)) w b (λ left_at left_at_is c.
+        option_and_then_some _ (small line.right.step) w c (λ length length_is d.
+        option_and_then_some _ (all_there (map (numbered_listed ns text) line.updates)) w d (λ us us_are e.
+        made left right left_at length us left_is right_is left_at_is length_is us_are
+        (some_mapped (window_of left right left_at length us)
+        (all_there (map (numbered_equated ns text) line.equalities)) w e))))))
       where
-        made : (left right : ProbeTree) (left_at length : ℕ) → numbered_test ns text line.left ≡ Some left →
-            numbered_test ns text line.right ≡ Some right → small line.left_at ≡ Some left_at → small line.length ≡ Some length →
-            (us : List ListedTree) × (all_there (map (numbered_listed ns text) line.updates) ≡ Some us)
-            × (window_of left right left_at length us ≡ w) → Parts ns line w
-        made left right left_at length left_is right_is left_at_is length_is rest =
+        made : (left : Option ProbeTree) (right : ProbeTree) (left_at length : ℕ) (us : List ListedTree) →
+            numbered_left ns text line.left ≡ Some left → numbered_test ns text line.right.test ≡ Some right →
+            small (left_step line.left) ≡ Some left_at → small line.right.step ≡ Some length →
+            all_there (map (numbered_listed ns text) line.updates) ≡ Some us →
+            (es : List EquatedTree) × (all_there (map (numbered_equated ns text) line.equalities) ≡ Some es)
+            × (window_of left right left_at length us es ≡ w) → Parts ns line w
+        made left right left_at length us left_is right_is left_at_is length_is us_are rest =
             subst (Parts ns line) rest.2 (record {
               left = left_is;
               right = right_is;
               left_at = left_at_is;
               length = length_is;
-              updates = rest.1;
+              updates = us_are;
+              equalities = rest.1;
             })
 
     abbrev IsWindowRenamed : WindowTree → Type 0
@@ -254,31 +297,35 @@ module _ (names more : List Name) where
     window_renamed_too line v w is too =
         let a : Parts names line v = parts_of names line v is in
         let b : Parts more line w = parts_of more line w too in
-        let left = test_renamed line.left v.left w.left a.left b.left in
-        let right = test_renamed line.right v.right w.right a.right b.right in
+        let left = left_renamed_too line.left v.left w.left a.left b.left in
+        let right = test_renamed line.right.test v.right w.right a.right b.right in
         let updates = both_made (numbered_listed names text) (numbered_listed more text) (listed_renamed stands_for) HasListedNames
         listed_renamed_too line.updates v.updates w.updates a.updates b.updates in
-        let left_at : w.left_at ≡ v.left_at = one_value (small line.left_at) w.left_at v.left_at b.left_at a.left_at in
-        let length : w.length ≡ v.length = one_value (small line.length) w.length v.length b.length a.length in (
-          λ i. window_of (left.is i) (right.is i) (left_at i) (length i) (updates.0 i),
-          record { updates = updates.1; left = left.arguments; right = right.arguments },
+        let equalities = both_made (numbered_equated names text) (numbered_equated more text) (equated_renamed stands_for) HasEquatedNames
+        equated_renamed_too line.equalities v.equalities w.equalities a.equalities b.equalities in
+        let left_at : w.left_at ≡ v.left_at = one_value (small (left_step line.left)) w.left_at v.left_at b.left_at a.left_at in
+        let length : w.length ≡ v.length = one_value (small line.right.step) w.length v.length b.length a.length in (
+          λ i. window_of (left.0 i) (right.is i) (left_at i) (length i) (updates.0 i) (equalities.0 i),
+          record { updates = updates.1; equalities = equalities.1; left = left.1; right = right.arguments },
         )
 
   -- ---- congruent windows
 
   windows_stay : (cells : List ℕ) → AllByRecursion IsNamed cells → (ws : List WindowTree) →
-      AllByRecursion (WindowHasNames stands_for IsNamed stands_apart) ws → AllByRecursion (IsCongruent cells) ws →
-      AllByRecursion (IsCongruent (map stands_for cells)) (map (window_renamed stands_for) ws)
-  windows_stay cells cells_named [] named all = tt
-  windows_stay cells cells_named (w ∷ ws) named all = (
-    congruent_renamed stands_for IsNamed stands_apart cells cells_named w named.0 all.0,
-    windows_stay cells cells_named ws named.1 all.1,
+      AllByRecursion (WindowHasNames stands_for IsNamed stands_apart) ws →
+      AllByRecursion (HasEqualities more) (map (window_renamed stands_for) ws) →
+      AllByRecursion (IsCongruent cells (equality_in names)) ws →
+      AllByRecursion (IsCongruent (map stands_for cells) (equality_in more)) (map (window_renamed stands_for) ws)
+  windows_stay cells cells_named [] named equal all = tt
+  windows_stay cells cells_named (w ∷ ws) named equal all = (
+    congruent_renamed stands_for IsNamed stands_apart cells cells_named (equality_in names) (equality_in more) w named.0 equal.0 all.0,
+    windows_stay cells cells_named ws named.1 equal.1 all.1,
   )
 
 -- whether the windows of a program text are congruent does not depend on the numbers of its names
 pub congruent_over_others : (text : List ℕ) (names given more : List Name) (p q : ProgramTree) → AreDistinct names → AreDistinct given →
-    ProgramText text names p → IsReading text given q more → AllByRecursion (IsCongruent p.cells) p.windows →
-    AllByRecursion (IsCongruent q.cells) q.windows
+    ProgramText text names p → IsReading text given q more → AllByRecursion (IsCongruent p.cells (equality_in names)) p.windows →
+    AllByRecursion (IsCongruent q.cells (equality_in more)) q.windows
 congruent_over_others text names given more p q distinct given_distinct h k all =
     let r : ListingOfProgram text names p = listing_of_program text names distinct p h in
     let apart : AreDistinct more = names_read_are_distinct text given q more given_distinct k in
@@ -292,6 +339,8 @@ congruent_over_others text names given more p q distinct given_distinct h k all 
     let windows = both_made (numbered_window names text) (numbered_window more text) (window_renamed (stands_for names more))
     (WindowHasNames (stands_for names more) (IsNamed names more) (stands_apart names more)) (window_renamed_too names more text)
     s.listing.windows p.windows q.windows numbers.windows s.numbers.windows in
-    subst (λ (cs : List ℕ). AllByRecursion (IsCongruent cs) q.windows) (sym cells.0)
-    (subst (λ (ws : List WindowTree). AllByRecursion (IsCongruent (map (stands_for names more) p.cells)) ws) (sym windows.0)
-    (windows_stay names more p.cells cells.1 p.windows windows.1 all))
+    subst (λ (cs : List ℕ). AllByRecursion (IsCongruent cs (equality_in more)) q.windows) (sym cells.0)
+    (subst (λ (ws : List WindowTree). AllByRecursion (IsCongruent (map (stands_for names more) p.cells) (equality_in more)) ws)
+    (sym windows.0)
+    (windows_stay names more p.cells cells.1 p.windows windows.1
+    (subst (AllByRecursion (HasEqualities more)) windows.0 k.spelled.is_writable.equalities) all))

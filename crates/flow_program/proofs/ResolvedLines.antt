@@ -1,16 +1,12 @@
 -- The lines of a text that breaks no rule have their numbers, and are written as before.
 use Rattle.std.proofs.Common.{◌≡◌, ℕ, zero, suc, ◌^◌, ◌<◌, ◌≤◌, ◌==◌, Bool, true, false, ◌&&◌, ◌||◌, List, [], ◌∷◌, ◌++◌, refl, ap}
 use Rattle.std.proofs.Common.{sym, ◌∙◌}
-use Rattle.std.proofs.Common.{arith, length, map, get_or}
+use Rattle.std.proofs.Common.{arith, length, map, codes, decimal, eq-eqb}
 use Rattle.std.specs.Prelude.{Option, Some, None, option_map, nat_le, nat_lt, cond, flat_map, slice_get}
-use Rattle.std.specs.Prelude.{bytes_eq}
 use Rattle.std.specs.List.{list_all, AllByRecursion}
 use Rattle.std.specs.Option.{is_some}
 use Rattle.std.proofs.lemmas.Bool.{and_from, and_parts, leb-true, ltb-true, lt-ltb}
-use Rattle.std.proofs.lemmas.List.Quantifiers.{position-Some}
-use Rattle.std.proofs.lemmas.Option.{slice_get-get_or}
-use Rattle.sequence.proofs.Bytes.{same_bytes}
-use Rattle.sequence.proofs.Each.{each_left, each_right}
+use Rattle.sequence.proofs.Each.{each_left, each_right, each_joined}
 use Rattle.sequence.proofs.Numbers.{among_at}
 use Rattle.sequence.proofs.Booleans.{eqb_self}
 use Rattle.sequence.specs.Numbers.{is_among, IsDistinct}
@@ -20,31 +16,41 @@ use Rattle.std.proofs.lemmas.Bool.{not-false}
 use Rattle.tsl_text.specs.Names.{is_usable}
 use Rattle.tsl_terms.specs.declared.names.NameKind.TheVariants.{Signal}
 use Rattle.tsl_terms.specs.Name.{number_of, is_name, AreDistinct, Name as NameEntry}
-use Rattle.sequence.proofs.Passes.{list_all_from_each}
-use Rattle.tsl_terms.specs.WindowTree.{WindowTree, ListedTree}
-use Rattle.tsl_terms.specs.WellFormed.{is_usable_at}
+use Rattle.sequence.proofs.Passes.{list_all_joined}
+use Rattle.tsl_terms.specs.TermTree.{ProbeTree, count_of_terms}
+use Rattle.tsl_terms.specs.WindowTree.{WindowTree, ListedTree, EquatedTree, left_probes, right_alone, window_probes, equality_probes}
+use Rattle.tsl_terms.specs.Equality.{equality_in}
+use Rattle.tsl_terms.specs.Congruence.{IsEquality}
+use Rattle.tsl_terms.specs.WellFormed.{is_usable_at, probe_fits, brackets_of_arguments, deepest}
 use Rattle.tsl_terms.specs.OnlyThese.{reads_only, read_only}
 use Rattle.term_text.specs.TermText.{name_text, term_text, probe_text, update_text}
-use Rattle.term_text.specs.WindowText.{listed_text, window_text}
+use Rattle.term_text.specs.WindowText.{left_text, listed_text, equated_text, window_text}
 use Rattle.program_listing.specs.declared.listing.Name.{Name}
-use Rattle.program_tree.specs.Fits.{longest, rises, comes_before, window_is_shaped, window_reads_only, window_fits}
+use Rattle.program_tree.specs.Fits.{longest, rises, comes_before, left_is_shaped, equalities_are_shaped, window_is_shaped}
+use Rattle.program_tree.specs.Fits.{window_reads_only, window_fits}
 use Rattle.program_tree.specs.Fits.{stands_before as stands_among}
 use Rattle.program_tree.specs.Writable.{signal_fits, term_is_writable, probe_is_writable, listed_is_writable}
 use Rattle.flow_program.specs.ProgramText.{declarations}
-use Rattle.program_tree.specs.Writable.{window_is_writable}
+use Rattle.program_tree.specs.Writable.{window_is_writable, HasEqualities}
 use Rattle.program_listing.specs.Listing.{name_bytes}
 use Rattle.program_listing.specs.Listing.{declared_entry, ListedLine}
-use Rattle.program_listing.specs.internal.NamesStand.{is_phrase, name_stands, listed_line_stands, window_line_stands}
-use Rattle.program_listing.specs.Listing.{WindowLine}
-use Rattle.flow_program.specs.Uses.{signal_use, test_uses, listed_uses, window_uses, windows_uses}
-use Rattle.flow_program.specs.Rules.{places_rise, place_in, place_of_cell, stands_before, listed_rise, is_cell_within, breaks_window}
-use Rattle.flow_program.specs.internal.Numbering.{small, numbered, numbered_listed, numbered_window}
-use Rattle.flow_program.specs.internal.Numbering.{listed_of, window_of}
+use Rattle.program_listing.specs.internal.NamesStand.{is_phrase, name_stands, listed_line_stands, placed_line_stands, left_line_stands}
+use Rattle.program_listing.specs.internal.NamesStand.{window_line_stands}
+use Rattle.program_listing.specs.Listing.{PlacedLine, WindowLine, left_step}
+use Rattle.flow_program.specs.Uses.{signal_use, listed_uses, placed_uses, left_uses, window_uses, windows_uses}
+use Rattle.flow_program.specs.Rules.{places_rise, place_of_cell, stands_before, listed_rise, is_cell_within, is_equality_test}
+use Rattle.flow_program.specs.Rules.{is_equality_within, are_in_order, right_fits, breaks_window}
+use Rattle.flow_program.specs.internal.Numbering.{small, numbered, numbered_test, numbered_listed, numbered_equated, numbered_left}
+use Rattle.flow_program.specs.internal.Numbering.{numbered_window, listed_of, equated_of, window_of}
 use Rattle.flow_program.proofs.KnownUses.{Known, KnownUse}
-use Rattle.program_listing.specs.LineText.{word, named, LineTree, window, listed_pieces, line_pieces, ended_pieces}
+use Rattle.program_listing.specs.LineText.{word, named, LineTree, window, listed_pieces, placed_pieces, equated_pieces, left_pieces}
+use Rattle.program_listing.specs.LineText.{line_pieces, ended_pieces}
 use Rattle.program_listing.proofs.ListingFacts.{pieces_text}
-use Rattle.flow_program.proofs.NumberLemmas.{listed_numbered, window_numbered}
-use Rattle.flow_program.proofs.SpelledLines.{pieces_append, update_spelled, listed_spelled, window_spelled, declaration_spelled}
+use Rattle.flow_program.proofs.NumberLemmas.{listed_numbered, equated_numbered, window_numbered}
+pub use Rattle.flow_program.proofs.NumberLemmas.{place_at}
+use Rattle.flow_program.proofs.EquatedLines.{equality_of_test, AreEquated, are_equated, in_order_alike, tests_within, offsets_within}
+use Rattle.flow_program.proofs.SpelledLines.{pieces_append, update_spelled, listed_spelled, placed_spelled, equated_spelled}
+use Rattle.flow_program.proofs.SpelledLines.{window_spelled, declaration_spelled}
 use Rattle.flow_program.proofs.ResolvedTerms.{is_named, is_named_usable, text_is, ResolvedTerm, resolved_term, term_writable, ResolvedTest}
 use Rattle.flow_program.proofs.ResolvedTerms.{resolved_test}
 use Rattle.flow_program.proofs.ResolvedTerms.{test_writable}
@@ -53,13 +59,6 @@ use Rattle.flow_program.proofs.ResolvedTerms.{test_writable}
 
 pub small_is : (n : ℕ) → n < 2 ^ 32 → small n ≡ Some n
 small_is n h = ap (λ b. cond b (Some n) None) (lt-ltb n (2 ^ 32) h)
-
--- ---- places of texts
-
-pub place_at : (all : List (List ℕ)) (bytes : List ℕ) (i : ℕ) → place_in all bytes ≡ Some i → slice_get all i ≡ Some bytes
-place_at all bytes i is =
-    let found = position-Some (bytes_eq bytes) all i [] is in
-    slice_get-get_or all i [] found.0 ∙ ap Some (sym (same_bytes bytes (get_or all i []) found.1))
 
 module _ (names : List NameEntry) (text : List ℕ) where
   -- names have these numbers
@@ -293,6 +292,106 @@ module _ (names : List NameEntry) (readable : List ℕ) (text : List ℕ) (cell_
           keys = (head.signal_is, (head.offset_is, rest.keys));
         }
 
+    -- ---- tests at steps
+
+    pub record ResolvedPlaced (t : PlacedLine) : Type 0 where
+      pub tree : EquatedTree
+      pub numbered_is : numbered_equated names text t ≡ Some tree
+      pub writable : probe_is_writable names tree.probe ≡ true
+      pub spelled : pieces_text text (placed_pieces t) ≡ probe_text names tree.probe ++ codes " at " ++ decimal tree.offset
+      pub reads : read_only readable tree.probe.arguments ≡ true
+      pub test_is : numbered_test names text t.test ≡ Some tree.probe
+      pub offset_is : tree.offset ≡ t.step
+
+    pub resolved_placed : (t : PlacedLine) → AllByRecursion (KnownUse names readable) (placed_uses text line t) →
+        placed_line_stands text t ≡ true → t.step < 2 ^ 32 → ResolvedPlaced t
+    resolved_placed t k stands fits =
+        let g : ResolvedTest names readable text t.test = resolved_test names readable text line t.test k in
+        record {
+          tree = equated_of g.tree t.step;
+          numbered_is = equated_numbered names text t g.tree g.numbered_is (small_is t.step fits);
+          writable = test_writable names readable text line t.test g stands;
+          spelled = placed_spelled text t (probe_text names g.tree) g.spelled;
+          reads = g.reads;
+          test_is = g.numbered_is;
+          offset_is = refl;
+        }
+
+    -- the equalities that a window lists
+    pub record ResolvedEqualities (es : List PlacedLine) : Type 0 where
+      pub trees : List EquatedTree
+      pub numbered_are : all_there (map (numbered_equated names text) es) ≡ Some trees
+      pub writable : list_all (probe_is_writable names) (map (λ e. e.probe) trees) ≡ true
+      pub spelled : pieces_text text (flat_map equated_pieces es) ≡ flat_map (equated_text names) trees
+      pub reads : list_all (λ p. read_only readable p.arguments) (map (λ e. e.probe) trees) ≡ true
+      pub equal : AllByRecursion (IsEquality (equality_in names)) (map (λ e. e.probe) trees)
+
+    pub resolved_equalities : AreDistinct names → (n : ℕ) (es : List PlacedLine) → n < 2 ^ 32 →
+        AllByRecursion (KnownUse names readable) (flat_map (placed_uses text line) es) →
+        list_all (placed_line_stands text) es ≡ true → list_all (is_equality_within text n) es ≡ true → ResolvedEqualities es
+    resolved_equalities distinct n [] short k stand within =
+        record { trees = []; numbered_are = refl; writable = refl; spelled = refl; reads = refl; equal = tt }
+    resolved_equalities distinct n (e ∷ es) short k stand within =
+        let known = each_left (KnownUse names readable) (placed_uses text line e) (flat_map (placed_uses text line) es) k in
+        let others = each_right (KnownUse names readable) (placed_uses text line e) (flat_map (placed_uses text line) es) k in
+        let stands = and_parts (placed_line_stands text e) (list_all (placed_line_stands text) es) stand in
+        let parts = and_parts (is_equality_within text n e) (list_all (is_equality_within text n) es) within in
+        let here = and_parts (nat_le e.step n) (is_equality_test text e.test) parts.0 in
+        let below : e.step ≤ n = leb-true e.step n here.0 in
+        let head : ResolvedPlaced e = resolved_placed e known stands.0 (omega (arith, below, short)) in
+        let rest : ResolvedEqualities es = resolved_equalities distinct n es short others stands.1 parts.1 in
+        let probes = map (λ (x : EquatedTree). x.probe) rest.trees in
+        record {
+          trees = head.tree ∷ rest.trees;
+          numbered_are = all_there_next (numbered_equated names text) e es head.tree rest.trees head.numbered_is rest.numbered_are;
+          writable = and_from (probe_is_writable names head.tree.probe) (list_all (probe_is_writable names) probes) head.writable
+              rest.writable;
+          spelled = pieces_append text (equated_pieces e) (flat_map equated_pieces es)
+              ∙ (λ i. equated_spelled text e (probe_text names head.tree.probe) (decimal head.tree.offset) head.spelled i ++ rest.spelled i);
+          reads = and_from (read_only readable head.tree.probe.arguments) (list_all (λ p. read_only readable p.arguments) probes)
+              head.reads rest.reads;
+          equal = (
+            equality_of_test names text distinct e.test head.tree.probe head.test_is (and_parts (probe_fits names head.tree.probe)
+                (nat_le (brackets_of_arguments head.tree.probe.arguments) deepest) head.writable).0 here.1,
+            rest.equal,
+          );
+        }
+
+    -- the left test, where there is one
+    pub record ResolvedLeft (left : Option PlacedLine) : Type 0 where
+      pub tree : Option ProbeTree
+      pub numbered_is : numbered_left names text left ≡ Some tree
+      pub writable : list_all (probe_is_writable names) (left_probes tree) ≡ true
+      pub spelled : pieces_text text (left_pieces left) ≡ left_text names tree (left_step left) ++ codes " is "
+      pub reads : list_all (λ p. read_only readable p.arguments) (left_probes tree) ≡ true
+      pub shaped : left_is_shaped tree (left_step left) ≡ true
+      pub alone : (right : PlacedLine) (p : ProbeTree) → (is_equality_test text right.test ≡ true → IsEquality (equality_in names) p) →
+          right_fits text left right ≡ true → AllByRecursion (IsEquality (equality_in names)) (right_alone tree p)
+
+    pub resolved_left : (left : Option PlacedLine) → AllByRecursion (KnownUse names readable) (left_uses text line left) →
+        left_line_stands text left ≡ true → left_step left < 2 ^ 32 → ResolvedLeft left
+    resolved_left None k stands fits = record {
+      tree = None;
+      numbered_is = refl;
+      writable = refl;
+      spelled = refl;
+      reads = refl;
+      shaped = refl;
+      alone = λ right p equal is. (equal is, tt);
+    }
+    resolved_left (Some t) k stands fits =
+        let g : ResolvedPlaced t = resolved_placed t k stands fits in
+        record {
+          tree = Some g.tree.probe;
+          numbered_is = ap (option_map Some) g.test_is;
+          writable = and_from (probe_is_writable names g.tree.probe) true g.writable refl;
+          spelled = pieces_append text (placed_pieces t) (word (codes " is ") ∷ [])
+              ∙ (λ i. (g.spelled ∙ ap (λ n. probe_text names g.tree.probe ++ codes " at " ++ decimal n) g.offset_is) i ++ codes " is ");
+          reads = and_from (read_only readable g.tree.probe.arguments) true g.reads refl;
+          shaped = refl;
+          alone = λ right p equal is. tt;
+        }
+
     -- ---- a window
 
     pub record ResolvedWindow (w : WindowLine) : Type 0 where
@@ -301,52 +400,107 @@ module _ (names : List NameEntry) (readable : List ℕ) (text : List ℕ) (cell_
       pub writable : window_is_writable names tree ≡ true
       pub spelled : pieces_text text (ended_pieces (window w)) ≡ window_text names tree
       pub fits : window_fits readable cells tree ≡ true
+      pub equal : HasEqualities names tree
 
-    pub resolved_window : (w : WindowLine) → AllByRecursion (KnownUse names readable) (window_uses text line w) →
-        window_line_stands text w ≡ true → breaks_window text texts_of_cells 0 w ≡ false → ResolvedWindow w
-    resolved_window w k stands keeps =
-        let left_uses = test_uses text line w.left in
-        let right_uses = test_uses text line w.right in
-        let listed = flat_map (listed_uses text line) w.updates in
-        let known_left = each_left (KnownUse names readable) left_uses right_uses
-        (each_left (KnownUse names readable) (left_uses ++ right_uses) listed k) in
-        let known_right = each_right (KnownUse names readable) left_uses right_uses
-        (each_left (KnownUse names readable) (left_uses ++ right_uses) listed k) in
-        let known_listed = each_right (KnownUse names readable) (left_uses ++ right_uses) listed k in
-        let stand = and_parts (is_phrase text w.left && is_phrase text w.right) (list_all (listed_line_stands text) w.updates) stands in
-        let tests = and_parts (is_phrase text w.left) (is_phrase text w.right) stand.0 in
-        let is_short : Bool = nat_le w.length longest && nat_le w.left_at w.length in
-        let within : Bool = list_all (is_cell_within text texts_of_cells w.length) w.updates in
-        let shaped : (is_short && (within && listed_rise text texts_of_cells w.updates)) ≡ true =
-        not-false (is_short && (within && listed_rise text texts_of_cells w.updates)) keeps in
-        let parts = and_parts is_short (within && listed_rise text texts_of_cells w.updates) shaped in
-        let short = and_parts (nat_le w.length longest) (nat_le w.left_at w.length) parts.0 in
-        let rising = and_parts within (listed_rise text texts_of_cells w.updates) parts.1 in
-        let length_short : w.length ≤ longest = leb-true w.length longest short.0 in
-        let left_short : w.left_at ≤ w.length = leb-true w.left_at w.length short.1 in
-        let l : ResolvedTest names readable text w.left = resolved_test names readable text line w.left known_left in
-        let r : ResolvedTest names readable text w.right = resolved_test names readable text line w.right known_right in
-        let us : ResolvedAllListed w.updates = resolved_all_listed w.length w.updates (omega (arith, length_short)) known_listed stand.1
-        rising.0 in
+    -- the parts of the test of a window's line
+    record KeepsWindow (w : WindowLine) : Type 0 where
+      length_short : w.right.step ≤ longest
+      left_short : left_step w.left ≤ w.right.step
+      short : (nat_le w.right.step longest && nat_le (left_step w.left) w.right.step) ≡ true
+      within : list_all (is_cell_within text texts_of_cells w.right.step) w.updates ≡ true
+      rise : listed_rise text texts_of_cells w.updates ≡ true
+      right : right_fits text w.left w.right ≡ true
+      equalities : list_all (is_equality_within text w.right.step) w.equalities ≡ true
+      order : are_in_order text w.equalities ≡ true
+
+    keeps_window : (w : WindowLine) → breaks_window text texts_of_cells 0 w ≡ false → KeepsWindow w
+    keeps_window w keeps =
+        let whole = and_parts _ _ (not-false _ keeps) in
+        let updates = and_parts _ _ whole.0 in
+        let equal = and_parts _ _ whole.1 in
+        let short = and_parts (nat_le w.right.step longest) (nat_le (left_step w.left) w.right.step) updates.0 in
+        let rising = and_parts (list_all (is_cell_within text texts_of_cells w.right.step) w.updates)
+        (listed_rise text texts_of_cells w.updates) updates.1 in
+        let ordered = and_parts (list_all (is_equality_within text w.right.step) w.equalities) (are_in_order text w.equalities) equal.1 in
         record {
-          tree = window_of l.tree r.tree w.left_at w.length us.trees;
-          numbered_is =
-              window_numbered names text w l.tree r.tree us.trees l.numbered_is r.numbered_is
-              (small_is w.left_at (omega (arith, length_short, left_short))) (small_is w.length (omega (arith, length_short)))
-              us.numbered_are;
-          writable = and_from (list_all (probe_is_writable names) (l.tree ∷ r.tree ∷ [])) (list_all
-              (listed_is_writable names) us.trees)
-              (list_all_from_each (probe_is_writable names) (l.tree ∷ r.tree ∷ [])
-              (test_writable names readable text line w.left l tests.0, (test_writable names readable text line w.right r tests.1, tt)))
+          length_short = leb-true w.right.step longest short.0;
+          left_short = leb-true (left_step w.left) w.right.step short.1;
+          short = updates.0;
+          within = rising.0;
+          rise = rising.1;
+          right = equal.0;
+          equalities = ordered.0;
+          order = ordered.1;
+        }
+
+    -- the probes of all equalities have two arguments
+    have_two : (ps : List ProbeTree) → AllByRecursion (IsEquality (equality_in names)) ps →
+        list_all (λ p. count_of_terms p.arguments == 2) ps ≡ true
+    have_two [] equal = refl
+    have_two (p ∷ ps) equal =
+        and_from (count_of_terms p.arguments == 2) (list_all (λ q. count_of_terms q.arguments == 2) ps)
+        (eq-eqb (count_of_terms p.arguments) 2 equal.0.two) (have_two ps equal.1)
+
+    pub resolved_window : AreDistinct names → (w : WindowLine) → AllByRecursion (KnownUse names readable) (window_uses text line w) →
+        window_line_stands text w ≡ true → breaks_window text texts_of_cells 0 w ≡ false → ResolvedWindow w
+    resolved_window distinct w k stands breaks =
+        let keeps : KeepsWindow w = keeps_window w breaks in
+        let Known = KnownUse names readable in
+        let left = left_uses text line w.left in
+        let right = placed_uses text line w.right in
+        let listed = flat_map (listed_uses text line) w.updates in
+        let equated = flat_map (placed_uses text line) w.equalities in
+        let known = each_left Known ((left ++ right) ++ listed) equated k in
+        let known_tests = each_left Known (left ++ right) listed known in
+        let stand = and_parts (left_line_stands text w.left && placed_line_stands text w.right)
+        (list_all (listed_line_stands text) w.updates && list_all (placed_line_stands text) w.equalities) stands in
+        let tests = and_parts (left_line_stands text w.left) (placed_line_stands text w.right) stand.0 in
+        let lists = and_parts (list_all (listed_line_stands text) w.updates) (list_all (placed_line_stands text) w.equalities) stand.1 in
+        let l : ResolvedLeft w.left = resolved_left w.left (each_left Known left right known_tests) tests.0
+        (omega (arith, keeps.length_short, keeps.left_short)) in
+        let r : ResolvedPlaced w.right = resolved_placed w.right (each_right Known left right known_tests) tests.1
+        (omega (arith, keeps.length_short)) in
+        let us : ResolvedAllListed w.updates = resolved_all_listed w.right.step w.updates (omega (arith, keeps.length_short))
+        (each_right Known (left ++ right) listed known) lists.0 keeps.within in
+        let es : ResolvedEqualities w.equalities = resolved_equalities distinct w.right.step w.equalities (omega (
+          arith,
+          keeps.length_short,
+        )) (each_right Known ((left ++ right) ++ listed) equated k) lists.1 keeps.equalities in
+        let tree = window_of l.tree r.tree.probe (left_step w.left) w.right.step us.trees es.trees in
+        let probes = map (λ (e : EquatedTree). e.probe) es.trees in
+        let sides = left_probes l.tree ++ r.tree.probe ∷ [] in
+        let are : AreEquated names text w.equalities es.trees = are_equated names text w.equalities es.trees es.numbered_are in
+        let equal : HasEqualities names tree = each_joined (IsEquality (equality_in names)) probes (right_alone l.tree r.tree.probe) es.equal
+        (l.alone w.right r.tree.probe (equality_of_test names text distinct w.right.test r.tree.probe r.test_is
+        (and_parts (probe_fits names r.tree.probe) (nat_le (brackets_of_arguments r.tree.probe.arguments) deepest) r.writable).0)
+        keeps.right) in
+        record {
+          tree = tree;
+          numbered_is = window_numbered names text w l.tree r.tree.probe us.trees es.trees l.numbered_is r.test_is
+              (small_is (left_step w.left) (omega (arith, keeps.length_short, keeps.left_short)))
+              (small_is w.right.step (omega (arith, keeps.length_short)))
+              us.numbered_are es.numbered_are;
+          writable = and_from (list_all (probe_is_writable names) (window_probes tree)) (list_all (listed_is_writable names) us.trees)
+              (list_all_joined (probe_is_writable names) probes sides es.writable (list_all_joined
+              (probe_is_writable names) (left_probes l.tree) (r.tree.probe ∷ []) l.writable
+              (and_from (probe_is_writable names r.tree.probe) true r.writable refl)))
               us.writable;
-          spelled = window_spelled text w (probe_text names l.tree) (probe_text names r.tree) (flat_map (listed_text names) us.trees)
-              l.spelled r.spelled us.spelled;
-          fits = and_from (window_is_shaped cells (window_of l.tree r.tree w.left_at w.length us.trees))
-              (window_reads_only readable (window_of l.tree r.tree w.left_at w.length us.trees))
-              (and_from is_short _ parts.0 (and_from _ (rises cells us.trees) (keys_within w.length w.updates us.trees us.keys rising.0)
-              (keys_rise w.updates us.trees us.keys rising.1)))
-              (and_from _ _ (list_all_from_each (λ p. read_only readable p.arguments) (l.tree ∷ r.tree ∷ [])
-              (l.reads, (r.reads, tt))) us.reads);
+          spelled = window_spelled text w (left_text names l.tree (left_step w.left)) (probe_text names r.tree.probe)
+              (flat_map (listed_text names) us.trees) (flat_map (equated_text names) es.trees) l.spelled
+              (r.spelled ∙ ap (λ n. probe_text names r.tree.probe ++ codes " at " ++ decimal n) r.offset_is) us.spelled es.spelled;
+          fits = and_from (window_is_shaped cells tree) (window_reads_only readable tree)
+              (and_from _ (left_is_shaped l.tree (left_step w.left) && equalities_are_shaped tree)
+              (and_from _ _ keeps.short (and_from _ (rises cells us.trees) (keys_within w.right.step w.updates us.trees us.keys keeps.within)
+              (keys_rise w.updates us.trees us.keys keeps.rise)))
+              (and_from (left_is_shaped l.tree (left_step w.left)) (equalities_are_shaped tree) l.shaped
+              (and_from _ _ (and_from _ _ (offsets_within names text w.right.step w.equalities es.trees are keeps.equalities)
+              (sym (in_order_alike names text w.equalities es.trees are
+              (tests_within names text w.right.step w.equalities keeps.equalities)) ∙ keeps.order))
+              (have_two (equality_probes tree) equal))))
+              (and_from _ _ (list_all_joined (λ p. read_only readable p.arguments) probes sides es.reads
+              (list_all_joined (λ p. read_only readable p.arguments) (left_probes l.tree) (r.tree.probe ∷ []) l.reads
+              (and_from (read_only readable r.tree.probe.arguments) true r.reads refl))) us.reads);
+          equal = equal;
         }
 
   pub record ResolvedWindows (ws : List WindowLine) : Type 0 where
@@ -355,19 +509,20 @@ module _ (names : List NameEntry) (readable : List ℕ) (text : List ℕ) (cell_
     pub writable : list_all (window_is_writable names) trees ≡ true
     pub spelled : pieces_text text (flat_map ended_pieces (map window ws)) ≡ flat_map (window_text names) trees
     pub fit : list_all (window_fits readable cells) trees ≡ true
+    pub equal : AllByRecursion (HasEqualities names) trees
     pub count : length trees ≡ length ws
 
-  pub resolved_windows : (line : ℕ) (ws : List WindowLine) → AllByRecursion (KnownUse names readable) (windows_uses text line ws) →
+  pub resolved_windows : AreDistinct names → (line : ℕ) (ws : List WindowLine) → AllByRecursion (KnownUse names readable) (windows_uses text line ws) →
       list_all (window_line_stands text) ws ≡ true →
       ((i : ℕ) (w : WindowLine) → slice_get ws i ≡ Some w → breaks_window text texts_of_cells 0 w ≡ false) → ResolvedWindows ws
-  resolved_windows line [] k stand keep =
-      record { trees = []; numbered_are = refl; writable = refl; spelled = refl; fit = refl; count = refl }
-  resolved_windows line (w ∷ ws) k stand keep =
+  resolved_windows distinct line [] k stand keep =
+      record { trees = []; numbered_are = refl; writable = refl; spelled = refl; fit = refl; equal = tt; count = refl }
+  resolved_windows distinct line (w ∷ ws) k stand keep =
       let known = each_left (KnownUse names readable) (window_uses text line w) (windows_uses text (suc line) ws) k in
       let others = each_right (KnownUse names readable) (window_uses text line w) (windows_uses text (suc line) ws) k in
       let stands = and_parts (window_line_stands text w) (list_all (window_line_stands text) ws) stand in
-      let head : ResolvedWindow line w = resolved_window line w known stands.0 (keep 0 w refl) in
-      let rest : ResolvedWindows ws = resolved_windows (suc line) ws others stands.1 (λ i. keep (suc i)) in
+      let head : ResolvedWindow line w = resolved_window line distinct w known stands.0 (keep 0 w refl) in
+      let rest : ResolvedWindows ws = resolved_windows distinct (suc line) ws others stands.1 (λ i. keep (suc i)) in
       record {
         trees = head.tree ∷ rest.trees;
         numbered_are = all_there_next (numbered_window names text) w ws head.tree rest.trees head.numbered_is rest.numbered_are;
@@ -376,5 +531,6 @@ module _ (names : List NameEntry) (readable : List ℕ) (text : List ℕ) (cell_
         spelled = pieces_append text (ended_pieces (window w)) (flat_map ended_pieces (map window ws))
             ∙ (λ i. head.spelled i ++ rest.spelled i);
         fit = and_from (window_fits readable cells head.tree) (list_all (window_fits readable cells) rest.trees) head.fits rest.fit;
+        equal = (head.equal, rest.equal);
         count = ap suc rest.count;
       }

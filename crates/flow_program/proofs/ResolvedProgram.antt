@@ -16,6 +16,7 @@ use Rattle.sequence.proofs.Passes.{list_all_joined, passes_at}
 use Rattle.tsl_text.specs.Names.{is_usable}
 use Rattle.tsl_terms.specs.Name.{AreDistinct, Name as NameEntry}
 use Rattle.tsl_terms.specs.Clashes.{alike_in_kind, same_arity}
+use Rattle.tsl_terms.proofs.FirstUses.{first_uses_distinct}
 use Rattle.tsl_terms.specs.WellFormed.{name_fits}
 use Rattle.term_text.specs.TermText.{name_text}
 use Rattle.program_listing.specs.declared.listing.Name.{Name}
@@ -27,7 +28,7 @@ use Rattle.program_tree.specs.Writable.{signal_fits, most_windows, most_nodes, m
 use Rattle.flow_program.specs.ProgramText.{ProgramText}
 use Rattle.program_listing.specs.Listing.{name_bytes, declared_entry, declared, WindowLine, NodeLine, ListingTree, IsListing}
 use Rattle.flow_program.specs.Uses.{ProgramUse, declared_uses, windows_uses, nodes_uses, first_declaration, first_window, first_node}
-use Rattle.flow_program.specs.Uses.{first_state, uses_of, names_after}
+use Rattle.flow_program.specs.Uses.{first_state, uses_of, entries_of_use, names_after}
 use Rattle.flow_program.specs.Rules.{first_place, first_line, breaks_order, goes_nowhere, is_nowhere, breaks_updates, breaks_window}
 use Rattle.flow_program.specs.Rules.{place_in, cell_texts, readable_of, controlled_of, is_unknown, is_unlike, at_line, over, first_there}
 use Rattle.flow_program.specs.Rules.{line_fault, use_fault, limit_fault, fault_of}
@@ -42,6 +43,7 @@ use Rattle.flow_program.proofs.SpelledLines.{listing_spelled, states_spelled}
 use Rattle.std.proofs.lemmas.List.{append-nil}
 use Rattle.std.specs.Prelude.{flat_map}
 use Rattle.flow_program.proofs.UsesStand.{uses_usable}
+use Rattle.flow_program.proofs.WithUses.{are_first}
 use Rattle.flow_program.proofs.ResolvedLines.{place_at, ResolvedSignals, resolved_signals, all_numbered, declared_text, number_at}
 use Rattle.flow_program.proofs.ResolvedLines.{distinct_ids}
 use Rattle.flow_program.proofs.ResolvedLines.{ResolvedWindows, resolved_windows}
@@ -239,8 +241,13 @@ module _ (text : List ℕ) (given : List NameEntry) (distinct : AreDistinct give
       (declared_uses text first_declaration (declared l) ++ windows_uses text (first_window l) l.windows)
       (nodes_uses text (first_node l) l.nodes) each_known
 
+  names_distinct : AreDistinct names
+  names_distinct =
+      subst AreDistinct (sym (are_first given (flat_map entries_of_use us) distinct)) (first_uses_distinct (given
+      ++ flat_map entries_of_use us))
+
   windows : ResolvedWindows names readable text l.cells cells.ids cells.numbers l.windows
-  windows = resolved_windows names readable text l.cells cells.ids cells.numbers (first_window l) l.windows windows_known
+  windows = resolved_windows names readable text l.cells cells.ids cells.numbers names_distinct (first_window l) l.windows windows_known
       stands.windows_stand
       keeps.windows
 
@@ -297,6 +304,7 @@ module _ (text : List ℕ) (given : List NameEntry) (distinct : AreDistinct give
     signals = list_all_joined (signal_fits names) inputs.ids controlled inputs.fit (list_all_joined
         (signal_fits names) cells.ids outputs.ids cells.fit outputs.fit);
     windows = windows.writable;
+    equalities = windows.equal;
     nodes = nodes.writable;
     few_windows = subst (λ n. n ≤ most_windows) (sym windows.count) keeps.few_windows;
     few_nodes = subst (λ n. n ≤ most_nodes) (sym nodes.count) keeps.few_nodes;

@@ -4,10 +4,12 @@ use Rattle.std.proofs.lemmas.Grind.{flat_map-append}
 use Rattle.std.proofs.lemmas.List.{append-nil}
 use Rattle.program_listing.specs.declared.listing.Name.{Name}
 use Rattle.program_listing.specs.LineText.{Piece, word, named, phrase_pieces, LineTree, input, cell, output, window, node, state, end_line}
-use Rattle.program_listing.specs.LineText.{update_pieces, set_pieces, listed_pieces, placed_pieces, window_pieces, line_pieces}
+use Rattle.program_listing.specs.LineText.{update_pieces, set_pieces, listed_pieces, placed_pieces, equated_pieces, left_pieces}
+use Rattle.program_listing.specs.LineText.{window_pieces, line_pieces}
 use Rattle.program_listing.specs.LineText.{ended_pieces}
 use Rattle.program_listing.specs.LineText.{node_lines, state_lines, listing_lines}
-use Rattle.program_listing.specs.Listing.{PhraseTree, UpdateLine, ListedLine, WindowLine, branch_line, assignment_line, ListingTree}
+use Rattle.program_listing.specs.Listing.{PhraseTree, UpdateLine, ListedLine, PlacedLine, WindowLine, branch_line, assignment_line}
+use Rattle.program_listing.specs.Listing.{ListingTree}
 use Rattle.program_listing.specs.Listing.{name_bytes}
 use Rattle.program_listing.proofs.ListingFacts.{piece_text, pieces_text}
 use Rattle.flow_program.specs.ProgramText.{states_text}
@@ -40,10 +42,13 @@ nine : (a b c d e f g h i : List ℕ) →
     ≡ (((((((a ++ b) ++ c) ++ d) ++ e) ++ f) ++ g) ++ h) ++ i
 nine a b c d e f g h i = simp (append_assoc, append-nil)
 
-ten : (a b c d e f g h i j : List ℕ) →
-    a ++ (((b ++ (c ++ (d ++ []))) ++ (e ++ ((f ++ (g ++ (h ++ []))) ++ i))) ++ j)
-    ≡ ((((((((a ++ b) ++ c) ++ d) ++ e) ++ f) ++ g) ++ h) ++ i) ++ j
-ten a b c d e f g h i j = simp (append_assoc, append-nil)
+behind : (a b c d : List ℕ) → a ++ ((b ++ c) ++ d) ≡ ((a ++ b) ++ c) ++ d
+behind a b c d = simp append_assoc
+
+nine_in_pairs : (a b c d e f g h i : List ℕ) →
+    a ++ (((b ++ c) ++ (((d ++ e) ++ f) ++ (g ++ h))) ++ i)
+    ≡ (((((((a ++ b) ++ c) ++ d) ++ e) ++ f) ++ g) ++ h) ++ i
+nine_in_pairs a b c d e f g h i = simp append_assoc
 
 module _ (text : List ℕ) where
   pub update_spelled : (s : Name) (p : PhraseTree) (a b : List ℕ) → name_bytes text s ≡ a → pieces_text text (phrase_pieces p) ≡ b →
@@ -60,27 +65,31 @@ module _ (text : List ℕ) where
       ∙ ap (λ zs. zs ++ (codes " at " ++ (decimal u.offset ++ []))) update)
       ∙ four (codes " when ") a (codes " at ") (decimal u.offset)
 
-  placed_spelled : (p : PhraseTree) (n : ℕ) (a : List ℕ) → pieces_text text (phrase_pieces p) ≡ a →
-      pieces_text text (placed_pieces p n) ≡ a ++ (codes " at " ++ (decimal n ++ []))
-  placed_spelled p n a test =
-      pieces_append text (phrase_pieces p) (word (codes " at ") ∷ word (decimal n) ∷ [])
-      ∙ ap (λ zs. zs ++ (codes " at " ++ (decimal n ++ []))) test
+  pub placed_spelled : (t : PlacedLine) (a : List ℕ) → pieces_text text (phrase_pieces t.test) ≡ a →
+      pieces_text text (placed_pieces t) ≡ a ++ codes " at " ++ decimal t.step
+  placed_spelled t a test =
+      pieces_append text (phrase_pieces t.test) (word (codes " at ") ∷ word (decimal t.step) ∷ [])
+      ∙ ap (λ zs. zs ++ (codes " at " ++ (decimal t.step ++ []))) test ∙ three a (codes " at ") (decimal t.step)
 
-  pub window_spelled : (w : WindowLine) (a b c : List ℕ) → pieces_text text (phrase_pieces w.left) ≡ a →
-      pieces_text text (phrase_pieces w.right) ≡ b → pieces_text text (flat_map listed_pieces w.updates) ≡ c →
-      pieces_text text (ended_pieces (window w)) ≡ codes "window " ++ a ++ codes " at " ++ decimal w.left_at ++ codes " is "
-      ++ b ++ codes " at " ++ decimal w.length ++ c ++ codes "\n"
-  window_spelled w a b c left_is right_is updates =
-      let left = placed_spelled w.left w.left_at a left_is in
-      let right = placed_spelled w.right w.length b right_is in
+  pub equated_spelled : (e : PlacedLine) (a n : List ℕ) → pieces_text text (placed_pieces e) ≡ a ++ codes " at " ++ n →
+      pieces_text text (equated_pieces e) ≡ codes " when " ++ a ++ codes " at " ++ n
+  equated_spelled e a n is = ap (λ zs. codes " when " ++ zs) is ∙ behind (codes " when ") a (codes " at ") n
+
+  pub window_spelled : (w : WindowLine) (a b c d : List ℕ) → pieces_text text (left_pieces w.left) ≡ a ++ codes " is " →
+      pieces_text text (placed_pieces w.right) ≡ b ++ codes " at " ++ decimal w.right.step →
+      pieces_text text (flat_map listed_pieces w.updates) ≡ c → pieces_text text (flat_map equated_pieces w.equalities) ≡ d →
+      pieces_text text (ended_pieces (window w)) ≡ codes "window " ++ a ++ codes " is "
+      ++ b ++ codes " at " ++ decimal w.right.step ++ c ++ d ++ codes "\n"
+  window_spelled w a b c d left right updates equalities =
+      let us = flat_map listed_pieces w.updates in
+      let es = flat_map equated_pieces w.equalities in
       ap (λ zs. codes "window " ++ zs)
       (pieces_append text (window_pieces w) (word (codes "\n") ∷ [])
       ∙ ap (λ zs. zs ++ codes "\n")
-      (pieces_append text (placed_pieces w.left w.left_at)
-      (word (codes " is ") ∷ (placed_pieces w.right w.length ++ flat_map listed_pieces w.updates))
-      ∙ (λ i. left i ++ (codes " is "
-      ++ (pieces_append text (placed_pieces w.right w.length) (flat_map listed_pieces w.updates) ∙ (λ j. right j ++ updates j)) i))))
-      ∙ ten (codes "window ") a (codes " at ") (decimal w.left_at) (codes " is ") b (codes " at ") (decimal w.length) c (codes "\n")
+      (pieces_append text (left_pieces w.left) (placed_pieces w.right ++ (us ++ es))
+      ∙ (λ i. left i ++ (pieces_append text (placed_pieces w.right) (us ++ es)
+      ∙ (λ j. right j ++ (pieces_append text us es ∙ (λ k. updates k ++ equalities k)) j)) i)))
+      ∙ nine_in_pairs (codes "window ") a (codes " is ") b (codes " at ") (decimal w.right.step) c d (codes "\n")
 
   pub branch_spelled : (i : ℕ) (p : PhraseTree) (a b : ℕ) (c : List ℕ) → pieces_text text (phrase_pieces p) ≡ c →
       pieces_text text (ended_pieces (node i (branch_line p a b))) ≡ codes "node " ++ decimal i ++ codes " if " ++ c

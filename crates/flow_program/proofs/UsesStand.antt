@@ -3,7 +3,7 @@
 use Rattle.std.proofs.Common.{◌≡◌, ℕ, suc, ◌+◌, ◌*◌, ◌≤◌, true, false, not, ◌&&◌, List, [], ◌∷◌, ◌++◌, length, map, refl, ap, sym, subst}
 use Rattle.std.proofs.Common.{◌∙◌}
 use Rattle.std.proofs.Common.{arith, length-append, append_assoc}
-use Rattle.std.specs.Prelude.{nat_le, codes, decimal, flat_map}
+use Rattle.std.specs.Prelude.{nat_le, codes, decimal, flat_map, Option, Some, None}
 use Rattle.std.specs.List.{list_all, AllByRecursion}
 use Rattle.std.proofs.lemmas.Bool.{and_parts}
 use Rattle.std.proofs.lemmas.Grind.{flat_map-append}
@@ -15,18 +15,24 @@ use Rattle.tsl_terms.specs.declared.names.NameKind.TheVariants.{Function, Predic
 use Rattle.program_listing.specs.declared.listing.Name.{Name}
 use Rattle.program_listing.specs.LineText.{Piece, word, named, argument_pieces, phrase_pieces, phrases_pieces, LineTree, input, cell}
 use Rattle.program_listing.specs.LineText.{output}
-use Rattle.program_listing.specs.LineText.{window, node, update_pieces, set_pieces, listed_pieces, placed_pieces}
+use Rattle.program_listing.specs.LineText.{window, node, update_pieces, set_pieces, listed_pieces, placed_pieces, equated_pieces}
+use Rattle.program_listing.specs.LineText.{left_pieces, window_pieces}
 use Rattle.program_listing.specs.LineText.{line_pieces, ended_pieces, node_lines, state_lines, listing_lines}
 use Rattle.program_listing.specs.Listing.{PhraseTree, bare, applied, PhraseTrees, no_phrases, more_phrases, count_of_phrases, UpdateLine}
-use Rattle.program_listing.specs.Listing.{ListedLine, WindowLine, NodeLine, branch_line, assignment_line, ListingTree, name_bytes}
+use Rattle.program_listing.specs.Listing.{ListedLine, PlacedLine, WindowLine, NodeLine, branch_line, assignment_line, ListingTree}
+use Rattle.program_listing.specs.Listing.{name_bytes}
 use Rattle.program_listing.specs.Listing.{IsListing}
 use Rattle.program_listing.specs.internal.NamesStand.{name_stands}
 use Rattle.program_listing.proofs.ListingFacts.{piece_stands, pieces_stand, pieces_text, pieces_in}
 use Rattle.flow_program.specs.Uses.{ProgramUse, read_use, tested_use, applied_use, signal_use, term_uses, terms_uses, test_uses}
 use Rattle.flow_program.specs.Uses.{update_uses}
-use Rattle.flow_program.specs.Uses.{listed_uses, window_uses, node_uses, line_uses, declared_uses, windows_uses, nodes_uses}
+use Rattle.flow_program.specs.Uses.{listed_uses, placed_uses, left_uses, window_uses, node_uses, line_uses, declared_uses}
+use Rattle.flow_program.specs.Uses.{windows_uses, nodes_uses}
 use Rattle.flow_program.specs.Uses.{first_declaration, first_window, first_node, first_state, uses_of}
 use Rattle.flow_program.proofs.UseLemmas.{declared_append}
+
+four_apart : (a b c d : List ProgramUse) → ((a ++ b) ++ c) ++ d ≡ a ++ (b ++ (c ++ d))
+four_apart a b c d = simp append_assoc
 
 -- so many bytes at least are spelled by pieces whose names stand
 abbrev pub least : List Piece → ℕ
@@ -132,22 +138,29 @@ module _ (text : List ℕ) where
         weaker 0 0 (after_word (codes " when ") (closed (update_use u.signal u.term)
         (after_word (codes " at ") (after_word (decimal u.offset) no_piece)))) (omega arith)
 
-    placed_use : (p : PhraseTree) (n : ℕ) → PiecesUse (test_uses text line p) (placed_pieces p n) 0 0
-    placed_use p n =
-        weaker 0 0 (closed (test_use p) (after_word (codes " at ") (after_word (decimal n) no_piece))) (omega arith)
+    placed_use : (t : PlacedLine) → PiecesUse (placed_uses text line t) (placed_pieces t) 0 0
+    placed_use t =
+        weaker 0 0 (closed (test_use t.test) (after_word (codes " at ") (after_word (decimal t.step) no_piece))) (omega arith)
+
+    equated_use : (e : PlacedLine) → PiecesUse (placed_uses text line e) (equated_pieces e) 0 0
+    equated_use e = weaker 0 0 (after_word (codes " when ") (placed_use e)) (omega arith)
+
+    left_use : (left : Option PlacedLine) → PiecesUse (left_uses text line left) (left_pieces left) 0 0
+    left_use None = weaker 0 0 (after_word (codes "true is ") no_piece) (omega arith)
+    left_use (Some t) = weaker 0 0 (closed (placed_use t) (after_word (codes " is ") no_piece)) (omega arith)
 
     -- a line has its line feed besides
     window_use : (w : WindowLine) → PiecesUse (window_uses text line w) (ended_pieces (window w)) 1 0
     window_use w =
-        let left = test_uses text line w.left in
-        let right = test_uses text line w.right in
+        let left = left_uses text line w.left in
+        let right = placed_uses text line w.right in
         let listed = flat_map (listed_uses text line) w.updates in
+        let equal = flat_map (placed_uses text line) w.equalities in
         weaker 1 0 (closed (after_word (codes "window ") (subst
-        (λ us. PiecesUse us (placed_pieces w.left w.left_at ++ word (codes " is ") ∷ (placed_pieces w.right w.length
-        ++ flat_map listed_pieces w.updates)) 0 0)
-        (sym (append_assoc left right listed))
-        (weaker 0 0 (joined (placed_use w.left w.left_at) (after_word (codes " is ") (joined (placed_use w.right w.length)
-        (many (listed_uses text line) listed_pieces listed_use w.updates)))) (omega arith))))
+        (λ us. PiecesUse us (window_pieces w) 0 0) (sym (four_apart left right listed equal))
+        (weaker 0 0 (joined (left_use w.left) (joined (placed_use w.right)
+        (joined (many (listed_uses text line) listed_pieces listed_use w.updates)
+        (many (placed_uses text line) equated_pieces equated_use w.equalities)))) (omega arith))))
         (after_word (codes "\n") no_piece)) (omega arith)
 
     node_use : (number : ℕ) (n : NodeLine) → PiecesUse (node_uses text line n) (ended_pieces (node number n)) 1 0

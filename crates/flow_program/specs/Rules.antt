@@ -1,7 +1,7 @@
 -- The rules of program texts, and the first that a text breaks.
 use Rattle.std.specs.Prelude.{ℕ, suc, ◌+◌, Bool, true, false, not, cond, ◌&&◌, ◌||◌, ◌==◌, nat_le, nat_lt, List, [], ◌∷◌, ◌++◌, length, map}
 use Rattle.std.specs.Prelude.{find}
-use Rattle.std.specs.Prelude.{Option, Some, None, option_map, option_and_then, slice_get, position, bytes_eq}
+use Rattle.std.specs.Prelude.{Option, Some, None, option_map, option_and_then, slice_get, position, bytes_eq, codes}
 use Rattle.std.specs.List.{list_all}
 use Rattle.std.specs.Option.{option_map_or, is_some}
 use Rattle.tsl_terms.specs.Name.{number_of, Name as NameEntry}
@@ -12,7 +12,9 @@ use Rattle.flow_program.specs.declared.reading.ProgramError.TheVariants.{Order, 
 use Rattle.flow_program.specs.declared.reading.ProgramError.TheVariants.{Nodes, States}
 use Rattle.program_tree.specs.Fits.{longest}
 use Rattle.program_tree.specs.Writable.{most_windows, most_nodes, most_states}
-use Rattle.program_listing.specs.Listing.{ListedLine, WindowLine, NodeLine, branch_line, assignment_line, ListingTree, name_bytes}
+use Rattle.program_listing.specs.Listing.{PhraseTree, bare, applied, PhraseTrees, no_phrases, more_phrases, count_of_phrases}
+use Rattle.program_listing.specs.Listing.{ListedLine, PlacedLine, WindowLine, NodeLine, branch_line, assignment_line, ListingTree}
+use Rattle.program_listing.specs.Listing.{name_bytes, left_step}
 use Rattle.flow_program.specs.Uses.{ProgramUse, first_window, first_node, first_state, uses_of, names_after}
 
 -- the first place, counted from this one, at which a test of the place and the member holds
@@ -59,6 +61,44 @@ abbrev pub places_rise : Option ℕ → Option ℕ → Bool
 places_rise (Some i) (Some j) = nat_lt i j
 places_rise _ _ = false
 
+module _ (text : List ℕ) where
+  -- whether two terms or tests are spelled alike
+  abbrev mutual
+    pub same_phrase : PhraseTree → PhraseTree → Bool
+    same_phrase (bare m) (bare n) = bytes_eq (name_bytes text m) (name_bytes text n)
+    same_phrase (applied m ps) (applied n qs) = bytes_eq (name_bytes text m) (name_bytes text n) && same_phrases ps qs
+    same_phrase (bare m) (applied n qs) = false
+    same_phrase (applied m ps) (bare n) = false
+
+    pub same_phrases : PhraseTrees → PhraseTrees → Bool
+    same_phrases no_phrases no_phrases = true
+    same_phrases (more_phrases p ps) (more_phrases q qs) = same_phrase p q && same_phrases ps qs
+    same_phrases no_phrases (more_phrases q qs) = false
+    same_phrases (more_phrases p ps) no_phrases = false
+
+  -- a test is `eq` with two arguments
+  abbrev pub is_equality_test : PhraseTree → Bool
+  is_equality_test (bare at) = false
+  is_equality_test (applied at ps) = bytes_eq (name_bytes text at) (codes "eq") && (count_of_phrases ps == 2)
+
+  -- an equality stands at a step up to the length
+  abbrev pub is_equality_within : ℕ → PlacedLine → Bool
+  is_equality_within length e = nat_le e.step length && is_equality_test e.test
+
+  -- an equality may stand behind another one: its step is larger, or the same one and it is spelled otherwise
+  abbrev pub may_follow : PlacedLine → PlacedLine → Bool
+  may_follow d e = nat_lt d.step e.step || ((d.step == e.step) && not (same_phrase d.test e.test))
+
+  -- the steps of equalities do not fall, and none stands twice at one step
+  abbrev pub are_in_order : List PlacedLine → Bool
+  are_in_order [] = true
+  are_in_order (e ∷ es) = list_all (may_follow e) es && are_in_order es
+
+  -- without a left test the right one is an equality
+  abbrev pub right_fits : Option PlacedLine → PlacedLine → Bool
+  right_fits None right = is_equality_test right.test
+  right_fits (Some left) right = true
+
 module _ (text : List ℕ) (cells : List (List ℕ)) where
   abbrev pub place_of_cell : ListedLine → Option ℕ
   place_of_cell u = place_in cells (name_bytes text u.signal)
@@ -76,10 +116,14 @@ module _ (text : List ℕ) (cells : List (List ℕ)) where
   abbrev pub is_cell_within : ℕ → ListedLine → Bool
   is_cell_within length u = nat_lt u.offset length && is_some (place_of_cell u)
 
+  -- A window is too long or its left test stands outside it, or its updates are not of cells, within it and in rising order, or
+  -- what has to be an equality is none, or the equalities are not within it and in order.
   abbrev pub breaks_window : ℕ → WindowLine → Bool
   breaks_window number w =
-      not ((nat_le w.length longest && nat_le w.left_at w.length)
-      && (list_all (is_cell_within w.length) w.updates && listed_rise w.updates))
+      not (((nat_le w.right.step longest && nat_le (left_step w.left) w.right.step)
+      && (list_all (is_cell_within w.right.step) w.updates && listed_rise w.updates))
+      && (right_fits text w.left w.right
+      && (list_all (is_equality_within text w.right.step) w.equalities && are_in_order text w.equalities)))
 
 -- the texts of names that are declared
 abbrev pub cell_texts : List ℕ → ListingTree → List (List ℕ)

@@ -1,12 +1,13 @@
 -- The uses of names in a program text, in the order of the text, and the names that it has after the given ones.
-use Rattle.std.specs.Prelude.{ℕ, suc, ◌+◌, Bool, true, false, List, [], ◌∷◌, ◌++◌, length, flat_map, if◌then◌else◌}
+use Rattle.std.specs.Prelude.{ℕ, suc, ◌+◌, Bool, true, false, List, [], ◌∷◌, ◌++◌, length, flat_map, if◌then◌else◌, Option, Some, None}
 use Rattle.tsl_terms.specs.declared.names.NameKind.{NameKind}
 use Rattle.tsl_terms.specs.declared.names.NameKind.TheVariants.{Signal, Function, Predicate}
 use Rattle.tsl_terms.specs.Name.{question, Name as NameEntry}
 use Rattle.tsl_terms.specs.Clashes.{with_uses}
 use Rattle.program_listing.specs.declared.listing.Name.{Name}
 use Rattle.program_listing.specs.Listing.{PhraseTree, bare, applied, PhraseTrees, no_phrases, more_phrases, count_of_phrases, name_bytes}
-use Rattle.program_listing.specs.Listing.{UpdateLine, ListedLine, WindowLine, NodeLine, branch_line, assignment_line, ListingTree, declared}
+use Rattle.program_listing.specs.Listing.{UpdateLine, ListedLine, PlacedLine, WindowLine, NodeLine, branch_line, assignment_line}
+use Rattle.program_listing.specs.Listing.{ListingTree, declared}
 
 -- A use of a name: the name that it would be, where it stands, the number of its line, whether it is a signal of a term
 -- or a test, and whether it is a test alone, so that the predicate `?` tests it.
@@ -61,8 +62,16 @@ module _ (text : List ℕ) (line : ℕ) where
   abbrev pub listed_uses : ListedLine → List ProgramUse
   listed_uses u = signal_use u.signal ∷ term_uses u.term
 
+  abbrev pub placed_uses : PlacedLine → List ProgramUse
+  placed_uses t = test_uses t.test
+
+  abbrev pub left_uses : Option PlacedLine → List ProgramUse
+  left_uses (Some left) = placed_uses left
+  left_uses None = []
+
   abbrev pub window_uses : WindowLine → List ProgramUse
-  window_uses w = test_uses w.left ++ test_uses w.right ++ flat_map listed_uses w.updates
+  window_uses w =
+      left_uses w.left ++ placed_uses w.right ++ flat_map listed_uses w.updates ++ flat_map placed_uses w.equalities
 
   abbrev pub node_uses : NodeLine → List ProgramUse
   node_uses (branch_line test then_node else_node) = test_uses test

@@ -3,6 +3,7 @@
 ghost use Rattle.std.specs.Prelude.{◌≡◌, ℕ, List};
 ghost use Rattle.std.specs.List.{AllByRecursion};
 ghost use Rattle.tsl_terms.specs.Name.{Name, AreDistinct};
+ghost use Rattle.tsl_terms.specs.Equality.{equality_in};
 ghost use Rattle.tsl_terms.specs.Congruence.{IsCongruent};
 ghost use Rattle.flow_program.specs.declared.reading.ProgramError.{ProgramError};
 ghost use Rattle.program_tree.specs.ProgramTree.{ProgramTree};
@@ -47,6 +48,6 @@ pub fn congruence_does_not_depend_on_numbers()
     ensures { (text : List ℕ) (names given more : List Name) (p q : ProgramTree)
         → AreDistinct names → AreDistinct given
         → ProgramText text names p → IsReading text given q more
-        → AllByRecursion (IsCongruent p.cells) p.windows
-        → AllByRecursion (IsCongruent q.cells) q.windows }
+        → AllByRecursion (IsCongruent p.cells (equality_in names)) p.windows
+        → AllByRecursion (IsCongruent q.cells (equality_in more)) q.windows }
 {}

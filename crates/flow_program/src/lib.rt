@@ -16,6 +16,7 @@
 //!   where it has one it spells no program over names that go on from the given ones.
 #![tactic(auto)]
 
+mod equalities;
 mod laws;
 mod naming;
 mod numbering;

@@ -1,33 +1,34 @@
 //! The lines of a program text with numbers in the place of names.
 
-ghost use Rattle.std.specs.Prelude.{◌≡◌, ℕ, Bool, List, Option, Some, map, IfOk, IsTrue};
+ghost use Rattle.std.specs.Prelude.{◌≡◌, ℕ, Bool, List, Option, Some, map, option_map, IfOk, IsTrue};
 ghost use Rattle.std.specs.List.{list_all};
 ghost use Rattle.std.specs.Option.{is_some};
 ghost use Rattle.sequence.specs.Options.{all_there};
 ghost use Rattle.tsl_terms.specs.Name.{number_of, question, Name as NameEntry};
 ghost use Rattle.tsl_terms.specs.TermTree.{TermTree, term_tree, term_trees, probe_tree};
-ghost use Rattle.tsl_terms.specs.WindowTree.{ListedTree, WindowTree, listed_tree, window_tree};
+ghost use Rattle.tsl_terms.specs.WindowTree.{ListedTree, EquatedTree, WindowTree, listed_tree, equated_tree, window_tree};
 ghost use Rattle.program_tree.specs.NodeTree.{NodeTree, node_tree};
-ghost use Rattle.program_listing.specs.ListingTree.{UpdateLine, ListedLine, WindowLine, NodeLine};
+ghost use Rattle.program_listing.specs.ListingTree.{UpdateLine, ListedLine, PlacedLine, WindowLine, NodeLine};
 ghost use Rattle.program_tree.specs.ProgramView.{program_tree};
 ghost use Rattle.program_tree.specs.ProgramTree.{ProgramTree};
 ghost use Rattle.flow_program.specs.ProgramText.{ProgramText};
 ghost use Rattle.program_listing.specs.internal.NamesStand.{name_stands, phrase_stands, phrases_stand, update_line_stands, listed_line_stands};
 ghost use Rattle.program_listing.specs.internal.NamesStand.{ListingStands};
-ghost use Rattle.program_listing.specs.Listing.{phrase_tree, phrase_trees, update_line, listed_line};
-ghost use Rattle.program_listing.specs.internal.NamesStand.{window_line_stands, node_line_stands};
+ghost use Rattle.program_listing.specs.Listing.{phrase_tree, phrase_trees, update_line, listed_line, placed_line};
+ghost use Rattle.program_listing.specs.internal.NamesStand.{placed_line_stands, left_line_stands, window_line_stands, node_line_stands};
 ghost use Rattle.program_listing.specs.Listing.{window_line, node_line, listing_tree};
 ghost use Rattle.flow_program.specs.internal.Numbering.{small, numbered, numbered_term, numbered_terms, numbered_test, numbered_listed};
-ghost use Rattle.flow_program.specs.internal.Numbering.{numbered_window, numbered_node, Numbered};
+ghost use Rattle.flow_program.specs.internal.Numbering.{numbered_equated, numbered_left, numbered_window, numbered_node, Numbered};
 
 use crate::uses::name_bytes;
 use program_listing::{
-    Listing, Name, Phrase, PhraseList, SpelledListed, SpelledNode, SpelledUpdate, SpelledWindow,
+    Listing, Name, Phrase, PhraseList, SpelledListed, SpelledNode, SpelledPlaced, SpelledUpdate,
+    SpelledWindow,
 };
 use program_tree::{Node, Program};
 use sequence::{NoMemory, Sequence};
 use std::alloc::Global;
-use tsl_terms::{Listed, Names, Probe, Term, TermList, Window};
+use tsl_terms::{Equated, Listed, Names, Probe, Term, TermList, Window};
 
 /// A number of 32 bits.
 fn small(number: u64) -> u32
@@ -249,6 +250,47 @@ impl GetsNumbers for SpelledListed {
     }
 }
 
+impl GetsNumbers for SpelledPlaced {
+    type Numbered = Equated;
+
+    ghost Tree = { PlacedLine };
+
+    ghost tree = { placed_line };
+
+    ghost Made = { EquatedTree };
+
+    ghost made = { equated_tree };
+
+    ghost stands = { placed_line_stands };
+
+    ghost numbered = { numbered_equated };
+
+    fn with_numbers(&self, alloc: Global, names: &Names, text: &[u8]) -> Result<Equated, NoMemory> {
+        let probe = numbered_test(alloc, names, text, &self.test)?;
+        let offset = small(self.step);
+        Ok(Equated { probe, offset })
+    }
+}
+
+/// A left test with numbers, where there is one. An `Err` says that memory ran out.
+fn numbered_left(
+    alloc: Global,
+    names: &Names,
+    text: &[u8],
+    left: &Option<SpelledPlaced>,
+) -> Result<Option<Probe>, NoMemory>
+    requires stands { IsTrue (left_line_stands text.now (option_map placed_line left.now)) }
+    requires known { IsTrue
+        (is_some (numbered_left names.now text.now (option_map placed_line left.now))) }
+    ensures { IfOk result (λ probe. numbered_left names.now text.now (option_map placed_line left.now)
+        ≡ Some (option_map probe_tree probe)) }
+{
+    match left {
+        Some(test) => Ok(Some(numbered_test(alloc, names, text, &test.test)?)),
+        None => Ok(None),
+    }
+}
+
 impl GetsNumbers for SpelledWindow {
     type Numbered = Window;
 
@@ -265,17 +307,19 @@ impl GetsNumbers for SpelledWindow {
     ghost numbered = { numbered_window };
 
     fn with_numbers(&self, alloc: Global, names: &Names, text: &[u8]) -> Result<Window, NoMemory> {
-        let left = numbered_test(alloc, names, text, &self.left)?;
-        let right = numbered_test(alloc, names, text, &self.right)?;
-        let left_at = small(self.left_at);
-        let length = small(self.length);
+        let left = numbered_left(alloc, names, text, &self.left)?;
+        let right = numbered_test(alloc, names, text, &self.right.test)?;
+        let left_at = small(self.left_step());
+        let length = small(self.right.step);
         let updates = numbered_all(alloc, names, text, &self.updates)?;
+        let equalities = numbered_all(alloc, names, text, &self.equalities)?;
         Ok(Window {
             left,
             left_at,
             right,
             length,
             updates,
+            equalities,
         })
     }
 }

@@ -39,8 +39,10 @@ pub enum ProgramError {
     /// The updates of this line are not those of the cells and then of the outputs, in order.
     #[error("line {0} does not update the cells and then the outputs")]
     Updates(u32),
-    /// The window of this line is longer than 3, or its left test or an update stands outside it,
-    /// or its updates are not of cells in rising order.
+    /// The window of this line is longer than 3, or its left test, an update or an equality stands
+    /// outside it, or its updates are not of cells in rising order, or an equality, or the test
+    /// after `true is`, is not `eq` with two arguments, or the steps of the equalities fall, or one
+    /// of them stands twice at one step.
     #[error("line {0} is no window")]
     Window(u32),
     /// A term or a test of this line reads the name at this place, which is no input and no cell.

@@ -16,6 +16,7 @@ ghost use Rattle.flow_program.specs.Rules.{place_of_cell, stands_before, listed_
 ghost use Rattle.flow_program.specs.Rules.{is_unlike, line_fault, use_fault, limit_fault, cell_texts, controlled_of};
 ghost use Rattle.flow_program.specs.internal.UseView.{use_view};
 
+use crate::equalities::{are_equalities, right_fits};
 use crate::reading::ProgramError;
 use crate::uses::{SpelledUse, name_bytes};
 use program_listing::{Listing, Name, SpelledListed, SpelledNode, SpelledUpdate, SpelledWindow};
@@ -245,17 +246,21 @@ fn are_listed(text: &[u8], cells: &Names, length: u64, updates: &[SpelledListed]
     true
 }
 
-/// Whether a window is too long, or its parts stand outside it or do not rise.
+/// Whether a window is too long, or its parts stand outside it or are not in order, or what has to
+/// be an equality is none.
 fn breaks_window(text: &[u8], cells: &Names, window: &SpelledWindow) -> bool
     requires { IsTrue (window_line_stands text.now (window_line window.now)) }
     ensures { (number : ℕ)
         → result ≡ breaks_window text.now (texts cells.now) number (window_line window.now) }
 {
-    let is_short = window.length <= u64::from(LONGEST_WINDOW) && window.left_at <= window.length;
-    !(is_short && are_listed(text, cells, window.length, &window.updates))
+    let length = window.right.step;
+    let is_short = length <= u64::from(LONGEST_WINDOW) && window.left_step() <= length;
+    let is_rising = is_short && are_listed(text, cells, length, &window.updates);
+    !(is_rising && (right_fits(text, window) && are_equalities(text, length, &window.equalities)))
 }
 
-/// The first line of a window that is too long, or whose parts stand outside it or do not rise.
+/// The first line of a window that is too long, or whose parts stand outside it or are not in order,
+/// or of which no equality is what has to be one.
 fn window_line(text: &[u8], cells: &Names, line: u32, windows: &[SpelledWindow]) -> Option<u32>
     requires few { line + length windows.now < 2 ^ 32 }
     requires windows { IsTrue

@@ -1,21 +1,25 @@
 //! The uses of names in a program text, in its order.
 
-ghost use Rattle.std.specs.Prelude.{◌≡◌, ℕ, ◌+◌, ◌<◌, ◌^◌, ◌++◌, List, Bool, length, map, flat_map, IfOk, OnOk, IsTrue};
+ghost use Rattle.std.specs.Prelude.{◌≡◌, ℕ, ◌+◌, ◌<◌, ◌^◌, ◌++◌, List, Bool, length, map, flat_map, option_map, IfOk, OnOk, IsTrue};
 ghost use Rattle.std.specs.List.{list_all};
 ghost use Rattle.program_listing.specs.Listing.{name_bytes};
 ghost use Rattle.program_listing.specs.internal.NamesStand.{name_stands, phrase_stands, phrases_stand, update_line_stands};
 ghost use Rattle.program_listing.specs.Listing.{count_of_phrases};
-ghost use Rattle.program_listing.specs.internal.NamesStand.{listed_line_stands, window_line_stands, node_line_stands};
-ghost use Rattle.program_listing.specs.Listing.{phrase_tree, phrase_trees, update_line, listed_line, window_line, node_line, listing_tree};
+ghost use Rattle.program_listing.specs.internal.NamesStand.{listed_line_stands, placed_line_stands, left_line_stands, window_line_stands};
+ghost use Rattle.program_listing.specs.internal.NamesStand.{node_line_stands};
+ghost use Rattle.program_listing.specs.Listing.{phrase_tree, phrase_trees, update_line, listed_line, placed_line, window_line, node_line};
+ghost use Rattle.program_listing.specs.Listing.{listing_tree};
 ghost use Rattle.program_listing.specs.internal.NamesStand.{ListingStands};
-ghost use Rattle.program_listing.specs.ListingTree.{UpdateLine, ListedLine, WindowLine, NodeLine};
+ghost use Rattle.program_listing.specs.ListingTree.{UpdateLine, ListedLine, PlacedLine, WindowLine, NodeLine};
 ghost use Rattle.flow_program.specs.Uses.{ProgramUse, signal_use, read_use, tested_use, applied_use, term_uses, terms_uses, test_uses};
-ghost use Rattle.flow_program.specs.Uses.{update_uses, listed_uses, window_uses, node_uses, line_uses, declared_uses, uses_of, first_state};
+ghost use Rattle.flow_program.specs.Uses.{update_uses, listed_uses, placed_uses, left_uses, window_uses, node_uses, line_uses};
+ghost use Rattle.flow_program.specs.Uses.{declared_uses, uses_of, first_state};
 ghost use Rattle.flow_program.specs.internal.UseView.{use_view};
 
 use crate::rules::{first_node, first_window};
 use program_listing::{
-    Listing, Name, Phrase, PhraseList, SpelledListed, SpelledNode, SpelledUpdate, SpelledWindow,
+    Listing, Name, Phrase, PhraseList, SpelledListed, SpelledNode, SpelledPlaced, SpelledUpdate,
+    SpelledWindow,
 };
 use sequence::NoMemory;
 use std::alloc::Global;
@@ -280,6 +284,43 @@ impl UsesNames for SpelledListed {
     }
 }
 
+impl UsesNames for SpelledPlaced {
+    ghost Tree = { PlacedLine };
+
+    ghost tree = { placed_line };
+
+    ghost stands = { placed_line_stands };
+
+    ghost uses = { placed_uses };
+
+    fn add_uses<'a>(
+        &self,
+        list: &mut Vec<SpelledUse<'a>>,
+        text: &'a [u8],
+        line: u32,
+    ) -> Result<(), NoMemory> {
+        add_test(list, text, line, &self.test)
+    }
+}
+
+/// Adds the uses of a left test, where there is one.
+fn add_left<'a>(
+    list: &mut Vec<SpelledUse<'a>>,
+    text: &'a [u8],
+    line: u32,
+    left: &Option<SpelledPlaced>,
+) -> Result<(), NoMemory>
+    requires stands { IsTrue (left_line_stands text.now (option_map placed_line left.now)) }
+    requires few { length (left_uses text.now line (option_map placed_line left.now)) < 2 ^ 32 }
+    ensures { OnOk result (map use_view list.new.items
+        ≡ map use_view list.old.items ++ left_uses text.now line (option_map placed_line left.now)) }
+{
+    match left {
+        Some(test) => add_test(list, text, line, &test.test),
+        None => Ok(()),
+    }
+}
+
 impl UsesNames for SpelledWindow {
     ghost Tree = { WindowLine };
 
@@ -295,9 +336,10 @@ impl UsesNames for SpelledWindow {
         text: &'a [u8],
         line: u32,
     ) -> Result<(), NoMemory> {
-        add_test(list, text, line, &self.left)?;
-        add_test(list, text, line, &self.right)?;
-        add_all(list, text, line, &self.updates)
+        add_left(list, text, line, &self.left)?;
+        add_test(list, text, line, &self.right.test)?;
+        add_all(list, text, line, &self.updates)?;
+        add_all(list, text, line, &self.equalities)
     }
 }
 

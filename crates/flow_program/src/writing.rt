@@ -22,8 +22,9 @@ use tsl_text::put_number;
 
 /// The one text that spells the program over the names. An `Err` says that memory ran out.
 ///
-/// The names hold each number in its kind and with its arity, and can be written; terms nest in
-/// brackets at most 200 deep; there are at most 64 windows, 65,536 nodes and 64 states.
+/// The names hold each number in its kind and with its arity, and can be written; what has to be an
+/// equality in a window is one of the names; terms nest in brackets at most 200 deep; there are at
+/// most 64 windows, 65,536 nodes and 64 states.
 pub fn write_program(alloc: Global, program: &Program, names: &Names) -> Result<Vec<u8>, NoMemory>
     requires { IsWritable names.now (program_tree program.now) }
     ensures { IfOk result (λ text. ProgramText text.items names.now (program_tree program.now)) }

@@ -16,7 +16,7 @@ use Rattle.tsl_text.proofs.LineLaws.{split_feed}
 use Rattle.tsl_text.proofs.NumberLaws.{decimal_digits}
 use Rattle.program_listing.specs.declared.listing.Name.{Name}
 use Rattle.program_listing.specs.ListingTree.{PhraseTree, bare, applied, PhraseTrees, no_phrases, more_phrases, UpdateLine, ListedLine}
-use Rattle.program_listing.specs.ListingTree.{WindowLine, NodeLine, branch_line, assignment_line}
+use Rattle.program_listing.specs.ListingTree.{PlacedLine, WindowLine, NodeLine, branch_line, assignment_line}
 use Rattle.program_listing.specs.LineText.{
   Piece,
   word,
@@ -39,6 +39,8 @@ use Rattle.program_listing.specs.LineText.{
   set_pieces,
   listed_pieces,
   placed_pieces,
+  equated_pieces,
+  left_pieces,
   window_pieces,
   node_pieces,
   line_pieces,
@@ -47,6 +49,7 @@ use Rattle.program_listing.specs.LineText.{
   is_shallow,
   listed_is_within,
   placed_is_within,
+  left_is_within,
   window_is_within,
   node_is_within,
   line_is_within,
@@ -121,21 +124,27 @@ listed_lined u h =
     lined_append (update_pieces u.signal u.term) (word (codes " at ") ∷ word (decimal u.offset) ∷ []) (update_lined u.signal u.term)
     (number_lined u.offset [] (and_parts (is_shallow u.term) (is_short u.offset) h).1 refl)
 
-placed_lined : (v : PhraseTree) (n : ℕ) → placed_is_within v n ≡ true → are_lined (placed_pieces v n) ≡ true
-placed_lined v n h =
-    lined_append (phrase_pieces v) (word (codes " at ") ∷ word (decimal n) ∷ []) (phrase_lined v)
-    (number_lined n [] (and_parts (is_shallow v) (is_short n) h).1 refl)
+placed_lined : (t : PlacedLine) → placed_is_within t ≡ true → are_lined (placed_pieces t) ≡ true
+placed_lined t h =
+    lined_append (phrase_pieces t.test) (word (codes " at ") ∷ word (decimal t.step) ∷ []) (phrase_lined t.test)
+    (number_lined t.step [] (and_parts (is_shallow t.test) (is_short t.step) h).1 refl)
+
+left_lined : (left : Option PlacedLine) → left_is_within left ≡ true → are_lined (left_pieces left) ≡ true
+left_lined None h = refl
+left_lined (Some t) h = lined_append (placed_pieces t) (word (codes " is ") ∷ []) (placed_lined t h) refl
 
 window_lined : (w : WindowLine) → window_is_within w ≡ true → are_lined (window_pieces w) ≡ true
 window_lined w h =
-    let parts = and_parts (placed_is_within w.left w.left_at)
-    (placed_is_within w.right w.length && list_all listed_is_within w.updates) h in
-    let rest = and_parts (placed_is_within w.right w.length) (list_all listed_is_within w.updates) parts.1 in
-    lined_append (placed_pieces w.left w.left_at) (word (codes " is ") ∷ (placed_pieces w.right w.length
-    ++ flat_map listed_pieces w.updates))
-    (placed_lined w.left w.left_at parts.0)
-    (lined_append (placed_pieces w.right w.length) (flat_map listed_pieces w.updates) (placed_lined w.right w.length rest.0)
-    (lined_many listed_pieces listed_is_within listed_lined w.updates rest.1))
+    let listed = list_all listed_is_within w.updates && list_all placed_is_within w.equalities in
+    let parts = and_parts (left_is_within w.left) (placed_is_within w.right && listed) h in
+    let rest = and_parts (placed_is_within w.right) listed parts.1 in
+    let both = and_parts (list_all listed_is_within w.updates) (list_all placed_is_within w.equalities) rest.1 in
+    let tail = flat_map listed_pieces w.updates ++ flat_map equated_pieces w.equalities in
+    lined_append (left_pieces w.left) (placed_pieces w.right ++ tail) (left_lined w.left parts.0)
+    (lined_append (placed_pieces w.right) tail (placed_lined w.right rest.0)
+    (lined_append (flat_map listed_pieces w.updates) (flat_map equated_pieces w.equalities)
+    (lined_many listed_pieces listed_is_within listed_lined w.updates both.0)
+    (lined_many equated_pieces placed_is_within placed_lined w.equalities both.1)))
 
 node_lined : (n : NodeLine) → node_is_within n ≡ true → are_lined (node_pieces n) ≡ true
 node_lined (branch_line v a b) h =

@@ -1,31 +1,35 @@
 -- The lines of program texts are read exactly.
 use Rattle.std.proofs.Common.{◌≡◌, ℕ, suc, ◌+◌, ◌<◌, ◌≤◌, ◌^◌, Bool, true, false, not, ◌&&◌, List, [], ◌∷◌, ◌++◌, length, flat_map, codes}
-use Rattle.std.proofs.Common.{decimal, Option, Some, None, option_map, IsTrue, refl, sym, ap, subst, ◌∙◌, arith}
+use Rattle.std.proofs.Common.{decimal, cond, Option, Some, None, option_map, IsTrue, refl, sym, ap, subst, ◌∙◌, arith}
 use Rattle.std.specs.Char.{is_ascii_digit}
 use Rattle.std.specs.List.{list_all}
-use Rattle.std.proofs.lemmas.Bool.{and_parts}
+use Rattle.std.specs.Option.{is_some}
+use Rattle.std.proofs.lemmas.Bool.{and_parts, ne_eqb, false≢true}
 use Rattle.std.proofs.lemmas.Option.{none-some, same_Some}
 use Rattle.tsl_text.specs.Lines.{has_bytes}
-use Rattle.tsl_text.specs.Names.{is_name_byte}
+use Rattle.tsl_text.specs.Names.{is_name_start, is_name_byte}
 use Rattle.line_formats.specs.Format.{strip}
-use Rattle.program_listing.specs.ListingTree.{PhraseTree, UpdateLine, ListedLine, WindowLine, NodeLine, branch_line, assignment_line}
+use Rattle.program_listing.specs.ListingTree.{PhraseTree, UpdateLine, ListedLine, PlacedLine, WindowLine, NodeLine, branch_line}
+use Rattle.program_listing.specs.ListingTree.{assignment_line}
 use Rattle.program_listing.specs.LineText.{Piece, word, Place, Stand, phrase_pieces, LineTree, head_line, input, cell, output, window, node}
-use Rattle.program_listing.specs.LineText.{state, end_line, update_pieces, set_pieces, listed_pieces, placed_pieces, window_pieces}
+use Rattle.program_listing.specs.LineText.{state, end_line, update_pieces, set_pieces, listed_pieces, placed_pieces, equated_pieces}
+use Rattle.program_listing.specs.LineText.{left_pieces, window_pieces}
 use Rattle.program_listing.specs.LineText.{node_pieces, line_pieces, is_short, is_shallow, listed_is_within, placed_is_within}
-use Rattle.program_listing.specs.LineText.{window_is_within, node_is_within, line_is_within}
-use Rattle.program_listing.specs.internal.LineReading.{LineReader, past, from, pair, mapped, prefixed, repeat, value_at_end, at_end}
+use Rattle.program_listing.specs.LineText.{left_is_within, window_is_within, node_is_within, line_is_within}
+use Rattle.program_listing.specs.internal.LineReading.{LineReader, past, from, pair, mapped, prefixed, closed, repeat, value_at_end, at_end}
 use Rattle.program_listing.specs.internal.LineReading.{begins, first_number, phrase, update, is_square, update_follows, as_update}
 use Rattle.program_listing.specs.internal.LineReading.{set_update}
-use Rattle.program_listing.specs.internal.LineReading.{as_listed, listed, placed, as_window, window_rest, as_branch, branch_rest}
+use Rattle.program_listing.specs.internal.LineReading.{as_listed, listed, listed_follows, as_placed, placed, equated, left_side, as_window}
+use Rattle.program_listing.specs.internal.LineReading.{window_rest, as_branch, branch_rest}
 use Rattle.program_listing.specs.internal.LineReading.{as_assignment, assignment_rest, either, node_rest, numbered_node, numbered_state}
 use Rattle.program_listing.specs.internal.LineReading.{read_line}
-use Rattle.program_listing.proofs.Strips.{after_found, after_sound}
+use Rattle.program_listing.proofs.Strips.{after_found, after_none, after_sound}
 use Rattle.program_listing.proofs.Standing.{stand_split, stand_shorter}
 use Rattle.program_listing.proofs.Repeats.{Shrinks}
 use Rattle.program_listing.proofs.Exactly.{Reads, Any, prefixed_reads, closed_reads, mapped_reads, pair_reads, repeat_reads}
 use Rattle.program_listing.proofs.Numbers.{FirstDigit, first_digit}
 use Rattle.program_listing.proofs.WordsRead.{NoLetter, NoDigit, number_pieces, short_below, name_reads, number_reads}
-use Rattle.program_listing.proofs.PhrasesRead.{EndsPhrase, ends_phrase, phrase_reads}
+use Rattle.program_listing.proofs.PhrasesRead.{EndsPhrase, ends_phrase, phrase_letter, phrase_reads}
 
 -- ---- what follows a test
 
@@ -93,25 +97,119 @@ listed_shrinks p u q e =
 abbrev pub AtEnd : List ℕ → Type 0
 AtEnd bytes = bytes ≡ []
 
-placed_reads : Reads placed (λ t. placed_pieces t.0 t.1) (λ t. placed_is_within t.0 t.1) NoDigit
-placed_reads = pair_reads (λ n p q s good ends. at_ends n p q s good) phrase_reads (prefixed_reads (codes " at ") number_reads)
+placed_reads : Reads placed placed_pieces placed_is_within NoDigit
+placed_reads =
+    mapped_reads as_placed (λ (t : PlacedLine). (t.test, t.step)) placed_pieces placed_is_within (λ t. refl) (λ t. refl) (λ t. refl)
+    (pair_reads (λ n p q s good ends. at_ends n p q s good) phrase_reads (prefixed_reads (codes " at ") number_reads))
+
+equated_reads : Reads equated equated_pieces placed_is_within NoDigit
+equated_reads = prefixed_reads (codes " when ") placed_reads
+
+pub equated_shrinks : Shrinks equated
+equated_shrinks p e q read =
+    let s = (equated_reads.sound p e q read).0 in
+    let rest : length q.bytes ≤ length s.0 = stand_shorter (placed_pieces e) (record { at = p.at + 6; bytes = s.0 }) q s.2 in
+    let whole : length p.bytes ≡ length (codes " when " ++ s.0) = ap length s.1 in
+    omega arith
+
+either_none : {V : Type 0} (o : Option Place) (reader : Place → Option V) (other : Option V) → o ≡ None → either o reader other ≡ other
+either_none o reader other e = ap (λ (m : Option Place). either m reader other) e
+
+either_some : {V : Type 0} (o : Option Place) (reader : Place → Option V) (other : Option V) (m : Place) → o ≡ Some m →
+    either o reader other ≡ reader m
+either_some o reader other m e = ap (λ (x : Option Place). either x reader other) e
+
+-- `true` is no test
+true_is_no_test : (at : ℕ) (rest : List ℕ) → closed (codes " is ") placed (record { at = at; bytes = codes "true is " ++ rest }) ≡ None
+true_is_no_test at rest = refl
+
+left_reads : Reads left_side left_pieces left_is_within Any
+left_reads = record { sound = sound; complete = complete } where
+  before_right : Reads (closed (codes " is ") placed) (λ t. placed_pieces t ++ word (codes " is ") ∷ []) placed_is_within Any
+  before_right = closed_reads (codes " is ") (λ rest. refl) placed_reads
+
+  sound : (p : Place) (v : Option PlacedLine) (q : Place) → left_side p ≡ Some (v, q) → Stand (left_pieces v) p q × IsTrue (left_is_within v)
+  sound p v q e = by_true (past (codes "true is ") p) refl e where
+    by_test : (o : Option (PlacedLine × Place)) → closed (codes " is ") placed p ≡ o → mapped Some o ≡ Some (v, q) →
+        Stand (left_pieces v) p q × IsTrue (left_is_within v)
+    by_test None f g = absurd (none-some (v, q) g)
+    by_test (Some (t, m)) f g =
+        let P : Option PlacedLine × Place → Type 0 = λ z. Stand (left_pieces z.0) p z.1 × IsTrue (left_is_within z.0) in
+        subst P (same_Some (Some t, m) (v, q) g) (before_right.sound p t m f)
+
+    by_true : (o : Option Place) → past (codes "true is ") p ≡ o →
+        either o (λ m. Some (None, m)) (mapped Some (closed (codes " is ") placed p)) ≡ Some (v, q) →
+        Stand (left_pieces v) p q × IsTrue (left_is_within v)
+    by_true None f g = by_test (closed (codes " is ") placed p) refl g
+    by_true (Some m) f g =
+        let P : Option PlacedLine × Place → Type 0 = λ z. Stand (left_pieces z.0) p z.1 × IsTrue (left_is_within z.0) in
+        let found = after_sound (codes "true is ") p m f in
+        subst P (same_Some (None, m) (v, q) g) ((found.0, found.1, sym found.2), refl)
+
+  complete : (p : Place) (v : Option PlacedLine) (q : Place) → Stand (left_pieces v) p q → IsTrue (left_is_within v) → Any q.bytes →
+      left_side p ≡ Some (v, q)
+  complete p None q s good ends =
+      either_some (past (codes "true is ") p) (λ m. Some (None, m)) (mapped Some (closed (codes " is ") placed p))
+      (record { at = p.at + 8; bytes = s.0 }) (after_found (codes "true is ") p s.0 s.1)
+      ∙ ap (λ (x : Place). Some (None, x)) s.2
+  complete p (Some t) q s good ends =
+      either_none (past (codes "true is ") p) (λ m. Some (None, m)) (mapped Some (closed (codes " is ") placed p))
+      (after_none (codes "true is ") p no_true)
+      ∙ ap (mapped Some) read
+    where
+      read : closed (codes " is ") placed p ≡ Some (t, q)
+      read = before_right.complete p t q s good tt
+
+      no_true : (rest : List ℕ) → p.bytes ≡ codes "true is " ++ rest → ⊥
+      no_true rest e =
+          none-some (t, q) (sym (ap (λ (bytes : List ℕ). closed (codes " is ") placed (record { at = p.at; bytes = bytes })) e
+          ∙ true_is_no_test p.at rest) ∙ read)
 
 no_digit_at_end : (bytes : List ℕ) → AtEnd bytes → NoDigit bytes
 no_digit_at_end bytes e = ap (begins is_ascii_digit) e
 
-listed_follow : (us : List ListedLine) (p q : Place) → Stand (flat_map listed_pieces us) p q → AtEnd q.bytes → NoDigit p.bytes
-listed_follow [] p q s ends = ap (λ (x : Place). begins is_ascii_digit x.bytes) s ∙ no_digit_at_end q.bytes ends
-listed_follow (u ∷ us) p q s ends = ap (begins is_ascii_digit) s.1
+-- what follows the updates that a window lists: no other one
+abbrev AfterUpdates : List ℕ → Type 0
+AfterUpdates bytes = (listed_follows bytes ≡ false) × NoDigit bytes
+
+letter_no_square : (c : ℕ) (cs : List ℕ) → IsTrue (is_name_start c) → listed_follows (codes " when " ++ c ∷ cs) ≡ false
+letter_no_square c cs letter =
+    ap (λ (b : Bool). is_some (cond b (Some cs) None)) (ne_eqb 91 c (λ e. false≢true (ap is_name_start e ∙ letter)))
+
+equated_follow : (es : List PlacedLine) (p q : Place) → Stand (flat_map equated_pieces es) p q → AtEnd q.bytes → AfterUpdates p.bytes
+equated_follow [] p q s ends =
+    let nothing : p.bytes ≡ [] = ap (λ (x : Place). x.bytes) s ∙ ends in
+    (ap listed_follows nothing, no_digit_at_end p.bytes nothing)
+equated_follow (e ∷ es) p q s ends =
+    let m : Place = record { at = p.at + 6; bytes = s.0 } in
+    let first = stand_split (placed_pieces e) (flat_map equated_pieces es) m q s.2 in
+    let test = stand_split (phrase_pieces e.test) (word (codes " at ") ∷ word (decimal e.step) ∷ []) m first.0 first.1 in
+    let letter = phrase_letter e.test m test.0 test.1 in (
+      ap listed_follows (s.1 ∙ ap (λ (zs : List ℕ). codes " when " ++ zs) letter.2) ∙ letter_no_square letter.0 letter.1 letter.3,
+      ap (begins is_ascii_digit) s.1,
+    )
+
+updates_follow : (us : List ListedLine) (es : List PlacedLine) (p q : Place) →
+    Stand (flat_map listed_pieces us ++ flat_map equated_pieces es) p q → AtEnd q.bytes → NoDigit p.bytes
+updates_follow [] es p q s ends = (equated_follow es p q s ends).1
+updates_follow (u ∷ us) es p q s ends = ap (begins is_ascii_digit) s.1
 
 window_reads : Reads window_rest window_pieces window_is_within AtEnd
 window_reads =
-    mapped_reads as_window (λ (w : WindowLine). ((w.left, w.left_at), ((w.right, w.length), w.updates))) window_pieces window_is_within
+    mapped_reads as_window (λ (w : WindowLine). (w.left, (w.right, (w.updates, w.equalities)))) window_pieces window_is_within
     (λ w. refl) (λ w. refl) (λ w. refl)
-    (pair_reads (λ v p q s good ends. ap (begins is_ascii_digit) s.1) placed_reads
-    (pair_reads (λ us p q s good ends. listed_follow us p q s ends) (prefixed_reads (codes " is ") placed_reads)
-    (repeat_reads has_bytes listed_reads listed_shrinks
-    (λ u p q s good ends. (ap has_bytes s.1, ap (begins is_ascii_digit) s.1))
-    (λ bytes ends. (ap has_bytes ends, no_digit_at_end bytes ends)))))
+    (pair_reads (λ v p q s good ends. tt) left_reads
+    (pair_reads (λ v p q s good ends. updates_follow v.0 v.1 p q s ends) placed_reads
+    (pair_reads {Between = AfterUpdates} (λ es p q s good ends. equated_follow es p q s ends)
+    (repeat_reads listed_follows listed_reads listed_shrinks
+    (λ u p q s good ends. (
+      ap listed_follows s.1 ∙ ap (λ (zs : List ℕ). listed_follows (codes " when " ++ zs)) s.2.1,
+      ap (begins is_ascii_digit) s.1,
+    ))
+    (λ bytes ends. ends))
+    (repeat_reads has_bytes equated_reads equated_shrinks
+    (λ e p q s good ends. (ap has_bytes s.1, ap (begins is_ascii_digit) s.1))
+    (λ bytes ends. (ap has_bytes ends, no_digit_at_end bytes ends))))))
 
 -- ---- nodes
 
@@ -147,13 +245,6 @@ assignment_reads =
     (λ u p q s good ends. (ap update_follows s.1 ∙ ap (begins is_square) s.2.1, tt))
     (λ bytes ends. (ends, tt)))
     (prefixed_reads (codes " go ") number_reads)
-
-either_none : {V : Type 0} (o : Option Place) (reader : Place → Option V) (other : Option V) → o ≡ None → either o reader other ≡ other
-either_none o reader other e = ap (λ (m : Option Place). either m reader other) e
-
-either_some : {V : Type 0} (o : Option Place) (reader : Place → Option V) (other : Option V) (m : Place) → o ≡ Some m →
-    either o reader other ≡ reader m
-either_some o reader other m e = ap (λ (x : Option Place). either x reader other) e
 
 -- another word stands there
 after_other : (w : List ℕ) (p : Place) (bytes : List ℕ) → p.bytes ≡ bytes → strip w bytes ≡ None → past w p ≡ None

@@ -1,6 +1,6 @@
 -- What a text says whose lines stand in it.
 use Rattle.std.proofs.Common.{◌≡◌, ℕ, suc, ◌+◌, ◌-◌, ◌<◌, Bool, true, ◌&&◌, leb, List, [], ◌∷◌, ◌++◌, length, length-append, take, drop}
-use Rattle.std.proofs.Common.{map, flat_map, codes, decimal, IsTrue, refl, sym, ap, ◌∙◌, append_assoc, arith}
+use Rattle.std.proofs.Common.{map, flat_map, codes, decimal, Option, Some, None, IsTrue, refl, sym, ap, ◌∙◌, append_assoc, arith}
 use Rattle.std.specs.List.{list_all}
 use Rattle.std.proofs.Math.Seq.{take-append_seam, drop-append_seam}
 use Rattle.std.proofs.lemmas.Bool.{and_parts, and_from, le-leb}
@@ -10,17 +10,20 @@ use Rattle.tsl_text.specs.Names.{is_usable}
 use Rattle.tsl_terms.specs.Name.{AreDistinct}
 use Rattle.program_listing.specs.declared.listing.Name.{Name}
 use Rattle.program_listing.specs.ListingTree.{PhraseTree, bare, applied, PhraseTrees, no_phrases, more_phrases, UpdateLine, ListedLine}
-use Rattle.program_listing.specs.ListingTree.{WindowLine, NodeLine, branch_line, assignment_line, ListingTree}
+use Rattle.program_listing.specs.ListingTree.{PlacedLine, WindowLine, NodeLine, branch_line, assignment_line, ListingTree}
 use Rattle.program_listing.specs.LineText.{Piece, word, named, Place, Stand, argument_pieces, phrase_pieces, phrases_pieces, LineTree}
 use Rattle.program_listing.specs.LineText.{input}
 use Rattle.program_listing.specs.LineText.{cell, output, window, node, end_line, update_pieces, set_pieces, listed_pieces}
-use Rattle.program_listing.specs.LineText.{placed_pieces, window_pieces, node_pieces, line_pieces, ended_pieces, is_shallow, is_short}
-use Rattle.program_listing.specs.LineText.{listed_is_within, placed_is_within, window_is_within, node_is_within, line_is_within, node_lines}
+use Rattle.program_listing.specs.LineText.{placed_pieces, equated_pieces, left_pieces, window_pieces, node_pieces, line_pieces}
+use Rattle.program_listing.specs.LineText.{ended_pieces, is_shallow, is_short}
+use Rattle.program_listing.specs.LineText.{listed_is_within, placed_is_within, left_is_within, window_is_within, node_is_within}
+use Rattle.program_listing.specs.LineText.{line_is_within, node_lines}
 use Rattle.program_listing.specs.LineText.{state_lines, listing_lines}
 use Rattle.program_listing.specs.Listing.{name_bytes}
 use Rattle.program_listing.specs.internal.NamesStand.{name_stands, phrase_stands, phrases_stand, is_phrase}
 use Rattle.program_listing.specs.Listing.{declared_entry}
-use Rattle.program_listing.specs.internal.NamesStand.{update_line_stands, listed_line_stands, window_line_stands, node_line_stands}
+use Rattle.program_listing.specs.internal.NamesStand.{update_line_stands, listed_line_stands, placed_line_stands, left_line_stands}
+use Rattle.program_listing.specs.internal.NamesStand.{window_line_stands, node_line_stands}
 use Rattle.program_listing.specs.internal.NamesStand.{ListingStands}
 use Rattle.program_listing.specs.Listing.{declared, IsListing}
 
@@ -153,24 +156,33 @@ module _ (text : List ℕ) where
 -- ---- windows
 
 module _ (text : List ℕ) where
-  placed_is : (v : PhraseTree) (n : ℕ) → placed_is_within v n ≡ true → pieces_stand text (placed_pieces v n) ≡ true →
-      is_phrase text v ≡ true
-  placed_is v n h k =
-      within_is text v (and_parts (is_shallow v) (is_short n) h).0
-      (list_all_parts (piece_stands text) (phrase_pieces v) (word (codes " at ") ∷ word (decimal n) ∷ []) k).0
+  placed_is : (t : PlacedLine) → placed_is_within t ≡ true → pieces_stand text (placed_pieces t) ≡ true → placed_line_stands text t ≡ true
+  placed_is t h k =
+      within_is text t.test (and_parts (is_shallow t.test) (is_short t.step) h).0
+      (list_all_parts (piece_stands text) (phrase_pieces t.test) (word (codes " at ") ∷ word (decimal t.step) ∷ []) k).0
+
+  left_is : (left : Option PlacedLine) → left_is_within left ≡ true → pieces_stand text (left_pieces left) ≡ true →
+      left_line_stands text left ≡ true
+  left_is None h k = refl
+  left_is (Some t) h k = placed_is t h (list_all_parts (piece_stands text) (placed_pieces t) (word (codes " is ") ∷ []) k).0
 
   window_is : (w : WindowLine) → window_is_within w ≡ true → pieces_stand text (window_pieces w) ≡ true → window_line_stands text w ≡ true
   window_is w h k =
-      let good = and_parts (placed_is_within w.left w.left_at)
-      (placed_is_within w.right w.length && list_all listed_is_within w.updates) h in
-      let fine = and_parts (placed_is_within w.right w.length) (list_all listed_is_within w.updates) good.1 in
-      let parts = list_all_parts (piece_stands text) (placed_pieces w.left w.left_at)
-      (word (codes " is ") ∷ (placed_pieces w.right w.length ++ flat_map listed_pieces w.updates)) k in
-      let rest = list_all_parts (piece_stands text) (placed_pieces w.right w.length) (flat_map listed_pieces w.updates) parts.1 in
-      and_from (is_phrase text w.left && is_phrase text w.right) (list_all (listed_line_stands text) w.updates)
-      (and_from (is_phrase text w.left) (is_phrase text w.right) (placed_is w.left w.left_at good.0 parts.0)
-      (placed_is w.right w.length fine.0 rest.0))
-      (many_stand text listed_pieces listed_is_within (listed_line_stands text) (listed_is text) w.updates fine.1 rest.1)
+      let listed = list_all listed_is_within w.updates && list_all placed_is_within w.equalities in
+      let good = and_parts (left_is_within w.left) (placed_is_within w.right && listed) h in
+      let fine = and_parts (placed_is_within w.right) listed good.1 in
+      let both = and_parts (list_all listed_is_within w.updates) (list_all placed_is_within w.equalities) fine.1 in
+      let tail = flat_map listed_pieces w.updates ++ flat_map equated_pieces w.equalities in
+      let parts = list_all_parts (piece_stands text) (left_pieces w.left) (placed_pieces w.right ++ tail) k in
+      let rest = list_all_parts (piece_stands text) (placed_pieces w.right) tail parts.1 in
+      let lists = list_all_parts (piece_stands text) (flat_map listed_pieces w.updates) (flat_map equated_pieces w.equalities) rest.1 in
+      and_from (left_line_stands text w.left && placed_line_stands text w.right)
+      (list_all (listed_line_stands text) w.updates && list_all (placed_line_stands text) w.equalities)
+      (and_from (left_line_stands text w.left) (placed_line_stands text w.right) (left_is w.left good.0 parts.0)
+      (placed_is w.right fine.0 rest.0))
+      (and_from (list_all (listed_line_stands text) w.updates) (list_all (placed_line_stands text) w.equalities)
+      (many_stand text listed_pieces listed_is_within (listed_line_stands text) (listed_is text) w.updates both.0 lists.0)
+      (many_stand text equated_pieces placed_is_within (placed_line_stands text) placed_is w.equalities both.1 lists.1))
 
 -- ---- nodes and states
 

@@ -69,13 +69,19 @@ no_constant p h = after_none (codes "()") p (λ rest e. false≢true (sym h ∙ 
 
 -- ---- what names begin with
 
-first_letter : (name rest : List ℕ) → IsTrue (is_usable name) → (c : ℕ) × (cs : List ℕ) × (name ++ rest ≡ c ∷ cs) × IsTrue (is_name_start c)
+pub first_letter : (name rest : List ℕ) → IsTrue (is_usable name) → (c : ℕ) × (cs : List ℕ) × (name ++ rest ≡ c ∷ cs) × IsTrue (is_name_start c)
 first_letter name rest h =
     let first = name_first name (and_parts (is_name_text name) (not (is_reserved name)) h).0 in
     (first.0, first.1 ++ rest, ap (λ (zs : List ℕ). zs ++ rest) first.2, first.3)
 
 letter_begins : (name rest : List ℕ) → IsTrue (is_usable name) → begins is_name_start (name ++ rest) ≡ true
 letter_begins name rest h = let f = first_letter name rest h in ap (begins is_name_start) f.2 ∙ f.3
+
+-- a term or a test begins with a letter
+pub phrase_letter : (v : PhraseTree) (p q : Place) → Stand (phrase_pieces v) p q →
+    (c : ℕ) × (cs : List ℕ) × (p.bytes ≡ c ∷ cs) × IsTrue (is_name_start c)
+phrase_letter (bare n) p q s = let f = first_letter s.0 s.1 s.3 in (f.0, f.1, s.2 ∙ f.2, f.3)
+phrase_letter (applied n vs) p q s = let f = first_letter s.0 s.1 s.3 in (f.0, f.1, s.2 ∙ f.2, f.3)
 
 letter_no_open : (name rest : List ℕ) → IsTrue (is_usable name) → begins is_open (name ++ rest) ≡ false
 letter_no_open name rest h =

@@ -21,6 +21,9 @@ use Rattle.std.specs.Prelude.{
   codes,
   decimal,
   IsTrue,
+  Option,
+  Some,
+  None,
 }
 use Rattle.std.specs.List.{list_all}
 use Rattle.tsl_text.specs.Names.{is_usable}
@@ -36,6 +39,7 @@ use Rattle.program_listing.specs.ListingTree.{
   more_phrases,
   UpdateLine,
   ListedLine,
+  PlacedLine,
   WindowLine,
   NodeLine,
   branch_line,
@@ -127,13 +131,22 @@ abbrev pub listed_pieces : ListedLine → List Piece
 listed_pieces u = word (codes " when ") ∷ (update_pieces u.signal u.term ++ word (codes " at ") ∷ word (decimal u.offset) ∷ [])
 
 -- a test and its step
-abbrev pub placed_pieces : PhraseTree → ℕ → List Piece
-placed_pieces test step = phrase_pieces test ++ word (codes " at ") ∷ word (decimal step) ∷ []
+abbrev pub placed_pieces : PlacedLine → List Piece
+placed_pieces t = phrase_pieces t.test ++ word (codes " at ") ∷ word (decimal t.step) ∷ []
+
+-- an equality that a window lists
+abbrev pub equated_pieces : PlacedLine → List Piece
+equated_pieces e = word (codes " when ") ∷ placed_pieces e
+
+-- what stands before a window's right test: the left test and its step, or `true`
+abbrev pub left_pieces : Option PlacedLine → List Piece
+left_pieces (Some left) = placed_pieces left ++ word (codes " is ") ∷ []
+left_pieces None = word (codes "true is ") ∷ []
 
 -- a window's line after its first word
 abbrev pub window_pieces : WindowLine → List Piece
 window_pieces w =
-    placed_pieces w.left w.left_at ++ word (codes " is ") ∷ (placed_pieces w.right w.length ++ flat_map listed_pieces w.updates)
+    left_pieces w.left ++ (placed_pieces w.right ++ (flat_map listed_pieces w.updates ++ flat_map equated_pieces w.equalities))
 
 -- a node's line after its number
 abbrev pub node_pieces : NodeLine → List Piece
@@ -169,12 +182,17 @@ is_shallow p = nat_le (phrase_brackets p) deepest
 abbrev pub listed_is_within : ListedLine → Bool
 listed_is_within u = is_shallow u.term && is_short u.offset
 
-abbrev pub placed_is_within : PhraseTree → ℕ → Bool
-placed_is_within test step = is_shallow test && is_short step
+abbrev pub placed_is_within : PlacedLine → Bool
+placed_is_within t = is_shallow t.test && is_short t.step
+
+abbrev pub left_is_within : Option PlacedLine → Bool
+left_is_within (Some left) = placed_is_within left
+left_is_within None = true
 
 abbrev pub window_is_within : WindowLine → Bool
 window_is_within w =
-    placed_is_within w.left w.left_at && (placed_is_within w.right w.length && list_all listed_is_within w.updates)
+    left_is_within w.left
+    && (placed_is_within w.right && (list_all listed_is_within w.updates && list_all placed_is_within w.equalities))
 
 abbrev pub node_is_within : NodeLine → Bool
 node_is_within (branch_line test then_node else_node) = is_shallow test && (is_short then_node && is_short else_node)

@@ -1,5 +1,5 @@
 -- The lines of a program text as pure values, without where they lie in memory: names are places in the text.
-use Rattle.std.specs.Prelude.{ℕ, ◌+◌, List, [], map}
+use Rattle.std.specs.Prelude.{ℕ, ◌+◌, List, [], map, Option, Some, None, option_map}
 use Rattle.program_listing.specs.declared.listing.Name.{Name}
 use Rattle.program_listing.specs.declared.listing.Phrase.{Phrase}
 use Rattle.program_listing.specs.declared.listing.Phrase.TheVariants.{Bare, Applied}
@@ -7,6 +7,7 @@ use Rattle.program_listing.specs.declared.listing.PhraseList.{PhraseList}
 use Rattle.program_listing.specs.declared.listing.PhraseList.TheVariants.{Empty, More'}
 use Rattle.program_listing.specs.declared.listing.SpelledUpdate.{SpelledUpdate}
 use Rattle.program_listing.specs.declared.listing.SpelledListed.{SpelledListed}
+use Rattle.program_listing.specs.declared.listing.SpelledPlaced.{SpelledPlaced}
 use Rattle.program_listing.specs.declared.listing.SpelledWindow.{SpelledWindow}
 use Rattle.program_listing.specs.declared.listing.SpelledNode.{SpelledNode}
 use Rattle.program_listing.specs.declared.listing.SpelledNode.TheVariants.{Branch, Assignment}
@@ -38,13 +39,22 @@ pub record ListedLine : Type 0 where
   pub term : PhraseTree
   pub offset : ℕ
 
--- the line of a window
+-- a test at a step of a window
+pub record PlacedLine : Type 0 where
+  pub test : PhraseTree
+  pub step : ℕ
+
+-- the line of a window: a left test or none, the right test at the last step, and what is listed
 pub record WindowLine : Type 0 where
-  pub left : PhraseTree
-  pub left_at : ℕ
-  pub right : PhraseTree
-  pub length : ℕ
+  pub left : Option PlacedLine
+  pub right : PlacedLine
   pub updates : List ListedLine
+  pub equalities : List PlacedLine
+
+-- the step of the left test, 0 where there is none
+abbrev pub left_step : Option PlacedLine → ℕ
+left_step None = 0
+left_step (Some left) = left.step
 
 -- the line of a node, without its number
 pub data NodeLine : Type 0 where
@@ -75,13 +85,15 @@ update_line u = record { signal = u.signal; term = phrase_tree u.term }
 abbrev pub listed_line : SpelledListed → ListedLine
 listed_line u = record { signal = u.signal; term = phrase_tree u.term; offset = u.offset }
 
+abbrev pub placed_line : SpelledPlaced → PlacedLine
+placed_line t = record { test = phrase_tree t.test; step = t.step }
+
 abbrev pub window_line : SpelledWindow → WindowLine
 window_line w = record {
-  left = phrase_tree w.left;
-  left_at = w.left_at;
-  right = phrase_tree w.right;
-  length = w.length;
+  left = option_map placed_line w.left;
+  right = placed_line w.right;
   updates = map listed_line w.updates.items;
+  equalities = map placed_line w.equalities.items;
 }
 
 abbrev pub node_line : SpelledNode → NodeLine

@@ -18,8 +18,8 @@ mod phrases;
 mod words;
 
 pub use listing::{
-    Listing, ListingError, Name, Phrase, PhraseList, SpelledListed, SpelledNode, SpelledUpdate,
-    SpelledWindow,
+    Listing, ListingError, Name, Phrase, PhraseList, SpelledListed, SpelledNode, SpelledPlaced,
+    SpelledUpdate, SpelledWindow,
 };
 pub use listing_laws::one_listing;
 pub use listing_reader::read_listing;

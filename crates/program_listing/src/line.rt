@@ -2,15 +2,17 @@
 
 ghost use Rattle.std.specs.Prelude.{◌≡◌, ◌∷◌, ◌++◌, codes, map, option_map, Some, None, IfOk, IfErr, IfSome, IfNone};
 ghost use Rattle.tsl_text.specs.Lines.{has_bytes};
-ghost use Rattle.program_listing.specs.ListingTree.{phrase_tree, update_line, listed_line, window_line, node_line};
+ghost use Rattle.program_listing.specs.ListingTree.{phrase_tree, update_line, listed_line, placed_line, window_line, node_line};
 ghost use Rattle.program_listing.specs.LineText.{head_line, input, cell, output, window, node, state, end_line};
 ghost use Rattle.program_listing.specs.internal.LineReading.{left_place, IsMisread, IsReadAs, IsUnread, past, prefixed, repeat, at_end};
 ghost use Rattle.program_listing.specs.internal.LineReading.{value_at_end, first_name, first_number, phrase, line_tree, update};
-ghost use Rattle.program_listing.specs.internal.LineReading.{update_follows, set_update, listed, placed, window_rest, branch_rest};
-ghost use Rattle.program_listing.specs.internal.LineReading.{assignment_rest, node_rest, numbered_node, numbered_state, read_line};
+ghost use Rattle.program_listing.specs.internal.LineReading.{update_follows, set_update, listed, listed_follows, placed, equated, left_side};
+ghost use Rattle.program_listing.specs.internal.LineReading.{window_rest, branch_rest, assignment_rest, node_rest, numbered_node, numbered_state, read_line};
 
 use crate::left::{Left, Misread, Reading};
-use crate::listing::{Name, Phrase, SpelledListed, SpelledNode, SpelledUpdate, SpelledWindow};
+use crate::listing::{
+    Name, Phrase, SpelledListed, SpelledNode, SpelledPlaced, SpelledUpdate, SpelledWindow,
+};
 use crate::phrases::phrase;
 use crate::words::{expect, first_name, first_number, past};
 use std::alloc::Global;
@@ -126,15 +128,22 @@ fn listed(alloc: Global, left: Left<'_>) -> Reading<'_, SpelledListed>
     ))
 }
 
-/// The updates that a window lists, to the end of its line.
+/// Whether the bytes begin with an update that a window lists.
+fn listed_follows(bytes: &[u8]) -> bool
+    ensures { result ≡ listed_follows bytes.now }
+{
+    bytes.strip_prefix(b" when [").is_some()
+}
+
+/// The updates that a window lists, which may be none.
 fn listed_updates(alloc: Global, left: Left<'_>) -> Reading<'_, Vec<SpelledListed>>
     ensures ok { IfOk result
-        (IsReadAs (λ us. map listed_line us.items) (repeat has_bytes listed) left.entry) }
-    ensures wrong { IfErr result (IsUnread (repeat has_bytes listed) left.entry) }
+        (IsReadAs (λ us. map listed_line us.items) (repeat listed_follows listed) left.entry) }
+    ensures wrong { IfErr result (IsUnread (repeat listed_follows listed) left.entry) }
 {
     let mut found = Vec::new(alloc);
     let mut rest = left;
-    while has_bytes(rest.bytes) {
+    while listed_follows(rest.bytes) {
         let (update, later) = listed(alloc, rest)?;
         found.push(update)?;
         rest = later;
@@ -150,13 +159,51 @@ pub fn has_bytes(bytes: &[u8]) -> bool
 }
 
 /// A test and its step.
-fn placed(alloc: Global, left: Left<'_>) -> Reading<'_, (Phrase, u64)>
-    ensures ok { IfOk result (IsReadAs (λ test. (phrase_tree test.0, test.1)) placed left.entry) }
+fn placed(alloc: Global, left: Left<'_>) -> Reading<'_, SpelledPlaced>
+    ensures ok { IfOk result (IsReadAs placed_line placed left.entry) }
     ensures wrong { IfErr result (IsUnread placed left.entry) }
 {
     let (test, rest) = phrase(alloc, left)?;
     let (step, rest) = number_after(rest, b" at ")?;
-    Ok(((test, step), rest))
+    Ok((SpelledPlaced { test, step }, rest))
+}
+
+/// An equality that a window lists.
+fn equated(alloc: Global, left: Left<'_>) -> Reading<'_, SpelledPlaced>
+    ensures ok { IfOk result (IsReadAs placed_line equated left.entry) }
+    ensures wrong { IfErr result (IsUnread equated left.entry) }
+{
+    let rest = expect(left, b" when ")?;
+    placed(alloc, rest)
+}
+
+/// The equalities that a window lists, to the end of its line.
+fn listed_equalities(alloc: Global, left: Left<'_>) -> Reading<'_, Vec<SpelledPlaced>>
+    ensures ok { IfOk result
+        (IsReadAs (λ es. map placed_line es.items) (repeat has_bytes equated) left.entry) }
+    ensures wrong { IfErr result (IsUnread (repeat has_bytes equated) left.entry) }
+{
+    let mut found = Vec::new(alloc);
+    let mut rest = left;
+    while has_bytes(rest.bytes) {
+        let (equality, later) = equated(alloc, rest)?;
+        found.push(equality)?;
+        rest = later;
+    }
+    Ok((found, rest))
+}
+
+/// What stands before a window's right test: `true`, or the left test and its step.
+fn left_side(alloc: Global, left: Left<'_>) -> Reading<'_, Option<SpelledPlaced>>
+    ensures ok { IfOk result (IsReadAs (option_map placed_line) left_side left.entry) }
+    ensures wrong { IfErr result (IsUnread left_side left.entry) }
+{
+    if let Some(rest) = past(left, b"true is ") {
+        return Ok((None, rest));
+    }
+    let (test, rest) = placed(alloc, left)?;
+    let rest = expect(rest, b" is ")?;
+    Ok((Some(test), rest))
 }
 
 /// A window after its first word.
@@ -164,17 +211,16 @@ fn window(alloc: Global, left: Left<'_>) -> Reading<'_, SpelledWindow>
     ensures ok { IfOk result (IsReadAs window_line window_rest left.entry) }
     ensures wrong { IfErr result (IsUnread window_rest left.entry) }
 {
-    let ((left_test, left_at), rest) = placed(alloc, left)?;
-    let rest = expect(rest, b" is ")?;
-    let ((right, length), rest) = placed(alloc, rest)?;
+    let (left_test, rest) = left_side(alloc, left)?;
+    let (right, rest) = placed(alloc, rest)?;
     let (updates, rest) = listed_updates(alloc, rest)?;
+    let (equalities, rest) = listed_equalities(alloc, rest)?;
     Ok((
         SpelledWindow {
             left: left_test,
-            left_at,
             right,
-            length,
             updates,
+            equalities,
         },
         rest,
     ))

@@ -2,7 +2,7 @@
 //! asked.
 
 ghost use Rattle.std.specs.Prelude.{◌≡◌, map, IfOk};
-ghost use Rattle.program_listing.specs.ListingTree.{phrase_tree, phrase_trees, listing_tree, empty_listing};
+ghost use Rattle.program_listing.specs.ListingTree.{phrase_tree, phrase_trees, window_line, left_step, listing_tree, empty_listing};
 ghost use Rattle.program_listing.specs.internal.LineReading.{phrases_of};
 
 use sequence::NoMemory;
@@ -84,19 +84,38 @@ pub struct SpelledListed {
     pub offset: u64,
 }
 
+/// A test at a step of a window.
+#[derive(Debug, Drop)]
+pub struct SpelledPlaced {
+    /// The test.
+    pub test: Phrase,
+    /// At which step.
+    pub step: u64,
+}
+
 /// The line of a window.
 #[derive(Debug, Drop)]
 pub struct SpelledWindow {
-    /// The left test.
-    pub left: Phrase,
-    /// The left test's step.
-    pub left_at: u64,
-    /// The right test.
-    pub right: Phrase,
-    /// The right test's step.
-    pub length: u64,
+    /// The left test, or none where `true` stands in its place.
+    pub left: Option<SpelledPlaced>,
+    /// The right test, which stands at the last step.
+    pub right: SpelledPlaced,
     /// The listed updates.
     pub updates: Vec<SpelledListed>,
+    /// The listed equalities.
+    pub equalities: Vec<SpelledPlaced>,
+}
+
+impl SpelledWindow {
+    /// The step of the left test, 0 where there is none.
+    pub fn left_step(&self) -> u64
+        ensures { result ≡ left_step (window_line self.now).left }
+    {
+        match &self.left {
+            Some(left) => left.step,
+            None => 0,
+        }
+    }
 }
 
 /// The line of a node, without its number.

@@ -1,42 +1,50 @@
 -- The lines of a program stand in the text that spells it.
-use Rattle.std.proofs.Common.{◌≡◌, ℕ, zero, suc, ◌+◌, ◌<◌, ◌≤◌, true, false, not, ◌&&◌, List, [], ◌∷◌, ◌++◌, refl, ap, sym, subst, ◌∙◌}
+use Rattle.std.proofs.Common.{◌≡◌, ℕ, zero, suc, ◌+◌, ◌^◌, ◌<◌, ◌≤◌, true, false, not, ◌&&◌, List, [], ◌∷◌, ◌++◌, refl, ap, sym, subst}
+use Rattle.std.proofs.Common.{◌∙◌}
 use Rattle.std.proofs.Common.{arith, length, map, flat_map}
 use Rattle.std.proofs.Common.{append_assoc}
-use Rattle.std.specs.Prelude.{Some, nat_le, nat_lt, codes, decimal, slice_get, bytes_eq, IsTrue}
+use Rattle.std.specs.Prelude.{Option, Some, None, option_map, nat_le, nat_lt, codes, decimal, slice_get, bytes_eq, IsTrue}
 use Rattle.std.specs.List.{list_all, AllByRecursion}
-use Rattle.std.proofs.lemmas.Bool.{and_from, and_parts, lt-ltb}
+use Rattle.std.proofs.lemmas.Bool.{and_from, and_parts, lt-ltb, leb-true, eqb-true}
+use Rattle.std.proofs.lemmas.List.Folds.{list_all-map}
 use Rattle.sequence.proofs.Bytes.{bytes_same}
-use Rattle.sequence.proofs.Each.{each_joined}
+use Rattle.sequence.proofs.Each.{each_joined, each_left, each_right, each_unmapped}
 use Rattle.sequence.proofs.Gathered.{all_there_next}
 use Rattle.sequence.specs.Options.{all_there}
 use Rattle.tsl_terms.specs.declared.names.NameKind.TheVariants.{Signal}
 use Rattle.tsl_terms.specs.Name.{is_name, AreDistinct, Name as NameEntry}
-use Rattle.tsl_terms.specs.TermTree.{TermTree}
-use Rattle.sequence.proofs.Passes.{each_from_list_all}
-use Rattle.tsl_terms.specs.WindowTree.{WindowTree, ListedTree, window_probes}
+use Rattle.tsl_terms.specs.TermTree.{TermTree, ProbeTree}
+use Rattle.sequence.proofs.Passes.{list_all_parts}
+use Rattle.tsl_terms.specs.WindowTree.{WindowTree, ListedTree, EquatedTree, left_probes, right_alone, window_probes}
+use Rattle.tsl_terms.specs.Equality.{equality_in}
+use Rattle.tsl_terms.specs.Congruence.{IsEquality}
 use Rattle.tsl_terms.specs.WellFormed.{is_usable_at, term_fits, probe_fits, brackets, brackets_of_arguments, deepest}
 use Rattle.tsl_terms.specs.OnlyThese.{reads_only, read_only}
 use Rattle.term_text.specs.TermText.{name_text, term_text, probe_text, update_text}
-use Rattle.term_text.specs.WindowText.{listed_text, window_text}
+use Rattle.term_text.specs.WindowText.{left_text, listed_text, equated_text, window_text}
 use Rattle.program_listing.specs.declared.listing.Name.{Name}
 use Rattle.program_tree.specs.NodeTree.{NodeTree, branch, assign}
-use Rattle.program_tree.specs.Writable.{signal_fits, term_is_writable}
+use Rattle.program_tree.specs.Fits.{left_is_shaped}
+use Rattle.program_tree.specs.Writable.{signal_fits, term_is_writable, HasEqualities}
 use Rattle.flow_program.specs.ProgramText.{declarations, updates_text, node_text, nodes_text, states_text}
 use Rattle.program_tree.specs.Writable.{probe_is_writable, listed_is_writable, window_is_writable, node_is_writable}
-use Rattle.program_listing.specs.LineText.{word, named, LineTree, window as window_tree_line, node as node_tree_line, phrase_pieces}
-use Rattle.program_listing.specs.LineText.{update_pieces, set_pieces, listed_pieces, placed_pieces, line_pieces, ended_pieces}
-use Rattle.program_listing.specs.LineText.{is_short, is_shallow, listed_is_within, line_is_within, node_lines, state_lines}
-use Rattle.program_listing.specs.Listing.{PhraseTree, name_bytes, phrase_brackets, UpdateLine, ListedLine, WindowLine, NodeLine}
-use Rattle.program_listing.specs.Listing.{branch_line}
-use Rattle.program_listing.specs.Listing.{assignment_line}
-use Rattle.flow_program.specs.Uses.{ProgramUse, signal_use, term_uses, test_uses, update_uses, listed_uses, window_uses, node_uses}
+use Rattle.program_listing.specs.LineText.{word, named, LineTree, window as window_tree_line, node as node_tree_line}
+use Rattle.program_listing.specs.LineText.{update_pieces, set_pieces, listed_pieces, placed_pieces, equated_pieces, left_pieces}
+use Rattle.program_listing.specs.LineText.{line_pieces, ended_pieces, is_short, is_shallow, listed_is_within, placed_is_within}
+use Rattle.program_listing.specs.LineText.{left_is_within, line_is_within, node_lines, state_lines}
+use Rattle.program_listing.specs.Listing.{PhraseTree, name_bytes, phrase_brackets, UpdateLine, ListedLine, PlacedLine, WindowLine, NodeLine}
+use Rattle.program_listing.specs.Listing.{branch_line, assignment_line, left_step}
+use Rattle.flow_program.specs.Uses.{ProgramUse, signal_use, term_uses, update_uses, listed_uses, placed_uses, left_uses, window_uses}
+use Rattle.flow_program.specs.Uses.{node_uses}
 use Rattle.flow_program.specs.Uses.{declared_uses, windows_uses, nodes_uses}
-use Rattle.flow_program.specs.Rules.{are_texts, breaks_order, goes_nowhere, breaks_updates}
+use Rattle.flow_program.specs.Rules.{are_texts, breaks_order, goes_nowhere, breaks_updates, right_fits}
 use Rattle.flow_program.proofs.WrittenIsRead.Runs.{Run, name_at, no_run, a_word, a_name, joined, Occurs, occurs_left, occurs_right}
 use Rattle.flow_program.proofs.WrittenIsRead.Runs.{bytes_at}
-use Rattle.flow_program.specs.internal.Numbering.{small, numbered, numbered_term, numbered_listed, numbered_window, numbered_node}
+use Rattle.flow_program.specs.internal.Numbering.{small, numbered, numbered_term, numbered_test, numbered_listed, numbered_equated}
+use Rattle.flow_program.specs.internal.Numbering.{numbered_left, numbered_window, numbered_node, equated_of, window_of}
 use Rattle.flow_program.proofs.ResolvedLines.{small_is}
-use Rattle.flow_program.proofs.NumberLemmas.{listed_numbered, window_numbered, branch_numbered, assignment_numbered}
+use Rattle.flow_program.proofs.NumberLemmas.{listed_numbered, equated_numbered, window_numbered, branch_numbered, assignment_numbered}
+use Rattle.flow_program.proofs.EquatedLines.{AreEquated, are_equated, test_of_equality}
 use Rattle.flow_program.proofs.WrittenIsRead.ListingOfTerms.{HeldUse, usable_text, number_at, signal_held, ListingOfTerm, listing_of_term}
 use Rattle.flow_program.proofs.WrittenIsRead.ListingOfTerms.{ListingOfTest, listing_of_test}
 
@@ -48,8 +56,11 @@ pub record KeptWindow (readable : List ℕ) (x : WindowTree) : Type 0 where
   pub length_short : x.length ≤ 3
   pub left_short : x.left_at ≤ x.length
   pub below : (i : ℕ) (u : ListedTree) → slice_get x.updates i ≡ Some u → u.offset < x.length
-  pub left_reads : read_only readable x.left.arguments ≡ true
+  pub within : list_all (λ e. nat_le e.offset x.length) x.equalities ≡ true
+  pub left_is : left_is_shaped x.left x.left_at ≡ true
+  pub left_reads : list_all (λ p. read_only readable p.arguments) (left_probes x.left) ≡ true
   pub right_reads : read_only readable x.right.arguments ≡ true
+  pub equalities_read : list_all (λ e. read_only readable e.probe.arguments) x.equalities ≡ true
   pub reads : list_all (λ u. reads_only readable u.term) x.updates ≡ true
 
 module _ (names : List NameEntry) (distinct : AreDistinct names) (readable : List ℕ) (text : List ℕ) where
@@ -190,88 +201,203 @@ module _ (names : List NameEntry) (distinct : AreDistinct names) (readable : Lis
             (rest.held m);
       }
 
+  -- ---- a test and its step
+
+  pub record ListingOfPlaced (p : ProbeTree) (step : ℕ) (front : List ℕ) : Type 0 where
+    pub line : PlacedLine
+    pub test_is : numbered_test names text line.test ≡ Some p
+    pub step_is : line.step ≡ step
+    pub runs : Run (placed_pieces line) front (probe_text names p ++ (codes " at " ++ decimal step))
+    pub within : placed_is_within line ≡ true
+    pub held : (n : ℕ) → Held (placed_uses text n line)
+
+  listing_of_placed : (p : ProbeTree) (step : ℕ) (front : List ℕ) → probe_is_writable names p ≡ true → read_only readable p.arguments ≡ true →
+      step ≤ 3 → Occurs text front (probe_text names p ++ (codes " at " ++ decimal step)) → ListingOfPlaced p step front
+  listing_of_placed p step front writable reads few occurs =
+      let bytes = probe_text names p in
+      let fit = and_parts (probe_fits names p) (nat_le (brackets_of_arguments p.arguments) deepest) writable in
+      let t : ListingOfTest names distinct readable text p front = listing_of_test names distinct readable text p front fit.0 reads
+      (occurs_left text front bytes (codes " at " ++ decimal step) occurs) in
+      record {
+        line = record { test = t.phrase; step = step };
+        test_is = t.numbered_is;
+        step_is = refl;
+        runs = joined t.runs (joined (a_word (codes " at ")) (a_word (decimal step)));
+        within = and_from (is_shallow t.phrase) (is_short step) (shallow t.phrase (brackets_of_arguments p.arguments) t.deep fit.1)
+            (short_is step (omega (arith, few)));
+        held = t.held;
+      }
+
+  -- ---- the equalities that a window lists
+
+  equated_apart : (a b c d : List ℕ) → ((a ++ b) ++ c) ++ d ≡ a ++ (b ++ (c ++ d))
+  equated_apart a b c d = simp append_assoc
+
+  record ListingOfEqualities (xs : List EquatedTree) (front : List ℕ) : Type 0 where
+    pub lines : List PlacedLine
+    pub numbered_are : all_there (map (numbered_equated names text) lines) ≡ Some xs
+    pub runs : Run (flat_map equated_pieces lines) front (flat_map (equated_text names) xs)
+    pub within : list_all placed_is_within lines ≡ true
+    pub held : (line : ℕ) → Held (flat_map (placed_uses text line) lines)
+
+  listing_of_equalities : (n : ℕ) → n ≤ 3 → (xs : List EquatedTree) (front : List ℕ) →
+      list_all (λ x. probe_is_writable names x.probe) xs ≡ true → list_all (λ x. read_only readable x.probe.arguments) xs ≡ true →
+      list_all (λ x. nat_le x.offset n) xs ≡ true → Occurs text front (flat_map (equated_text names) xs) → ListingOfEqualities xs front
+  listing_of_equalities n few [] front writable reads within occurs =
+      record { lines = []; numbered_are = refl; runs = no_run; within = refl; held = λ line. tt }
+  listing_of_equalities n few (x ∷ xs) front writable reads within occurs =
+      let write = and_parts (probe_is_writable names x.probe) (list_all (λ y. probe_is_writable names y.probe) xs) writable in
+      let read = and_parts (read_only readable x.probe.arguments) (list_all (λ y. read_only readable y.probe.arguments) xs) reads in
+      let short = and_parts (nat_le x.offset n) (list_all (λ y. nat_le y.offset n) xs) within in
+      let offset : x.offset ≤ n = leb-true x.offset n short.0 in
+      let one = equated_text names x in
+      let others = flat_map (equated_text names) xs in
+      let test = probe_text names x.probe ++ (codes " at " ++ decimal x.offset) in
+      let apart = equated_apart (codes " when ") (probe_text names x.probe) (codes " at ") (decimal x.offset) in
+      let here = occurs_right text front (codes " when ") test (subst (Occurs text front) apart (occurs_left text front one others occurs)) in
+      let t : ListingOfPlaced x.probe x.offset (front ++ codes " when ") =
+      listing_of_placed x.probe x.offset (front ++ codes " when ") write.0 read.0 (omega (arith, offset, few)) here in
+      let rest : ListingOfEqualities xs (front ++ one) = listing_of_equalities n few xs (front ++ one) write.1 read.1 short.1
+      (occurs_right text front one others occurs) in
+      record {
+        lines = t.line ∷ rest.lines;
+        numbered_are = all_there_next (numbered_equated names text) t.line rest.lines x xs
+            (equated_numbered names text t.line x.probe t.test_is (small_is t.line.step (omega (arith, t.step_is, offset, few)))
+            ∙ ap (λ k. Some (equated_of x.probe k)) t.step_is)
+            rest.numbered_are;
+        runs = joined (subst (Run (equated_pieces t.line) front) (sym apart) (joined (a_word (codes " when ")) t.runs)) rest.runs;
+        within = and_from (placed_is_within t.line) (list_all placed_is_within rest.lines) t.within rest.within;
+        held = λ m. each_joined (HeldUse names readable) (placed_uses text m t.line) (flat_map (placed_uses text m) rest.lines) (t.held m)
+            (rest.held m);
+      }
+
+  -- ---- the left test
+
+  record ListingOfLeft (left : Option ProbeTree) (left_at : ℕ) (front : List ℕ) : Type 0 where
+    pub line : Option PlacedLine
+    pub numbered_is : numbered_left names text line ≡ Some left
+    pub step_is : left_step line ≡ left_at
+    pub runs : Run (left_pieces line) front (left_text names left left_at ++ codes " is ")
+    pub within : left_is_within line ≡ true
+    pub held : (n : ℕ) → Held (left_uses text n line)
+    pub fits : (right : PlacedLine) (p : ProbeTree) → numbered_test names text right.test ≡ Some p →
+        AllByRecursion (IsEquality (equality_in names)) (right_alone left p) → right_fits text line right ≡ true
+
+  left_apart : (a b c d : List ℕ) → ((a ++ b) ++ c) ++ d ≡ (a ++ (b ++ c)) ++ d
+  left_apart a b c d = simp append_assoc
+
+  listing_of_left : (left : Option ProbeTree) (left_at : ℕ) (front : List ℕ) → list_all (probe_is_writable names) (left_probes left) ≡ true →
+      list_all (λ p. read_only readable p.arguments) (left_probes left) ≡ true → left_is_shaped left left_at ≡ true → left_at ≤ 3 →
+      Occurs text front (left_text names left left_at ++ codes " is ") → ListingOfLeft left left_at front
+  listing_of_left None left_at front writable reads shaped few occurs = record {
+    line = None;
+    numbered_is = refl;
+    step_is = sym (eqb-true left_at 0 shaped);
+    runs = a_word (codes "true is ");
+    within = refl;
+    held = λ n. tt;
+    fits = λ right p is equal. test_of_equality names text right.test p is equal.0;
+  }
+  listing_of_left (Some p) left_at front writable reads shaped few occurs =
+      let write = and_parts (probe_is_writable names p) true writable in
+      let read = and_parts (read_only readable p.arguments) true reads in
+      let test = probe_text names p ++ (codes " at " ++ decimal left_at) in
+      let apart = left_apart (probe_text names p) (codes " at ") (decimal left_at) (codes " is ") in
+      let t : ListingOfPlaced p left_at front = listing_of_placed p left_at front write.0 read.0 few
+      (occurs_left text front test (codes " is ") (subst (Occurs text front) apart occurs)) in
+      record {
+        line = Some t.line;
+        numbered_is = ap (option_map Some) t.test_is;
+        step_is = t.step_is;
+        runs = subst (Run (left_pieces (Some t.line)) front) (sym apart) (joined t.runs (a_word (codes " is ")));
+        within = t.within;
+        held = t.held;
+        fits = λ right q is equal. refl;
+      }
+
   -- ---- a window
 
-  window_apart : (a l b c d r e f u : List ℕ) →
-      (((((((a ++ l) ++ b) ++ c) ++ d) ++ r) ++ e) ++ f) ++ u ≡ a ++ ((l ++ (b ++ c)) ++ (d ++ ((r ++ (e ++ f)) ++ u)))
-  window_apart a l b c d r e f u = simp append_assoc
-
-  -- a test and its step
-  test_run : (p : PhraseTree) (step : ℕ) (front bytes : List ℕ) → Run (phrase_pieces p) front bytes →
-      Run (placed_pieces p step) front (bytes ++ (codes " at " ++ decimal step))
-  test_run p step front bytes h = joined h (joined (a_word (codes " at ")) (a_word (decimal step)))
+  window_apart : (a l i r b e u q : List ℕ) →
+      ((((((a ++ l) ++ i) ++ r) ++ b) ++ e) ++ u) ++ q ≡ a ++ ((l ++ i) ++ ((r ++ (b ++ e)) ++ (u ++ q)))
+  window_apart a l i r b e u q = simp append_assoc
 
   pub record ListingOfWindow (x : WindowTree) (front : List ℕ) : Type 0 where
     pub line : WindowLine
     pub numbered_is : numbered_window names text line ≡ Some x
     pub runs : Run (ended_pieces (window_tree_line line)) front (window_text names x)
-    pub left_at_is : line.left_at ≡ x.left_at
-    pub length_is : line.length ≡ x.length
+    pub left_at_is : left_step line.left ≡ x.left_at
+    pub length_is : line.right.step ≡ x.length
     pub are : AreListed x.updates line.updates
+    pub equal_are : AreEquated names text line.equalities x.equalities
+    pub right_is : right_fits text line.left line.right ≡ true
     pub within : line_is_within (window_tree_line line) ≡ true
     pub held : (n : ℕ) → Held (window_uses text n line)
 
-  pub listing_of_window : (x : WindowTree) (front : List ℕ) → window_is_writable names x ≡ true → KeptWindow readable x →
-      Occurs text front (window_text names x) → ListingOfWindow x front
-  listing_of_window x front writable k occurs =
-      let L = probe_text names x.left in
+  pub listing_of_window : (x : WindowTree) (front : List ℕ) → window_is_writable names x ≡ true → HasEqualities names x →
+      KeptWindow readable x → Occurs text front (window_text names x) → ListingOfWindow x front
+  listing_of_window x front writable equal k occurs =
+      let L = left_text names x.left x.left_at in
       let R = probe_text names x.right in
       let U = flat_map (listed_text names) x.updates in
-      let d = decimal x.left_at in
+      let E = flat_map (equated_text names) x.equalities in
       let e = decimal x.length in
-      let apart = window_apart (codes "window ") L (codes " at ") d (codes " is ") R (codes " at ") e U in
-      let all = (((((((codes "window " ++ L) ++ codes " at ") ++ d) ++ codes " is ") ++ R) ++ codes " at ") ++ e) ++ U in
-      let write = and_parts (list_all (probe_is_writable names) (window_probes x)) (list_all
-      (listed_is_writable names) x.updates)
+      let apart = window_apart (codes "window ") L (codes " is ") R (codes " at ") e U E in
+      let all = ((((((codes "window " ++ L) ++ codes " is ") ++ R) ++ codes " at ") ++ e) ++ U) ++ E in
+      let probes = map (λ (y : EquatedTree). y.probe) x.equalities in
+      let write = and_parts (list_all (probe_is_writable names) (window_probes x)) (list_all (listed_is_writable names) x.updates)
       writable in
-      let tests = each_from_list_all (probe_is_writable names) (window_probes x) write.0 in
-      let left = and_parts (probe_fits names x.left) (nat_le (brackets_of_arguments x.left.arguments) deepest) tests.0 in
-      let right = and_parts (probe_fits names x.right) (nat_le (brackets_of_arguments x.right.arguments) deepest) tests.1.0 in
-      let left_text = L ++ (codes " at " ++ d) in
+      let tests = list_all_parts (probe_is_writable names) probes (left_probes x.left ++ x.right ∷ []) write.0 in
+      let sides = list_all_parts (probe_is_writable names) (left_probes x.left) (x.right ∷ []) tests.1 in
+      let right = and_parts (probe_is_writable names x.right) true sides.1 in
+      let equalities_writable : list_all (λ y. probe_is_writable names y.probe) x.equalities ≡ true =
+      sym (list_all-map (probe_is_writable names) (λ (y : EquatedTree). y.probe) x.equalities) ∙ tests.0 in
+      let left_text_is = L ++ codes " is " in
       let right_text = R ++ (codes " at " ++ e) in
-      let t4 = right_text ++ U in
-      let t3 = codes " is " ++ t4 in
-      let t2 = left_text ++ t3 in
+      let t3 = right_text ++ (U ++ E) in
+      let t2 = left_text_is ++ t3 in
       let o0 = subst (Occurs text front) apart (occurs_left text front all (codes "\n") occurs) in
       let f1 = front ++ codes "window " in
       let o1 = occurs_right text front (codes "window ") t2 o0 in
-      let l : ListingOfTest names distinct readable text x.left f1 = listing_of_test names distinct readable text x.left f1 left.0
-      k.left_reads
-      (occurs_left text f1 L (codes " at " ++ d) (occurs_left text f1 left_text t3 o1)) in
-      let f2 = f1 ++ left_text in
-      let o2 = occurs_right text f1 left_text t3 o1 in
-      let f3 = f2 ++ codes " is " in
-      let o3 = occurs_right text f2 (codes " is ") t4 o2 in
-      let r : ListingOfTest names distinct readable text x.right f3 = listing_of_test names distinct readable text x.right f3 right.0
-      k.right_reads
-      (occurs_left text f3 R (codes " at " ++ e) (occurs_left text f3 right_text U o3)) in
-      let f4 = f3 ++ right_text in
-      let o4 = occurs_right text f3 right_text U o3 in
-      let us : ListingOfAllListed x.updates f4 = listing_of_all_listed x.length k.length_short x.updates f4 write.1 k.reads k.below o4 in
-      let line : WindowLine = record { left = l.phrase; left_at = x.left_at; right = r.phrase; length = x.length; updates = us.updates } in
+      let l : ListingOfLeft x.left x.left_at f1 = listing_of_left x.left x.left_at f1 sides.0 k.left_reads k.left_is (omega (
+        arith,
+        k.left_short,
+        k.length_short,
+      )) (occurs_left text f1 left_text_is t3 o1) in
+      let f2 = f1 ++ left_text_is in
+      let o2 = occurs_right text f1 left_text_is t3 o1 in
+      let r : ListingOfPlaced x.right x.length f2 = listing_of_placed x.right x.length f2 right.0 k.right_reads k.length_short
+      (occurs_left text f2 right_text (U ++ E) o2) in
+      let f3 = f2 ++ right_text in
+      let o3 = occurs_right text f2 right_text (U ++ E) o2 in
+      let us : ListingOfAllListed x.updates f3 = listing_of_all_listed x.length k.length_short x.updates f3 write.1 k.reads k.below
+      (occurs_left text f3 U E o3) in
+      let es : ListingOfEqualities x.equalities (f3 ++ U) = listing_of_equalities x.length k.length_short x.equalities (f3 ++ U)
+      equalities_writable k.equalities_read k.within (occurs_right text f3 U E o3) in
+      let line : WindowLine = record { left = l.line; right = r.line; updates = us.updates; equalities = es.lines } in
       let whole : Run (line_pieces (window_tree_line line)) front (codes "window " ++ t2) =
-      joined (a_word (codes "window ")) (joined (test_run l.phrase x.left_at f1 L l.runs) (joined (a_word (codes " is "))
-      (joined (test_run r.phrase x.length f3 R r.runs) us.runs))) in
+      joined (a_word (codes "window ")) (joined l.runs (joined r.runs (joined us.runs es.runs))) in
+      let step_few : left_step l.line < 2 ^ 32 = omega (arith, l.step_is, k.left_short, k.length_short) in
+      let length_few : r.line.step < 2 ^ 32 = omega (arith, r.step_is, k.length_short) in
+      let listed_held = λ (n : ℕ). each_joined (HeldUse names readable) (left_uses text n l.line ++ placed_uses text n r.line)
+      (flat_map (listed_uses text n) us.updates)
+      (each_joined (HeldUse names readable) (left_uses text n l.line) (placed_uses text n r.line) (l.held n) (r.held n)) (us.held n) in
       record {
         line = line;
-        numbered_is = window_numbered names text line x.left x.right x.updates l.numbered_is r.numbered_is
-            (small_is x.left_at (omega (arith, k.left_short, k.length_short))) (small_is x.length (omega (arith, k.length_short)))
-            us.numbered_are;
+        numbered_is = window_numbered names text line x.left x.right x.updates x.equalities l.numbered_is r.test_is
+            (small_is (left_step l.line) step_few) (small_is r.line.step length_few) us.numbered_are es.numbered_are
+            ∙ (λ i. Some (window_of x.left x.right (l.step_is i) (r.step_is i) x.updates x.equalities));
         runs = joined (subst (Run (line_pieces (window_tree_line line)) front) (sym apart) whole) (a_word (codes "\n"));
-        left_at_is = refl;
-        length_is = refl;
+        left_at_is = l.step_is;
+        length_is = r.step_is;
         are = us.are;
-        within = and_from (is_shallow l.phrase && is_short x.left_at)
-            ((is_shallow r.phrase && is_short x.length) && list_all listed_is_within us.updates)
-            (and_from (is_shallow l.phrase) (is_short x.left_at) (shallow l.phrase (brackets_of_arguments x.left.arguments) l.deep left.1)
-            (short_is x.left_at (omega (arith, k.left_short, k.length_short))))
-            (and_from (is_shallow r.phrase && is_short x.length) (list_all listed_is_within us.updates)
-            (and_from (is_shallow r.phrase) (is_short x.length) (shallow r.phrase (brackets_of_arguments x.right.arguments) r.deep right.1)
-            (short_is x.length (omega (arith, k.length_short)))) us.within);
-        held = λ n. each_joined (HeldUse names readable) (test_uses text n l.phrase ++ test_uses text n r.phrase)
-            (flat_map (listed_uses text n) us.updates)
-            (each_joined (HeldUse names readable) (test_uses text n l.phrase) (test_uses text n r.phrase) (l.held n) (r.held n))
-            (us.held n);
+        equal_are = are_equated names text es.lines x.equalities es.numbered_are;
+        right_is = l.fits r.line x.right r.test_is (each_right (IsEquality (equality_in names)) probes (right_alone x.left x.right) equal);
+        within = and_from (left_is_within l.line)
+            (placed_is_within r.line && (list_all listed_is_within us.updates && list_all placed_is_within es.lines)) l.within
+            (and_from (placed_is_within r.line) (list_all listed_is_within us.updates && list_all placed_is_within es.lines) r.within
+            (and_from (list_all listed_is_within us.updates) (list_all placed_is_within es.lines) us.within es.within));
+        held = λ n. each_joined (HeldUse names readable) ((left_uses text n l.line ++ placed_uses text n r.line)
+            ++ flat_map (listed_uses text n) us.updates) (flat_map (placed_uses text n) es.lines) (listed_held n) (es.held n);
       }
 
   -- ---- a node
@@ -450,9 +576,12 @@ module _ (names : List NameEntry) (distinct : AreDistinct names) (readable : Lis
 
   -- a window and its line
   pub record SameWindow (x : WindowTree) (w : WindowLine) : Type 0 where
-    pub left_at_is : w.left_at ≡ x.left_at
-    pub length_is : w.length ≡ x.length
+    pub left_at_is : left_step w.left ≡ x.left_at
+    pub length_is : w.right.step ≡ x.length
     pub are : AreListed x.updates w.updates
+    pub equal_are : AreEquated names text w.equalities x.equalities
+    pub equal : AllByRecursion (λ e. IsEquality (equality_in names) e.probe) x.equalities
+    pub right_is : right_fits text w.left w.right ≡ true
 
   abbrev pub AreWindows : List WindowTree → List WindowLine → Type 0
   AreWindows [] [] = Unit {0}
@@ -470,22 +599,34 @@ module _ (names : List NameEntry) (distinct : AreDistinct names) (readable : Lis
     pub held : (line : ℕ) → Held (windows_uses text line lines)
 
   pub listing_of_windows : (xs : List WindowTree) (front : List ℕ) → list_all (window_is_writable names) xs ≡ true →
-      AllByRecursion (KeptWindow readable) xs →
+      AllByRecursion (HasEqualities names) xs → AllByRecursion (KeptWindow readable) xs →
       Occurs text front (flat_map (window_text names) xs) → ListingOfWindows xs front
-  listing_of_windows [] front writable keep occurs =
+  listing_of_windows [] front writable equal keep occurs =
       record { lines = []; numbered_are = refl; runs = no_run; are = tt; within = refl; count = refl; held = λ line. tt }
-  listing_of_windows (x ∷ xs) front writable keep occurs =
+  listing_of_windows (x ∷ xs) front writable equal keep occurs =
       let here = window_text names x in
       let later = flat_map (window_text names) xs in
       let write = and_parts (window_is_writable names x) (list_all (window_is_writable names) xs) writable in
-      let head : ListingOfWindow x front = listing_of_window x front write.0 keep.0 (occurs_left text front here later occurs) in
+      let head : ListingOfWindow x front = listing_of_window x front write.0 equal.0 keep.0 (occurs_left text front here later occurs) in
       let rest : ListingOfWindows xs (front ++ here) = listing_of_windows xs (front
-      ++ here) write.1 keep.1 (occurs_right text front here later occurs) in
+      ++ here) write.1 equal.1 keep.1 (occurs_right text front here later occurs) in
       record {
         lines = head.line ∷ rest.lines;
         numbered_are = all_there_next (numbered_window names text) head.line rest.lines x xs head.numbered_is rest.numbered_are;
         runs = joined head.runs rest.runs;
-        are = (record { left_at_is = head.left_at_is; length_is = head.length_is; are = head.are }, rest.are);
+        are = (
+          record {
+            left_at_is = head.left_at_is;
+            length_is = head.length_is;
+            are = head.are;
+            equal_are = head.equal_are;
+            equal = each_unmapped (IsEquality (equality_in names)) (λ (e : EquatedTree). e.probe) x.equalities
+                (each_left (IsEquality (equality_in names)) (map (λ (e : EquatedTree). e.probe) x.equalities) (right_alone x.left x.right)
+                equal.0);
+            right_is = head.right_is;
+          },
+          rest.are,
+        );
         within = and_from (line_is_within (window_tree_line head.line)) (list_all line_is_within
             (map window_tree_line rest.lines)) head.within
             rest.within;

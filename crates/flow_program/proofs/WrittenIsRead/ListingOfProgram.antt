@@ -8,12 +8,13 @@ use Rattle.std.specs.Option.{is_some, option_map_or}
 use Rattle.std.proofs.lemmas.Bool.{and_from, and_parts, leb-true, ltb-true, lt-ltb, le-ltb}
 use Rattle.std.proofs.lemmas.Grind.{flat_map-append}
 use Rattle.std.proofs.lemmas.List.{map-append, append-nil}
+use Rattle.std.proofs.lemmas.List.Folds.{list_all-map}
 use Rattle.sequence.proofs.Each.{each_joined, each_at, each_from_places, each_weaker}
 use Rattle.sequence.proofs.Numbers.{among_place}
 use Rattle.sequence.specs.Numbers.{is_among, IsDistinct}
 use Rattle.tsl_terms.specs.Name.{number_of, texts, AreDistinct, Name as NameEntry}
 use Rattle.tsl_terms.specs.Clashes.{with_use, with_uses, added_unless_found, alike_in_kind, same_arity}
-use Rattle.tsl_terms.specs.WindowTree.{WindowTree, ListedTree, window_probes}
+use Rattle.tsl_terms.specs.WindowTree.{WindowTree, ListedTree, EquatedTree, left_probes, window_probes}
 use Rattle.tsl_terms.specs.OnlyThese.{reads_only, read_only}
 use Rattle.tsl_terms.specs.WellFormed.{is_usable_at}
 use Rattle.term_text.specs.TermText.{name_text}
@@ -22,19 +23,20 @@ use Rattle.program_listing.specs.declared.listing.Name.{Name}
 use Rattle.flow_program.specs.declared.reading.ProgramError.{ProgramError}
 use Rattle.program_tree.specs.NodeTree.{NodeTree, branch, assign}
 use Rattle.program_tree.specs.ProgramTree.{ProgramTree}
-use Rattle.program_tree.specs.Fits.{longest, rises, comes_before, window_fits, window_is_shaped, window_reads_only}
-use Rattle.program_tree.specs.Fits.{stands_before as stands_among}
+use Rattle.program_tree.specs.Fits.{longest, rises, comes_before, left_is_shaped, equalities_are_shaped, window_fits, window_is_shaped}
+use Rattle.program_tree.specs.Fits.{window_reads_only, stands_before as stands_among, are_in_order as stand_in_order}
 use Rattle.program_tree.specs.Writable.{signal_fits, most_windows, most_nodes}
 use Rattle.flow_program.specs.ProgramText.{declarations, nodes_text, states_text, program_text}
 use Rattle.program_tree.specs.Writable.{most_states}
 use Rattle.flow_program.specs.ProgramText.{ProgramText}
 use Rattle.program_listing.specs.LineText.{Piece, head_line, end_line, input, cell, output, window as window_tree_line, ended_pieces}
 use Rattle.program_listing.specs.LineText.{line_is_within, node_lines, state_lines, listing_lines, Stand}
-use Rattle.program_listing.specs.Listing.{name_bytes, declared_entry, declared, ListedLine, WindowLine, ListingTree}
+use Rattle.program_listing.specs.Listing.{name_bytes, declared_entry, declared, ListedLine, WindowLine, ListingTree, left_step}
 use Rattle.flow_program.specs.Uses.{ProgramUse, question_entry, entries_of_use, names_after, declared_uses, windows_uses, nodes_uses}
 use Rattle.flow_program.specs.Uses.{first_declaration, first_window, first_node, first_state, uses_of}
 use Rattle.flow_program.specs.Rules.{first_place, first_line, breaks_order, goes_nowhere, is_nowhere, breaks_updates, places_rise, place_in}
-use Rattle.flow_program.specs.Rules.{place_of_cell, stands_before, listed_rise, is_cell_within, breaks_window, cell_texts, readable_of}
+use Rattle.flow_program.specs.Rules.{place_of_cell, stands_before, listed_rise, is_cell_within, is_equality_within, are_in_order, right_fits}
+use Rattle.flow_program.specs.Rules.{breaks_window, cell_texts, readable_of}
 use Rattle.flow_program.specs.Rules.{is_unknown, is_unlike, at_line, at_use, over, first_there, line_fault, use_fault, limit_fault}
 use Rattle.flow_program.specs.Rules.{fault_of}
 use Rattle.std.proofs.lemmas.Bool.{eqb-true}
@@ -54,6 +56,7 @@ use Rattle.tsl_terms.specs.Name.{same_kind, is_name}
 use Rattle.flow_program.specs.Reading.{GoOnFrom}
 use Rattle.flow_program.specs.internal.Numbering.{Numbered}
 use Rattle.flow_program.proofs.ResolvedLines.{place_at, or_and_weaker}
+use Rattle.flow_program.proofs.EquatedLines.{in_order_alike, tests_within, lines_within}
 use Rattle.flow_program.proofs.WrittenIsRead.ListingOfTerms.{entry_of, its_number}
 use Rattle.flow_program.proofs.UseLemmas.{declared_append}
 use Rattle.flow_program.proofs.WrittenIsRead.Runs.{Run, a_word, joined, Occurs, occurs_left, occurs_right}
@@ -208,6 +211,33 @@ in_order (c ∷ cs) r s h = by ((c == r) && is_among cs s) refl h (in_order cs r
 
 -- ---- windows
 
+-- the parts of the shape of a window
+record ShapedWindow (cells : List ℕ) (x : WindowTree) : Type 0 where
+  pub short : (nat_le x.length longest && nat_le x.left_at x.length) ≡ true
+  pub updates : list_all (λ u. nat_lt u.offset x.length && is_among cells u.signal) x.updates ≡ true
+  pub rise : rises cells x.updates ≡ true
+  pub left : left_is_shaped x.left x.left_at ≡ true
+  pub offsets : list_all (λ e. nat_le e.offset x.length) x.equalities ≡ true
+  pub order : stand_in_order x.equalities ≡ true
+
+shaped_window : (cells : List ℕ) (x : WindowTree) → window_is_shaped cells x ≡ true → ShapedWindow cells x
+shaped_window cells x shaped =
+    let halves = and_parts _ (left_is_shaped x.left x.left_at && equalities_are_shaped x) shaped in
+    let parts = and_parts (nat_le x.length longest && nat_le x.left_at x.length)
+    (list_all (λ u. nat_lt u.offset x.length && is_among cells u.signal) x.updates && rises cells x.updates) halves.0 in
+    let listed = and_parts (list_all (λ u. nat_lt u.offset x.length && is_among cells u.signal) x.updates) (rises cells x.updates) parts.1 in
+    let sides = and_parts (left_is_shaped x.left x.left_at) (equalities_are_shaped x) halves.1 in
+    let equalities = and_parts (list_all (λ e. nat_le e.offset x.length) x.equalities && stand_in_order x.equalities) _ sides.1 in
+    let ordered = and_parts (list_all (λ e. nat_le e.offset x.length) x.equalities) (stand_in_order x.equalities) equalities.0 in
+    record {
+      short = parts.0;
+      updates = listed.0;
+      rise = listed.1;
+      left = sides.0;
+      offsets = ordered.0;
+      order = ordered.1;
+    }
+
 module _ (names : List NameEntry) (distinct : AreDistinct names) (readable : List ℕ) (text : List ℕ) (cells : List ℕ)
     (cells_fit : list_all (signal_fits names) cells ≡ true) (once : IsDistinct cells) (texts_of_cells : List (List ℕ))
     (cells_are : texts_of_cells ≡ map (name_text names) cells) where
@@ -273,18 +303,23 @@ module _ (names : List NameEntry) (distinct : AreDistinct names) (readable : Lis
   pub window_keeps : (x : WindowTree) (w : WindowLine) (number : ℕ) → SameWindow names distinct readable text x w →
       window_fits readable cells x ≡ true → breaks_window text texts_of_cells number w ≡ false
   window_keeps x w number same fits =
-      let shaped = (and_parts (window_is_shaped cells x) (window_reads_only readable x) fits).0 in
-      let parts = and_parts (nat_le x.length longest && nat_le x.left_at x.length)
-      (list_all (λ u. nat_lt u.offset x.length && is_among cells u.signal) x.updates && rises cells x.updates) shaped in
-      let listed = and_parts (list_all (λ u. nat_lt u.offset x.length && is_among cells u.signal) x.updates)
-      (rises cells x.updates) parts.1 in
-      ap not (and_from (nat_le w.length longest && nat_le w.left_at w.length)
-      (list_all (is_cell_within text texts_of_cells w.length) w.updates && listed_rise text texts_of_cells w.updates)
-      ((λ i. nat_le (same.length_is i) longest && nat_le (same.left_at_is i) (same.length_is i)) ∙ parts.0)
-      (and_from (list_all (is_cell_within text texts_of_cells w.length) w.updates) (listed_rise text texts_of_cells w.updates)
+      let k : ShapedWindow cells x = shaped_window cells x (and_parts (window_is_shaped cells x) (window_reads_only readable x) fits).0 in
+      let within : list_all (is_equality_within text w.right.step) w.equalities ≡ true =
+      ap (λ n. list_all (is_equality_within text n) w.equalities) same.length_is
+      ∙ lines_within names text x.length w.equalities x.equalities same.equal_are k.offsets same.equal in
+      ap not (and_from _ _
+      (and_from (nat_le w.right.step longest && nat_le (left_step w.left) w.right.step)
+      (list_all (is_cell_within text texts_of_cells w.right.step) w.updates && listed_rise text texts_of_cells w.updates)
+      ((λ i. nat_le (same.length_is i) longest && nat_le (same.left_at_is i) (same.length_is i)) ∙ k.short)
+      (and_from (list_all (is_cell_within text texts_of_cells w.right.step) w.updates) (listed_rise text texts_of_cells w.updates)
       (ap (λ n. list_all (is_cell_within text texts_of_cells n) w.updates) same.length_is
-      ∙ all_within x.length x.updates w.updates same.are listed.0)
-      (all_rise x.updates w.updates same.are listed.1)))
+      ∙ all_within x.length x.updates w.updates same.are k.updates)
+      (all_rise x.updates w.updates same.are k.rise)))
+      (and_from (right_fits text w.left w.right)
+      (list_all (is_equality_within text w.right.step) w.equalities && are_in_order text w.equalities) same.right_is
+      (and_from (list_all (is_equality_within text w.right.step) w.equalities) (are_in_order text w.equalities) within
+      (in_order_alike names text w.equalities x.equalities same.equal_are (tests_within names text w.right.step w.equalities within)
+      ∙ k.order))))
 
   pub windows_keep : (xs : List WindowTree) (ws : List WindowLine) → AreWindows names distinct readable text xs ws →
       list_all (window_fits readable cells) xs ≡ true → (i : ℕ) (w : WindowLine) → slice_get ws i ≡ Some w → (number : ℕ) →
@@ -315,20 +350,22 @@ offsets_below n cells (x ∷ xs) h (suc i) u is =
 kept_window : (readable cells : List ℕ) (x : WindowTree) → window_fits readable cells x ≡ true → KeptWindow readable x
 kept_window readable cells x fits =
     let halves = and_parts (window_is_shaped cells x) (window_reads_only readable x) fits in
-    let parts = and_parts (nat_le x.length longest && nat_le x.left_at x.length)
-    (list_all (λ u. nat_lt u.offset x.length && is_among cells u.signal) x.updates && rises cells x.updates) halves.0 in
-    let short = and_parts (nat_le x.length longest) (nat_le x.left_at x.length) parts.0 in
-    let listed = and_parts (list_all (λ u. nat_lt u.offset x.length && is_among cells u.signal) x.updates)
-    (rises cells x.updates) parts.1 in
+    let k : ShapedWindow cells x = shaped_window cells x halves.0 in
+    let short = and_parts (nat_le x.length longest) (nat_le x.left_at x.length) k.short in
+    let probes = map (λ (e : EquatedTree). e.probe) x.equalities in
     let reads = and_parts (list_all (λ p. read_only readable p.arguments) (window_probes x))
     (list_all (λ u. reads_only readable u.term) x.updates) halves.1 in
-    let tests = each_from_list_all (λ p. read_only readable p.arguments) (window_probes x) reads.0 in
+    let tests = list_all_parts (λ p. read_only readable p.arguments) probes (left_probes x.left ++ x.right ∷ []) reads.0 in
+    let sides = list_all_parts (λ p. read_only readable p.arguments) (left_probes x.left) (x.right ∷ []) tests.1 in
     record {
       length_short = leb-true x.length longest short.0;
       left_short = leb-true x.left_at x.length short.1;
-      below = offsets_below x.length cells x.updates listed.0;
-      left_reads = tests.0;
-      right_reads = tests.1.0;
+      below = offsets_below x.length cells x.updates k.updates;
+      within = k.offsets;
+      left_is = k.left;
+      left_reads = sides.0;
+      right_reads = (and_parts (read_only readable x.right.arguments) true sides.1).0;
+      equalities_read = sym (list_all-map (λ p. read_only readable p.arguments) (λ (e : EquatedTree). e.probe) x.equalities) ∙ tests.0;
       reads = reads.1;
     }
 
@@ -499,7 +536,7 @@ module _ (text : List ℕ) (names : List NameEntry) (distinct : AreDistinct name
       (occurs_right text [] ((H ++ A) ++ B) C to_outputs)
 
   w : ListingOfWindows names distinct readable text p.windows (((H ++ A) ++ B) ++ C)
-  w = listing_of_windows names distinct readable text p.windows (((H ++ A) ++ B) ++ C) h.is_writable.windows
+  w = listing_of_windows names distinct readable text p.windows (((H ++ A) ++ B) ++ C) h.is_writable.windows h.is_writable.equalities
       (kept_windows readable p.cells p.windows h.is_program.windows_fit) (occurs_right text [] (((H ++ A) ++ B)
       ++ C) W to_windows)
 

@@ -4,12 +4,12 @@ use Rattle.std.specs.Prelude.{◌≡◌, ℕ, ◌^◌, nat_lt, cond, List, map, 
 use Rattle.sequence.specs.Options.{all_there}
 use Rattle.tsl_terms.specs.Name.{number_of, question, Name as NameEntry}
 use Rattle.tsl_terms.specs.TermTree.{TermTree, signal, apply, TermTrees, no_terms, more_terms, ProbeTree}
-use Rattle.tsl_terms.specs.WindowTree.{WindowTree, ListedTree}
+use Rattle.tsl_terms.specs.WindowTree.{WindowTree, ListedTree, EquatedTree}
 use Rattle.program_listing.specs.declared.listing.Name.{Name}
 use Rattle.program_tree.specs.NodeTree.{NodeTree, branch, assign}
 use Rattle.program_tree.specs.ProgramTree.{ProgramTree}
 use Rattle.program_listing.specs.Listing.{PhraseTree, bare, applied, PhraseTrees, no_phrases, more_phrases, name_bytes}
-use Rattle.program_listing.specs.Listing.{ListedLine, WindowLine, NodeLine, branch_line, assignment_line, ListingTree}
+use Rattle.program_listing.specs.Listing.{ListedLine, PlacedLine, WindowLine, NodeLine, branch_line, assignment_line, ListingTree, left_step}
 
 abbrev pub probe_with : ℕ → TermTrees → ProbeTree
 probe_with predicate arguments = record { predicate = predicate; arguments = arguments }
@@ -17,8 +17,18 @@ probe_with predicate arguments = record { predicate = predicate; arguments = arg
 abbrev pub listed_of : ℕ → TermTree → ℕ → ListedTree
 listed_of s t offset = record { signal = s; term = t; offset = offset }
 
-abbrev pub window_of : ProbeTree → ProbeTree → ℕ → ℕ → List ListedTree → WindowTree
-window_of left right left_at length updates = record { left = left; left_at = left_at; right = right; length = length; updates = updates }
+abbrev pub equated_of : ProbeTree → ℕ → EquatedTree
+equated_of p offset = record { probe = p; offset = offset }
+
+abbrev pub window_of : Option ProbeTree → ProbeTree → ℕ → ℕ → List ListedTree → List EquatedTree → WindowTree
+window_of left right left_at length updates equalities = record {
+  left = left;
+  left_at = left_at;
+  right = right;
+  length = length;
+  updates = updates;
+  equalities = equalities;
+}
 
 -- a number of 32 bits
 abbrev pub small : ℕ → Option ℕ
@@ -49,11 +59,19 @@ module _ (names : List NameEntry) (text : List ℕ) where
   numbered_listed u =
       option_and_then (λ s. option_and_then (λ t. option_map (listed_of s t) (small u.offset)) (numbered_term u.term)) (numbered u.signal)
 
+  abbrev pub numbered_equated : PlacedLine → Option EquatedTree
+  numbered_equated e = option_and_then (λ p. option_map (equated_of p) (small e.step)) (numbered_test e.test)
+
+  abbrev pub numbered_left : Option PlacedLine → Option (Option ProbeTree)
+  numbered_left (Some left) = option_map Some (numbered_test left.test)
+  numbered_left None = Some None
+
   abbrev pub numbered_window : WindowLine → Option WindowTree
   numbered_window w =
       option_and_then (λ left. option_and_then (λ right. option_and_then (λ left_at. option_and_then (λ length.
-      option_map (window_of left right left_at length) (all_there (map numbered_listed w.updates)))
-      (small w.length)) (small w.left_at)) (numbered_test w.right)) (numbered_test w.left)
+      option_and_then (λ updates. option_map (window_of left right left_at length updates) (all_there (map numbered_equated w.equalities)))
+      (all_there (map numbered_listed w.updates)))
+      (small w.right.step)) (small (left_step w.left))) (numbered_test w.right.test)) (numbered_left w.left)
 
   abbrev pub numbered_node : NodeLine → Option NodeTree
   numbered_node (branch_line test then_node else_node) =

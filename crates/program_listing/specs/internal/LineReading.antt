@@ -26,6 +26,7 @@ use Rattle.std.specs.Prelude.{
   option_map,
   if◌then◌else◌,
 }
+use Rattle.std.specs.Option.{is_some}
 use Rattle.std.specs.List.{prefix_len}
 use Rattle.std.specs.Char.{is_ascii_digit}
 use Rattle.tsl_text.specs.Names.{is_name_start, is_name_byte, is_usable}
@@ -48,6 +49,7 @@ use Rattle.program_listing.specs.ListingTree.{
   more_phrases,
   UpdateLine,
   ListedLine,
+  PlacedLine,
   WindowLine,
   NodeLine,
   branch_line,
@@ -264,6 +266,11 @@ phrase = phrase_with (phrase_in_brackets deepest)
 
 -- ---- lines
 
+-- what is read from the place, if there is one, and otherwise this
+abbrev pub either : {V : Type 0} → Option Place → (Place → Option V) → Option V → Option V
+either (Some p) reader other = reader p
+either None reader other = other
+
 abbrev pub line_tree : Line → LineTree
 line_tree Head = head_line
 line_tree (Input name) = input name
@@ -300,16 +307,31 @@ as_listed u = record { signal = u.0.0; term = u.0.1; offset = u.1 }
 abbrev pub listed : LineReader ListedLine
 listed p = mapped as_listed (prefixed (codes " when ") (pair update (prefixed (codes " at ") first_number)) p)
 
--- a test and its step
-abbrev pub placed : LineReader (PhraseTree × ℕ)
-placed = pair phrase (prefixed (codes " at ") first_number)
+-- an update is listed next
+abbrev pub listed_follows : List ℕ → Bool
+listed_follows bytes = is_some (strip (codes " when [") bytes)
 
-abbrev pub as_window : (PhraseTree × ℕ) × ((PhraseTree × ℕ) × List ListedLine) → WindowLine
-as_window w = record { left = w.0.0; left_at = w.0.1; right = w.1.0.0; length = w.1.0.1; updates = w.1.1 }
+abbrev pub as_placed : PhraseTree × ℕ → PlacedLine
+as_placed t = record { test = t.0; step = t.1 }
+
+-- a test and its step
+abbrev pub placed : LineReader PlacedLine
+placed p = mapped as_placed (pair phrase (prefixed (codes " at ") first_number) p)
+
+-- an equality that a window lists
+abbrev pub equated : LineReader PlacedLine
+equated = prefixed (codes " when ") placed
+
+-- what stands before a window's right test: `true`, or the left test and its step
+abbrev pub left_side : LineReader (Option PlacedLine)
+left_side p = either (past (codes "true is ") p) (λ q. Some (None, q)) (mapped Some (closed (codes " is ") placed p))
+
+abbrev pub as_window : Option PlacedLine × (PlacedLine × (List ListedLine × List PlacedLine)) → WindowLine
+as_window w = record { left = w.0; right = w.1.0; updates = w.1.1.0; equalities = w.1.1.1 }
 
 -- a window after its first word
 abbrev pub window_rest : LineReader WindowLine
-window_rest p = mapped as_window (pair placed (pair (prefixed (codes " is ") placed) (repeat has_bytes listed)) p)
+window_rest p = mapped as_window (pair left_side (pair placed (pair (repeat listed_follows listed) (repeat has_bytes equated))) p)
 
 abbrev pub as_branch : PhraseTree × (ℕ × ℕ) → NodeLine
 as_branch b = branch_line b.0 b.1.0 b.1.1
@@ -324,11 +346,6 @@ as_assignment a = assignment_line a.0 a.1
 -- a node that assigns, after its ` set`
 abbrev pub assignment_rest : LineReader NodeLine
 assignment_rest p = mapped as_assignment (pair (repeat update_follows set_update) (prefixed (codes " go ") first_number) p)
-
--- what is read from the place, if there is one, and otherwise this
-abbrev pub either : {V : Type 0} → Option Place → (Place → Option V) → Option V → Option V
-either (Some p) reader other = reader p
-either None reader other = other
 
 -- a node after its number
 abbrev pub node_rest : LineReader NodeLine

@@ -1,12 +1,12 @@
 -- Internal: only private functions and proofs use these words.
 -- The names of a part of a listing lie in the text and may be names, and its terms nest at most 200 deep.
-use Rattle.std.specs.Prelude.{ℕ, Bool, true, ◌&&◌, nat_le, List, length, IsTrue}
+use Rattle.std.specs.Prelude.{ℕ, Bool, true, ◌&&◌, nat_le, List, length, IsTrue, Option, Some, None}
 use Rattle.std.specs.List.{list_all}
 use Rattle.tsl_text.specs.Names.{is_usable}
 use Rattle.tsl_terms.specs.WellFormed.{deepest}
 use Rattle.program_listing.specs.declared.listing.Name.{Name}
 use Rattle.program_listing.specs.ListingTree.{PhraseTree, bare, applied, PhraseTrees, no_phrases, more_phrases, UpdateLine, ListedLine}
-use Rattle.program_listing.specs.ListingTree.{WindowLine, NodeLine}
+use Rattle.program_listing.specs.ListingTree.{PlacedLine, WindowLine, NodeLine}
 use Rattle.program_listing.specs.ListingTree.{branch_line, assignment_line, ListingTree}
 use Rattle.program_listing.specs.LineText.{phrase_brackets}
 use Rattle.program_listing.specs.Listing.{name_bytes, declared}
@@ -34,8 +34,17 @@ update_line_stands text u = name_stands text u.signal && is_phrase text u.term
 abbrev pub listed_line_stands : List ℕ → ListedLine → Bool
 listed_line_stands text u = name_stands text u.signal && is_phrase text u.term
 
+abbrev pub placed_line_stands : List ℕ → PlacedLine → Bool
+placed_line_stands text t = is_phrase text t.test
+
+abbrev pub left_line_stands : List ℕ → Option PlacedLine → Bool
+left_line_stands text (Some left) = placed_line_stands text left
+left_line_stands text None = true
+
 abbrev pub window_line_stands : List ℕ → WindowLine → Bool
-window_line_stands text w = (is_phrase text w.left && is_phrase text w.right) && list_all (listed_line_stands text) w.updates
+window_line_stands text w =
+    (left_line_stands text w.left && placed_line_stands text w.right)
+    && (list_all (listed_line_stands text) w.updates && list_all (placed_line_stands text) w.equalities)
 
 abbrev pub node_line_stands : List ℕ → NodeLine → Bool
 node_line_stands text (branch_line test then_node else_node) = is_phrase text test
