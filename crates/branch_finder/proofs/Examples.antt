@@ -8,6 +8,8 @@ use Rattle.tsl_terms.specs.WindowTree.{ListedTree, WindowTree}
 use Rattle.tsl_terms.specs.FreeTree.{FreeTree, leaf_at, applied, FreeTrees, no_free, more_free}
 use Rattle.tsl_terms.specs.Unfolding.{with_leaves, all_with_leaves, all_unfolded}
 use Rattle.tsl_terms.specs.Congruence.{IsCongruent}
+use Rattle.tsl_terms.proofs.PlainWindows.{congruent_is_plain, plain_is_congruent}
+use Rattle.tsl_terms.proofs.SingleClasses.{one_classes_are_one}
 use Rattle.ltl_formula.specs.Cubes.{has_bit}
 use Rattle.letter_space.specs.SpaceTree.{SpaceTree}
 use Rattle.machines.specs.MachineTree.{EnvironmentTree, successor_at}
@@ -53,10 +55,10 @@ no_update_of_the_input is = cc
 
 -- the cell after the input is copied, and after the cell is kept
 abbrev copied : WindowTree
-copied = record { left = probe_of 0; left_at = 0; right = probe_of 1; length = 1; updates = copies ∷ [] }
+copied = record { left = Some (probe_of 0); left_at = 0; right = probe_of 1; length = 1; updates = copies ∷ []; equalities = [] }
 
 abbrev kept : WindowTree
-kept = record { left = probe_of 1; left_at = 0; right = probe_of 1; length = 1; updates = keeps ∷ [] }
+kept = record { left = Some (probe_of 1); left_at = 0; right = probe_of 1; length = 1; updates = keeps ∷ []; equalities = [] }
 
 copied_is_spurious : IsSpurious space_of_two unmoved copied
 copied_is_spurious = record {
@@ -66,6 +68,8 @@ copied_is_spurious = record {
   steps = λ t below. refl;
   listed = (refl, tt);
   left_bit = 0;
+  left = probe_of 0;
+  has_left = refl;
   is_left = refl;
   right_bit = 1;
   is_right = refl;
@@ -88,6 +92,8 @@ kept_is_spurious = record {
   steps = first_step;
   listed = (refl, tt);
   left_bit = 1;
+  left = probe_of 1;
+  has_left = refl;
   is_left = refl;
   right_bit = 1;
   is_right = refl;
@@ -113,8 +119,12 @@ without_a_bit zero is = omega (arith, ap signal_read is)
 without_a_bit (suc zero) is = omega (arith, ap signal_read is)
 without_a_bit (suc (suc b)) is = none-some (probe_of 2) is
 
-no_bit : IsSpurious space_of_two unmoved (record copied { left = probe_of 2 }) → ⊥
-no_bit is = without_a_bit is.left_bit is.is_left
+no_bit : IsSpurious space_of_two unmoved (record copied { left = Some (probe_of 2) }) → ⊥
+no_bit is = without_a_bit is.left_bit (is.is_left ∙ sym is.has_left)
+
+-- no left probe
+no_left : IsSpurious space_of_two unmoved (record copied { left = None }) → ⊥
+no_left is = none-some is.left is.has_left
 
 -- the bit of the cell, and what is true in the one state
 bit_of_the_cell : (b : ℕ) → slice_get (space_of_two.predicates) b ≡ Some (probe_of 1) → b ≡ 1
@@ -125,7 +135,7 @@ bit_of_the_cell (suc (suc b)) is = absurd (none-some (probe_of 1) is)
 -- with one state, what is true of the cell stays as it is
 kept_is_not_spurious : IsSpurious space_of_two unmoved kept → ⊥
 kept_is_not_spurious is =
-    let left = bit_of_the_cell is.left_bit is.is_left in
+    let left = bit_of_the_cell is.left_bit (is.is_left ∙ sym is.has_left) in
     let right = bit_of_the_cell is.right_bit is.is_right in
     is.differ (λ i. has_bit ((left ∙ sym right) i)
     ((one_valuation (is.state 0) is.left_truths is.are_left ∙ sym (one_valuation (is.state 1) is.right_truths is.are_right)) i))
@@ -187,12 +197,15 @@ no_window_of_no_step : (space : SpaceTree) (e : EnvironmentTree) (cells : List �
 no_window_of_no_step space e cells once w within congruent spurious =
     let last : w.length ≡ 0 = omega (arith, within.short) in
     let first : w.left_at ≡ 0 = omega (arith, within.short, within.left_within) in
-    let unfolded : all_with_leaves (λ s. leaf_at s 0) w.left.arguments ≡ all_with_leaves (λ s. leaf_at s 0) w.right.arguments
-    = sym (ap (λ n. all_unfolded cells w.updates n w.left.arguments) first) ∙ congruent.arguments
+    let plain = congruent_is_plain cells w congruent in
+    let left = plain.left in
+    let unfolded : all_with_leaves (λ s. leaf_at s 0) left.arguments ≡ all_with_leaves (λ s. leaf_at s 0) w.right.arguments
+    = sym (ap (λ n. all_unfolded cells w.updates n left.arguments) first) ∙ plain.arguments
     ∙ ap (λ n. all_unfolded cells w.updates n w.right.arguments) last in
-    let arguments = some_terms w.left.arguments w.right.arguments unfolded in
-    let probe : w.left ≡ w.right = λ i. record { predicate = congruent.predicate i; arguments = arguments i } in
-    let bit = once spurious.left_bit spurious.right_bit w.left spurious.is_left (spurious.is_right ∙ ap Some (sym probe)) in
+    let arguments = some_terms left.arguments w.right.arguments unfolded in
+    let probe : left ≡ w.right = λ i. record { predicate = plain.predicate i; arguments = arguments i } in
+    let bit = once spurious.left_bit spurious.right_bit left (spurious.is_left ∙ sym spurious.has_left ∙ plain.is_left)
+    (spurious.is_right ∙ ap Some (sym probe)) in
     let truths = same_Some spurious.left_truths spurious.right_truths
     (sym spurious.are_left ∙ ap (λ n. slice_get e.truths (spurious.state n)) (first ∙ sym last) ∙ spurious.are_right) in
     spurious.differ (λ i. has_bit (bit i) (truths i))
@@ -211,37 +224,48 @@ least_of_one_step : (e : EnvironmentTree) (shorter : ℕ) → shorter < 1 → Ha
 least_of_one_step e zero below = no_window_of_no_step space_of_two e (1 ∷ []) two_probes_once
 least_of_one_step e (suc n) below = absurd (omega (arith, below))
 
+-- the sides unfold to the same
+copied_is_congruent : IsCongruent (1 ∷ []) None copied
+copied_is_congruent =
+    plain_is_congruent (1 ∷ []) None copied
+    (record { left = probe_of 0; is_left = refl; none_listed = refl; predicate = refl; arguments = refl })
+
+kept_is_congruent : IsCongruent (1 ∷ []) None kept
+kept_is_congruent =
+    plain_is_congruent (1 ∷ []) None kept
+    (record { left = probe_of 1; is_left = refl; none_listed = refl; predicate = refl; arguments = refl })
+
 copied_is_found : IsFoundWindow space_of_two unmoved (1 ∷ []) 1 copied
 copied_is_found = record {
   within = copied_is_within;
   shaped = refl;
-  congruent = record { predicate = refl; arguments = refl };
+  congruent = copied_is_congruent;
   spurious = copied_is_spurious;
   least = least_of_one_step unmoved;
   needed = needs_it;
 }
   where
-    needs_it : (place : ℕ) → place < 1 → IsCongruent (1 ∷ []) (without_update place copied) → ⊥
-    needs_it zero below is = omega (arith, one_step 0 0 1 1 is.arguments)
+    needs_it : (place : ℕ) → place < 1 → IsCongruent (1 ∷ []) None (without_update place copied) → ⊥
+    needs_it zero below is = omega (arith, one_step 0 0 1 1 ((one_classes_are_one _ _).0 is.sides.1))
     needs_it (suc n) below is = omega (arith, below)
 
 kept_is_found : IsFoundWindow space_of_two moved (1 ∷ []) 3 kept
 kept_is_found = record {
   within = kept_is_within;
   shaped = refl;
-  congruent = record { predicate = refl; arguments = refl };
+  congruent = kept_is_congruent;
   spurious = kept_is_spurious;
   least = least_of_one_step moved;
   needed = needs_it;
 }
   where
-    needs_it : (place : ℕ) → place < 1 → IsCongruent (1 ∷ []) (without_update place kept) → ⊥
-    needs_it zero below is = omega (arith, one_step 1 0 1 1 is.arguments)
+    needs_it : (place : ℕ) → place < 1 → IsCongruent (1 ∷ []) None (without_update place kept) → ⊥
+    needs_it zero below is = omega (arith, one_step 1 0 1 1 ((one_classes_are_one _ _).0 is.sides.1))
     needs_it (suc n) below is = omega (arith, below)
 
 -- there is one within the depth
 some_within_one_step : HasNoSpuriousWindow space_of_two unmoved (1 ∷ []) 1 → ⊥
-some_within_one_step none = none copied copied_is_within (record { predicate = refl; arguments = refl }) copied_is_spurious
+some_within_one_step none = none copied copied_is_within copied_is_congruent copied_is_spurious
 
 -- a window that is not spurious
 kept_is_not_found : IsFoundWindow space_of_two unmoved (1 ∷ []) 1 kept → ⊥
@@ -249,10 +273,15 @@ kept_is_not_found is = kept_is_not_spurious is.spurious
 
 -- an update too many: the probes are the same without it
 abbrev known : WindowTree
-known = record { left = probe_of 0; left_at = 1; right = probe_of 0; length = 1; updates = copies ∷ [] }
+known = record { left = Some (probe_of 0); left_at = 1; right = probe_of 0; length = 1; updates = copies ∷ []; equalities = [] }
+
+known_is_congruent : (updates : List ListedTree) → IsCongruent (1 ∷ []) None (record known { updates = updates })
+known_is_congruent updates =
+    plain_is_congruent (1 ∷ []) None (record known { updates = updates })
+    (record { left = probe_of 0; is_left = refl; none_listed = refl; predicate = refl; arguments = refl })
 
 one_update_too_many : IsFoundWindow space_of_two unmoved (1 ∷ []) 1 known → ⊥
-one_update_too_many is = is.needed 0 (omega arith) (record { predicate = refl; arguments = refl })
+one_update_too_many is = is.needed 0 (omega arith) (known_is_congruent [])
 
 -- two predicate terms and two vectors
 branches_of_two_steps : branch_count space_of_two 2 ≡ 16

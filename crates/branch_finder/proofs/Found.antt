@@ -1,5 +1,5 @@
 -- What is seen on a path is a congruent spurious window, and where nothing is seen on it there is none.
-use Rattle.std.proofs.Common.{◌≡◌, ◌∙◌, ℕ, suc, ◌+◌, ◌^◌, ◌<◌, ◌≤◌, nat_le, nat_lt, true, ◌&&◌, List, map, take, drop, Some, slice_get}
+use Rattle.std.proofs.Common.{◌≡◌, ◌∙◌, ℕ, suc, ◌+◌, ◌^◌, ◌<◌, ◌≤◌, nat_le, nat_lt, true, ◌&&◌, List, [], map, take, drop, Some, None, slice_get}
 use Rattle.std.proofs.Common.{refl, sym, ap, subst, arith}
 use Rattle.std.proofs.Common.{length as count_of}
 use Rattle.std.specs.List.{AllByRecursion, list_all}
@@ -10,9 +10,11 @@ use Rattle.sequence.specs.Numbers.{is_among}
 use Rattle.sequence.proofs.Each.{each_at, each_map, each_weaker, each_both}
 use Rattle.sequence.proofs.Passes.{list_all_from_each}
 use Rattle.sequence.proofs.Places.{slice_get_some, slice_get_one, slice_get_mapped}
+use Rattle.tsl_terms.specs.TermTree.{ProbeTree}
 use Rattle.tsl_terms.specs.WindowTree.{ListedTree, WindowTree}
 use Rattle.tsl_terms.specs.Congruence.{IsCongruent}
-use Rattle.program_tree.specs.Fits.{longest, rises, window_is_shaped}
+use Rattle.tsl_terms.proofs.PlainWindows.{congruent_is_plain}
+use Rattle.program_tree.specs.Fits.{longest, rises, left_is_shaped, equalities_are_shaped, window_is_shaped}
 use Rattle.ltl_formula.specs.Cubes.{has_bit}
 use Rattle.letter_space.specs.SpaceTree.{SpaceTree, IsSpace}
 use Rattle.letter_space.specs.Vectors.{vector_count}
@@ -32,6 +34,12 @@ use Rattle.branch_finder.proofs.Paths.{path_length, number_of_path}
 use Rattle.branch_finder.proofs.SetLemmas.{own_set, taken_too, taken_before}
 use Rattle.branch_finder.proofs.ToldApart.{Run, RunBy, run_by, leads_by, is_not, differ_by}
 use Rattle.branch_finder.proofs.VisitLemmas.{vector_within}
+
+-- a window with a left probe and without equalities is shaped as to these
+plain_shaped : (w : WindowTree) (left : ProbeTree) → w.left ≡ Some left → w.equalities ≡ [] →
+    (left_is_shaped w.left w.left_at && equalities_are_shaped w) ≡ true
+plain_shaped w left has none =
+    λ i. left_is_shaped (has i) w.left_at && equalities_are_shaped (record w { left = has i; equalities = none i })
 
 module _ (space : SpaceTree) (e : EnvironmentTree) (cells path : List ℕ) (is_space : IsSpace space)
     (vectors_counted : e.vectors ≡ vector_count space.controlled) (path_within : AllByRecursion (λ v. v < e.vectors) path) where
@@ -69,6 +77,8 @@ module _ (space : SpaceTree) (e : EnvironmentTree) (cells path : List ℕ) (is_s
           listed = each_weaker (IsOwn space cells (vector_at path) 0 (count_of path)) (λ u. IsOneOf space (run.vector u.offset) u)
               (one_of_run run) w.updates on.own;
           left_bit = pair.left;
+          left = on.left;
+          has_left = on.has_left;
           is_left = on.is_left;
           right_bit = pair.right;
           is_right = on.is_right;
@@ -93,7 +103,11 @@ module _ (space : SpaceTree) (e : EnvironmentTree) (cells path : List ℕ) (is_s
 
     seen_shaped : count_of path ≤ 3 → window_is_shaped cells w ≡ true
     seen_shaped short =
-        and_from (nat_le w.length longest && nat_le w.left_at w.length)
+        and_from
+        ((nat_le w.length longest && nat_le w.left_at w.length)
+        && (list_all (λ u. nat_lt u.offset w.length && is_among cells u.signal) w.updates && rises cells w.updates))
+        (left_is_shaped w.left w.left_at && equalities_are_shaped w)
+        (and_from (nat_le w.length longest && nat_le w.left_at w.length)
         (list_all (λ u. nat_lt u.offset w.length && is_among cells u.signal) w.updates && rises cells w.updates)
         (and_from (nat_le w.length longest) (nat_le w.left_at w.length) (le-leb w.length longest (omega (arith, short, on.length)))
         (le-leb w.left_at w.length seen_within.left_within))
@@ -103,7 +117,8 @@ module _ (space : SpaceTree) (e : EnvironmentTree) (cells path : List ℕ) (is_s
         (λ u. (nat_lt u.offset w.length && is_among cells u.signal) ≡ true)
         (λ u own. and_from (nat_lt u.offset w.length) (is_among cells u.signal) (lt-ltb u.offset w.length own.1) own.0)
         w.updates seen_within.listed))
-        (rises_one_by_one cells w.updates on.rise))
+        (rises_one_by_one cells w.updates on.rise)))
+        (plain_shaped w on.left on.has_left (congruent_is_plain cells w on.congruent).none_listed)
 
     pub seen_found : count_of path ≤ 3 → AreNeededFrom cells 0 w → IsFoundOf space e cells (count_of path) w
     seen_found short needed = record {
@@ -122,12 +137,20 @@ module _ (space : SpaceTree) (e : EnvironmentTree) (cells path : List ℕ) (is_s
   none_on_path unseen w long within congruent spurious agrees =
       unseen w.left_at spurious.left_bit spurious.right_bit (record {
         within = omega (arith, long, within.left_within);
-        left = w.left;
+        left = spurious.left;
         is_left = spurious.is_left;
         right = w.right;
         is_right = spurious.is_right;
         congruent =
-            subst (λ n. IsCongruent cells (record w { length = n; updates = all })) long
+            let plain = congruent_is_plain cells w congruent in
+            subst (IsCongruent cells None) (λ i. record {
+              left = spurious.has_left i;
+              left_at = w.left_at;
+              right = w.right;
+              length = long i;
+              updates = all;
+              equalities = plain.none_listed i;
+            })
             (congruent_on_path space cells (vector_at path) w all stand
             (each_weaker (IsOwn space cells (vector_at path) 0 (count_of path)) (λ u. IsOneOf space (vector_at path u.offset) u)
             (λ u own. own.one) all (own_updates space cells path))
@@ -244,7 +267,7 @@ module _ (space : SpaceTree) (e : EnvironmentTree) (cells : List ℕ) where
   -- without predicate terms there is none
   pub none_without_probes : (depth : ℕ) → count_of space.predicates ≡ 0 → HasNoSpuriousWindow space e cells depth
   none_without_probes depth empty w within congruent spurious =
-      omega (arith, slice_get_within space.predicates spurious.left_bit w.left spurious.is_left, empty)
+      omega (arith, slice_get_within space.predicates spurious.left_bit spurious.left spurious.is_left, empty)
 
 -- ---- first vectors
 

@@ -3,7 +3,6 @@ pub mod SetsMade
 pub mod MoveLemmas
 pub mod PlaneLemmas
 pub mod SetLemmas
-pub mod MoreUpdates
 pub mod PathUpdates
 pub mod UpdateOrder
 pub mod PathCongruence

@@ -16,7 +16,7 @@ use Rattle.letter_space.specs.SpaceTree.{SpaceTree}
 use Rattle.letter_space.specs.Letters.{term_taken}
 use Rattle.letter_space.specs.Vectors.{picks_of}
 use Rattle.branch_finder.specs.Spurious.{IsOneOf}
-use Rattle.branch_finder.proofs.MoreUpdates.{congruent_with_more}
+use Rattle.tsl_terms.proofs.MoreListed.{more_updates_keep_windows_congruent}
 
 -- each member of a list stands in another
 abbrev pub StandIn : List ListedTree → List ListedTree → Type 0
@@ -60,7 +60,7 @@ module _ (space : SpaceTree) (cells : List ℕ) (vector : ℕ → ℕ) where
         by true known = listed_more x known
         by false known = absurd (none-some x known)
 
-  pub congruent_on_path : (w : WindowTree) (more : List ListedTree) → StandIn w.updates more → AreOfPath more → IsCongruent cells w →
-      IsCongruent cells (record w { updates = more })
+  pub congruent_on_path : (w : WindowTree) (more : List ListedTree) → StandIn w.updates more → AreOfPath more → IsCongruent cells None w →
+      IsCongruent cells None (record w { updates = more })
   congruent_on_path w more stand of_path is =
-      congruent_with_more cells w more (λ t s x known. taken_more w.updates more stand of_path t s x known) is
+      more_updates_keep_windows_congruent cells None w more (λ t s x known. taken_more w.updates more stand of_path t s x known) is

@@ -1,5 +1,5 @@
 -- Labels of predicate terms along a path: where two are equal, the window of the probes is congruent.
-use Rattle.std.proofs.Common.{◌≡◌, ◌∙◌, ℕ, List, [], length, map, true, Some, slice_get, sym}
+use Rattle.std.proofs.Common.{◌≡◌, ◌∙◌, ℕ, List, [], length, map, true, Some, None, slice_get, sym}
 use Rattle.std.specs.Prelude.{◌↔◌}
 use Rattle.sequence.specs.Numbers.{is_among}
 use Rattle.sequence.proofs.Each.{each_weaker}
@@ -7,7 +7,7 @@ use Rattle.tsl_terms.specs.TermTree.{TermTree, ProbeTree}
 use Rattle.tsl_terms.specs.WindowTree.{ListedTree}
 use Rattle.tsl_terms.specs.FreeTree.{applied, FreeTrees}
 use Rattle.tsl_terms.specs.Unfolding.{unfolded, all_unfolded}
-use Rattle.tsl_terms.proofs.SingleClasses.{one_class_is_one}
+use Rattle.tsl_terms.proofs.SingleClasses.{one_class_is_one, one_classes_are_one}
 use Rattle.tsl_terms.specs.Congruence.{IsCongruent, UpdateCells}
 use Rattle.letter_space.specs.SpaceTree.{SpaceTree}
 use Rattle.letter_space.proofs.Places.{slice_get_image}
@@ -37,20 +37,27 @@ module _ (cells : List ℕ) (updates : List ListedTree) (of_cells : UpdateCells 
   pub congruent_by_labels : (probes : List ProbeTree) (last : ℕ) (rows : List (List ℕ)) →
       IsClassTable (map probe_term probes) updates [] last rows → (i j k a b : ℕ) (left right : ProbeTree) →
       slice_get probes i ≡ Some left → slice_get probes k ≡ Some right → label_at rows j i ≡ Some a → label_at rows last k ≡ Some b →
-      (a ≡ b) ↔ IsCongruent cells (record { left = left; left_at = j; right = right; length = last; updates = updates })
+      (a ≡ b) ↔ IsCongruent cells None
+      (record { left = Some left; left_at = j; right = right; length = last; updates = updates; equalities = [] })
   congruent_by_labels probes last rows table i j k a b left right is_left is_right at_left at_right =
       let exact = table.exact j last i k a b (probe_term left) (probe_term right) (slice_get_image probe_term probes i left is_left)
       (slice_get_image probe_term probes k right is_right) at_left at_right in
       let single = one_class_is_one (unfolded (updated_signals updates) updates j (probe_term left))
-      (unfolded (updated_signals updates) updates last (probe_term right)) in (
+      (unfolded (updated_signals updates) updates last (probe_term right)) in
+      let parts = one_classes_are_one (all_unfolded cells updates j left.arguments) (all_unfolded cells updates last right.arguments) in (
         λ same.
             let whole = sym (alike j (probe_term left)) ∙ single.0 (exact.0 same) ∙ alike last (probe_term right) in
             record {
-              predicate = same_functions left.predicate right.predicate (all_unfolded cells updates j left.arguments)
-                  (all_unfolded cells updates last right.arguments) whole;
-              arguments = same_parts left.predicate right.predicate (all_unfolded cells updates j left.arguments)
-                  (all_unfolded cells updates last right.arguments) whole;
+              equalities = tt;
+              sides = (
+                same_functions left.predicate right.predicate (all_unfolded cells updates j left.arguments)
+                    (all_unfolded cells updates last right.arguments) whole,
+                parts.1 (same_parts left.predicate right.predicate (all_unfolded cells updates j left.arguments)
+                    (all_unfolded cells updates last right.arguments) whole),
+              );
             },
-        λ is. exact.1 (single.1
-            (alike j (probe_term left) ∙ (λ n. applied (is.predicate n) (is.arguments n)) ∙ sym (alike last (probe_term right)))),
+        λ is.
+            let arguments = parts.0 is.sides.1 in
+            exact.1 (single.1
+            (alike j (probe_term left) ∙ (λ n. applied (is.sides.0 n) (arguments n)) ∙ sym (alike last (probe_term right)))),
       )

@@ -1,6 +1,6 @@
 -- Windows from which an update is left out: what is kept, and that what could not be left out before cannot be later.
 use Rattle.std.proofs.Common.{◌≡◌, ◌∙◌, ℕ, zero, suc, ◌+◌, ◌<◌, ◌≤◌, List, [], ◌∷◌, ◌++◌}
-use Rattle.std.proofs.Common.{take, drop, Some, slice_get, refl, sym, ap, subst, arith, inl, inr, ◌⊎◌, true}
+use Rattle.std.proofs.Common.{take, drop, Some, None, slice_get, refl, sym, ap, subst, arith, inl, inr, ◌⊎◌, true}
 use Rattle.std.proofs.Common.{length as count_of}
 use Rattle.std.proofs.Common.{map, get_or}
 use Rattle.std.proofs.lemmas.Option.{slice_get_read}
@@ -55,8 +55,10 @@ module _ (space : SpaceTree) (cells path : List ℕ) (pair : PairTree) (w : Wind
       us own
 
   -- it is still on the path, where it is congruent
-  pub still_on_path : (p : ℕ) → IsCongruent cells (without_update p w) → IsOnPath space cells path pair (without_update p w)
+  pub still_on_path : (p : ℕ) → IsCongruent cells None (without_update p w) → IsOnPath space cells path pair (without_update p w)
   still_on_path p congruent = record {
+    left = on.left;
+    has_left = on.has_left;
     is_left = on.is_left;
     is_right = on.is_right;
     left_at = on.left_at;
@@ -79,10 +81,10 @@ module _ (space : SpaceTree) (cells path : List ℕ) (pair : PairTree) (w : Wind
       is)
 
 -- an update that cannot be left out is needed beside those after it
-pub needed_here : (cells : List ℕ) (p : ℕ) (w : WindowTree) → (IsCongruent cells (without_update p w) → ⊥) → AreNeededFrom cells (p + 1) w →
+pub needed_here : (cells : List ℕ) (p : ℕ) (w : WindowTree) → (IsCongruent cells None (without_update p w) → ⊥) → AreNeededFrom cells (p + 1) w →
     AreNeededFrom cells p w
 needed_here cells p w here after k from below is = elim (here_or_after p k from) [
-  | inl same ↦ here (subst (λ n. IsCongruent cells (without_update n w)) (sym same) is)
+  | inl same ↦ here (subst (λ n. IsCongruent cells None (without_update n w)) (sym same) is)
   | inr later ↦ after k later below is
 ]
   where
@@ -91,19 +93,27 @@ needed_here cells p w here after k from below is = elim (here_or_after p k from)
 
 -- the window of a pair that is seen, with all updates
 pub seen_on_path : (space : SpaceTree) (e : EnvironmentTree) (cells path : List ℕ) (pair : PairTree) (w : WindowTree) →
-    (seen : IsSeen space e cells path pair) → w.left ≡ seen.left → w.left_at ≡ pair.left_at → w.right ≡ seen.right →
-    w.length ≡ count_of path → w.updates ≡ updates_along space.controlled cells 0 path → IsOnPath space cells path pair w
-seen_on_path space e cells path pair w seen left left_at right length updates = record {
-  is_left = seen.is_left ∙ ap Some (sym left);
+    (seen : IsSeen space e cells path pair) → w.left ≡ Some seen.left → w.left_at ≡ pair.left_at → w.right ≡ seen.right →
+    w.length ≡ count_of path → w.updates ≡ updates_along space.controlled cells 0 path → w.equalities ≡ [] →
+    IsOnPath space cells path pair w
+seen_on_path space e cells path pair w seen left left_at right length updates equalities = record {
+  left = seen.left;
+  has_left = left;
+  is_left = seen.is_left;
   is_right = seen.is_right ∙ ap Some (sym right);
   left_at = left_at;
   length = length;
   own = subst (λ us. AllByRecursion (IsOwn space cells (vector_at path) 0 (count_of path)) us) (sym updates) (own_updates space cells path);
   rise = subst (AllRise cells) (sym updates) (along_rise space cells 0 path);
   congruent =
-      subst (IsCongruent cells)
-      (λ i. record { left = sym left i; left_at = sym left_at i; right = sym right i; length = sym length i; updates = sym updates i })
-      seen.congruent;
+      subst (IsCongruent cells None) (λ i. record {
+        left = sym left i;
+        left_at = sym left_at i;
+        right = sym right i;
+        length = sym length i;
+        updates = sym updates i;
+        equalities = sym equalities i;
+      }) seen.congruent;
 }
 
 -- a predicate term that is read is the one that is wanted

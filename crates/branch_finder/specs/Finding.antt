@@ -1,8 +1,9 @@
--- What is found: a congruent spurious window of the least length that lists no update too many, or that there is none. And how many
--- pairs of predicate terms on paths of vectors there may be.
+-- What is found: a congruent spurious window of the least length that lists no update too many, or that there is none. No predicate
+-- is taken as equality here, so such windows have a left probe and list no equalities. And how many pairs of predicate terms on paths
+-- of vectors there may be.
 -- Source: Finkbeiner, Klein, Piskac, Santolucito: Temporal Stream Logic: Synthesis Beyond the Bools (CAV 2019), the refinement of
 -- the underapproximation. That a least one is found, and with which updates, is this project's own rule.
-use Rattle.std.specs.Prelude.{◌≡◌, ℕ, suc, ◌*◌, ◌^◌, ◌<◌, ◌≤◌, true, List, ◌++◌, map, take, drop, IsTrue}
+use Rattle.std.specs.Prelude.{◌≡◌, ℕ, suc, ◌*◌, ◌^◌, ◌<◌, ◌≤◌, true, List, ◌++◌, None, map, take, drop, IsTrue}
 use Rattle.std.specs.Prelude.{length as count_of}
 use Rattle.std.specs.List.{AllByRecursion}
 use Rattle.sequence.specs.Numbers.{is_among}
@@ -24,10 +25,10 @@ pub record IsWindowWithin (cells : List ℕ) (depth : ℕ) (w : WindowTree) : Ty
   pub left_within : w.left_at ≤ w.length
   pub listed : AllByRecursion (λ u. (is_among cells u.signal ≡ true) × (u.offset < w.length)) w.updates
 
--- no congruent window of at most this length is spurious
+-- no plain window, congruent where no predicate is equality, of at most this length is spurious
 abbrev pub HasNoSpuriousWindow : SpaceTree → EnvironmentTree → List ℕ → ℕ → Type 0
 HasNoSpuriousWindow space e cells depth =
-    (w : WindowTree) → IsWindowWithin cells depth w → IsCongruent cells w → IsSpurious space e w → ⊥
+    (w : WindowTree) → IsWindowWithin cells depth w → IsCongruent cells None w → IsSpurious space e w → ⊥
 
 -- a window without the update at a place
 abbrev pub without_update : ℕ → WindowTree → WindowTree
@@ -38,10 +39,10 @@ without_update place w = record w { updates = take place w.updates ++ drop (suc 
 pub record IsFoundWindow (space : SpaceTree) (e : EnvironmentTree) (cells : List ℕ) (depth : ℕ) (w : WindowTree) : Type 0 where
   pub within : IsWindowWithin cells depth w
   pub shaped : IsTrue (window_is_shaped cells w)
-  pub congruent : IsCongruent cells w
+  pub congruent : IsCongruent cells None w
   pub spurious : IsSpurious space e w
   pub least : (shorter : ℕ) → shorter < w.length → HasNoSpuriousWindow space e cells shorter
-  pub needed : (place : ℕ) → place < count_of w.updates → IsCongruent cells (without_update place w) → ⊥
+  pub needed : (place : ℕ) → place < count_of w.updates → IsCongruent cells None (without_update place w) → ⊥
 
 -- how many pairs of predicate terms there are on the paths of so many vectors
 abbrev pub branch_count : SpaceTree → ℕ → ℕ

@@ -3,6 +3,7 @@
 -- the underapproximation.
 use Rattle.std.specs.Prelude.{◌≡◌, ◌≢◌, ℕ, suc, ◌<◌, Some, slice_get}
 use Rattle.std.specs.List.{AllByRecursion}
+use Rattle.tsl_terms.specs.TermTree.{ProbeTree}
 use Rattle.tsl_terms.specs.WindowTree.{ListedTree, WindowTree}
 use Rattle.ltl_formula.specs.Cubes.{has_bit}
 use Rattle.letter_space.specs.SpaceTree.{SpaceTree}
@@ -16,8 +17,8 @@ abbrev pub IsOneOf : SpaceTree → ℕ → ListedTree → Type 0
 IsOneOf space vector u = term_taken space.controlled (picks_of space.controlled vector) u.signal ≡ Some u.term
 
 -- There is a path of as many vectors as the window is long, from a state that the environment visits, such that each listed update
--- is one of those of the vector at its offset, and what is true in the path's states has the bit of the left probe at its step and
--- not that of the right probe at the last one, or the other way round.
+-- is one of those of the vector at its offset, there is a left probe, and what is true in the path's states has its bit at its step
+-- and not that of the right probe at the last one, or the other way round.
 pub record IsSpurious (space : SpaceTree) (e : EnvironmentTree) (w : WindowTree) : Type 0 where
   pub state : ℕ → ℕ
   pub vector : ℕ → ℕ
@@ -25,7 +26,9 @@ pub record IsSpurious (space : SpaceTree) (e : EnvironmentTree) (w : WindowTree)
   pub steps : (t : ℕ) → t < w.length → successor_at e (state t) (vector t) ≡ Some (state (suc t))
   pub listed : AllByRecursion (λ u. IsOneOf space (vector u.offset) u) w.updates
   pub left_bit : ℕ
-  pub is_left : slice_get space.predicates left_bit ≡ Some w.left
+  pub left : ProbeTree
+  pub has_left : w.left ≡ Some left
+  pub is_left : slice_get space.predicates left_bit ≡ Some left
   pub right_bit : ℕ
   pub is_right : slice_get space.predicates right_bit ≡ Some w.right
   pub left_truths : ℕ

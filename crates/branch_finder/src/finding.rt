@@ -142,10 +142,10 @@ fn least_window(alloc: Global, search: &Search, depth: u32) -> Result<Option<Win
     Ok(None)
 }
 
-/// A congruent spurious window of the least length, at most the depth, that lists no update too many, in the
-/// order of programs; or none, where no congruent window of at most this length is spurious. It is refused
-/// with `Branches` exactly where the square of the number of predicate terms times the vectors to the depth is
-/// over 10,000,000. An `Err` may also say that memory ran out.
+/// A plain window, congruent where no predicate is equality, that is spurious and of the least length, at most the
+/// depth, and lists no update too many, in the order of programs; or none, where no plain window of at most this
+/// length is spurious. It is refused with `Branches` exactly where the square of the number of predicate terms
+/// times the vectors to the depth is over 10,000,000. An `Err` may also say that memory ran out.
 pub fn find_window(
     alloc: Global,
     environment: &Environment,

@@ -2,7 +2,8 @@
 //!
 //! An environment tells which predicate terms are true, and knows nothing of values: it may say of one value
 //! that a predicate holds of it, and then that it does not. A window is *congruent* where its two probes have
-//! one predicate, of arguments that are equal whatever the symbols mean (`tsl_terms`, `specs/Congruence`). It is
+//! one predicate, of arguments that are equal whatever the symbols mean (`tsl_terms`, `specs/Congruence`); no
+//! predicate is taken as equality here, so a window that is found has a left probe and lists no equalities. It is
 //! *spurious* where a path of the environment with the listed updates tells the probes apart
 //! (`specs/Spurious`). `find_window` looks for a congruent spurious window within a depth: it answers one of the
 //! least length that lists no update too many, or that there is none (`specs/Finding`).

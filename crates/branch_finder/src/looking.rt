@@ -1,6 +1,6 @@
 //! Which pairs of predicate terms a path tells apart although the windows of their probes are congruent.
 
-ghost use Rattle.std.specs.Prelude.{◌≡◌, ◌<◌, ◌≤◌, ◌↔◌, ℕ, map, length, Some, slice_get, IsTrue, IfOk, IfSome, IfNone};
+ghost use Rattle.std.specs.Prelude.{◌≡◌, ◌<◌, ◌≤◌, ◌↔◌, ℕ, map, length, Some, None, slice_get, IsTrue, IfOk, IfSome, IfNone};
 ghost use Rattle.tsl_terms.specs.TermTree.{ProbeTree};
 ghost use Rattle.tsl_terms.specs.Congruence.{IsCongruent};
 ghost use Rattle.letter_space.specs.SpaceView.{space_tree};
@@ -117,7 +117,7 @@ fn is_congruent(look: &Look, pair: Pair) -> bool
     requires pair { IsPairWithin look.now pair }
     ensures { (left right : ProbeTree) → slice_get (space_tree look.now.search.space.now).predicates pair.left ≡ Some left
         → slice_get (space_tree look.now.search.space.now).predicates pair.right ≡ Some right
-        → IsTrue result ↔ IsCongruent look.now.search.cells.now
+        → IsTrue result ↔ IsCongruent look.now.search.cells.now None
         (path_window (space_tree look.now.search.space.now) look.now.search.cells.now look.now.path.now pair.left_at left right) }
 {
     label(look, pair.left_at, pair.left) == label(look, look.path.len() as u32, pair.right)

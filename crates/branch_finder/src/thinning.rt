@@ -13,7 +13,7 @@ use crate::looking::{Look, Pair};
 use sequence::{NoMemory, Sequence};
 use std::alloc::Global;
 use term_congruence::congruent;
-use tsl_terms::{Listed, Window, copy_probe, copy_term};
+use tsl_terms::{Listed, Window, copy_probe, copy_term, copy_window};
 
 /// Adds equal updates at the end of others.
 fn add_copies(alloc: Global, copies: &mut Vec<Listed>, updates: &[Listed]) -> Result<(), NoMemory>
@@ -38,12 +38,21 @@ fn without_update(alloc: Global, window: &Window, place: usize) -> Result<Window
     let mut rest = Vec::new(alloc);
     add_copies(alloc, &mut rest, &updates[..place])?;
     add_copies(alloc, &mut rest, &updates[place + 1..])?;
+    let Window {
+        left,
+        left_at,
+        right,
+        length,
+        equalities,
+        ..
+    } = copy_window(alloc, window)?;
     Ok(Window {
-        left: copy_probe(alloc, &window.left)?,
-        left_at: window.left_at,
-        right: copy_probe(alloc, &window.right)?,
-        length: window.length,
+        left,
+        left_at,
+        right,
+        length,
         updates: Sequence::from_vec(rest),
+        equalities,
     })
 }
 
@@ -64,11 +73,12 @@ fn window_of(
 {
     let predicates = look.search.space.predicates.as_slice();
     Ok(Window {
-        left: copy_probe(alloc, &predicates[pair.left as usize])?,
+        left: Some(copy_probe(alloc, &predicates[pair.left as usize])?),
         left_at: pair.left_at,
         right: copy_probe(alloc, &predicates[pair.right as usize])?,
         length: look.path.len() as u32,
         updates: Sequence::from_vec(updates),
+        equalities: Sequence::new(alloc),
     })
 }
 
@@ -90,7 +100,7 @@ fn thinned_at(
     ensures needed { IfOk result (λ w. AreNeededFrom look.now.search.cells.now place (window_tree w)) }
 {
     let thinner = without_update(alloc, &window, place)?;
-    if congruent(alloc, &thinner, look.search.cells)? {
+    if congruent(alloc, &thinner, look.search.cells, None)? {
         return Ok(thinner);
     }
     Ok(window)

@@ -1,7 +1,8 @@
 -- An accepted program realizes the specification.
-use Rattle.std.proofs.Common.{◌≡◌, ◌∙◌, ℕ, ◌≤◌, Bool, true, not, List, ◌++◌, length, Option, Some, None, slice_get}
+use Rattle.std.proofs.Common.{◌≡◌, ◌∙◌, ℕ, ◌≤◌, Bool, true, not, List, [], ◌∷◌, ◌++◌, length, Option, Some, None, slice_get}
 use Rattle.std.proofs.Common.{sym, ap, subst, inl, inr, arith}
 use Rattle.std.specs.List.{list_all, AllByRecursion, position}
+use Rattle.std.proofs.lemmas.Bool.{and_parts}
 use Rattle.std.proofs.lemmas.List.{length-map}
 use Rattle.sequence.proofs.Booleans.{not_not}
 use Rattle.sequence.proofs.Each.{each_weaker}
@@ -11,12 +12,15 @@ use Rattle.sequence.proofs.Passes.{list_all_from_places}
 use Rattle.tsl_terms.specs.SpecTree.{SpecTree, whole_formula}
 use Rattle.tsl_terms.specs.Signals.{cells_of, outputs_of, choices_of}
 use Rattle.tsl_terms.specs.Predicates.{predicates_of}
-use Rattle.tsl_terms.specs.WindowTree.{window_formula_of, under_windows}
+use Rattle.tsl_terms.specs.Name.{Name}
+use Rattle.tsl_terms.specs.WindowTree.{WindowTree, window_formula_of, under_windows}
 use Rattle.tsl_terms.specs.Congruence.{IsCongruent}
+use Rattle.tsl_terms.specs.Equality.{equality_in}
 use Rattle.tsl_terms.specs.Laws.{FormulasFit}
 use Rattle.program_tree.specs.NodeTree.{NodeTree, branch, assign}
 use Rattle.program_tree.specs.ProgramTree.{ProgramTree}
-use Rattle.program_tree.specs.Fits.{IsProgram}
+use Rattle.program_tree.specs.Fits.{IsProgram, window_is_shaped, window_reads_only, window_fits}
+use Rattle.tsl_meaning.specs.OverNames.{window_is_over, IsProgramOver}
 use Rattle.tsl_meaning.specs.Interpretation.{meanings_in}
 use Rattle.tsl_meaning.specs.Lasso.{closed_run, Meets}
 use Rattle.tsl_meaning.specs.Promise.{EveryRunMeets, Realizes}
@@ -54,6 +58,25 @@ none_fails passes xs none = elim (position_tells (λ x. not (passes x)) xs) [
       sym (not_not (passes x)) ∙ ap not (find_none_at (λ y. not (passes y)) xs i x missing.1 at))
 ]
 
+-- the congruent windows of a program over names hold in every run
+pub sound_windows_hold : (names : List Name) (program : ProgramTree) → IsProgramOver names program →
+    AllByRecursion (IsCongruent program.cells (equality_in names)) program.windows →
+    AllByRecursion (λ w. EveryRunMeets names program (window_formula_of w)) program.windows
+sound_windows_hold names program over sound = each program.windows over.windows over.is_program.windows_fit sound
+  where
+    each : (ws : List WindowTree) → list_all (window_is_over names) ws ≡ true →
+        list_all (window_fits (program.inputs ++ program.cells) program.cells) ws ≡ true →
+        AllByRecursion (IsCongruent program.cells (equality_in names)) ws →
+        AllByRecursion (λ w. EveryRunMeets names program (window_formula_of w)) ws
+    each [] named fit congruent = tt
+    each (w ∷ ws) named fit congruent =
+        let is_named = and_parts (window_is_over names w) (list_all (window_is_over names) ws) named in
+        let fits = and_parts (window_fits (program.inputs ++ program.cells) program.cells w) _ fit in
+        let reads = and_parts (window_is_shaped program.cells w) (window_reads_only (program.inputs ++ program.cells) w) fits.0 in (
+          congruent_windows_hold names program w over is_named.0 reads.1 congruent.0,
+          each ws is_named.1 fits.1 congruent.1,
+        )
+
 -- where no node is refused, the program has the bits of the specification
 pub over_bits : (spec : SpecTree) (program : ProgramTree) → IsOverBits spec program → ProgramHasBits (spec_space spec) program
 over_bits spec program over = record {
@@ -68,11 +91,10 @@ module _ (spec : SpecTree) (program : ProgramTree) (bound : ℕ) where
   realized fits is_program few over found =
       let bits = over_bits spec program over in
       let windows = none_fails (window_has_bits (spec_space spec)) program.windows over.foreign in
-      let hold : AllByRecursion (λ w. EveryRunMeets spec.names program (window_formula_of w)) program.windows =
-      each_weaker (IsCongruent program.cells) (λ w. EveryRunMeets spec.names program (window_formula_of w))
-      (λ w. congruent_windows_hold spec.names program w is_program) program.windows over.sound in
+      let over_names = program_over spec fits program is_program over.signals windows bits.nodes in
+      let hold = sound_windows_hold spec.names program over_names over.sound in
       record {
-        over_names = program_over spec fits program is_program over.signals windows bits.nodes;
+        over_names = over_names;
         inputs = over.signals.inputs;
         cells = over.signals.cells;
         outputs = over.signals.outputs;

@@ -3,6 +3,7 @@ pub mod SpaceTerms
 pub mod ProgramNames
 pub mod UnderWindows
 pub mod SoundWindows
+pub mod WindowTests
 pub mod Accepted
 pub mod ChosenTerms
 pub mod OneVerdict

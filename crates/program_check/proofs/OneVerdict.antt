@@ -65,14 +65,14 @@ module _ (spec : SpecTree) (program : ProgramTree) (bound : ℕ) where
   only_foreign i has nodes first Yes w_is = absurd (none_never_some (first_foreign_window spec program) i w_is.0.foreign first)
 
   only_unsound : (i : ℕ) → HasSignals spec program → first_refused_node spec program ≡ None → first_foreign_window spec program ≡ None →
-      IsUnsoundAt program i → (w : Verdict) → IsVerdict spec program bound w → Unsound i ≡ w
+      IsUnsoundAt spec program i → (w : Verdict) → IsVerdict spec program bound w → Unsound i ≡ w
   only_unsound i has nodes none at Signals w_is = absurd (w_is has)
   only_unsound i has nodes none at (Test j) w_is = absurd (none_never_some (first_refused_node spec program) j nodes w_is.1.first)
   only_unsound i has nodes none at (Choice j) w_is = absurd (none_never_some (first_refused_node spec program) j nodes w_is.1.first)
   only_unsound i has nodes none at (Foreign j) w_is = absurd (none_never_some (first_foreign_window spec program) j none w_is.2)
-  only_unsound i has nodes none at (Unsound j) w_is = ap Unsound (one_unsound program i j at w_is.3)
-  only_unsound i has nodes none at NoAnnotation w_is = absurd (never_sound program i at w_is.0.sound)
-  only_unsound i has nodes none at Yes w_is = absurd (never_sound program i at w_is.0.sound)
+  only_unsound i has nodes none at (Unsound j) w_is = ap Unsound (one_unsound spec program i j at w_is.3)
+  only_unsound i has nodes none at NoAnnotation w_is = absurd (never_sound spec program i at w_is.0.sound)
+  only_unsound i has nodes none at Yes w_is = absurd (never_sound spec program i at w_is.0.sound)
 
   only_no_annotation : IsOverBits spec program → (HasAnnotation spec program bound → ⊥) →
       (w : Verdict) → IsVerdict spec program bound w → NoAnnotation ≡ w
@@ -80,7 +80,7 @@ module _ (spec : SpecTree) (program : ProgramTree) (bound : ℕ) where
   only_no_annotation over none (Test j) w_is = absurd (none_never_some (first_refused_node spec program) j over.nodes w_is.1.first)
   only_no_annotation over none (Choice j) w_is = absurd (none_never_some (first_refused_node spec program) j over.nodes w_is.1.first)
   only_no_annotation over none (Foreign j) w_is = absurd (none_never_some (first_foreign_window spec program) j over.foreign w_is.2)
-  only_no_annotation over none (Unsound j) w_is = absurd (never_sound program j w_is.3 over.sound)
+  only_no_annotation over none (Unsound j) w_is = absurd (never_sound spec program j w_is.3 over.sound)
   only_no_annotation over none NoAnnotation w_is = refl
   only_no_annotation over none Yes w_is = absurd (none w_is.1)
 
@@ -89,7 +89,7 @@ module _ (spec : SpecTree) (program : ProgramTree) (bound : ℕ) where
   only_yes over found (Test j) w_is = absurd (none_never_some (first_refused_node spec program) j over.nodes w_is.1.first)
   only_yes over found (Choice j) w_is = absurd (none_never_some (first_refused_node spec program) j over.nodes w_is.1.first)
   only_yes over found (Foreign j) w_is = absurd (none_never_some (first_foreign_window spec program) j over.foreign w_is.2)
-  only_yes over found (Unsound j) w_is = absurd (never_sound program j w_is.3 over.sound)
+  only_yes over found (Unsound j) w_is = absurd (never_sound spec program j w_is.3 over.sound)
   only_yes over found NoAnnotation w_is = absurd (w_is.1.none found)
   only_yes over found Yes w_is = refl
 

@@ -28,7 +28,7 @@ module _ (spec : SpecTree) (program : ProgramTree) (bound : ℕ) where
   without_question over none (Test i) is = none_never_some (first_refused_node spec program) i over.nodes is.1.first
   without_question over none (Choice i) is = none_never_some (first_refused_node spec program) i over.nodes is.1.first
   without_question over none (Foreign i) is = none_never_some (first_foreign_window spec program) i over.foreign is.2
-  without_question over none (Unsound i) is = never_sound program i is.3 over.sound
+  without_question over none (Unsound i) is = never_sound spec program i is.3 over.sound
   without_question over none NoAnnotation is = none is.1.controller is.1.edges is.1.question
   without_question over none Yes is = none is.1.controller is.1.edges is.1.question
 

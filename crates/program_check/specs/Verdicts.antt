@@ -11,6 +11,7 @@ use Rattle.tsl_terms.specs.SpecTree.{SpecTree, whole_formula}
 use Rattle.tsl_terms.specs.Signals.{inputs_of, cells_of, outputs_of}
 use Rattle.tsl_terms.specs.WindowTree.{WindowTree, window_probes, under_windows}
 use Rattle.tsl_terms.specs.Congruence.{IsCongruent}
+use Rattle.tsl_terms.specs.Equality.{equality_in}
 use Rattle.program_tree.specs.NodeTree.{branch, assign}
 use Rattle.program_tree.specs.ProgramTree.{ProgramTree}
 use Rattle.ltl_formula.specs.LtlTree.{LtlTree}
@@ -76,16 +77,16 @@ window_has_bits space w =
 abbrev pub first_foreign_window : SpecTree → ProgramTree → Option ℕ
 first_foreign_window spec program = position (λ w. not (window_has_bits (spec_space spec) w)) program.windows
 
--- each window is congruent, the cells being those of the program
-abbrev pub AreSound : ProgramTree → Type 0
-AreSound program = AllByRecursion (IsCongruent program.cells) program.windows
+-- each window is congruent, the cells being those of the program and equality that of the specification's names
+abbrev pub AreSound : SpecTree → ProgramTree → Type 0
+AreSound spec program = AllByRecursion (IsCongruent program.cells (equality_in spec.names)) program.windows
 
 -- the first window that is not congruent
-pub record IsUnsoundAt (program : ProgramTree) (i : ℕ) : Type 0 where
+pub record IsUnsoundAt (spec : SpecTree) (program : ProgramTree) (i : ℕ) : Type 0 where
   pub window : WindowTree
   pub there : slice_get program.windows i ≡ Some window
-  pub unsound : IsCongruent program.cells window → ⊥
-  pub before : AllByRecursion (IsCongruent program.cells) (take i program.windows)
+  pub unsound : IsCongruent program.cells (equality_in spec.names) window → ⊥
+  pub before : AllByRecursion (IsCongruent program.cells (equality_in spec.names)) (take i program.windows)
 
 -- the formula that an automaton is asked for: for controllers the negation of the whole formula under windows, for environments that
 -- formula itself
@@ -130,7 +131,7 @@ pub record IsOverBits (spec : SpecTree) (program : ProgramTree) : Type 0 where
   pub signals : HasSignals spec program
   pub nodes : first_refused_node spec program ≡ None
   pub foreign : first_foreign_window spec program ≡ None
-  pub sound : AreSound program
+  pub sound : AreSound spec program
 
 -- what each verdict says, each after those above it
 abbrev pub IsVerdict : SpecTree → ProgramTree → ℕ → Verdict → Type 0
@@ -140,7 +141,8 @@ IsVerdict spec program bound (Choice i) = HasSignals spec program × RefusesTerm
 IsVerdict spec program bound (Foreign i) =
     HasSignals spec program × (first_refused_node spec program ≡ None) × (first_foreign_window spec program ≡ Some i)
 IsVerdict spec program bound (Unsound i) =
-    HasSignals spec program × (first_refused_node spec program ≡ None) × (first_foreign_window spec program ≡ None) × IsUnsoundAt program i
+    HasSignals spec program × (first_refused_node spec program ≡ None) × (first_foreign_window spec program ≡ None) ×
+    IsUnsoundAt spec program i
 IsVerdict spec program bound NoAnnotation = IsOverBits spec program × HasNoAnnotation spec program bound
 IsVerdict spec program bound Yes = IsOverBits spec program × HasAnnotation spec program bound
 

@@ -56,7 +56,7 @@ pub fn accept(
     if let Some(window) = foreign_window(program, &space) {
         return Ok(Verdict::Foreign(window));
     }
-    if let Some(window) = unsound_window(alloc, program)? {
+    if let Some(window) = unsound_window(alloc, spec, program)? {
         return Ok(Verdict::Unsound(window));
     }
     verdict_on_runs(alloc, spec, program, &space, bound)

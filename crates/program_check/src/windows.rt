@@ -1,9 +1,11 @@
 //! Which window of a program is refused.
 
-ghost use Rattle.std.specs.Prelude.{◌≡◌, ◌<◌, ◌^◌, not, is_some, length, map, position, IfOk, IfSome, IfNone};
+ghost use Rattle.std.specs.Prelude.{◌≡◌, ◌<◌, ◌^◌, true, not, is_some, length, map, position, IfOk, IfSome, IfNone};
+ghost use Rattle.std.specs.Option.{option_map_or};
 ghost use Rattle.std.specs.List.{list_all};
 ghost use Rattle.tsl_terms.specs.TermTree.{term_tree, probe_tree};
-ghost use Rattle.tsl_terms.specs.WindowTree.{window_tree};
+ghost use Rattle.tsl_terms.specs.SpecView.{spec_tree};
+ghost use Rattle.tsl_terms.specs.WindowTree.{window_tree, window_probes};
 ghost use Rattle.program_tree.specs.ProgramView.{program_tree};
 ghost use Rattle.letter_space.specs.SpaceView.{space_tree};
 ghost use Rattle.letter_space.specs.Bits.{bit_of_probe, bit_of_update};
@@ -14,7 +16,7 @@ use program_tree::Program;
 use sequence::NoMemory;
 use std::alloc::Global;
 use term_congruence::congruent;
-use tsl_terms::{Listed, Probe, Window};
+use tsl_terms::{Equated, Listed, Probe, Spec, Window, equality_of};
 
 /// The first window with a probe that is no predicate term, or with an update that is no choice, if there is one.
 pub(crate) fn foreign_window(program: &Program, space: &Space) -> Option<u32>
@@ -36,9 +38,35 @@ fn first_foreign(windows: &[Window], space: &Space) -> Option<usize>
 fn has_bits(space: &Space, window: &Window) -> bool
     ensures { result ≡ window_has_bits (space_tree space.now) (window_tree window.now) }
 {
-    is_test(space, &window.left)
+    has_tests(space, window) && are_choices(space, window.updates.as_slice())
+}
+
+/// Whether the probes of a window are predicate terms.
+fn has_tests(space: &Space, window: &Window) -> bool
+    ensures { result ≡ list_all (λ p. is_some (bit_of_probe (space_tree space.now) p)) (window_probes (window_tree window.now)) }
+{
+    are_tests(space, window.equalities.as_slice())
+        && is_test_if_some(space, &window.left)
         && is_test(space, &window.right)
-        && are_choices(space, window.updates.as_slice())
+}
+
+/// Whether listed equalities are predicate terms.
+fn are_tests(space: &Space, equalities: &[Equated]) -> bool
+    ensures { result ≡ list_all (λ e. is_some (bit_of_probe (space_tree space.now) (probe_tree e.probe))) equalities.now }
+{
+    equalities
+        .iter()
+        .all(|equality| is_test(space, &equality.probe))
+}
+
+/// Whether a probe is a predicate term, or there is none.
+fn is_test_if_some(space: &Space, probe: &Option<Probe>) -> bool
+    ensures { result ≡ option_map_or (λ p. is_some (bit_of_probe (space_tree space.now) (probe_tree p))) probe.now true }
+{
+    match probe {
+        Some(probe) => is_test(space, probe),
+        None => true,
+    }
 }
 
 /// Whether a probe is a predicate term.
@@ -62,15 +90,20 @@ fn is_choice(space: &Space, update: &Listed) -> bool
     space.update_bit(update.signal, &update.term).is_some()
 }
 
-/// The first window that is not congruent, if there is one. An `Err` says that memory ran out.
-pub(crate) fn unsound_window(alloc: Global, program: &Program) -> Result<Option<u32>, NoMemory>
+/// The first window that is not congruent, with the equality of the specification's names, if there is one. An `Err` says that memory ran out.
+pub(crate) fn unsound_window(
+    alloc: Global,
+    spec: &Spec,
+    program: &Program,
+) -> Result<Option<u32>, NoMemory>
     requires { length program.now.windows < 2 ^ 32 }
-    ensures none { IfOk result (λ found. IfNone found (AreSound (program_tree program.now))) }
-    ensures some { IfOk result (λ found. IfSome found (IsUnsoundAt (program_tree program.now))) }
+    ensures none { IfOk result (λ found. IfNone found (AreSound (spec_tree spec.now) (program_tree program.now))) }
+    ensures some { IfOk result (λ found. IfSome found (IsUnsoundAt (spec_tree spec.now) (program_tree program.now))) }
 {
+    let equality = equality_of(&spec.names);
     let cells = program.cells.as_slice();
     for (place, window) in program.windows.as_slice().iter().enumerate() {
-        let is_congruent = congruent(alloc, window, cells)?;
+        let is_congruent = congruent(alloc, window, cells, equality)?;
         if !is_congruent {
             return Ok(Some(place as u32));
         }

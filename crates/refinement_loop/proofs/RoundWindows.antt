@@ -1,7 +1,7 @@
 -- The windows of a chain: each is one of the specification's cells, congruent, and made of predicate terms and choices. So it reads
 -- the specification's signals alone, and can be written over its names.
 use Rattle.std.proofs.Common.{◌≡◌, ◌∙◌, ℕ, ◌+◌, ◌==◌, Bool, true, false, cond, ◌&&◌, List, [], ◌∷◌, ◌++◌, Option, None, Some}
-use Rattle.std.proofs.Common.{slice_get, nat_le, nat_lt, refl, sym}
+use Rattle.std.proofs.Common.{slice_get, nat_le, nat_lt, refl, sym, ap}
 use Rattle.std.specs.Prelude.{is_some, option_map, option_and_then, position}
 use Rattle.std.specs.List.{list_all, AllByRecursion}
 use Rattle.std.proofs.lemmas.Bool.{and_parts, and_from}
@@ -17,6 +17,8 @@ use Rattle.tsl_terms.specs.SpecTree.{SpecTree, whole_formula}
 use Rattle.tsl_terms.specs.Signals.{formula_reads, formula_updates, is_cell, name_numbers, inputs_of, cells_of}
 use Rattle.tsl_terms.specs.WindowTree.{ListedTree, WindowTree, window_probes}
 use Rattle.tsl_terms.specs.Congruence.{IsCongruent}
+use Rattle.tsl_terms.specs.Equality.{equality_in}
+use Rattle.tsl_terms.proofs.PlainWindows.{congruent_is_plain, congruent_whatever}
 use Rattle.tsl_terms.specs.Laws.{FormulasFit}
 use Rattle.tsl_terms.proofs.SameLemmas.{same_tree_itself, same_probe_itself}
 use Rattle.tsl_terms.proofs.SignalFacts.{read_is_input_or_cell, whole_reads}
@@ -39,7 +41,7 @@ use Rattle.refinement_loop.specs.declared.outcome.Search.{Search}
 -- what each window of a chain keeps
 pub record IsKnown (spec : SpecTree) (w : WindowTree) : Type 0 where
   pub shaped : window_is_shaped (cells_of spec) w ≡ true
-  pub congruent : IsCongruent (cells_of spec) w
+  pub congruent : IsCongruent (cells_of spec) (equality_in spec.names) w
   pub bits : window_has_bits (spec_space spec) w ≡ true
 
 -- a choice has a bit
@@ -79,12 +81,16 @@ module _ (space : SpaceTree) where
   probe_has_bit bit p at = position_there (λ q. same_probe_tree q p) space.predicates bit p at (same_probe_itself p)
 
   -- a window that is spurious is made of the space's predicate terms and choices
-  pub spurious_has_bits : (e : EnvironmentTree) (w : WindowTree) → IsSpurious space e w → window_has_bits space w ≡ true
-  spurious_has_bits e w spurious =
+  pub spurious_has_bits : (e : EnvironmentTree) (w : WindowTree) → w.equalities ≡ [] → IsSpurious space e w →
+      window_has_bits space w ≡ true
+  spurious_has_bits e w none spurious =
       and_from (list_all (λ p. is_some (bit_of_probe space p)) (window_probes w))
       (list_all (λ (u : ListedTree). is_some (bit_of_update space u.signal u.term)) w.updates)
-      (list_all_from_each (λ p. is_some (bit_of_probe space p)) (window_probes w)
-      (probe_has_bit spurious.left_bit w.left spurious.is_left, (probe_has_bit spurious.right_bit w.right spurious.is_right, tt)))
+      (ap (list_all (λ p. is_some (bit_of_probe space p))) (λ i. window_probes (record w { left = spurious.has_left i; equalities = none i }))
+      ∙ list_all_from_each (λ p. is_some (bit_of_probe space p)) (spurious.left ∷ w.right ∷ []) (
+        probe_has_bit spurious.left_bit spurious.left spurious.is_left,
+        (probe_has_bit spurious.right_bit w.right spurious.is_right, tt),
+      ))
       (listed_have_bits spurious.vector w.updates spurious.listed)
 
 -- the windows of a chain
@@ -94,8 +100,9 @@ each_known spec search windows [] chain = tt
 each_known spec search windows (round ∷ rounds) chain = (
   record {
     shaped = chain.0.shaped;
-    congruent = chain.0.congruent;
-    bits = spurious_has_bits (spec_space spec) round.environment round.window chain.0.spurious;
+    congruent = congruent_whatever (cells_of spec) (equality_in spec.names) round.window chain.0.congruent;
+    bits = spurious_has_bits (spec_space spec) round.environment round.window
+        (congruent_is_plain (cells_of spec) round.window chain.0.congruent).none_listed chain.0.spurious;
   },
   each_known spec search (windows ++ round.window ∷ []) rounds chain.1,
 )
@@ -141,7 +148,7 @@ module _ (spec : SpecTree) (fits : FormulasFit spec) where
 pub listed_of_cell : (spec : SpecTree) (w : WindowTree) → window_is_shaped (cells_of spec) w ≡ true →
     AllByRecursion (λ (u : ListedTree). is_cell spec u.signal ≡ true) w.updates
 listed_of_cell spec w shaped =
-    let halves = and_parts (nat_le w.length longest && nat_le w.left_at w.length) _ shaped in
+    let halves = and_parts (nat_le w.length longest && nat_le w.left_at w.length) _ (and_parts _ _ shaped).0 in
     let updates = and_parts (list_all (λ (u : ListedTree). nat_lt u.offset w.length && is_among (cells_of spec) u.signal) w.updates)
     (rises (cells_of spec) w.updates) halves.1 in
     each_weaker (λ (u : ListedTree). (nat_lt u.offset w.length && is_among (cells_of spec) u.signal) ≡ true)

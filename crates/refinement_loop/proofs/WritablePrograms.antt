@@ -1,10 +1,10 @@
 -- The program of a controller that answers the question for a specification can be written over its names.
-use Rattle.std.proofs.Common.{◌≡◌, ◌∙◌, ℕ, ◌*◌, ◌≤◌, true, List, [], ◌∷◌, ◌++◌, length, refl, ap, arith}
+use Rattle.std.proofs.Common.{◌≡◌, ◌∙◌, ℕ, ◌*◌, ◌≤◌, true, List, [], ◌∷◌, ◌++◌, length, map, Option, Some, None, refl, sym, ap, subst, arith}
 use Rattle.std.specs.Prelude.{is_some}
 use Rattle.std.specs.List.{list_all, AllByRecursion}
 use Rattle.std.proofs.lemmas.Bool.{and_parts, and_from}
 use Rattle.std.proofs.Math.Nat.{mul-le-mul, pow-le-pow_right}
-use Rattle.sequence.proofs.Each.{each_both}
+use Rattle.sequence.proofs.Each.{each_both, each_joined, each_map, each_weaker}
 use Rattle.sequence.proofs.Passes.{each_from_list_all, list_all_from_each, list_all_weaker}
 use Rattle.tsl_terms.specs.declared.names.NameKind.TheVariants.{Signal}
 use Rattle.tsl_terms.specs.Name.{Name, is_name}
@@ -13,14 +13,16 @@ use Rattle.tsl_terms.specs.FormulaTree.{update}
 use Rattle.tsl_terms.specs.Atoms.{atoms}
 use Rattle.tsl_terms.specs.SpecTree.{SpecTree, whole_formula}
 use Rattle.tsl_terms.specs.Signals.{is_cell}
-use Rattle.tsl_terms.specs.WindowTree.{ListedTree, WindowTree, window_probes}
+use Rattle.tsl_terms.specs.WindowTree.{ListedTree, EquatedTree, WindowTree, window_probes, right_alone}
+use Rattle.tsl_terms.specs.Equality.{equality_in}
+use Rattle.tsl_terms.specs.Congruence.{IsEquality, SidesAreOne, IsCongruent}
 use Rattle.tsl_terms.specs.WellFormed.{atom_fits, term_fits, SpecFits}
 use Rattle.tsl_terms.proofs.WholeAtoms.{whole_is_made_of}
 use Rattle.program_tree.specs.NodeTree.{NodeTree, branch, assign}
 use Rattle.program_tree.specs.ProgramTree.{ProgramTree, controlled}
 use Rattle.program_tree.specs.Fits.{IsProgram}
 use Rattle.program_tree.specs.Writable.{IsWritable, signal_fits, term_is_writable, probe_is_writable}
-use Rattle.program_tree.specs.Writable.{listed_is_writable, window_is_writable, node_is_writable}
+use Rattle.program_tree.specs.Writable.{listed_is_writable, window_is_writable, HasEqualities, node_is_writable}
 use Rattle.letter_space.specs.Bits.{bit_of_probe, bit_of_update}
 use Rattle.letter_space.specs.SpecSpace.{spec_space}
 use Rattle.letter_space.specs.Letters.{valuation_count}
@@ -33,6 +35,18 @@ use Rattle.refinement_loop.specs.Questions.{IsWrittenFor}
 use Rattle.refinement_loop.proofs.RoundWindows.{IsKnown, listed_of_cell}
 use Rattle.refinement_loop.proofs.UsableSignals.{signal_fits_if_named}
 use Rattle.refinement_loop.proofs.WrittenPrograms.{has_bits, windows_have_bits, is_over}
+
+-- what has to be an equality in a congruent window is one
+has_equalities : (cells : List ℕ) (names : List Name) (w : WindowTree) → IsCongruent cells (equality_in names) w →
+    HasEqualities names w
+has_equalities cells names w is =
+    each_joined (IsEquality (equality_in names)) (map (λ (e : EquatedTree). e.probe) w.equalities) (right_alone w.left w.right)
+    (each_map (IsEquality (equality_in names)) (λ (e : EquatedTree). e.probe) w.equalities is.equalities) (alone w.left is.sides)
+  where
+    alone : (left : Option ProbeTree) → SidesAreOne cells (equality_in names) w left →
+        AllByRecursion (IsEquality (equality_in names)) (right_alone left w.right)
+    alone None sides = (sides.0, tt)
+    alone (Some left) sides = tt
 
 module _ (spec : SpecTree) (fits : SpecFits spec) where
   abbrev names : List Name
@@ -107,6 +121,8 @@ module _ (spec : SpecTree) (fits : SpecFits spec) where
           (windows_have_bits spec windows known states bound program written)
           (has_bits spec windows known states bound program written).nodes).signals;
       windows = ap (list_all (window_is_writable names)) written.flow.has_windows ∙ windows_written windows known;
+      equalities = subst (AllByRecursion (HasEqualities names)) (sym written.flow.has_windows)
+          (each_weaker (IsKnown spec) (HasEqualities names) (λ w is. has_equalities (cells_of spec) names w is.congruent) windows known);
       nodes = list_all_weaker (node_passes (probe_is_writable names) (term_is_writable names)) (node_is_writable names) node_written
           program.nodes (nodes_pass spec (atom_fits names) atoms_fit (probe_is_writable names) (λ p fit. fit) (term_is_writable names)
           term_written cell_written program.nodes (has_bits spec windows known states bound program written).nodes);

@@ -11,6 +11,7 @@ use Rattle.tsl_terms.specs.Signals.{inputs_of, cells_of, outputs_of, choices_of}
 use Rattle.tsl_terms.specs.Predicates.{predicates_of}
 use Rattle.tsl_terms.specs.WindowTree.{WindowTree}
 use Rattle.tsl_terms.specs.Congruence.{IsCongruent}
+use Rattle.tsl_terms.specs.Equality.{equality_in}
 use Rattle.tsl_terms.specs.Laws.{FormulasFit}
 use Rattle.program_tree.specs.ProgramTree.{ProgramTree}
 use Rattle.program_tree.specs.Fits.{IsProgram}
@@ -74,16 +75,16 @@ module _ (spec : SpecTree) (windows : List WindowTree) (known : AllByRecursion (
   pub windows_have_bits : list_all (window_has_bits space) program.windows ≡ true
   windows_have_bits = ap (list_all (window_has_bits space)) written.flow.has_windows ∙ known_have_bits spec windows known
 
-  are_congruent : AllByRecursion (IsCongruent (cells_of spec)) windows
-  are_congruent = each_weaker (IsKnown spec) (IsCongruent (cells_of spec)) (λ w is. is.congruent) windows known
+  are_congruent : AllByRecursion (IsCongruent (cells_of spec) (equality_in spec.names)) windows
+  are_congruent = each_weaker (IsKnown spec) (IsCongruent (cells_of spec) (equality_in spec.names)) (λ w is. is.congruent) windows known
 
   pub is_over : IsOverBits spec program
   is_over = record {
     signals = record { inputs = written.flow.has_inputs; cells = written.flow.has_cells; outputs = written.flow.has_outputs };
     nodes = none_refused (node_has_bits space) program.nodes has_bits.nodes;
     foreign = none_refused (window_has_bits space) program.windows windows_have_bits;
-    sound = subst (λ cells. AllByRecursion (IsCongruent cells) program.windows) (sym written.flow.has_cells)
-        (subst (AllByRecursion (IsCongruent (cells_of spec))) (sym written.flow.has_windows) are_congruent);
+    sound = subst (λ cells. AllByRecursion (IsCongruent cells (equality_in spec.names)) program.windows) (sym written.flow.has_cells)
+        (subst (AllByRecursion (IsCongruent (cells_of spec) (equality_in spec.names))) (sym written.flow.has_windows) are_congruent);
   }
 
   -- the controller of the program, and its annotation

@@ -2,7 +2,7 @@
 -- environment does what no run does. Each round is one under the windows of the rounds before it.
 -- Source: Finkbeiner, Klein, Piskac, Santolucito: Temporal Stream Logic: Synthesis Beyond the Bools (CAV 2019), the refinement of
 -- the underapproximation.
-use Rattle.std.specs.Prelude.{◌≤◌, List, [], ◌∷◌, ◌++◌, IsTrue, ⊤}
+use Rattle.std.specs.Prelude.{◌≤◌, List, [], ◌∷◌, ◌++◌, None, IsTrue, ⊤}
 use Rattle.tsl_terms.specs.SpecTree.{SpecTree}
 use Rattle.tsl_terms.specs.Signals.{cells_of}
 use Rattle.tsl_terms.specs.WindowTree.{WindowTree}
@@ -26,7 +26,7 @@ pub record IsRound (spec : SpecTree) (search : Search) (windows : List WindowTre
   pub few_branches : branch_count (spec_space spec) search.depth ≤ MOST_BRANCHES
   pub shaped : IsTrue (window_is_shaped (cells_of spec) round.window)
   pub short : round.window.length ≤ search.depth
-  pub congruent : IsCongruent (cells_of spec) round.window
+  pub congruent : IsCongruent (cells_of spec) None round.window
   pub spurious : IsSpurious (spec_space spec) round.environment round.window
 
 -- rounds that follow each other after these windows

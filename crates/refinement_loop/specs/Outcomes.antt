@@ -90,7 +90,7 @@ pub record GoesOn (spec : SpecTree) (search : Search) (windows : List WindowTree
   pub none : HasNoSolution spec windows search.states search.bound
   pub fewer : MayGoOn search windows
 
--- such an environment has an annotation, there are not too many branches to look for a window, and no congruent window that is short
+-- such an environment has an annotation, there are not too many branches to look for a window, and no plain window that is short
 -- enough is spurious in it
 pub record IsGenuine (spec : SpecTree) (search : Search) (windows : List WindowTree) (e : EnvironmentTree) : Type 0 where
   pub counterstrategy : IsCounterstrategy spec windows search.env_states (Fixed search.env_bound) e

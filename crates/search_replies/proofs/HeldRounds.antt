@@ -1,6 +1,6 @@
 -- The names of a specification hold each number of its bits and of the rounds over them.
 use Rattle.std.proofs.Common.{◌≡◌, ℕ, ◌==◌, ◌&&◌, Bool, true, false, cond, List, [], ◌∷◌, ◌++◌, Some, slice_get}
-use Rattle.std.proofs.Common.{IsTrue, refl, sym, subst}
+use Rattle.std.proofs.Common.{◌∙◌, IsTrue, refl, sym, ap, subst}
 use Rattle.std.specs.List.{list_all, AllByRecursion}
 use Rattle.std.proofs.lemmas.Bool.{and_parts, and_from, eqb-true}
 use Rattle.std.proofs.lemmas.Option.{none-some}
@@ -10,6 +10,8 @@ use Rattle.tsl_terms.specs.Name.{Name}
 use Rattle.tsl_terms.specs.TermTree.{TermTree}
 use Rattle.tsl_terms.specs.SpecTree.{SpecTree}
 use Rattle.tsl_terms.specs.WellFormed.{SpecFits}
+use Rattle.tsl_terms.specs.Signals.{cells_of}
+use Rattle.tsl_terms.proofs.PlainWindows.{congruent_is_plain}
 use Rattle.tsl_terms.specs.WindowTree.{ListedTree, WindowTree, window_probes}
 use Rattle.term_text.specs.TermText.{is_held, term_is_held, probe_is_held}
 use Rattle.term_text.specs.WindowText.{listed_is_held, window_is_held}
@@ -57,13 +59,14 @@ module _ (names : List Name) where
           (passes_at (term_is_held names) c.choices pick t parts.1 at)
       by false other first rest at = rest at
 
-  pub spurious_held : (space : SpaceTree) (e : EnvironmentTree) (w : WindowTree) → IsTrue (space_is_held names space) → IsSpurious space e w →
-      IsTrue (window_is_held names w)
-  spurious_held space e w held h =
+  pub spurious_held : (space : SpaceTree) (e : EnvironmentTree) (w : WindowTree) → IsTrue (space_is_held names space) →
+      w.equalities ≡ [] → IsSpurious space e w → IsTrue (window_is_held names w)
+  spurious_held space e w held none h =
       let parts = and_parts (list_all (probe_is_held names) space.predicates) (list_all (controlled_is_held names) space.controlled) held in
       and_from _ _
-      (list_all_from_each (probe_is_held names) (window_probes w) (
-        passes_at (probe_is_held names) space.predicates h.left_bit w.left parts.0 h.is_left,
+      (ap (list_all (probe_is_held names)) (λ i. window_probes (record w { left = h.has_left i; equalities = none i }))
+      ∙ list_all_from_each (probe_is_held names) (h.left ∷ w.right ∷ []) (
+        passes_at (probe_is_held names) space.predicates h.left_bit h.left parts.0 h.is_left,
         (passes_at (probe_is_held names) space.predicates h.right_bit w.right parts.0 h.is_right, tt),
       ))
       (list_all_from_each (listed_is_held names) w.updates
@@ -87,7 +90,8 @@ module _ (spec : SpecTree) (fits : SpecFits spec) where
   chain_held search windows (r ∷ rounds) chain = (
     record {
       fits = counterstrategy_fits windows search.env_states (Fixed search.env_bound) r.environment chain.0.environment;
-      window = spurious_held names (spec_space spec) r.environment r.window (space_held spec fits) chain.0.spurious;
+      window = spurious_held names (spec_space spec) r.environment r.window (space_held spec fits)
+          (congruent_is_plain (cells_of spec) r.window chain.0.congruent).none_listed chain.0.spurious;
     },
     chain_held search (windows ++ r.window ∷ []) rounds chain.1,
   )

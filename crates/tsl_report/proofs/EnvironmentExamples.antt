@@ -1,5 +1,5 @@
 -- Texts of environments, which compute.
-use Rattle.std.specs.Prelude.{◌≡◌, ℕ, List, [], ◌∷◌, ◌++◌, codes, refl}
+use Rattle.std.specs.Prelude.{◌≡◌, ℕ, List, [], ◌∷◌, ◌++◌, codes, Some, refl}
 use Rattle.std.specs.Fmt.{digits}
 use Rattle.tsl_terms.specs.declared.names.NameKind.TheVariants.{Signal, Predicate}
 use Rattle.tsl_terms.specs.Name.{Name}
@@ -41,11 +41,12 @@ two_states = record { states = 2; vectors = 2; truths = 1 ∷ 2 ∷ []; next = 1
 
 unfoldable pub copied : WindowTree
 copied = record {
-  left = tested 1;
+  left = Some (tested 1);
   left_at = 0;
   right = tested 0;
   length = 1;
   updates = record { signal = 0; term = signal 1; offset = 0 } ∷ [];
+  equalities = [];
 }
 
 told : environment_text three_names copying two_states ≡

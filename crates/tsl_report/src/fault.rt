@@ -58,7 +58,7 @@ pub enum ProgramRule {
     Target,
     /// A node does not update each cell and then each output.
     Updates,
-    /// A window is too long, or its updates are not in order.
+    /// A window is too long, its updates or its equalities are not in order, or one of these is no equality.
     Window,
     /// This signal is neither an input nor a cell.
     Unknown(Sequence<u8>),

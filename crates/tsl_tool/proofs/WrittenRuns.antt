@@ -7,8 +7,7 @@ use Rattle.tsl_terms.specs.declared.names.NameKind.TheVariants.{Signal}
 use Rattle.tsl_terms.specs.Name.{Name, is_name, AreDistinct}
 use Rattle.tsl_terms.specs.FormulaTree.{FormulaTree}
 use Rattle.tsl_terms.specs.SpecTree.{SpecTree, whole_formula}
-use Rattle.tsl_terms.specs.WindowTree.{WindowTree, window_formula_of}
-use Rattle.tsl_terms.specs.Congruence.{IsCongruent}
+use Rattle.tsl_terms.specs.WindowTree.{window_formula_of}
 use Rattle.tsl_reader.specs.Spells.{Spells}
 use Rattle.tsl_reader.proofs.Causes.{one_spec}
 use Rattle.tsl_reader.proofs.SpelledFits.{spelled_fits}
@@ -38,7 +37,8 @@ use Rattle.judging_replies.specs.Run.{PartsOutcome, part_refused, spelled, RunOu
 use Rattle.judging_replies.specs.RunParts.{RunParts, AreParts}
 use Rattle.flow_program.proofs.ReadingLaws.{one_reading, spelled_is_read}
 use Rattle.flow_program.proofs.Renumbered.{congruent_over_others}
-use Rattle.term_congruence.proofs.CongruentWindows.{congruent_windows_hold}
+use Rattle.program_check.proofs.Accepted.{sound_windows_hold}
+use Rattle.tsl_meaning.proofs.Naming.{written_program}
 use Rattle.judging_replies.proofs.OneInput.{one_run_division}
 use Rattle.judging_replies.proofs.RunNames.{cells_named}
 use Rattle.judging_replies.proofs.RunVerdicts.{yes_where_all_hold}
@@ -73,8 +73,7 @@ windows_hold : (text : List ℕ) (spec : SpecTree) (p q : ProgramTree) (names : 
     ProgramText text spec.names p → Realizes spec p → IsReading text [] q names →
     AllByRecursion (λ w. EveryRunMeets names q (window_formula_of w)) q.windows
 windows_hold text spec p q names distinct h realizes read =
-    each_weaker (IsCongruent q.cells) (λ (w : WindowTree). EveryRunMeets names q (window_formula_of w))
-    (λ w congruent. congruent_windows_hold names q w read.spelled.is_program congruent) q.windows
+    sound_windows_hold names q (written_program names q read.spelled.is_program read.spelled.is_writable)
     (congruent_over_others text spec.names [] names p q distinct (λ i j m n at_i at_j same. cc) h read realizes.congruent)
 
 -- ---- what a program keeps

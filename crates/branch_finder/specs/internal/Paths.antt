@@ -77,11 +77,12 @@ pub record IsToldApart (space : SpaceTree) (e : EnvironmentTree) (sets : List �
 -- the window of two probes along a path with all updates of cells
 abbrev pub path_window : SpaceTree → List ℕ → List ℕ → ℕ → ProbeTree → ProbeTree → WindowTree
 path_window space cells path left_at left right = record {
-  left = left;
+  left = Some left;
   left_at = left_at;
   right = right;
   length = length path;
   updates = updates_along space.controlled cells 0 path;
+  equalities = [];
 }
 
 -- A pair of bits is seen on a path: with all updates of cells the window of its probes is congruent, and vectors with these updates
@@ -92,5 +93,5 @@ pub record IsSeen (space : SpaceTree) (e : EnvironmentTree) (cells path : List �
   pub is_left : slice_get space.predicates pair.left ≡ Some left
   pub right : ProbeTree
   pub is_right : slice_get space.predicates pair.right ≡ Some right
-  pub congruent : IsCongruent cells (path_window space cells path pair.left_at left right)
+  pub congruent : IsCongruent cells None (path_window space cells path pair.left_at left right)
   pub told : IsToldApart space e (map (set_of space cells) path) pair

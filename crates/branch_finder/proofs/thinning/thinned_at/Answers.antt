@@ -1,11 +1,12 @@
-use Rattle.std.proofs.Common.{length, sym, ap, subst, arith}
+use Rattle.std.proofs.Common.{◌∙◌, None, length, sym, ap, subst, arith}
+use Rattle.std.proofs.lemmas.Bool.{false≢true}
 use Rattle.std.proofs.lemmas.List.{length-map}
 use Rattle.tsl_terms.specs.WindowTree.{WindowTree, listed_tree, window_tree}
 use Rattle.tsl_terms.specs.Congruence.{IsCongruent, UpdateCells}
 use Rattle.letter_space.specs.SpaceView.{space_tree}
 use Rattle.branch_finder.specs.internal.Looking.{pair_tree}
 use Rattle.branch_finder.specs.internal.Thinning.{IsOnPath, AreNeededFrom}
-use Rattle.branch_finder.proofs.Thinned.{still_on_path, still_needed, without_of_cells, place_stays_within}
+use Rattle.branch_finder.proofs.Thinned.{still_on_path, still_needed, needed_here, without_of_cells, place_stays_within}
 use Rattle.branch_finder.proofs.thinning.thinned_at.Goals as goal
 
 pub congruent-requires : goal.congruent-requires
@@ -22,7 +23,7 @@ returns-then-branch-clause-on c =
     subst (IsOnPath (space_tree search.space.now) search.cells.now c.args.look.now.path.now (pair_tree c.args._pair))
     (sym c.in_ok-thinner.ensures)
     (still_on_path (space_tree search.space.now) search.cells.now c.args.look.now.path.now (pair_tree c.args._pair) window c.requires.on
-    c.args.place (subst (IsCongruent search.cells.now) c.in_ok-thinner.ensures (c.in_ok-congruent.ensures.0 c.if-branch.true)))
+    c.args.place (subst (IsCongruent search.cells.now None) c.in_ok-thinner.ensures (c.in_ok-congruent.ensures.0 c.if-branch.true)))
 
 pub returns-then-branch-clause-place : goal.returns-then-branch-clause-place
 returns-then-branch-clause-place c =
@@ -38,3 +39,11 @@ returns-then-branch-clause-needed c =
     subst (AreNeededFrom search.cells.now c.args.place) (sym c.in_ok-thinner.ensures)
     (still_needed (space_tree search.space.now) search.cells.now c.args.look.now.path.now (pair_tree c.args._pair) window c.requires.on
     c.args.place (omega (arith, c.requires.place, length-map c.args.window.updates listed_tree)) c.requires.needed)
+
+pub returns-clause-needed : goal.returns-clause-needed
+returns-clause-needed c =
+    let search = c.args.look.now.search in
+    needed_here search.cells.now c.args.place (window_tree c.args.window)
+    (λ is. false≢true (sym c.if-branch.false
+    ∙ c.in_ok-congruent.ensures.1 (subst (IsCongruent search.cells.now None) (sym c.in_ok-thinner.ensures) is)))
+    c.requires.needed

@@ -1,8 +1,7 @@
 use Rattle.std.proofs.Common.{◌≡◌, ◌∙◌, ◌+◌, suc, ◌++◌, List, map, take, drop, ap, sym, add-one}
 use Rattle.std.proofs.lemmas.List.{take-map, drop-map, take_rest}
 use Rattle.tsl_terms.specs.declared.window.Listed.{Listed}
-use Rattle.tsl_terms.specs.TermTree.{probe_tree}
-use Rattle.tsl_terms.specs.WindowTree.{ListedTree, listed_tree}
+use Rattle.tsl_terms.specs.WindowTree.{ListedTree, listed_tree, window_tree}
 use Rattle.branch_finder.proofs.thinning.without_update.Goals as goal
 
 pub returns : goal.returns
@@ -10,8 +9,7 @@ returns c =
     let window = c.args.window.now in
     let place = c.args.place in
     let slice = c.as_slice-updates.result.now in
-    let left : probe_tree c.in_ok-copy_probe.field-0 ≡ probe_tree window.left = c.in_ok-copy_probe.ensures in
-    let right : probe_tree c.in_ok-copy_probe-2.field-0 ≡ probe_tree window.right = c.in_ok-copy_probe-2.ensures in
+    let copied : window_tree c.in_ok-left.field-0 ≡ window_tree window = c.in_ok-left.ensures in
     let updates : map listed_tree c.from_vec.result
     ≡ take place (map listed_tree window.updates) ++ drop (suc place) (map listed_tree window.updates)
     = ap (map listed_tree) c.from_vec.ensures
@@ -23,4 +21,11 @@ returns c =
     ∙ (ap (λ (us : List Listed). map listed_tree (take place us) ++ map listed_tree (drop (place + 1) us)) c.as_slice-updates.ensures
     ∙ (λ i. sym (take-map listed_tree place window.updates) i ++ sym (drop-map listed_tree (place + 1) window.updates) i)
     ∙ ap (λ n. take place (map listed_tree window.updates) ++ drop n (map listed_tree window.updates)) (add-one place)))) in
-    λ i. record { left = left i; left_at = window.left_at; right = right i; length = window.length; updates = updates i }
+    λ i. record {
+      left = (copied i).left;
+      left_at = (copied i).left_at;
+      right = (copied i).right;
+      length = (copied i).length;
+      updates = updates i;
+      equalities = (copied i).equalities;
+    }
