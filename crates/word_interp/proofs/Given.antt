@@ -1,9 +1,9 @@
 -- What stands at the places of names, and what words mean by it.
-use Rattle.std.proofs.Common.{◌≡◌, ◌∙◌, ℕ, ◌≤◌, ◌==◌, Bool, true, false, cond, List, [], ◌∷◌, map}
+use Rattle.std.proofs.Common.{◌≡◌, ◌∙◌, ℕ, ◌<◌, ◌≤◌, ◌==◌, Bool, true, false, cond, List, [], ◌∷◌, length, map}
 use Rattle.std.proofs.Common.{Option, Some, None, refl, sym, ap, subst}
 use Rattle.std.specs.Prelude.{slice_get, option_map, option_and_then, IsSome}
 use Rattle.std.proofs.lemmas.Bool.{eqb-true}
-use Rattle.std.proofs.lemmas.Option.{slice_get-map}
+use Rattle.std.proofs.lemmas.Option.{slice_get-map, slice_get_within}
 use Rattle.tsl_terms.specs.Value.{beside}
 use Rattle.table_syntax.specs.declared.words.Operation.{Operation as WordOperation}
 use Rattle.table_syntax.specs.declared.words.Test.{Test as WordTest}
@@ -27,22 +27,21 @@ module _ (domain : ℕ) (given : List (Option Given)) (initial : List ℕ) where
   abbrev interpretation : Interpretation
   interpretation = record { domain = domain; tables = map (table_given domain) given; initial = initial }
 
-  -- a symbol's entry is that of what is given for it
-  pub entry_given : (id : ℕ) (arguments : List ℕ) → IsSome (entry_at interpretation id arguments) →
-      entry_at interpretation id arguments ≡ entry_of domain arguments (table_given domain (given_at given id))
-  entry_given id arguments had =
-      mapped ∙ by (slice_get given id) (rw mapped at had) where
-        mapped : entry_at interpretation id arguments
-            ≡ option_and_then (λ g. entry_of domain arguments (table_given domain g)) (slice_get given id)
-        mapped = ap (option_and_then (entry_of domain arguments)) (slice_get-map (table_given domain) given id)
-            ∙ looked_up (table_given domain) (entry_of domain arguments) (slice_get given id)
+  -- a symbol's entry, by what stands at its place
+  entry_mapped : (id : ℕ) (arguments : List ℕ) → entry_at interpretation id arguments
+      ≡ option_and_then (λ g. entry_of domain arguments (table_given domain g)) (slice_get given id)
+  entry_mapped id arguments =
+      ap (option_and_then (entry_of domain arguments)) (slice_get-map (table_given domain) given id)
+      ∙ looked_up (table_given domain) (entry_of domain arguments) (slice_get given id)
 
-        by : (found : Option (Option Given)) →
-            IsSome (option_and_then (λ g. entry_of domain arguments (table_given domain g)) found) →
-            option_and_then (λ g. entry_of domain arguments (table_given domain g)) found
-            ≡ entry_of domain arguments (table_given domain (option_and_then (λ g. g) found))
-        by None h = cc
-        by (Some g) h = refl
+  -- something stands at the place of a symbol that has an entry
+  pub symbol_within : (id : ℕ) (arguments : List ℕ) → IsSome (entry_at interpretation id arguments) → id < length given
+  symbol_within id arguments had =
+      by (slice_get given id) refl (rw (entry_mapped id arguments) at had) where
+        by : (found : Option (Option Given)) → slice_get given id ≡ found →
+            IsSome (option_and_then (λ g. entry_of domain arguments (table_given domain g)) found) → id < length given
+        by None is h = cc
+        by (Some g) is h = slice_get_within given id g is
 
 -- the value of a cell, where each has what a function gives for it
 pub beside_mapped : (f : ℕ → ℕ) (s : ℕ) (cells : List ℕ) → IsSome (beside s cells (map f cells)) → beside s cells (map f cells) ≡ Some (f s)
@@ -68,26 +67,12 @@ module _ (domain : ℕ) (cells : List ℕ) (given : List (Option Given)) (equali
     };
   }
 
-  -- where a symbol has an entry, what is given for it has one
-  pub had_given : (w : WordsMeaning) → meaning ≡ w → (id : ℕ) (arguments : List ℕ) → IsSome (entry_at w.interpretation id arguments) →
-      (g : Option Given) → g ≡ given_at given id → IsSome (entry_of domain arguments (table_given domain g))
-  had_given w is id arguments had g here =
-      let own : IsSome (entry_at meaning.interpretation id arguments) =
-      subst (λ (m : WordsMeaning). IsSome (entry_at m.interpretation id arguments)) (sym is) had in
-      subst (λ (o : Option ℕ). IsSome o)
-      (entry_given domain given meaning.interpretation.initial id arguments own
-      ∙ ap (λ o. entry_of domain arguments (table_given domain o)) (sym here)) own
-
-  -- and it is the symbol's
-  pub entry_is : (w : WordsMeaning) → meaning ≡ w → (id : ℕ) (arguments : List ℕ) → IsSome (entry_at w.interpretation id arguments) →
-      (g : Option Given) → g ≡ given_at given id → (v : ℕ) → entry_of domain arguments (table_given domain g) ≡ Some v →
-      entry_at w.interpretation id arguments ≡ Some v
-  entry_is w is id arguments had g here v value =
-      let own : IsSome (entry_at meaning.interpretation id arguments) =
-      subst (λ (m : WordsMeaning). IsSome (entry_at m.interpretation id arguments)) (sym is) had in
-      ap (λ (m : WordsMeaning). entry_at m.interpretation id arguments) (sym is)
-      ∙ entry_given domain given meaning.interpretation.initial id arguments own
-      ∙ ap (λ o. entry_of domain arguments (table_given domain o)) (sym here) ∙ value
+  -- something stands at the place of a symbol that has an entry
+  pub had_place : (w : WordsMeaning) → meaning ≡ w → (id : ℕ) (arguments : List ℕ) → IsSome (entry_at w.interpretation id arguments) →
+      id < length given
+  had_place w is id arguments had =
+      symbol_within domain given meaning.interpretation.initial id arguments
+      (subst (λ (m : WordsMeaning). IsSome (entry_at m.interpretation id arguments)) (sym is) had)
 
   -- the value of a cell at first
   pub initial_is : (w : WordsMeaning) → meaning ≡ w → (cell : ℕ) → IsSome (beside cell w.cells w.interpretation.initial) →

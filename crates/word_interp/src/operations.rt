@@ -61,22 +61,27 @@ fn truth_of(test: Test, arguments: &[u32]) -> u32
     u32::from(holds)
 }
 
-/// Whether each argument is a word.
+/// Whether each argument is a word. One argument and two need no loop.
 fn are_values(domain: u32, arguments: &[u32]) -> bool
     ensures { result ≡ are_values domain arguments.now }
 {
-    arguments.iter().all(|v| *v < domain)
+    match arguments {
+        [] => true,
+        [x] => *x < domain,
+        [x, y] => *x < domain && *y < domain,
+        _ => arguments.iter().all(|v| *v < domain),
+    }
 }
 
 /// The entry at words of the table of what is given for a name.
-fn entry_at_words(domain: u32, given: Given, arguments: &[u32]) -> u32
+fn entry_at_words(domain: u32, given: &Given, arguments: &[u32]) -> u32
     requires some { 2 ≤ domain }
     requires few { domain ≤ 65536 }
     requires values { are_values domain arguments.now ≡ true }
-    requires had { IsSome (entry_of domain arguments.now (table_given domain (Some given))) }
-    ensures { entry_of domain arguments.now (table_given domain (Some given)) ≡ Some result }
+    requires had { IsSome (entry_of domain arguments.now (table_given domain (Some given.now))) }
+    ensures { entry_of domain arguments.now (table_given domain (Some given.now)) ≡ Some result }
 {
-    match given {
+    match *given {
         Given::Operation(operation) => value_of(domain, operation, arguments),
         Given::Test(test) => truth_of(test, arguments),
         Given::Value(_) => 0,
@@ -84,11 +89,11 @@ fn entry_at_words(domain: u32, given: Given, arguments: &[u32]) -> u32
 }
 
 /// The entry at arguments of the table of what is given for a name.
-pub(crate) fn entry_in(domain: u32, given: Option<Given>, arguments: &[u32]) -> u32
+pub(crate) fn entry_in(domain: u32, given: &Option<Given>, arguments: &[u32]) -> u32
     requires some { 2 ≤ domain }
     requires few { domain ≤ 65536 }
-    requires had { IsSome (entry_of domain arguments.now (table_given domain given)) }
-    ensures { entry_of domain arguments.now (table_given domain given) ≡ Some result }
+    requires had { IsSome (entry_of domain arguments.now (table_given domain given.now)) }
+    ensures { entry_of domain arguments.now (table_given domain given.now) ≡ Some result }
 {
     if !are_values(domain, arguments) {
         return 0;

@@ -81,11 +81,8 @@ impl Words {
         requires { IsSome (entry_at self.now.interpretation symbol arguments.now) }
         ensures { entry_at self.now.interpretation symbol arguments.now ≡ Some result }
     {
-        entry_in(
-            self.domain,
-            given_at(self.given.as_slice(), symbol),
-            arguments,
-        )
+        let given = &self.given.as_slice()[symbol as usize];
+        entry_in(self.domain, given, arguments)
     }
 }
 
