@@ -8,11 +8,14 @@ ghost use Rattle.cobuchi_automata.specs.Edges.{edge_trees};
 ghost use Rattle.loop_acceptance.specs.Accepts.{loop_of, Accepts};
 
 use crate::product::Product;
-use crate::rows::edges_by_state;
+use crate::rows::few_edges_by_state;
 use crate::search::has_turn;
 use cobuchi_automata::Automaton;
 use sequence::NoMemory;
 use std::alloc::Global;
+
+/// How many pairs of a letter and a state may be searched: memory ends before.
+const MOST_NODES: usize = 1 << 32;
 
 /// Whether an automaton accepts the loop of these letters whose last one goes on to the one with the number
 /// `back`, from 0: whether it has a path from its start over the loop that turns through a rejecting edge.
@@ -30,10 +33,13 @@ pub fn judge_loop(
     ensures formula { IfOk result (λ yes. (f : LtlTree) (states : List StateTree) → IsAutomaton f states (edge_trees automaton.now.edges) →
         ((yes ≡ true) ↔ (holds (loop_of letters.now back) f 0 ≡ true))) }
 {
-    let rows = edges_by_state(alloc, automaton)?;
-    let Some(_nodes) = letters.len().checked_mul(rows.len()) else {
+    let rows = few_edges_by_state(alloc, automaton)?;
+    let Some(nodes) = letters.len().checked_mul(rows.len()) else {
         return Err(NoMemory);
     };
+    if nodes > MOST_NODES {
+        return Err(NoMemory);
+    }
     let product = Product {
         rows: &rows,
         letters,

@@ -9,7 +9,7 @@ use cobuchi_automata::Edge;
 #[derive(Clone, Copy)]
 pub(crate) struct Step {
     /// The node that it leads to.
-    pub to: usize,
+    pub to: u32,
     /// Whether it is rejecting.
     pub rejecting: bool,
 }
@@ -36,13 +36,13 @@ pub(crate) fn node_count(product: &Product) -> usize
 
 /// How many places the steps of a node have.
 #[tactic(auto, using(crate::proofs::ProductSteps::row_short))]
-pub(crate) fn place_count(product: &Product, node: usize) -> usize
+pub(crate) fn place_count(product: &Product, node: u32) -> u32
     requires product { IsProduct product.now }
     requires within { node < nodes_of product.now }
     ensures past { (k : ℕ) → result ≤ k → steps_in product.now node k ≡ None }
     ensures few { result ≤ row_edges (edge_rows_of product.now) }
 {
-    product.rows[node % product.rows.len()].len()
+    product.rows[node as usize % product.rows.len()].len() as u32
 }
 
 /// The position after a position.
@@ -57,19 +57,19 @@ fn position_after(product: &Product, position: usize) -> usize
 }
 
 /// The step of a node at a place, if the letter matches the edge there.
-pub(crate) fn product_step(product: &Product, node: usize, place: usize) -> Option<Step>
+pub(crate) fn product_step(product: &Product, node: u32, place: u32) -> Option<Step>
     requires product { IsProduct product.now }
     requires within { node < nodes_of product.now }
     ensures { result ≡ steps_in product.now node place }
 {
     let states = product.rows.len();
-    let position = node / states;
-    let edge = product.rows[node % states].get(place)?;
+    let position = node as usize / states;
+    let edge = product.rows[node as usize % states].get(place as usize)?;
     if !edge.cube.matches(product.letters[position]) {
         return None;
     }
     Some(Step {
-        to: position_after(product, position) * states + edge.to as usize,
+        to: (position_after(product, position) * states + edge.to as usize) as u32,
         rejecting: edge.rejecting,
     })
 }

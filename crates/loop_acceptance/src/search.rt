@@ -52,9 +52,9 @@ impl Mark {
 #[derive(Clone, Copy)]
 pub(crate) struct Frame {
     /// The node.
-    pub node: usize,
+    pub node: u32,
     /// How many places are left.
-    pub left: usize,
+    pub left: u32,
 }
 
 /// What the search has found.
@@ -65,38 +65,38 @@ pub(crate) struct Search {
     /// The open nodes, in the order in which they were met.
     pub frames: Vec<Frame>,
     /// The red nodes, in the order in which they were met.
-    pub red: Vec<usize>,
+    pub red: Vec<u32>,
 }
 
 impl Search {
     ghost use Rattle.loop_acceptance.specs.internal.Search.{marks_met, red_met, marks_opened, frames_opened};
 
     /// Makes a node red if it is done. Whether it is open.
-    fn meet(&mut self, node: usize) -> Result<bool, NoMemory>
+    fn meet(&mut self, node: u32) -> Result<bool, NoMemory>
         requires { node < length self.old.marks.items }
         ensures tells { IfOk result (λ yes. yes ≡ is_open (slice_index_or self.old.marks.items node New)) }
         ensures marks { OnOk result (self.new.marks.items ≡ marks_met self.old.marks.items node) }
         ensures red { OnOk result (self.new.red.items ≡ red_met self.old.marks.items self.old.red.items node) }
         ensures frames { self.new.frames ≡ self.old.frames }
     {
-        let mark = self.marks[node];
+        let mark = self.marks[node as usize];
         if mark.is_done() {
             self.red.push(node)?;
-            self.marks[node] = Mark::Red;
+            self.marks[node as usize] = Mark::Red;
         }
         Ok(mark.is_open())
     }
 
     /// Opens a node if it is new.
-    fn open_node(&mut self, node: usize, places: usize) -> Result<(), NoMemory>
+    fn open_node(&mut self, node: u32, places: u32) -> Result<(), NoMemory>
         requires { node < length self.old.marks.items }
         ensures marks { OnOk result (self.new.marks.items ≡ marks_opened self.old.marks.items node) }
         ensures frames { OnOk result (self.new.frames.items ≡ frames_opened self.old.marks.items self.old.frames.items node places) }
         ensures red { self.new.red ≡ self.old.red }
     {
-        if self.marks[node].is_new() {
+        if self.marks[node as usize].is_new() {
             self.frames.push(Frame { node, left: places })?;
-            self.marks[node] = Mark::Open;
+            self.marks[node as usize] = Mark::Open;
         }
         Ok(())
     }
@@ -106,8 +106,8 @@ impl Search {
     fn meet_step(
         &mut self,
         product: &Product,
-        node: usize,
-        place: usize,
+        node: u32,
+        place: u32,
         rejecting_alone: bool,
     ) -> Result<bool, NoMemory>
         requires product { IsProduct product.now }
@@ -137,7 +137,7 @@ impl Search {
     fn meet_steps(
         &mut self,
         product: &Product,
-        node: usize,
+        node: u32,
         rejecting_alone: bool,
     ) -> Result<bool, NoMemory>
         requires product { IsProduct product.now }
@@ -163,7 +163,7 @@ impl Search {
 
     /// Whether a rejecting step of an open node leads to where steps lead to an open node. If not, all that
     /// they lead to is red then.
-    fn turns_back(&mut self, product: &Product, node: usize) -> Result<bool, NoMemory>
+    fn turns_back(&mut self, product: &Product, node: u32) -> Result<bool, NoMemory>
         requires product { IsProduct product.now }
         requires size { length self.old.marks.items ≡ nodes_of product.now }
         requires red { AreRed self.old.marks.items self.old.red.items }
@@ -194,7 +194,7 @@ impl Search {
     }
 
     /// Opens what the step of a node at a place leads to, if there is one and it is new.
-    fn open_along(&mut self, product: &Product, node: usize, place: usize) -> Result<(), NoMemory>
+    fn open_along(&mut self, product: &Product, node: u32, place: u32) -> Result<(), NoMemory>
         requires product { IsProduct product.now }
         requires within { node < nodes_of product.now }
         requires size { length self.old.marks.items ≡ nodes_of product.now }
@@ -257,7 +257,7 @@ impl Search {
             return Ok(true);
         }
         self.frames.truncate(top);
-        self.marks[node] = Mark::Done;
+        self.marks[node as usize] = Mark::Done;
         Ok(false)
     }
 
@@ -284,7 +284,7 @@ impl Search {
 }
 
 /// The step of a node at a place, if there is one and it is asked for.
-fn chosen_step(product: &Product, node: usize, place: usize, rejecting_alone: bool) -> Option<Step>
+fn chosen_step(product: &Product, node: u32, place: u32, rejecting_alone: bool) -> Option<Step>
     requires product { IsProduct product.now }
     requires within { node < nodes_of product.now }
     ensures { result ≡ asked_for rejecting_alone (steps_in product.now node place) }

@@ -1,8 +1,9 @@
 -- Internal: only private functions and proofs of this crate use these words.
 -- Pairs of a position of a loop and a state of an automaton as nodes: that of position i and state q has the number i * states + q.
 use Rattle.std.specs.Prelude.{◌≡◌, ℕ, ◌+◌, ◌*◌, ◌/◌, ◌%◌, ◌<◌, ◌≤◌, ◌^◌, ◌==◌}
-use Rattle.std.specs.Prelude.{cond, List, [], ◌∷◌, length, map, if◌then◌else◌, Option, Some, None}
+use Rattle.std.specs.Prelude.{true, Bool, nat_lt, cond, List, [], ◌∷◌, length, map, if◌then◌else◌, Option, Some, None}
 use Rattle.std.specs.Prelude.{option_and_then, slice_get, Contains, Vec}
+use Rattle.std.specs.List.{list_all}
 use Rattle.std.specs.declared.alloc.Global.{Global}
 use Rattle.ltl_formula.specs.Cubes.{cube_matches}
 use Rattle.cobuchi_automata.specs.declared.automaton.Edge.{Edge}
@@ -21,6 +22,10 @@ edge_at rows q k = option_and_then (λ row. slice_get row k) (slice_get rows q)
 abbrev pub row_edges : List (List Edge) → ℕ
 row_edges [] = 0
 row_edges (row ∷ rows) = length row + row_edges rows
+
+-- the number of the edges of a state has 32 bits
+abbrev pub is_short : List Edge → Bool
+is_short row = nat_lt (length row) (2 ^ 32)
 
 -- the position after a position
 abbrev pub position_after : List ℕ → ℕ → ℕ → ℕ
@@ -47,11 +52,12 @@ steps_in product = product_step (length product.rows.now) (edge_rows_of product)
 abbrev pub nodes_of : Product → ℕ
 nodes_of product = length product.letters.now * length product.rows.now
 
--- there is a state, the last letter goes on to one of the letters, edges lead to states, and nodes have numbers of 64 bits
+-- there is a state, the last letter goes on to one of the letters, edges lead to states, and nodes and their steps have numbers of 32 bits
 pub record IsProduct (product : Product) : Type 0 where
   pub starts : 1 ≤ length product.rows.now
   pub goes_on : product.back < length product.letters.now
-  pub fits : nodes_of product < 2 ^ 64
+  pub fits : nodes_of product ≤ 2 ^ 32
+  pub short : list_all is_short (edge_rows_of product) ≡ true
   pub stays : (q k : ℕ) (e : Edge) → edge_at (edge_rows_of product) q k ≡ Some e → e.to < length product.rows.now
 
 -- the lists have these edges, each with the state that it leaves

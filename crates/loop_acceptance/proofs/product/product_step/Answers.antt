@@ -21,6 +21,23 @@ overflow_add-result c =
     let fits = c.requires.product.fits in
     omega (arith, below, same, fits)
 
+pub overflow_cast-result-2 : goal.overflow_cast-result-2
+overflow_cast-result-2 c =
+    let product = c.args.product.now in
+    let e = c.in_ok-edge.edge.now in
+    let made = step_made product c.requires.product c.args.node c.args.place c.index-product-node.result c.deref.result.now e
+    c.requires.within
+    c.deref.ensures.value c.in_ok-edge.ensures.lookup.3.0 c.in_ok-edge.ensures.lookup.1 (sym c.matches.ensures ∙ c.if-not-matches.false) in
+    let states = length product.rows.now in
+    let s : Step = record {
+      to = position_after product.letters.now product.back (c.args.node / states) * states + e.to;
+      rejecting = e.rejecting;
+    } in
+    let below = step_within product c.requires.product c.args.node c.args.place s made in
+    let same = ap (λ n. n * states + e.to) c.position_after.ensures in
+    let fits = c.requires.product.fits in
+    omega (arith, below, same, fits)
+
 pub returns : goal.returns
 returns c =
     let product = c.args.product.now in
