@@ -7,9 +7,11 @@ use machines::{Round, Side};
 use sequence::NoMemory;
 use std::alloc::Global;
 use std::test::Fail;
-use test_values::{both, copying_window, names_of_copies, no_bits, still_environment};
+use test_values::{
+    both, copying_window, equality_window, names_of_copies, no_bits, still_environment,
+};
 use tsl_report::{ReasonText, environment_text, none_text, rounds_text, spent_text, window_text};
-use tsl_terms::Names;
+use tsl_terms::{NameKind, Names};
 
 #[test]
 fn empty_lists_leave_no_space(rt: HostRuntime) -> Result<(), Fail> {
@@ -40,6 +42,19 @@ fn rounds_have_an_environment_and_a_window(rt: HostRuntime) -> Result<(), Fail> 
     let wanted = b"round 0\nenvironment 1\nvector 0\nstate 0 truths to 0\n\
         window p x at 0 is p y at 1 when [y <- x] at 0\n";
     assert_eq!(rt; text.as_slice(), wanted.as_slice());
+    Ok(())
+}
+
+#[test]
+fn an_equality_stands_behind_the_updates_of_a_window(rt: HostRuntime) -> Result<(), Fail> {
+    let alloc = rt.alloc();
+    let mut names = names_of_copies(alloc)?;
+    names.add(b"eq", NameKind::Predicate, 2)?;
+    let text = window_text(alloc, &names, &equality_window(alloc)?)?;
+    assert_eq!(rt;
+        text.as_slice(),
+        b"window true is eq y y at 1 when [y <- x] at 0 when eq x y at 1\n".as_slice()
+    );
     Ok(())
 }
 
