@@ -11,7 +11,7 @@ const READ: &[&[u8]] = &[
     // the shortest text
     b"tslprogram 1\nnode 0 set go 0\nstate 0 at 0\nend\n",
     // each kind of line
-    b"tslprogram 1\ninput x\ncell c\noutput y\nwindow p x at 0 is p c at 1 when [c <- f x k()] at 0 when [c <- c] at 1\nwindow b at 0 is q() at 0\nnode 0 set [c <- f (g x) x] [y <- k()] go 1\nnode 1 if p x (f x k()) then 0 else 0\nnode 2 if b then 1 else 0\nstate 0 at 2\nstate 1 at 0\nend\n",
+    b"tslprogram 1\ninput x\ncell c\noutput y\nwindow p x at 0 is p c at 1 when [c <- f x k()] at 0 when [c <- c] at 1\nwindow b at 0 is q() at 0 when b at 0 when p (f x c) at 3\nwindow true is p x at 1 when [c <- x] at 0 when q() at 1\nnode 0 set [c <- f (g x) x] [y <- k()] go 1\nnode 1 if p x (f x k()) then 0 else 0\nnode 2 if b then 1 else 0\nstate 0 at 2\nstate 1 at 0\nend\n",
     // names that are words of the format
     b"tslprogram 1\ninput at\ncell then\noutput input\nnode 0 if at at then then 0 else 0\nnode 1 if then then 0 else 0\nnode 2 set [then <- at go set] go 0\nstate 0 at 0\nend\n",
     // 18 digits
@@ -275,6 +275,26 @@ const FAULTS: &[(&[u8], u32)] = &[
         b"tslprogram 1\nwindow p x at 0 is p x at 1 \nnode 0 set go 0\nstate 0 at 0\nend\n",
         2,
     ),
+    (
+        b"tslprogram 1\nwindow true at 0 is p x at 1\nnode 0 set go 0\nstate 0 at 0\nend\n",
+        2,
+    ),
+    (
+        b"tslprogram 1\nwindow true is p x\nnode 0 set go 0\nstate 0 at 0\nend\n",
+        2,
+    ),
+    (
+        b"tslprogram 1\nwindow p x at 0 is true\nnode 0 set go 0\nstate 0 at 0\nend\n",
+        2,
+    ),
+    (
+        b"tslprogram 1\nwindow p x at 0 is p x at 1 when q x\nnode 0 set go 0\nstate 0 at 0\nend\n",
+        2,
+    ),
+    (
+        b"tslprogram 1\nwindow p x at 0 is p x at 1 when q x at 0 when [c <- x] at 0\nnode 0 set go 0\nstate 0 at 0\nend\n",
+        2,
+    ),
 ];
 
 /// The first line at fault, or 0 where the text has a listing.
@@ -362,13 +382,13 @@ fn many_lines_and_long_lines_are_read(rt: HostRuntime) -> Result<(), Fail> {
 fn names_stand_where_the_listing_says(rt: HostRuntime) -> Result<(), Fail> {
     let alloc = rt.alloc();
     let text =
-        b"tslprogram 1\ninput x\ncell c\noutput y\nwindow p x at 0 is b at 1 when [c <- c] at 0\nnode 0 set [c <- f (g x) k()] [y <- x] go 0\nnode 1 if p (g x) then 0 else 0\nstate 0 at 1\nend\n";
+        b"tslprogram 1\ninput x\ncell c\noutput y\nwindow p x at 0 is b at 1 when [c <- c] at 0 when q x at 1\nnode 0 set [c <- f (g x) k()] [y <- x] go 0\nnode 1 if p (g x) then 0 else 0\nstate 0 at 1\nend\n";
     let listing = match read_listing(alloc, text.as_slice()) {
         Ok(listing) => format!(in alloc; "{listing:?}")?,
         Err(error) => format!(in alloc; "{error:?}")?,
     };
     let expected =
-        "Listing { inputs: [Name { start: 19, end: 20 }], cells: [Name { start: 26, end: 27 }], outputs: [Name { start: 35, end: 36 }], windows: [SpelledWindow { left: Applied(Name { start: 44, end: 45 }, More(Bare(Name { start: 46, end: 47 }), Empty)), left_at: 0, right: Bare(Name { start: 56, end: 57 }), length: 1, updates: [SpelledListed { signal: Name { start: 69, end: 70 }, term: Bare(Name { start: 74, end: 75 }), offset: 0 }] }], nodes: [Assignment { updates: [SpelledUpdate { signal: Name { start: 94, end: 95 }, term: Applied(Name { start: 99, end: 100 }, More(Applied(Name { start: 102, end: 103 }, More(Bare(Name { start: 104, end: 105 }), Empty)), More(Applied(Name { start: 107, end: 108 }, Empty), Empty))) }, SpelledUpdate { signal: Name { start: 113, end: 114 }, term: Bare(Name { start: 118, end: 119 }) }], go: 0 }, Branch { test: Applied(Name { start: 136, end: 137 }, More(Applied(Name { start: 139, end: 140 }, More(Bare(Name { start: 141, end: 142 }), Empty)), Empty)), then_node: 0, else_node: 0 }], states: [1] }";
+        "Listing { inputs: [Name { start: 19, end: 20 }], cells: [Name { start: 26, end: 27 }], outputs: [Name { start: 35, end: 36 }], windows: [SpelledWindow { left: Some(SpelledPlaced { test: Applied(Name { start: 44, end: 45 }, More(Bare(Name { start: 46, end: 47 }), Empty)), step: 0 }), right: SpelledPlaced { test: Bare(Name { start: 56, end: 57 }), step: 1 }, updates: [SpelledListed { signal: Name { start: 69, end: 70 }, term: Bare(Name { start: 74, end: 75 }), offset: 0 }], equalities: [SpelledPlaced { test: Applied(Name { start: 87, end: 88 }, More(Bare(Name { start: 89, end: 90 }), Empty)), step: 1 }] }], nodes: [Assignment { updates: [SpelledUpdate { signal: Name { start: 108, end: 109 }, term: Applied(Name { start: 113, end: 114 }, More(Applied(Name { start: 116, end: 117 }, More(Bare(Name { start: 118, end: 119 }), Empty)), More(Applied(Name { start: 121, end: 122 }, Empty), Empty))) }, SpelledUpdate { signal: Name { start: 127, end: 128 }, term: Bare(Name { start: 132, end: 133 }) }], go: 0 }, Branch { test: Applied(Name { start: 150, end: 151 }, More(Applied(Name { start: 153, end: 154 }, More(Bare(Name { start: 155, end: 156 }), Empty)), Empty)), then_node: 0, else_node: 0 }], states: [1] }";
     assert_eq!(rt; listing.as_str(), expected);
     Ok(())
 }

@@ -152,6 +152,107 @@ const CHANGED: &[((usize, &[u8]), (usize, &[u8]), &str)] = &[
         (0, b""),
         "Window(6)",
     ),
+    // its equalities are of two arguments, at steps up to the last
+    (
+        (6, b"window p x at 0 is p c at 0 when eq x c at 0"),
+        (0, b""),
+        "read",
+    ),
+    (
+        (6, b"window p x at 0 is p c at 0 when p x at 0"),
+        (0, b""),
+        "Window(6)",
+    ),
+    (
+        (6, b"window p x at 0 is p c at 0 when eq x at 0"),
+        (0, b""),
+        "Window(6)",
+    ),
+    (
+        (6, b"window p x at 0 is p c at 0 when eq x c c at 0"),
+        (0, b""),
+        "Window(6)",
+    ),
+    (
+        (6, b"window p x at 0 is p c at 0 when eq() at 0"),
+        (0, b""),
+        "Window(6)",
+    ),
+    (
+        (6, b"window p x at 0 is p c at 0 when x at 0"),
+        (0, b""),
+        "Window(6)",
+    ),
+    (
+        (
+            6,
+            b"window p x at 0 is p c at 1 when [c <- f x] at 0 when eq x (f c) at 1",
+        ),
+        (0, b""),
+        "read",
+    ),
+    (
+        (6, b"window p x at 0 is p c at 0 when eq x c at 1"),
+        (0, b""),
+        "Window(6)",
+    ),
+    // and so is what stands after `true`
+    ((6, b"window true is eq x c at 3"), (0, b""), "read"),
+    (
+        (
+            6,
+            b"window true is eq x c at 1 when [c <- x] at 0 when eq x c at 0",
+        ),
+        (0, b""),
+        "read",
+    ),
+    ((6, b"window true is eq x c at 4"), (0, b""), "Window(6)"),
+    ((6, b"window true is p x at 0"), (0, b""), "Window(6)"),
+    ((6, b"window true is eq x at 0"), (0, b""), "Window(6)"),
+    ((6, b"window true is x at 0"), (0, b""), "Window(6)"),
+    // their steps do not fall, and none stands twice at one step
+    (
+        (
+            6,
+            b"window true is eq x c at 1 when eq d c at 0 when eq c d at 0 when eq d c at 1",
+        ),
+        (0, b""),
+        "read",
+    ),
+    (
+        (
+            6,
+            b"window true is eq x c at 1 when eq d c at 1 when eq c d at 0",
+        ),
+        (0, b""),
+        "Window(6)",
+    ),
+    (
+        (
+            6,
+            b"window true is eq x c at 1 when eq d c at 0 when eq d c at 0",
+        ),
+        (0, b""),
+        "Window(6)",
+    ),
+    (
+        (
+            6,
+            b"window true is eq x c at 1 when eq d c at 0 when eq c d at 0 when eq d c at 0",
+        ),
+        (0, b""),
+        "Window(6)",
+    ),
+    // they stand after the updates
+    (
+        (
+            6,
+            b"window true is eq x c at 1 when eq d c at 0 when [c <- x] at 0",
+        ),
+        (0, b""),
+        "Form(6)",
+    ),
+    ((6, b"window true at 0 is eq x c at 1"), (0, b""), "Form(6)"),
     // a term and a test read inputs and cells
     (
         (9, b"node 2 set [c <- y] [d <- d] [y <- x] go 0"),
@@ -179,6 +280,11 @@ const CHANGED: &[((usize, &[u8]), (usize, &[u8]), &str)] = &[
         "Unknown(6, Name { start: 83, end: 84 })",
     ),
     // a function alone is read as a signal
+    (
+        (6, b"window true is eq x c at 0 when eq x y at 0"),
+        (0, b""),
+        "Unknown(6, Name { start: 81, end: 82 })",
+    ),
     (
         (9, b"node 2 set [c <- f] [d <- d] [y <- x] go 0"),
         (0, b""),
@@ -280,6 +386,16 @@ const NAMED: &[(&[u8], &str)] = &[
     (
         b"tslprogram 1\ninput a\ncell c\nwindow q a at 0 is q c at 1 when [c <- f a] at 0\nnode 0 set [c <- g a] go 0\nstate 0 at 0\nend\n",
         "a:Signal0 c:Signal0 q:Predicate1 f:Function1 g:Function1 ",
+    ),
+    // of a window the left test, the right one, its updates and its equalities
+    (
+        b"tslprogram 1\ninput a\ncell c\nwindow q a at 0 is p a at 1 when [c <- f a] at 0 when eq a (g a) at 0 when eq c a at 1\n\
+node 0 set [c <- h a] go 0\nstate 0 at 0\nend\n",
+        "a:Signal0 c:Signal0 q:Predicate1 p:Predicate1 f:Function1 eq:Predicate2 g:Function1 h:Function1 ",
+    ),
+    (
+        b"tslprogram 1\ninput a\ncell c\nwindow true is eq c (f a) at 1 when [c <- g a] at 0\nnode 0 set [c <- a] go 0\nstate 0 at 0\nend\n",
+        "a:Signal0 c:Signal0 eq:Predicate2 f:Function1 g:Function1 ",
     ),
 ];
 

@@ -202,10 +202,14 @@ fn is_taking(update: &Listed) -> bool {
 /// Whether a window is that of the running example: where the cell takes the input, it has at the next step what
 /// that has now.
 fn is_example_window(window: &Window) -> bool {
-    let probes = is_on(&window.left, 1) && is_on(&window.right, 0);
+    let Some(left) = &window.left else {
+        return false;
+    };
+    let probes = is_on(left, 1) && is_on(&window.right, 0);
     let steps = window.left_at == 0 && window.length == 1;
     let updates = window.updates.as_slice();
-    probes && steps && updates.len() == 1 && updates.iter().all(is_taking)
+    let lists = updates.len() == 1 && window.equalities.is_empty();
+    probes && steps && lists && updates.iter().all(is_taking)
 }
 
 #[test]

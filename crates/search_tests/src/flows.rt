@@ -74,21 +74,23 @@ fn example_signals(alloc: Global) -> Result<SignalLists, NoMemory>
 /// A window: now `p x` is as `q y` is.
 fn example_window(alloc: Global) -> Result<Window, NoMemory>
     ensures { IfOk result (λ window. window_tree window ≡ record {
-      left = probe_on 3 1;
+      left = Some (probe_on 3 1);
       left_at = 0;
       right = probe_on 4 2;
       length = 0;
       updates = [];
+      equalities = [];
     }) }
 {
     let left = probe_of(alloc, 3, 1)?;
     let right = probe_of(alloc, 4, 2)?;
     Ok(Window {
-        left,
+        left: Some(left),
         left_at: 0,
         right,
         length: 0,
         updates: Sequence::new(alloc),
+        equalities: Sequence::new(alloc),
     })
 }
 

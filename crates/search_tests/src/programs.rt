@@ -32,6 +32,20 @@ const SAID: &[(&[u8], &[u8], u32, &str)] = &[
     (TWINS, SEEN_TWIN, 2, "Ok(Yes)"),
     (TWINS, SEEN_TWIN, 1, "Ok(Yes)"),
     (TWINS, SEEN_TWIN, 0, "Ok(NoAnnotation)"),
+    // what equal values have in common is seen where a window lists the equality, which is a test of the specification
+    (EQUAL, UNSEEN_EQUAL, 2, "Ok(NoAnnotation)"),
+    (EQUAL, SEEN_EQUAL, 2, "Ok(Yes)"),
+    (EQUAL, SEEN_WITHOUT, 2, "Ok(Unsound(0))"),
+    (EQUAL, SEEN_TURNED, 2, "Ok(Foreign(0))"),
+    // and that each value is equal to itself where a window says it
+    (b"guarantee { eq x x; }", UNSEEN_SAME, 2, "Ok(NoAnnotation)"),
+    (b"guarantee { eq x x; }", SEEN_SAME, 2, "Ok(Yes)"),
+    (
+        b"always guarantee { [y <- y] || [y <- x]; eq x y -> eq x y; }",
+        SEEN_OTHER,
+        2,
+        "Ok(Unsound(0))",
+    ),
     // nothing to do
     (b"", NOTHING, 0, "Ok(Yes)"),
     (b"guarantee { false; }", NOTHING, 4, "Ok(NoAnnotation)"),
@@ -50,6 +64,32 @@ const CHOOSING: &[u8] = b"always guarantee { p x <-> [y <- x]; q y -> q y; }";
 const CHOOSER: &[u8] =
     b"tslprogram 1\ninput x\ncell y\nnode 0 set [y <- x] go 0\nnode 1 set [y <- y] go 0\n\
 node 2 if p x then 0 else 1\nstate 0 at 2\nend\n";
+
+/// What holds of a value holds of an equal one.
+const EQUAL: &[u8] = b"guarantee { eq x z && p x -> p z; }";
+
+/// A program for that, with a window and without one.
+const SEEN_EQUAL: &[u8] =
+    b"tslprogram 1\ninput x\ninput z\nwindow p x at 0 is p z at 0 when eq x z at 0\nnode 0 set go 0\nstate 0 at 0\nend\n";
+
+const UNSEEN_EQUAL: &[u8] = b"tslprogram 1\ninput x\ninput z\nnode 0 set go 0\nstate 0 at 0\nend\n";
+
+/// A window that lists no equality, and one that lists another.
+const SEEN_WITHOUT: &[u8] =
+    b"tslprogram 1\ninput x\ninput z\nwindow p x at 0 is p z at 0\nnode 0 set go 0\nstate 0 at 0\nend\n";
+
+const SEEN_TURNED: &[u8] =
+    b"tslprogram 1\ninput x\ninput z\nwindow p x at 0 is p z at 0 when eq z x at 0\nnode 0 set go 0\nstate 0 at 0\nend\n";
+
+/// A program with a window without a left test, and one without a window.
+const SEEN_SAME: &[u8] =
+    b"tslprogram 1\ninput x\nwindow true is eq x x at 0\nnode 0 set go 0\nstate 0 at 0\nend\n";
+
+const UNSEEN_SAME: &[u8] = b"tslprogram 1\ninput x\nnode 0 set go 0\nstate 0 at 0\nend\n";
+
+/// A window that takes an input for a cell.
+const SEEN_OTHER: &[u8] =
+    b"tslprogram 1\ninput x\ncell y\nwindow true is eq x y at 0\nnode 0 set [y <- x] go 0\nstate 0 at 0\nend\n";
 
 /// Two cells that take one term.
 const TWINS: &[u8] =

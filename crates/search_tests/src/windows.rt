@@ -213,7 +213,10 @@ fn bit(bit: Option<u32>) -> Result<u32, Fail> {
 
 /// The bits of a window.
 fn window_said(alloc: Global, space: &Space, window: &Window) -> Result<String, Fail> {
-    let left = bit(space.test_bit(&window.left))?;
+    let Some(left) = &window.left else {
+        return Err("the window has no left probe".into());
+    };
+    let left = bit(space.test_bit(left))?;
     let right = bit(space.test_bit(&window.right))?;
     let mut text = format!(in alloc;
         "{left} at {} is {right} at {}",

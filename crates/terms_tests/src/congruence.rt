@@ -1,7 +1,9 @@
 //! Tests of congruent windows and of tables of labels.
 
-ghost use Rattle.std.specs.Prelude.{◌≡◌, ◌<◌, length, IfOk};
+ghost use Rattle.std.specs.Prelude.{◌≡◌, ◌<◌, length, IsTrue, IfOk};
+ghost use Rattle.std.specs.List.{list_all};
 ghost use Rattle.tsl_terms.specs.TermTree.{term_trees, count_of_terms};
+ghost use Rattle.tsl_terms.specs.WellFormed.{name_fits};
 
 use program_tree::Program;
 use sequence::NoMemory;
@@ -10,7 +12,7 @@ use std::process::Abort;
 use std::test::Fail;
 use term_congruence::{classes_along, congruent};
 use test_values::{on_two, program_of};
-use tsl_terms::{Equated, Listed, Names, Probe, Term, TermList};
+use tsl_terms::{Equated, Listed, NameKind, Names, Probe, Term, TermList, equality_of};
 
 /// What a text has before the window of a program.
 const FRONT: &[u8] = b"tslprogram 1\ninput x\ninput u\ncell y\ncell z\nwindow ";
@@ -100,20 +102,87 @@ const WINDOWS: &[(&[u8], bool)] = &[
         b"p (h x x) at 0 is p (h y x) at 1 when [y <- x] at 0",
         false,
     ),
+    // an equality at a step, either way round
+    (b"p x at 0 is p u at 0 when eq x u at 0", true),
+    (b"p x at 0 is p u at 0 when eq u x at 0", true),
+    (b"p x at 1 is p u at 1 when eq x u at 0", false),
+    (b"p x at 0 is q u at 0 when eq x u at 0", false),
+    (
+        b"p x at 0 is p y at 1 when [y <- u] at 0 when eq x u at 0",
+        true,
+    ),
+    (
+        b"p x at 0 is p y at 1 when [y <- u] at 0 when eq x u at 1",
+        false,
+    ),
+    // what is built on equal terms
+    (b"p (f x) at 0 is p (f u) at 0 when eq x u at 0", true),
+    (b"p (f x) at 0 is p (g u) at 0 when eq x u at 0", false),
+    (b"p x at 0 is p u at 0 when eq (f x) (f u) at 0", false),
+    (b"r x u at 0 is r u x at 0 when eq x u at 0", true),
+    (
+        b"p x at 0 is p (f (f (f x))) at 0 when eq (f x) x at 0",
+        true,
+    ),
+    (
+        b"p x at 0 is p (f x) at 0 when eq (f (f (f x))) x at 0 when eq (f (f (f (f (f x))))) x at 0",
+        true,
+    ),
+    (
+        b"p x at 0 is p (f x) at 0 when eq (f (f (f (f x)))) x at 0 when eq (f (f x)) x at 0",
+        false,
+    ),
+    // through a third term
+    (
+        b"p x at 0 is p u at 0 when eq x a() at 0 when eq u a() at 0",
+        true,
+    ),
+    (
+        b"p x at 0 is p u at 0 when eq x a() at 0 when eq u b() at 0",
+        false,
+    ),
+    // an equality alone
+    (b"true is eq x x at 0", true),
+    (b"true is eq x u at 0", false),
+    (b"true is eq x u at 0 when eq u x at 0", true),
+    (b"true is eq x y at 1 when [y <- x] at 0", false),
+    (
+        b"true is eq y z at 1 when [y <- x] at 0 when [z <- x] at 0",
+        true,
+    ),
+    // a test of a predicate that has the arguments of an equality
+    (b"r x u at 0 is r u u at 0 when eq x u at 0", true),
+    (b"eq x u at 0 is eq u x at 0", false),
+    (b"eq x u at 0 is eq x u at 0", true),
 ];
 
-/// A program with a window.
-fn program_with(alloc: Global, window: &[u8]) -> Result<Program, Fail> {
+/// The name of equality.
+fn names_of_equality(alloc: Global) -> Result<Names, NoMemory>
+    ensures { IfOk result (λ names. IsTrue (list_all name_fits names)) }
+{
+    let mut names = Names::new(alloc);
+    names.add(b"eq", NameKind::Predicate, 2)?;
+    Ok(names)
+}
+
+/// A program with a window, after these names.
+fn program_with(alloc: Global, window: &[u8], names: Names) -> Result<Program, Fail>
+    requires { IsTrue (list_all name_fits names) }
+{
     let mut text = Vec::from_slice(alloc, FRONT)?;
     text.extend_from_slice(window)?;
     text.extend_from_slice(BACK)?;
-    program_of(alloc, &text, Names::new(alloc))
+    program_of(alloc, &text, names)
 }
 
-/// Whether each window of a program is congruent.
-fn are_congruent(alloc: Global, program: &Program) -> Result<bool, NoMemory> {
+/// Whether each window of a program is congruent, where this predicate is equality.
+fn are_congruent(
+    alloc: Global,
+    program: &Program,
+    equality: Option<u32>,
+) -> Result<bool, NoMemory> {
     for window in program.windows.as_slice() {
-        if !congruent(alloc, window, program.cells.as_slice())? {
+        if !congruent(alloc, window, program.cells.as_slice(), equality)? {
             return Ok(false);
         }
     }
@@ -123,8 +192,26 @@ fn are_congruent(alloc: Global, program: &Program) -> Result<bool, NoMemory> {
 #[test]
 fn windows_are_congruent(rt: HostRuntime) -> Result<(), Fail> {
     for &(window, expected) in WINDOWS {
-        let program = program_with(rt.alloc(), window)?;
-        assert_eq!(rt; are_congruent(rt.alloc(), &program)?, expected);
+        let names = names_of_equality(rt.alloc())?;
+        let equality = equality_of(&names);
+        let program = program_with(rt.alloc(), window, names)?;
+        assert_eq!(rt; are_congruent(rt.alloc(), &program, equality)?, expected);
+    }
+    Ok(())
+}
+
+/// Windows that list an equality, or say one.
+const EQUATED: &[&[u8]] = &[
+    b"p x at 0 is p x at 0 when eq x u at 0",
+    b"p x at 0 is p u at 0 when eq x u at 0",
+    b"true is eq x x at 0",
+];
+
+#[test]
+fn no_window_with_an_equality_is_congruent_without_one(rt: HostRuntime) -> Result<(), Fail> {
+    for window in EQUATED {
+        let program = program_with(rt.alloc(), window, Names::new(rt.alloc()))?;
+        assert!(rt; !are_congruent(rt.alloc(), &program, None)?);
     }
     Ok(())
 }

@@ -3,7 +3,9 @@
 use sequence::{NoMemory, Sequence};
 use std::alloc::Global;
 use std::test::Fail;
-use test_values::{guaranteed_always, names_of_copies, probe_of, test_of, two_formulas, update_of};
+use test_values::{
+    equality_window, guaranteed_always, names_of_copies, probe_of, test_of, two_formulas, update_of,
+};
 use tsl_terms::{
     Formula, FormulaList, Listed, NameKind, Names, Spec, Term, TermList, Window, choices,
     copy_formula, copy_term, copy_window, node_count, predicates, same_term, signals, under, whole,
@@ -149,11 +151,12 @@ fn example_window(alloc: Global) -> Result<Window, NoMemory> {
         },
     ]?;
     Ok(Window {
-        left: probe_of(alloc, 2, 1)?,
+        left: Some(probe_of(alloc, 2, 1)?),
         left_at: 1,
         right: probe_of(alloc, 2, 0)?,
         length: 2,
         updates: Sequence::from_vec(updates),
+        equalities: Sequence::new(alloc),
     })
 }
 
@@ -171,14 +174,35 @@ fn a_window_stands_for_its_formula(rt: HostRuntime) -> Result<(), Fail> {
     Ok(())
 }
 
+#[test]
+fn equalities_stand_behind_updates_in_a_formula(rt: HostRuntime) -> Result<(), Fail> {
+    let alloc = rt.alloc();
+    let window = equality_window(alloc)?;
+    let formula = window_formula(alloc, &window)?;
+    assert_eq!(rt;
+        format!(in alloc; "{formula:?}")?.as_str(),
+        "Globally(Implies(\
+        All(More(Update(0, Signal(1)), More(Next(Test(Probe { predicate: 3, \
+        arguments: More(Signal(1), More(Signal(0), Empty)) })), Empty))), \
+        Next(Test(Probe { predicate: 3, arguments: More(Signal(0), More(Signal(0), Empty)) }))))"
+    );
+    let copy = copy_window(alloc, &window)?;
+    assert_eq!(rt;
+        format!(in alloc; "{copy:?}")?.as_str(),
+        format!(in alloc; "{window:?}")?.as_str()
+    );
+    Ok(())
+}
+
 /// `p` of one signal now, as of another at the next step.
 fn window_of(alloc: Global, left: u32, right: u32) -> Result<Window, NoMemory> {
     Ok(Window {
-        left: probe_of(alloc, 2, left)?,
+        left: Some(probe_of(alloc, 2, left)?),
         left_at: 0,
         right: probe_of(alloc, 2, right)?,
         length: 1,
         updates: Sequence::new(alloc),
+        equalities: Sequence::new(alloc),
     })
 }
 

@@ -1,14 +1,14 @@
 //! Formulas, their lists, and windows.
 
-ghost use Rattle.std.specs.Prelude.{◌≡◌, ◌∷◌, [], IfOk};
+ghost use Rattle.std.specs.Prelude.{◌≡◌, ◌∷◌, [], Some, None, IfOk};
 ghost use Rattle.tsl_terms.specs.TermTree.{signal, no_terms, more_terms};
 ghost use Rattle.tsl_terms.specs.FormulaTree.{atom, test, update, no_formulas, more_formulas, formula_tree, formula_trees};
 ghost use Rattle.tsl_terms.specs.WindowTree.{window_tree};
 
-use crate::terms::probe_of;
+use crate::terms::{probe_of, probe_of_two};
 use sequence::{NoMemory, Sequence};
 use std::alloc::Global;
-use tsl_terms::{Formula, FormulaList, Listed, Term, Window};
+use tsl_terms::{Equated, Formula, FormulaList, Listed, Term, Window};
 
 /// `[left <- right]`
 pub fn update_of(left: u32, right: u32) -> Formula
@@ -45,11 +45,12 @@ pub fn two_formulas(alloc: Global, left: Formula, right: Formula) -> Result<Form
 /// Where `[0 <- 1]` holds now, predicate 2 is of signal 0 at the next step as it is of signal 1 now.
 pub fn copying_window(alloc: Global) -> Result<Window, NoMemory>
     ensures { IfOk result (λ w. window_tree w ≡ record {
-      left = record { predicate = 2; arguments = more_terms (signal 1) no_terms };
+      left = Some (record { predicate = 2; arguments = more_terms (signal 1) no_terms });
       left_at = 0;
       right = record { predicate = 2; arguments = more_terms (signal 0) no_terms };
       length = 1;
       updates = record { signal = 0; term = signal 1; offset = 0 } ∷ [];
+      equalities = [];
     }) }
 {
     let update = Listed {
@@ -58,10 +59,44 @@ pub fn copying_window(alloc: Global) -> Result<Window, NoMemory>
         offset: 0,
     };
     Ok(Window {
-        left: probe_of(alloc, 2, 1)?,
+        left: Some(probe_of(alloc, 2, 1)?),
         left_at: 0,
         right: probe_of(alloc, 2, 0)?,
         length: 1,
         updates: Sequence::from_vec(vec![in alloc; update]?),
+        equalities: Sequence::new(alloc),
+    })
+}
+
+/// Where `[0 <- 1]` holds now and predicate 3 is of the signals 1 and 0 at the next step, it is of signal 0 twice there.
+pub fn equality_window(alloc: Global) -> Result<Window, NoMemory>
+    ensures { IfOk result (λ w. window_tree w ≡ record {
+      left = None;
+      left_at = 0;
+      right = record { predicate = 3; arguments = more_terms (signal 0) (more_terms (signal 0) no_terms) };
+      length = 1;
+      updates = record { signal = 0; term = signal 1; offset = 0 } ∷ [];
+      equalities = record {
+        probe = record { predicate = 3; arguments = more_terms (signal 1) (more_terms (signal 0) no_terms) };
+        offset = 1;
+      } ∷ [];
+    }) }
+{
+    let update = Listed {
+        signal: 0,
+        term: Term::Signal(1),
+        offset: 0,
+    };
+    let equality = Equated {
+        probe: probe_of_two(alloc, 3, 1, 0)?,
+        offset: 1,
+    };
+    Ok(Window {
+        left: None,
+        left_at: 0,
+        right: probe_of_two(alloc, 3, 0, 0)?,
+        length: 1,
+        updates: Sequence::from_vec(vec![in alloc; update]?),
+        equalities: Sequence::from_vec(vec![in alloc; equality]?),
     })
 }

@@ -25,6 +25,19 @@ pub fn on_two(alloc: Global, function: u32, left: Term, right: Term) -> Result<T
     Ok(Term::Apply(function, arguments))
 }
 
+/// A predicate of two signals.
+pub fn probe_of_two(alloc: Global, predicate: u32, left: u32, right: u32) -> Result<Probe, NoMemory>
+    ensures { IfOk result (λ probe. probe_tree probe
+        ≡ record { predicate = predicate; arguments = more_terms (signal left) (more_terms (signal right) no_terms) }) }
+{
+    let right = Box::new(alloc, Term::Signal(right))?;
+    let last = TermList::More(right, Box::new(alloc, TermList::Empty)?);
+    Ok(Probe {
+        predicate,
+        arguments: TermList::More(Box::new(alloc, Term::Signal(left))?, Box::new(alloc, last)?),
+    })
+}
+
 /// A predicate of a signal.
 pub fn probe_of(alloc: Global, predicate: u32, of: u32) -> Result<Probe, NoMemory>
     ensures { IfOk result (λ probe. probe_tree probe

@@ -33,6 +33,9 @@ pub(crate) const TESTS: &[u8] =
 const TWINS: &[u8] =
     b"always guarantee { [y <- f x] && [z <- f x]; }\nguarantee { X (p y <-> p z); }\n";
 
+/// What holds of a value holds of an equal one.
+const EQUAL: &[u8] = b"guarantee { eq x z && p x -> p z; }\n";
+
 /// Copies an input to an output where it has a property.
 const COPY: &[u8] = b"always guarantee { p x -> [y <- x]; }\n";
 
@@ -88,6 +91,24 @@ const VERDICTS: &[Pair] = &[
     Pair {
         spec: TWINS,
         program: b"tslprogram 1\ninput x\ncell y\ncell z\nwindow p y at 1 is p z at 1 when [y <- f x] at 0 when [z <- f x] at 0\nnode 0 set [y <- f x] [z <- f x] go 0\nstate 0 at 0\nend\n",
+        ..ACCEPTED
+    },
+    // A window that lists an equality, and says one.
+    Pair {
+        spec: EQUAL,
+        program: b"tslprogram 1\ninput x\ninput z\nwindow p x at 0 is p z at 0 when eq x z at 0\nnode 0 set go 0\nstate 0 at 0\nend\n",
+        ..ACCEPTED
+    },
+    Pair {
+        spec: EQUAL,
+        program: b"tslprogram 1\ninput x\ninput z\nwindow p x at 0 is p z at 0\nnode 0 set go 0\nstate 0 at 0\nend\n",
+        status: Status::No,
+        says: b"refused window 0\n",
+        ..ACCEPTED
+    },
+    Pair {
+        spec: b"guarantee { eq x x; }\n",
+        program: b"tslprogram 1\ninput x\nwindow true is eq x x at 0\nnode 0 set go 0\nstate 0 at 0\nend\n",
         ..ACCEPTED
     },
     // A window that reads an input at two steps, also behind one that is congruent.
@@ -214,6 +235,14 @@ const REFUSED: &[Pair] = &[
         program: b"tslprogram 1\ninput x\ncell y\nwindow p x at 0 is p y at 1 when [y <- x] at 0\nnode 0 set go 0\nstate 0 at 0\nend\n",
         status: Status::Reading,
         says: b"fault program 5 updates\n",
+        ..ACCEPTED
+    },
+    // A window that lists another test than an equality.
+    Pair {
+        spec: EQUAL,
+        program: b"tslprogram 1\ninput x\ninput z\nwindow p x at 0 is p z at 0 when p x at 0\nnode 0 set go 0\nstate 0 at 0\nend\n",
+        status: Status::Reading,
+        says: b"fault program 4 window\n",
         ..ACCEPTED
     },
     Pair {

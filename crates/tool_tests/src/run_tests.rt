@@ -111,6 +111,21 @@ const RUNS: &[Input] = &[
         says: b"at 0 place 0 state 0 x 1 y 0 do [y <- x]\nat 1 place 0 state 0 x 1 y 1 do [y <- x]\nloop 1 1\nformula holds\n",
         ..WHOLE
     },
+    // A window lists an equality, and another one says one.
+    Input {
+        spec: b"",
+        program: b"tslprogram 1\ninput x\ncell y\nwindow p x at 0 is p y at 0 when eq x y at 0\nwindow true is eq x y at 1 when [y <- x] at 0\nnode 0 set [y <- x] go 0\nstate 0 at 0\nend\n",
+        says: b"at 0 place 0 state 0 x 1 y 0 do [y <- x]\nat 1 place 0 state 0 x 1 y 1 do [y <- x]\nloop 1 1\nwindow 0 holds\nwindow 1 holds\n",
+        ..WHOLE
+    },
+    Input {
+        spec: b"",
+        program: b"tslprogram 1\ninput x\ncell y\nwindow true is eq x y at 0\nnode 0 set [y <- x] go 0\nstate 0 at 0\nend\n",
+        tables: SIMPLE_TABLES,
+        status: Status::No,
+        says: b"at 0 place 0 state 0 x 1 y 0 do [y <- x]\nat 1 place 0 state 0 x 1 y 1 do [y <- x]\nloop 1 1\nwindow 0 fails\n",
+        ..WHOLE
+    },
     // The program has an output that the specification has not.
     Input {
         program: b"tslprogram 1\ninput x\ncell y\noutput q\nnode 0 set [y <- y] [q <- x] go 0\nstate 0 at 0\nend\n",

@@ -15,7 +15,7 @@ use Rattle.terms_tests.proofs.congruence.are_congruent.Goals as goal
 cells_of_fit : (readable cells : List ℕ) (w : WindowTree) → window_fits readable cells w ≡ true → UpdateCells cells w.updates
 cells_of_fit readable cells w fits =
     let shaped = (and_parts (window_is_shaped cells w) (window_reads_only readable w) fits).0 in
-    let listed = (and_parts (list_all (λ u. nat_lt u.offset w.length && is_among cells u.signal) w.updates) _ (and_parts _ _ shaped).1).0 in
+    let listed = (and_parts (list_all (λ u. nat_lt u.offset w.length && is_among cells u.signal) w.updates) _ (and_parts _ _ (and_parts _ _ shaped).0).1).0 in
     each_weaker (λ (u : ListedTree). (nat_lt u.offset w.length && is_among cells u.signal) ≡ true)
     (λ (u : ListedTree). is_among cells u.signal ≡ true)
     (λ u both. (and_parts (nat_lt u.offset w.length) (is_among cells u.signal) both).1) w.updates
