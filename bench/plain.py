@@ -8,7 +8,7 @@ order of tuples is the order of formulas."""
 import itertools
 import re
 
-from windows import Window, is_congruent, under_windows
+from windows import Window, is_congruent, tests_of, under_windows
 
 RESERVED = "assume guarantee always initially true false X F G U W R A".split()
 
@@ -385,16 +385,19 @@ class Program:
 
 
 def window_in(line):
-    """The window of a line."""
+    """The window of a line. Updates stand before equalities."""
     sides, *listed = line.removeprefix("window ").split(" when ")
-    (left, left_at), (right, length) = (side.rsplit(" at ", 1) for side in sides.split(" is "))
-    updates = [(Reader(text).formula(), int(offset)) for text, offset in (u.rsplit(" at ", 1) for u in listed)]
-    return Window(Reader(left).formula(), int(left_at), Reader(right).formula(), int(length), tuple(updates))
+    left, (right, length) = (side.rsplit(" at ", 1) for side in sides.split(" is "))
+    left, left_at = (None, 0) if left == ["true"] else (Reader(left[0]).formula(), int(left[1]))
+    atoms_at = [(Reader(text).formula(), int(offset)) for text, offset in (atom.rsplit(" at ", 1) for atom in listed)]
+    updates, equalities = (tuple(a for a in atoms_at if (a[0][0] == "update") == updates) for updates in (True, False))
+    return Window(left, left_at, Reader(right).formula(), int(length), updates, equalities)
 
 
 def window_text(window):
-    listed = "".join(f" when {atom_text(update)} at {offset}" for update, offset in window.updates)
-    return f"window {atom_text(window.left)} at {window.left_at} is {atom_text(window.right)} at {window.length}{listed}"
+    left = "true" if window.left is None else f"{atom_text(window.left)} at {window.left_at}"
+    listed = "".join(f" when {atom_text(atom)} at {offset}" for atom, offset in window.updates + window.equalities)
+    return f"window {left} is {atom_text(window.right)} at {window.length}{listed}"
 
 
 def verdict(spec_text, program_text, bound):
@@ -409,7 +412,7 @@ def verdict(spec_text, program_text, bound):
         if len(node) == 2 and any(update not in space.bits for update in node[0]):
             return f"refused choice {number}"
     for number, window in enumerate(program.windows):
-        if any(atom not in space.bits for atom in (window.left, window.right, *(u for u, _ in window.updates))):
+        if any(atom not in space.bits for atom in (*tests_of(window), *(u for u, _ in window.updates))):
             return f"refused foreign {number}"
     for number, window in enumerate(program.windows):
         if not is_congruent(window):
