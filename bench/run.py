@@ -61,12 +61,12 @@ def three_cells(count, meaning, head):
     """A run of so many configurations, a power of two, of three cells: two count in digits of a base, one takes the lower digit.
     The base is a power of two; where its square is twice the count, the higher digit goes on by two."""
     base = 2 ** (count.bit_length() // 2)
-    on = "next next" if base * base > count else "next"
+    on = "next (next high)" if base * base > count else "next high"
     program = [
         "cell low",
         "cell high",
         "cell before",
-        f"node 0 set [low <- next low] [high <- {on} high] [before <- low] go 0",
+        f"node 0 set [low <- next low] [high <- {on}] [before <- low] go 0",
         "node 1 set [low <- next low] [high <- high] [before <- low] go 0",
         "node 2 if first low then 0 else 1",
         "state 0 at 2",
