@@ -54,25 +54,26 @@ fn push_literal_if(list: &mut Vec<Literal>, literal: Literal, test: bool) -> Res
     Ok(())
 }
 
-/// The literals that are true where bits from a first one on are not as an edge asks.
-pub(crate) fn differing(
-    alloc: Global,
+/// Puts the literals that are true where bits from a first one on are not as an edge asks in place of what a
+/// list holds.
+pub(crate) fn put_differing(
+    literals: &mut Vec<Literal>,
     base: u32,
     first_bit: u32,
     bits: u32,
     edge: Edge,
-) -> Result<Vec<Literal>, NoMemory>
+) -> Result<(), NoMemory>
     requires room { base + bits < 2 ^ 31 }
     requires few { first_bit + bits ≤ 64 }
-    ensures { IfOk result (λ literals. literals.items ≡ differing base first_bit bits (edge_tree edge)) }
+    ensures { OnOk result (literals.new.items ≡ differing base first_bit bits (edge_tree edge)) }
 {
-    let mut literals = Vec::new(alloc);
+    literals.clear();
     for b in 0..bits {
         let bit = first_bit + b;
         let unwanted = literal(base + b, !has_bit(edge.cube.want, bit));
-        push_literal_if(&mut literals, unwanted, has_bit(edge.cube.care, bit))?;
+        push_literal_if(literals, unwanted, has_bit(edge.cube.care, bit))?;
     }
-    Ok(literals)
+    Ok(())
 }
 
 /// What the pair after an edge has at least.
@@ -104,30 +105,29 @@ fn push_numbered(
     Ok(())
 }
 
-/// The literals of a transition to a state where its pair has at least a number. Those that are true where the
-/// machine does not do as the edge asks are given.
-pub(crate) fn transition_literals(
-    alloc: Global,
+/// Puts the literals of a transition to a state where its pair has at least a number in place of what a list
+/// holds. Those that are true where the machine does not do as the edge asks are given.
+pub(crate) fn put_transition_literals(
+    literals: &mut Vec<Literal>,
     frame: &Frame,
     transition: Transition,
     unless: &[Literal],
     t: u32,
     i: u32,
-) -> Result<Vec<Literal>, NoMemory>
+) -> Result<(), NoMemory>
     requires framed { IsFramed (frame_tree frame.now) }
     requires within { IsWithin (frame_tree frame.now) transition }
     requires next { t < frame.now.states }
     requires number { i < frame.now.bound + 1 }
-    ensures { IfOk result (λ literals. literals.items
+    ensures { OnOk result (literals.new.items
         ≡ clause_along (frame_tree frame.now) unless.now transition.state (edge_tree transition.edge) transition.row t i) }
 {
     let pair = number_base(frame, transition.state, transition.edge.from) + i;
     let next = next_base(frame, transition.state, transition.row) + t;
-    let mut literals = Vec::new(alloc);
+    literals.clear();
     literals.push(literal(pair, false))?;
     literals.push(literal(next, false))?;
     literals.extend_from_slice(unless)?;
     let number = after_edge(i, transition.edge);
-    push_numbered(&mut literals, frame, t, transition.edge.to, number)?;
-    Ok(literals)
+    push_numbered(literals, frame, t, transition.edge.to, number)
 }

@@ -11,7 +11,7 @@ ghost use Rattle.bounded_encoding.specs.Refusing.{Refuses};
 ghost use Rattle.bounded_encoding.specs.internal.Transitions.{IsWithin};
 
 use crate::builder::Builder;
-use crate::edge_literals::{Transition, differing, transition_literals};
+use crate::edge_literals::{Transition, put_differing, put_transition_literals};
 use crate::errors::EncodeError;
 use crate::frame::{Frame, add_nexts, add_numbers, add_start};
 use crate::side::Side;
@@ -19,10 +19,21 @@ use clause_core::Literal;
 use cobuchi_automata::Edge;
 use std::alloc::Global;
 
-/// Adds the clause of a transition to a state where its pair has at least a number.
+/// Room for the literals of one clause after another, so that each of them takes no memory anew.
+#[derive(Drop)]
+struct Room {
+    /// Those that are true where the machine does not do as an edge asks.
+    unless: Vec<Literal>,
+    /// Those of a clause.
+    literals: Vec<Literal>,
+}
+
+/// Adds the clause of a transition to a state where its pair has at least a number. The list is room for its
+/// literals.
 fn add_transition(
     alloc: Global,
     out: &mut Builder,
+    literals: &mut Vec<Literal>,
     frame: &Frame,
     transition: Transition,
     unless: &[Literal],
@@ -38,7 +49,7 @@ fn add_transition(
     ensures refused { Refuses result (with_clauses out.old
         (clause_along (frame_tree frame.now) unless.now transition.state (edge_tree transition.edge) transition.row t i ∷ [])) }
 {
-    let literals = transition_literals(alloc, frame, transition, unless, t, i)?;
+    put_transition_literals(literals, frame, transition, unless, t, i)?;
     out.add(alloc, literals.as_slice())
 }
 
@@ -47,6 +58,7 @@ fn add_transition(
 fn add_each_number(
     alloc: Global,
     out: &mut Builder,
+    literals: &mut Vec<Literal>,
     frame: &Frame,
     transition: Transition,
     unless: &[Literal],
@@ -61,7 +73,7 @@ fn add_each_number(
         (clauses_to (frame_tree frame.now) unless.now transition.state (edge_tree transition.edge) transition.row t)) }
 {
     for i in 0..frame.bound + 1 {
-        add_transition(alloc, out, frame, transition, unless, t, i)?;
+        add_transition(alloc, out, literals, frame, transition, unless, t, i)?;
     }
     Ok(())
 }
@@ -78,6 +90,7 @@ pub(crate) fn leads_to_itself(state: u32, edge: Edge, t: u32) -> bool
 fn add_transitions_to(
     alloc: Global,
     out: &mut Builder,
+    literals: &mut Vec<Literal>,
     frame: &Frame,
     transition: Transition,
     unless: &[Literal],
@@ -94,7 +107,7 @@ fn add_transitions_to(
     if leads_to_itself(transition.state, transition.edge, t) {
         return Ok(());
     }
-    add_each_number(alloc, out, frame, transition, unless, t)
+    add_each_number(alloc, out, literals, frame, transition, unless, t)
 }
 
 /// Adds the clauses of a transition to each state.
@@ -102,6 +115,7 @@ fn add_transitions_to(
 fn add_each_next(
     alloc: Global,
     out: &mut Builder,
+    literals: &mut Vec<Literal>,
     frame: &Frame,
     transition: Transition,
     unless: &[Literal],
@@ -114,7 +128,7 @@ fn add_each_next(
         (clauses_from (frame_tree frame.now) unless.now transition.state (edge_tree transition.edge) transition.row)) }
 {
     for t in 0..frame.states {
-        add_transitions_to(alloc, out, frame, transition, unless, t)?;
+        add_transitions_to(alloc, out, literals, frame, transition, unless, t)?;
     }
     Ok(())
 }
@@ -123,6 +137,7 @@ fn add_each_next(
 fn add_transitions_under<S: Side>(
     alloc: Global,
     out: &mut Builder,
+    room: &mut Room,
     frame: &Frame,
     side: &S,
     transition: Transition,
@@ -135,8 +150,16 @@ fn add_transitions_under<S: Side>(
         (clauses_under (side_of frame.now (S.met side.now) (S.base side.now)) transition.state (edge_tree transition.edge) transition.row)) }
 {
     let base = side.own_base(transition.state, transition.row);
-    let unless = differing(alloc, base, frame.first_bit, frame.bits, transition.edge)?;
-    add_each_next(alloc, out, frame, transition, unless.as_slice())
+    let unless = &mut room.unless;
+    put_differing(unless, base, frame.first_bit, frame.bits, transition.edge)?;
+    add_each_next(
+        alloc,
+        out,
+        &mut room.literals,
+        frame,
+        transition,
+        unless.as_slice(),
+    )
 }
 
 /// Adds the clauses of a state and an edge, in each of some rows.
@@ -159,13 +182,17 @@ fn add_each_row<S: Side>(
     ensures refused { Refuses result (with_clauses out.old
         (flat_map (clauses_under (side_of frame.now (S.met side.now) (S.base side.now)) s (edge_tree edge)) met.now)) }
 {
+    let mut room = Room {
+        unless: Vec::new(alloc),
+        literals: Vec::new(alloc),
+    };
     for row in met {
         let transition = Transition {
             state: s,
             edge,
             row: *row,
         };
-        add_transitions_under(alloc, out, frame, side, transition)?;
+        add_transitions_under(alloc, out, &mut room, frame, side, transition)?;
     }
     Ok(())
 }

@@ -13,7 +13,7 @@ returns-clause-added g c =
     let made : c.as_slice.result.now
     ≡ differing (g.S.Side.base c.args.side.now c.args.transition.state c.args.transition.row) c.args.frame.now.first_bit
     c.args.frame.now.bits (edge_tree c.args.transition.edge)
-    = c.as_slice.ensures.value ∙ (c.in_ok-unless.ensures
+    = c.as_slice.ensures.value ∙ (c.in_ok-put_differing.ensures
     ∙ ap (λ n. differing n c.args.frame.now.first_bit c.args.frame.now.bits (edge_tree c.args.transition.edge)) c.own_base-base.ensures) in
     subst (λ (unless : List Lit). OnOk c.add_each_next.result (c.add_each_next.new.out
     ≡ with_clauses c.args.out.now (clauses_from (frame_tree c.args.frame.now) unless c.args.transition.state
@@ -24,7 +24,7 @@ returns-clause-refused g c =
     let made : c.as_slice.result.now
     ≡ differing (g.S.Side.base c.args.side.now c.args.transition.state c.args.transition.row) c.args.frame.now.first_bit
     c.args.frame.now.bits (edge_tree c.args.transition.edge)
-    = c.as_slice.ensures.value ∙ (c.in_ok-unless.ensures
+    = c.as_slice.ensures.value ∙ (c.in_ok-put_differing.ensures
     ∙ ap (λ n. differing n c.args.frame.now.first_bit c.args.frame.now.bits (edge_tree c.args.transition.edge)) c.own_base-base.ensures) in
     subst (λ (unless : List Lit). Refuses c.add_each_next.result
     (with_clauses c.args.out.now (clauses_from (frame_tree c.args.frame.now) unless c.args.transition.state

@@ -1,7 +1,7 @@
 use Rattle.std.proofs.Common.{◌≡◌, ◌∙◌, ◌+◌, ◌++◌, ◌∷◌, [], not, cond}
 use Rattle.ltl_formula.specs.Cubes.{has_bit}
 use Rattle.bounded_encoding.proofs.Gathering.{gathered, gathered_all}
-use Rattle.bounded_encoding.proofs.edge_literals.differing.Goals as goal
+use Rattle.bounded_encoding.proofs.edge_literals.put_differing.Goals as goal
 
 pub loop-b-preserved : goal.loop-b-preserved
 loop-b-preserved c =

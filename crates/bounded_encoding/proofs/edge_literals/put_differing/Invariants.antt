@@ -3,7 +3,7 @@ use Rattle.ltl_formula.specs.Cubes.{has_bit}
 use Rattle.cobuchi_automata.specs.Edges.{edge_tree}
 use Rattle.bounded_encoding.specs.ClauseLists.{between}
 use Rattle.bounded_encoding.specs.Sides.{differing}
-use Rattle.bounded_encoding.proofs.edge_literals.differing.Given as goal
+use Rattle.bounded_encoding.proofs.edge_literals.put_differing.Given as goal
 
 abbrev pub invariant-loop-b : goal.invariant-loop-b
 invariant-loop-b l = l.literals.items
