@@ -4,6 +4,7 @@ pub mod BuiltLemmas
 pub mod CounterLemmas
 pub mod ExploredLemmas
 pub mod GrowLemmas
+pub mod KnownLemmas
 pub mod LawLemmas
 pub mod OnceLemmas
 pub mod PassedUntils

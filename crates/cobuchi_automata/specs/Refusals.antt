@@ -1,5 +1,5 @@
 -- When a formula has no automaton within the limits.
-use Rattle.std.specs.Prelude.{◌≡◌, ℕ, suc, ⊤, Bool, List, length, None, Some, slice_get, Contains}
+use Rattle.std.specs.Prelude.{◌≡◌, ℕ, suc, ⊤, Bool, List, length, None, Some, Contains}
 use Rattle.std.specs.List.{AllByRecursion}
 use Rattle.sequence.specs.Once.{StandOnce}
 use Rattle.ltl_formula.specs.LtlTree.{LtlTree}

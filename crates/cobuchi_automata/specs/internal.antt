@@ -1,1 +1,2 @@
 pub mod Exploring
+pub mod Known

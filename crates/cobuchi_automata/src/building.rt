@@ -12,6 +12,7 @@ ghost use Rattle.cobuchi_automata.specs.internal.Exploring.{state_keys, IsPlanIn
 use crate::automaton::Automaton;
 use crate::build_error::BuildError;
 use crate::exploring::{Found, Plan, explore, start_of};
+use crate::known::none_known;
 use crate::untils::until_numbers;
 use ltl_formula::Ltl;
 use obligations::{names_of_formula, no_expansions};
@@ -46,8 +47,15 @@ fn build_by(alloc: Global, plan: &Plan) -> Result<Automaton, BuildError>
     ensures refused { IfErr result (HasBuildCause (ltl_tree plan.now.formula.now)) }
 {
     let mut expansions = no_expansions(alloc, &plan.names)?;
+    let mut known = none_known(alloc);
     let mut found = start_of(alloc, plan)?;
-    explore(alloc, plan, expansions.as_mut_slice(), &mut found)?;
+    explore(
+        alloc,
+        plan,
+        expansions.as_mut_slice(),
+        &mut known,
+        &mut found,
+    )?;
     Ok(automaton_of(alloc, plan, &found)?)
 }
 

@@ -11,15 +11,17 @@ ghost use Rattle.obligations.specs.Numbers.{choice_key, choice_keys, lent_trees}
 ghost use Rattle.cobuchi_automata.specs.Edges.{edge_tree, edge_trees};
 ghost use Rattle.cobuchi_automata.specs.Refusals.{most_automaton_states, most_automaton_edges, HasBuildCause};
 ghost use Rattle.cobuchi_automata.specs.internal.Exploring.{state_key, state_keys, Takes, IsChoiceRefusal, IsPlanInMemory, IsFoundSoFar};
+ghost use Rattle.cobuchi_automata.specs.internal.Known.{AreKnown};
 
 use crate::automaton::Edge;
 use crate::build_error::BuildError;
 use crate::counters::advanced;
+use crate::known::{KnownChoices, list_at, place_of_choices};
 use crate::states::{State, add_edge, add_state};
 use crate::untils::until_numbers;
 use indexmap::IndexSet;
 use ltl_formula::{Cube, Ltl};
-use obligations::{NumberedChoice, choices_of_numbers, names_of_formula, number_of};
+use obligations::{NumberedChoice, names_of_formula, number_of};
 use sequence::NoMemory;
 use std::alloc::Global;
 
@@ -128,21 +130,31 @@ fn expand_state(
     alloc: Global,
     plan: &Plan,
     expansions: &mut [Option<Vec<NumberedChoice>>],
+    known: &mut KnownChoices,
     found: &mut Found,
     from: u32,
 ) -> Result<(), BuildError>
     requires plan { IsPlanInMemory plan.now }
     requires few { length plan.now.names.items < 2 ^ 32 }
     requires expansions { AreExpansions (lent_trees plan.now.names.items) expansions.old }
+    requires known { AreKnown (lent_trees plan.now.names.items) known.old }
     requires found { IsFoundSoFar plan.now from found.old }
     requires there { from < length found.old.states.keys }
     ensures expansions { AreExpansions (lent_trees plan.now.names.items) expansions.new }
+    ensures known { OnOk result (AreKnown (lent_trees plan.now.names.items) known.new) }
     ensures found { OnOk result (IsFoundSoFar plan.now (from + 1) found.new) }
     ensures refused { IfErr result (HasBuildCause (ltl_tree plan.now.formula.now)) }
 {
     let state = copied_state(alloc, &found.states, from as usize)?;
-    let list = choices_of_numbers(alloc, &plan.names, expansions, &state.members)?;
-    add_choices(alloc, plan, found, from, &state, &list)
+    let place = place_of_choices(alloc, plan, expansions, known, &state.members)?;
+    add_choices(
+        alloc,
+        plan,
+        found,
+        from,
+        &state,
+        list_at(&known.lists, place),
+    )
 }
 
 /// Expands each state that is found, until none is left.
@@ -150,18 +162,20 @@ pub(crate) fn explore(
     alloc: Global,
     plan: &Plan,
     expansions: &mut [Option<Vec<NumberedChoice>>],
+    known: &mut KnownChoices,
     found: &mut Found,
 ) -> Result<(), BuildError>
     requires plan { IsPlanInMemory plan.now }
     requires few { length plan.now.names.items < 2 ^ 32 }
     requires expansions { AreExpansions (lent_trees plan.now.names.items) expansions.old }
+    requires known { AreKnown (lent_trees plan.now.names.items) known.old }
     requires found { IsFoundSoFar plan.now 0 found.old }
     ensures found { OnOk result (IsFoundSoFar plan.now (length found.new.states.keys) found.new) }
     ensures refused { IfErr result (HasBuildCause (ltl_tree plan.now.formula.now)) }
 {
     let mut expanded = 0;
     while (expanded as usize) < found.states.len() {
-        expand_state(alloc, plan, expansions, found, expanded)?;
+        expand_state(alloc, plan, expansions, known, found, expanded)?;
         expanded += 1;
     }
     Ok(())

@@ -10,7 +10,8 @@
 //! the numbers of its states; and one within the limits is never refused.
 //!
 //! The work is done over numbers: the formulas that steps may leave have numbers (`obligations`), and a
-//! state is a rising list of them with its counter. `proofs/ExploredLemmas` shows that each choice that
+//! state is a rising list of them with its counter. The choices of a set are made once: the states that
+//! differ in their counter alone share them. `proofs/ExploredLemmas` shows that each choice that
 //! is taken keeps what is explored a part of the automaton, and that it is whole when each state is
 //! expanded.
 #![tactic(auto)]
@@ -20,6 +21,7 @@ mod build_error;
 mod building;
 mod counters;
 mod exploring;
+mod known;
 mod laws;
 mod states;
 mod untils;

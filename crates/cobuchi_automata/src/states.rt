@@ -20,7 +20,7 @@ pub(crate) struct State {
 }
 
 /// The number of a state among others; it is added at their end where it is not there.
-fn number_of_state(states: &mut IndexSet<State>, state: State) -> Result<usize, NoMemory>
+pub(crate) fn number_of_state(states: &mut IndexSet<State>, state: State) -> Result<usize, NoMemory>
     ensures grows { OnOk result (Grows (state_keys states.old.keys) (state_key state) (state_keys states.new.keys)) }
     ensures there { IfOk result (λ number. slice_get (state_keys states.new.keys) number ≡ Some (state_key state)) }
 {

@@ -1,6 +1,6 @@
 -- The joins of two antichains that have nothing in common are an antichain.
-use Rattle.std.proofs.Common.{◌≡◌, ◌∙◌, ℕ, ◌<◌, ◌≤◌, length, Bool, true, false, ◌&&◌, ◌||◌, ◌==◌, cond, List, [], ◌∷◌, ◌++◌, map, Some, nat_eq}
-use Rattle.std.proofs.Common.{◌⊎◌, inl, inr, None, refl, sym, ap, subst, arith, bit_and, bit_or, min, max}
+use Rattle.std.proofs.Common.{◌≡◌, ◌∙◌, ℕ, ◌%◌, ◌<◌, ◌≤◌, length, Bool, true, false, ◌&&◌, ◌||◌, ◌==◌, cond, List, [], ◌∷◌, ◌++◌, map, Some, nat_eq}
+use Rattle.std.proofs.Common.{None, refl, sym, ap, subst, arith, bit_and, bit_or, min, max}
 use Rattle.std.specs.Prelude.{bit_xor}
 use Rattle.std.specs.Int.{bit_at}
 use Rattle.std.specs.List.{list_any, list_all, filter_map, cons_option, AllByRecursion}
@@ -8,15 +8,15 @@ use Rattle.std.specs.declared.cmp.Ordering.TheVariants.{Equal}
 use Rattle.std.specs.Int.Bits.{and_self}
 use Rattle.std.specs.Ordering.{nat_cmp}
 use Rattle.std.proofs.lemmas.Cmp.{ranked}
-use Rattle.std.proofs.lemmas.Bool.{eqb-true, le-ltb, false≢true, and_parts, or_cases}
-use Rattle.std.proofs.lemmas.Nat.Bits.{bit_at_and, bit_at_or, bit_at-lt, bit_at-zero, same_from_bits}
+use Rattle.std.proofs.lemmas.Bool.{eqb-true, le-ltb, false≢true, and_parts}
+use Rattle.std.proofs.lemmas.Nat.Bits.{bit_at_and, bit_at_or, bit_at-lt, bit_at-zero, bit_at-pow_same, same_from_bits}
 use Rattle.sequence.proofs.Each.{each_both, each_joined, each_map, each_weaker}
 use Rattle.ltl_formula.specs.Increasing.{union}
 use Rattle.ltl_formula.proofs.IncreasingLemmas.{any-union, all-union}
 use Rattle.obligations.specs.Choices.{same_choice, is_within, is_subset, joined, joins, reduced, formed, product, most_choices}
 use Rattle.obligations.specs.Numbers.{ChoiceKey}
 use Rattle.obligations.specs.internal.Rounds.{is_rising, numbers_rise}
-use Rattle.obligations.specs.internal.Antichains.{AreApart, IsAntichain, cares, is_none, leaves_nothing, have_nothing_in_common}
+use Rattle.obligations.specs.internal.Antichains.{AreApart, IsAntichain, gathered, cares, mark, marks_of, all_marks, have_nothing_in_common}
 use Rattle.obligations.proofs.WithinLemmas.{within_is, is_within_key, same_key_is, subset_itself}
 use Rattle.obligations.proofs.Antichains.{antichain_is_reduced}
 use Rattle.obligations.proofs.CubeJoins.{at_and, within_both}
@@ -42,11 +42,16 @@ module _ (c e d f l r : ℕ) (c2 : c < 2) (e2 : e < 2) (d2 : d < 2) (f2 : f < 2)
 
 -- ---- all bits
 
--- a choice asks for bits of a mask alone, and wants none that it does not ask for; it leaves nothing where all of its list do
-pub record IsOf (mask : ℕ) (nothing : Bool) (c : ChoiceKey) : Type 0 where
+-- the bit that stands for a number is one of a mask
+abbrev pub IsMarked : ℕ → ℕ → Type 0
+IsMarked marks n = bit_and (mark n) marks ≡ mark n
+
+-- a choice asks for bits of a mask alone, and wants none that it does not ask for; bits of another one stand for what it leaves
+pub record IsOf (mask marks : ℕ) (c : ChoiceKey) : Type 0 where
   pub care : bit_and c.care mask ≡ c.care
   pub want : bit_and c.want c.care ≡ c.want
-  pub leaves : nothing ≡ true → leaves_nothing c ≡ true
+  pub next : AllByRecursion (IsMarked marks) c.next_set
+  pub postponed : AllByRecursion (IsMarked marks) c.postponed
 
 -- two choices together
 abbrev pub both : ChoiceKey → ChoiceKey → ChoiceKey
@@ -61,20 +66,33 @@ not_so : (a b : Bool) → (a ≡ true → b ≡ true) → b ≡ false → a ≡ 
 not_so false b so is = refl
 not_so true b so is = absurd (false≢true (sym is ∙ so refl))
 
-empty : (ns : List ℕ) → is_none ns ≡ true → ns ≡ []
-empty [] is = refl
-empty (n ∷ ns) is = absurd (false≢true is)
-
-nothing_of : (c : ChoiceKey) → leaves_nothing c ≡ true → (is_none c.next_set ≡ true) × (is_none c.postponed ≡ true)
-nothing_of c h = and_parts (is_none c.next_set) (is_none c.postponed) h
-
 equal_numbers : (m n : ℕ) → nat_cmp m n ≡ Equal → m ≡ n
 equal_numbers m n h = rw h at (ranked m n (nat_cmp m n) refl)
 
-of_unions : (q t : List ℕ) → is_subset nat_eq (union nat_cmp [] q) (union nat_cmp [] t) ≡ true → is_subset nat_eq q t ≡ true
-of_unions q t h =
-    sym (all-union nat_cmp equal_numbers (λ f. list_any (λ g. nat_eq g f) t) [] q)
-    ∙ (λ i. list_all (λ f. sym (any-union nat_cmp equal_numbers (λ g. nat_eq g f) [] t) i) (union nat_cmp [] q)) ∙ h
+-- a subset of unions, side by side
+of_unions : (p q s t : List ℕ) → is_subset nat_eq (union nat_cmp p q) (union nat_cmp s t) ≡ true
+    → (list_all (λ n. list_any (λ m. nat_eq m n) s || list_any (λ m. nat_eq m n) t) p ≡ true)
+    × (list_all (λ n. list_any (λ m. nat_eq m n) s || list_any (λ m. nat_eq m n) t) q ≡ true)
+of_unions p q s t h =
+    and_parts (list_all (λ n. list_any (λ m. nat_eq m n) s || list_any (λ m. nat_eq m n) t) p)
+    (list_all (λ n. list_any (λ m. nat_eq m n) s || list_any (λ m. nat_eq m n) t) q)
+    (sym (all-union nat_cmp equal_numbers (λ n. list_any (λ m. nat_eq m n) s || list_any (λ m. nat_eq m n) t) p q)
+    ∙ (λ i. list_all (λ n. sym (any-union nat_cmp equal_numbers (λ m. nat_eq m n) s t) i) (union nat_cmp p q)) ∙ h)
+
+all_so : (P : ℕ → Type 0) (f g : ℕ → Bool) → ((n : ℕ) → P n → f n ≡ true → g n ≡ true) → (ns : List ℕ) → AllByRecursion P ns
+    → list_all f ns ≡ true → list_all g ns ≡ true
+all_so P f g so [] each h = refl
+all_so P f g so (n ∷ ns) each h =
+    let parts = and_parts (f n) (list_all f ns) h in
+    (λ i. so n each.0 parts.0 i && all_so P f g so ns each.1 parts.1 i)
+
+first_of : (a b : Bool) → b ≡ false → (a || b) ≡ true → a ≡ true
+first_of true b is h = refl
+first_of false b is h = absurd (false≢true (sym is ∙ h))
+
+second_of : (a b : Bool) → a ≡ false → (a || b) ≡ true → b ≡ true
+second_of false b is h = h
+second_of true b is h = absurd (false≢true (sym is))
 
 antichains_joined : (xs ys : List ChoiceKey) → IsAntichain xs → IsAntichain ys → AllByRecursion (λ x. AllByRecursion (AreApart x) ys) xs
     → IsAntichain (xs ++ ys)
@@ -82,7 +100,36 @@ antichains_joined [] ys left right across = right
 antichains_joined (x ∷ xs) ys left right across =
     (each_joined (AreApart x) xs ys left.0 across.0, antichains_joined xs ys left.1 right across.1)
 
-module _ (l r : ℕ) (apart : bit_and l r ≡ 0) (lefts rights : Bool) (some : (lefts || rights) ≡ true) where
+module _ (l r : ℕ) (apart : bit_and l r ≡ 0) (lefts rights : ℕ) (none : bit_and lefts rights ≡ 0) where
+  -- no number is marked in both
+  not_both : (n m : ℕ) → IsMarked lefts n → IsMarked rights m → n ≡ m → ⊥
+  not_both n m of_left of_right is =
+      one (bit_at lefts (n % 64)) (bit_at rights (n % 64))
+      (ap (λ b. min b (bit_at lefts (n % 64))) (sym (bit_at-pow_same (n % 64))) ∙ at_and (mark n) lefts (mark n) (n % 64) of_left
+      ∙ bit_at-pow_same (n % 64))
+      (ap (λ b. min b (bit_at rights (n % 64))) (sym (bit_at-pow_same (n % 64)))
+      ∙ at_and (mark n) rights (mark n) (n % 64) (subst (IsMarked rights) (sym is) of_right) ∙ bit_at-pow_same (n % 64))
+      (at_and lefts rights 0 (n % 64) none ∙ bit_at-zero (n % 64))
+    where
+      one : (a b : ℕ) → min 1 a ≡ 1 → min 1 b ≡ 1 → min a b ≡ 0 → ⊥
+      one a b a1 b1 ab = omega (arith, a1, b1, ab)
+
+  none_right : (n : ℕ) (ms : List ℕ) → IsMarked lefts n → AllByRecursion (IsMarked rights) ms → list_any (λ m. nat_eq m n) ms ≡ false
+  none_right n [] of each = refl
+  none_right n (m ∷ ms) of each = by (nat_eq m n) refl (none_right n ms of each.1)
+    where
+      by : (b : Bool) → nat_eq m n ≡ b → list_any (λ k. nat_eq k n) ms ≡ false → (nat_eq m n || list_any (λ k. nat_eq k n) ms) ≡ false
+      by false is rest = (λ i. is i || rest i)
+      by true is rest = absurd (not_both n m of each.0 (sym (eqb-true m n is)))
+
+  none_left : (n : ℕ) (ms : List ℕ) → IsMarked rights n → AllByRecursion (IsMarked lefts) ms → list_any (λ m. nat_eq m n) ms ≡ false
+  none_left n [] of each = refl
+  none_left n (m ∷ ms) of each = by (nat_eq m n) refl (none_left n ms of each.1)
+    where
+      by : (b : Bool) → nat_eq m n ≡ b → list_any (λ k. nat_eq k n) ms ≡ false → (nat_eq m n || list_any (λ k. nat_eq k n) ms) ≡ false
+      by false is rest = (λ i. is i || rest i)
+      by true is rest = absurd (not_both m n each.0 of (eqb-true m n is))
+
   module _ (c d e f : ChoiceKey) (c_of : IsOf l lefts c) (d_of : IsOf r rights d) (e_of : IsOf l lefts e) (f_of : IsOf r rights f) where
     masks_at : (i : ℕ) → min (bit_at l i) (bit_at r i) ≡ 0
     masks_at i = at_and l r 0 i apart ∙ bit_at-zero i
@@ -137,40 +184,34 @@ module _ (l r : ℕ) (apart : bit_and l r ≡ 0) (lefts rights : Bool) (some : (
 
     -- ---- what choices leave
 
-    sets_left : (p q s t : List ℕ) → (lefts ≡ true → is_none p ≡ true) → (rights ≡ true → is_none q ≡ true) → (rights ≡ true → is_none t ≡ true)
+    sets_left : (p q s t : List ℕ) → AllByRecursion (IsMarked lefts) p → AllByRecursion (IsMarked rights) t
         → is_subset nat_eq (union nat_cmp p q) (union nat_cmp s t) ≡ true → is_subset nat_eq p s ≡ true
-    sets_left p q s t lone rone rone' h = by (or_cases lefts rights some)
-      where
-        by : (lefts ≡ true) ⊎ (rights ≡ true) → is_subset nat_eq p s ≡ true
-        by (inl is) = rw (empty p (lone is)) refl
-        by (inr is) = rw (empty q (rone is), empty t (rone' is)) at h
+    sets_left p q s t p_of t_of h =
+        all_so (IsMarked lefts) (λ n. list_any (λ m. nat_eq m n) s || list_any (λ m. nat_eq m n) t) (λ n. list_any (λ m. nat_eq m n) s)
+        (λ n of is. first_of (list_any (λ m. nat_eq m n) s) (list_any (λ m. nat_eq m n) t) (none_right n t of t_of) is) p p_of
+        (of_unions p q s t h).0
 
-    sets_right : (p q s t : List ℕ) → (lefts ≡ true → is_none p ≡ true) → (lefts ≡ true → is_none s ≡ true) → (rights ≡ true → is_none q ≡ true)
+    sets_right : (p q s t : List ℕ) → AllByRecursion (IsMarked rights) q → AllByRecursion (IsMarked lefts) s
         → is_subset nat_eq (union nat_cmp p q) (union nat_cmp s t) ≡ true → is_subset nat_eq q t ≡ true
-    sets_right p q s t lone lone' rone h = by (or_cases lefts rights some)
-      where
-        by : (lefts ≡ true) ⊎ (rights ≡ true) → is_subset nat_eq q t ≡ true
-        by (inr is) = rw (empty q (rone is)) refl
-        by (inl is) = of_unions q t (rw (empty p (lone is), empty s (lone' is)) at h)
+    sets_right p q s t q_of s_of h =
+        all_so (IsMarked rights) (λ n. list_any (λ m. nat_eq m n) s || list_any (λ m. nat_eq m n) t) (λ n. list_any (λ m. nat_eq m n) t)
+        (λ n of is. second_of (list_any (λ m. nat_eq m n) s) (list_any (λ m. nat_eq m n) t) (none_left n s of s_of) is) q q_of
+        (of_unions p q s t h).1
 
     within_left : is_within nat_eq (both c d) (both e f) ≡ true → is_within nat_eq c e ≡ true
     within_left h = let w = within_is (both c d) (both e f) h in is_within_key c e (record {
       care = care_left w.care;
       want = want_left w.want;
-      next = sets_left c.next_set d.next_set e.next_set f.next_set (λ is. (nothing_of c (c_of.leaves is)).0)
-          (λ is. (nothing_of d (d_of.leaves is)).0) (λ is. (nothing_of f (f_of.leaves is)).0) w.next;
-      postponed = sets_left c.postponed d.postponed e.postponed f.postponed (λ is. (nothing_of c (c_of.leaves is)).1)
-          (λ is. (nothing_of d (d_of.leaves is)).1) (λ is. (nothing_of f (f_of.leaves is)).1) w.postponed;
+      next = sets_left c.next_set d.next_set e.next_set f.next_set c_of.next f_of.next w.next;
+      postponed = sets_left c.postponed d.postponed e.postponed f.postponed c_of.postponed f_of.postponed w.postponed;
     })
 
     within_right : is_within nat_eq (both c d) (both e f) ≡ true → is_within nat_eq d f ≡ true
     within_right h = let w = within_is (both c d) (both e f) h in is_within_key d f (record {
       care = care_right w.care;
       want = want_right w.want;
-      next = sets_right c.next_set d.next_set e.next_set f.next_set (λ is. (nothing_of c (c_of.leaves is)).0)
-          (λ is. (nothing_of e (e_of.leaves is)).0) (λ is. (nothing_of d (d_of.leaves is)).0) w.next;
-      postponed = sets_right c.postponed d.postponed e.postponed f.postponed (λ is. (nothing_of c (c_of.leaves is)).1)
-          (λ is. (nothing_of e (e_of.leaves is)).1) (λ is. (nothing_of d (d_of.leaves is)).1) w.postponed;
+      next = sets_right c.next_set d.next_set e.next_set f.next_set d_of.next e_of.next w.next;
+      postponed = sets_right c.postponed d.postponed e.postponed f.postponed d_of.postponed e_of.postponed w.postponed;
     })
 
     both_within : is_within nat_eq (both c d) (both c d) ≡ true
@@ -286,31 +327,37 @@ mask_rest a b k h = same_from_bits (bit_and b k) b (λ i.
     bit_at_and b k i ∙ two_of_two (bit_at a i) (bit_at b i) (bit_at k i) (bit_at-lt a i) (bit_at-lt b i) (bit_at-lt k i)
     (ap (λ z. min z (bit_at k i)) (sym (bit_at_or a b i)) ∙ at_and (bit_or a b) k (bit_or a b) i h ∙ bit_at_or a b i))
 
-each_of : (mask : ℕ) (nothing : Bool) (cs : List ChoiceKey) → bit_and (cares cs) mask ≡ cares cs
-    → (nothing ≡ true → list_all leaves_nothing cs ≡ true) → list_all is_rising cs ≡ true → AllByRecursion (IsOf mask nothing) cs
-each_of mask nothing [] within leaves rising = tt
-each_of mask nothing (c ∷ cs) within leaves rising =
-    let parts = and_parts (is_rising c) (list_all is_rising cs) rising in (
+each_marked : (marks : ℕ) (ns : List ℕ) → bit_and (gathered mark ns) marks ≡ gathered mark ns → AllByRecursion (IsMarked marks) ns
+each_marked marks [] within = tt
+each_marked marks (n ∷ ns) within =
+    (mask_first (mark n) (gathered mark ns) marks within, each_marked marks ns (mask_rest (mark n) (gathered mark ns) marks within))
+
+each_of : (mask marks : ℕ) (cs : List ChoiceKey) → bit_and (cares cs) mask ≡ cares cs → bit_and (all_marks cs) marks ≡ all_marks cs
+    → list_all is_rising cs ≡ true → AllByRecursion (IsOf mask marks) cs
+each_of mask marks [] within marked rising = tt
+each_of mask marks (c ∷ cs) within marked rising =
+    let parts = and_parts (is_rising c) (list_all is_rising cs) rising in
+    let own = mask_first (marks_of c) (all_marks cs) marks marked in (
       record {
         care = mask_first c.care (cares cs) mask within;
         want = eqb-true (bit_and c.want c.care) c.want (and_parts (bit_and c.want c.care == c.want) (numbers_rise c.next_set && numbers_rise c.postponed) parts.0).0;
-        leaves = λ is. (and_parts (leaves_nothing c) (list_all leaves_nothing cs) (leaves is)).0;
+        next = each_marked marks c.next_set (mask_first (gathered mark c.next_set) (gathered mark c.postponed) marks own);
+        postponed = each_marked marks c.postponed (mask_rest (gathered mark c.next_set) (gathered mark c.postponed) marks own);
       },
-      each_of mask nothing cs (mask_rest c.care (cares cs) mask within)
-          (λ is. (and_parts (leaves_nothing c) (list_all leaves_nothing cs) (leaves is)).1) parts.1,
+      each_of mask marks cs (mask_rest c.care (cares cs) mask within) (mask_rest (marks_of c) (all_marks cs) marks marked) parts.1,
     )
 
 pub apart_joins_antichain : (cs ds : List ChoiceKey) → IsAntichain cs → IsAntichain ds → have_nothing_in_common cs ds ≡ true
     → IsAntichain (joins nat_eq nat_cmp cs ds)
 apart_joins_antichain cs ds left right h =
-    let a = and_parts (bit_and (cares cs) (cares ds) == 0) ((list_all leaves_nothing cs || list_all leaves_nothing ds)
+    let a = and_parts (bit_and (cares cs) (cares ds) == 0) ((bit_and (all_marks cs) (all_marks ds) == 0)
     && (list_all is_rising cs && list_all is_rising ds)) h in
-    let b = and_parts (list_all leaves_nothing cs || list_all leaves_nothing ds) (list_all is_rising cs && list_all is_rising ds) a.1 in
+    let b = and_parts (bit_and (all_marks cs) (all_marks ds) == 0) (list_all is_rising cs && list_all is_rising ds) a.1 in
     let rising = and_parts (list_all is_rising cs) (list_all is_rising ds) b.1 in
-    joins_antichain (cares cs) (cares ds) (eqb-true (bit_and (cares cs) (cares ds)) 0 a.0) (list_all leaves_nothing cs)
-    (list_all leaves_nothing ds) b.0 cs ds
-    (each_of (cares cs) (list_all leaves_nothing cs) cs (and_self (cares cs)) (λ is. is) rising.0)
-    (each_of (cares ds) (list_all leaves_nothing ds) ds (and_self (cares ds)) (λ is. is) rising.1) left right
+    joins_antichain (cares cs) (cares ds) (eqb-true (bit_and (cares cs) (cares ds)) 0 a.0) (all_marks cs) (all_marks ds)
+    (eqb-true (bit_and (all_marks cs) (all_marks ds)) 0 b.0) cs ds
+    (each_of (cares cs) (all_marks cs) cs (and_self (cares cs)) (and_self (all_marks cs)) rising.0)
+    (each_of (cares ds) (all_marks ds) ds (and_self (cares ds)) (and_self (all_marks ds)) rising.1) left right
 
 -- so their product is that of joins alone
 pub apart_product : (cs ds list : List ChoiceKey) → IsAntichain cs → IsAntichain ds → have_nothing_in_common cs ds ≡ true

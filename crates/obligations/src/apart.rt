@@ -1,9 +1,8 @@
 //! Lists of choices that have nothing in common.
 
 ghost use Rattle.std.specs.Prelude.{◌≡◌};
-ghost use Rattle.std.specs.List.{list_all};
 ghost use Rattle.obligations.specs.Numbers.{choice_key, choice_keys};
-ghost use Rattle.obligations.specs.internal.Antichains.{cares, leaves_nothing, have_nothing_in_common};
+ghost use Rattle.obligations.specs.internal.Antichains.{gathered, cares, mark, marks_of, all_marks, have_nothing_in_common};
 
 use crate::numbered::NumberedChoice;
 use crate::rounds::are_rising;
@@ -20,32 +19,51 @@ fn cares_of(choices: &[NumberedChoice]) -> u64
     all
 }
 
-/// Whether a choice leaves nothing.
-fn leaves_nothing(choice: &NumberedChoice) -> bool
-    ensures { result ≡ leaves_nothing (choice_key choice.now) }
+/// The bit that stands for a number; numbers with the same remainder have the same one.
+fn mark(number: u32) -> u64
+    ensures { result ≡ mark number }
 {
-    choice.next.is_empty() && choice.postponed.is_empty()
+    1u64 << (number % 64)
 }
 
-/// Whether each choice of a list leaves nothing.
-fn all_leave_nothing(choices: &[NumberedChoice]) -> bool
-    ensures { result ≡ list_all leaves_nothing (choice_keys choices.now) }
+/// The bits that stand for some numbers.
+#[tactic(auto, using(crate::proofs::CaresLemmas::none_first))]
+fn marks_of_numbers(numbers: &[u32]) -> u64
+    ensures { result ≡ gathered mark numbers.now }
 {
-    for choice in choices {
-        if !leaves_nothing(choice) {
-            return false;
-        }
+    let mut all = 0;
+    for number in numbers {
+        all = all | mark(*number);
     }
-    true
+    all
 }
 
-/// Whether no bit is asked for in both lists, and the choices of one of them leave nothing. The joins of
-/// two such lists need not be reduced where the lists are.
+/// The bits that stand for what a choice leaves and puts off.
+fn marks_of(choice: &NumberedChoice) -> u64
+    ensures { result ≡ marks_of (choice_key choice.now) }
+{
+    marks_of_numbers(&choice.next) | marks_of_numbers(&choice.postponed)
+}
+
+/// The bits that stand for what the choices of a list leave and put off.
+#[tactic(auto, using(crate::proofs::CaresLemmas::none_first, crate::proofs::CaresLemmas::marks_step))]
+fn all_marks(choices: &[NumberedChoice]) -> u64
+    ensures { result ≡ all_marks (choice_keys choices.now) }
+{
+    let mut all = 0;
+    for choice in choices {
+        all = all | marks_of(choice);
+    }
+    all
+}
+
+/// Whether no bit is asked for in both lists, and none stands for something that both leave or put off.
+/// The joins of two such lists need not be reduced where the lists are.
 pub(crate) fn have_nothing_in_common(left: &[NumberedChoice], right: &[NumberedChoice]) -> bool
     ensures { result ≡ have_nothing_in_common (choice_keys left.now) (choice_keys right.now) }
 {
     cares_of(left) & cares_of(right) == 0
-        && (all_leave_nothing(left) || all_leave_nothing(right))
+        && all_marks(left) & all_marks(right) == 0
         && are_rising(left)
         && are_rising(right)
 }

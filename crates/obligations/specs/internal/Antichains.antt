@@ -1,6 +1,6 @@
 -- Internal: only private functions of this crate use these words.
 -- Lists of choices of which none lies within another, and lists that have nothing in common.
-use Rattle.std.specs.Prelude.{◌≡◌, ℕ, Bool, true, false, ◌&&◌, ◌||◌, ◌==◌, List, [], ◌∷◌, bit_and, bit_or, nat_eq, ⊤}
+use Rattle.std.specs.Prelude.{◌≡◌, ℕ, ◌^◌, ◌%◌, Bool, false, ◌&&◌, ◌==◌, List, [], ◌∷◌, bit_and, bit_or, nat_eq, ⊤}
 use Rattle.std.specs.List.{list_all, AllByRecursion}
 use Rattle.obligations.specs.Choices.{is_within, same_choice}
 use Rattle.obligations.specs.Numbers.{ChoiceKey}
@@ -17,21 +17,28 @@ abbrev pub IsAntichain : List ChoiceKey → Type 0
 IsAntichain [] = ⊤
 IsAntichain (c ∷ cs) = AllByRecursion (AreApart c) cs × IsAntichain cs
 
+-- all bits of the members of a list
+abbrev pub gathered : {A : Type 0} → (A → ℕ) → List A → ℕ
+gathered bits [] = 0
+gathered bits (x ∷ xs) = bit_or (bits x) (gathered bits xs)
+
 -- all bits that the choices of a list ask for
 abbrev pub cares : List ChoiceKey → ℕ
-cares [] = 0
-cares (c ∷ cs) = bit_or c.care (cares cs)
+cares cs = gathered (λ c. c.care) cs
 
-abbrev pub is_none : List ℕ → Bool
-is_none [] = true
-is_none (n ∷ ns) = false
+-- the bit that stands for a number: it may stand for others too
+abbrev pub mark : ℕ → ℕ
+mark n = 2 ^ (n % 64)
 
--- whether a choice leaves nothing
-abbrev pub leaves_nothing : ChoiceKey → Bool
-leaves_nothing c = is_none c.next_set && is_none c.postponed
+-- the bits that stand for what a choice leaves and puts off, and for what those of a list do
+abbrev pub marks_of : ChoiceKey → ℕ
+marks_of c = bit_or (gathered mark c.next_set) (gathered mark c.postponed)
 
--- whether no bit is asked for in two lists, and those of one list leave nothing
+abbrev pub all_marks : List ChoiceKey → ℕ
+all_marks cs = gathered marks_of cs
+
+-- whether no bit is asked for in two lists, and none stands for something that both leave or put off
 abbrev pub have_nothing_in_common : List ChoiceKey → List ChoiceKey → Bool
 have_nothing_in_common left right =
-    (bit_and (cares left) (cares right) == 0) && ((list_all leaves_nothing left || list_all leaves_nothing right)
+    (bit_and (cares left) (cares right) == 0) && ((bit_and (all_marks left) (all_marks right) == 0)
     && (list_all is_rising left && list_all is_rising right))

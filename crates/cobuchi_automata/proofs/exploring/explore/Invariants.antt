@@ -3,6 +3,7 @@ use Rattle.obligations.specs.Expansions.{AreExpansions}
 use Rattle.obligations.specs.Numbers.{lent_trees}
 use Rattle.cobuchi_automata.specs.Refusals.{most_automaton_states}
 use Rattle.cobuchi_automata.specs.internal.Exploring.{IsFoundSoFar}
+use Rattle.cobuchi_automata.specs.internal.Known.{AreKnown}
 use Rattle.cobuchi_automata.proofs.exploring.explore.Given as goal
 
 -- so many states are expanded
@@ -10,6 +11,7 @@ abbrev pub invariant-loop-expanded : goal.invariant-loop-expanded
 invariant-loop-expanded l = record {
   found : IsFoundSoFar l.plan l.expanded l.found;
   expansions : AreExpansions (lent_trees l.plan.names.items) l.expansions;
+  known : AreKnown (lent_trees l.plan.names.items) l.known;
 }
 
 -- there are not more than there may be
