@@ -18,7 +18,7 @@ use Rattle.sat_trail.specs.States.{TrailState, IsSound, IsFalseAt, up_to}
 use Rattle.sat_trail.proofs.Places.{AreApart, has_entry, entry_has}
 use Rattle.sat_trail.proofs.Soundness.{apart_from, length_entries}
 use Rattle.clause_learning.specs.declared.walks.Walk.{Walk}
-use Rattle.clause_learning.specs.Levels.{IsSetAt, AreQuietBelow}
+use Rattle.clause_learning.specs.Levels.{IsSetAt, AreNoneFalseBelow}
 use Rattle.clause_learning.specs.Lessons.{IsLesson, IsAsserting}
 use Rattle.clause_learning.specs.ConflictWalks.{is_marked, is_of_clause, AreMarks, MayStay, IsReplaced, Shows, IsLate, IsWalk}
 use Rattle.clause_learning.proofs.Marking.{count_has, count_some, without, without_other}
@@ -128,10 +128,10 @@ at_present t sound clause positive is_false before = go clause is_false before
 
 -- ---- the beginning
 
-pub walk_begins : (t : TrailState) → IsSound t → (conflict : ℕ) (false_at : IsFalseAt t conflict) → AreQuietBelow t t.level → (w : Walk) →
+pub walk_begins : (t : TrailState) → IsSound t → (conflict : ℕ) (false_at : IsFalseAt t conflict) → AreNoneFalseBelow t t.level → (w : Walk) →
     AreMarks t w.marks → ((k : ℕ) → is_of_clause t.entries false_at.clause k ≡ true → is_marked w.marks k ≡ true) → w.kept.items ≡ [] →
     w.hints.items ≡ (conflict + 1) ∷ [] → w.back ≡ 0 → IsWalk t (length t.entries) w
-walk_begins t sound conflict false_at quiet w marks marked kept hints back = record {
+walk_begins t sound conflict false_at none_false w marks marked kept hints back = record {
   marks = marks;
   ahead = marks.within;
   fresh = λ k e at below. ap (λ (ls : List Lit). has ls (negation e.literal)) kept;
@@ -150,7 +150,7 @@ walk_begins t sound conflict false_at quiet w marks marked kept hints back = rec
     waits : (0 < w.marks.waiting) ⊎ (t.level ≡ 0)
     waits = elim (cases_lt 0 t.level) [
       | inl positive ↦ (let r = at_present t sound false_at.clause positive false_at.is_false
-          (λ f. (quiet (t.level - 1) (omega arith)).none_false (
+          (λ f. none_false (t.level - 1) (omega arith) (
             false_at.clause,
             contains_at t.clauses conflict false_at.clause false_at.named,
             f,

@@ -1,7 +1,7 @@
 -- Internal to the solver: no clause of a public function of `sat_core` uses these words.
 -- What is learnt from a conflict. The terms are those of N. Eén and N. Sörensson, An Extensible SAT-solver,
 -- 2003; hints are those of a log.
-use Rattle.std.specs.Prelude.{◌≡◌, ℕ, ◌+◌, ◌^◌, ◌<◌, ◌≤◌, Bool, true, cond, List, [], ◌∷◌, ◌++◌, map, length, None}
+use Rattle.std.specs.Prelude.{◌≡◌, ℕ, ◌+◌, ◌-◌, ◌^◌, ◌<◌, ◌≤◌, ◌&&◌, nat_lt, Bool, true, cond, List, [], ◌∷◌, ◌++◌, map, length, None}
 use Rattle.clause_learning.specs.Hints.{AreHints}
 use Rattle.clause_core.specs.Literals.{Lit, negation, has}
 use Rattle.clause_core.specs.Clauses.{IsIncreasing}
@@ -42,14 +42,18 @@ learnt_step number clause hints = record { number = number; clause = clause; hin
 abbrev pub clauses_of : List Step → List (List Lit)
 clauses_of steps = map (λ step. step.clause) steps
 
--- A clause is learnt: the trail goes back, to level 0 where the search begins anew, and takes the clause, and its step
--- stands behind the others, with the next number.
-pub record HasLearnt (anew : Bool) (old : TrailState) (journal : Journal) (new : TrailState) (after : Journal) : Type 0 where
+-- The level to go on from: 0 where the search begins anew, else the level to go back to. Where the search may step back, and
+-- that level is more than twenty below the one before the present one, it is that one.
+abbrev pub level_after : Bool → Bool → ℕ → ℕ → ℕ
+level_after anew steps back level = cond anew 0 (cond (steps && nat_lt 20 (level - 1 - back)) (level - 1) back)
+
+-- A clause is learnt: the trail goes back, and takes the clause, and its step stands behind the others, with the next number.
+pub record HasLearnt (anew steps : Bool) (old : TrailState) (journal : Journal) (new : TrailState) (after : Journal) : Type 0 where
   pub clause : List Lit
   pub hints : List ℕ
   pub back : ℕ
   pub lesson : IsLesson old clause hints back
-  pub trail_is : new ≡ with_clause (undone old (cond anew 0 back)) clause
+  pub trail_is : new ≡ with_clause (undone old (level_after anew steps back old.level)) clause
   pub steps_are : after.steps.items
       ≡ journal.steps.items ++ learnt_step journal.next clause (log_hints journal.shelf.numbers.items hints) ∷ []
   pub next_is : after.next ≡ journal.next + 1

@@ -1,9 +1,9 @@
 //! What is learnt from a conflict.
 
-ghost use Rattle.std.specs.Prelude.{◌≡◌, ◌+◌, ◌<◌, ◌^◌, false, cond, All, length, IfOk, OnOk};
+ghost use Rattle.std.specs.Prelude.{◌≡◌, ◌+◌, ◌<◌, ◌^◌, false, All, length, IfOk, OnOk};
 ghost use Rattle.sat_trail.specs.States.{IsSound, IsFalseAt};
-ghost use Rattle.clause_learning.specs.Levels.{AreQuietBelow};
-ghost use Rattle.clause_learning.specs.Lessons.{IsLesson, HasLearnt, IsRefutingLog};
+ghost use Rattle.clause_learning.specs.Levels.{AreNoneFalseBelow};
+ghost use Rattle.clause_learning.specs.Lessons.{IsLesson, HasLearnt, IsRefutingLog, level_after};
 ghost use Rattle.clause_learning.specs.ConflictWalks.{AreNoMarks};
 ghost use Rattle.clause_learning.specs.Decisions.{AreDecisions};
 ghost use Rattle.clause_learning.specs.Units.{AreUnits};
@@ -26,8 +26,12 @@ struct Lesson {
     back: u32,
 }
 
+/// The most levels that are gone back at once where one level is enough.
+const MOST_LEVELS: u32 = 20;
+
 /// Learns a clause from a conflict above level 0, and goes back to the level that it teaches, or to
-/// level 0 where the search begins anew. An `Err` says that memory ran out.
+/// level 0 where the search begins anew. Where it may step back, and that level is far, it goes back by one
+/// level. An `Err` says that memory ran out.
 pub fn learn(
     alloc: Global,
     trail: &mut Trail<'_>,
@@ -37,11 +41,12 @@ pub fn learn(
     decisions: &mut Decisions,
     conflict: u32,
     anew: bool,
+    steps: bool,
 ) -> Result<(), NoMemory>
     requires usable { trail.old.broken ≡ false }
     requires sound { IsSound trail.old }
     requires conflict { IsFalseAt trail.old conflict }
-    requires quiet { AreQuietBelow trail.old trail.old.level }
+    requires met { AreNoneFalseBelow trail.old trail.old.level }
     requires above { 0 < trail.old.level }
     requires few { length trail.old.clauses + 1 < 2 ^ 32 }
     requires marks { AreNoMarks trail.old.variables walk.old.marks }
@@ -50,14 +55,14 @@ pub fn learn(
     requires next { journal.old.next + 1 < 2 ^ 64 }
     requires numbers { length journal.old.shelf.numbers.items ≡ length trail.old.clauses }
     requires uses { length journal.old.shelf.uses.items ≡ length trail.old.clauses }
-    ensures learnt { OnOk result (HasLearnt anew trail.old journal.old trail.new journal.new) }
+    ensures learnt { OnOk result (HasLearnt anew steps trail.old journal.old trail.new journal.new) }
     ensures sound { OnOk result (IsSound trail.new) }
     ensures marks { OnOk result (AreNoMarks trail.new.variables walk.new.marks) }
     ensures units { OnOk result (AreUnits trail.new units.now) }
     ensures decisions { OnOk result (AreDecisions trail.new.variables trail.new.entries decisions.new) }
 {
     let lesson = lesson_of(alloc, trail, units, walk, conflict)?;
-    let level = level_after(anew, lesson.back);
+    let level = level_after(anew, steps, lesson.back, trail.level());
     decisions.bump(walk.marks.looked.as_slice());
     decisions.take_back(trail, level);
     trail.undo_to(level);
@@ -66,11 +71,21 @@ pub fn learn(
     Ok(())
 }
 
-/// The level to go on from: that of what was learnt, or 0 where the search begins anew.
-fn level_after(anew: bool, back: u32) -> u32
-    ensures { result ≡ cond anew 0 back }
+/// The level to go on from: 0 where the search begins anew, else that of what was learnt. Where the search
+/// may step back, and that level is more than so many below the one before the present one, it is that one.
+fn level_after(anew: bool, steps: bool, back: u32, level: u32) -> u32
+    requires { back < level }
+    ensures { result ≡ level_after anew steps back level }
 {
-    if anew { 0 } else { back }
+    if anew {
+        return 0;
+    }
+    let before = level - 1;
+    if steps && before - back > MOST_LEVELS {
+        before
+    } else {
+        back
+    }
 }
 
 /// The log of the steps that is closed by a conflict at level 0. An `Err` says that memory ran out.
@@ -110,7 +125,7 @@ fn lesson_of(
     requires usable { trail.now.broken ≡ false }
     requires sound { IsSound trail.now }
     requires conflict { IsFalseAt trail.now conflict }
-    requires quiet { AreQuietBelow trail.now trail.now.level }
+    requires met { AreNoneFalseBelow trail.now trail.now.level }
     requires marks { AreNoMarks trail.now.variables walk.old.marks }
     requires units { AreUnits trail.now units.now }
     ensures lesson { IfOk result (λ lesson. IsLesson trail.now lesson.clause lesson.hints.items lesson.back) }

@@ -4,7 +4,7 @@ ghost use Rattle.std.specs.Prelude.{◌≡◌, ◌==◌, ◌&&◌, ◌||◌, ℕ
 ghost use Rattle.clause_core.specs.Literals.{Lit, negation};
 ghost use Rattle.sat_trail.specs.declared.entries.Entry.{Entry};
 ghost use Rattle.sat_trail.specs.States.{IsSound, IsFalseAt};
-ghost use Rattle.clause_learning.specs.Levels.{AreQuietBelow};
+ghost use Rattle.clause_learning.specs.Levels.{AreNoneFalseBelow};
 ghost use Rattle.clause_learning.specs.Units.{AreUnits};
 ghost use Rattle.clause_learning.specs.ConflictWalks.{is_marked, is_of_clause, AreMarks, AreNoMarks, IsWalk, HasWalked, must_go, MayStay, IsForcing, IsReplaced};
 
@@ -47,7 +47,7 @@ impl Walk {
         requires sound { IsSound trail.now }
         requires units { AreUnits trail.now units.now }
         requires conflict { IsFalseAt trail.now conflict }
-        requires quiet { AreQuietBelow trail.now trail.now.level }
+        requires met { AreNoneFalseBelow trail.now trail.now.level }
         requires marks { AreNoMarks trail.now.variables self.old.marks }
         ensures { OnOk result (HasWalked trail.now self.new) }
     {
@@ -65,7 +65,7 @@ impl Walk {
         requires usable { trail.now.broken ≡ false }
         requires sound { IsSound trail.now }
         requires conflict { IsFalseAt trail.now conflict }
-        requires quiet { AreQuietBelow trail.now trail.now.level }
+        requires met { AreNoneFalseBelow trail.now trail.now.level }
         requires marks { AreNoMarks trail.now.variables self.old.marks }
         ensures { OnOk result (IsWalk trail.now (length trail.now.entries) self.new) }
     {

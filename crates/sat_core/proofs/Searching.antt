@@ -18,7 +18,7 @@ use Rattle.sat_core.specs.internal.Ends.{IsEnd, IsSearchAnswer}
 use Rattle.clause_learning.specs.Hints.{AreHints}
 use Rattle.clause_core.specs.Literals.{Lit, negation, same, has}
 use Rattle.clause_core.specs.Clauses.{IsIncreasing, IsOver, has_pair, is_true, meets, meets_all, assignment_of}
-use Rattle.clause_core.specs.Propagation.{not_false, IsFalse, IsQuiet, ReachesFalse, IsLearnt, IsNotFound, IsTrace}
+use Rattle.clause_core.specs.Propagation.{not_false, IsFalse, SomeFalse, IsQuiet, ReachesFalse, IsLearnt, IsNotFound, IsTrace}
 use Rattle.clause_core.specs.Propagation.Reaches.{done, turn}
 use Rattle.clause_core.proofs.Sets.{same_from, negation-negation, negation_differs}
 use Rattle.clause_core.proofs.Sets.{Contains_from_has}
@@ -37,7 +37,7 @@ use Rattle.refutation_check.specs.Checking.HintEffect.{makes, shows_nothing}
 use Rattle.refutation_check.specs.Checking.Refusal.{at_line, at_hint, unfinished}
 use Rattle.clause_learning.specs.Levels.{IsSetAt, AreQuietBelow}
 use Rattle.sat_core.specs.LogNumbers.{AreNumbered}
-use Rattle.clause_learning.specs.Lessons.{IsAsserting, IsLesson, learnt_step, clauses_of, HasLearnt, IsRefutingLog}
+use Rattle.clause_learning.specs.Lessons.{IsAsserting, IsLesson, learnt_step, clauses_of, HasLearnt, level_after, IsRefutingLog}
 use Rattle.clause_learning.specs.Decisions.{AreSet, AreVariableTruths}
 use Rattle.sat_core.specs.declared.answers.Answer.{Answer}
 use Rattle.sat_core.specs.declared.answers.Answer.TheVariants.{Sat, Unsat, Spent}
@@ -51,6 +51,14 @@ use Rattle.sat_core.proofs.Counting.{trace_is_short, filter-has}
 -- the clauses of a formula and of the steps behind them
 abbrev pub known : List (List Lit) → List Step → List (List Lit)
 known clauses steps = clauses ++ clauses_of steps
+
+-- no clause is false, and where the learnt clauses are to be a trace unit propagation has nothing left to do
+pub record IsCalm (shortens : Bool) (clauses : List (List Lit)) (trues : List Lit) : Type 0 where
+  pub none_false : SomeFalse clauses trues → ⊥
+  pub quiet : shortens ≡ false → IsQuiet clauses trues
+
+abbrev pub AreCalmBelow : Bool → TrailState → ℕ → Type 0
+AreCalmBelow shortens t n = (level : ℕ) → level < n → IsCalm shortens t.clauses (literals_of (up_to level t.entries))
 
 -- the steps taken so far, and the trail that they lead to, with its clauses by their numbers; whether the trail may be
 -- shortened, and then it lacks some of the learnt clauses
@@ -70,7 +78,7 @@ pub record IsSearch (shortens : Bool) (variables : ℕ) (clauses : List (List Li
   pub traced : shortens ≡ false → (t.clauses ≡ known clauses steps)
       × ((later : List (List Lit)) → IsTrace variables t.clauses later → IsTrace variables clauses (clauses_of steps ++ later))
   pub increasing : AllByRecursion IsIncreasing (clauses_of steps)
-  pub quiet : AreQuietBelow t t.level
+  pub calm : AreCalmBelow shortens t t.level
 
 -- ---- the beginning
 
@@ -93,7 +101,7 @@ search_begins shortens variables clauses t steps shelf is sound none first =
       numbered = tt;
       traced = λ all. (sym (append-nil clauses), λ later h. h);
       increasing = tt;
-      quiet = λ level below. absurd (omega arith);
+      calm = λ level below. absurd (omega arith);
     }))
 
 -- ---- propagation
@@ -123,9 +131,9 @@ search_propagated shortens variables clauses t u steps numbers search grows soun
       numbered = search.numbered;
       traced = search.traced;
       increasing = search.increasing;
-      quiet = λ level below. subst (λ (es : List Entry). IsQuiet t.clauses (literals_of es))
+      calm = λ level below. subst (λ (es : List Entry). IsCalm shortens t.clauses (literals_of es))
           (sym (up_to_added t.level level t.entries grows.added (recursion_from_All
-          (λ (e : Entry). (e.level ≡ t.level) × IsSome e.reason) grows.added grows.forced) below)) (search.quiet level below);
+          (λ (e : Entry). (e.level ≡ t.level) × IsSome e.reason) grows.added grows.forced) below)) (search.calm level below);
     })
 
 -- only entries at the next places are new, and clauses
@@ -153,7 +161,7 @@ search_decided shortens variables clauses t u steps numbers l search quiet is so
       numbered = search.numbered;
       traced = search.traced;
       increasing = search.increasing;
-      quiet = λ level below. subst (λ (es : List Entry). IsQuiet t.clauses (literals_of es))
+      calm = λ level below. subst (λ (es : List Entry). IsCalm shortens t.clauses (literals_of es))
           (sym (up_to-push level t.entries (entry_with l (t.level + 1) None) below)) (at_level level below);
     })
   where
@@ -161,12 +169,13 @@ search_decided shortens variables clauses t u steps numbers l search quiet is so
     whole = up_to_all t.level t.entries (λ k e at. (let h : e.level ≤ t.level = omega
         (arith, level_within t.variables t.clauses t.entries search.sound.stand k e at, search.sound.level_reached) in h))
 
-    at_level : (level : ℕ) → level < t.level + 1 → IsQuiet t.clauses (literals_of (up_to level t.entries))
+    at_level : (level : ℕ) → level < t.level + 1 → IsCalm shortens t.clauses (literals_of (up_to level t.entries))
     at_level level below = elim (cases_lt level t.level) [
-      | inl less ↦ search.quiet level less
+      | inl less ↦ search.calm level less
       | inr same ↦ (let is : level ≡ t.level = omega arith in
-          subst (λ (n : ℕ). IsQuiet t.clauses (literals_of (up_to n t.entries))) (sym is)
-          (subst (λ (es : List Entry). IsQuiet t.clauses (literals_of es)) (sym whole) quiet))
+          subst (λ (n : ℕ). IsCalm shortens t.clauses (literals_of (up_to n t.entries))) (sym is)
+          (subst (λ (es : List Entry). IsCalm shortens t.clauses (literals_of es)) (sym whole)
+          (record { none_false = quiet.none_false; quiet = λ _. quiet })))
     ]
 
 -- ---- a learnt clause
@@ -299,17 +308,35 @@ module _ (t : TrailState) (sound : IsSound t) (clause : List Lit) (hints : List 
                 (sym (within asserting.asserted h) ∙ unset_below t sound asserting.asserted back t.level asserting.last)),
           )
 
-  lesson_quiet : AreQuietBelow t t.level → 0 < t.level → (level : ℕ) → level < back →
+  only : (c : List Lit) → Contains (clause ∷ []) c → clause ≡ c
+  only c (zero, in', is) = is
+  only c (suc k, in', is) = absurd (omega (arith, in'))
+
+  -- below the present level the literal that is asserted is not false
+  first_open : (above : 0 < t.level) (level : ℕ) → level < t.level →
+      has (not_false (literals_of (up_to level t.entries)) clause) (lesson.asserting above).asserted ≡ true
+  first_open above level below =
+      let asserting = lesson.asserting above in
+      has_not_false (literals_of (up_to level t.entries)) clause asserting.asserted asserting.member
+      (open_below t sound asserting.asserted level t.level asserting.last below)
+
+  lesson_met : (above : 0 < t.level) (level : ℕ) → level < t.level →
+      (SomeFalse t.clauses (literals_of (up_to level t.entries)) → ⊥) →
+      SomeFalse (t.clauses ++ clause ∷ []) (literals_of (up_to level t.entries)) → ⊥
+  lesson_met above level below none_false (c, in', f) = elim (Contains-append_cases t.clauses (clause ∷ []) c in') [
+    | inl old ↦ none_false (c, old, f)
+    | inr new ↦ false≢true (sym (ap (λ (ls : List Lit). has ls (lesson.asserting above).asserted)
+        (ap (not_false (literals_of (up_to level t.entries))) (only c new) ∙ f)) ∙ first_open above level below)
+  ]
+
+  lesson_quiet : AreQuietBelow t t.level → (above : 0 < t.level) (level : ℕ) → level < back →
       IsQuiet (t.clauses ++ clause ∷ []) (literals_of (up_to level t.entries))
   lesson_quiet quiet above level below = record {
-    none_false = λ (c, in', f). elim (Contains-append_cases t.clauses (clause ∷ []) c in') [
-      | inl old ↦ before.none_false (c, old, f)
-      | inr new ↦ false≢true (sym (ap (λ (ls : List Lit). has ls asserting.asserted) (ap (not_false trues) (only c new) ∙ f)) ∙ first_open)
-    ];
+    none_false = lesson_met above level low before.none_false;
     none_unit = λ c l in' u. elim (Contains-append_cases t.clauses (clause ∷ []) c in') [
       | inl old ↦ before.none_unit c l old u
       | inr new ↦ (let left : not_false trues clause ≡ l ∷ [] = ap (not_false trues) (only c new) ∙ u.others_false in
-          let a = has_one l asserting.asserted (ap (λ (ls : List Lit). has ls asserting.asserted) (sym left) ∙ first_open) in
+          let a = has_one l asserting.asserted (ap (λ (ls : List Lit). has ls asserting.asserted) (sym left) ∙ first_open above level low) in
           let b = has_one l second.0 (ap (λ (ls : List Lit). has ls second.0) (sym left) ∙ second_open) in
           apart (sym b ∙ a))
     ];
@@ -321,16 +348,11 @@ module _ (t : TrailState) (sound : IsSound t) (clause : List Lit) (hints : List 
       trues : List Lit
       trues = literals_of (up_to level t.entries)
 
+      low : level < t.level
+      low = let b = asserting.below in omega arith
+
       before : IsQuiet t.clauses trues
-      before = quiet level (let b = asserting.below in omega arith)
-
-      only : (c : List Lit) → Contains (clause ∷ []) c → clause ≡ c
-      only c (zero, in', is) = is
-      only c (suc k, in', is) = absurd (omega (arith, in'))
-
-      first_open : has (not_false trues clause) asserting.asserted ≡ true
-      first_open = has_not_false trues clause asserting.asserted asserting.member
-          (open_below t sound asserting.asserted level t.level asserting.last (let b = asserting.below in omega arith))
+      before = quiet level low
 
       second : (l : Lit) × (has clause l ≡ true) × IsSetAt t.entries (negation l) back
       second = asserting.reached (omega arith)
@@ -415,10 +437,10 @@ module _ (shortens : Bool) (variables : ℕ) (clauses : List (List Lit)) (t : Tr
       (shortens ≡ false → (t.clauses ++ clause ∷ [] ≡ known clauses (taken ++ next_step ∷ []))
       × ((later : List (List Lit)) → IsTrace variables (t.clauses ++ clause ∷ []) later →
       IsTrace variables clauses (clauses_of (taken ++ next_step ∷ []) ++ later))) →
-      AreQuietBelow (with_clause (record t { entries = es; level = level }) clause) level →
+      AreCalmBelow shortens (with_clause (record t { entries = es; level = level }) clause) level →
       IsSearch shortens variables clauses (with_clause (record t { entries = es; level = level }) clause) (taken ++ next_step ∷ [])
       (names ++ next ∷ [])
-  search_more es level sound traced quiet = record {
+  search_more es level sound traced calm = record {
     usable = search.usable;
     sound = sound;
     same_variables = search.same_variables;
@@ -437,12 +459,12 @@ module _ (shortens : Bool) (variables : ℕ) (clauses : List (List Lit)) (t : Tr
         (hints_in_log before t.clauses names search.named hints named);
     traced = traced;
     increasing = subst (AllByRecursion IsIncreasing) (sym (clauses_of_push taken next_step)) (all_push (clauses_of taken) search.increasing);
-    quiet = quiet;
+    calm = calm;
   }
 
 module _ (shortens : Bool) (variables : ℕ) (clauses : List (List Lit)) (anew : Bool) (t u : TrailState) (journal after : Journal)
     (search : IsSearch shortens variables clauses t journal.steps.items journal.shelf.numbers.items)
-    (next_is : journal.next ≡ length clauses + length journal.steps.items + 1) (learnt : HasLearnt anew t journal u after)
+    (next_is : journal.next ≡ length clauses + length journal.steps.items + 1) (learnt : HasLearnt anew shortens t journal u after)
     (sound : IsSound u) (above : 0 < t.level) where
   abbrev clause : List Lit
   clause = learnt.clause
@@ -460,11 +482,16 @@ module _ (shortens : Bool) (variables : ℕ) (clauses : List (List Lit)) (anew :
   names = journal.shelf.numbers.items
 
   abbrev target : ℕ
-  target = cond anew 0 back
+  target = level_after anew shortens back t.level
 
-  target_low : (b : Bool) → cond b 0 back ≤ back
-  target_low true = omega arith
-  target_low false = omega arith
+  -- a search that owes a trace goes back to the level that was taught, or to 0
+  target_low : (a b : Bool) → b ≡ false → level_after a b back t.level ≤ back
+  target_low true b h = omega arith
+  target_low false true h = absurd (true≢false h)
+  target_low false false h = omega arith
+
+  were_quiet : shortens ≡ false → AreQuietBelow t t.level
+  were_quiet all level below = (search.calm level below).quiet all
 
   abbrev step : Step
   step = learnt_step journal.next clause (log_hints names hints)
@@ -480,7 +507,7 @@ module _ (shortens : Bool) (variables : ℕ) (clauses : List (List Lit)) (anew :
             ∙ append_assoc (clauses_of taken) (clause ∷ []) later))
             (r.1 (clause ∷ later) (
               subst (λ (v : ℕ). IsLearnt v t.clauses clause) search.same_variables
-                  (lesson_learnt t search.sound clause hints back learnt.lesson search.quiet above),
+                  (lesson_learnt t search.sound clause hints back learnt.lesson (were_quiet all) above),
               h,
             )),
       )
@@ -490,9 +517,13 @@ module _ (shortens : Bool) (variables : ℕ) (clauses : List (List Lit)) (anew :
       (lesson_over t search.sound clause hints back learnt.lesson) (lesson_no_pair t search.sound clause hints back learnt.lesson)
       learnt.lesson.shown learnt.lesson.few_hints learnt.lesson.named learnt.lesson.increasing (up_to target t.entries) (min target t.level)
       (subst IsSound learnt.trail_is sound) still_traced (λ level below. subst
-      (λ (es : List Entry). IsQuiet (t.clauses ++ clause ∷ []) (literals_of es))
-      (sym (up_to-up_to level target t.entries (omega arith))) (lesson_quiet t search.sound clause hints back learnt.lesson
-      search.quiet above level (omega (arith, target_low anew))))
+      (λ (es : List Entry). IsCalm shortens (t.clauses ++ clause ∷ []) (literals_of es))
+      (sym (up_to-up_to level target t.entries (omega arith))) (record {
+        none_false = lesson_met t search.sound clause hints back learnt.lesson above level (omega (arith, below))
+            (search.calm level (omega (arith, below))).none_false;
+        quiet = λ all. lesson_quiet t search.sound clause hints back learnt.lesson (were_quiet all) above level
+            (omega (arith, below, target_low anew shortens all));
+      }))
 
   pub search_learnt : IsSearch shortens variables clauses u after.steps.items after.shelf.numbers.items
   search_learnt = subst (λ (s : TrailState). IsSearch shortens variables clauses s after.steps.items after.shelf.numbers.items)
@@ -519,7 +550,7 @@ search_shortened variables clauses shortens t u steps numbers shelf search is be
       numbered = search.numbered;
       traced = λ none. absurd (true≢false (sym is ∙ none));
       increasing = search.increasing;
-      quiet = λ level below. absurd (omega arith);
+      calm = λ level below. absurd (omega arith);
     })
 
 -- the steps and the trail after a call that may shorten it

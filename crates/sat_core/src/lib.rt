@@ -14,8 +14,14 @@
 //!
 //! Clauses that were not used of late are left out of the trail, at the counts of `Drops`: the trail is made
 //! anew without them, and the same decisions are taken again. What is learnt then is a refutation, but no trace,
-//! since a clause may be learnt twice. So a search whose budget is spent is followed by one that keeps all
-//! and adds no clauses of one literal.
+//! since a clause may be learnt twice.
+//!
+//! Where the level that a conflict teaches is far below, the search goes back by one level: the decisions between
+//! need not be taken again. The clause then forces its literal at a higher level than that of its other literals, so
+//! propagation is no longer complete at each lower level, as a trace wants it.
+//!
+//! So a search whose budget is spent is followed by one that keeps all, adds no clauses of one literal and always
+//! goes back to the level that was taught.
 #![tactic(auto)]
 
 mod answers;

@@ -39,8 +39,8 @@ pub fn solve(alloc: Global, cnf: &Cnf, budget: u64) -> Result<Answer, NoMemory>
 }
 
 /// Searches until so many clauses are learnt. Where the trail may be shortened, clauses that were not used
-/// of late are left out of it, and then the learnt clauses may be no trace. An `Err` says that memory ran
-/// out.
+/// of late are left out of it, and the search goes back one level in place of many; then the learnt clauses
+/// may be no trace. An `Err` says that memory ran out.
 fn search(alloc: Global, cnf: &Cnf, budget: u64, shortens: bool) -> Result<Answer, NoMemory>
     requires no_tautology { All (λ clause. has_pair clause ≡ false) cnf.now.clauses }
     requires few { length cnf.now.clauses + budget < 2 ^ 32 - 1 }
@@ -81,6 +81,7 @@ fn search(alloc: Global, cnf: &Cnf, budget: u64, shortens: bool) -> Result<Answe
             &mut decisions,
             conflict,
             anew,
+            shortens,
         )?;
         trail = shortened(
             alloc,

@@ -5,5 +5,6 @@ pub mod WatchLists
 pub mod Stays
 pub mod Looks
 pub mod Visits
+pub mod Waiting
 pub mod Renewed
 pub mod Moved

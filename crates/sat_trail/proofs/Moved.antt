@@ -4,7 +4,7 @@ use Rattle.std.proofs.Common.{arith, inl, inr}
 use Rattle.std.proofs.lemmas.Option.{slice_get_within, same_Some, none-some, get_or_from_slice_get}
 use Rattle.std.proofs.lemmas.List.{length-set}
 use Rattle.std.proofs.lemmas.Bool.{false≢true, cases_lt, cases_eq}
-use Rattle.sequence.proofs.Places.{slice_get_set, slice_get_set_same, contains_at}
+use Rattle.sequence.proofs.Places.{contains_at}
 use Rattle.clause_core.specs.Literals.{Lit, negation, has, code_of}
 use Rattle.clause_core.proofs.Sets.{code_one, has_from_Contains}
 use Rattle.sat_trail.specs.declared.watches.Watch.{Watch}
@@ -16,9 +16,9 @@ use Rattle.sat_trail.specs.internal.Watching.{HasWatch, HasList, TakesOut, AddsW
 use Rattle.sat_trail.specs.internal.Watching.{IsVisit, AreDue, IsFree, IsPairIn, IsNextPair}
 use Rattle.sat_trail.proofs.Soundness.{over_literal}
 use Rattle.sat_trail.proofs.Places.{entry_has}
-use Rattle.sat_trail.proofs.Stays.{lists_have}
+use Rattle.sat_trail.proofs.Stays.{lists_have, asides_more}
 use Rattle.sat_trail.proofs.WatchLists.{has_watch_same, has_watch_more, has_watch_new, AreBlocked, blocked_one, blocked_within}
-use Rattle.sat_trail.proofs.WatchLists.{blocked_more, blocked_less}
+use Rattle.sat_trail.proofs.WatchLists.{blocked_more, blocked_less, pair_was, pair_is_new}
 use Rattle.sat_trail.proofs.Visits.{HasOther, other_in, of_clause}
 
 -- ---- the pair that is watched next
@@ -139,13 +139,10 @@ module _ {t : TrailState} {w v : Watches} {f : Lit} {index : ℕ} (m : Moves t w
 
   was : (number : ℕ) (o : Option Pair) → (number ≡ watch.clause → ⊥) → slice_get v.pairs.items number ≡ Some o →
       slice_get w.pairs.items number ≡ Some o
-  was number o n h = sym (slice_get_set w.pairs.items watch.clause number (Some new) n)
-      ∙ (ap (λ (ps : List (Option Pair)). slice_get ps number) (sym pairs) ∙ h)
+  was number o = pair_was w.pairs.items new pairs
 
   is_new : (number : ℕ) (o : Option Pair) → number ≡ watch.clause → slice_get v.pairs.items number ≡ Some o → Some new ≡ o
-  is_new number o e h = same_Some (Some new) o (sym (slice_get_set_same w.pairs.items watch.clause (Some new)
-      (slice_get_within w.pairs.items watch.clause (Some pair) at))
-      ∙ (ap (λ (ps : List (Option Pair)). slice_get ps watch.clause) (sym pairs) ∙ (ap (slice_get v.pairs.items) (sym e) ∙ h)))
+  is_new number o = pair_is_new w.pairs.items pairs (slice_get_within w.pairs.items watch.clause (Some pair) at)
 
   -- a literal of the moved pair is the first or the other one
   of_new : (number : ℕ) (p : Pair) (l : Lit) → number ≡ watch.clause → IsPairOf v.pairs.items number p → IsOf p l → IsOf new l
@@ -171,8 +168,8 @@ module _ {t : TrailState} {w v : Watches} {f : Lit} {index : ℕ} (m : Moves t w
   watched_moved = subst (AreWatched t) (sym rest) (record {
     lists_all = drops.all ∙ (adds.all ∙ watched.lists_all);
     pairs_few = omega (arith, count, watched.pairs_few);
-    looked_few = omega (arith, count, watched.looked_few);
     head_few = watched.head_few;
+    asides = asides_more (omega arith) (omega (arith, count)) watched.asides;
     blocked = new_blocked;
     paired = λ number c p named_c h. elim (cases_eq number watch.clause) [
       | inl e ↦ (let c_is : clause ≡ c = same_Some clause c (sym named ∙ (ap (slice_get t.clauses) (sym e) ∙ named_c)) in
@@ -192,8 +189,7 @@ module _ {t : TrailState} {w v : Watches} {f : Lit} {index : ℕ} (m : Moves t w
             place e at_e false_by below
       ]
     ];
-    short_is = λ number c named_c h. watched.short_is number c named_c (was number None (not_moved number h) h);
-    short_excused = λ number c named_c h. watched.short_excused number c named_c (was number None (not_moved number h) h);
+    unpaired = λ number c named_c h. watched.unpaired number c named_c (was number None (not_moved number h) h);
   })
     where
       not_moved : (number : ℕ) → slice_get v.pairs.items number ≡ Some None → number ≡ watch.clause → ⊥

@@ -61,7 +61,7 @@ module _ {t : TrailState} {w v : Watches} {f : Lit} {index : ℕ} {watch : Watch
   watched_renewed = subst (AreWatched t) (sym is) (record {
     lists_all = renews.all ∙ watched.lists_all;
     pairs_few = watched.pairs_few;
-    looked_few = watched.looked_few;
+    asides = watched.asides;
     head_few = watched.head_few;
     blocked = λ code k l x now at. elim (renewed_was code k l x now at) [
       | inl p ↦ watched.blocked code k p.0 x p.1 p.2
@@ -74,8 +74,7 @@ module _ {t : TrailState} {w v : Watches} {f : Lit} {index : ℕ} {watch : Watch
     paired = watched.paired;
     listed = λ number pair l at of. (let r = watched.listed number pair l at of in (r.0, has_renewed (code_of l) number r.0 r.1));
     excused = watched.excused;
-    short_is = watched.short_is;
-    short_excused = watched.short_excused;
+    unpaired = watched.unpaired;
   })
 
   pub visit_renewed : IsVisit t v f

@@ -1,5 +1,5 @@
 -- How watches stay what they are while literals are set and taken back.
-use Rattle.std.proofs.Common.{◌≡◌, ℕ, zero, suc, ◌+◌, ◌*◌, ◌<◌, ◌≤◌, min, Bool, true, false, cond, List, [], ◌∷◌, ◌++◌, length, take}
+use Rattle.std.proofs.Common.{◌≡◌, ℕ, zero, suc, ◌+◌, ◌-◌, ◌*◌, ◌<◌, ◌≤◌, min, Bool, true, false, cond, List, [], ◌∷◌, ◌++◌, length, take}
 use Rattle.std.proofs.Common.{Option, Some, None, slice_get, leb, sym, ap, ◌∙◌, subst, refl, arith, inl, inr, ◌⊎◌}
 use Rattle.std.specs.Prelude.{Result, Ok, Err, OnOk, OnErr}
 use Rattle.std.proofs.lemmas.Option.{slice_get_within, same_Some, none-some}
@@ -12,10 +12,11 @@ use Rattle.clause_core.proofs.Sets.{code_within}
 use Rattle.sat_trail.specs.declared.entries.Entry.{Entry}
 use Rattle.sat_trail.specs.declared.watches.Watch.{Watch}
 use Rattle.sat_trail.specs.declared.watches.Pair.{Pair}
+use Rattle.sat_trail.specs.declared.watches.Aside.{Aside}
 use Rattle.sat_trail.specs.declared.watches.Watches.{Watches}
 use Rattle.sat_trail.specs.Entries.{literals_of}
 use Rattle.sat_trail.specs.States.{TrailState, IsSound, decided, with_clause, undone, up_to, Propagates}
-use Rattle.sat_trail.specs.internal.Watching.{HasWatch, IsOf, IsPairOf, IsExcused, AreWatched, IsVisit}
+use Rattle.sat_trail.specs.internal.Watching.{IsOf, IsPairOf, IsExcused, IsMet, IsAside, AreAsides, AreWatched, IsVisit, left_of}
 use Rattle.sat_trail.proofs.Places.{has_entry, entry_has}
 use Rattle.sat_trail.proofs.Soundness.{level_within, over_literal, true_not_false}
 use Rattle.sat_trail.proofs.TrailSteps.{IsOpen, open_two, open_true, quiet_from, has_not_false, has_one}
@@ -42,6 +43,21 @@ excused_lower es clause number limit less level h x = record {
   in_time = λ below. x.in_time (omega arith);
 }
 
+-- a clause that is set aside or waits stays so at another index, or among other entries
+pub aside_from : {es fs : List Entry} {xs ys : List Aside} {held now index number : ℕ} {clause : List Lit} (a : IsAside es xs held number clause) →
+    slice_get ys index ≡ Some a.aside → (index < now → IsMet fs clause a.aside.level) → IsAside fs ys now number clause
+aside_from {es} {fs} {xs} {ys} {held} {now} {index} a there met =
+    record { index = index; aside = a.aside; there = there; names = a.names; met = met }
+
+pub asides_more : {asides : List Aside} {held level count higher more : ℕ} → level ≤ higher → count ≤ more →
+    AreAsides asides held level count → AreAsides asides held higher more
+asides_more up wide a = record {
+  few = a.few;
+  rise = a.rise;
+  low = λ k x below at. omega (arith, up, a.low k x below at);
+  known = λ k x at. omega (arith, wide, a.known k x at);
+}
+
 -- a literal of the clause is true, and the number is not below the limit or the present level is the one given
 pub excused_by : (t : TrailState) → IsSound t → (clause : List Lit) (l : Lit) (number limit level : ℕ) → has clause l ≡ true →
     has (literals_of t.entries) l ≡ true → (number < limit → level ≡ t.level) → IsExcused t.entries clause number limit level
@@ -59,24 +75,24 @@ excused_by t sound clause l number limit level member is_true late =
 -- ---- entries more
 
 watched_more : (t u : TrailState) (w : Watches) (more : List Entry) → AreWatched t w → u.variables ≡ t.variables → u.clauses ≡ t.clauses →
-    u.entries ≡ t.entries ++ more → AreWatched u w
-watched_more t u w more watched variables clauses entries = record {
+    u.entries ≡ t.entries ++ more → t.level ≤ u.level → AreWatched u w
+watched_more t u w more watched variables clauses entries above = record {
   lists_all = watched.lists_all ∙ ap (λ n. 2 * n) (sym variables);
   pairs_few = omega (arith, watched.pairs_few, ap length clauses);
-  looked_few = watched.looked_few;
   head_few = omega (arith, watched.head_few, ap length entries, length-append t.entries more);
+  asides = asides_more above (omega arith) watched.asides;
   blocked = λ code index list watch listed there. (let r = watched.blocked code index list watch listed there in
       (r.0, λ clause named. r.1 clause (old watch.clause clause named)));
   paired = λ number clause pair named is. watched.paired number clause pair (old number clause named) is;
   listed = watched.listed;
   excused = λ number clause pair l named is of place e there false_by below.
-      subst (λ (es : List Entry). IsExcused es clause place w.low e.level) (sym entries)
-      (excused_grown t.entries more clause place w.low e.level (watched.excused number clause pair l
-      (old number clause named) is of place e (before place e there (omega (arith, below, watched.head_few))) false_by below));
-  short_is = λ number clause named is. watched.short_is number clause (old number clause named) is;
-  short_excused = λ number clause named is below.
-      subst (λ (es : List Entry). IsExcused es clause number w.short 0) (sym entries)
-      (excused_grown t.entries more clause number w.short 0 (watched.short_excused number clause (old number clause named) is below));
+      elim (watched.excused number clause pair l (old number clause named) is of place e
+      (before place e there (omega (arith, below, watched.head_few))) false_by below) [
+        | inl x ↦ inl (subst (λ (es : List Entry). IsExcused es clause place w.low e.level) (sym entries)
+            (excused_grown t.entries more clause place w.low e.level x))
+        | inr a ↦ inr (still_aside number clause a)
+      ];
+  unpaired = λ number clause named is. still_aside number clause (watched.unpaired number clause (old number clause named) is);
 }
   where
     old : (number : ℕ) (clause : List Lit) → slice_get u.clauses number ≡ Some clause → slice_get t.clauses number ≡ Some clause
@@ -86,13 +102,20 @@ watched_more t u w more watched variables clauses entries = record {
     before place e there below = sym (slice_get-front t.entries more place below)
         ∙ (ap (λ (es : List Entry). slice_get es place) (sym entries) ∙ there)
 
+    still_aside : (number : ℕ) (clause : List Lit) → IsAside t.entries w.asides.items w.held number clause →
+        IsAside u.entries w.asides.items w.held number clause
+    still_aside number clause a = aside_from a a.there (λ below. subst (λ (es : List Entry). IsMet es clause a.aside.level) (sym entries)
+        (excused_grown t.entries more clause 0 1 a.aside.level (a.met below)))
+
 pub watched_propagated : (t u : TrailState) (w : Watches) → AreWatched t w → Propagates t u → AreWatched u w
 watched_propagated t u w watched grows = watched_more t u w grows.added watched (ap (λ (s : TrailState). s.variables) grows.rest_stays)
     (ap (λ (s : TrailState). s.clauses) grows.rest_stays) (ap (λ (s : TrailState). s.entries) grows.rest_stays)
+    (omega (arith, ap (λ (s : TrailState). s.level) grows.rest_stays))
 
 pub watched_decided : (t u : TrailState) (w : Watches) (l : Lit) → AreWatched t w → u ≡ decided t l → AreWatched u w
 watched_decided t u w l watched is = watched_more t u w (record { literal = l; level = t.level + 1; reason = None } ∷ []) watched
     (ap (λ (s : TrailState). s.variables) is) (ap (λ (s : TrailState). s.clauses) is) (ap (λ (s : TrailState). s.entries) is)
+    (omega (arith, ap (λ (s : TrailState). s.level) is))
 
 pub visit_propagated : (t u : TrailState) (w : Watches) (f : Lit) → IsVisit t w f → Propagates t u → IsVisit u w f
 visit_propagated t u w f visit grows = record {
@@ -109,8 +132,8 @@ pub watched_learnt : (t u : TrailState) (w : Watches) (clause : List Lit) → Ar
 watched_learnt t u w clause watched is = subst (λ (s : TrailState). AreWatched s w) (sym is) (record {
   lists_all = watched.lists_all;
   pairs_few = omega (arith, watched.pairs_few, length_push t.clauses clause);
-  looked_few = watched.looked_few;
   head_few = watched.head_few;
+  asides = watched.asides;
   blocked = λ code index list watch listed there. (let r = watched.blocked code index list watch listed there in
       (r.0, λ c named. r.1 c (old watch.clause c r.0 named)));
   paired = λ number c pair named at. watched.paired number c pair
@@ -118,9 +141,7 @@ watched_learnt t u w clause watched is = subst (λ (s : TrailState). AreWatched 
   listed = watched.listed;
   excused = λ number c pair l named at. watched.excused number c pair l
       (old number c (slice_get_within w.pairs.items number (Some pair) at) named) at;
-  short_is = λ number c named at. watched.short_is number c (old number c (slice_get_within w.pairs.items number None at) named) at;
-  short_excused = λ number c named at. watched.short_excused number c
-      (old number c (slice_get_within w.pairs.items number None at) named) at;
+  unpaired = λ number c named at. watched.unpaired number c (old number c (slice_get_within w.pairs.items number None at) named) at;
 })
   where
     old : (number : ℕ) (c : List Lit) → number < length w.pairs.items → slice_get (t.clauses ++ clause ∷ []) number ≡ Some c →
@@ -155,34 +176,48 @@ up_to_low level (x ∷ es) k e at = by_test (leb x.level level) refl k at (up_to
     by_test false t k h rest = rest k e h
 
 pub watched_undone : (t u : TrailState) (w v : Watches) (level : ℕ) → AreWatched t w → u ≡ undone t level →
-    u.entries ≡ take (length u.entries) t.entries → v.head ≡ min (min w.head w.low) (length u.entries) → v.looked ≡ min w.looked w.short →
-    v.lists.items ≡ w.lists.items → v.pairs.items ≡ w.pairs.items → AreWatched u v
-watched_undone t u w v level watched is front head looked lists pairs = record {
-  lists_all = ap length lists ∙ (watched.lists_all ∙ ap (λ (s : TrailState). 2 * s.variables) (sym is));
-  pairs_few = omega (arith, watched.pairs_few, ap length pairs, ap (λ (s : TrailState). length s.clauses) is);
-  looked_few = omega (arith, watched.looked_few, looked, ap length pairs);
+    u.entries ≡ take (length u.entries) t.entries → v.head ≡ min (min w.head w.low) (length u.entries) → v.held ≤ w.held →
+    ((last : Aside) → slice_get v.asides.items (v.held - 1) ≡ Some last → 0 < v.held → last.level ≤ level) →
+    v ≡ record w { held = v.held; head = v.head; low = v.low } → AreWatched u v
+watched_undone t u w v level watched is front head less last rest = subst (AreWatched u) (sym rest) (record {
+  lists_all = watched.lists_all ∙ ap (λ (s : TrailState). 2 * s.variables) (sym is);
+  pairs_few = omega (arith, watched.pairs_few, ap (λ (s : TrailState). length s.clauses) is);
   head_few = omega (arith, head);
-  blocked = λ code index list watch listed there.
-      (let r = watched.blocked code index list watch (ap (λ (ls : List (List Watch)). slice_get ls code) (sym lists) ∙ listed) there in
-      (omega (arith, r.0, ap length pairs), λ clause named. r.1 clause (old watch.clause clause named)));
-  paired = λ number clause pair named at. watched.paired number clause pair (old number clause named) (was number (Some pair) at);
-  listed = λ number pair l at of. subst (λ (ls : List (List Watch)). (index : ℕ) × HasWatch ls (code_of l) number index) (sym lists)
-      (watched.listed number pair l (was number (Some pair) at) of);
+  asides = record {
+    few = omega (arith, less, watched.asides.few);
+    rise = λ j k a b up below. watched.asides.rise j k a b up (omega arith);
+    low = λ k a below at. omega (
+      arith,
+      held_low k a below at,
+      watched.asides.low k a (omega arith) at,
+      ap (λ (s : TrailState). s.level) is,
+    );
+    known = watched.asides.known;
+  };
+  blocked = λ code index list watch listed there. (let r = watched.blocked code index list watch listed there in
+      (r.0, λ clause named. r.1 clause (old watch.clause clause named)));
+  paired = λ number clause pair named. watched.paired number clause pair (old number clause named);
+  listed = watched.listed;
   excused = λ number clause pair l named at of place e there false_by below.
-      still clause place w.low v.low e.level (low_level place e there)
-      (watched.excused number clause pair l (old number clause named) (was number (Some pair) at) of place e
-      (before place e there) false_by (omega (arith, below, head))) (omega (arith, below, head));
-  short_is = λ number clause named at. watched.short_is number clause (old number clause named) (was number None at);
-  short_excused = λ number clause named at below.
-      still clause number w.short v.short 0 (omega arith) (watched.short_excused number clause (old number clause named)
-      (was number None at) (omega (arith, below, looked))) (omega (arith, below, looked));
-}
+      elim (watched.excused number clause pair l (old number clause named) at of place e (before place e there) false_by
+      (omega (arith, below, head))) [
+        | inl x ↦ inl (still clause place w.low v.low e.level (low_level place e there) x (omega (arith, below, head)))
+        | inr a ↦ inr (still_aside number clause a)
+      ];
+  unpaired = λ number clause named at. still_aside number clause (watched.unpaired number clause (old number clause named) at);
+})
   where
     old : (number : ℕ) (clause : List Lit) → slice_get u.clauses number ≡ Some clause → slice_get t.clauses number ≡ Some clause
     old number clause named = ap (λ (s : TrailState). slice_get s.clauses number) (sym is) ∙ named
 
-    was : (number : ℕ) (o : Option Pair) → slice_get v.pairs.items number ≡ Some o → slice_get w.pairs.items number ≡ Some o
-    was number o at = ap (λ (ps : List (Option Pair)). slice_get ps number) (sym pairs) ∙ at
+    held_low : (k : ℕ) (a : Aside) → k < v.held → slice_get w.asides.items k ≡ Some a → a.level ≤ level
+    held_low k a below at =
+        let top = slice_get_some w.asides.items (v.held - 1) (omega (arith, below, less, watched.asides.few)) in
+        omega (
+          arith,
+          watched.asides.rise k (v.held - 1) a top.0 (omega (arith, below)) (omega (arith, below, less)) at top.1,
+          last top.0 (ap (λ (x : Watches). slice_get x.asides.items (v.held - 1)) rest ∙ top.1) (omega (arith, below)),
+        )
 
     before : (place : ℕ) (e : Entry) → slice_get u.entries place ≡ Some e → slice_get t.entries place ≡ Some e
     before place e there = (slice_get-take (length u.entries) t.entries place e
@@ -203,12 +238,17 @@ watched_undone t u w v level watched is front head looked lists pairs = record {
           in_time = λ _. x.in_time below;
         }
 
+    still_aside : (number : ℕ) (clause : List Lit) → IsAside t.entries w.asides.items w.held number clause →
+        IsAside u.entries w.asides.items v.held number clause
+    still_aside number clause a = aside_from a a.there (λ below. still clause 0 1 1 a.aside.level (held_low a.index a.aside below a.there)
+        (a.met (omega (arith, below, less))) (omega arith))
+
 -- ---- nothing is left to do
 
-pub watched_quiet : (t : TrailState) (w : Watches) → IsSound t → AreWatched t w → length t.clauses ≤ w.looked → length t.entries ≤ w.head →
-    IsQuiet t.clauses (literals_of t.entries)
-watched_quiet t w sound watched all_looked all_visited = quiet_from trues t.clauses
-    (λ k c named. each k c named (slice_get_some w.pairs.items k (omega (arith, slice_get_within t.clauses k c named, watched.looked_few))))
+pub watched_quiet : (t : TrailState) (w : Watches) → IsSound t → AreWatched t w → left_of (length t.clauses) w ≡ 0 →
+    length t.entries ≤ w.head → IsQuiet t.clauses (literals_of t.entries)
+watched_quiet t w sound watched none_left all_visited = quiet_from trues t.clauses
+    (λ k c named. each k c named (slice_get_some w.pairs.items k (omega (arith, slice_get_within t.clauses k c named, none_left))))
   where
     trues : List Lit
     trues = literals_of t.entries
@@ -219,13 +259,20 @@ watched_quiet t w sound watched all_looked all_visited = quiet_from trues t.clau
         open_true trues c x.entry.literal (has_not_false trues c x.entry.literal x.member (true_not_false t sound x.entry.literal is_true))
         is_true
 
+    -- no clause waits
+    by_aside : (c : List Lit) (number : ℕ) → IsAside t.entries w.asides.items w.held number c → IsOpen trues c
+    by_aside c number a = satisfied c 0 1 a.aside.level
+        (a.met (omega (arith, slice_get_within w.asides.items a.index a.aside a.there, none_left)))
+
     -- a watched literal is not false, or the clause is satisfied
     watched_one : (k : ℕ) (c : List Lit) (pair : Pair) (l : Lit) → slice_get t.clauses k ≡ Some c → IsPairOf w.pairs.items k pair →
         IsOf pair l → (has trues (negation l) ≡ false) ⊎ IsOpen trues c
     watched_one k c pair l named at of = elim (cases_Bool (has trues (negation l))) [
       | inl t' ↦ (let r = has_entry t.entries (negation l) t' in
-          inr (satisfied c r.0 w.low r.1.level (watched.excused k c pair l named at of r.0 r.1 r.2 r.3
-          (omega (arith, slice_get_within t.entries r.0 r.1 r.2)))))
+          elim (watched.excused k c pair l named at of r.0 r.1 r.2 r.3 (omega (arith, slice_get_within t.entries r.0 r.1 r.2))) [
+            | inl x ↦ inr (satisfied c r.0 w.low r.1.level x)
+            | inr a ↦ inr (by_aside c k a)
+          ])
       | inr f ↦ inl f
     ]
 
@@ -241,8 +288,7 @@ watched_quiet t w sound watched all_looked all_visited = quiet_from trues t.clau
 
     each : (k : ℕ) (c : List Lit) → slice_get t.clauses k ≡ Some c → (o : Option Pair) × (slice_get w.pairs.items k ≡ Some o) →
         IsOpen trues c
-    each k c named (None, at) = satisfied c k w.short 0 (watched.short_excused k c named at
-        (omega (arith, slice_get_within t.clauses k c named)))
+    each k c named (None, at) = by_aside c k (watched.unpaired k c named at)
     each k c named (Some pair, at) =
         let is = watched.paired k c pair named at in
         elim (watched_one k c pair pair.first named at (inl refl)) [
@@ -259,15 +305,17 @@ pub watched_low : (t : TrailState) (w v : Watches) → AreWatched t w → v ≡ 
 watched_low t w v watched is less = subst (AreWatched t) (sym is) (record {
   lists_all = watched.lists_all;
   pairs_few = watched.pairs_few;
-  looked_few = watched.looked_few;
   head_few = watched.head_few;
+  asides = watched.asides;
   blocked = watched.blocked;
   paired = watched.paired;
   listed = watched.listed;
-  excused = λ number clause pair l named at of place e there false_by below. excused_lower t.entries clause place w.low v.low e.level less
-      (watched.excused number clause pair l named at of place e there false_by below);
-  short_is = watched.short_is;
-  short_excused = watched.short_excused;
+  excused = λ number clause pair l named at of place e there false_by below.
+      elim (watched.excused number clause pair l named at of place e there false_by below) [
+        | inl x ↦ inl (excused_lower t.entries clause place w.low v.low e.level less x)
+        | inr a ↦ inr a
+      ];
+  unpaired = watched.unpaired;
 })
 
 pub lowered_le : (b : Bool) (low place limit : ℕ) → limit ≡ cond b (min low place) low → limit ≤ low
@@ -289,20 +337,24 @@ answered (Err e) P b ok err usable = absurd (true≢false (sym err ∙ usable))
 -- ---- the beginning
 
 pub watched_started : (t : TrailState) (w : Watches) → length w.lists.items ≡ 2 * t.variables →
-    ((code : ℕ) (list : List Watch) → slice_get w.lists.items code ≡ Some list → list ≡ []) → w.pairs.items ≡ [] → w.looked ≡ 0 →
-    w.head ≡ 0 → AreWatched t w
-watched_started t w all empty pairs looked head = record {
+    ((code : ℕ) (list : List Watch) → slice_get w.lists.items code ≡ Some list → list ≡ []) → w.pairs.items ≡ [] →
+    w.asides.items ≡ [] → w.held ≡ 0 → w.head ≡ 0 → AreWatched t w
+watched_started t w all empty pairs asides held head = record {
   lists_all = all;
   pairs_few = omega (arith, ap length pairs);
-  looked_few = omega (arith, ap length pairs, looked);
   head_few = omega (arith, head);
+  asides = record {
+    few = omega (arith, held);
+    rise = λ j k a b up below. absurd (omega (arith, held));
+    low = λ k a below. absurd (omega (arith, held));
+    known = λ k a at. absurd (none-some a (ap (λ (xs : List Aside). slice_get xs k) (sym asides) ∙ at));
+  };
   blocked = λ code index list watch listed there. absurd (none-some watch
       (ap (λ (xs : List Watch). slice_get xs index) (sym (empty code list listed)) ∙ there));
   paired = λ number clause pair named at. absurd (none number (Some pair) at);
   listed = λ number pair l at. absurd (none number (Some pair) at);
   excused = λ number clause pair l named at. absurd (none number (Some pair) at);
-  short_is = λ number clause named at. absurd (none number None at);
-  short_excused = λ number clause named at. absurd (none number None at);
+  unpaired = λ number clause named at. absurd (none number None at);
 }
   where
     none : (number : ℕ) (o : Option Pair) → slice_get w.pairs.items number ≡ Some o → ⊥

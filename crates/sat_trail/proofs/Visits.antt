@@ -184,7 +184,7 @@ pub watched_visited : (t : TrailState) (w v : Watches) (f : Lit) → IsSound t �
 watched_visited t w v f sound watched visit due is = subst (AreWatched t) (sym is) (record {
   lists_all = watched.lists_all;
   pairs_few = watched.pairs_few;
-  looked_few = watched.looked_few;
+  asides = watched.asides;
   head_few = omega (arith, slice_get_within t.entries w.head visit.entry visit.there);
   blocked = watched.blocked;
   paired = watched.paired;
@@ -197,12 +197,11 @@ watched_visited t w v f sound watched visit due is = subst (AreWatched t) (sym i
         let l_is : f ≡ l = sym (negation-negation f) ∙ (ap negation (sym visit.is
         ∙ (ap (λ (x : Entry). x.literal) (sym entry_is) ∙ false_by)) ∙ negation-negation l) in
         elim (due number clause pair named at (subst (IsOf pair) (sym l_is) of)) [
-          | inl x ↦ at_level clause place e x place_is entry_is
+          | inl x ↦ inl (at_level clause place e x place_is entry_is)
           | inr r ↦ absurd (omega (arith, r.1))
         ])
   ];
-  short_is = watched.short_is;
-  short_excused = watched.short_excused;
+  unpaired = watched.unpaired;
 })
   where
     at_level : (clause : List Lit) (place : ℕ) (e : Entry) → IsExcused t.entries clause w.head w.low t.level → place ≡ w.head →

@@ -1,11 +1,12 @@
 -- The lists of watches when one has a watch more or less.
-use Rattle.std.proofs.Common.{◌≡◌, ℕ, ◌<◌, ◌≤◌, true, List, [], ◌∷◌, ◌++◌, length, Some, slice_get, sym, ap, ◌∙◌, subst, refl, arith, inl}
+use Rattle.std.proofs.Common.{◌≡◌, ℕ, ◌<◌, ◌≤◌, true, List, [], ◌∷◌, ◌++◌, length, set, Option, Some, slice_get, sym, ap, ◌∙◌, subst, refl, arith, inl}
 use Rattle.std.proofs.Common.{inr}
 use Rattle.std.proofs.lemmas.Option.{same_Some}
 use Rattle.std.proofs.lemmas.Bool.{cases_eq}
-use Rattle.sequence.proofs.Places.{slice_get-behind, slice_get_grown, slice_get_push, slice_get_some}
+use Rattle.sequence.proofs.Places.{slice_get-behind, slice_get_grown, slice_get_push, slice_get_some, slice_get_set, slice_get_set_same}
 use Rattle.clause_core.specs.Literals.{Lit, has}
 use Rattle.sat_trail.specs.declared.watches.Watch.{Watch}
+use Rattle.sat_trail.specs.declared.watches.Pair.{Pair}
 use Rattle.sat_trail.specs.internal.Watching.{HasWatch, AddsWatch, DropsWatch}
 
 -- ---- what is in a list
@@ -43,6 +44,18 @@ has_watch_new {old} {new} {code} {watch} adds within =
         names = refl;
       },
     )
+
+-- ---- a clause gets another pair
+
+pub pair_was : (old : List (Option Pair)) (new : Pair) {pairs : List (Option Pair)} {number other : ℕ} {o : Option Pair} → pairs ≡ set old number (Some new) →
+    (other ≡ number → ⊥) → slice_get pairs other ≡ Some o → slice_get old other ≡ Some o
+pair_was old new {pairs} {number} {other} is n at = sym (slice_get_set old number other (Some new) n)
+    ∙ (ap (λ (ps : List (Option Pair)). slice_get ps other) (sym is) ∙ at)
+
+pub pair_is_new : (old : List (Option Pair)) {new : Pair} {pairs : List (Option Pair)} {number other : ℕ} {o : Option Pair} →
+    pairs ≡ set old number (Some new) → number < length old → other ≡ number → slice_get pairs other ≡ Some o → Some new ≡ o
+pair_is_new old {new} {pairs} {number} {other} {o} is within e at = same_Some (Some new) o
+    (sym (slice_get_set_same old number (Some new) within) ∙ (ap (λ (ps : List (Option Pair)). slice_get ps number) (sym is) ∙ (ap (slice_get pairs) (sym e) ∙ at)))
 
 -- ---- the blockers
 

@@ -125,7 +125,7 @@ impl<'f> Trail<'f> {
         ensures sound { IsSound self.new }
     {
         self.stack.undo_to(level);
-        self.watches.undo(self.stack.set_count());
+        self.watches.undo(level, self.stack.set_count());
     }
 
     /// Whether the literal is true; none exactly where its variable is unassigned.

@@ -1,12 +1,12 @@
 //! Unit propagation by two watched literals a clause.
 
-ghost use Rattle.std.specs.Prelude.{◌≡◌, ℕ, ◌+◌, ◌*◌, ◌<◌, ◌≤◌, ◌^◌, ◌⊎◌, ◌&&◌, not, min, cond, nat_lt, true, false, length, List, [], ◌∷◌, ◌++◌, Option, Some, None, IfOk, OnOk, MatchOption, slice_get};
+ghost use Rattle.std.specs.Prelude.{◌≡◌, ℕ, ◌+◌, ◌-◌, ◌*◌, ◌<◌, ◌≤◌, ◌^◌, ◌&&◌, not, min, cond, nat_lt, true, false, length, List, [], ◌∷◌, ◌++◌, Option, Some, None, IfOk, OnOk, MatchOption, slice_get};
 ghost use Rattle.clause_core.specs.Literals.{Lit, negation, same, has, code_of};
 ghost use Rattle.clause_core.specs.Clauses.{IsOver};
 ghost use Rattle.sat_trail.specs.declared.entries.Entry.{Entry};
 ghost use Rattle.sat_trail.specs.Entries.{literals_of};
 ghost use Rattle.sat_trail.specs.States.{TrailState, IsSound, Propagates, IsFalseAt, EndsWith};
-ghost use Rattle.sat_trail.specs.internal.Watching.{HasList, TakesOut, RenewsBlocker, AddsWatch, RenewsWatch, DropsWatch, IsOf, is_paired, IsPairIn, IsNextPair, IsExcused, AreWatched, IsVisit, AreDue, AreOthersFalse, CanForce, CanWatch, IsFalseBy, IsLater, IsBestOf, IsFree, AreFalseBetween, LooksAt};
+ghost use Rattle.sat_trail.specs.internal.Watching.{HasList, TakesOut, RenewsBlocker, AddsWatch, RenewsWatch, DropsWatch, IsOf, IsPairIn, IsNextPair, AreWatched, IsVisit, AreDue, AreOthersFalse, CanForce, CanWatch, IsFalseBy, IsLater, IsBestOf, IsFree, AreFalseBetween, IsNextWaiting, IsOpenAt, IsWatchedBy, SetsAside, Releases, left_of, LeavesSome, LooksAtOne};
 
 use crate::stack::Stack;
 use clause_core::Literal;
@@ -115,6 +115,23 @@ impl Pair {
             self.first
         }
     }
+
+    /// Whether the literal is one of the pair.
+    fn is_of(&self, literal: Literal) -> bool
+        ensures { result ≡ true → IsOf self.now literal }
+    {
+        self.first == literal || self.second == literal
+    }
+}
+
+/// A clause that waits to be looked at, or is set aside until a level is taken back: some literal of it is
+/// true, but was set above the level at which the clause came to be unit.
+#[derive(Clone, Copy)]
+pub struct Aside {
+    /// The number of the clause.
+    pub clause: u32,
+    /// The level at which it was set aside.
+    pub level: u32,
 }
 
 /// Which literals each clause watches, and how far propagation has come.
@@ -122,12 +139,12 @@ impl Pair {
 pub struct Watches {
     /// The watches of each literal, by its code.
     pub lists: Vec<WatchList>,
-    /// The pair of each clause that was looked at; none of a clause of one literal.
+    /// The pair of each clause that was taken in; none of a clause of one literal.
     pub pairs: Vec<Option<Pair>>,
-    /// The clauses from this number on are to be looked at.
-    pub looked: u32,
-    /// The clauses of one literal from this number on may lose their true literal by an undo.
-    pub short: u32,
+    /// The clauses that are set aside, their levels rising, and behind them those that wait to be looked at.
+    pub asides: Vec<Aside>,
+    /// How many clauses are set aside.
+    pub held: usize,
     /// The entries from this place on are to be visited.
     pub head: u32,
     /// The entries from this place on may have been visited at a level above their own.
@@ -135,7 +152,7 @@ pub struct Watches {
 }
 
 impl Watches {
-    /// No clause is looked at, and no entry visited. An `Err` says that memory ran out.
+    /// No clause is taken in, and no entry visited. An `Err` says that memory ran out.
     pub fn new(alloc: Global, variables: u32) -> Result<Watches, NoMemory>
         requires { variables < 2 ^ 31 }
         ensures { IfOk result (λ watches. (t : TrailState) → t.variables ≡ variables → AreWatched t watches) }
@@ -149,24 +166,27 @@ impl Watches {
         Ok(Watches {
             lists,
             pairs: Vec::new(alloc),
-            looked: 0,
-            short: u32::MAX,
+            asides: Vec::new(alloc),
+            held: 0,
             head: 0,
             low: u32::MAX,
         })
     }
 
-    /// Goes back to where so many entries are left: what an undo may have touched is visited again.
-    pub fn undo(&mut self, count: u32)
+    /// Goes back to a level, with so many entries left: what was set aside above that level waits to be looked
+    /// at, and what an undo may have touched is visited again.
+    pub fn undo(&mut self, level: u32, count: u32)
+        requires { self.old.held ≤ length self.old.asides.items }
         ensures head { self.new.head ≡ min (min self.old.head self.old.low) count }
-        ensures looked { self.new.looked ≡ min self.old.looked self.old.short }
-        ensures lists { self.new.lists ≡ self.old.lists }
-        ensures pairs { self.new.pairs ≡ self.old.pairs }
+        ensures held { self.new.held ≤ self.old.held }
+        ensures low { (last : Aside) → slice_get self.new.asides.items (self.new.held - 1) ≡ Some last → 0 < self.new.held → last.level ≤ level }
+        ensures rest { self.new ≡ record self.old { held = self.new.held; head = self.new.head; low = self.new.low } }
     {
+        while self.held > 0 && self.asides[self.held - 1].level > level {
+            self.held -= 1;
+        }
         self.head = self.head.min(self.low).min(count);
         self.low = u32::MAX;
-        self.looked = self.looked.min(self.short);
-        self.short = u32::MAX;
     }
 
     /// Propagates until no clause is unit or a clause is false: then it answers that clause's number.
@@ -180,9 +200,10 @@ impl Watches {
         ensures ends { IfOk result (λ answer. EndsWith answer stack.new) }
         ensures sound { IsSound stack.new }
     {
-        while self.looked < stack.clause_count() {
-            if !self.look(stack)? {
-                return Ok(Some(self.looked));
+        while self.take_in(stack)? {
+            let conflict = self.look(stack)?;
+            if conflict.is_some() {
+                return Ok(conflict);
             }
         }
         while self.head < stack.set_count() {
@@ -194,136 +215,180 @@ impl Watches {
         Ok(None)
     }
 
-    /// Looks at the next clause, and answers whether it is not false. An `Err` says that memory ran out.
-    fn look(&mut self, stack: &mut Stack<'_>) -> Result<bool, NoMemory>
+    /// Takes the next clause in where none waits, and answers whether one waits. An `Err` says that memory
+    /// ran out.
+    fn take_in(&mut self, stack: &Stack<'_>) -> Result<bool, NoMemory>
+        requires { AreWatched stack.now self.old }
+        ensures watched { OnOk result (AreWatched stack.now self.new) }
+        ensures left { IfOk result (LeavesSome (length stack.now.clauses) self.old self.new) }
+    {
+        if self.held < self.asides.len() {
+            return Ok(true);
+        }
+        if self.pairs.len() >= stack.clause_count() as usize {
+            return Ok(false);
+        }
+        self.asides.push(Aside {
+            clause: self.pairs.len() as u32,
+            level: 0,
+        })?;
+        self.pairs.push(None)?;
+        Ok(true)
+    }
+
+    /// Looks at a clause that waits, and answers its number if it is false. An `Err` says that memory ran out.
+    fn look(&mut self, stack: &mut Stack<'_>) -> Result<Option<u32>, NoMemory>
         requires usable { stack.old.broken ≡ false }
         requires sound { IsSound stack.old }
         requires watched { AreWatched stack.old self.old }
-        requires more { self.old.looked < length stack.old.clauses }
+        requires some { self.old.held < length self.old.asides.items }
         ensures ok { OnOk result (Propagates stack.old stack.new) }
         ensures watched { OnOk result (AreWatched stack.new self.new) }
-        ensures looks { IfOk result (LooksAt self.old stack.new self.new) }
+        ensures ends { IfOk result (λ conflict. MatchOption conflict (LooksAtOne self.old self.new) (IsFalseAt stack.new)) }
         ensures sound { IsSound stack.new }
     {
-        let number = self.looked;
-        if self.is_watched(number) {
-            self.looked += 1;
-            return Ok(true);
+        let number = self.asides[self.held].clause;
+        if self.is_open(stack, number) {
+            self.release();
+            return Ok(None);
         }
         let literals = stack.clause(number).literals();
         let Some(first) = best(stack, literals, &None) else {
-            return Ok(false);
+            return Ok(Some(number));
         };
         if stack.is_true(first.negated()) {
-            return Ok(false);
+            return Ok(Some(number));
         }
         match best(stack, literals, &Some(first)) {
-            None => self.pass_short(stack, first),
-            Some(second) => self.pass_long(stack, first, second),
+            None => self.force_aside(stack, number, first),
+            Some(second) => self.look_at_two(stack, number, first, second),
         }
     }
 
-    /// Whether the clause of a number has a pair.
-    fn is_watched(&self, number: u32) -> bool
-        ensures { result ≡ is_paired (slice_get self.now.pairs.items number) }
+    /// Whether the clause of a number watches two literals that are not false.
+    fn is_open(&self, stack: &Stack<'_>, number: u32) -> bool
+        requires sound { IsSound stack.now }
+        requires watched { AreWatched stack.now self.now }
+        requires within { number < length self.now.pairs.items }
+        ensures { result ≡ true → IsOpenAt stack.now self.now number }
     {
-        matches!(self.pairs.get(number as usize), Some(Some(_)))
-    }
-
-    /// Passes the next clause, which has this literal alone and is true with it. It answers true.
-    fn pass_short(&mut self, stack: &mut Stack<'_>, only: Literal) -> Result<bool, NoMemory>
-        requires usable { stack.old.broken ≡ false }
-        requires sound { IsSound stack.old }
-        requires watched { AreWatched stack.old self.old }
-        requires unpaired { is_paired (slice_get self.old.pairs.items self.old.looked) ≡ false }
-        requires only { CanForce stack.old self.old.looked only }
-        requires not_false { has (literals_of stack.old.entries) (negation only) ≡ false }
-        requires short { (clause : List Lit) → slice_get stack.old.clauses self.old.looked ≡ Some clause → (m : Lit) → has clause m ≡ true → Some only ≡ Some m }
-        ensures ok { OnOk result (Propagates stack.old stack.new) }
-        ensures watched { OnOk result (AreWatched stack.new self.new) }
-        ensures looks { IfOk result (LooksAt self.old stack.new self.new) }
-        ensures sound { IsSound stack.new }
-    {
-        let number = self.looked;
-        force(stack, number, only)?;
-        self.set_aside(number)?;
-        self.short = lowered(self.short, number, stack.level() > 0);
-        self.looked += 1;
-        Ok(true)
-    }
-
-    /// The clause has no pair. An `Err` says that memory ran out.
-    fn set_aside(&mut self, number: u32) -> Result<(), NoMemory>
-        requires within { number ≤ length self.old.pairs.items }
-        requires unpaired { is_paired (slice_get self.old.pairs.items number) ≡ false }
-        ensures pairs { OnOk result ((self.new.pairs.items ≡ self.old.pairs.items ++ None ∷ []) × (length self.old.pairs.items ≡ number)
-            ⊎ (self.new.pairs.items ≡ self.old.pairs.items) × (slice_get self.old.pairs.items number ≡ Some None)) }
-        ensures rest { self.new ≡ record self.old { pairs = self.new.pairs } }
-    {
-        if (number as usize) < self.pairs.len() {
-            return Ok(());
+        match &self.pairs[number as usize] {
+            Some(pair) => {
+                !stack.is_true(pair.first.negated()) && !stack.is_true(pair.second.negated())
+            }
+            None => false,
         }
-        self.pairs.push(None)?;
-        Ok(())
     }
 
-    /// Passes the next clause, which from now on watches these two of its literals. It answers true.
-    fn pass_long(
-        &mut self,
-        stack: &mut Stack<'_>,
-        first: Literal,
-        second: Literal,
-    ) -> Result<bool, NoMemory>
-        requires usable { stack.old.broken ≡ false }
-        requires sound { IsSound stack.old }
-        requires watched { AreWatched stack.old self.old }
-        requires unpaired { is_paired (slice_get self.old.pairs.items self.old.looked) ≡ false }
-        requires literals { CanWatch stack.old self.old.looked first second }
-        ensures ok { OnOk result (Propagates stack.old stack.new) }
-        ensures watched { OnOk result (AreWatched stack.new self.new) }
-        ensures looks { IfOk result (LooksAt self.old stack.new self.new) }
-        ensures sound { IsSound stack.new }
-    {
-        let number = self.looked;
-        self.excuse(stack, number, first, second)?;
-        self.add_watch(first, number, second)?;
-        self.add_watch(second, number, first)?;
-        self.pairs.push(Some(Pair {
-            first,
-            second,
-            spare: first,
-            start: 0,
-        }))?;
-        self.looked += 1;
-        Ok(true)
-    }
-
-    /// Sets the first literal of a clause where the second one is false. An `Err` says that memory ran
-    /// out.
-    fn excuse(
+    /// Looks at a clause that waits by two of its literals, the first of which is not false: from now on it
+    /// watches these. It answers none. An `Err` says that memory ran out.
+    fn look_at_two(
         &mut self,
         stack: &mut Stack<'_>,
         number: u32,
         first: Literal,
         second: Literal,
-    ) -> Result<(), NoMemory>
+    ) -> Result<Option<u32>, NoMemory>
         requires usable { stack.old.broken ≡ false }
         requires sound { IsSound stack.old }
+        requires watched { AreWatched stack.old self.old }
+        requires waits { IsNextWaiting self.old number }
         requires literals { CanWatch stack.old number first second }
         ensures ok { OnOk result (Propagates stack.old stack.new) }
-        ensures not_false { OnOk result (has (literals_of stack.new.entries) (negation first) ≡ false) }
-        ensures excused { OnOk result ((clause : List Lit) → slice_get stack.old.clauses number ≡ Some clause →
-            (place : ℕ) (e : Entry) → slice_get stack.new.entries place ≡ Some e → e.literal ≡ negation second →
-            IsExcused stack.new.entries clause place self.new.low e.level) }
-        ensures low { self.new.low ≤ self.old.low }
-        ensures rest { self.new ≡ record self.old { low = self.new.low } }
+        ensures watched { OnOk result (AreWatched stack.new self.new) }
+        ensures ends { IfOk result (λ conflict. MatchOption conflict (LooksAtOne self.old self.new) (IsFalseAt stack.new)) }
         ensures sound { IsSound stack.new }
     {
-        let Some(place) = false_place(stack, second) else {
+        self.watch_both(stack, number, first, second)?;
+        if stack.is_true(second.negated()) {
+            return self.force_aside(stack, number, first);
+        }
+        self.release();
+        Ok(None)
+    }
+
+    /// A clause that waits watches these two of its literals. An `Err` says that memory ran out.
+    fn watch_both(
+        &mut self,
+        stack: &Stack<'_>,
+        number: u32,
+        first: Literal,
+        second: Literal,
+    ) -> Result<(), NoMemory>
+        requires sound { IsSound stack.now }
+        requires watched { AreWatched stack.now self.old }
+        requires waits { IsNextWaiting self.old number }
+        requires literals { CanWatch stack.now number first second }
+        ensures watched { OnOk result (AreWatched stack.now self.new) }
+        ensures pair { OnOk result (IsWatchedBy self.new number first second) }
+        ensures pairs { OnOk result (length self.new.pairs.items ≡ length self.old.pairs.items) }
+        ensures rest { OnOk result (self.new ≡ record self.old { lists = self.new.lists; pairs = self.new.pairs }) }
+    {
+        if self.is_watched_by(number, first, second) {
             return Ok(());
-        };
-        self.note_place(stack, place);
-        force(stack, number, first)
+        }
+        self.add_watch(first, number, second)?;
+        self.add_watch(second, number, first)?;
+        self.pairs[number as usize] = Some(Pair {
+            first,
+            second,
+            spare: first,
+            start: 0,
+        });
+        Ok(())
+    }
+
+    /// Whether the clause of a number watches both of these literals.
+    fn is_watched_by(&self, number: u32, first: Literal, second: Literal) -> bool
+        requires within { number < length self.now.pairs.items }
+        requires apart { second ≡ first → ⊥ }
+        ensures { result ≡ true → IsWatchedBy self.now number first second }
+    {
+        match &self.pairs[number as usize] {
+            Some(pair) => pair.is_of(first) && pair.is_of(second),
+            None => false,
+        }
+    }
+
+    /// Sets the literal of a clause that waits and whose other literals are false, and sets the clause aside.
+    /// It answers none. An `Err` says that memory ran out.
+    fn force_aside(
+        &mut self,
+        stack: &mut Stack<'_>,
+        number: u32,
+        literal: Literal,
+    ) -> Result<Option<u32>, NoMemory>
+        requires usable { stack.old.broken ≡ false }
+        requires sound { IsSound stack.old }
+        requires watched { AreWatched stack.old self.old }
+        requires waits { IsNextWaiting self.old number }
+        requires forced { CanForce stack.old number literal }
+        requires not_false { has (literals_of stack.old.entries) (negation literal) ≡ false }
+        ensures ok { OnOk result (Propagates stack.old stack.new) }
+        ensures watched { OnOk result (AreWatched stack.new self.new) }
+        ensures ends { IfOk result (λ conflict. MatchOption conflict (LooksAtOne self.old self.new) (IsFalseAt stack.new)) }
+        ensures sound { IsSound stack.new }
+    {
+        force(stack, number, literal)?;
+        self.set_aside(stack.level());
+        Ok(None)
+    }
+
+    /// Sets the next clause that waits aside, at a level.
+    fn set_aside(&mut self, level: u32)
+        requires { self.old.held < length self.old.asides.items }
+        ensures { SetsAside level self.old self.new }
+    {
+        self.asides[self.held].level = level;
+        self.held += 1;
+    }
+
+    /// The next clause that waits does so no more.
+    fn release(&mut self)
+        requires { self.old.held < length self.old.asides.items }
+        ensures { Releases self.old self.new }
+    {
+        let _ = self.asides.swap_remove(self.held);
     }
 
     /// Notes that the entry at a place is visited at the present level.
@@ -374,7 +439,7 @@ impl Watches {
         requires more { self.old.head < length stack.old.entries }
         ensures ok { OnOk result (Propagates stack.old stack.new) }
         ensures watched { OnOk result (AreWatched stack.new self.new) }
-        ensures looked { self.new.looked ≡ self.old.looked }
+        ensures left { (count : ℕ) → left_of count self.new ≡ left_of count self.old }
         ensures ends { IfOk result (λ conflict. MatchOption conflict (self.new.head ≡ self.old.head + 1) (IsFalseAt stack.new)) }
         ensures sound { IsSound stack.new }
     {
@@ -413,7 +478,7 @@ impl Watches {
         ensures list { OnOk result (HasList self.new.lists.items (code_of falsified) index) }
         ensures ends { IfOk result (λ conflict. MatchOption conflict (AreDue stack.new self.new falsified index) (IsFalseAt stack.new)) }
         ensures head { self.new.head ≡ self.old.head }
-        ensures looked { self.new.looked ≡ self.old.looked }
+        ensures left { (count : ℕ) → left_of count self.new ≡ left_of count self.old }
         ensures sound { IsSound stack.new }
     {
         let watch = self.lists[falsified.code()].get(index);

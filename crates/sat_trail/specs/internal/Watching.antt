@@ -1,14 +1,15 @@
 -- Internal: only private functions of this crate use these words. How clauses watch literals, and how far propagation has
 -- come. The idea is that of M. Moskewicz and others, Chaff: Engineering an Efficient SAT Solver, 2001.
-use Rattle.std.specs.Prelude.{◌≡◌, ℕ, ◌+◌, ◌*◌, ◌<◌, ◌≤◌, ◌⊎◌, Bool, true, false, List, ◌∷◌, ◌++◌, [], length, Option, Some, None}
+use Rattle.std.specs.Prelude.{◌≡◌, ℕ, ◌+◌, ◌-◌, ◌*◌, ◌<◌, ◌≤◌, ◌⊎◌, Bool, true, false, List, ◌∷◌, ◌++◌, [], length, Option, Some, None}
 use Rattle.std.specs.Prelude.{MatchOption, slice_get}
 use Rattle.clause_core.specs.Literals.{Lit, negation, has, code_of}
 use Rattle.clause_core.specs.Clauses.{IsIncreasing}
 use Rattle.sat_trail.specs.declared.entries.Entry.{Entry}
 use Rattle.sat_trail.specs.Entries.{literals_of}
-use Rattle.sat_trail.specs.States.{TrailState, IsFalseAt}
+use Rattle.sat_trail.specs.States.{TrailState}
 use Rattle.sat_trail.specs.declared.watches.Watch.{Watch}
 use Rattle.sat_trail.specs.declared.watches.Pair.{Pair}
+use Rattle.sat_trail.specs.declared.watches.Aside.{Aside}
 use Rattle.sat_trail.specs.declared.watches.Watches.{Watches}
 
 -- ---- lists of watches
@@ -70,22 +71,12 @@ IsOf pair l = (pair.first ≡ l) ⊎ (pair.second ≡ l)
 abbrev pub IsPairOf : List (Option Pair) → ℕ → Pair → Type 0
 IsPairOf pairs number pair = slice_get pairs number ≡ Some (Some pair)
 
--- whether a clause was looked at and has a pair
-abbrev pub is_paired : Option (Option Pair) → Bool
-is_paired None = false
-is_paired (Some None) = false
-is_paired (Some (Some pair)) = true
-
 -- the pair is of two literals of the clause, and so is its spare one
 pub record IsPair (clause : List Lit) (pair : Pair) : Type 0 where
   pub first : has clause pair.first ≡ true
   pub second : has clause pair.second ≡ true
   pub spare : has clause pair.spare ≡ true
   pub apart : pair.first ≡ pair.second → ⊥
-
--- the clause has one literal at most
-abbrev pub IsShort : List Lit → Type 0
-IsShort clause = (l m : Lit) → has clause l ≡ true → has clause m ≡ true → l ≡ m
 
 -- ---- what is true
 
@@ -97,17 +88,37 @@ pub record IsExcused (entries : List Entry) (clause : List Lit) (number limit le
   pub member : has clause entry.literal ≡ true
   pub in_time : number < limit → entry.level ≤ level
 
+-- some literal of the clause is true, and was set at this level or a lower one
+abbrev pub IsMet : List Entry → List Lit → ℕ → Type 0
+IsMet entries clause level = IsExcused entries clause 0 1 level
+
+-- The clause of this number waits to be looked at, or is set aside: then a literal of it is true, which was set at the level
+-- of that or at a lower one.
+pub record IsAside (entries : List Entry) (asides : List Aside) (held number : ℕ) (clause : List Lit) : Type 0 where
+  pub index : ℕ
+  pub aside : Aside
+  pub there : slice_get asides index ≡ Some aside
+  pub names : aside.clause ≡ number
+  pub met : index < held → IsMet entries clause aside.level
+
+-- The levels of the clauses that are set aside rise, up to this one. Each clause there was taken in.
+pub record AreAsides (asides : List Aside) (held level count : ℕ) : Type 0 where
+  pub few : held ≤ length asides
+  pub rise : (j k : ℕ) (a b : Aside) → j ≤ k → k < held → slice_get asides j ≡ Some a → slice_get asides k ≡ Some b → a.level ≤ b.level
+  pub low : (k : ℕ) (a : Aside) → k < held → slice_get asides k ≡ Some a → a.level ≤ level
+  pub known : (k : ℕ) (a : Aside) → slice_get asides k ≡ Some a → a.clause < count
+
 -- ---- what holds between the visits of entries
 
--- Each watch is of a clause that was looked at, and its other literal is of that clause; each pair is of literals of its
--- clause, both of which the clause watches. A watched literal that is false by an entry visited has its clause excused:
--- before the place `low` by a literal that is taken back no earlier. A clause of one literal that was looked at is
--- excused too, before the number `short` by a literal that is never taken back.
+-- Each watch is of a clause that was taken in, and its other literal is of that clause; each pair is of literals of its
+-- clause, both of which the clause watches. A watched literal that is false by an entry visited has its clause excused,
+-- before the place `low` by a literal that is taken back no earlier, or that clause is set aside or waits; so does one that
+-- watches nothing.
 pub record AreWatched (t : TrailState) (w : Watches) : Type 0 where
   pub lists_all : length w.lists.items ≡ 2 * t.variables
   pub pairs_few : length w.pairs.items ≤ length t.clauses
-  pub looked_few : w.looked ≤ length w.pairs.items
   pub head_few : w.head ≤ length t.entries
+  pub asides : AreAsides w.asides.items w.held t.level (length w.pairs.items)
   pub blocked : (code index : ℕ) (list : List Watch) (watch : Watch) → slice_get w.lists.items code ≡ Some list →
       slice_get list index ≡ Some watch →
       (watch.clause < length w.pairs.items) × ((clause : List Lit) → slice_get t.clauses watch.clause ≡ Some clause →
@@ -119,12 +130,60 @@ pub record AreWatched (t : TrailState) (w : Watches) : Type 0 where
   pub excused : (number : ℕ) (clause : List Lit) (pair : Pair) (l : Lit) → slice_get t.clauses number ≡ Some clause →
       IsPairOf w.pairs.items number pair → IsOf pair l →
       (place : ℕ) (e : Entry) → slice_get t.entries place ≡ Some e → e.literal ≡ negation l → place < w.head →
-      IsExcused t.entries clause place w.low e.level
-  pub short_is : (number : ℕ) (clause : List Lit) → slice_get t.clauses number ≡ Some clause → slice_get w.pairs.items number ≡ Some None →
-      IsShort clause
-  pub short_excused : (number : ℕ) (clause : List Lit) → slice_get t.clauses number ≡ Some clause →
-      slice_get w.pairs.items number ≡ Some None → number < w.looked →
-      IsExcused t.entries clause number w.short 0
+      IsExcused t.entries clause place w.low e.level ⊎ IsAside t.entries w.asides.items w.held number clause
+  pub unpaired : (number : ℕ) (clause : List Lit) → slice_get t.clauses number ≡ Some clause → slice_get w.pairs.items number ≡ Some None →
+      IsAside t.entries w.asides.items w.held number clause
+
+-- ---- what is to be looked at
+
+-- how much is to be looked at, where there are so many clauses: those to be taken in count twice
+abbrev pub left_of : ℕ → Watches → ℕ
+left_of count w = 2 * (count - length w.pairs.items) + (length w.asides.items - w.held)
+
+-- what is answered whether a clause waits: one does, and there is no more to be looked at than before; or there is nothing
+abbrev pub LeavesSome : ℕ → Watches → Watches → Bool → Type 0
+LeavesSome count old new true = (new.held < length new.asides.items) × (left_of count new ≤ left_of count old)
+LeavesSome count old new false = left_of count new ≡ 0
+
+-- there is less to be looked at
+abbrev pub LooksAtOne : Watches → Watches → Type 0
+LooksAtOne old new = (count : ℕ) → left_of count new + 1 ≡ left_of count old
+
+-- the next clause that waits has this number
+pub record IsNextWaiting (w : Watches) (number : ℕ) : Type 0 where
+  pub aside : Aside
+  pub there : slice_get w.asides.items w.held ≡ Some aside
+  pub names : aside.clause ≡ number
+
+-- the next clause that waits is set aside at a level
+pub record SetsAside (level : ℕ) (old new : Watches) : Type 0 where
+  pub all : length new.asides.items ≡ length old.asides.items
+  pub more : new.held ≡ old.held + 1
+  pub here : (a : Aside) → slice_get old.asides.items old.held ≡ Some a →
+      slice_get new.asides.items old.held ≡ Some (record a { level = level })
+  pub others : (k : ℕ) → (k ≡ old.held → ⊥) → slice_get new.asides.items k ≡ slice_get old.asides.items k
+  pub rest : new ≡ record old { asides = new.asides; held = new.held }
+
+-- the next clause that waits does so no more; those set aside stay where they are, and the others wait
+pub record Releases (old new : Watches) : Type 0 where
+  pub shorter : length new.asides.items + 1 ≡ length old.asides.items
+  pub before : (k : ℕ) → k < old.held → slice_get new.asides.items k ≡ slice_get old.asides.items k
+  pub behind : (k : ℕ) (a : Aside) → old.held < k → slice_get old.asides.items k ≡ Some a →
+      (j : ℕ) × (old.held ≤ j) × (slice_get new.asides.items j ≡ Some a)
+  pub no_more : (j : ℕ) (a : Aside) → slice_get new.asides.items j ≡ Some a → (k : ℕ) × (slice_get old.asides.items k ≡ Some a)
+  pub rest : new ≡ record old { asides = new.asides }
+
+-- the clause of this number has a pair, neither of which is false
+pub record IsOpenAt (t : TrailState) (w : Watches) (number : ℕ) : Type 0 where
+  pub pair : Pair
+  pub at : IsPairOf w.pairs.items number pair
+  pub not_false : (l : Lit) → IsOf pair l → has (literals_of t.entries) (negation l) ≡ false
+
+-- the clause of this number watches these two literals, and no others
+pub record IsWatchedBy (w : Watches) (number : ℕ) (first second : Lit) : Type 0 where
+  pub pair : Pair
+  pub at : IsPairOf w.pairs.items number pair
+  pub only : (l : Lit) → IsOf pair l → (l ≡ first) ⊎ (l ≡ second)
 
 -- ---- what holds within the visit of an entry
 
@@ -214,8 +273,3 @@ pub record IsFree (trues literals : List Lit) (except : Lit) (position : ℕ) : 
 abbrev pub AreFalseBetween : List Lit → List Lit → Lit → ℕ → ℕ → Type 0
 AreFalseBetween trues literals except start end =
     (k : ℕ) (l : Lit) → start ≤ k → k < end → slice_get literals k ≡ Some l → (l ≡ except → ⊥) → has trues (negation l) ≡ true
-
--- what a look at a clause came to: it is false, or looked at
-abbrev pub LooksAt : Watches → TrailState → Watches → Bool → Type 0
-LooksAt old t w true = w.looked ≡ old.looked + 1
-LooksAt old t w false = IsFalseAt t w.looked

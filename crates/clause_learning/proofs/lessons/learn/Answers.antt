@@ -1,9 +1,9 @@
-use Rattle.std.proofs.Common.{◌≡◌, ◌++◌, ◌∷◌, [], ℕ, List, length, cond, All, ◌<◌, ap, sym, subst, ◌∙◌}
+use Rattle.std.proofs.Common.{◌≡◌, ◌++◌, ◌∷◌, [], ℕ, List, length, All, ◌<◌, ap, sym, subst, ◌∙◌}
 use Rattle.clause_core.specs.Literals.{Lit}
 use Rattle.clause_core.specs.Clauses.{IsOver, has_pair}
 use Rattle.sat_trail.specs.States.{TrailState, with_clause, undone}
 use Rattle.clause_learning.specs.Hints.{AreHints}
-use Rattle.clause_learning.specs.Lessons.{learnt_step}
+use Rattle.clause_learning.specs.Lessons.{learnt_step, level_after}
 use Rattle.clause_learning.specs.Shelves.{log_hints}
 use Rattle.clause_learning.specs.ConflictWalks.{AreNoMarks}
 use Rattle.clause_learning.specs.Decisions.{AreDecisions}
@@ -34,8 +34,9 @@ returns-clause-learnt c =
     let lesson = c.in_ok-lesson.lesson in
     let copy : c.in_ok-clause_of.field-0 ≡ lesson.clause = copied c.in_ok-clause_of.field-0 lesson.clause c.literals.result.now
     c.in_ok-clause_of.ensures c.literals.ensures.value c.literals.ensures.increasing in
-    let target : ℕ = cond c.args.anew 0 lesson.back in
-    let back : c.undo_to.new.self ≡ undone t target = c.undo_to.ensures.value ∙ ap (undone t) c.level_after-level.ensures in
+    let target : ℕ = level_after c.args.anew c.args.steps lesson.back t.level in
+    let back : c.undo_to.new.self ≡ undone t target = c.undo_to.ensures.value ∙ ap (undone t) (c.level_after-level.ensures
+    ∙ ap (level_after c.args.anew c.args.steps lesson.back) c.level.ensures.value) in
     let hints : c.as_slice-2.result.now ≡ lesson.hints.items = c.as_slice-2.ensures.value in
     record {
       clause = lesson.clause;

@@ -28,7 +28,7 @@ conflicted c =
 
 -- and where a clause was learnt from it
 taught : (c : After-learn) →
-    HasLearnt c.is_due-anew.result c.propagate.new.trail c.propagate.new.journal c.learn.new.trail c.learn.new.journal →
+    HasLearnt c.is_due-anew.result c.args.shortens c.propagate.new.trail c.propagate.new.journal c.learn.new.trail c.learn.new.journal →
     IsSound c.learn.new.trail → IsSearch c.args.shortens c.args.cnf.now.variables c.args.cnf.now.clauses c.learn.new.trail
     c.learn.new.journal.steps.items c.learn.new.journal.shelf.numbers.items
 taught c learnt sound =
@@ -257,8 +257,9 @@ is_due-anew-requires c =
     let p = conflicted (goal.at.is_due-anew-requires c).After-level in
     omega (arith, p.within, p.room, c.len-in-loop-units.ensures)
 
-pub learn-requires-clause-quiet : goal.learn-requires-clause-quiet
-learn-requires-clause-quiet c = (conflicted (goal.at.learn-requires-clause-quiet c).After-level).logged.search.quiet
+pub learn-requires-clause-met : goal.learn-requires-clause-met
+learn-requires-clause-met c = λ level below.
+    ((conflicted (goal.at.learn-requires-clause-met c).After-level).logged.search.calm level below).none_false
 
 pub learn-requires-clause-few : goal.learn-requires-clause-few
 learn-requires-clause-few c =

@@ -11,7 +11,7 @@ pub returns : goal.returns
 returns c =
     let t = c.args.trail.now in
     let f = c.requires.conflict in
-    walk_begins t c.requires.sound c.args.conflict f c.requires.quiet
+    walk_begins t c.requires.sound c.args.conflict f c.requires.met
     (record {
       marks = c.mark_clause.new.self;
       kept = c.clear.new.self;

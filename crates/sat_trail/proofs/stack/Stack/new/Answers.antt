@@ -1,4 +1,4 @@
-use Rattle.std.proofs.Common.{◌≡◌, ◌+◌, ◌*◌, ◌++◌, ◌∙◌, false, None, List, length-append, replicate, sym, subst, ap, rules, arith}
+use Rattle.std.proofs.Common.{◌≡◌, ◌*◌, ◌++◌, ◌∙◌, false, None, List, length-append, replicate, sym, subst, ap, rules, arith}
 use Rattle.std.proofs.lemmas.List.Elements.{All-append}
 use Rattle.sat_trail.specs.internal.Tables.{IsPlaceTable, AreTruths}
 use Rattle.clause_core.specs.Literals.{Lit}

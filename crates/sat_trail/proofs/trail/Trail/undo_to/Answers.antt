@@ -3,6 +3,9 @@ use Rattle.sat_trail.specs.States.{TrailState}
 use Rattle.sat_trail.proofs.Stays.{watched_undone}
 use Rattle.sat_trail.proofs.trail.Trail.undo_to.Goals as goal
 
+pub undo-requires : goal.undo-requires
+undo-requires c = (c.self.invariant.1 (subst (λ (s : TrailState). s.broken ≡ false) (sym c.self.view_is) c.requires)).asides.few
+
 pub invariant_of-self : goal.invariant_of-self
 invariant_of-self c =
     let t = c.self.inside.stack in
@@ -11,6 +14,6 @@ invariant_of-self c =
       λ usable. watched_undone t c.undo_to.new.self w c.undo.new.self c.args.level
           (c.self.invariant.1 (subst (λ (s : TrailState). s.broken ≡ false)
           (sym c.self.view_is) c.requires)) c.undo_to.ensures.value c.undo_to.ensures.in_place
-          (c.undo.ensures.head ∙ ap (λ (n : ℕ). min (min w.head w.low) n) c.set_count.ensures.value) c.undo.ensures.looked
-          (ap (λ (x : _). x.items) c.undo.ensures.lists) (ap (λ (x : _). x.items) c.undo.ensures.pairs),
+          (c.undo.ensures.head ∙ ap (λ (n : ℕ). min (min w.head w.low) n) c.set_count.ensures.value) c.undo.ensures.held
+          c.undo.ensures.low c.undo.ensures.rest,
     )

@@ -25,8 +25,8 @@ changed c =
     record {
       lists = w.lists;
       pairs = with_item w.pairs c.get-watch.result.clause (Some c.in-Some-next_pair.next);
-      looked = w.looked;
-      short = w.short;
+      asides = w.asides;
+      held = w.held;
       head = w.head;
       low = w.low;
     }

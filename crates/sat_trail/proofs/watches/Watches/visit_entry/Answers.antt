@@ -7,7 +7,7 @@ use Rattle.clause_core.proofs.Sets.{code_within}
 use Rattle.sat_trail.specs.declared.entries.Entry.{Entry}
 use Rattle.sat_trail.specs.States.{TrailState, IsFalseAt}
 use Rattle.sat_trail.specs.declared.watches.Watches.{Watches}
-use Rattle.sat_trail.specs.internal.Watching.{AreWatched, AreDue}
+use Rattle.sat_trail.specs.internal.Watching.{AreWatched, AreDue, left_of}
 use Rattle.sat_trail.proofs.Soundness.{length_entries}
 use Rattle.sat_trail.proofs.TrailSteps.{propagates_none, propagates_after}
 use Rattle.sat_trail.proofs.Stays.{watched_low, lowered_le}
@@ -65,7 +65,7 @@ loop-index-init c =
       list = record { list = c.index.result.now; listed = listed; long = omega (arith, c.len-index.ensures) };
       due = subst (λ (n : ℕ). AreDue t v f n) (sym c.len-index.ensures) (due_all t v f c.index.result.now watched listed);
       head = ap (λ (x : Watches). x.head) c.note_place.ensures.rest;
-      looked = ap (λ (x : Watches). x.looked) c.note_place.ensures.rest;
+      left = λ count. ap (left_of count) c.note_place.ensures.rest;
     }
 
 pub returns-then-is_some-clause-ok : goal.returns-then-is_some-clause-ok
@@ -83,7 +83,7 @@ loop-index-preserved c = record {
   due = match_none (AreDue c.visit.new.stack c.visit.new.self c.negated-falsified.result (c.loop-index.index - 1))
       (IsFalseAt c.visit.new.stack) c.in_ok-conflict.conflict (sym c.is_some.ensures ∙ c.if-is_some.false) c.in_ok-conflict.ensures.ends;
   head = c.visit.ensures.head ∙ c.loop-index.invariant.head;
-  looked = c.visit.ensures.looked ∙ c.loop-index.invariant.looked;
+  left = λ count. c.visit.ensures.left count ∙ c.loop-index.invariant.left count;
 }
 
 pub overflow_add-self : goal.overflow_add-self
@@ -105,8 +105,8 @@ returns-clause-watched c =
     watched_visited c.loop-index.stack w (record {
       lists = w.lists;
       pairs = w.pairs;
-      looked = w.looked;
-      short = w.short;
+      asides = w.asides;
+      held = w.held;
       head = w.head + 1;
       low = w.low;
     }) c.negated-falsified.result kept.sound kept.watched kept.visit

@@ -1,7 +1,7 @@
-use Rattle.std.proofs.Common.{◌≡◌, false}
+use Rattle.std.proofs.Common.{◌≡◌, ℕ, false}
 use Rattle.clause_core.specs.Literals.{code_of}
 use Rattle.sat_trail.specs.States.{IsSound, Propagates}
-use Rattle.sat_trail.specs.internal.Watching.{HasList, AreWatched, IsVisit, AreDue}
+use Rattle.sat_trail.specs.internal.Watching.{HasList, AreWatched, IsVisit, AreDue, left_of}
 use Rattle.sat_trail.proofs.watches.Watches.visit_entry.Given as goal
 
 abbrev pub invariant-loop-index : goal.invariant-loop-index
@@ -14,7 +14,7 @@ invariant-loop-index l = record {
   list : HasList l.self.lists.items (code_of l.falsified) l.index;
   due : AreDue l.stack l.self l.falsified l.index;
   head : l.self.head ≡ l.fn.self.head;
-  looked : l.self.looked ≡ l.fn.self.looked;
+  left : (count : ℕ) → left_of count l.self ≡ left_of count l.fn.self;
 }
 
 abbrev pub decreases-loop-index : goal.decreases-loop-index
