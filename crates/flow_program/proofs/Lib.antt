@@ -13,6 +13,7 @@ pub mod ResolvedNodes
 pub mod UsesStand
 pub mod ResolvedProgram
 pub mod RuleLemmas
+pub mod EqualityKeys
 pub mod Lengths
 pub mod Composed
 pub mod KeptProgram

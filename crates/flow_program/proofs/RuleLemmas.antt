@@ -1,15 +1,14 @@
 -- Lists of updates, step by step, and the names of signals that are declared.
-use Rattle.std.proofs.Common.{◌≡◌, ℕ, zero, suc, ◌+◌, ◌-◌, ◌<◌, ◌≤◌, Bool, true, false, ◌&&◌, List, [], ◌∷◌, ◌++◌, length, map, get_or, drop}
+use Rattle.std.proofs.Common.{◌≡◌, ℕ, zero, suc, ◌+◌, ◌<◌, ◌≤◌, Bool, true, false, ◌&&◌, List, [], ◌∷◌, ◌++◌, length, map, get_or, drop}
 use Rattle.std.proofs.Common.{take, refl, ap, sym, subst, ◌∙◌}
 use Rattle.std.proofs.Common.{arith}
 use Rattle.std.specs.Prelude.{Some, None, slice_get, IsSomeAnd, bytes_eq, option_map}
 use Rattle.std.specs.List.{list_all}
-use Rattle.std.proofs.lemmas.List.{drop_more, drop_all, take_all, take-append-drop, length-drop, map-append}
+use Rattle.std.proofs.lemmas.List.{drop_more, drop_all, map-append}
 use Rattle.std.proofs.lemmas.Option.{slice_get-get_or, slice_get-map}
 use Rattle.sequence.proofs.Lists.{left_at}
-use Rattle.sequence.proofs.Passes.{list_all_parts}
 use Rattle.sequence.proofs.Places.{slice_get_grown}
-use Rattle.std.specs.List.{take-map, drop-map}
+use Rattle.std.specs.List.{take-map}
 use Rattle.tsl_terms.specs.Name.{number_of, texts, AreDistinct, Name as NameEntry}
 use Rattle.tsl_terms.proofs.NameLemmas.{absent_before}
 use Rattle.program_listing.specs.declared.listing.Name.{Name}
@@ -116,16 +115,6 @@ module _ (text : List ℕ) (cells : List (List ℕ)) (us : List SpelledListed) (
         (all_within (drop (i + 1) us) && all_rise (drop (i + 1) us)) ≡ whole
     goes_on here step rise inside h =
         sym (λ k. (inside k && all_within (drop (i + 1) us)) && (step ∙ ap (λ b. b && all_rise (drop (i + 1) us)) rise) k) ∙ opened h
-
--- ---- equalities of a window
-
--- what all pass those pass that stand from a place on
-pub later_pass : {X Y : Type 0} (f : X → Y) (p : Y → Bool) (xs : List X) (n : ℕ) → list_all p (map f xs) ≡ true →
-    list_all p (map f (take (length xs - n) (drop n xs))) ≡ true
-later_pass f p xs n all =
-    let rest : take (length xs - n) (drop n xs) ≡ drop n xs = take_all (length xs - n) (drop n xs) (omega (arith, length-drop n xs)) in
-    ap (λ ys. list_all p (map f ys)) rest ∙ ap (list_all p) (sym (drop-map f n xs))
-    ∙ (list_all_parts p (take n (map f xs)) (drop n (map f xs)) (ap (list_all p) (take-append-drop n (map f xs)) ∙ all)).1
 
 -- ---- names that are declared
 

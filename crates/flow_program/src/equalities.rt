@@ -1,65 +1,70 @@
 //! The equalities that windows list, as they are spelled.
 
-ghost use Rattle.std.specs.Prelude.{◌≡◌, ◌==◌, ◌&&◌, map, IsTrue};
+ghost use Rattle.std.specs.Prelude.{◌≡◌, ◌==◌, ◌&&◌, ◌++◌, map, IsTrue, IfOk, OnOk};
 ghost use Rattle.std.specs.List.{list_all};
-ghost use Rattle.std.specs.Str.{bytes_eq};
-ghost use Rattle.program_listing.specs.Listing.{name_bytes, count_of_phrases};
+ghost use Rattle.program_listing.specs.Listing.{count_of_phrases};
 ghost use Rattle.program_listing.specs.Listing.{phrase_tree, phrase_trees, placed_line, window_line};
 ghost use Rattle.program_listing.specs.internal.NamesStand.{name_stands, phrase_stands, phrases_stand, placed_line_stands};
 ghost use Rattle.program_listing.specs.internal.NamesStand.{window_line_stands};
-ghost use Rattle.flow_program.specs.Rules.{same_phrase, same_phrases, is_equality_test, is_equality_within, may_follow, are_in_order};
+ghost use Rattle.flow_program.specs.Rules.{is_equality_test, is_equality_within, are_in_order};
 ghost use Rattle.flow_program.specs.Rules.{right_fits};
+ghost use Rattle.flow_program.specs.internal.EqualityKeys.{name_key, phrase_key, phrases_key, placed_key};
+ghost use Rattle.flow_program.specs.internal.EqualityKeys.{is_pairwise, does_not_fall, are_apart};
 
 use crate::uses::name_bytes;
 use program_listing::{Name, Phrase, PhraseList, SpelledPlaced, SpelledWindow};
+use sequence::NoMemory;
+use std::alloc::Global;
+use std::collections::BTreeSet;
 
-/// Whether two names are spelled alike.
-fn same_name(text: &[u8], name: Name, other: Name) -> bool
-    requires name { IsTrue (name_stands text.now name) }
-    requires other { IsTrue (name_stands text.now other) }
-    ensures { result ≡ bytes_eq (name_bytes text.now name) (name_bytes text.now other) }
+/// Puts a name at the end of a key: its length, and its bytes.
+fn put_name(key: &mut Vec<u64>, text: &[u8], name: Name) -> Result<(), NoMemory>
+    requires { IsTrue (name_stands text.now name) }
+    ensures { OnOk result (key.new.items ≡ key.old.items ++ name_key text.now name) }
 {
-    name_bytes(text, name) == name_bytes(text, other)
+    let bytes = name_bytes(text, name);
+    key.push(bytes.len() as u64)?;
+    for byte in bytes {
+        key.push(u64::from(*byte))?;
+    }
+    Ok(())
 }
 
-/// Whether two terms or tests are spelled alike.
-#[cycle(same_phrases)]
-fn same_phrase(text: &[u8], phrase: &Phrase, other: &Phrase) -> bool
-    requires phrase { IsTrue (phrase_stands text.now (phrase_tree phrase.now)) }
-    requires other { IsTrue (phrase_stands text.now (phrase_tree other.now)) }
-    ensures { result ≡ same_phrase text.now (phrase_tree phrase.now) (phrase_tree other.now) }
+/// Puts a term or a test at the end of a key, where it is told from each that is spelled otherwise.
+#[cycle(put_phrases)]
+fn put_phrase(key: &mut Vec<u64>, text: &[u8], phrase: &Phrase) -> Result<(), NoMemory>
+    requires { IsTrue (phrase_stands text.now (phrase_tree phrase.now)) }
+    ensures { OnOk result
+        (key.new.items ≡ key.old.items ++ phrase_key text.now (phrase_tree phrase.now)) }
 {
-    match (phrase, other) {
-        (Phrase::Bare(name), Phrase::Bare(second)) => same_name(text, *name, *second),
-        (Phrase::Applied(name, arguments), Phrase::Applied(second, others)) => {
-            same_name(text, *name, *second) && same_phrases(text, arguments, others)
+    match phrase {
+        Phrase::Bare(name) => {
+            key.push(0)?;
+            put_name(key, text, *name)
         }
-        _ => false,
+        Phrase::Applied(name, arguments) => {
+            key.push(1)?;
+            put_name(key, text, *name)?;
+            put_phrases(key, text, arguments)
+        }
     }
 }
 
-/// Whether the members of two lists are spelled alike.
-#[cycle(same_phrases)]
-fn same_phrases(text: &[u8], phrases: &PhraseList, others: &PhraseList) -> bool
-    requires phrases { IsTrue (phrases_stand text.now (phrase_trees phrases.now)) }
-    requires others { IsTrue (phrases_stand text.now (phrase_trees others.now)) }
-    ensures { result ≡ same_phrases text.now (phrase_trees phrases.now) (phrase_trees others.now) }
+/// Puts the members of a list at the end of a key: a 1 before each, and a 0 after the last.
+#[cycle(put_phrases)]
+fn put_phrases(key: &mut Vec<u64>, text: &[u8], phrases: &PhraseList) -> Result<(), NoMemory>
+    requires { IsTrue (phrases_stand text.now (phrase_trees phrases.now)) }
+    ensures { OnOk result
+        (key.new.items ≡ key.old.items ++ phrases_key text.now (phrase_trees phrases.now)) }
 {
     let mut left = phrases;
-    let mut right = others;
-    loop {
-        match (left, right) {
-            (PhraseList::Empty, PhraseList::Empty) => return true,
-            (PhraseList::More(phrase, rest), PhraseList::More(other, later)) => {
-                if !same_phrase(text, phrase, other) {
-                    return false;
-                }
-                left = rest;
-                right = later;
-            }
-            _ => return false,
-        }
+    while let PhraseList::More(phrase, rest) = left {
+        key.push(1)?;
+        put_phrase(key, text, phrase)?;
+        left = rest;
     }
+    key.push(0)?;
+    Ok(())
 }
 
 /// Whether there are two phrases.
@@ -108,47 +113,83 @@ fn is_equality_within(text: &[u8], length: u64, equality: &SpelledPlaced) -> boo
     equality.step <= length && is_equality_test(text, &equality.test)
 }
 
-/// Whether an equality may stand behind another one: its step is larger, or the same one and it is
-/// spelled otherwise.
-fn may_follow(text: &[u8], equality: &SpelledPlaced, next: &SpelledPlaced) -> bool
-    requires equality { IsTrue (placed_line_stands text.now (placed_line equality.now)) }
-    requires next { IsTrue (placed_line_stands text.now (placed_line next.now)) }
-    ensures { result ≡ may_follow text.now (placed_line equality.now) (placed_line next.now) }
-{
-    equality.step < next.step
-        || (equality.step == next.step && !same_phrase(text, &equality.test, &next.test))
-}
-
-/// Whether all later equalities may stand behind one.
-fn may_all_follow(text: &[u8], equality: &SpelledPlaced, later: &[SpelledPlaced]) -> bool
-    requires equality { IsTrue (placed_line_stands text.now (placed_line equality.now)) }
-    requires later { IsTrue (list_all (placed_line_stands text.now) (map placed_line later.now)) }
-    ensures { result
-        ≡ list_all (may_follow text.now (placed_line equality.now)) (map placed_line later.now) }
-{
-    for next in later {
-        if !may_follow(text, equality, next) {
-            return false;
-        }
-    }
-    true
-}
-
-/// Whether tests are equalities at steps up to the length, which do not fall, and none stands twice
-/// at one step.
-pub(crate) fn are_equalities(text: &[u8], length: u64, equalities: &[SpelledPlaced]) -> bool
+/// Whether all tests are equalities at steps up to the length.
+fn are_within(text: &[u8], length: u64, equalities: &[SpelledPlaced]) -> bool
     requires { IsTrue (list_all (placed_line_stands text.now) (map placed_line equalities.now)) }
     ensures { result
-        ≡ (list_all (is_equality_within text.now length) (map placed_line equalities.now)
-        && are_in_order text.now (map placed_line equalities.now)) }
+        ≡ list_all (is_equality_within text.now length) (map placed_line equalities.now) }
 {
-    for (place, equality) in equalities.iter().enumerate() {
+    for equality in equalities {
         if !is_equality_within(text, length, equality) {
             return false;
         }
-        if !may_all_follow(text, equality, &equalities[place + 1..]) {
-            return false;
-        }
     }
     true
+}
+
+/// Whether the steps of equalities do not fall.
+fn steps_do_not_fall(equalities: &[SpelledPlaced]) -> bool
+    ensures { result ≡ is_pairwise does_not_fall (map placed_line equalities.now) }
+{
+    let mut latest = 0;
+    for equality in equalities {
+        if equality.step < latest {
+            return false;
+        }
+        latest = equality.step;
+    }
+    true
+}
+
+/// The step and the spelling of an equality, as one key.
+fn key_of(alloc: Global, text: &[u8], equality: &SpelledPlaced) -> Result<Vec<u64>, NoMemory>
+    requires { IsTrue (placed_line_stands text.now (placed_line equality.now)) }
+    ensures { IfOk result (λ key. key.items ≡ placed_key text.now (placed_line equality.now)) }
+{
+    let mut key = Vec::new(alloc);
+    key.push(equality.step)?;
+    put_phrase(&mut key, text, &equality.test)?;
+    Ok(key)
+}
+
+/// Whether no equality stands twice at one step. An `Err` says that memory ran out.
+fn none_stands_twice(
+    alloc: Global,
+    text: &[u8],
+    equalities: &[SpelledPlaced],
+) -> Result<bool, NoMemory>
+    requires { IsTrue (list_all (placed_line_stands text.now) (map placed_line equalities.now)) }
+    ensures { IfOk result
+        (λ once. once ≡ is_pairwise (are_apart text.now) (map placed_line equalities.now)) }
+{
+    let mut seen = BTreeSet::new(alloc);
+    for equality in equalities {
+        let key = key_of(alloc, text, equality)?;
+        if !seen.insert(key)? {
+            return Ok(false);
+        }
+    }
+    Ok(true)
+}
+
+/// Whether tests are equalities at steps up to the length, which do not fall, and none stands twice
+/// at one step. An `Err` says that memory ran out.
+pub(crate) fn are_equalities(
+    alloc: Global,
+    text: &[u8],
+    length: u64,
+    equalities: &[SpelledPlaced],
+) -> Result<bool, NoMemory>
+    requires { IsTrue (list_all (placed_line_stands text.now) (map placed_line equalities.now)) }
+    ensures { IfOk result (λ answer. answer
+        ≡ (list_all (is_equality_within text.now length) (map placed_line equalities.now)
+        && are_in_order text.now (map placed_line equalities.now))) }
+{
+    if !are_within(text, length, equalities) {
+        return Ok(false);
+    }
+    if !steps_do_not_fall(equalities) {
+        return Ok(false);
+    }
+    none_stands_twice(alloc, text, equalities)
 }

@@ -159,7 +159,7 @@ fn program_of(
 {
     are_distinct(&names);
     let declared = declared_signals(alloc, text, listing)?;
-    if let Some(fault) = line_fault(text, listing, &declared.cells, &declared.controlled) {
+    if let Some(fault) = line_fault(alloc, text, listing, &declared.cells, &declared.controlled)? {
         return Err(fault);
     }
     let uses = all_uses(alloc, text, listing)?;

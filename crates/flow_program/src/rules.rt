@@ -247,68 +247,83 @@ fn are_listed(text: &[u8], cells: &Names, length: u64, updates: &[SpelledListed]
 }
 
 /// Whether a window is too long, or its parts stand outside it or are not in order, or what has to
-/// be an equality is none.
-fn breaks_window(text: &[u8], cells: &Names, window: &SpelledWindow) -> bool
+/// be an equality is none. An `Err` says that memory ran out.
+fn breaks_window(
+    alloc: Global,
+    text: &[u8],
+    cells: &Names,
+    window: &SpelledWindow,
+) -> Result<bool, NoMemory>
     requires { IsTrue (window_line_stands text.now (window_line window.now)) }
-    ensures { (number : ℕ)
-        → result ≡ breaks_window text.now (texts cells.now) number (window_line window.now) }
+    ensures { IfOk result (λ breaks. (number : ℕ)
+        → breaks ≡ breaks_window text.now (texts cells.now) number (window_line window.now)) }
 {
     let length = window.right.step;
     let is_short = length <= u64::from(LONGEST_WINDOW) && window.left_step() <= length;
     let is_rising = is_short && are_listed(text, cells, length, &window.updates);
-    !(is_rising && (right_fits(text, window) && are_equalities(text, length, &window.equalities)))
+    if !(is_rising && right_fits(text, window)) {
+        return Ok(true);
+    }
+    Ok(!are_equalities(alloc, text, length, &window.equalities)?)
 }
 
 /// The first line of a window that is too long, or whose parts stand outside it or are not in order,
-/// or of which no equality is what has to be one.
-fn window_line(text: &[u8], cells: &Names, line: u32, windows: &[SpelledWindow]) -> Option<u32>
+/// or of which no equality is what has to be one. An `Err` says that memory ran out.
+fn window_line(
+    alloc: Global,
+    text: &[u8],
+    cells: &Names,
+    line: u32,
+    windows: &[SpelledWindow],
+) -> Result<Option<u32>, NoMemory>
     requires few { line + length windows.now < 2 ^ 32 }
     requires windows { IsTrue
         (list_all (window_line_stands text.now) (map window_line windows.now)) }
-    ensures { result
-        ≡ first_line (breaks_window text.now (texts cells.now)) line (map window_line windows.now) }
+    ensures { IfOk result (λ found. found
+        ≡ first_line (breaks_window text.now (texts cells.now)) line (map window_line windows.now)) }
 {
     for (number, window) in windows.iter().enumerate() {
-        if breaks_window(text, cells, window) {
-            return Some(line + number as u32);
+        if breaks_window(alloc, text, cells, window)? {
+            return Ok(Some(line + number as u32));
         }
     }
-    None
+    Ok(None)
 }
 
-/// The fault of a line, if any.
+/// The fault of a line, if any. An `Err` says that memory ran out.
 pub(crate) fn line_fault(
+    alloc: Global,
     text: &[u8],
     listing: &Listing,
     cells: &Names,
     controlled: &[Name],
-) -> Option<ProgramError>
+) -> Result<Option<ProgramError>, NoMemory>
     requires stands { ListingStands text.now (listing_tree listing.now) }
     requires lines { first_state (listing_tree listing.now)
         + length listing.now.states.items < 2 ^ 32 }
     requires cells { texts cells.now ≡ cell_texts text.now (listing_tree listing.now) }
     requires controlled { controlled.now ≡ listing.now.cells.items ++ listing.now.outputs.items }
-    ensures { result ≡ line_fault text.now (listing_tree listing.now) }
+    ensures { IfOk result (λ fault. fault ≡ line_fault text.now (listing_tree listing.now)) }
 {
     let line = first_node(listing);
     let nodes = listing.nodes.as_slice();
     let states = listing.states.as_slice();
     if let Some(line) = order_line(line, nodes) {
-        return Some(ProgramError::Order(line));
+        return Ok(Some(ProgramError::Order(line)));
     }
     if let Some(line) = go_line(states.len(), line, nodes) {
-        return Some(ProgramError::Target(line));
+        return Ok(Some(ProgramError::Target(line)));
     }
     if let Some(line) = start_line(nodes.len(), line + nodes.len() as u32, states) {
-        return Some(ProgramError::Target(line));
+        return Ok(Some(ProgramError::Target(line)));
     }
     if let Some(line) = updates_line(text, controlled, line, nodes) {
-        return Some(ProgramError::Updates(line));
+        return Ok(Some(ProgramError::Updates(line)));
     }
-    if let Some(line) = window_line(text, cells, first_window(listing), &listing.windows) {
-        return Some(ProgramError::Window(line));
+    if let Some(line) = window_line(alloc, text, cells, first_window(listing), &listing.windows)? {
+        return Ok(Some(ProgramError::Window(line)));
     }
-    None
+    Ok(None)
 }
 
 /// Whether a use reads a signal that is none of these.

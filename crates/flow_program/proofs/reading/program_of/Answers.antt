@@ -34,7 +34,8 @@ line_fault-requires-clause-lines c =
 
 pub returns-in-Some-clause-cause : goal.returns-in-Some-clause-cause
 returns-in-Some-clause-cause c =
-    at_a_line c.args.text.now c.args.names (listing_tree c.args.listing.now) c.requires.listing c.in-Some.fault (sym c.in-Some.ensures)
+    at_a_line c.args.text.now c.args.names (listing_tree c.args.listing.now) c.requires.listing c.in-Some.fault
+    (sym (rw c.in-Some.is at c.in_ok-fault.ensures))
 
 pub all_uses-requires-clause-lines : goal.all_uses-requires-clause-lines
 all_uses-requires-clause-lines c =
@@ -62,7 +63,7 @@ returns-in-Some-use_fault-clause-cause c =
     c.in_ok-declared.ensures.readable (map use_view c.deref-3.result.now) (ap (map use_view) c.deref-3.ensures.value ∙ c.in_ok-uses.ensures)
     c.in_ok-names.names
     (c.in_ok-names.ensures ∙ ap (λ us. names_after c.args.names (map use_view us)) (c.deref-2.ensures.value ∙ sym c.deref-3.ensures.value))
-    c.requires.listing c.in-Some-use_fault.fault (sym c.in_default.ensures) (sym c.in-Some-use_fault.ensures)
+    c.requires.listing c.in-Some-use_fault.fault (sym (rw c.in_default.is at c.in_ok-fault.ensures)) (sym c.in-Some-use_fault.ensures)
 
 pub returns-in-Some-limit_fault-clause-cause : goal.returns-in-Some-limit_fault-clause-cause
 returns-in-Some-limit_fault-clause-cause c =
@@ -70,7 +71,7 @@ returns-in-Some-limit_fault-clause-cause c =
     c.in_ok-declared.ensures.readable (map use_view c.deref-3.result.now) (ap (map use_view) c.deref-3.ensures.value ∙ c.in_ok-uses.ensures)
     c.in_ok-names.names
     (c.in_ok-names.ensures ∙ ap (λ us. names_after c.args.names (map use_view us)) (c.deref-2.ensures.value ∙ sym c.deref-3.ensures.value))
-    c.requires.listing c.in-Some-limit_fault.fault (sym c.in_default.ensures) (sym c.in_default-use_fault.ensures)
+    c.requires.listing c.in-Some-limit_fault.fault (sym (rw c.in_default.is at c.in_ok-fault.ensures)) (sym c.in_default-use_fault.ensures)
     (sym c.in-Some-limit_fault.ensures)
 
 pub numbered_program-requires-clause-program : goal.numbered_program-requires-clause-program
@@ -79,8 +80,8 @@ numbered_program-requires-clause-program c =
     c.in_ok-declared.ensures.readable (map use_view c.deref-3.result.now) (ap (map use_view) c.deref-3.ensures.value ∙ c.in_ok-uses.ensures)
     c.in_ok-names.names
     (c.in_ok-names.ensures ∙ ap (λ us. names_after c.args.names (map use_view us)) (c.deref-2.ensures.value ∙ sym c.deref-3.ensures.value))
-    c.are_distinct.ensures c.requires.names c.requires.listing (sym c.in_default.ensures) (sym c.in_default-use_fault.ensures)
-    (sym c.in_default-limit_fault.ensures)
+    c.are_distinct.ensures c.requires.names c.requires.listing (sym (rw c.in_default.is at c.in_ok-fault.ensures))
+    (sym c.in_default-use_fault.ensures) (sym c.in_default-limit_fault.ensures)
 
 pub returns-in_err-program-clause-cause : goal.returns-in_err-program-clause-cause
 returns-in_err-program-clause-cause c =

@@ -14,15 +14,15 @@ breaks_window-requires c =
     (map_passes_within window_line (window_line_stands c.args.text.now) c.args.windows.now c.loop-number.number
     c.index-windows-number.result c.requires.windows c.loop-number-test.true)
 
-pub returns-then-breaks_window : goal.returns-then-breaks_window
-returns-then-breaks_window c =
+pub returns-then-branch : goal.returns-then-branch
+returns-then-branch c =
     ap (option_map (λ place. c.args.line + place))
     (place_here (breaks_window c.args.text.now (texts c.args.cells.now)) window_line c.args.windows.now
     c.loop-number.number c.index-windows-number.result _ c.loop-number-test.true c.index-windows-number.is
-    (sym (c.breaks_window.ensures c.loop-number.number) ∙ c.if-breaks_window.true) c.loop-number.invariant)
+    (sym (c.in_ok-breaks_window.ensures c.loop-number.number) ∙ c.if-branch.true) c.loop-number.invariant)
 
 pub loop-number-preserved : goal.loop-number-preserved
 loop-number-preserved c =
     place_later (breaks_window c.args.text.now (texts c.args.cells.now)) window_line c.args.windows.now
     c.loop-number.number c.index-windows-number.result _ c.loop-number-test.true c.index-windows-number.is
-    (sym (c.breaks_window.ensures c.loop-number.number) ∙ c.if-breaks_window.false) c.loop-number.invariant
+    (sym (c.in_ok-breaks_window.ensures c.loop-number.number) ∙ c.if-branch.false) c.loop-number.invariant
