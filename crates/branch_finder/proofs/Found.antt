@@ -1,216 +1,107 @@
--- What is seen on a path is a congruent spurious window, and where nothing is seen on it there is none.
-use Rattle.std.proofs.Common.{◌≡◌, ◌∙◌, ℕ, suc, ◌+◌, ◌^◌, ◌<◌, ◌≤◌, nat_le, nat_lt, true, ◌&&◌, List, [], map, take, drop, Some, None, slice_get}
-use Rattle.std.proofs.Common.{refl, sym, ap, subst, arith}
+-- What is thinned out is found, and where there is none along each path there is none.
+use Rattle.std.proofs.Common.{◌≡◌, ◌∙◌, ℕ, suc, ◌^◌, ◌<◌, ◌≤◌, nat_le, nat_lt, Bool, true, false, ◌&&◌, ◌==◌, List, map}
+use Rattle.std.proofs.Common.{Option, Some, None, refl, sym, ap, subst, arith, eq-eqb}
 use Rattle.std.proofs.Common.{length as count_of}
 use Rattle.std.specs.List.{AllByRecursion, list_all}
 use Rattle.std.proofs.lemmas.Bool.{and_from, lt-ltb, le-leb}
 use Rattle.std.proofs.lemmas.List.{length-map}
 use Rattle.std.proofs.lemmas.Option.{slice_get_within, slice_get-get_or}
 use Rattle.sequence.specs.Numbers.{is_among}
-use Rattle.sequence.proofs.Each.{each_at, each_map, each_weaker, each_both}
+use Rattle.sequence.proofs.Each.{each_at, each_map, each_weaker, each_joined}
 use Rattle.sequence.proofs.Passes.{list_all_from_each}
-use Rattle.sequence.proofs.Places.{slice_get_some, slice_get_one, slice_get_mapped}
-use Rattle.tsl_terms.specs.TermTree.{ProbeTree}
-use Rattle.tsl_terms.specs.WindowTree.{ListedTree, WindowTree}
-use Rattle.tsl_terms.specs.Congruence.{IsCongruent}
-use Rattle.tsl_terms.proofs.PlainWindows.{congruent_is_plain}
-use Rattle.program_tree.specs.Fits.{longest, rises, left_is_shaped, equalities_are_shaped, window_is_shaped}
-use Rattle.ltl_formula.specs.Cubes.{has_bit}
+use Rattle.sequence.proofs.Places.{slice_get_one, slice_get_mapped}
+use Rattle.tsl_terms.specs.TermTree.{ProbeTree, count_of_terms}
+use Rattle.tsl_terms.specs.WindowTree.{EquatedTree, WindowTree, right_alone, equality_probes}
+use Rattle.tsl_terms.specs.Congruence.{IsEquality, SidesAreOne}
+use Rattle.program_tree.specs.Fits.{longest, rises, are_in_order, left_is_shaped, equalities_are_shaped, window_is_shaped}
 use Rattle.letter_space.specs.SpaceTree.{SpaceTree, IsSpace}
 use Rattle.letter_space.specs.Vectors.{vector_count}
-use Rattle.letter_space.proofs.Places.{slice_get_image}
 use Rattle.machines.specs.MachineTree.{EnvironmentTree}
-use Rattle.machines.specs.Visits.{IsVisited}
-use Rattle.branch_finder.specs.Spurious.{IsOneOf, IsSpurious}
+use Rattle.branch_finder.specs.Spurious.{IsTruthAt, SidesDiffer}
 use Rattle.branch_finder.specs.Finding.{IsWindowWithin, HasNoSpuriousWindow, IsFoundWindow}
-use Rattle.branch_finder.specs.internal.Sets.{set_of, first_of, numbered_set, HasAll, AreFirsts, LeadsTo}
-use Rattle.branch_finder.specs.internal.Paths.{PairTree, path_of, vector_at, updates_along, IsSeen}
-use Rattle.branch_finder.specs.internal.Thinning.{IsOwn, IsOnPath, AreNeededFrom}
+use Rattle.branch_finder.specs.internal.Sets.{set_of, first_of, numbered_set, HasAll, AreFirsts}
+use Rattle.branch_finder.specs.internal.Paths.{path_of}
+use Rattle.branch_finder.specs.internal.Thinning.{IsCandidate, AreNeededFrom, AreEqualitiesNeededFrom}
 use Rattle.branch_finder.specs.internal.Finding.{IsFoundOf, HasNoneOn, HasNoneOf}
-use Rattle.branch_finder.proofs.PathUpdates.{own_updates, along_there, vector_is}
-use Rattle.branch_finder.proofs.PathCongruence.{StandIn, congruent_on_path}
 use Rattle.branch_finder.proofs.UpdateOrder.{rises_one_by_one}
 use Rattle.branch_finder.proofs.Paths.{path_length, number_of_path}
-use Rattle.branch_finder.proofs.SetLemmas.{own_set, taken_too, taken_before}
-use Rattle.branch_finder.proofs.ToldApart.{Run, RunBy, run_by, leads_by, is_not, differ_by}
+use Rattle.branch_finder.proofs.SetLemmas.{own_set}
 use Rattle.branch_finder.proofs.VisitLemmas.{vector_within}
 
--- a window with a left probe and without equalities is shaped as to these
-plain_shaped : (w : WindowTree) (left : ProbeTree) → w.left ≡ Some left → w.equalities ≡ [] →
-    (left_is_shaped w.left w.left_at && equalities_are_shaped w) ≡ true
-plain_shaped w left has none =
-    λ i. left_is_shaped (has i) w.left_at && equalities_are_shaped (record w { left = has i; equalities = none i })
+-- ---- what is thinned out
 
-module _ (space : SpaceTree) (e : EnvironmentTree) (cells path : List ℕ) (is_space : IsSpace space)
-    (vectors_counted : e.vectors ≡ vector_count space.controlled) (path_within : AllByRecursion (λ v. v < e.vectors) path) where
-  sets_counted : count_of (map (set_of space cells) path) ≡ count_of path
-  sets_counted = length-map path (set_of space cells)
-
-  module _ (pair : PairTree) (w : WindowTree) (seen : IsSeen space e cells path pair) (on : IsOnPath space cells path pair w) where
-    walk : RunBy space e (map (set_of space cells) path) pair.left_at seen.told.start seen.told.middle seen.told.last
-    walk =
-        run_by space e pair.left_at (map (set_of space cells) path) seen.told.start seen.told.middle seen.told.last
-        (omega (arith, seen.within, sets_counted)) seen.told.before seen.told.after
-
-    one_of_run : (run : Run space e (map (set_of space cells) path) seen.told.start seen.told.last) (u : ListedTree) →
-        IsOwn space cells (vector_at path) 0 (count_of path) u → IsOneOf space (run.vector u.offset) u
-    one_of_run run u own =
-        let v = slice_get_some path u.offset own.before in
-        let same = vector_is path u.offset v.0 v.1 in
-        let within = each_at (λ n. n < e.vectors) path u.offset v.0 path_within v.1 in
-        let inside : u.offset < count_of (map (set_of space cells) path) = omega (arith, own.before, sets_counted) in
-        let step = vector_within e (run.state u.offset) (run.vector u.offset) (run.state (suc u.offset)) (run.steps u.offset inside) in
-        taken_too space is_space cells v.0 (run.vector u.offset) u.signal (omega (arith, within, vectors_counted))
-        (omega (arith, step, vectors_counted)) own.among
-        (run.has u.offset (set_of space cells v.0) (slice_get_image (set_of space cells) path u.offset v.0 v.1)) u.term
-        (subst (λ n. IsOneOf space n u) same own.one)
-
-    seen_by : RunBy space e (map (set_of space cells) path) pair.left_at seen.told.start seen.told.middle seen.told.last → IsSpurious space e w
-    seen_by walk =
-        let told = seen.told in
-        let run = walk.run in
-        record {
-          state = run.state;
-          vector = run.vector;
-          visited = subst (IsVisited e) (sym run.first) told.visited;
-          steps = λ t below. run.steps t (omega (arith, below, on.length, sets_counted));
-          listed = each_weaker (IsOwn space cells (vector_at path) 0 (count_of path)) (λ u. IsOneOf space (run.vector u.offset) u)
-              (one_of_run run) w.updates on.own;
-          left_bit = pair.left;
-          left = on.left;
-          has_left = on.has_left;
-          is_left = on.is_left;
-          right_bit = pair.right;
-          is_right = on.is_right;
-          left_truths = told.left.truths;
-          are_left = ap (slice_get e.truths) (ap run.state on.left_at ∙ walk.by) ∙ told.left.at;
-          right_truths = told.right.truths;
-          are_right = ap (slice_get e.truths) (ap run.state (on.length ∙ sym sets_counted) ∙ run.last) ∙ told.right.at;
-          differ = differ_by (has_bit pair.left told.left.truths) (has_bit pair.right told.right.truths) told.wanted told.left.is told.right.is;
-        }
-
-    pub seen_spurious : IsSpurious space e w
-    seen_spurious = seen_by walk
-
-    seen_within : IsWindowWithin cells (count_of path) w
-    seen_within = record {
-      short = omega (arith, on.length);
-      left_within = omega (arith, on.length, on.left_at, seen.within);
-      listed = each_weaker (IsOwn space cells (vector_at path) 0 (count_of path))
-          (λ u. (is_among cells u.signal ≡ true) × (u.offset < w.length)) (λ u own. (own.among, omega (arith, own.before, on.length)))
-          w.updates on.own;
-    }
-
-    seen_shaped : count_of path ≤ 3 → window_is_shaped cells w ≡ true
-    seen_shaped short =
-        and_from
-        ((nat_le w.length longest && nat_le w.left_at w.length)
-        && (list_all (λ u. nat_lt u.offset w.length && is_among cells u.signal) w.updates && rises cells w.updates))
-        (left_is_shaped w.left w.left_at && equalities_are_shaped w)
-        (and_from (nat_le w.length longest && nat_le w.left_at w.length)
-        (list_all (λ u. nat_lt u.offset w.length && is_among cells u.signal) w.updates && rises cells w.updates)
-        (and_from (nat_le w.length longest) (nat_le w.left_at w.length) (le-leb w.length longest (omega (arith, short, on.length)))
-        (le-leb w.left_at w.length seen_within.left_within))
-        (and_from (list_all (λ u. nat_lt u.offset w.length && is_among cells u.signal) w.updates) (rises cells w.updates)
-        (list_all_from_each (λ u. nat_lt u.offset w.length && is_among cells u.signal) w.updates
-        (each_weaker (λ u. (is_among cells u.signal ≡ true) × (u.offset < w.length))
-        (λ u. (nat_lt u.offset w.length && is_among cells u.signal) ≡ true)
-        (λ u own. and_from (nat_lt u.offset w.length) (is_among cells u.signal) (lt-ltb u.offset w.length own.1) own.0)
-        w.updates seen_within.listed))
-        (rises_one_by_one cells w.updates on.rise)))
-        (plain_shaped w on.left on.has_left (congruent_is_plain cells w on.congruent).none_listed)
-
-    pub seen_found : count_of path ≤ 3 → AreNeededFrom cells 0 w → IsFoundOf space e cells (count_of path) w
-    seen_found short needed = record {
-      long = on.length;
-      within = seen_within;
-      shaped = seen_shaped short;
-      congruent = on.congruent;
-      spurious = seen_spurious;
-      needed = λ place below is. needed place (omega arith) below is;
-    }
-
-  -- ---- where nothing is seen
-
-  pub none_on_path : ((left_at left right : ℕ) → IsSeen space e cells path (record { left_at = left_at; left = left; right = right }) → ⊥) →
-      HasNoneOn space e cells path
-  none_on_path unseen w long within congruent spurious agrees =
-      unseen w.left_at spurious.left_bit spurious.right_bit (record {
-        within = omega (arith, long, within.left_within);
-        left = spurious.left;
-        is_left = spurious.is_left;
-        right = w.right;
-        is_right = spurious.is_right;
-        congruent =
-            let plain = congruent_is_plain cells w congruent in
-            subst (IsCongruent cells None) (λ i. record {
-              left = spurious.has_left i;
-              left_at = w.left_at;
-              right = w.right;
-              length = long i;
-              updates = all;
-              equalities = plain.none_listed i;
-            })
-            (congruent_on_path space cells (vector_at path) w all stand
-            (each_weaker (IsOwn space cells (vector_at path) 0 (count_of path)) (λ u. IsOneOf space (vector_at path u.offset) u)
-            (λ u own. own.one) all (own_updates space cells path))
-            congruent);
-        told = record {
-          start = spurious.state 0;
-          visited = spurious.visited;
-          middle = spurious.state w.left_at;
-          before = led.0;
-          wanted = has_bit spurious.left_bit spurious.left_truths;
-          left = record { truths = spurious.left_truths; at = spurious.are_left; is = refl };
-          last = spurious.state (count_of (map (set_of space cells) path));
-          after = led.1;
-          right = record {
-            truths = spurious.right_truths;
-            at = ap (λ n. slice_get e.truths (spurious.state n)) (sets_counted ∙ sym long) ∙ spurious.are_right;
-            is = is_not (has_bit spurious.left_bit spurious.left_truths) (has_bit spurious.right_bit spurious.right_truths) spurious.differ;
-          };
-        };
-      })
+module _ (space : SpaceTree) (e : EnvironmentTree) (cells : List ℕ) (equality : Option ℕ) (length : ℕ) (w : WindowTree)
+    (is : IsCandidate space e cells equality length w) where
+  -- the probes that have to be equalities have two arguments
+  two_each : AllByRecursion (λ p. (count_of_terms p.arguments == 2) ≡ true) (equality_probes w)
+  two_each =
+      each_joined (λ p. (count_of_terms p.arguments == 2) ≡ true) (map (λ (q : EquatedTree). q.probe) w.equalities)
+      (right_alone w.left w.right)
+      (each_map (λ p. (count_of_terms p.arguments == 2) ≡ true) (λ (q : EquatedTree). q.probe) w.equalities
+      (each_weaker (λ q. IsEquality equality q.probe) (λ q. (count_of_terms q.probe.arguments == 2) ≡ true)
+      (λ q one. eq-eqb (count_of_terms q.probe.arguments) 2 one.two) w.equalities is.congruent.equalities))
+      (alone w.left is.congruent.sides)
     where
-      all : List ListedTree
-      all = updates_along space.controlled cells 0 path
+      alone : (left : Option ProbeTree) → SidesAreOne cells equality w left →
+          AllByRecursion (λ p. (count_of_terms p.arguments == 2) ≡ true) (right_alone left w.right)
+      alone None sides = (eq-eqb (count_of_terms w.right.arguments) 2 sides.0.two, tt)
+      alone (Some left) sides = tt
 
-      one_before : (u : ListedTree) → is_among cells u.signal ≡ true → u.offset < w.length → IsOneOf space (spurious.vector u.offset) u →
-          (j : ℕ) × (slice_get all j ≡ Some u)
-      one_before u among below one =
-          let v = slice_get_some path u.offset (omega (arith, below, long)) in
-          let agreed = agrees u.offset v.0 v.1 in
-          let within = each_at (λ n. n < e.vectors) path u.offset v.0 path_within v.1 in
-          let there = along_there space.controlled cells u.signal u.term among 0 path u.offset v.0 v.1
-          (taken_before space is_space cells v.0 (spurious.vector u.offset) u.signal (omega (arith, within, vectors_counted)) agreed.0
-          among agreed.1 u.term one) in
-          let place : 0 + u.offset ≡ u.offset = omega arith in
-          (there.0, there.1 ∙ ap (λ n. Some (record { signal = u.signal; term = u.term; offset = n })) place)
+  updates_shaped : (list_all (λ u. nat_lt u.offset w.length && is_among cells u.signal) w.updates && rises cells w.updates) ≡ true
+  updates_shaped =
+      and_from (list_all (λ u. nat_lt u.offset w.length && is_among cells u.signal) w.updates) (rises cells w.updates)
+      (list_all_from_each (λ u. nat_lt u.offset w.length && is_among cells u.signal) w.updates
+      (each_weaker (λ u. (is_among cells u.signal ≡ true) × (u.offset < w.length))
+      (λ u. (nat_lt u.offset w.length && is_among cells u.signal) ≡ true)
+      (λ u own. and_from (nat_lt u.offset w.length) (is_among cells u.signal) (lt-ltb u.offset w.length own.1) own.0)
+      w.updates is.within.listed))
+      (rises_one_by_one cells w.updates is.rise)
 
-      stand : StandIn w.updates all
-      stand =
-          each_both (λ u. (is_among cells u.signal ≡ true) × (u.offset < w.length)) (λ u. IsOneOf space (spurious.vector u.offset) u)
-          (λ u. (j : ℕ) × (slice_get all j ≡ Some u)) (λ u own one. one_before u own.0 own.1 one) w.updates within.listed spurious.listed
+  equalities_shaped : equalities_are_shaped w ≡ true
+  equalities_shaped =
+      and_from (list_all (λ q. nat_le q.offset w.length) w.equalities && are_in_order w.equalities)
+      (list_all (λ p. count_of_terms p.arguments == 2) (equality_probes w))
+      (and_from (list_all (λ q. nat_le q.offset w.length) w.equalities) (are_in_order w.equalities)
+      (list_all_from_each (λ q. nat_le q.offset w.length) w.equalities
+      (each_weaker (λ q. q.offset ≤ w.length) (λ q. nat_le q.offset w.length ≡ true) (λ q inside. le-leb q.offset w.length inside)
+      w.equalities is.within.equal))
+      is.in_order)
+      (list_all_from_each (λ p. count_of_terms p.arguments == 2) (equality_probes w) two_each)
 
-      had : (t set : ℕ) → slice_get (map (set_of space cells) path) t ≡ Some set → HasAll space set (spurious.vector t)
-      had t set at =
-          let there = slice_get_mapped (set_of space cells) path t set at in
-          subst (λ n. HasAll space n (spurious.vector t)) there.2 (agrees t there.0 there.1).1
+  shaped : length ≤ 3 → window_is_shaped cells w ≡ true
+  shaped short =
+      and_from
+      ((nat_le w.length longest && nat_le w.left_at w.length)
+      && (list_all (λ u. nat_lt u.offset w.length && is_among cells u.signal) w.updates && rises cells w.updates))
+      (left_is_shaped w.left w.left_at && equalities_are_shaped w)
+      (and_from (nat_le w.length longest && nat_le w.left_at w.length)
+      (list_all (λ u. nat_lt u.offset w.length && is_among cells u.signal) w.updates && rises cells w.updates)
+      (and_from (nat_le w.length longest) (nat_le w.left_at w.length) (le-leb w.length longest (omega (arith, short, is.long)))
+      (le-leb w.left_at w.length is.within.left_within))
+      updates_shaped)
+      (and_from (left_is_shaped w.left w.left_at) (equalities_are_shaped w) is.left_shaped equalities_shaped)
 
-      led : LeadsTo space e (take w.left_at (map (set_of space cells) path)) (spurious.state 0) (spurious.state w.left_at)
-          × LeadsTo space e (drop w.left_at (map (set_of space cells) path)) (spurious.state w.left_at)
-          (spurious.state (count_of (map (set_of space cells) path)))
-      led =
-          leads_by space e w.left_at (map (set_of space cells) path) spurious.state spurious.vector
-          (omega (arith, within.left_within, long, sets_counted)) (λ t below. spurious.steps t (omega (arith, below, long, sets_counted))) had
+  pub thinned_found : length ≤ 3 → AreNeededFrom cells equality 0 w → AreEqualitiesNeededFrom cells equality 0 w →
+      IsFoundOf space e cells equality length w
+  thinned_found short needed needed_too = record {
+    long = is.long;
+    within = is.within;
+    shaped = shaped short;
+    congruent = is.congruent;
+    spurious = is.spurious;
+    needed = λ place below one. needed place (omega arith) below one;
+    needed_equalities = λ place below one. needed_too place (omega arith) below one;
+  }
 
 -- ---- windows of one length
 
-pub none_of_length : (space : SpaceTree) (e : EnvironmentTree) (cells firsts : List ℕ) (length : ℕ) → IsSpace space →
+pub none_of_length : (space : SpaceTree) (e : EnvironmentTree) (cells : List ℕ) (equality : Option ℕ) (firsts : List ℕ) (length : ℕ) →
+    IsSpace space →
     e.vectors ≡ vector_count space.controlled → AreFirsts space cells e.vectors firsts →
-    ((n : ℕ) → n < count_of firsts ^ length → HasNoneOn space e cells (map (first_of firsts) (path_of (count_of firsts) length n))) →
-    HasNoneOf space e cells length
-none_of_length space e cells firsts length is_space vectors_counted are none w long within congruent spurious =
+    ((n : ℕ) → n < count_of firsts ^ length → HasNoneOn space e cells equality
+    (map (first_of firsts) (path_of (count_of firsts) length n))) →
+    HasNoneOf space e cells equality length
+none_of_length space e cells equality firsts length is_space vectors_counted are none w long within congruent spurious =
     let found = number_of_path (count_of firsts) length (λ t k. HasAll space (numbered_set space cells firsts k) (spurious.vector t)) some in
     let path = path_of (count_of firsts) length found.number in
     let sized : count_of (map (first_of firsts) path) ≡ length
@@ -241,33 +132,42 @@ none_of_length space e cells firsts length is_space vectors_counted are none w l
 
 -- ---- windows within a depth
 
-module _ (space : SpaceTree) (e : EnvironmentTree) (cells : List ℕ) where
+module _ (space : SpaceTree) (e : EnvironmentTree) (cells : List ℕ) (equality : Option ℕ) where
   -- where there is none of any length up to one, there is none within it
-  pub none_within : (depth : ℕ) → ((n : ℕ) → n ≤ depth → HasNoneOf space e cells n) → HasNoSpuriousWindow space e cells depth
+  pub none_within : (depth : ℕ) → ((n : ℕ) → n ≤ depth → HasNoneOf space e cells equality n) →
+      HasNoSpuriousWindow space e cells equality depth
   none_within depth none w within congruent spurious =
-      none w.length within.short w refl (record { short = omega arith; left_within = within.left_within; listed = within.listed }) congruent
-      spurious
+      none w.length within.short w refl
+      (record { short = omega arith; left_within = within.left_within; listed = within.listed; equal = within.equal }) congruent spurious
 
   -- the first one that is found is the least
-  pub found_least : (depth length : ℕ) (w : WindowTree) → length ≤ depth → ((n : ℕ) → n < length → HasNoneOf space e cells n) →
-      IsFoundOf space e cells length w → IsFoundWindow space e cells depth w
+  pub found_least : (depth length : ℕ) (w : WindowTree) → length ≤ depth → ((n : ℕ) → n < length → HasNoneOf space e cells equality n) →
+      IsFoundOf space e cells equality length w → IsFoundWindow space e cells equality depth w
   found_least depth length w inside none found = record {
     within = record {
       short = omega (arith, inside, found.long);
       left_within = found.within.left_within;
       listed = found.within.listed;
+      equal = found.within.equal;
     };
     shaped = found.shaped;
     congruent = found.congruent;
     spurious = found.spurious;
     least = λ shorter below. none_within shorter (λ n few. none n (omega (arith, few, below, found.long)));
     needed = found.needed;
+    needed_equalities = found.needed_equalities;
   }
 
   -- without predicate terms there is none
-  pub none_without_probes : (depth : ℕ) → count_of space.predicates ≡ 0 → HasNoSpuriousWindow space e cells depth
-  none_without_probes depth empty w within congruent spurious =
-      omega (arith, slice_get_within space.predicates spurious.left_bit spurious.left spurious.is_left, empty)
+  pub none_without_probes : (depth : ℕ) → count_of space.predicates ≡ 0 → HasNoSpuriousWindow space e cells equality depth
+  none_without_probes depth empty w within congruent spurious = by w.left spurious.differ
+    where
+      no_truth : (state : ℕ) (probe : ProbeTree) (truth : Bool) → IsTruthAt space e state probe truth → ⊥
+      no_truth state probe truth is = omega (arith, slice_get_within space.predicates is.bit probe is.is_bit, empty)
+
+      by : (left : Option ProbeTree) → SidesDiffer space e spurious.state w left → ⊥
+      by None differ = no_truth (spurious.state w.length) w.right false differ
+      by (Some left) differ = no_truth (spurious.state w.left_at) left differ.0 differ.1
 
 -- ---- first vectors
 

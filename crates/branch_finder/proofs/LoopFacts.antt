@@ -1,5 +1,6 @@
 -- What loops keep that look for the first of something: that none of those gone through is it.
-use Rattle.std.proofs.Common.{◌≡◌, ◌∙◌, ℕ, ◌+◌, ◌<◌, ◌⊎◌, inl, inr, Bool, true, false, List, Some, slice_get, sym, ap, subst, arith}
+use Rattle.std.proofs.Common.{◌≡◌, ◌∙◌, ℕ, ◌+◌, ◌<◌, ◌⊎◌, inl, inr, Bool, true, false, List, Option, Some, None, IfNone, slice_get, sym}
+use Rattle.std.proofs.Common.{ap, subst, arith}
 use Rattle.std.proofs.lemmas.Bool.{false≢true}
 use Rattle.sequence.proofs.Places.{slice_get_one}
 
@@ -29,3 +30,16 @@ all_more P n before here m below = elim (before_or_here m n below) [
   | inl earlier ↦ before m earlier
   | inr same ↦ subst P (sym same) here
 ]
+
+-- one member more of which something holds
+pub each_more : (P : ℕ → Type 0) (xs : List ℕ) (n x : ℕ) → slice_get xs n ≡ Some x →
+    ((k y : ℕ) → k < n → slice_get xs k ≡ Some y → P y) → P x → (k y : ℕ) → k < n + 1 → slice_get xs k ≡ Some y → P y
+each_more P xs n x at before here k y below there = elim (before_or_here k n below) [
+  | inl earlier ↦ before k y earlier there
+  | inr same ↦ subst P (slice_get_one xs n x y at (sym (ap (slice_get xs) same) ∙ there)) here
+]
+
+-- what follows where nothing is found
+pub none_leads : {X : Type 0} (o : Option X) (P Q : Type 0) → (P → Q) → IfNone o P → IfNone o Q
+none_leads None P Q leads holds = leads holds
+none_leads (Some x) P Q leads holds = tt

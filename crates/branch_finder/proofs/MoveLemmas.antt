@@ -1,20 +1,21 @@
 -- Planes of states: what the rows of links say, and where an environment may be after steps along sets.
-use Rattle.std.proofs.Common.{◌≡◌, ◌∙◌, ℕ, zero, suc, ◌+◌, ◌<◌, ◌==◌, Bool, true, false, ◌&&◌, ◌||◌, List, [], ◌∷◌, ◌++◌, length, map, filter, drop, take, get_or, IsTrue}
+use Rattle.std.proofs.Common.{◌≡◌, ◌∙◌, ℕ, zero, suc, ◌+◌, ◌<◌, ◌==◌, Bool, true, false, ◌&&◌, ◌||◌, List, [], ◌∷◌, ◌++◌, length, map}
+use Rattle.std.proofs.Common.{filter, drop, take, get_or, bit_and, IsTrue}
 use Rattle.std.proofs.Common.{Some, slice_get, inl, inr, ◌⊎◌, refl, sym, ap, subst, arith, eq-eqb}
 use Rattle.std.specs.Prelude.{◌↔◌}
 use Rattle.std.specs.Option.{option_map_or}
 use Rattle.std.proofs.lemmas.Bool.{and_from, and_parts, eqb-true}
 use Rattle.std.proofs.lemmas.Option.{same_Some, slice_get_within, slice_get-get_or, slice_get_read}
 use Rattle.lane_planes.specs.Planes.{has_bit, is_match}
-use Rattle.ltl_formula.specs.Cubes.{has_bit as has}
 use Rattle.sequence.specs.Numbers.{is_among, numbers_from}
 use Rattle.sequence.proofs.Numbers.{among_filter, among_place, among_at, among_numbers, numbers_at, length-numbers}
 use Rattle.letter_space.specs.SpaceTree.{SpaceTree}
 use Rattle.machines.specs.MachineTree.{EnvironmentTree, IsEnvironment, successor_at}
 use Rattle.machines.specs.Visits.{IsVisited}
+use Rattle.branch_finder.specs.internal.Prints.{HasPrint}
 use Rattle.branch_finder.specs.internal.Visiting.{AreVisited}
 use Rattle.branch_finder.specs.internal.Sets.{mask_of, set_of, numbered_set, first_of, AreMasks, HasAll, GoesBy}
-use Rattle.branch_finder.specs.internal.Planes.{words_of, IsPlaneOf, IsListed, GoesUnder, AreLinks, AreLinksOf, GoesFrom, ComesFrom, IsKept}
+use Rattle.branch_finder.specs.internal.Planes.{IsPlaneOf, IsListed, GoesUnder, AreLinks, AreLinksOf, GoesFrom, ComesFrom, IsKept}
 use Rattle.branch_finder.proofs.LoopFacts.{before_or_here}
 use Rattle.branch_finder.proofs.PlaneLemmas.{plane_more, plane_alike}
 use Rattle.branch_finder.proofs.VisitLemmas.{successor_below, vector_within, visited_below}
@@ -193,56 +194,74 @@ module _ (space : SpaceTree) (e : EnvironmentTree) where
       record { state = k; below = omega arith; set = parts.0; goes = (is_row.tells t below).0 parts.1 })
 
   -- one set more
-  pub come_more : IsEnvironment e → (set : ℕ) (sets old new : List ℕ) → IsPlaneOf e.states (GoesFrom space e set old e.states) new → (t : ℕ) →
-      ComesFrom space e (set ∷ sets) old t ↔ ComesFrom space e sets new t
-  come_more is set sets old new gone t = (
+  pub come_more : IsEnvironment e → (mask set print : ℕ) (sets prints old kept new : List ℕ) →
+      IsPlaneOf e.states (IsKept e old mask print e.states) kept → IsPlaneOf e.states (GoesFrom space e set kept e.states) new → (t : ℕ) →
+      ComesFrom space e mask (set ∷ sets) (print ∷ prints) old t ↔ ComesFrom space e mask sets prints new t
+  come_more is mask set print sets prints old kept new are_kept gone t = (
     λ from.
-        let below = successor_below e is from.state from.leads.1.vector from.leads.0 from.leads.1.goes in
+        let next = from.leads.1 in
+        let below = successor_below e is from.state from.leads.2.vector next from.leads.2.goes in
         record {
-          state = from.leads.0;
+          state = next;
           below = below;
-          set = (gone.tells from.leads.0 below).1 (record { state = from.state; below = from.below; set = from.set; goes = from.leads.1 });
-          leads = from.leads.2;
+          set = (gone.tells next below).1 (record {
+            state = from.state;
+            below = from.below;
+            set = (are_kept.tells from.state from.below).1 (record { below = from.below; set = from.set; truth = from.leads.0 });
+            goes = from.leads.2;
+          });
+          leads = from.leads.3;
         },
     λ from.
         let gone_to = (gone.tells from.state from.below).0 from.set in
+        let here = (are_kept.tells gone_to.state gone_to.below).0 gone_to.set in
         record {
           state = gone_to.state;
           below = gone_to.below;
-          set = gone_to.set;
-          leads = (from.state, gone_to.goes, from.leads);
+          set = here.set;
+          leads = (here.truth, from.state, gone_to.goes, from.leads);
         },
   )
 
   -- where all sets are gone through
-  pub come_last : (sets first last : List ℕ) → length last ≡ words_of e.states →
-      ((t : ℕ) → ComesFrom space e [] last t ↔ ComesFrom space e sets first t) → IsPlaneOf e.states (ComesFrom space e sets first) last
-  come_last sets first last size same = record {
-    size = size;
+  pub come_last : (mask print : ℕ) (sets prints first plane last : List ℕ) → IsPlaneOf e.states (IsKept e plane mask print e.states) last →
+      ((t : ℕ) → ComesFrom space e mask [] (print ∷ []) plane t ↔ ComesFrom space e mask sets prints first t) →
+      IsPlaneOf e.states (ComesFrom space e mask sets prints first) last
+  come_last mask print sets prints first plane last kept same = record {
+    size = kept.size;
     tells = λ t below. (
-      λ set. (same t).0 (record { state = t; below = below; set = set; leads = refl }),
-      λ from. let at = (same t).1 from in ap (has_bit last) (sym at.leads) ∙ at.set,
+      λ set.
+          let here = (kept.tells t below).0 set in
+          (same t).0 (record { state = t; below = below; set = here.set; leads = (here.truth, refl) }),
+      λ from.
+          let at = (same t).1 from in
+          (kept.tells t below).1 (record {
+            below = below;
+            set = ap (has_bit plane) (sym at.leads.1) ∙ at.set;
+            truth = subst (HasPrint e mask print) at.leads.1 at.leads.0;
+          }),
     );
   }
 
 -- ---- truths
 
-module _ (e : EnvironmentTree) (plane : List ℕ) (bit : ℕ) (wanted : Bool) where
-  pub none_kept : (s : ℕ) → IsKept e plane bit wanted 0 s → ⊥
+module _ (e : EnvironmentTree) (plane : List ℕ) (mask print : ℕ) where
+  pub none_kept : (s : ℕ) → IsKept e plane mask print 0 s → ⊥
   none_kept s is = omega (arith, is.below)
 
   pub kept_more : (k truths : ℕ) (here : Bool) (states : ℕ) (old new : List ℕ) → slice_get e.truths k ≡ Some truths →
-      IsTrue here ↔ ((has_bit plane k ≡ true) × (has bit truths ≡ wanted)) → IsPlaneOf states (IsKept e plane bit wanted k) old →
+      IsTrue here ↔ ((has_bit plane k ≡ true) × (bit_and truths mask ≡ print)) → IsPlaneOf states (IsKept e plane mask print k) old →
       length new ≡ length old → ((i : ℕ) → has_bit new i ≡ (has_bit old i || (here && (i == k)))) →
-      IsPlaneOf states (IsKept e plane bit wanted (k + 1)) new
+      IsPlaneOf states (IsKept e plane mask print (k + 1)) new
   kept_more k truths here states old new at belongs is same bits =
-      plane_more states (IsKept e plane bit wanted k) (IsKept e plane bit wanted (k + 1)) old new (λ i. here && (i == k)) is same bits
+      plane_more states (IsKept e plane mask print k) (IsKept e plane mask print (k + 1)) old new (λ i. here && (i == k)) is same bits
       (λ i below kept. elim (before_or_here i k kept.below) [
         | inl before ↦ inl (record { below = before; set = kept.set; truth = kept.truth })
         | inr last ↦
             inr (and_from here (i == k) (belongs.1 (
               ap (has_bit plane) (sym last) ∙ kept.set,
-              ap (has bit) (slice_get_one e.truths k truths kept.truth.truths at (ap (slice_get e.truths) (sym last) ∙ kept.truth.at))
+              ap (λ n. bit_and n mask) (slice_get_one e.truths k truths kept.truth.truths at
+                  (ap (slice_get e.truths) (sym last) ∙ kept.truth.at))
                   ∙ kept.truth.is,
             )) (eq-eqb i k last))
       ])
@@ -258,14 +277,16 @@ module _ (e : EnvironmentTree) (plane : List ℕ) (bit : ℕ) (wanted : Bool) wh
       })
 
   pub not_kept_more : (k truths : ℕ) (here : Bool) → slice_get e.truths k ≡ Some truths →
-      IsTrue here ↔ ((has_bit plane k ≡ true) × (has bit truths ≡ wanted)) → (here ≡ true → ⊥) → ((s : ℕ) → IsKept e plane bit wanted k s → ⊥) →
-      (s : ℕ) → IsKept e plane bit wanted (k + 1) s → ⊥
+      IsTrue here ↔ ((has_bit plane k ≡ true) × (bit_and truths mask ≡ print)) → (here ≡ true → ⊥) →
+      ((s : ℕ) → IsKept e plane mask print k s → ⊥) →
+      (s : ℕ) → IsKept e plane mask print (k + 1) s → ⊥
   not_kept_more k truths here at belongs fails none s kept = elim (before_or_here s k kept.below) [
     | inl before ↦ none s (record { below = before; set = kept.set; truth = kept.truth })
     | inr last ↦
         fails (belongs.1 (
           ap (has_bit plane) (sym last) ∙ kept.set,
-          ap (has bit) (slice_get_one e.truths k truths kept.truth.truths at (ap (slice_get e.truths) (sym last) ∙ kept.truth.at))
+          ap (λ n. bit_and n mask) (slice_get_one e.truths k truths kept.truth.truths at
+              (ap (slice_get e.truths) (sym last) ∙ kept.truth.at))
               ∙ kept.truth.is,
         ))
   ]
@@ -305,3 +326,7 @@ sets_along space cells firsts numbers path is = all numbers ∙ ap (map (set_of 
     all : (ns : List ℕ) → map (numbered_set space cells firsts) ns ≡ map (set_of space cells) (map (first_of firsts) ns)
     all [] = refl
     all (n ∷ ns) = ap (λ sets. numbered_set space cells firsts n ∷ sets) (all ns)
+
+-- a path is as long as its numbers
+pub path_counted : (firsts numbers path : List ℕ) → path ≡ map (first_of firsts) numbers → length path ≡ length numbers
+path_counted firsts numbers path is = ap length is ∙ length-map numbers (first_of firsts)

@@ -1,7 +1,7 @@
--- Windows with updates of one path: what is congruent with some of them is congruent with more.
+-- Windows with updates of one path: what is congruent with some of them is congruent with more, and with more equalities.
 use Rattle.std.proofs.Common.{◌≡◌, ◌∙◌, ℕ, Bool, true, false, cond, ◌&&◌, ◌==◌, List, Option, Some, None, slice_get, refl, sym, ap}
 use Rattle.std.specs.Prelude.{find, option_map}
-use Rattle.std.specs.List.{AllByRecursion}
+use Rattle.std.specs.List.{AllByRecursion, Contains}
 use Rattle.std.proofs.lemmas.Bool.{and_parts, eqb-true, false≢true}
 use Rattle.std.proofs.lemmas.Option.{none-some}
 use Rattle.sequence.specs.Numbers.{is_among}
@@ -9,14 +9,14 @@ use Rattle.sequence.proofs.Each.{each_at}
 use Rattle.sequence.proofs.Finds.{found_has, found_passes, find_none_at}
 use Rattle.sequence.proofs.Options.{some_mapped}
 use Rattle.tsl_terms.specs.TermTree.{TermTree}
-use Rattle.tsl_terms.specs.WindowTree.{ListedTree, WindowTree}
+use Rattle.tsl_terms.specs.WindowTree.{ListedTree, EquatedTree, WindowTree}
 use Rattle.tsl_terms.specs.Unfolding.{term_listed, term_taken_by_cell}
-use Rattle.tsl_terms.specs.Congruence.{IsCongruent}
+use Rattle.tsl_terms.specs.Congruence.{IsCongruent, IsEquality}
 use Rattle.letter_space.specs.SpaceTree.{SpaceTree}
 use Rattle.letter_space.specs.Letters.{term_taken}
 use Rattle.letter_space.specs.Vectors.{picks_of}
 use Rattle.branch_finder.specs.Spurious.{IsOneOf}
-use Rattle.tsl_terms.proofs.MoreListed.{more_updates_keep_windows_congruent}
+use Rattle.tsl_terms.proofs.MoreListed.{more_keep_windows_congruent, more_updates_keep_windows_congruent}
 
 -- each member of a list stands in another
 abbrev pub StandIn : List ListedTree → List ListedTree → Type 0
@@ -60,7 +60,16 @@ module _ (space : SpaceTree) (cells : List ℕ) (vector : ℕ → ℕ) where
         by true known = listed_more x known
         by false known = absurd (none-some x known)
 
-  pub congruent_on_path : (w : WindowTree) (more : List ListedTree) → StandIn w.updates more → AreOfPath more → IsCongruent cells None w →
-      IsCongruent cells None (record w { updates = more })
-  congruent_on_path w more stand of_path is =
-      more_updates_keep_windows_congruent cells None w more (λ t s x known. taken_more w.updates more stand of_path t s x known) is
+  -- what is congruent with some updates and equalities is so with more
+  pub congruent_on_path : (equality : Option ℕ) (w : WindowTree) (more : List ListedTree) (equalities : List EquatedTree) →
+      StandIn w.updates more → AreOfPath more → AllByRecursion (λ q. Contains equalities q) w.equalities →
+      AllByRecursion (λ q. IsEquality equality q.probe) equalities → IsCongruent cells equality w →
+      IsCongruent cells equality (record w { updates = more; equalities = equalities })
+  congruent_on_path equality w more equalities stand of_path stand_too proper is =
+      more_keep_windows_congruent cells equality w more equalities
+      (λ t s x known. taken_more w.updates more stand of_path t s x known) stand_too proper is
+
+  pub congruent_with_updates : (equality : Option ℕ) (w : WindowTree) (more : List ListedTree) → StandIn w.updates more → AreOfPath more →
+      IsCongruent cells equality w → IsCongruent cells equality (record w { updates = more })
+  congruent_with_updates equality w more stand of_path is =
+      more_updates_keep_windows_congruent cells equality w more (λ t s x known. taken_more w.updates more stand of_path t s x known) is

@@ -1,7 +1,7 @@
--- Spurious windows: those whose two probes an environment tells apart on some path that has the listed updates.
+-- Spurious windows: those whose sides an environment tells apart on some path that has the listed updates and equalities.
 -- Source: Finkbeiner, Klein, Piskac, Santolucito: Temporal Stream Logic: Synthesis Beyond the Bools (CAV 2019), the refinement of
--- the underapproximation.
-use Rattle.std.specs.Prelude.{◌≡◌, ◌≢◌, ℕ, suc, ◌<◌, Some, slice_get}
+-- the underapproximation; listed equalities and windows without a left probe are this project's own.
+use Rattle.std.specs.Prelude.{◌≡◌, ℕ, suc, ◌<◌, Bool, true, false, not, Option, Some, None, slice_get}
 use Rattle.std.specs.List.{AllByRecursion}
 use Rattle.tsl_terms.specs.TermTree.{ProbeTree}
 use Rattle.tsl_terms.specs.WindowTree.{ListedTree, WindowTree}
@@ -16,23 +16,28 @@ use Rattle.machines.specs.Visits.{IsVisited}
 abbrev pub IsOneOf : SpaceTree → ℕ → ListedTree → Type 0
 IsOneOf space vector u = term_taken space.controlled (picks_of space.controlled vector) u.signal ≡ Some u.term
 
+-- in a state a probe has this truth: it is a predicate term of the space, whose bit stands so in what is true there
+pub record IsTruthAt (space : SpaceTree) (e : EnvironmentTree) (state : ℕ) (probe : ProbeTree) (truth : Bool) : Type 0 where
+  pub bit : ℕ
+  pub is_bit : slice_get space.predicates bit ≡ Some probe
+  pub truths : ℕ
+  pub are_truths : slice_get e.truths state ≡ Some truths
+  pub stands : has_bit bit truths ≡ truth
+
+-- In the states of a path, of the left probe at its step and the right one at the last step one alone is true; or, where there is no
+-- left probe, the right one is false.
+abbrev pub SidesDiffer : SpaceTree → EnvironmentTree → (ℕ → ℕ) → WindowTree → Option ProbeTree → Type 0
+SidesDiffer space e state w (Some left) =
+    (b : Bool) × IsTruthAt space e (state w.left_at) left b × IsTruthAt space e (state w.length) w.right (not b)
+SidesDiffer space e state w None = IsTruthAt space e (state w.length) w.right false
+
 -- There is a path of as many vectors as the window is long, from a state that the environment visits, such that each listed update
--- is one of those of the vector at its offset, there is a left probe, and what is true in the path's states has its bit at its step
--- and not that of the right probe at the last one, or the other way round.
+-- is one of those of the vector at its offset, each listed equality is true in the state at its offset, and the sides differ.
 pub record IsSpurious (space : SpaceTree) (e : EnvironmentTree) (w : WindowTree) : Type 0 where
   pub state : ℕ → ℕ
   pub vector : ℕ → ℕ
   pub visited : IsVisited e (state 0)
   pub steps : (t : ℕ) → t < w.length → successor_at e (state t) (vector t) ≡ Some (state (suc t))
   pub listed : AllByRecursion (λ u. IsOneOf space (vector u.offset) u) w.updates
-  pub left_bit : ℕ
-  pub left : ProbeTree
-  pub has_left : w.left ≡ Some left
-  pub is_left : slice_get space.predicates left_bit ≡ Some left
-  pub right_bit : ℕ
-  pub is_right : slice_get space.predicates right_bit ≡ Some w.right
-  pub left_truths : ℕ
-  pub are_left : slice_get e.truths (state w.left_at) ≡ Some left_truths
-  pub right_truths : ℕ
-  pub are_right : slice_get e.truths (state w.length) ≡ Some right_truths
-  pub differ : has_bit left_bit left_truths ≢ has_bit right_bit right_truths
+  pub equal : AllByRecursion (λ q. IsTruthAt space e (state q.offset) q.probe true) w.equalities
+  pub differ : SidesDiffer space e state w w.left

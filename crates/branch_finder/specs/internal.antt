@@ -1,3 +1,5 @@
+pub mod Prints
+pub mod Arguments
 pub mod Sets
 pub mod Planes
 pub mod Paths

@@ -1,19 +1,21 @@
-//! The updates of cells along a path of vectors.
+//! The updates of cells and the equalities along a path of vectors and prints.
 
 ghost use Rattle.std.specs.Prelude.{◌≡◌, ◌++◌, ◌<◌, ◌≤◌, length, map, Some, None, IfOk, OnOk, IfSome, IfNone};
 ghost use Rattle.std.specs.List.{AllByRecursion};
 ghost use Rattle.tsl_terms.specs.TermTree.{term_tree, probe_tree};
-ghost use Rattle.tsl_terms.specs.WindowTree.{listed_tree};
+ghost use Rattle.tsl_terms.specs.WindowTree.{listed_tree, equated_tree};
 ghost use Rattle.letter_space.specs.ControlledView.{controlled_tree};
 ghost use Rattle.letter_space.specs.SpaceView.{space_tree};
 ghost use Rattle.letter_space.specs.Letters.{term_taken};
 ghost use Rattle.letter_space.specs.Vectors.{vector_count};
-ghost use Rattle.branch_finder.specs.internal.Paths.{update_to, updates_picked, updates_along, probe_term};
+ghost use Rattle.branch_finder.specs.internal.Paths.{update_to, updates_picked, updates_along};
+ghost use Rattle.branch_finder.specs.internal.Paths.{equality_if, equalities_in, equalities_along};
 
+use crate::prints::is_set;
 use letter_space::{Controlled, Space};
 use sequence::NoMemory;
 use std::alloc::Global;
-use tsl_terms::{Listed, Probe, Term, copy_probe, copy_term};
+use tsl_terms::{Equated, Listed, Probe, Term, copy_probe, copy_term};
 
 /// The term that a signal takes where so much is picked, if it takes one.
 pub(crate) fn term_taken<'a>(
@@ -104,24 +106,63 @@ pub(crate) fn updates_along(
     Ok(updates)
 }
 
-/// A probe as a term: its predicate, as if it were a function, of its arguments.
-fn term_of_probe(alloc: Global, probe: &Probe) -> Result<Term, NoMemory>
-    ensures { IfOk result (λ term. term_tree term ≡ probe_term (probe_tree probe.now)) }
+/// Adds the equality of a probe at an offset where it belongs there.
+fn add_equality(
+    alloc: Global,
+    equalities: &mut Vec<Equated>,
+    offset: u32,
+    probe: &Probe,
+    belongs: bool,
+) -> Result<(), NoMemory>
+    ensures { OnOk result (map equated_tree equalities.new.items
+        ≡ map equated_tree equalities.old.items ++ equality_if belongs offset (probe_tree probe.now)) }
 {
-    let Probe {
-        predicate,
-        arguments,
-    } = copy_probe(alloc, probe)?;
-    Ok(Term::Apply(predicate, arguments))
+    if belongs {
+        equalities.push(Equated {
+            probe: copy_probe(alloc, probe)?,
+            offset,
+        })?;
+    }
+    Ok(())
 }
 
-/// The predicate terms of a space as terms. An `Err` says that memory ran out.
-pub(crate) fn terms_of_probes(alloc: Global, space: &Space) -> Result<Vec<Term>, NoMemory>
-    ensures { IfOk result (λ terms. map term_tree terms.items ≡ map probe_term (space_tree space.now).predicates) }
+/// Adds the equalities of a print at an offset.
+fn add_equalities(
+    alloc: Global,
+    equalities: &mut Vec<Equated>,
+    predicates: &[Probe],
+    offset: u32,
+    print: u32,
+) -> Result<(), NoMemory>
+    requires few { length predicates.now ≤ 10 }
+    ensures { OnOk result (map equated_tree equalities.new.items
+        ≡ map equated_tree equalities.old.items ++ equalities_in print 0 offset (map probe_tree predicates.now)) }
 {
-    let mut terms = Vec::new(alloc);
-    for probe in space.predicates.as_slice() {
-        terms.push(term_of_probe(alloc, probe)?)?;
+    for (bit, probe) in predicates.iter().enumerate() {
+        add_equality(alloc, equalities, offset, probe, is_set(print, bit as u32))?;
     }
-    Ok(terms)
+    Ok(())
+}
+
+/// The equalities of the prints along a path, by offset and then by bit. An `Err` says that memory ran out.
+pub(crate) fn equalities_along(
+    alloc: Global,
+    space: &Space,
+    prints: &[u32],
+) -> Result<Vec<Equated>, NoMemory>
+    requires short { length prints.now ≤ 4 }
+    ensures { IfOk result (λ equalities. map equated_tree equalities.items
+        ≡ equalities_along (space_tree space.now).predicates 0 prints.now) }
+{
+    let mut equalities = Vec::new(alloc);
+    for (offset, print) in prints.iter().enumerate() {
+        add_equalities(
+            alloc,
+            &mut equalities,
+            space.predicates.as_slice(),
+            offset as u32,
+            *print,
+        )?;
+    }
+    Ok(equalities)
 }

@@ -1,17 +1,20 @@
-//! Which pairs of predicate terms a path tells apart although the windows of their probes are congruent.
+//! Which pairs of predicate terms a path tells apart although the windows of their probes are congruent, and which
+//! equalities it makes false although they are congruent without a left probe.
 
-ghost use Rattle.std.specs.Prelude.{◌≡◌, ◌<◌, ◌≤◌, ◌↔◌, ℕ, map, length, Some, None, slice_get, IsTrue, IfOk, IfSome, IfNone};
+ghost use Rattle.std.specs.Prelude.{◌≡◌, ◌<◌, ◌≤◌, ◌↔◌, ◌-◌, ℕ, map, length, take, drop, get_or, Some, None, slice_get, IsTrue};
+ghost use Rattle.std.specs.Prelude.{IfOk, IfSome, IfNone};
 ghost use Rattle.tsl_terms.specs.TermTree.{ProbeTree};
 ghost use Rattle.tsl_terms.specs.Congruence.{IsCongruent};
 ghost use Rattle.letter_space.specs.SpaceView.{space_tree};
 ghost use Rattle.machines.specs.MachineView.{environment_tree};
-ghost use Rattle.term_congruence.specs.Classes.{label_at};
-ghost use Rattle.branch_finder.specs.internal.Paths.{TellsApart, IsToldApart, path_window, IsSeen};
+ghost use Rattle.branch_finder.specs.internal.Arguments.{ArePlaceLabels};
+ghost use Rattle.branch_finder.specs.internal.Paths.{TellsApart, IsToldApart, IsToldFalse, path_window, IsSeen, IsSeenAlone};
 ghost use Rattle.branch_finder.specs.internal.Sets.{set_of};
 ghost use Rattle.branch_finder.specs.internal.Planes.{words_of};
 ghost use Rattle.branch_finder.specs.internal.Looking.{pair_tree, IsLook, IsPairWithin};
 
 use crate::moving::{is_some_with, states_after, states_with};
+use crate::prints::{bit_wanted, is_set};
 use letter_space::Space;
 use machines::Environment;
 use sequence::{NoMemory, Sequence};
@@ -29,15 +32,23 @@ pub(crate) struct Search<'a> {
     pub(crate) cells: &'a [u32],
     /// The states that the environment visits, as a plane.
     pub(crate) visited: &'a [u64],
-    /// The predicate terms, as terms.
+    /// The predicate that is equality, if there is one.
+    pub(crate) equality: Option<u32>,
+    /// The bits of the predicate terms that are equalities.
+    pub(crate) mask: u32,
+    /// The prints of the states: those of these bits that are true in them.
+    pub(crate) prints: &'a [u32],
+    /// The arguments of the predicate terms, one after the other.
     pub(crate) terms: &'a [Term],
+    /// For each predicate term where its arguments begin, and then where the last one's end.
+    pub(crate) starts: &'a [usize],
     /// For each set of updates of cells that a vector has, the first one that has it.
     pub(crate) firsts: &'a [u32],
     /// For each of these sets and each state, the states to go to under vectors with all its updates, as planes.
     pub(crate) links: &'a [Sequence<Sequence<u64>>],
 }
 
-/// A path of sets of updates of cells, and labels along it.
+/// A path of sets of updates of cells and of prints, and labels along it.
 #[derive(Clone, Copy)]
 pub(crate) struct Look<'a> {
     /// What the search is over.
@@ -46,7 +57,10 @@ pub(crate) struct Look<'a> {
     pub(crate) numbers: &'a [u32],
     /// The first vectors that have them.
     pub(crate) path: &'a [u32],
-    /// For each step the labels of the predicate terms, where all updates of the path are listed.
+    /// The prints of the states along the path, one more than sets.
+    pub(crate) prints: &'a [u32],
+    /// For each step the labels of the predicate terms' arguments, where all updates and equalities of the path are
+    /// listed.
     pub(crate) rows: &'a [Sequence<u32>],
 }
 
@@ -74,14 +88,30 @@ fn tells_apart(
     requires pair { IsPairWithin look.now pair }
     requires size { length plane.now ≡ words_of look.now.search.environment.now.states }
     ensures { IfOk result (λ is. IsTrue is ↔ TellsApart (space_tree look.now.search.space.now)
-        (environment_tree look.now.search.environment.now) (map (set_of (space_tree look.now.search.space.now) look.now.search.cells.now)
-        look.now.path.now) (pair_tree pair) wanted plane.now) }
+        (environment_tree look.now.search.environment.now) look.now.search.mask
+        (map (set_of (space_tree look.now.search.space.now) look.now.search.cells.now) look.now.path.now) look.now.prints.now
+        (pair_tree pair) wanted plane.now) }
 {
     let search = &look.search;
-    let from = states_with(alloc, search.environment, plane, pair.left, wanted)?;
-    let rest = &look.numbers[pair.left_at as usize..];
-    let last = states_after(alloc, search, from.as_slice(), rest)?;
-    Ok(is_some_with(search.environment, last.as_slice(), pair.right, !wanted))
+    let at = pair.left_at as usize;
+    let from = states_with(
+        alloc,
+        search.environment,
+        plane,
+        bit_wanted(pair.left, wanted),
+    )?;
+    let last = states_after(
+        alloc,
+        search,
+        from.as_slice(),
+        &look.numbers[at..],
+        &look.prints[at..],
+    )?;
+    Ok(is_some_with(
+        search.environment,
+        last.as_slice(),
+        bit_wanted(pair.right, !wanted),
+    ))
 }
 
 /// Whether a path tells a pair apart, from some state that is visited.
@@ -89,47 +119,141 @@ fn is_told_apart(alloc: Global, look: &Look, pair: Pair) -> Result<bool, NoMemor
     requires look { IsLook look.now }
     requires pair { IsPairWithin look.now pair }
     ensures { IfOk result (λ is. IsTrue is ↔ IsToldApart (space_tree look.now.search.space.now)
-        (environment_tree look.now.search.environment.now) (map (set_of (space_tree look.now.search.space.now) look.now.search.cells.now)
-        look.now.path.now) (pair_tree pair)) }
+        (environment_tree look.now.search.environment.now) look.now.search.mask
+        (map (set_of (space_tree look.now.search.space.now) look.now.search.cells.now) look.now.path.now) look.now.prints.now
+        (pair_tree pair)) }
 {
     let search = &look.search;
-    let first = &look.numbers[..pair.left_at as usize];
-    let plane = states_after(alloc, search, search.visited, first)?;
+    let at = pair.left_at as usize;
+    let plane = states_after(
+        alloc,
+        search,
+        search.visited,
+        &look.numbers[..at],
+        &look.prints[..at + 1],
+    )?;
     if tells_apart(alloc, look, pair, plane.as_slice(), true)? {
         return Ok(true);
     }
     Ok(tells_apart(alloc, look, pair, plane.as_slice(), false)?)
 }
 
-/// The label of a predicate term at a step.
-fn label(look: &Look, step: u32, bit: u32) -> u32
+/// Whether a path leads from some state that is visited to one in which a bit is false.
+fn is_told_false(alloc: Global, look: &Look, right: u32) -> Result<bool, NoMemory>
+    requires look { IsLook look.now }
+    requires right { right < length look.now.search.space.now.predicates }
+    ensures { IfOk result (λ is. IsTrue is ↔ IsToldFalse (space_tree look.now.search.space.now)
+        (environment_tree look.now.search.environment.now) look.now.search.mask
+        (map (set_of (space_tree look.now.search.space.now) look.now.search.cells.now) look.now.path.now) look.now.prints.now right) }
+{
+    let search = &look.search;
+    let last = states_after(alloc, search, search.visited, look.numbers, look.prints)?;
+    Ok(is_some_with(
+        search.environment,
+        last.as_slice(),
+        bit_wanted(right, false),
+    ))
+}
+
+/// The part of a row from one place to before another one.
+fn part(row: &[u32], from: usize, to: usize) -> &[u32]
+    requires order { from ≤ to }
+    requires within { to ≤ length row.now }
+    ensures { result.now ≡ take (to - from) (drop from row.now) }
+{
+    &row[from..to]
+}
+
+/// The labels of a predicate term's arguments at a step.
+fn labels<'a>(look: &Look<'a>, step: u32, bit: u32) -> &'a [u32]
     requires look { IsLook look.now }
     requires step { step ≤ length look.now.path.now }
     requires bit { bit < length look.now.search.space.now.predicates }
-    ensures { label_at look.now.rows.now step bit ≡ Some result }
+    ensures { ArePlaceLabels (space_tree look.now.search.space.now).predicates look.now.rows.now step bit result.now }
 {
-    look.rows[step as usize].as_slice()[bit as usize]
+    let starts = look.search.starts;
+    let from = starts[bit as usize];
+    let to = starts[bit as usize + 1];
+    part(look.rows[step as usize].as_slice(), from, to)
 }
 
-/// Whether the window of a pair's probes is congruent, where all updates of the path are listed.
+/// Whether two labels are the same.
+fn are_both_same(both: &[u32]) -> bool
+    requires { length both.now ≡ 2 }
+    ensures { IsTrue result ↔ (get_or both.now 0 0 ≡ get_or both.now 1 0) }
+{
+    both[0] == both[1]
+}
+
+/// Whether labels are the same.
+fn are_same(left: &[u32], right: &[u32]) -> bool
+    ensures { IsTrue result ↔ (left.now ≡ right.now) }
+{
+    left == right
+}
+
+/// Whether two predicate terms have the same predicate.
+fn have_one_predicate(space: &Space, left: u32, right: u32) -> bool
+    requires left { left < length space.now.predicates }
+    requires right { right < length space.now.predicates }
+    ensures { (p q : ProbeTree) → slice_get (space_tree space.now).predicates left ≡ Some p
+        → slice_get (space_tree space.now).predicates right ≡ Some q → IsTrue result ↔ (p.predicate ≡ q.predicate) }
+{
+    let predicates = space.predicates.as_slice();
+    predicates[left as usize].predicate == predicates[right as usize].predicate
+}
+
+/// Whether the window of a pair's probes is congruent, where all updates and equalities of the path are listed.
 fn is_congruent(look: &Look, pair: Pair) -> bool
     requires look { IsLook look.now }
     requires pair { IsPairWithin look.now pair }
     ensures { (left right : ProbeTree) → slice_get (space_tree look.now.search.space.now).predicates pair.left ≡ Some left
         → slice_get (space_tree look.now.search.space.now).predicates pair.right ≡ Some right
-        → IsTrue result ↔ IsCongruent look.now.search.cells.now None
-        (path_window (space_tree look.now.search.space.now) look.now.search.cells.now look.now.path.now pair.left_at left right) }
+        → IsTrue result ↔ IsCongruent look.now.search.cells.now look.now.search.equality
+        (path_window (space_tree look.now.search.space.now) look.now.search.cells.now look.now.path.now look.now.prints.now (Some left)
+        pair.left_at right) }
 {
-    label(look, pair.left_at, pair.left) == label(look, look.path.len() as u32, pair.right)
+    let last = look.path.len() as u32;
+    have_one_predicate(look.search.space, pair.left, pair.right)
+        && are_same(
+            labels(look, pair.left_at, pair.left),
+            labels(look, last, pair.right),
+        )
 }
 
-/// Whether a pair is congruent and told apart.
+/// Whether the window of a probe alone is congruent, where all updates and equalities of the path are listed.
+fn is_one(look: &Look, right: u32) -> bool
+    requires look { IsLook look.now }
+    requires right { right < length look.now.search.space.now.predicates }
+    ensures { (probe : ProbeTree) → slice_get (space_tree look.now.search.space.now).predicates right ≡ Some probe
+        → IsTrue result ↔ IsCongruent look.now.search.cells.now look.now.search.equality
+        (path_window (space_tree look.now.search.space.now) look.now.search.cells.now look.now.path.now look.now.prints.now None 0 probe) }
+{
+    if !is_set(look.search.mask, right) {
+        return false;
+    }
+    let last = look.path.len() as u32;
+    are_both_same(labels(look, last, right))
+}
+
+/// Whether a pair's sides are one predicate term at the last step.
+fn is_one_side(look: &Look, pair: Pair) -> bool
+    ensures { IsTrue result ↔ ((pair.left ≡ pair.right) × (pair.left_at ≡ length look.now.path.now)) }
+{
+    pair.left == pair.right && pair.left_at as usize == look.path.len()
+}
+
+/// Whether a pair is congruent and told apart, which one side is never from itself.
 fn is_seen(alloc: Global, look: &Look, pair: Pair) -> Result<bool, NoMemory>
     requires look { IsLook look.now }
     requires pair { IsPairWithin look.now pair }
     ensures { IfOk result (λ is. IsTrue is ↔ IsSeen (space_tree look.now.search.space.now)
-        (environment_tree look.now.search.environment.now) look.now.search.cells.now look.now.path.now (pair_tree pair)) }
+        (environment_tree look.now.search.environment.now) look.now.search.cells.now look.now.search.equality look.now.search.mask
+        look.now.path.now look.now.prints.now (pair_tree pair)) }
 {
+    if is_one_side(look, pair) {
+        return Ok(false);
+    }
     if !is_congruent(look, pair) {
         return Ok(false);
     }
@@ -147,10 +271,11 @@ fn seen_with_left(
     requires step { left_at ≤ length look.now.path.now }
     requires left { left < length look.now.search.space.now.predicates }
     ensures some { IfOk result (λ seen. IfSome seen (λ pair. IsSeen (space_tree look.now.search.space.now)
-        (environment_tree look.now.search.environment.now) look.now.search.cells.now look.now.path.now (pair_tree pair))) }
+        (environment_tree look.now.search.environment.now) look.now.search.cells.now look.now.search.equality look.now.search.mask
+        look.now.path.now look.now.prints.now (pair_tree pair))) }
     ensures none { IfOk result (λ seen. IfNone seen ((right : ℕ) → IsSeen (space_tree look.now.search.space.now)
-        (environment_tree look.now.search.environment.now) look.now.search.cells.now look.now.path.now
-        (record { left_at = left_at; left = left; right = right }) → ⊥)) }
+        (environment_tree look.now.search.environment.now) look.now.search.cells.now look.now.search.equality look.now.search.mask
+        look.now.path.now look.now.prints.now (record { left_at = left_at; left = left; right = right }) → ⊥)) }
 {
     for right in 0..look.search.space.predicates.len() as u32 {
         let pair = Pair {
@@ -170,10 +295,11 @@ fn seen_at(alloc: Global, look: &Look, left_at: u32) -> Result<Option<Pair>, NoM
     requires look { IsLook look.now }
     requires step { left_at ≤ length look.now.path.now }
     ensures some { IfOk result (λ seen. IfSome seen (λ pair. IsSeen (space_tree look.now.search.space.now)
-        (environment_tree look.now.search.environment.now) look.now.search.cells.now look.now.path.now (pair_tree pair))) }
+        (environment_tree look.now.search.environment.now) look.now.search.cells.now look.now.search.equality look.now.search.mask
+        look.now.path.now look.now.prints.now (pair_tree pair))) }
     ensures none { IfOk result (λ seen. IfNone seen ((left right : ℕ) → IsSeen (space_tree look.now.search.space.now)
-        (environment_tree look.now.search.environment.now) look.now.search.cells.now look.now.path.now
-        (record { left_at = left_at; left = left; right = right }) → ⊥)) }
+        (environment_tree look.now.search.environment.now) look.now.search.cells.now look.now.search.equality look.now.search.mask
+        look.now.path.now look.now.prints.now (record { left_at = left_at; left = left; right = right }) → ⊥)) }
 {
     for left in 0..look.search.space.predicates.len() as u32 {
         if let Some(pair) = seen_with_left(alloc, look, left_at, left)? {
@@ -187,14 +313,47 @@ fn seen_at(alloc: Global, look: &Look, left_at: u32) -> Result<Option<Pair>, NoM
 pub(crate) fn seen_pair(alloc: Global, look: &Look) -> Result<Option<Pair>, NoMemory>
     requires look { IsLook look.now }
     ensures some { IfOk result (λ seen. IfSome seen (λ pair. IsSeen (space_tree look.now.search.space.now)
-        (environment_tree look.now.search.environment.now) look.now.search.cells.now look.now.path.now (pair_tree pair))) }
+        (environment_tree look.now.search.environment.now) look.now.search.cells.now look.now.search.equality look.now.search.mask
+        look.now.path.now look.now.prints.now (pair_tree pair))) }
     ensures none { IfOk result (λ seen. IfNone seen ((left_at left right : ℕ) → IsSeen (space_tree look.now.search.space.now)
-        (environment_tree look.now.search.environment.now) look.now.search.cells.now look.now.path.now
-        (record { left_at = left_at; left = left; right = right }) → ⊥)) }
+        (environment_tree look.now.search.environment.now) look.now.search.cells.now look.now.search.equality look.now.search.mask
+        look.now.path.now look.now.prints.now (record { left_at = left_at; left = left; right = right }) → ⊥)) }
 {
     for left_at in 0..look.path.len() as u32 + 1 {
         if let Some(pair) = seen_at(alloc, look, left_at)? {
             return Ok(Some(pair));
+        }
+    }
+    Ok(None)
+}
+
+/// Whether an equality is congruent without a left probe and told false.
+fn is_seen_alone(alloc: Global, look: &Look, right: u32) -> Result<bool, NoMemory>
+    requires look { IsLook look.now }
+    requires right { right < length look.now.search.space.now.predicates }
+    ensures { IfOk result (λ is. IsTrue is ↔ IsSeenAlone (space_tree look.now.search.space.now)
+        (environment_tree look.now.search.environment.now) look.now.search.cells.now look.now.search.equality look.now.search.mask
+        look.now.path.now look.now.prints.now right) }
+{
+    if !is_one(look, right) {
+        return Ok(false);
+    }
+    Ok(is_told_false(alloc, look, right)?)
+}
+
+/// An equality that is congruent without a left probe and told false. An `Err` says that memory ran out.
+pub(crate) fn seen_alone(alloc: Global, look: &Look) -> Result<Option<u32>, NoMemory>
+    requires look { IsLook look.now }
+    ensures some { IfOk result (λ seen. IfSome seen (λ right. IsSeenAlone (space_tree look.now.search.space.now)
+        (environment_tree look.now.search.environment.now) look.now.search.cells.now look.now.search.equality look.now.search.mask
+        look.now.path.now look.now.prints.now right)) }
+    ensures none { IfOk result (λ seen. IfNone seen ((right : ℕ) → IsSeenAlone (space_tree look.now.search.space.now)
+        (environment_tree look.now.search.environment.now) look.now.search.cells.now look.now.search.equality look.now.search.mask
+        look.now.path.now look.now.prints.now right → ⊥)) }
+{
+    for right in 0..look.search.space.predicates.len() as u32 {
+        if is_seen_alone(alloc, look, right)? {
+            return Ok(Some(right));
         }
     }
     Ok(None)

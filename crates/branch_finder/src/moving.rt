@@ -1,9 +1,8 @@
-//! Where an environment may be after steps with updates of sets: planes of states.
+//! Where an environment may be after steps with updates of sets, by states with prints: planes of states.
 
-ghost use Rattle.std.specs.Prelude.{◌≡◌, ◌*◌, ◌<◌, ◌↔◌, ◌&&◌, ◌||◌, ◌==◌, ℕ, true, map, length, IsTrue, IfOk};
+ghost use Rattle.std.specs.Prelude.{◌≡◌, ◌*◌, ◌<◌, ◌↔◌, ◌&&◌, ◌||◌, ◌==◌, ℕ, suc, true, map, length, bit_and, IsTrue, IfOk};
 ghost use Rattle.std.specs.List.{AllByRecursion};
 ghost use Rattle.lane_planes.specs.Planes.{has_bit};
-ghost use Rattle.ltl_formula.specs.Cubes.{has_bit as has};
 ghost use Rattle.letter_space.specs.SpaceView.{space_tree};
 ghost use Rattle.machines.specs.MachineView.{environment_tree};
 ghost use Rattle.branch_finder.specs.internal.Sets.{numbered_set};
@@ -12,6 +11,7 @@ ghost use Rattle.branch_finder.specs.internal.Looking.{IsSearch};
 
 use crate::looking::Search;
 use crate::planes::{has_bit, no_bits, set_bit};
+use crate::prints::Wanted;
 use lane_planes::or_into;
 use machines::Environment;
 use sequence::{NoMemory, Sequence};
@@ -59,35 +59,50 @@ fn stepped(alloc: Global, search: &Search, plane: &[u64], number: u32) -> Result
     Ok(next)
 }
 
-/// The states that those of a plane lead to along the sets with these numbers.
+/// The states that those of a plane lead to along the sets with these numbers, by states with these prints.
 pub(crate) fn states_after(
     alloc: Global,
     search: &Search,
     plane: &[u64],
     numbers: &[u32],
+    prints: &[u32],
 ) -> Result<Vec<u64>, NoMemory>
     requires search { IsSearch search.now }
     requires size { length plane.now ≡ words_of search.now.environment.now.states }
     requires numbers { AllByRecursion (λ n. n < length search.now.firsts.now) numbers.now }
+    requires prints { length prints.now ≡ suc (length numbers.now) }
     ensures { IfOk result (λ states. IsPlaneOf search.now.environment.now.states (ComesFrom (space_tree search.now.space.now)
-        (environment_tree search.now.environment.now)
-        (map (numbered_set (space_tree search.now.space.now) search.now.cells.now search.now.firsts.now) numbers.now) plane.now)
+        (environment_tree search.now.environment.now) search.now.mask
+        (map (numbered_set (space_tree search.now.space.now) search.now.cells.now search.now.firsts.now) numbers.now) prints.now plane.now)
         states.items) }
 {
     let mut states = plane.to_vec(alloc)?;
-    for number in numbers {
-        states = stepped(alloc, search, states.as_slice(), *number)?;
+    for (step, number) in numbers.iter().enumerate() {
+        let print = print_wanted(search, prints[step]);
+        let from = states_with(alloc, search.environment, states.as_slice(), print)?;
+        states = stepped(alloc, search, from.as_slice(), *number)?;
     }
-    Ok(states)
+    let print = print_wanted(search, prints[numbers.len()]);
+    Ok(states_with(alloc, search.environment, states.as_slice(), print)?)
 }
 
-/// Whether a state is one of a plane, where of so much that is true a bit is as wanted.
-fn belongs(plane: &[u64], state: usize, truths: u32, bit: u32, wanted: bool) -> bool
-    requires state { state < 64 * length plane.now }
-    requires bit { bit < 32 }
-    ensures { IsTrue result ↔ ((has_bit plane.now state ≡ true) × (has bit truths ≡ wanted)) }
+/// That a state has a print.
+fn print_wanted(search: &Search, print: u32) -> Wanted
+    ensures mask { result.mask ≡ search.now.mask }
+    ensures bits { result.bits ≡ print }
 {
-    has_bit(plane, state) && (truths >> bit & 1 == 1) == wanted
+    Wanted {
+        mask: search.mask,
+        bits: print,
+    }
+}
+
+/// Whether a state is one of a plane, where so much is true and is as wanted.
+fn belongs(plane: &[u64], state: usize, truths: u32, wanted: Wanted) -> bool
+    requires state { state < 64 * length plane.now }
+    ensures { IsTrue result ↔ ((has_bit plane.now state ≡ true) × (bit_and truths wanted.mask ≡ wanted.bits)) }
+{
+    has_bit(plane, state) && truths & wanted.mask == wanted.bits
 }
 
 /// Sets a bit of a plane where it belongs there.
@@ -101,38 +116,32 @@ fn set_if(plane: &mut [u64], bit: usize, belongs: bool)
     }
 }
 
-/// The states of a plane in which a bit of what is true is as wanted.
+/// The states of a plane in which what is true is as wanted.
 pub(crate) fn states_with(
     alloc: Global,
     environment: &Environment,
     plane: &[u64],
-    bit: u32,
-    wanted: bool,
+    wanted: Wanted,
 ) -> Result<Vec<u64>, NoMemory>
     requires size { length plane.now ≡ words_of environment.now.states }
-    requires bit { bit < 32 }
     ensures { IfOk result (λ kept. IsPlaneOf environment.now.states
-        (IsKept (environment_tree environment.now) plane.now bit wanted environment.now.states) kept.items) }
+        (IsKept (environment_tree environment.now) plane.now wanted.mask wanted.bits environment.now.states) kept.items) }
 {
     let mut kept = no_bits(alloc, environment.states as usize)?;
     for (state, truths) in environment.truths.as_slice().iter().enumerate() {
-        set_if(
-            &mut kept,
-            state,
-            belongs(plane, state, *truths, bit, wanted),
-        );
+        set_if(&mut kept, state, belongs(plane, state, *truths, wanted));
     }
     Ok(kept)
 }
 
-/// Whether in some state of a plane a bit of what is true is as wanted.
-pub(crate) fn is_some_with(environment: &Environment, plane: &[u64], bit: u32, wanted: bool) -> bool
+/// Whether in some state of a plane what is true is as wanted.
+pub(crate) fn is_some_with(environment: &Environment, plane: &[u64], wanted: Wanted) -> bool
     requires size { length plane.now ≡ words_of environment.now.states }
-    requires bit { bit < 32 }
-    ensures { IsTrue result ↔ ((s : ℕ) × IsKept (environment_tree environment.now) plane.now bit wanted environment.now.states s) }
+    ensures { IsTrue result
+        ↔ ((s : ℕ) × IsKept (environment_tree environment.now) plane.now wanted.mask wanted.bits environment.now.states s) }
 {
     for (state, truths) in environment.truths.as_slice().iter().enumerate() {
-        if belongs(plane, state, *truths, bit, wanted) {
+        if belongs(plane, state, *truths, wanted) {
             return true;
         }
     }

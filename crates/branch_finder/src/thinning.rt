@@ -1,19 +1,17 @@
-//! The window of a pair, without the updates that it does not need.
+//! Windows without the updates and equalities that they do not need.
 
-ghost use Rattle.std.specs.Prelude.{◌≡◌, ◌++◌, ◌+◌, ◌<◌, ◌≤◌, length, map, slice_get, IfOk, OnOk};
-ghost use Rattle.tsl_terms.specs.WindowTree.{listed_tree, window_tree};
+ghost use Rattle.std.specs.Prelude.{◌≡◌, ◌++◌, ◌+◌, ◌<◌, ◌≤◌, length, map, IfOk, OnOk};
+ghost use Rattle.tsl_terms.specs.WindowTree.{listed_tree, equated_tree, window_tree};
 ghost use Rattle.letter_space.specs.SpaceView.{space_tree};
 ghost use Rattle.machines.specs.MachineView.{environment_tree};
-ghost use Rattle.branch_finder.specs.Finding.{without_update};
-ghost use Rattle.branch_finder.specs.internal.Paths.{updates_along, IsSeen};
-ghost use Rattle.branch_finder.specs.internal.Looking.{pair_tree, IsLook};
-ghost use Rattle.branch_finder.specs.internal.Thinning.{IsOnPath, AreNeededFrom};
+ghost use Rattle.branch_finder.specs.Finding.{without_update, without_equality};
+ghost use Rattle.branch_finder.specs.internal.Thinning.{IsCandidate, AreNeededFrom, AreEqualitiesNeededFrom};
 
-use crate::looking::{Look, Pair};
+use crate::looking::Search;
 use sequence::{NoMemory, Sequence};
 use std::alloc::Global;
 use term_congruence::congruent;
-use tsl_terms::{Listed, Window, copy_probe, copy_term, copy_window};
+use tsl_terms::{Equated, Listed, Window, copy_probe, copy_term, copy_window};
 
 /// Adds equal updates at the end of others.
 fn add_copies(alloc: Global, copies: &mut Vec<Listed>, updates: &[Listed]) -> Result<(), NoMemory>
@@ -56,78 +54,148 @@ fn without_update(alloc: Global, window: &Window, place: usize) -> Result<Window
     })
 }
 
-/// The window of a pair with these updates.
-fn window_of(
+/// Adds equal equalities at the end of others.
+fn add_equal_copies(
     alloc: Global,
-    look: &Look,
-    pair: Pair,
-    updates: Vec<Listed>,
-) -> Result<Window, NoMemory>
-    requires look { IsLook look.now }
-    requires updates { map listed_tree updates.items
-        ≡ updates_along (space_tree look.now.search.space.now).controlled look.now.search.cells.now 0 look.now.path.now }
-    requires seen { IsSeen (space_tree look.now.search.space.now) (environment_tree look.now.search.environment.now)
-        look.now.search.cells.now look.now.path.now (pair_tree pair) }
-    ensures { IfOk result (λ w. IsOnPath (space_tree look.now.search.space.now) look.now.search.cells.now look.now.path.now
-        (pair_tree pair) (window_tree w)) }
+    copies: &mut Vec<Equated>,
+    equalities: &[Equated],
+) -> Result<(), NoMemory>
+    ensures { OnOk result (map equated_tree copies.new.items ≡ map equated_tree copies.old.items ++ map equated_tree equalities.now) }
 {
-    let predicates = look.search.space.predicates.as_slice();
+    for equality in equalities {
+        copies.push(Equated {
+            probe: copy_probe(alloc, &equality.probe)?,
+            offset: equality.offset,
+        })?;
+    }
+    Ok(())
+}
+
+/// The window without the equality at a place.
+fn without_equality(alloc: Global, window: &Window, place: usize) -> Result<Window, NoMemory>
+    requires { place < length window.now.equalities }
+    ensures { IfOk result (λ w. window_tree w ≡ without_equality place (window_tree window.now)) }
+{
+    let equalities = window.equalities.as_slice();
+    let mut rest = Vec::new(alloc);
+    add_equal_copies(alloc, &mut rest, &equalities[..place])?;
+    add_equal_copies(alloc, &mut rest, &equalities[place + 1..])?;
+    let Window {
+        left,
+        left_at,
+        right,
+        length,
+        updates,
+        ..
+    } = copy_window(alloc, window)?;
     Ok(Window {
-        left: Some(copy_probe(alloc, &predicates[pair.left as usize])?),
-        left_at: pair.left_at,
-        right: copy_probe(alloc, &predicates[pair.right as usize])?,
-        length: look.path.len() as u32,
-        updates: Sequence::from_vec(updates),
-        equalities: Sequence::new(alloc),
+        left,
+        left_at,
+        right,
+        length,
+        updates,
+        equalities: Sequence::from_vec(rest),
     })
 }
 
 /// The window without the update at a place, where it stays congruent, and otherwise as it is.
 fn thinned_at(
     alloc: Global,
-    look: &Look,
-    _pair: Pair,
+    search: &Search,
     window: Window,
     place: usize,
 ) -> Result<Window, NoMemory>
-    requires on { IsOnPath (space_tree look.now.search.space.now) look.now.search.cells.now look.now.path.now
-        (pair_tree _pair) (window_tree window) }
+    requires candidate { IsCandidate (space_tree search.now.space.now) (environment_tree search.now.environment.now)
+        search.now.cells.now search.now.equality window.length (window_tree window) }
     requires place { place < length window.updates }
-    requires needed { AreNeededFrom look.now.search.cells.now (place + 1) (window_tree window) }
-    ensures on { IfOk result (λ w. IsOnPath (space_tree look.now.search.space.now) look.now.search.cells.now look.now.path.now
-        (pair_tree _pair) (window_tree w)) }
+    requires needed { AreNeededFrom search.now.cells.now search.now.equality (place + 1) (window_tree window) }
+    ensures candidate { IfOk result (λ w. IsCandidate (space_tree search.now.space.now) (environment_tree search.now.environment.now)
+        search.now.cells.now search.now.equality window.length (window_tree w)) }
     ensures place { IfOk result (λ w. place ≤ length w.updates) }
-    ensures needed { IfOk result (λ w. AreNeededFrom look.now.search.cells.now place (window_tree w)) }
+    ensures needed { IfOk result (λ w. AreNeededFrom search.now.cells.now search.now.equality place (window_tree w)) }
 {
     let thinner = without_update(alloc, &window, place)?;
-    if congruent(alloc, &thinner, look.search.cells, None)? {
+    if congruent(alloc, &thinner, search.cells, search.equality)? {
         return Ok(thinner);
     }
     Ok(window)
 }
 
-/// The window of a pair that is seen, with those of these updates that it needs: without any one of them it is
-/// not congruent. An `Err` says that memory ran out.
-pub(crate) fn needed_window(
-    alloc: Global,
-    look: &Look,
-    pair: Pair,
-    updates: Vec<Listed>,
-) -> Result<Window, NoMemory>
-    requires look { IsLook look.now }
-    requires updates { map listed_tree updates.items
-        ≡ updates_along (space_tree look.now.search.space.now).controlled look.now.search.cells.now 0 look.now.path.now }
-    requires seen { IsSeen (space_tree look.now.search.space.now) (environment_tree look.now.search.environment.now)
-        look.now.search.cells.now look.now.path.now (pair_tree pair) }
-    ensures on { IfOk result (λ w. IsOnPath (space_tree look.now.search.space.now) look.now.search.cells.now look.now.path.now
-        (pair_tree pair) (window_tree w)) }
-    ensures needed { IfOk result (λ w. AreNeededFrom look.now.search.cells.now 0 (window_tree w)) }
+/// The window without the updates that it does not need.
+fn with_needed_updates(alloc: Global, search: &Search, found: Window) -> Result<Window, NoMemory>
+    requires { IsCandidate (space_tree search.now.space.now) (environment_tree search.now.environment.now)
+        search.now.cells.now search.now.equality found.length (window_tree found) }
+    ensures candidate { IfOk result (λ w. IsCandidate (space_tree search.now.space.now) (environment_tree search.now.environment.now)
+        search.now.cells.now search.now.equality found.length (window_tree w)) }
+    ensures needed { IfOk result (λ w. AreNeededFrom search.now.cells.now search.now.equality 0 (window_tree w)) }
 {
-    let mut window = window_of(alloc, look, pair, updates)?;
+    let mut window = found;
     let mut place = window.updates.len();
     while place > 0 {
         place -= 1;
-        window = thinned_at(alloc, look, pair, window, place)?;
+        window = thinned_at(alloc, search, window, place)?;
     }
     Ok(window)
+}
+
+/// The window without the equality at a place, where it stays congruent, and otherwise as it is.
+fn unequal_at(
+    alloc: Global,
+    search: &Search,
+    window: Window,
+    place: usize,
+) -> Result<Window, NoMemory>
+    requires candidate { IsCandidate (space_tree search.now.space.now) (environment_tree search.now.environment.now)
+        search.now.cells.now search.now.equality window.length (window_tree window) }
+    requires place { place < length window.equalities }
+    requires updates { AreNeededFrom search.now.cells.now search.now.equality 0 (window_tree window) }
+    requires needed { AreEqualitiesNeededFrom search.now.cells.now search.now.equality (place + 1) (window_tree window) }
+    ensures candidate { IfOk result (λ w. IsCandidate (space_tree search.now.space.now) (environment_tree search.now.environment.now)
+        search.now.cells.now search.now.equality window.length (window_tree w)) }
+    ensures place { IfOk result (λ w. place ≤ length w.equalities) }
+    ensures updates { IfOk result (λ w. AreNeededFrom search.now.cells.now search.now.equality 0 (window_tree w)) }
+    ensures needed { IfOk result (λ w. AreEqualitiesNeededFrom search.now.cells.now search.now.equality place (window_tree w)) }
+{
+    let thinner = without_equality(alloc, &window, place)?;
+    if congruent(alloc, &thinner, search.cells, search.equality)? {
+        return Ok(thinner);
+    }
+    Ok(window)
+}
+
+/// The window without the equalities that it does not need.
+fn with_needed_equalities(alloc: Global, search: &Search, found: Window) -> Result<Window, NoMemory>
+    requires candidate { IsCandidate (space_tree search.now.space.now) (environment_tree search.now.environment.now)
+        search.now.cells.now search.now.equality found.length (window_tree found) }
+    requires updates { AreNeededFrom search.now.cells.now search.now.equality 0 (window_tree found) }
+    ensures candidate { IfOk result (λ w. IsCandidate (space_tree search.now.space.now) (environment_tree search.now.environment.now)
+        search.now.cells.now search.now.equality found.length (window_tree w)) }
+    ensures updates { IfOk result (λ w. AreNeededFrom search.now.cells.now search.now.equality 0 (window_tree w)) }
+    ensures needed { IfOk result (λ w. AreEqualitiesNeededFrom search.now.cells.now search.now.equality 0 (window_tree w)) }
+{
+    let mut window = found;
+    let mut place = window.equalities.len();
+    while place > 0 {
+        place -= 1;
+        window = unequal_at(alloc, search, window, place)?;
+    }
+    Ok(window)
+}
+
+/// The window with those of its updates and equalities that it needs: without any one of them it is not congruent.
+/// An `Err` says that memory ran out.
+pub(crate) fn needed_window(
+    alloc: Global,
+    search: &Search,
+    window: Window,
+) -> Result<Window, NoMemory>
+    requires { IsCandidate (space_tree search.now.space.now) (environment_tree search.now.environment.now)
+        search.now.cells.now search.now.equality window.length (window_tree window) }
+    ensures candidate { IfOk result (λ w. IsCandidate (space_tree search.now.space.now) (environment_tree search.now.environment.now)
+        search.now.cells.now search.now.equality window.length (window_tree w)) }
+    ensures updates { IfOk result (λ w. AreNeededFrom search.now.cells.now search.now.equality 0 (window_tree w)) }
+    ensures equalities { IfOk result (λ w. AreEqualitiesNeededFrom search.now.cells.now search.now.equality 0 (window_tree w)) }
+{
+    let thinned = with_needed_updates(alloc, search, window)?;
+    Ok(with_needed_equalities(alloc, search, thinned)?)
 }

@@ -9,22 +9,22 @@ use machines::Environment;
 use sequence::NoMemory;
 use std::alloc::Global;
 
-/// Adds a state at the end of others where it is not there.
-fn add_state(found: &mut Vec<u32>, state: u32) -> Result<(), NoMemory>
+/// Adds a number at the end of others where it is not there.
+pub(crate) fn add_once(found: &mut Vec<u32>, number: u32) -> Result<(), NoMemory>
     ensures { OnOk result (found.new.items
-        ≡ if is_among found.old.items state then found.old.items else found.old.items ++ state ∷ []) }
+        ≡ if is_among found.old.items number then found.old.items else found.old.items ++ number ∷ []) }
 {
-    if !is_found(found, state) {
-        found.push(state)?;
+    if !is_found(found, number) {
+        found.push(number)?;
     }
     Ok(())
 }
 
-/// Whether a state is found.
-fn is_found(found: &[u32], state: u32) -> bool
-    ensures { result ≡ is_among found.now state }
+/// Whether a number is found.
+fn is_found(found: &[u32], number: u32) -> bool
+    ensures { result ≡ is_among found.now number }
 {
-    found.iter().any(|other| *other == state)
+    found.iter().any(|other| *other == number)
 }
 
 /// Adds the states that the one at a place goes to.
@@ -39,7 +39,7 @@ fn add_successors(
 {
     let state = found[place];
     for vector in 0..environment.vectors {
-        add_state(found, environment.successor(state, vector))?;
+        add_once(found, environment.successor(state, vector))?;
     }
     Ok(())
 }

@@ -1,6 +1,6 @@
 -- Internal: only private functions of this crate use these words.
--- A path that is looked at: an environment and its visited states, a space, cells, a path of vectors and the labels along it.
-use Rattle.std.specs.Prelude.{◌≡◌, ◌<◌, ◌≤◌, ◌^◌, [], map}
+-- A path that is looked at: an environment and its visited states, a space, cells, a path of vectors and prints and the labels along it.
+use Rattle.std.specs.Prelude.{◌≡◌, ℕ, suc, ◌<◌, ◌≤◌, ◌^◌, List, map}
 use Rattle.std.specs.Prelude.{length as count_of}
 use Rattle.std.specs.List.{AllByRecursion}
 use Rattle.letter_space.specs.SpaceView.{space_tree}
@@ -12,34 +12,47 @@ use Rattle.term_congruence.specs.Classes.{IsClassTable}
 use Rattle.branch_finder.specs.declared.looking.Search.{Search}
 use Rattle.branch_finder.specs.declared.looking.Look.{Look}
 use Rattle.branch_finder.specs.declared.looking.Pair.{Pair}
-use Rattle.branch_finder.specs.internal.Paths.{PairTree, probe_term, updates_along}
+use Rattle.branch_finder.specs.internal.Prints.{AreEqualityBits, ArePrintsWithin, ArePrints}
+use Rattle.branch_finder.specs.internal.Arguments.{arguments_of, AreStarts}
+use Rattle.branch_finder.specs.internal.Paths.{PairTree, updates_along, equalities_along}
 use Rattle.branch_finder.specs.internal.Sets.{set_of, first_of, AreFirsts}
 use Rattle.branch_finder.specs.internal.Planes.{IsPlaneOf, AreLinksOf}
 
 abbrev pub pair_tree : Pair → PairTree
 pair_tree pair = record { left_at = pair.left_at; left = pair.left; right = pair.right }
 
--- What holds of a search: the environment fits the space, its visited states are a plane, and for each set of updates of cells that a
--- vector has, there is one that has it, and the rows of states that are gone to under those with all its updates.
+-- What holds of a search: the environment fits the space, its visited states are a plane, the prints are those of its states, the terms
+-- are the arguments of the predicate terms, and for each set of updates of cells that a vector has, there is one that has it, and the rows
+-- of states that are gone to under those with all its updates.
 pub record IsSearch (search : Search) : Type 0 where
   pub fits : EnvironmentFits (space_tree search.space.now) (environment_tree search.environment.now)
   pub visited : IsPlaneOf search.environment.now.states (IsVisited (environment_tree search.environment.now)) search.visited.now
-  pub terms : map term_tree search.terms.now ≡ map probe_term (space_tree search.space.now).predicates
+  pub mask : AreEqualityBits (space_tree search.space.now) search.equality search.mask
+  pub prints : ArePrints (environment_tree search.environment.now) search.mask search.prints.now
+  pub terms : map term_tree search.terms.now ≡ arguments_of (space_tree search.space.now).predicates
+  pub starts : AreStarts (space_tree search.space.now).predicates search.starts.now
   pub firsts : AreFirsts (space_tree search.space.now) search.cells.now search.environment.now.vectors search.firsts.now
   pub few : count_of search.firsts.now < 2 ^ 32
   pub links : AreLinksOf (space_tree search.space.now) (environment_tree search.environment.now)
       (map (set_of (space_tree search.space.now) search.cells.now) search.firsts.now) search.links.now
 
--- What holds of a path that is looked at: it is short, of the first vectors of sets with these numbers, and has labels of the predicate
--- terms where all updates of the cells are listed.
+-- a path is a short one, of the first vectors of sets with these numbers
+pub record IsPath (search : Search) (numbers path : List ℕ) : Type 0 where
+  pub numbers_within : AllByRecursion (λ n. n < count_of search.firsts.now) numbers
+  pub is : path ≡ map (first_of search.firsts.now) numbers
+  pub vectors : AllByRecursion (λ v. v < search.environment.now.vectors) path
+  pub short : count_of path ≤ 3
+
+-- What holds of a path that is looked at: it has one print more than sets, and labels of the predicate terms' arguments where all updates
+-- of the cells and all equalities are listed.
 pub record IsLook (look : Look) : Type 0 where
   pub search : IsSearch look.search
-  pub numbers : AllByRecursion (λ n. n < count_of look.search.firsts.now) look.numbers.now
-  pub path : look.path.now ≡ map (first_of look.search.firsts.now) look.numbers.now
-  pub short : count_of look.path.now ≤ 3
-  pub labelled : IsClassTable (map probe_term (space_tree look.search.space.now).predicates)
+  pub path : IsPath look.search look.numbers.now look.path.now
+  pub prints : ArePrintsWithin look.search.mask look.prints.now
+  pub one_more : count_of look.prints.now ≡ suc (count_of look.path.now)
+  pub labelled : IsClassTable (arguments_of (space_tree look.search.space.now).predicates)
       (updates_along (space_tree look.search.space.now).controlled look.search.cells.now 0 look.path.now)
-      [] (count_of look.path.now) look.rows.now
+      (equalities_along (space_tree look.search.space.now).predicates 0 look.prints.now) (count_of look.path.now) look.rows.now
 
 -- a pair's step is one of the path, and its bits are predicate terms
 pub record IsPairWithin (look : Look) (pair : Pair) : Type 0 where

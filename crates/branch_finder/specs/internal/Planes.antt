@@ -6,6 +6,7 @@ use Rattle.lane_planes.specs.Planes.{has_bit}
 use Rattle.ltl_formula.specs.Cubes.{has_bit as has}
 use Rattle.letter_space.specs.SpaceTree.{SpaceTree}
 use Rattle.machines.specs.MachineTree.{EnvironmentTree, successor_at}
+use Rattle.branch_finder.specs.internal.Prints.{HasPrint}
 use Rattle.branch_finder.specs.internal.Sets.{GoesBy, LeadsTo}
 
 -- how many words a plane of so many bits has
@@ -46,12 +47,12 @@ pub record GoesFrom (space : SpaceTree) (e : EnvironmentTree) (updates : ℕ) (p
   pub set : has_bit plane state ≡ true
   pub goes : GoesBy space e updates state t
 
--- a state of a plane leads to another one along sets
-pub record ComesFrom (space : SpaceTree) (e : EnvironmentTree) (sets plane : List ℕ) (t : ℕ) : Type 0 where
+-- a state of a plane leads to another one along sets, by states with these prints
+pub record ComesFrom (space : SpaceTree) (e : EnvironmentTree) (mask : ℕ) (sets prints plane : List ℕ) (t : ℕ) : Type 0 where
   pub state : ℕ
   pub below : state < e.states
   pub set : has_bit plane state ≡ true
-  pub leads : LeadsTo space e sets state t
+  pub leads : LeadsTo space e mask sets prints state t
 
 -- in a state a bit of what is true is as wanted
 pub record IsTruthOf (e : EnvironmentTree) (bit : ℕ) (wanted : Bool) (s : ℕ) : Type 0 where
@@ -59,8 +60,8 @@ pub record IsTruthOf (e : EnvironmentTree) (bit : ℕ) (wanted : Bool) (s : ℕ)
   pub at : slice_get e.truths s ≡ Some truths
   pub is : has bit truths ≡ wanted
 
--- a state, one of the first so many, is one of a plane, and a bit of what is true in it is as wanted
-pub record IsKept (e : EnvironmentTree) (plane : List ℕ) (bit : ℕ) (wanted : Bool) (count s : ℕ) : Type 0 where
+-- a state, one of the first so many, is one of a plane and has a print
+pub record IsKept (e : EnvironmentTree) (plane : List ℕ) (mask print count s : ℕ) : Type 0 where
   pub below : s < count
   pub set : has_bit plane s ≡ true
-  pub truth : IsTruthOf e bit wanted s
+  pub truth : HasPrint e mask print s

@@ -11,6 +11,7 @@ use Rattle.letter_space.specs.Bits.{bit_of_update}
 use Rattle.letter_space.specs.Letters.{letter_of, term_taken}
 use Rattle.letter_space.specs.Vectors.{picks_of}
 use Rattle.machines.specs.MachineTree.{EnvironmentTree, successor_at}
+use Rattle.branch_finder.specs.internal.Prints.{HasPrint}
 
 -- the mask of a vector: the bits of the updates that it picks
 abbrev pub mask_of : SpaceTree → ℕ → ℕ
@@ -63,7 +64,11 @@ pub record GoesBy (space : SpaceTree) (e : EnvironmentTree) (set s t : ℕ) : Ty
   pub has : HasAll space set vector
   pub goes : successor_at e s vector ≡ Some t
 
--- a state leads to another one along sets
-abbrev pub LeadsTo : SpaceTree → EnvironmentTree → List ℕ → ℕ → ℕ → Type 0
-LeadsTo space e [] s t = s ≡ t
-LeadsTo space e (set ∷ sets) s t = (m : ℕ) × GoesBy space e set s m × LeadsTo space e sets m t
+-- a state leads to another one along sets, by states with these prints, of which there is one more than of sets
+abbrev pub LeadsTo : SpaceTree → EnvironmentTree → ℕ → List ℕ → List ℕ → ℕ → ℕ → Type 0
+LeadsTo space e mask [] [] s t = ⊥
+LeadsTo space e mask (set ∷ sets) [] s t = ⊥
+LeadsTo space e mask [] (print ∷ []) s t = HasPrint e mask print s × (s ≡ t)
+LeadsTo space e mask [] (print ∷ next ∷ prints) s t = ⊥
+LeadsTo space e mask (set ∷ sets) (print ∷ prints) s t =
+    HasPrint e mask print s × (m : ℕ) × GoesBy space e set s m × LeadsTo space e mask sets prints m t

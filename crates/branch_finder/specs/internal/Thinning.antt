@@ -1,17 +1,18 @@
 -- Internal: only private functions of this crate use these words.
--- Windows with updates of one path, from which updates are left out.
-use Rattle.std.specs.Prelude.{◌≡◌, ℕ, ◌<◌, ◌≤◌, true, List, [], ◌∷◌, Some, None, slice_get, ⊤}
+-- Windows with updates and equalities of one path, from which some are left out.
+use Rattle.std.specs.Prelude.{◌≡◌, ℕ, ◌<◌, ◌≤◌, true, List, [], ◌∷◌, Option, Some, slice_get, ⊤, IsTrue}
 use Rattle.std.specs.Prelude.{length as count_of}
 use Rattle.std.specs.List.{AllByRecursion}
 use Rattle.sequence.specs.Numbers.{is_among}
 use Rattle.tsl_terms.specs.TermTree.{ProbeTree}
-use Rattle.tsl_terms.specs.WindowTree.{ListedTree, WindowTree}
+use Rattle.tsl_terms.specs.WindowTree.{ListedTree, EquatedTree, WindowTree}
 use Rattle.tsl_terms.specs.Congruence.{IsCongruent}
-use Rattle.program_tree.specs.Fits.{comes_before}
+use Rattle.program_tree.specs.Fits.{comes_before, are_in_order, left_is_shaped}
+use Rattle.ltl_formula.specs.Cubes.{has_bit}
 use Rattle.letter_space.specs.SpaceTree.{SpaceTree}
-use Rattle.branch_finder.specs.Spurious.{IsOneOf}
-use Rattle.branch_finder.specs.Finding.{without_update}
-use Rattle.branch_finder.specs.internal.Paths.{PairTree, vector_at}
+use Rattle.machines.specs.MachineTree.{EnvironmentTree}
+use Rattle.branch_finder.specs.Spurious.{IsOneOf, IsSpurious}
+use Rattle.branch_finder.specs.Finding.{IsWindowWithin, without_update, without_equality}
 
 -- an update of a cell, one of those of the vector at its offset, from a first offset on and before a last one
 pub record IsOwn (space : SpaceTree) (cells : List ℕ) (vector : ℕ → ℕ) (first last : ℕ) (u : ListedTree) : Type 0 where
@@ -25,18 +26,31 @@ abbrev pub AllRise : List ℕ → List ListedTree → Type 0
 AllRise cells [] = ⊤
 AllRise cells (u ∷ us) = AllByRecursion (λ v. comes_before cells u v ≡ true) us × AllRise cells us
 
--- A congruent window of a pair's probes along a path: its updates are of the cells and of the path, and in the order of programs.
-pub record IsOnPath (space : SpaceTree) (cells path : List ℕ) (pair : PairTree) (w : WindowTree) : Type 0 where
-  pub left : ProbeTree
-  pub has_left : w.left ≡ Some left
-  pub is_left : slice_get space.predicates pair.left ≡ Some left
-  pub is_right : slice_get space.predicates pair.right ≡ Some w.right
-  pub left_at : w.left_at ≡ pair.left_at
-  pub length : w.length ≡ count_of path
-  pub own : AllByRecursion (IsOwn space cells (vector_at path) 0 (count_of path)) w.updates
+-- an equality whose bit a print has at its offset, from a first offset on and before a last one
+pub record IsOwnEquality (probes : List ProbeTree) (print : ℕ → ℕ) (first last : ℕ) (q : EquatedTree) : Type 0 where
+  pub bit : ℕ
+  pub is_bit : slice_get probes bit ≡ Some q.probe
+  pub from : first ≤ q.offset
+  pub before : q.offset < last
+  pub has : has_bit bit (print q.offset) ≡ true
+
+-- A congruent spurious window of a length, in the order of programs: an answer but for what it lists too many.
+pub record IsCandidate (space : SpaceTree) (e : EnvironmentTree) (cells : List ℕ) (equality : Option ℕ) (length : ℕ)
+    (w : WindowTree) : Type 0 where
+  pub long : w.length ≡ length
+  pub within : IsWindowWithin cells length w
+  pub left_shaped : IsTrue (left_is_shaped w.left w.left_at)
   pub rise : AllRise cells w.updates
-  pub congruent : IsCongruent cells None w
+  pub in_order : IsTrue (are_in_order w.equalities)
+  pub congruent : IsCongruent cells equality w
+  pub spurious : IsSpurious space e w
 
 -- without any update from a place on, a window is not congruent
-abbrev pub AreNeededFrom : List ℕ → ℕ → WindowTree → Type 0
-AreNeededFrom cells first w = (place : ℕ) → first ≤ place → place < count_of w.updates → IsCongruent cells None (without_update place w) → ⊥
+abbrev pub AreNeededFrom : List ℕ → Option ℕ → ℕ → WindowTree → Type 0
+AreNeededFrom cells equality first w =
+    (place : ℕ) → first ≤ place → place < count_of w.updates → IsCongruent cells equality (without_update place w) → ⊥
+
+-- without any equality from a place on, a window is not congruent
+abbrev pub AreEqualitiesNeededFrom : List ℕ → Option ℕ → ℕ → WindowTree → Type 0
+AreEqualitiesNeededFrom cells equality first w =
+    (place : ℕ) → first ≤ place → place < count_of w.equalities → IsCongruent cells equality (without_equality place w) → ⊥

@@ -8,6 +8,7 @@ use Rattle.letter_space.proofs.Bounds.{some_vector}
 use Rattle.machines.specs.Visits.{IsVisited}
 use Rattle.machines.specs.MachineView.{environment_tree}
 use Rattle.branch_finder.specs.declared.limits.TheConstants.{MOST_BRANCHES}
+use Rattle.branch_finder.specs.internal.Prints.{ArePrints}
 use Rattle.branch_finder.specs.internal.Sets.{set_of, AreFirsts}
 use Rattle.branch_finder.specs.internal.Planes.{IsPlaneOf, AreLinksOf}
 use Rattle.branch_finder.specs.internal.Visiting.{AreVisited}
@@ -41,9 +42,9 @@ links_of-requires c = record { masks = c.as_slice-2.ensures.value ∙ c.in_ok-ma
 
 -- the first vectors of sets
 firsts_are : (c : goal.After-search-1) → AreFirsts (space_tree c.args.space.now) c.args.cells.now c.args.environment.now.vectors
-    c.as_slice-6.result.now
+    c.as_slice-8.result.now
 firsts_are c =
-    subst (AreFirsts (space_tree c.args.space.now) c.args.cells.now c.args.environment.now.vectors) (sym c.as_slice-6.ensures.value)
+    subst (AreFirsts (space_tree c.args.space.now) c.args.cells.now c.args.environment.now.vectors) (sym c.as_slice-8.ensures.value)
     c.in_ok-sets.ensures.sets.are_firsts
 
 some : (c : goal.After-search-1) → 1 ≤ c.args.environment.now.vectors
@@ -60,23 +61,26 @@ least_window-requires-clause-search c =
       visited = subst (IsPlaneOf c.args.environment.now.states (IsVisited e)) (sym c.as_slice-4.ensures.value)
           (visited_plane e c.as_slice.result.now c.in_ok-visited-2.visited.items
           (subst (AreVisited e) (sym c.as_slice.ensures.value) c.in_ok-visited.ensures) c.in_ok-visited-2.ensures);
-      terms = ap (map term_tree) c.as_slice-5.ensures.value ∙ c.in_ok-terms.ensures;
+      mask = c.equality_bits-mask.ensures;
+      prints = subst (ArePrints e c.equality_bits-mask.result) (sym c.as_slice-5.ensures.value) c.in_ok-prints.ensures;
+      terms = ap (map term_tree) c.as_slice-6.ensures.value ∙ c.in_ok-arguments.ensures.terms;
+      starts = c.as_slice-7.ensures.value ∙ c.in_ok-arguments.ensures.starts;
       firsts = firsts_are c;
-      few = omega (arith, ap length c.as_slice-6.ensures.value, c.in_ok-sets.ensures.small);
-      links = subst (λ (sets : List ℕ). AreLinksOf space e sets c.as_slice-7.result.now)
-          (c.as_slice-3.ensures.value ∙ c.in_ok-sets.ensures.sets.are_sets ∙ ap (map (set_of space cells)) (sym c.as_slice-6.ensures.value))
-          (subst (AreLinksOf space e c.as_slice-3.result.now) (sym c.as_slice-7.ensures) c.in_ok-links.ensures);
+      few = omega (arith, ap length c.as_slice-8.ensures.value, c.in_ok-sets.ensures.small);
+      links = subst (λ (sets : List ℕ). AreLinksOf space e sets c.as_slice-9.result.now)
+          (c.as_slice-3.ensures.value ∙ c.in_ok-sets.ensures.sets.are_sets ∙ ap (map (set_of space cells)) (sym c.as_slice-8.ensures.value))
+          (subst (AreLinksOf space e c.as_slice-3.result.now) (sym c.as_slice-9.ensures) c.in_ok-links.ensures);
     }
 
 pub least_window-requires-clause-some : goal.least_window-requires-clause-some
 least_window-requires-clause-some c =
-    some_first (space_tree c.args.space.now) c.args.cells.now c.as_slice-6.result.now c.args.environment.now.vectors (firsts_are c) (some c)
+    some_first (space_tree c.args.space.now) c.args.cells.now c.as_slice-8.result.now c.args.environment.now.vectors (firsts_are c) (some c)
 
 pub least_window-requires-clause-few : goal.least_window-requires-clause-few
 least_window-requires-clause-few c =
     let vectors = c.args.environment.now.vectors in
     let predicates = c.len-predicates.result in
-    let sets = powers_below (length c.as_slice-6.result.now) vectors c.args.depth (firsts_are c).few in
+    let sets = powers_below (length c.as_slice-8.result.now) vectors c.args.depth (firsts_are c).few in
     let paths = paths_within predicates vectors (some c) c.args.depth (omega (arith, c.if-predicates-eq0.false)) in
     elim (cases_lt MOST_BRANCHES (predicates ^ 2 * vectors ^ c.args.depth)) [
       | inl many ↦ absurd (false_is_not_true c.are_too_many.result c.if-are_too_many.false (c.are_too_many.ensures.1 many))

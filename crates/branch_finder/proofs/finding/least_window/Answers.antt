@@ -17,18 +17,20 @@ window_of_length-requires-clause-few c =
 pub returns-in-Some-clause-found : goal.returns-in-Some-clause-found
 returns-in-Some-clause-found c =
     let search = c.args.search.now in
-    found_least (space_tree search.space.now) (environment_tree search.environment.now) search.cells.now c.args.depth c.loop-length.length
+    found_least (space_tree search.space.now) (environment_tree search.environment.now) search.cells.now search.equality c.args.depth
+    c.loop-length.length
     (window_tree c.in-Some.window) (omega (arith, c.loop-length-test.true)) c.loop-length.invariant
     (rw c.in-Some.is at c.in_ok-window.ensures.found)
 
 pub loop-length-preserved : goal.loop-length-preserved
 loop-length-preserved c =
     let search = c.args.search.now in
-    all_more (HasNoneOf (space_tree search.space.now) (environment_tree search.environment.now) search.cells.now) c.loop-length.length
+    all_more (HasNoneOf (space_tree search.space.now) (environment_tree search.environment.now) search.cells.now search.equality)
+    c.loop-length.length
     c.loop-length.invariant (rw c.in_default.is at c.in_ok-window.ensures.none)
 
 pub returns-clause-none : goal.returns-clause-none
 returns-clause-none c =
     let search = c.args.search.now in
-    none_within (space_tree search.space.now) (environment_tree search.environment.now) search.cells.now c.args.depth
+    none_within (space_tree search.space.now) (environment_tree search.environment.now) search.cells.now search.equality c.args.depth
     (λ n few. c.loop-length.invariant n (omega (arith, few, c.loop-length-test.false)))

@@ -1,20 +1,37 @@
-use Rattle.tsl_terms.specs.WindowTree.{window_tree}
+use Rattle.std.proofs.Common.{◌≡◌, ◌∙◌, List, length, map, sym, ap, subst}
+use Rattle.std.specs.List.{AllByRecursion}
+use Rattle.sequence.proofs.Each.{each_weaker}
+use Rattle.tsl_terms.specs.declared.window.Equated.{Equated}
+use Rattle.tsl_terms.specs.TermTree.{count_of_terms}
+use Rattle.tsl_terms.specs.WindowTree.{EquatedTree, equated_tree, window_tree}
+use Rattle.tsl_terms.specs.Congruence.{IsEquality}
 use Rattle.letter_space.specs.SpaceView.{space_tree}
 use Rattle.machines.specs.MachineView.{environment_tree}
-use Rattle.branch_finder.specs.internal.Looking.{pair_tree}
-use Rattle.branch_finder.proofs.Found.{seen_found, none_on_path}
+use Rattle.branch_finder.specs.internal.Paths.{equalities_along}
+use Rattle.branch_finder.specs.internal.Thinning.{IsCandidate}
+use Rattle.branch_finder.proofs.Seen.{each_is_equality}
+use Rattle.branch_finder.proofs.Found.{thinned_found}
 use Rattle.branch_finder.proofs.finding.window_along.Goals as goal
 
-pub returns-in_ok-needed_window-in-Some-clause-found : goal.returns-in_ok-needed_window-in-Some-clause-found
-returns-in_ok-needed_window-in-Some-clause-found c =
+pub classes_along-requires : goal.classes_along-requires
+classes_along-requires c =
     let search = c.args.search.now in
-    seen_found (space_tree search.space.now) (environment_tree search.environment.now) search.cells.now c.args.path.now
-    search.space.now.is_space c.requires.search.fits.vectors c.requires.vectors (pair_tree c.in-Some.pair)
-    (window_tree c.in_ok-needed_window-in-Some.field-0) (rw c.in-Some.is at c.in_ok-pair.ensures.some)
-    c.in_ok-needed_window-in-Some.ensures.on c.requires.short c.in_ok-needed_window-in-Some.ensures.needed
+    let space = space_tree search.space.now in
+    let two = each_weaker (λ q. IsEquality search.equality q.probe) (λ (q : EquatedTree). count_of_terms q.probe.arguments ≡ 2)
+    (λ q is. is.two)
+    (equalities_along space.predicates 0 c.args.prints.now)
+    (each_is_equality space search.equality search.mask c.args.prints.now c.requires.search.mask c.requires.prints) in
+    subst (AllByRecursion (λ (q : EquatedTree). count_of_terms q.probe.arguments ≡ 2))
+    (sym (ap (λ (qs : List Equated). map equated_tree qs) c.as_slice-2.ensures.value ∙ c.in_ok-equalities.ensures)) two
 
-pub returns-in-None-clause-none : goal.returns-in-None-clause-none
-returns-in-None-clause-none c =
+pub returns-in-Some-clause-found : goal.returns-in-Some-clause-found
+returns-in-Some-clause-found c =
     let search = c.args.search.now in
-    none_on_path (space_tree search.space.now) (environment_tree search.environment.now) search.cells.now c.args.path.now
-    search.space.now.is_space c.requires.search.fits.vectors c.requires.vectors (rw c.in-None.is at c.in_ok-pair.ensures.none)
+    let space = space_tree search.space.now in
+    let e = environment_tree search.environment.now in
+    let seen = rw c.in-Some.is at c.in_ok-window.ensures.some in
+    let thinned = c.in_ok-needed_window-in-Some.ensures in
+    let window = window_tree c.in_ok-needed_window-in-Some.field-0 in
+    thinned_found space e search.cells.now search.equality (length c.args.path.now) window
+    (subst (λ n. IsCandidate space e search.cells.now search.equality n window) seen.long thinned.candidate) c.requires.path.short
+    thinned.updates thinned.equalities

@@ -28,7 +28,7 @@ window_on_path-requires-clause-short c =
 pub returns-in-Some-clause-found : goal.returns-in-Some-clause-found
 returns-in-Some-clause-found c =
     let search = c.args.search.now in
-    subst (λ n. IsFoundOf (space_tree search.space.now) (environment_tree search.environment.now) search.cells.now n
+    subst (λ n. IsFoundOf (space_tree search.space.now) (environment_tree search.environment.now) search.cells.now search.equality n
     (window_tree c.in-Some.window))
     (ap length (c.deref.ensures.value ∙ c.in_ok-path.ensures)
     ∙ path_length (length search.firsts.now) c.args.length c.loop-number.number)
@@ -38,15 +38,17 @@ pub loop-number-preserved : goal.loop-number-preserved
 loop-number-preserved c =
     let search = c.args.search.now in
     let firsts = search.firsts.now in
-    all_more (λ n. HasNoneOn (space_tree search.space.now) (environment_tree search.environment.now) search.cells.now
+    all_more (λ n. HasNoneOn (space_tree search.space.now) (environment_tree search.environment.now) search.cells.now search.equality
     (map (first_of firsts) (path_of (length firsts) c.args.length n))) c.loop-number.number c.loop-number.invariant
     (subst (λ (ns : List ℕ). HasNoneOn (space_tree search.space.now) (environment_tree search.environment.now) search.cells.now
-    (map (first_of firsts) ns))
+    search.equality (map (first_of firsts) ns))
     (c.deref.ensures.value ∙ c.in_ok-path.ensures) (rw c.in_default.is at c.in_ok-window.ensures.none))
 
 pub returns-clause-none : goal.returns-clause-none
 returns-clause-none c =
     let search = c.args.search.now in
-    none_of_length (space_tree search.space.now) (environment_tree search.environment.now) search.cells.now search.firsts.now c.args.length
+    none_of_length (space_tree search.space.now) (environment_tree search.environment.now) search.cells.now search.equality
+    search.firsts.now
+    c.args.length
     search.space.now.is_space c.requires.search.fits.vectors c.requires.search.firsts
     (λ n below. c.loop-number.invariant n (omega (arith, below, c.count_paths-number-end.ensures, c.loop-number-test.false)))

@@ -10,4 +10,4 @@ use Rattle.branch_finder.proofs.finding.window_of_length.Given as goal
 abbrev pub invariant-loop-number : goal.invariant-loop-number
 invariant-loop-number l =
     (n : ℕ) → n < l.number → HasNoneOn (space_tree l.search.space.now) (environment_tree l.search.environment.now) l.search.cells.now
-    (map (first_of l.search.firsts.now) (path_of (length l.search.firsts.now) l.length n))
+    l.search.equality (map (first_of l.search.firsts.now) (path_of (length l.search.firsts.now) l.length n))

@@ -1,40 +1,43 @@
-use Rattle.std.proofs.Common.{◌≡◌, ◌∙◌, ◌<◌, length, map, sym, ap, subst, arith}
-use Rattle.std.specs.Prelude.{IfSome, IfNone}
+use Rattle.std.proofs.Common.{◌≡◌, ◌∙◌, ◌<◌, [], List, ℕ, length, map, sym, ap, subst, arith}
+use Rattle.std.specs.Prelude.{IfNone}
 use Rattle.std.specs.List.{AllByRecursion}
 use Rattle.std.proofs.lemmas.List.{length-map}
-use Rattle.tsl_terms.specs.WindowTree.{window_tree}
 use Rattle.letter_space.specs.SpaceView.{space_tree}
 use Rattle.machines.specs.MachineView.{environment_tree}
 use Rattle.branch_finder.specs.internal.Sets.{first_of}
-use Rattle.branch_finder.specs.internal.Finding.{IsFoundOf, HasNoneOn}
+use Rattle.branch_finder.specs.internal.Finding.{HasNoneOn, HasNoneBy}
+use Rattle.branch_finder.proofs.LoopFacts.{none_leads}
+use Rattle.branch_finder.proofs.VisitLemmas.{is_environment}
+use Rattle.branch_finder.proofs.Chosen.{none_by_none}
 use Rattle.branch_finder.proofs.Found.{firsts_within}
 use Rattle.branch_finder.proofs.finding.window_on_path.Goals as goal
 
-pub window_along-requires : goal.window_along-requires
-window_along-requires c =
+pub window_from-requires-clause-path : goal.window_from-requires-clause-path
+window_from-requires-clause-path c =
     let search = c.args.search.now in
     let firsts = search.firsts.now in
     let numbers = c.args.numbers.now in
     let is : c.as_slice.result.now ≡ map (first_of firsts) numbers = c.as_slice.ensures.value ∙ c.in_ok-path.ensures in
     record {
-      search = c.requires.search;
-      numbers = c.requires.numbers;
-      path = is;
+      numbers_within = c.requires.numbers;
+      is = is;
       vectors = subst (AllByRecursion (λ v. v < search.environment.now.vectors)) (sym is)
           (firsts_within firsts numbers search.environment.now.vectors c.requires.search.firsts.within c.requires.numbers);
       short = omega (arith, ap length is, length-map numbers (first_of firsts), c.requires.short);
     }
 
-pub returns-clause-found : goal.returns-clause-found
-returns-clause-found c =
-    let search = c.args.search.now in
-    let is : c.as_slice.result.now ≡ map (first_of search.firsts.now) c.args.numbers.now = c.as_slice.ensures.value ∙ c.in_ok-path.ensures in
-    subst (λ n. IfSome c.in_ok-found.found (λ w. IsFoundOf (space_tree search.space.now) (environment_tree search.environment.now)
-    search.cells.now n (window_tree w))) (ap length is ∙ length-map c.args.numbers.now (first_of search.firsts.now))
-    c.in_ok-found.ensures.found
-
 pub returns-clause-none : goal.returns-clause-none
 returns-clause-none c =
     let search = c.args.search.now in
-    subst (λ path. IfNone c.in_ok-found.found (HasNoneOn (space_tree search.space.now) (environment_tree search.environment.now)
-    search.cells.now path)) (c.as_slice.ensures.value ∙ c.in_ok-path.ensures) c.in_ok-found.ensures.none
+    let space = space_tree search.space.now in
+    let e = environment_tree search.environment.now in
+    let cells = search.cells.now in
+    let path = map (first_of search.firsts.now) c.args.numbers.now in
+    let is : c.as_slice.result.now ≡ path = c.as_slice.ensures.value ∙ c.in_ok-path.ensures in
+    let none : c.as_slice-2.result.now ≡ [] = c.as_slice-2.ensures.value ∙ c.new-prints.ensures.items in
+    none_leads c.in_ok-found.found (HasNoneBy space e cells search.equality search.mask path [])
+    (HasNoneOn space e cells search.equality path)
+    (none_by_none space e (is_environment search.environment.now) cells search.equality search.mask path)
+    (subst (λ (ps : List ℕ). IfNone c.in_ok-found.found (HasNoneBy space e cells search.equality search.mask path ps)) none
+    (subst (λ (vs : List ℕ). IfNone c.in_ok-found.found (HasNoneBy space e cells search.equality search.mask vs c.as_slice-2.result.now)) is
+    c.in_ok-found.ensures.none))

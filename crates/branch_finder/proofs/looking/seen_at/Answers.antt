@@ -12,7 +12,8 @@ pub loop-left-preserved : goal.loop-left-preserved
 loop-left-preserved c left right below seen =
     let look = c.args.look.now in
     none_more (λ l. (r : ℕ) × IsSeen (space_tree look.search.space.now) (environment_tree look.search.environment.now)
-    look.search.cells.now look.path.now (record { left_at = c.args.left_at; left = l; right = r })) c.loop-left.left
+    look.search.cells.now look.search.equality look.search.mask look.path.now look.prints.now
+    (record { left_at = c.args.left_at; left = l; right = r })) c.loop-left.left
     (λ l earlier some. c.loop-left.invariant l some.0 earlier some.1) (λ some. (rw c.in_default.is at c.in_ok-pair.ensures.none) some.0 some.1) left below
     (right, seen)
 

@@ -9,4 +9,5 @@ abbrev pub invariant-loop-right : goal.invariant-loop-right
 invariant-loop-right l =
     (right : ℕ) → right < l.right
     → IsSeen (space_tree l.look.search.space.now) (environment_tree l.look.search.environment.now) l.look.search.cells.now
-    l.look.path.now (record { left_at = l.left_at; left = l.left; right = right }) → ⊥
+    l.look.search.equality l.look.search.mask l.look.path.now l.look.prints.now
+    (record { left_at = l.left_at; left = l.left; right = right }) → ⊥

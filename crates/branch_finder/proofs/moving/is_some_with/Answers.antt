@@ -36,7 +36,8 @@ pub loop-state-preserved : goal.loop-state-preserved
 loop-state-preserved c =
     let truths = c.as_slice-truths-items.result.now in
     let state = c.loop-state.state in
-    not_kept_more (environment_tree c.args.environment.now) c.args.plane.now c.args.bit c.args.wanted state (get_or truths state 0)
+    not_kept_more (environment_tree c.args.environment.now) c.args.plane.now c.args.wanted.mask c.args.wanted.bits state
+    (get_or truths state 0)
     c.belongs.result
     (ap (λ ts. slice_get ts state) (sym c.as_slice-truths-items.ensures) ∙ slice_get-get_or truths state 0 c.loop-state-test.true)
     c.belongs.ensures (false_is_not_true c.belongs.result c.if-belongs.false) c.loop-state.invariant

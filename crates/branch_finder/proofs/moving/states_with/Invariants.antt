@@ -5,4 +5,4 @@ use Rattle.branch_finder.proofs.moving.states_with.Given as goal
 -- those gone through that belong there
 abbrev pub invariant-loop-state : goal.invariant-loop-state
 invariant-loop-state l =
-    IsPlaneOf l.environment.states (IsKept (environment_tree l.environment) l.plane l.bit l.wanted l.state) l.kept.items
+    IsPlaneOf l.environment.states (IsKept (environment_tree l.environment) l.plane l.wanted.mask l.wanted.bits l.state) l.kept.items

@@ -27,10 +27,10 @@ loop-vector-preserved c =
     let state = c.index-state.result.now in
     record {
       here =
-          subst (λ ns. slice_get ns c.args.place ≡ Some state) (sym c.in_ok-add_state.ensures)
+          subst (λ ns. slice_get ns c.args.place ≡ Some state) (sym c.in_ok-add_once.ensures)
           (still_here c.loop-vector.found.items c.args.place state c.successor.result c.loop-vector.invariant.here);
       found =
-          subst (AreFoundUpTo e c.args.place (c.loop-vector.vector + 1)) (sym c.in_ok-add_state.ensures)
+          subst (AreFoundUpTo e c.args.place (c.loop-vector.vector + 1)) (sym c.in_ok-add_once.ensures)
           (found_one e c.args.place state c.loop-vector.vector c.successor.result c.loop-vector.found.items c.loop-vector.invariant.here
           (sym c.successor.ensures) c.loop-vector.invariant.found);
     }
