@@ -18,7 +18,6 @@ use Rattle.tsl_terms.specs.Signals.{formula_reads, formula_updates, is_cell, nam
 use Rattle.tsl_terms.specs.WindowTree.{ListedTree, WindowTree, window_probes}
 use Rattle.tsl_terms.specs.Congruence.{IsCongruent}
 use Rattle.tsl_terms.specs.Equality.{equality_in}
-use Rattle.tsl_terms.proofs.PlainWindows.{congruent_is_plain, congruent_whatever}
 use Rattle.tsl_terms.specs.Laws.{FormulasFit}
 use Rattle.tsl_terms.proofs.SameLemmas.{same_tree_itself, same_probe_itself}
 use Rattle.tsl_terms.proofs.SignalFacts.{read_is_input_or_cell, whole_reads}
@@ -35,6 +34,7 @@ use Rattle.program_check.specs.Verdicts.{window_has_bits}
 use Rattle.program_check.proofs.ProgramNames.{cell_named}
 use Rattle.program_check.proofs.SpaceTerms.{probe_with_bit, update_with_bit}
 use Rattle.branch_finder.specs.Spurious.{IsOneOf, IsSpurious}
+use Rattle.branch_finder.proofs.SpuriousProbes.{spurious_probes}
 use Rattle.refinement_loop.specs.Chains.{IsChainFrom}
 use Rattle.refinement_loop.specs.declared.outcome.Search.{Search}
 
@@ -81,16 +81,12 @@ module _ (space : SpaceTree) where
   probe_has_bit bit p at = position_there (λ q. same_probe_tree q p) space.predicates bit p at (same_probe_itself p)
 
   -- a window that is spurious is made of the space's predicate terms and choices
-  pub spurious_has_bits : (e : EnvironmentTree) (w : WindowTree) → w.equalities ≡ [] → IsSpurious space e w →
-      window_has_bits space w ≡ true
-  spurious_has_bits e w none spurious =
+  pub spurious_has_bits : (e : EnvironmentTree) (w : WindowTree) → IsSpurious space e w → window_has_bits space w ≡ true
+  spurious_has_bits e w spurious =
       and_from (list_all (λ p. is_some (bit_of_probe space p)) (window_probes w))
       (list_all (λ (u : ListedTree). is_some (bit_of_update space u.signal u.term)) w.updates)
-      (ap (list_all (λ p. is_some (bit_of_probe space p))) (λ i. window_probes (record w { left = spurious.has_left i; equalities = none i }))
-      ∙ list_all_from_each (λ p. is_some (bit_of_probe space p)) (spurious.left ∷ w.right ∷ []) (
-        probe_has_bit spurious.left_bit spurious.left spurious.is_left,
-        (probe_has_bit spurious.right_bit w.right spurious.is_right, tt),
-      ))
+      (list_all_from_each (λ p. is_some (bit_of_probe space p)) (window_probes w)
+      (spurious_probes space (λ p. is_some (bit_of_probe space p) ≡ true) probe_has_bit e w spurious))
       (listed_have_bits spurious.vector w.updates spurious.listed)
 
 -- the windows of a chain
@@ -100,9 +96,8 @@ each_known spec search windows [] chain = tt
 each_known spec search windows (round ∷ rounds) chain = (
   record {
     shaped = chain.0.shaped;
-    congruent = congruent_whatever (cells_of spec) (equality_in spec.names) round.window chain.0.congruent;
-    bits = spurious_has_bits (spec_space spec) round.environment round.window
-        (congruent_is_plain (cells_of spec) round.window chain.0.congruent).none_listed chain.0.spurious;
+    congruent = chain.0.congruent;
+    bits = spurious_has_bits (spec_space spec) round.environment round.window chain.0.spurious;
   },
   each_known spec search (windows ++ round.window ∷ []) rounds chain.1,
 )

@@ -2,11 +2,12 @@
 -- environment does what no run does. Each round is one under the windows of the rounds before it.
 -- Source: Finkbeiner, Klein, Piskac, Santolucito: Temporal Stream Logic: Synthesis Beyond the Bools (CAV 2019), the refinement of
 -- the underapproximation.
-use Rattle.std.specs.Prelude.{◌≤◌, List, [], ◌∷◌, ◌++◌, None, IsTrue, ⊤}
+use Rattle.std.specs.Prelude.{◌≤◌, List, [], ◌∷◌, ◌++◌, IsTrue, ⊤}
 use Rattle.tsl_terms.specs.SpecTree.{SpecTree}
 use Rattle.tsl_terms.specs.Signals.{cells_of}
 use Rattle.tsl_terms.specs.WindowTree.{WindowTree}
 use Rattle.tsl_terms.specs.Congruence.{IsCongruent}
+use Rattle.tsl_terms.specs.Equality.{equality_in}
 use Rattle.program_tree.specs.Fits.{window_is_shaped}
 use Rattle.letter_space.specs.SpecSpace.{spec_space}
 use Rattle.machines.specs.Rounds.{RoundTree}
@@ -26,7 +27,7 @@ pub record IsRound (spec : SpecTree) (search : Search) (windows : List WindowTre
   pub few_branches : branch_count (spec_space spec) search.depth ≤ MOST_BRANCHES
   pub shaped : IsTrue (window_is_shaped (cells_of spec) round.window)
   pub short : round.window.length ≤ search.depth
-  pub congruent : IsCongruent (cells_of spec) None round.window
+  pub congruent : IsCongruent (cells_of spec) (equality_in spec.names) round.window
   pub spurious : IsSpurious (spec_space spec) round.environment round.window
 
 -- rounds that follow each other after these windows

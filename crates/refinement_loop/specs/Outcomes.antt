@@ -7,6 +7,7 @@ use Rattle.std.specs.Prelude.{◌≡◌, ℕ, ◌<◌, ◌≤◌, List, [], map,
 use Rattle.tsl_terms.specs.SpecTree.{SpecTree}
 use Rattle.tsl_terms.specs.Signals.{cells_of}
 use Rattle.tsl_terms.specs.WindowTree.{WindowTree}
+use Rattle.tsl_terms.specs.Equality.{equality_in}
 use Rattle.program_tree.specs.ProgramTree.{ProgramTree}
 use Rattle.program_tree.specs.ProgramView.{program_tree}
 use Rattle.letter_space.specs.declared.space_error.SpaceError.TheVariants as spaces
@@ -90,12 +91,12 @@ pub record GoesOn (spec : SpecTree) (search : Search) (windows : List WindowTree
   pub none : HasNoSolution spec windows search.states search.bound
   pub fewer : MayGoOn search windows
 
--- such an environment has an annotation, there are not too many branches to look for a window, and no plain window that is short
+-- such an environment has an annotation, there are not too many branches to look for a window, and no congruent window that is short
 -- enough is spurious in it
 pub record IsGenuine (spec : SpecTree) (search : Search) (windows : List WindowTree) (e : EnvironmentTree) : Type 0 where
   pub counterstrategy : IsCounterstrategy spec windows search.env_states (Fixed search.env_bound) e
   pub few_branches : branch_count (spec_space spec) search.depth ≤ MOST_BRANCHES
-  pub no_window : HasNoSpuriousWindow (spec_space spec) e (cells_of spec) search.depth
+  pub no_window : HasNoSpuriousWindow (spec_space spec) e (cells_of spec) (equality_in spec.names) search.depth
 
 -- why no further round is made, where no controller answers its question: as many were made as may be; or fewer, and either there
 -- is no such environment, or there is one in which no window is spurious

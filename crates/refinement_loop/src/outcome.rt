@@ -110,7 +110,7 @@ pub enum Reason {
     Rounds,
     /// No environment with so many states has an annotation within its bound.
     NoCounter,
-    /// This environment has one, and no plain window up to the depth is spurious in it.
+    /// This environment has one, and no congruent window up to the depth is spurious in it.
     Genuine(Environment),
 }
 

@@ -34,7 +34,7 @@ use program_check::CheckError;
 use program_tree::Program;
 use sequence::{NoMemory, Sequence};
 use std::alloc::Global;
-use tsl_terms::{Spec, Window, copy_window, signals};
+use tsl_terms::{Spec, Window, copy_window, equality_of, signals};
 
 /// What a turn of the loop leads to.
 #[derive(Drop)]
@@ -169,7 +169,8 @@ fn window_turn(
 {
     let lists = signals(alloc, spec)?;
     let cells = lists.cells.as_slice();
-    match find_window(alloc, &environment, space, cells, search.depth) {
+    let equality = equality_of(&spec.names);
+    match find_window(alloc, &environment, space, cells, search.depth, equality) {
         Ok(Some(window)) => Ok(Turn::Further(Round {
             environment,
             window,

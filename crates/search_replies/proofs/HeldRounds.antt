@@ -1,6 +1,6 @@
 -- The names of a specification hold each number of its bits and of the rounds over them.
 use Rattle.std.proofs.Common.{◌≡◌, ℕ, ◌==◌, ◌&&◌, Bool, true, false, cond, List, [], ◌∷◌, ◌++◌, Some, slice_get}
-use Rattle.std.proofs.Common.{◌∙◌, IsTrue, refl, sym, ap, subst}
+use Rattle.std.proofs.Common.{IsTrue, refl, sym, subst}
 use Rattle.std.specs.List.{list_all, AllByRecursion}
 use Rattle.std.proofs.lemmas.Bool.{and_parts, and_from, eqb-true}
 use Rattle.std.proofs.lemmas.Option.{none-some}
@@ -10,8 +10,6 @@ use Rattle.tsl_terms.specs.Name.{Name}
 use Rattle.tsl_terms.specs.TermTree.{TermTree}
 use Rattle.tsl_terms.specs.SpecTree.{SpecTree}
 use Rattle.tsl_terms.specs.WellFormed.{SpecFits}
-use Rattle.tsl_terms.specs.Signals.{cells_of}
-use Rattle.tsl_terms.proofs.PlainWindows.{congruent_is_plain}
 use Rattle.tsl_terms.specs.WindowTree.{ListedTree, WindowTree, window_probes}
 use Rattle.term_text.specs.TermText.{is_held, term_is_held, probe_is_held}
 use Rattle.term_text.specs.WindowText.{listed_is_held, window_is_held}
@@ -24,6 +22,7 @@ use Rattle.machines.specs.Moves.{EnvironmentFits}
 use Rattle.machines.specs.MachineView.{environment_tree}
 use Rattle.machines.specs.Rounds.{RoundTree}
 use Rattle.branch_finder.specs.Spurious.{IsOneOf, IsSpurious}
+use Rattle.branch_finder.proofs.SpuriousProbes.{spurious_probes}
 use Rattle.refinement_loop.specs.declared.outcome.Bound.{Bound}
 use Rattle.refinement_loop.specs.declared.outcome.Bound.TheVariants.{Fixed}
 use Rattle.refinement_loop.specs.declared.outcome.Search.{Search}
@@ -60,15 +59,13 @@ module _ (names : List Name) where
       by false other first rest at = rest at
 
   pub spurious_held : (space : SpaceTree) (e : EnvironmentTree) (w : WindowTree) → IsTrue (space_is_held names space) →
-      w.equalities ≡ [] → IsSpurious space e w → IsTrue (window_is_held names w)
-  spurious_held space e w held none h =
+      IsSpurious space e w → IsTrue (window_is_held names w)
+  spurious_held space e w held h =
       let parts = and_parts (list_all (probe_is_held names) space.predicates) (list_all (controlled_is_held names) space.controlled) held in
       and_from _ _
-      (ap (list_all (probe_is_held names)) (λ i. window_probes (record w { left = h.has_left i; equalities = none i }))
-      ∙ list_all_from_each (probe_is_held names) (h.left ∷ w.right ∷ []) (
-        passes_at (probe_is_held names) space.predicates h.left_bit h.left parts.0 h.is_left,
-        (passes_at (probe_is_held names) space.predicates h.right_bit w.right parts.0 h.is_right, tt),
-      ))
+      (list_all_from_each (probe_is_held names) (window_probes w)
+      (spurious_probes space (λ p. probe_is_held names p ≡ true)
+      (λ bit p at. passes_at (probe_is_held names) space.predicates bit p parts.0 at) e w h))
       (list_all_from_each (listed_is_held names) w.updates
       (each_weaker (λ (u : ListedTree). IsOneOf space (h.vector u.offset) u) (λ (u : ListedTree). listed_is_held names u ≡ true)
       (λ u one. taken_held space.controlled (picks_of space.controlled (h.vector u.offset)) u.signal u.term parts.1 one)
@@ -90,8 +87,7 @@ module _ (spec : SpecTree) (fits : SpecFits spec) where
   chain_held search windows (r ∷ rounds) chain = (
     record {
       fits = counterstrategy_fits windows search.env_states (Fixed search.env_bound) r.environment chain.0.environment;
-      window = spurious_held names (spec_space spec) r.environment r.window (space_held spec fits)
-          (congruent_is_plain (cells_of spec) r.window chain.0.congruent).none_listed chain.0.spurious;
+      window = spurious_held names (spec_space spec) r.environment r.window (space_held spec fits) chain.0.spurious;
     },
     chain_held search (windows ++ r.window ∷ []) rounds chain.1,
   )

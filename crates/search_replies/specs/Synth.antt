@@ -51,7 +51,7 @@ pub record IsWritten (search : Search) (spec : SpecTree) (text : List ℕ) : Typ
   pub accepted : IsVerdict spec program bound Yes
 
 -- Why no further round is made, as it is told: as many were made as may be; or fewer, and either no environment of the size has an
--- annotation within its bound under the windows of the rounds, or this one has, and no plain window up to the depth is spurious in
+-- annotation within its bound under the windows of the rounds, or this one has, and no congruent window up to the depth is spurious in
 -- it.
 abbrev pub HasReasonTold : Search → SpecTree → List RoundTree → ReasonTree → Type 0
 HasReasonTold search spec rounds (rounds_made count) = (count ≡ search.rounds) × (length rounds ≡ count)

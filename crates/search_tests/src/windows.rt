@@ -16,7 +16,7 @@ use std::fmt::Write;
 use std::process::Abort;
 use std::test::Fail;
 use test_values::{space_of_spec, spec_of};
-use tsl_terms::Window;
+use tsl_terms::{Window, equality_of};
 
 /// Tests of an input and of a cell, with the bits 0 and 1, and a cell that keeps itself, with bit 2, or copies
 /// the input, with bit 3.
@@ -42,6 +42,11 @@ const UPDATES: &[u8] = b"always guarantee { [y <- x] || [y <- y]; }";
 /// Tests of no cell.
 const INPUTS: &[u8] = b"always guarantee { [y <- x] || [y <- y]; } guarantee { F p x -> F q x; }";
 
+/// An equality of an input and a cell, with bit 0, a test of either, with the bits 1 and 2, and the equality of what
+/// a function gives for them, with bit 3. The cell keeps itself, with bit 4, or copies the input, with bit 5.
+const EQUAL: &[u8] =
+    b"always guarantee { [y <- y] || [y <- x]; } guarantee { eq x y -> p x -> p y; eq x y -> eq (f x) (f y); }";
+
 /// Ten cells with two choices each, and one test.
 const TEN: &[u8] =
     b"always guarantee { [a <- x] || [a <- y]; [b <- x] || [b <- y]; [c <- x] || [c <- y]; [d <- x] || [d <- y];
@@ -49,8 +54,8 @@ const TEN: &[u8] =
     [j <- x] || [j <- y]; } guarantee { F p x; }";
 
 /// A specification, what is true in each state of an environment, the state that it goes to from each state under
-/// each vector, a depth, and the window that is found: the bits of its probes with their steps, and of its updates
-/// with their offsets.
+/// each vector, a depth, and the window that is found: the bits of its probes with their steps, and of its updates and
+/// equalities with their offsets.
 const SEARCHES: &[(&[u8], &[u32], &[u32], u32, &str)] = &[
     // the test holds of the input at all times, and never of the cell
     (COPIES, &[1], &[0, 0], 0, "none"),
@@ -143,6 +148,27 @@ const SEARCHES: &[(&[u8], &[u32], &[u32], u32, &str)] = &[
         "0 at 1 is 1 at 1 when 2 at 0 when 4 at 0",
     ),
     (TWINS, &[1, 3], &[1, 0, 0, 0, 1, 1, 1, 1], 1, "none"),
+    // of two equal values the test holds of one alone
+    (EQUAL, &[11], &[0, 0], 0, "1 at 0 is 2 at 0 when 0 at 0"),
+    // a function gives two values for two equal ones
+    (EQUAL, &[7], &[0, 0], 0, "true is 3 at 0 when 0 at 0"),
+    // nothing is equal at first, and all is as it may be once it is
+    (EQUAL, &[2, 15], &[0, 1, 1, 1], 1, "none"),
+    // a cell that keeps itself is equal, one step later, to what was equal to it
+    (
+        EQUAL,
+        &[11, 8],
+        &[1, 1, 1, 1],
+        1,
+        "1 at 0 is 2 at 0 when 0 at 0",
+    ),
+    (
+        EQUAL,
+        &[15, 8],
+        &[1, 1, 1, 1],
+        1,
+        "1 at 0 is 2 at 1 when 4 at 0 when 0 at 0",
+    ),
     (UPDATES, &[0], &[0, 0], 3, "none"),
     (INPUTS, &[1, 2], &[0, 1, 1, 0], 2, "none"),
 ];
@@ -213,18 +239,22 @@ fn bit(bit: Option<u32>) -> Result<u32, Fail> {
 
 /// The bits of a window.
 fn window_said(alloc: Global, space: &Space, window: &Window) -> Result<String, Fail> {
-    let Some(left) = &window.left else {
-        return Err("the window has no left probe".into());
-    };
-    let left = bit(space.test_bit(left))?;
     let right = bit(space.test_bit(&window.right))?;
-    let mut text = format!(in alloc;
-        "{left} at {} is {right} at {}",
-        window.left_at, window.length
-    )?;
+    let mut text = match &window.left {
+        Some(left) => {
+            let left = bit(space.test_bit(left))?;
+            format!(in alloc; "{left} at {}", window.left_at)?
+        }
+        None => String::from_str(alloc, "true")?,
+    };
+    write!(text, " is {right} at {}", window.length)?;
     for update in window.updates.as_slice() {
         let taken = bit(space.update_bit(update.signal, &update.term))?;
         write!(text, " when {taken} at {}", update.offset)?;
+    }
+    for equality in window.equalities.as_slice() {
+        let equal = bit(space.test_bit(&equality.probe))?;
+        write!(text, " when {equal} at {}", equality.offset)?;
     }
     Ok(text)
 }
@@ -238,11 +268,13 @@ fn search_said(
     next: &[u32],
     depth: u32,
 ) -> Result<String, Fail> {
-    let space = space_of_spec(alloc, &spec_of(alloc, text)?)?;
+    let spec = spec_of(alloc, text)?;
+    let space = space_of_spec(alloc, &spec)?;
     let environment = environment_of(alloc, &space, truths, next)?;
     let cells = signals_of(alloc, &space)?;
+    let equality = equality_of(&spec.names);
     assert!(rt; depth <= 3);
-    match find_window(alloc, &environment, &space, &cells, depth) {
+    match find_window(alloc, &environment, &space, &cells, depth, equality) {
         Ok(Some(window)) => window_said(alloc, &space, &window),
         Ok(None) => Ok(String::from_str(alloc, "none")?),
         Err(BranchError::Branches) => Ok(String::from_str(alloc, "branches")?),

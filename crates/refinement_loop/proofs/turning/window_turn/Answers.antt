@@ -1,7 +1,8 @@
-use Rattle.std.proofs.Common.{◌∙◌, ◌≤◌, ℕ, List, sym, subst}
+use Rattle.std.proofs.Common.{◌∙◌, ◌≤◌, ℕ, List, Option, sym, subst}
 use Rattle.sequence.specs.Numbers.{IsDistinct}
 use Rattle.tsl_terms.specs.Signals.{cells_of}
 use Rattle.tsl_terms.specs.SpecView.{spec_tree}
+use Rattle.tsl_terms.specs.Equality.{equality_in}
 use Rattle.letter_space.specs.SpaceView.{space_tree}
 use Rattle.machines.specs.MachineView.{environment_tree}
 use Rattle.branch_finder.specs.declared.limits.TheConstants.{MOST_BRANCHES}
@@ -27,6 +28,7 @@ returns-in-Ok-None-clause-turn c =
     let spec = spec_tree c.args.spec.now in
     let depth = c.args.search.now.depth in
     let e = environment_tree c.args.environment in
+    let equality = equality_in spec.names in
     let cells = c.as_slice-cells.ensures ∙ c.in_ok-lists.ensures.cells in (
       c.requires.goes_on.none,
       (
@@ -34,9 +36,10 @@ returns-in-Ok-None-clause-turn c =
         record {
           counterstrategy = c.requires.counterstrategy;
           few_branches = subst (λ s. branch_count s depth ≤ MOST_BRANCHES) c.requires.space c.in-Ok-None.ensures.few;
-          no_window = subst (λ s. HasNoSpuriousWindow s e (cells_of spec) depth) c.requires.space
-              (subst (λ (ns : List ℕ). HasNoSpuriousWindow (space_tree c.args.space.now) e ns depth) cells
-              (rw c.in-Ok-None.field-0-is at c.in-Ok-None.ensures.none));
+          no_window = subst (λ s. HasNoSpuriousWindow s e (cells_of spec) equality depth) c.requires.space
+              (subst (λ (ns : List ℕ). HasNoSpuriousWindow (space_tree c.args.space.now) e ns equality depth) cells
+              (subst (λ (o : Option ℕ). HasNoSpuriousWindow (space_tree c.args.space.now) e c.as_slice-cells.result.now o depth) c.equality_of-equality.ensures.number
+              (rw c.in-Ok-None.field-0-is at c.in-Ok-None.ensures.none)));
         },
       ),
     )
