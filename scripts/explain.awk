@@ -41,12 +41,19 @@ function before(said, v,    n, word, i, open_at, close_at, bare, to, made) {
     }
     return made
 }
+# Whether a test is `eq` of two arguments.
+function is_equality(said,    word) {
+    while (gsub(/\([^()]*\)/, "_", said));
+    return split(said, word, " ") == 3 && word[1] == "eq"
+}
 END {
     if (failed) exit 3
     if (reason == "") { print "explain: the text has no line reason" > "/dev/stderr"; exit 3 }
     print "no controller of " states " states within the bound " bound (rounds ? ", under the windows above" : "") (reason == "genuine" ? "" : "; other sizes may have one")
     if (reason == "genuine") {
         print "the environment above wins whatever is updated, so no number of states and no bound helps; only a window could"
+        whose = "no window"
+        for (i = 0; i < tests; i++) if (is_equality(test[i])) whose = "only a window with equalities"
         for (i = 0; i < tests; i++) {
             cells = 0
             split("", told)
@@ -55,9 +62,9 @@ END {
                 was = before(test[i], v)
                 if (!reads_cell) continue
                 cells = 1
-                if (!(was in is_test) && !(was in told)) { told[was]; print "- " test[i] ": where it follows an update, it is what `" was "` was before, which no formula names, so no window can take its truth back" }
+                if (!(was in is_test) && !(was in told)) { told[was]; print "- " test[i] ": where it follows an update, it is what `" was "` was before, which no formula names, so " whose " can take its truth back" }
             }
-            if (!cells) print "- " test[i] ": it reads no cell, so its truth comes from outside or from what symbols mean, and no window can take it back"
+            if (!cells) print "- " test[i] ": it reads no cell, so its truth comes from outside or from what symbols mean, and " whose " can take it back"
         }
         print "next: assume of these tests what the world keeps, in always assume { .. }; or ask less; or --depth 3 where a value goes through several cells"
     } else if (reason == "nocounter")
