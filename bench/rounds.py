@@ -3,7 +3,7 @@ and the texts of a search, which are read as well as written. A predicate term's
 import itertools
 
 import plain
-from windows import Window, is_congruent, is_shaped, needed, under_windows
+from windows import Window, is_congruent, is_equality, is_shaped, needed, tests_of, under_windows
 
 MOST_BRANCHES = 10_000_000
 
@@ -97,26 +97,35 @@ class EnvironmentQuestion:
 
 # ---- spurious windows ----
 
-def is_spurious(space, environment, window):
-    """Whether some path from a state that may be visited has the listed updates, and its truths tell the two tests apart."""
-    if any(atom not in space.bits for atom in (window.left, window.right)):
-        return False
-    vectors = vectors_of(space)
-    fitting = [[v for v, vector in enumerate(vectors) if all(u in vector for u, at in window.updates if at == offset)]
-               for offset in range(window.length)]
-    for path in itertools.product(*fitting):
+def runs_of(space, environment, length):
+    """Each path of so many vectors from a state that may be visited, with the states along it."""
+    for path in itertools.product(range(len(vectors_of(space))), repeat=length):
         for state in environment.visited():
             states = [state]
             for v in path:
                 states.append(environment.after[states[-1]][v])
-            left, right = environment.truths[states[window.left_at]], environment.truths[states[-1]]
-            if (window.left in left) != (window.right in right):
-                return True
-    return False
+            yield path, states
+
+
+def sides_differ(environment, window, states):
+    """Its truths in the states of a path tell its two tests apart; or without a left test the right one is false."""
+    left = window.left is None or window.left in environment.truths[states[window.left_at]]
+    return left != (window.right in environment.truths[states[-1]])
+
+
+def is_spurious(space, environment, window):
+    """Whether some path from a state that may be visited has the listed updates and equalities, and its sides differ there."""
+    if any(test not in space.bits for test in tests_of(window)):
+        return False
+    vectors = vectors_of(space)
+    return any(all(update in vectors[path[at]] for update, at in window.updates)
+               and all(test in environment.truths[states[at]] for test, at in window.equalities)
+               and sides_differ(environment, window, states)
+               for path, states in runs_of(space, environment, window.length))
 
 
 def is_needed(window, cells):
-    """It is as a found window is: congruent, without an update that can be left out, and shaped as those of programs."""
+    """It is as a found window is: congruent, with nothing listed that can be left out, and shaped as those of programs."""
     return is_congruent(window) and needed(window) == window and is_shaped(window, cells)
 
 
@@ -124,28 +133,52 @@ def is_over_branches(space, depth):
     return len(space.tests) ** 2 * len(vectors_of(space)) ** depth > MOST_BRANCHES
 
 
-def spurious_windows(space, environment, cells, length):
-    """The congruent spurious windows of a length that list all updates of cells along their path."""
-    vectors, visited = vectors_of(space), environment.visited()
-    for path in itertools.product(range(len(vectors)), repeat=length):
+def sides_of(space, length):
+    """The left test or None, its step, and the right test, of each window of a length: tests of one predicate, or one equality."""
+    pairs = [(left, at, right) for at in range(length + 1) for left in space.tests for right in space.tests if left[1] == right[1]]
+    return pairs + [(None, 0, test) for test in space.tests if is_equality(test)]
+
+
+def lists_along(space, environment, cells, length):
+    """For each path: all updates of cells on it, all equalities that are true there, and its states."""
+    vectors = vectors_of(space)
+    for path, states in runs_of(space, environment, length):
         updates = tuple((u, at) for at, v in enumerate(path) for cell in cells for u in vectors[v] if u[1] == cell)
-        pairs = [Window(left, at, right, length, updates) for at in range(length + 1) for left in space.tests for right in space.tests
-                 if left[1] == right[1]]
-        pairs = [w for w in pairs if is_congruent(w)]
-        for state in visited:
-            states = [state]
-            for v in path:
-                states.append(environment.after[states[-1]][v])
-            truths = [environment.truths[s] for s in states]
-            yield from (w for w in pairs if (w.left in truths[w.left_at]) != (w.right in truths[-1]))
+        equalities = tuple((test, at) for at, state in enumerate(states) for test in space.tests
+                           if is_equality(test) and test in environment.truths[state])
+        yield updates, equalities, states
 
 
 def find_window(space, environment, cells, depth):
-    """One of the least length, without updates that can be left out; None where there is none up to the depth."""
+    """A congruent spurious window of the least length, with nothing listed that can be left out; None where there is none up to the
+    depth. It begins with all that can be listed on a path: what lists more stays congruent."""
     for length in range(depth + 1):
-        for window in spurious_windows(space, environment, cells, length):
-            return needed(window)
+        congruent = {}
+        for updates, equalities, states in lists_along(space, environment, cells, length):
+            if (updates, equalities) not in congruent:
+                windows = [Window(*sides, length, updates, equalities) for sides in sides_of(space, length)]
+                congruent[updates, equalities] = [window for window in windows if is_congruent(window)]
+            for window in congruent[updates, equalities]:
+                if sides_differ(environment, window, states):
+                    return needed(window)
     return None
+
+
+def some_of(members):
+    """Each choice of some of these, also none and all of them."""
+    return [tuple(itertools.compress(members, kept)) for kept in itertools.product((0, 1), repeat=len(members))]
+
+
+def spurious_windows(space, environment, cells, length):
+    """All windows of a length that are spurious, whether congruent or not: on some path they list some of the updates of cells and
+    some of the equalities that are true there, and their sides differ."""
+    found = set()
+    for updates, equalities, states in lists_along(space, environment, cells, length):
+        windows = (Window(*sides, length) for sides in sides_of(space, length))
+        differing = [window for window in windows if sides_differ(environment, window, states)]
+        found.update(window._replace(updates=fewer_updates, equalities=fewer_equalities)
+                     for fewer_updates in some_of(updates) for fewer_equalities in some_of(equalities) for window in differing)
+    return found
 
 
 # ---- texts of a search ----

@@ -1,7 +1,8 @@
 #!/usr/bin/env python3
-"""Times `solve` on pigeons, parities, random formulas and encodings, beside `minisat`, `cadical` and `picosat` where they are
-installed. The first argument is the most seconds of a run, 20 if there is none; families may be named after it, and then `chains` too: pigeons behind a chain of
-variables, for what is true at level 0."""
+"""Times `solve` on pigeons, parities, random formulas, encodings, and large encodings that an assignment meets or that none meets,
+beside `minisat`, `cadical` and `picosat` where they are installed. The first argument is the most seconds of a run, 20 if there is none; families
+may be named after it, and then `chains` too: pigeons behind a chain of variables, for what is true at level 0."""
+import math
 import os
 import random
 import re
@@ -16,7 +17,8 @@ from measuring import SOLVER, built
 
 LEAST = 0.005
 PASSES = 3
-STANDARD = ("pigeons", "parity", "random", "encodings")
+LONG = 0.02
+STANDARD = ("pigeons", "parity", "random", "encodings", "large")
 
 
 def text_of(variables, clauses):
@@ -79,14 +81,34 @@ def arbiter(count):
     return "always guarantee {\n" + "".join(f"req r{i} -> F [g <- pick r{i}];\n" for i in range(count)) + "}\n"
 
 
+def responses(count):
+    """So many outputs, each of which answers requests of its own."""
+    return "always guarantee {\n" + "".join(f"req r{i} -> F [g{i} <- pick r{i}];\n" for i in range(count)) + "}\n"
+
+
+def cells(count):
+    """A chain of so many cells, each of which takes the one before it some time after that is ready."""
+    names = ["x", *(f"c{i}" for i in range(count))]
+    return "always guarantee {\n" + "".join(f"ready {p} -> F [{c} <- {p}];\n" for p, c in zip(names, names[1:])) + "}\n"
+
+
+def large():
+    """Encodings of some 5,000 to 30,000 variables: those of responses and of cells are met, those of arbiters with fewer states than requests are not."""
+    yield from ((f"responses {n} {states} {bound}", responses(n), states, bound) for n, states, bound in ((7, 4, 1), (8, 4, 1), (9, 2, 1), (6, 6, 1)))
+    yield from ((f"cells {n} {states} {bound}", cells(n), states, bound) for n, states, bound in ((6, 6, 2), (6, 8, 3), (7, 4, 2), (7, 6, 2), (8, 4, 1)))
+    yield from ((f"arbiter {n} {states} {bound}", arbiter(n), states, bound) for n, states, bound in ((6, 6, 5), (7, 4, 2), (7, 6, 2), (8, 4, 1), (9, 4, 1)))
+
+
 def families():
-    yield "pigeons", [(f"pigeons {n}", pigeons(n)) for n in range(5, 9)]
-    yield "chains", [(f"chain {length} {n}", behind_chain(n, length)) for n, length in ((5, 5000), (6, 20000))]
-    yield "parity", [(f"parity {n}", parity(n)) for n in range(9, 16)]
-    yield "random", [(f"random {n} {seed}", threshold(n, seed)) for n in (50, 75, 100, 125, 150, 175, 200) for seed in range(3)]
-    yield "encodings", [
+    """Each family with its formulas, which are made as they are asked for."""
+    yield "pigeons", ((f"pigeons {n}", pigeons(n)) for n in range(5, 9))
+    yield "chains", ((f"chain {length} {n}", behind_chain(n, length)) for n, length in ((5, 5000), (6, 20000)))
+    yield "parity", ((f"parity {n}", parity(n)) for n in range(9, 16))
+    yield "random", ((f"random {n} {seed}", threshold(n, seed)) for n in (50, 75, 100, 125, 150, 175, 200) for seed in range(3))
+    yield "encodings", (
         (f"arbiter {n} {states} {bound}", controller(arbiter(n), states, bound))
-        for n, states, bound in ((2, 1, 2), (2, 2, 2), (3, 2, 3), (3, 3, 3), (4, 3, 4), (4, 4, 4))]
+        for n, states, bound in ((2, 1, 2), (2, 2, 2), (3, 2, 3), (3, 3, 3), (4, 3, 4), (4, 4, 4)))
+    yield "large", ((name, controller(text, states, bound)) for name, text, states, bound in large())
 
 
 def programs():
@@ -145,7 +167,7 @@ def measured(folder, text, words, seconds):
 def shown(run):
     if run is None:
         return f"{'-':>9} {'-':>9} {'-':>8}"
-    seconds, peak, count = run
+    seconds, peak, count, _ = run
     return f"{seconds:9.4f} {'-' if count is None else count:>9} {peak:>8}"
 
 
@@ -167,12 +189,25 @@ def passes(folder, chosen, tools, seconds):
     return runs
 
 
+def told(other, pairs):
+    """What is said of the runs of `solve` beside those of another program, each with its formula's name."""
+    ratio = lambda kind: [one[kind] / two[kind] for _, one, two in pairs if one[kind] and two[kind]]
+    median = lambda members: f"{statistics.median(members):.2f}" if members else "-"
+    times = ratio(0)
+    print(f"{len(pairs)} formulas beside {other}: time {median(times)} by median, {math.exp(statistics.mean(map(math.log, times))):.2f} by the mean of logarithms; "
+          f"learnt clauses to conflicts {median(ratio(2))}, memory {median(ratio(1))} by median")
+    if long := [(one[0] / two[0], name) for name, one, two in pairs if min(one[0], two[0]) > LONG]:
+        print("    the largest ratio where both take more than 20 milliseconds: %.2f, %s" % max(long))
+    if met := [(one[0], two[0]) for _, one, two in pairs if one[3] == 10]:
+        print("    over those that an assignment meets: %.3f seconds in all, and %.3f" % tuple(map(sum, zip(*met))))
+
+
 def main():
     seconds = int(sys.argv[1]) if len(sys.argv) > 1 else 20
     wanted = sys.argv[2:] or STANDARD
     tools = programs()
     chosen = [formula for family, formulas in families() if family in wanted for formula in formulas]
-    ratios = {other: ([], [], []) for other in tools if other != "solve"}
+    beside = {other: [] for other in tools if other != "solve"}
     with built(SOLVER, "./solve < examples/formulas/stairs.cnf") as folder:
         best = passes(folder, chosen, tools, seconds)
     print(f"{'':20} " + " ".join(f"{name:>28}" for name in tools))
@@ -182,17 +217,14 @@ def main():
         for tool, words in tools.items():
             if best[name, tool]:
                 taken, peak, status = best[name, tool]
-                runs[tool] = (taken, peak, conflicts(tool, words, text, status, seconds))
+                runs[tool] = (taken, peak, conflicts(tool, words, text, status, seconds), status)
         print(f"{name:20} " + " ".join(shown(runs.get(tool)) for tool in tools), flush=True)
-        for other, (times, counts, peaks) in ratios.items():
+        for other, pairs in beside.items():
             if "solve" in runs and other in runs and max(runs["solve"][0], runs[other][0]) > LEAST:
-                times.append(runs["solve"][0] / runs[other][0])
-                peaks.append(runs["solve"][1] / runs[other][1])
-                if runs["solve"][2] and runs[other][2]:
-                    counts.append(runs["solve"][2] / runs[other][2])
-    median = lambda members: f"{statistics.median(members):.2f}" if members else "-"
-    for other, (times, counts, peaks) in ratios.items():
-        print(f"median of {len(times)} ratios to {other}: time {median(times)}, learnt clauses to conflicts {median(counts)}, memory {median(peaks)}")
+                pairs.append((name, runs["solve"], runs[other]))
+    for other, pairs in beside.items():
+        if pairs:
+            told(other, pairs)
 
 
 if __name__ == "__main__":

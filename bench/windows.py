@@ -9,7 +9,7 @@ class Window(NamedTuple):
     left_at: int
     right: tuple
     length: int
-    updates: tuple
+    updates: tuple = ()
     equalities: tuple = ()
 
 
