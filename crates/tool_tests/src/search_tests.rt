@@ -147,6 +147,19 @@ const SEARCHES: &[Search] = &[
         Status::Large,
         b"large vectors 1024\n",
     ),
+    // windows that list an equality, or say that one is true
+    (
+        &["synth", "--states", "1"],
+        b"guarantee { eq x z && p x -> p z; }",
+        Status::Done,
+        b"tslprogram 1\ninput x\ninput z\nwindow p x at 0 is p z at 0 when eq x z at 0\nnode 0 set go 0\nstate 0 at 0\nend\n",
+    ),
+    (
+        &["synth", "--states", "1"],
+        b"guarantee { eq x x; }",
+        Status::Done,
+        b"tslprogram 1\ninput x\nwindow true is eq x x at 0\nnode 0 set go 0\nstate 0 at 0\nend\n",
+    ),
     (
         &["prove"],
         b"guarantee { a; } }",
