@@ -244,6 +244,21 @@ sorted_once ls sorted kept moved up is =
     equivalence : IsEquivalence same
     equivalence = on_equiv signed_number_of int_eq_equiv
 
+-- a literal that is below the first of an increasing list
+pub rises_front : (x y : Lit) (ys : List Lit) → signed_number_of x <ℤ signed_number_of y → IsIncreasing (y ∷ ys) → IsIncreasing (x ∷ y ∷ ys)
+rises_front x y ys below up = (
+  (
+    below,
+    each_weaker (λ m. signed_number_of y <ℤ signed_number_of m) (λ m. signed_number_of x <ℤ signed_number_of m)
+        (λ m h. below_chain (signed_number_of x) (signed_number_of y) (signed_number_of m) below h) ys up.0,
+  ),
+  up,
+)
+
+-- an increasing list is in order
+pub in_order_already : (ls : List Lit) → IsIncreasing ls → in_order ls ≡ ls
+in_order_already ls up = one_increasing (in_order ls) ls (IsIncreasing-in_order ls) up (has-in_order ls)
+
 -- ---- one clause within another
 
 contained-cons : (x : Lit) (small large : List Lit) → is_contained (x ∷ small) large ≡ (has large x && is_contained small large)

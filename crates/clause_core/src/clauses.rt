@@ -1,17 +1,19 @@
 //! Clauses: strictly increasing lists of literals.
 
-ghost use Rattle.std.specs.Prelude.{◌≡◌, ◌↔◌, IfOk, IsTrue};
+ghost use Rattle.std.specs.Prelude.{◌≡◌, ◌↔◌, ◌∷◌, true, IfOk, IsTrue};
 ghost use Rattle.clause_core.specs.Clauses.{IsIncreasing, IsOver, in_order, is_contained, has_pair};
 
 use crate::literals::Literal;
 use sequence::NoMemory;
+use smallvec::SmallVec;
 use std::alloc::Global;
 use std::marker::Model;
 
-/// A clause: literals, at least one of which is to be true. They rise strictly by their numbers.
+/// A clause: literals, at least one of which is to be true. They rise strictly by their numbers. Up to six of them
+/// lie in the clause itself, and only more take memory of their own.
 #[derive(Drop)]
 pub struct Clause {
-    literals: Vec<Literal>,
+    literals: SmallVec<Literal, 6>,
 }
 
 impl Model for Clause {
@@ -45,14 +47,60 @@ impl Clause {
     }
 }
 
+/// Whether the numbers of literals rise strictly after a first one.
+fn rise_after(first: Literal, literals: &[Literal]) -> bool
+    ensures { result ≡ true → IsIncreasing (first ∷ literals.now) }
+{
+    let mut last = first;
+    for literal in literals {
+        if last < *literal {
+            last = *literal;
+        } else {
+            return false;
+        }
+    }
+    true
+}
+
+/// Whether the numbers of literals rise strictly.
+fn are_rising(literals: &[Literal]) -> bool
+    ensures { result ≡ true → IsIncreasing literals.now }
+{
+    match literals {
+        [] => true,
+        [first, rest @ ..] => rise_after(*first, rest),
+    }
+}
+
+/// The clause of literals that rise strictly. An `Err` says that memory ran out.
+#[tactic(auto, using(crate::proofs::Sets::in_order_already))]
+fn rising_clause(alloc: Global, literals: &[Literal]) -> Result<Clause, NoMemory>
+    requires { IsIncreasing literals.now }
+    ensures { IfOk result (λ clause. clause ≡ in_order literals.now) }
+{
+    let literals = SmallVec::from_slice(alloc, literals)?;
+    Ok(Clause { literals })
+}
+
+/// The clause of literals in any order. An `Err` says that memory ran out.
+fn sorted_clause(alloc: Global, literals: &[Literal]) -> Result<Clause, NoMemory>
+    ensures { IfOk result (λ clause. clause ≡ in_order literals.now) }
+{
+    let mut literals = SmallVec::from_slice(alloc, literals)?;
+    literals.as_mut_slice().sort_unstable();
+    literals.dedup();
+    Ok(Clause { literals })
+}
+
 /// The clause of these literals: by rising numbers, each once. An `Err` says that memory ran out.
 pub fn clause_of(alloc: Global, literals: &[Literal]) -> Result<Clause, NoMemory>
     ensures { IfOk result (λ clause. clause ≡ in_order literals.now) }
 {
-    let mut literals = literals.to_vec(alloc)?;
-    literals.sort_unstable();
-    literals.dedup();
-    Ok(Clause { literals })
+    if are_rising(literals) {
+        rising_clause(alloc, literals)
+    } else {
+        sorted_clause(alloc, literals)
+    }
 }
 
 /// Whether each literal of the small clause is in the large one.

@@ -28,6 +28,17 @@ impl Model for Literal {
     ghost inverse_ok = { λ a h. ap (λ (n : ℤ). record { number = n }) (signed_number_of-literal_of a.number h.0) };
 }
 
+impl Default for Literal {
+    ghost use Rattle.std.specs.Prelude.{◌≡◌, true};
+
+    ghost is_default = { λ l. l ≡ record { index = 0; positive = true } };
+
+    /// The first variable.
+    fn default() -> Literal {
+        Literal { number: 1 }
+    }
+}
+
 impl Literal {
     /// The literal of a number: v for the variable v, and -v for its negation. `None` comes exactly
     /// at 0 and at the least `i32`, which has no opposite.
