@@ -1,20 +1,19 @@
--- What a look at the next clause keeps, and which literals it chooses.
-use Rattle.std.proofs.Common.{◌≡◌, ℕ, zero, suc, ◌+◌, ◌-◌, ◌<◌, ◌≤◌, Bool, true, false, List, [], ◌∷◌, ◌++◌, length, take}
-use Rattle.std.proofs.Common.{Option, Some, None, slice_get, sym, ap, ◌∙◌, subst, refl, arith, inl, inr, ◌⊎◌, MatchOption, Contains}
-use Rattle.std.specs.Prelude.{nat_lt, not}
-use Rattle.std.proofs.lemmas.Option.{slice_get_within, same_Some, none-some, slice_get-get_or}
-use Rattle.std.proofs.lemmas.List.Elements.{All-contains}
-use Rattle.std.proofs.lemmas.Bool.{true≢false, false≢true, or_cases, or_left, or_right, cases_lt, cases_Bool, ltb-true}
-use Rattle.std.proofs.lemmas.Bool.{lt-ltb}
+-- What a look at a clause finds.
+use Rattle.std.proofs.Common.{◌≡◌, ℕ, ◌+◌, ◌<◌, true, false, List, length, Option, Some, None, slice_get, get_or, sym, ap, ◌∙◌, subst}
+use Rattle.std.proofs.Common.{arith, inl, inr, MatchOption, Contains}
+use Rattle.std.proofs.lemmas.Option.{slice_get-get_or, get_or_from_slice_get}
+use Rattle.std.proofs.lemmas.Bool.{true≢false, cases_lt, cases_Bool}
+use Rattle.sequence.proofs.Places.{contains_at, slice_get_one}
 use Rattle.clause_core.specs.Literals.{Lit, negation, same, has}
-use Rattle.clause_core.specs.Clauses.{IsOver}
-use Rattle.clause_core.proofs.Sets.{same_is, same_from, has-append, Contains_from_has}
-use Rattle.sat_trail.specs.Entries.{literals_of, place_of, entry_with, MayStand}
+use Rattle.clause_core.specs.Clauses.{IsIncreasing}
+use Rattle.clause_core.proofs.Sets.{same_is, same_from, Contains_from_has, has_from_Contains}
+use Rattle.sat_trail.specs.Entries.{literals_of, entry_with, MayStand}
 use Rattle.sat_trail.specs.States.{TrailState, IsSound, IsFalseAt}
-use Rattle.sat_trail.specs.internal.Watching.{AreOthersFalse, CanForce, IsFalseBy, IsLater, IsBestOf, IsFree, AreFalseBetween}
-use Rattle.sat_trail.proofs.Places.{has_entry, entry_has, place_of_entry}
-use Rattle.sat_trail.proofs.Soundness.{apart_from, length_entries, over_literal}
-use Rattle.sat_trail.proofs.TrailSteps.{has_one, none_not_false, one_not_false, forced_may_stand}
+use Rattle.sat_trail.specs.declared.watches.Status.TheVariants.{Unit}
+use Rattle.sat_trail.specs.internal.Watching.{AreOthersFalse, CanForce, IsOpenBy, HasStatus, IsFirstFree, AreFalseBefore, IsFree}
+use Rattle.sat_trail.specs.internal.Watching.{AreFalseBetween}
+use Rattle.sat_trail.proofs.Soundness.{over_literal}
+use Rattle.sat_trail.proofs.TrailSteps.{none_not_false, one_not_false, forced_may_stand}
 
 -- ---- the parts of a look
 
@@ -42,162 +41,6 @@ force_fails t number l forced is_false = record {
   ]);
 }
 
-pub false_place_is : (t : TrailState) → IsSound t → (l : Lit) (variable : ℕ) (o : Option ℕ) →
-    has (literals_of t.entries) (negation l) ≡ true → variable ≡ l.index + 1 → o ≡ place_of t.entries (variable - 1) →
-    MatchOption o (has (literals_of t.entries) (negation l) ≡ false) (IsFalseBy t l)
-false_place_is t sound l variable o is_false at read =
-    let r = has_entry t.entries (negation l) is_false in
-    let found : place_of t.entries l.index ≡ Some r.0 = ap (place_of t.entries) (sym (ap (λ (z : Lit). z.index) r.3))
-    ∙ place_of_entry t.entries r.0 r.1 (apart_from t.variables t.clauses t.entries sound.stand r.0 r.1 r.2) r.2 in
-    subst (λ p. MatchOption p (has (literals_of t.entries) (negation l) ≡ false) (IsFalseBy t l))
-    (sym (read ∙ (ap (place_of t.entries) (let e : variable - 1 ≡ l.index = omega arith in e) ∙ found)))
-    (record { entry = r.1; there = r.2; is = r.3 })
-
--- a clause whose literals are all false
-pub false_all : (t : TrailState) (number : ℕ) (clause : List Lit) → slice_get t.clauses number ≡ Some clause →
-    ((m : Lit) → has clause m ≡ true → has (literals_of t.entries) (negation m) ≡ true) → IsFalseAt t number
-false_all t number clause named all = record {
-  clause = clause;
-  named = named;
-  is_false = none_not_false (literals_of t.entries) clause all;
-}
-
--- ---- the search for the best literals
-
-push_cases : (before : List Lit) (l m : Lit) → has (before ++ l ∷ []) m ≡ true → (has before m ≡ true) ⊎ (l ≡ m)
-push_cases before l m h = elim (or_cases (has before m) (has (l ∷ []) m) (sym (has-append before (l ∷ []) m) ∙ h)) [
-  | inl b ↦ inl b
-  | inr r ↦ inr (has_one l m r)
-]
-
-push_kept : (before : List Lit) (l m : Lit) → has before m ≡ true → has (before ++ l ∷ []) m ≡ true
-push_kept before l m h = has-append before (l ∷ []) m ∙ or_left (has before m) (has (l ∷ []) m) h
-
-push_last : (before : List Lit) (l : Lit) → has (before ++ l ∷ []) l ≡ true
-push_last before l = has-append before (l ∷ []) l
-    ∙ or_right (has before l) (has (l ∷ []) l) (or_left (same l l) false (same_from l l refl))
-
-pub best_begins : (trues : List Lit) (except : Option Lit) → IsBestOf trues [] except None
-best_begins trues except = λ m h. absurd (false≢true h)
-
--- the literal that is passed over
-pub best_passes : (trues before : List Lit) (except found : Option Lit) (l : Lit) → except ≡ Some l → IsBestOf trues before except found →
-    IsBestOf trues (before ++ l ∷ []) except found
-best_passes trues before except None l is none = λ m h. elim (push_cases before l m h) [ inl b ↦ none m b | inr r ↦ is ∙ ap Some r ]
-best_passes trues before except (Some f) l is best = record {
-  member = push_kept before l f best.member;
-  apart = best.apart;
-  best = λ f_false m h n. elim (push_cases before l m h) [
-    | inl b ↦ best.best f_false m b n
-    | inr r ↦ absurd (n (is ∙ ap Some r))
-  ];
-}
-
--- the literal found stays: if it is false the other one is
-pub best_stays : (trues before : List Lit) (except : Option Lit) (f l : Lit) →
-    (has trues (negation f) ≡ true → has trues (negation l) ≡ true) → IsBestOf trues before except (Some f) →
-    IsBestOf trues (before ++ l ∷ []) except (Some f)
-best_stays trues before except f l worse best = record {
-  member = push_kept before l f best.member;
-  apart = best.apart;
-  best = λ f_false m h n. elim (push_cases before l m h) [
-    | inl b ↦ best.best f_false m b n
-    | inr r ↦ ap (λ (z : Lit). has trues (negation z)) (sym r) ∙ worse f_false
-  ];
-}
-
--- the other literal is better: if it is false the one found is
-pub best_taken : (trues before : List Lit) (except : Option Lit) (f l : Lit) → (except ≡ Some l → ⊥) →
-    (has trues (negation l) ≡ true → has trues (negation f) ≡ true) → IsBestOf trues before except (Some f) →
-    IsBestOf trues (before ++ l ∷ []) except (Some l)
-best_taken trues before except f l apart worse best = record {
-  member = push_last before l;
-  apart = apart;
-  best = λ l_false m h n. elim (push_cases before l m h) [
-    | inl b ↦ best.best (worse l_false) m b n
-    | inr r ↦ ap (λ (z : Lit). has trues (negation z)) (sym r) ∙ l_false
-  ];
-}
-
--- the first literal
-pub best_first : (trues before : List Lit) (except : Option Lit) (l : Lit) → (except ≡ Some l → ⊥) → IsBestOf trues before except None →
-    IsBestOf trues (before ++ l ∷ []) except (Some l)
-best_first trues before except l apart none = record {
-  member = push_last before l;
-  apart = apart;
-  best = λ l_false m h n. elim (push_cases before l m h) [
-    | inl b ↦ absurd (n (none m b))
-    | inr r ↦ ap (λ (z : Lit). has trues (negation z)) (sym r) ∙ l_false
-  ];
-}
-
--- two places: the literal that is not false has the largest number
-pub rank_falls : (a b : Bool) (m n : ℕ) → nat_lt m 4294967295 ≡ a → nat_lt n 4294967295 ≡ b → n ≤ m → a ≡ true → b ≡ true
-rank_falls a b m n p q h t =
-    let x : m < 4294967295 = ltb-true m 4294967295 (p ∙ t) in
-    sym q ∙ lt-ltb n 4294967295 (omega arith)
-
-pub later_second : (trues : List Lit) (first second : Lit) (m n : ℕ) → nat_lt m 4294967295 ≡ has trues (negation second) →
-    nat_lt n 4294967295 ≡ has trues (negation first) → n < m → IsLater trues first second second
-later_second trues first second m n p q h = inr (
-  refl,
-  λ t. rank_falls (has trues (negation second)) (has trues (negation first)) m n p q
-      (omega arith) t,
-)
-
-pub later_first : (trues : List Lit) (first second : Lit) (m n : ℕ) → nat_lt m 4294967295 ≡ has trues (negation second) →
-    nat_lt n 4294967295 ≡ has trues (negation first) → m ≤ n → IsLater trues first second first
-later_first trues first second m n p q h = inl (
-  refl,
-  λ t. rank_falls (has trues (negation first))
-      (has trues (negation second)) n m q p h t,
-)
-
-pub best_later : (trues before : List Lit) (except : Option Lit) (f l r : Lit) → (except ≡ Some l → ⊥) → IsLater trues f l r →
-    IsBestOf trues before except (Some f) → IsBestOf trues (before ++ l ∷ []) except (Some r)
-best_later trues before except f l r apart (inl p) best = subst (λ (z : Lit). IsBestOf trues (before ++ l ∷ []) except (Some z)) (sym p.0)
-    (best_stays trues before except f l p.1 best)
-best_later trues before except f l r apart (inr p) best = subst (λ (z : Lit). IsBestOf trues (before ++ l ∷ []) except (Some z)) (sym p.0)
-    (best_taken trues before except f l apart p.1 best)
-
-has-take : (n : ℕ) (xs : List Lit) (l : Lit) → has (take n xs) l ≡ true → has xs l ≡ true
-has-take zero xs l h = absurd (false≢true h)
-has-take (suc n) [] l h = absurd (false≢true h)
-has-take (suc n) (x ∷ xs) l h = elim (or_cases (same x l) (has (take n xs) l) h) [
-  | inl t ↦ or_left (same x l) (has xs l) t
-  | inr t ↦ or_right (same x l) (has xs l) (has-take n xs l t)
-]
-
--- no literal is better than one that is not false
-pub best_settled : (trues : List Lit) (n : ℕ) (literals : List Lit) (except found : Option Lit) (b : Bool) →
-    MatchOption found (b ≡ false) (λ l. b ≡ not (has trues (negation l))) → b ≡ true → IsBestOf trues (take n literals) except found →
-    IsBestOf trues literals except found
-best_settled trues n literals except None b is free best = absurd (false≢true (sym is ∙ free))
-best_settled trues n literals except (Some l) b is free best = record {
-  member = has-take n literals l best.member;
-  apart = best.apart;
-  best = λ l_false m h d. absurd (false≢true (ap not (sym l_false) ∙ (sym is ∙ free)));
-}
-
-pub best_over : (variables n : ℕ) (trues literals : List Lit) (except found : Option Lit) → IsOver variables literals →
-    IsBestOf trues (take n literals) except found → (l : Lit) → found ≡ Some l → l.index < variables
-best_over variables n trues literals except None bounded best l is = absurd (none-some l is)
-best_over variables n trues literals except (Some f) bounded best l is =
-    let e : f ≡ l = same_Some f l is in
-    subst (λ (z : Lit). z.index < variables) e (All-contains (λ m. m.index < variables) literals f bounded
-    (Contains_from_has literals f (has-take n literals f best.member)))
-
-pub rank_low : (t : TrailState) → IsSound t → (l : Lit) (place : ℕ) → IsFalseBy t l place →
-    nat_lt place 4294967295 ≡ has (literals_of t.entries) (negation l)
-rank_low t sound l place by =
-    lt-ltb place 4294967295 (omega (
-      arith,
-      slice_get_within t.entries place by.entry by.there,
-      length_entries t.variables t.clauses t.entries sound.stand,
-      sound.few_variables,
-    ))
-    ∙ sym (entry_has t.entries place by.entry (negation l) by.there by.is)
-
 pub free_found : (trues literals : List Lit) (except : Lit) (start : ℕ) (o : Option ℕ) →
     AreFalseBetween trues literals except start (length literals) →
     MatchOption o (AreFalseBetween trues literals except 0 start) (IsFree trues literals except) →
@@ -212,3 +55,65 @@ free_found trues literals except start None high low = λ m h n. at (Contains_fr
           | inl h ↦ low k m (omega arith) h there n
           | inr h ↦ high k m h below there n
         ]
+
+-- ---- what a clause is
+
+-- the literal at a position is one of them
+pub member_at : (ls : List Lit) (k : ℕ) (l : Lit) → slice_get ls k ≡ Some l → has ls l ≡ true
+member_at ls k l there = has_from_Contains ls l (contains_at ls k l there)
+
+pub conflict_found : {t : TrailState} {number : ℕ} {literals : List Lit} → slice_get t.clauses number ≡ Some literals →
+    AreFalseBefore (literals_of t.entries) literals (length literals) → IsFalseAt t number
+conflict_found {t} {number} {literals} named all = record {
+  clause = literals;
+  named = named;
+  is_false = none_not_false (literals_of t.entries) literals (λ m h. at (Contains_from_has literals m h));
+}
+  where
+    at : {m : Lit} → Contains literals m → has (literals_of t.entries) (negation m) ≡ true
+    at {m} (k, below, is) = all k m below (slice_get-get_or literals k m below ∙ ap Some is)
+
+module _ {trues literals : List Lit} {place : ℕ} {first : Lit} (f : IsFirstFree trues literals place)
+    (read : first ≡ get_or literals place first) where
+  first_is : f.literal ≡ first
+  first_is = sym (read ∙ get_or_from_slice_get literals place f.literal first f.there)
+
+  first_in : has literals first ≡ true
+  first_in = member_at literals place first (f.there ∙ ap Some first_is)
+
+  first_not_false : has trues (negation first) ≡ false
+  first_not_false = ap (λ (l : Lit). has trues (negation l)) (sym first_is) ∙ f.not_false
+
+pub unit_found : {t : TrailState} {number place : ℕ} {literals : List Lit} {first : Lit} → slice_get t.clauses number ≡ Some literals →
+    IsIncreasing literals → (f : IsFirstFree (literals_of t.entries) literals place) → first ≡ get_or literals place first →
+    AreFalseBetween (literals_of t.entries) literals first (place + 1) (length literals) → HasStatus t number (Unit first)
+unit_found {t} {number} {place} {literals} {first} named increasing f read behind = (
+  record {
+    clause = literals;
+    named = named;
+    increasing = increasing;
+    member = first_in f read;
+    others = free_found (literals_of t.entries) literals first (place + 1) None behind (λ k l _ below at n. elim (cases_lt k place) [
+      | inl h ↦ f.before k l h at
+      | inr h ↦ (let e : k ≡ place = omega (arith, h, below) in
+          absurd (n (slice_get_one literals place l f.literal (ap (slice_get literals) (sym e) ∙ at) f.there ∙ first_is f read)))
+    ]);
+  },
+  first_not_false f read,
+)
+
+pub open_found : {t : TrailState} {number place position : ℕ} {literals : List Lit} {first second : Lit} →
+    slice_get t.clauses number ≡ Some literals → (f : IsFirstFree (literals_of t.entries) literals place) → first ≡ get_or literals place first →
+    IsFree (literals_of t.entries) literals first position → second ≡ get_or literals position second → IsOpenBy t number first second
+open_found {t} {number} {place} {position} {literals} {first} {second} named f read g read' =
+    let second_is : g.literal ≡ second = sym (read' ∙ get_or_from_slice_get literals position g.literal second g.there) in record {
+      watch = record {
+        clause = literals;
+        named = named;
+        member = first_in f read;
+        other = member_at literals position second (g.there ∙ ap Some second_is);
+        apart = λ e. g.apart (second_is ∙ e);
+      };
+      first_free = first_not_false f read;
+      second_free = ap (λ (l : Lit). has (literals_of t.entries) (negation l)) (sym second_is) ∙ g.not_false;
+    }

@@ -1,8 +1,7 @@
 -- A watch goes to another literal of its clause: what the visit keeps.
-use Rattle.std.proofs.Common.{◌≡◌, ℕ, ◌+◌, ◌<◌, true, false, List, length, set, Option, Some, None, slice_get, get_or, sym, ap, ◌∙◌, subst, refl}
+use Rattle.std.proofs.Common.{◌≡◌, ℕ, ◌+◌, ◌<◌, true, false, List, length, Some, slice_get, get_or, sym, ap, ◌∙◌, subst, refl}
 use Rattle.std.proofs.Common.{arith, inl, inr}
 use Rattle.std.proofs.lemmas.Option.{slice_get_within, same_Some, none-some, get_or_from_slice_get}
-use Rattle.std.proofs.lemmas.List.{length-set}
 use Rattle.std.proofs.lemmas.Bool.{false≢true, cases_lt, cases_eq}
 use Rattle.sequence.proofs.Places.{contains_at}
 use Rattle.clause_core.specs.Literals.{Lit, negation, has, code_of}
@@ -12,12 +11,12 @@ use Rattle.sat_trail.specs.declared.watches.Pair.{Pair}
 use Rattle.sat_trail.specs.declared.watches.Watches.{Watches}
 use Rattle.sat_trail.specs.Entries.{literals_of}
 use Rattle.sat_trail.specs.States.{TrailState, IsSound}
-use Rattle.sat_trail.specs.internal.Watching.{HasWatch, HasList, TakesOut, AddsWatch, DropsWatch, IsOf, IsPairOf, IsPair, AreWatched}
+use Rattle.sat_trail.specs.internal.Watching.{HasWatch, HasList, TakesOut, AddsWatch, DropsWatch, IsOf, IsPairOf, IsPair, PutsPair, AreBlocked, AreWatched}
 use Rattle.sat_trail.specs.internal.Watching.{IsVisit, AreDue, IsFree, IsPairIn, IsNextPair}
 use Rattle.sat_trail.proofs.Soundness.{over_literal}
 use Rattle.sat_trail.proofs.Places.{entry_has}
 use Rattle.sat_trail.proofs.Stays.{lists_have, asides_more}
-use Rattle.sat_trail.proofs.WatchLists.{has_watch_same, has_watch_more, has_watch_new, AreBlocked, blocked_one, blocked_within}
+use Rattle.sat_trail.proofs.WatchLists.{has_watch_same, has_watch_more, has_watch_new, blocked_one, blocked_within}
 use Rattle.sat_trail.proofs.WatchLists.{blocked_more, blocked_less, pair_was, pair_is_new}
 use Rattle.sat_trail.proofs.Visits.{HasOther, other_in, of_clause}
 
@@ -84,11 +83,12 @@ pub record Moves (t : TrailState) (w v : Watches) (f : Lit) (index : ℕ) : Type
   pub next : IsNextPair t watch.clause other new
   pub adds : AddsWatch w.lists.items (code_of new.first) (record { clause = watch.clause; blocker = other }) between
   pub drops : DropsWatch between (code_of f) index v.lists.items
-  pub pairs : v.pairs.items ≡ set w.pairs.items watch.clause (Some new)
+  pub puts : PutsPair w.pairs.items watch.clause new v.pairs.items
+  pub count : length v.pairs.items ≡ length w.pairs.items
   pub rest : v ≡ record w { lists = v.lists; pairs = v.pairs }
 
 module _ {t : TrailState} {w v : Watches} {f : Lit} {index : ℕ} (m : Moves t w v f index) where
-  open m use {watch, other, new, between, was_read, next.{second, not_false}, adds, drops, pairs, rest}
+  open m use {watch, other, new, between, was_read, next.{second, not_false}, adds, drops, puts, count, rest}
   open m.next.is_in use {clause, named, is}
   open m.was_read use {pair, at, of}
   open m.was_read.read use {sound, watched, visit, due, list, listed, there}
@@ -101,9 +101,6 @@ module _ {t : TrailState} {w v : Watches} {f : Lit} {index : ℕ} (m : Moves t w
 
   first_within : code_of new.first < length w.lists.items
   first_within = lists_have t w sound watched watch.clause clause new.first named is.first
-
-  count : length v.pairs.items ≡ length w.pairs.items
-  count = ap length pairs ∙ length-set w.pairs.items watch.clause (Some new)
 
   -- the list from which the watch is taken is as before
   list_between : slice_get between (code_of f) ≡ Some list
@@ -137,16 +134,9 @@ module _ {t : TrailState} {w v : Watches} {f : Lit} {index : ℕ} (m : Moves t w
           let r = less.2.others i h.watch p.1 p.0 in
           (r.0, record { list = less.0; watch = h.watch; listed = less.1; there = r.1; names = h.names })
 
-  was : (number : ℕ) (o : Option Pair) → (number ≡ watch.clause → ⊥) → slice_get v.pairs.items number ≡ Some o →
-      slice_get w.pairs.items number ≡ Some o
-  was number o = pair_was w.pairs.items new pairs
-
-  is_new : (number : ℕ) (o : Option Pair) → number ≡ watch.clause → slice_get v.pairs.items number ≡ Some o → Some new ≡ o
-  is_new number o = pair_is_new w.pairs.items pairs (slice_get_within w.pairs.items watch.clause (Some pair) at)
-
   -- a literal of the moved pair is the first or the other one
   of_new : (number : ℕ) (p : Pair) (l : Lit) → number ≡ watch.clause → IsPairOf v.pairs.items number p → IsOf p l → IsOf new l
-  of_new number p l e h of_l = subst (λ (q : Pair). IsOf q l) (sym (same_Some new p (is_new number (Some p) e h))) of_l
+  of_new number p l e h of_l = subst (λ (q : Pair). IsOf q l) (sym (same_Some new p (pair_is_new puts h e))) of_l
 
   -- the literals of the new pair are watched
   new_listed : (l : Lit) → IsOf new l → (j : ℕ) × HasWatch v.lists.items (code_of l) watch.clause j
@@ -166,22 +156,24 @@ module _ {t : TrailState} {w v : Watches} {f : Lit} {index : ℕ} (m : Moves t w
 
   pub watched_moved : AreWatched t v
   watched_moved = subst (AreWatched t) (sym rest) (record {
-    lists_all = drops.all ∙ (adds.all ∙ watched.lists_all);
-    pairs_few = omega (arith, count, watched.pairs_few);
+    listing = record {
+      lists_all = drops.all ∙ (adds.all ∙ watched.lists_all);
+      pairs_few = omega (arith, count, watched.pairs_few);
+      blocked = new_blocked;
+      paired = λ number c p named_c h. elim (cases_eq number watch.clause) [
+        | inl e ↦ (let c_is : clause ≡ c = same_Some clause c (sym named ∙ (ap (slice_get t.clauses) (sym e) ∙ named_c)) in
+            subst (λ (d : List Lit). IsPair d p) c_is (subst (IsPair clause) (same_Some new p (pair_is_new puts h e)) is))
+        | inr n ↦ watched.paired number c p named_c (pair_was puts h n)
+      ];
+      listed = λ number p l h of_l. elim (cases_eq number watch.clause) [
+        | inl e ↦ subst (λ n. (j : ℕ) × HasWatch v.lists.items (code_of l) n j) (sym e) (new_listed l (of_new number p l e h of_l))
+        | inr n ↦ (let r = watched.listed number p l (pair_was puts h n) of_l in stays (code_of l) number r.0 n r.1)
+      ];
+    };
     head_few = watched.head_few;
     asides = asides_more (omega arith) (omega (arith, count)) watched.asides;
-    blocked = new_blocked;
-    paired = λ number c p named_c h. elim (cases_eq number watch.clause) [
-      | inl e ↦ (let c_is : clause ≡ c = same_Some clause c (sym named ∙ (ap (slice_get t.clauses) (sym e) ∙ named_c)) in
-          subst (λ (d : List Lit). IsPair d p) c_is (subst (IsPair clause) (same_Some new p (is_new number (Some p) e h)) is))
-      | inr n ↦ watched.paired number c p named_c (was number (Some p) n h)
-    ];
-    listed = λ number p l h of_l. elim (cases_eq number watch.clause) [
-      | inl e ↦ subst (λ n. (j : ℕ) × HasWatch v.lists.items (code_of l) n j) (sym e) (new_listed l (of_new number p l e h of_l))
-      | inr n ↦ (let r = watched.listed number p l (was number (Some p) n h) of_l in stays (code_of l) number r.0 n r.1)
-    ];
     excused = λ number c p l named_c h of_l place e at_e false_by below. elim (cases_eq number watch.clause) [
-      | inr n ↦ watched.excused number c p l named_c (was number (Some p) n h) of_l place e at_e false_by below
+      | inr n ↦ watched.excused number c p l named_c (pair_was puts h n) of_l place e at_e false_by below
       | inl k ↦ elim (of_new number p l k h of_l) [
         | inl g ↦ absurd (false≢true (sym not_false ∙ (ap (λ (z : Lit). has (literals_of t.entries) (negation z)) g
             ∙ entry_has t.entries place e (negation l) at_e false_by)))
@@ -189,11 +181,8 @@ module _ {t : TrailState} {w v : Watches} {f : Lit} {index : ℕ} (m : Moves t w
             place e at_e false_by below
       ]
     ];
-    unpaired = λ number c named_c h. watched.unpaired number c named_c (was number None (not_moved number h) h);
+    unpaired = λ number c named_c h. watched.unpaired number c named_c (pair_was puts h (λ e. none-some new (sym (pair_is_new puts h e))));
   })
-    where
-      not_moved : (number : ℕ) → slice_get v.pairs.items number ≡ Some None → number ≡ watch.clause → ⊥
-      not_moved number h e = none-some new (sym (is_new number None e h))
 
   pub due_moved : AreDue t v f index
   due_moved = subst (λ (x : Watches). AreDue t x f index) (sym rest) (λ number c p named_c h of_f.
@@ -202,7 +191,7 @@ module _ {t : TrailState} {w v : Watches} {f : Lit} {index : ℕ} (m : Moves t w
           | inl k ↦ fresh_differs new.first visit not_false k
           | inr k ↦ unlike (sym second ∙ k)
         ])
-        | inr n ↦ elim (due number c p named_c (was number (Some p) n h) of_f) [
+        | inr n ↦ elim (due number c p named_c (pair_was puts h n) of_f) [
           | inl x ↦ inl x
           | inr r ↦ inr (earlier number r.0 r.1 r.2 n)
         ]

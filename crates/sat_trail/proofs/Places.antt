@@ -194,6 +194,14 @@ pub table_at : (variables : ℕ) (places : List (Option ℕ)) (es : List Entry) 
     i < variables → o ≡ get_or places i o → place_of es i ≡ o
 table_at variables places es i o table below is = sym (is ∙ get_or_from_slice_get places i (place_of es i) o (table.each i below))
 
+-- the places of other variables stay
+place_kept : (es : List Entry) (e : Entry) (i : ℕ) → (i ≡ e.literal.index → ⊥) → place_of (es ++ e ∷ []) i ≡ place_of es i
+place_kept es e i apart = by_place (place_of es i) refl
+  where
+    by_place : (o : Option ℕ) → place_of es i ≡ o → place_of (es ++ e ∷ []) i ≡ o
+    by_place None is = place_from-after 0 es (e ∷ []) i is ∙ place_elsewhere (0 + length es) e [] i (λ h. apart (sym h))
+    by_place (Some p) is = place_from-front 0 es (e ∷ []) i p is
+
 pub table_push : (variables : ℕ) (places : List (Option ℕ)) (es : List Entry) (e : Entry) → IsPlaceTable variables places es →
     e.literal.index < variables → place_of es e.literal.index ≡ None →
     IsPlaceTable variables (set places e.literal.index (Some (length es))) (es ++ e ∷ [])
@@ -204,16 +212,9 @@ table_push variables places es e table below unset = record {
         ∙ (slice_get_set_same places e.literal.index (Some (length es)) (omega (arith, table.all))
         ∙ ap Some (sym (ap (place_of (es ++ e ∷ [])) is ∙ (place_from-after 0 es (e ∷ []) e.literal.index unset
         ∙ (place_here (0 + length es) e [] e.literal.index refl ∙ ap Some (omega arith))))))
-    | inr apart ↦ slice_get_set places e.literal.index i (Some (length es)) apart ∙ (table.each i in' ∙ ap Some (sym (kept i apart)))
+    | inr apart ↦ slice_get_set places e.literal.index i (Some (length es)) apart ∙ (table.each i in' ∙ ap Some (sym (place_kept es e i apart)))
   ];
 }
-  where
-    kept : (i : ℕ) → (i ≡ e.literal.index → ⊥) → place_of (es ++ e ∷ []) i ≡ place_of es i
-    kept i apart = by_place (place_of es i) refl
-      where
-        by_place : (o : Option ℕ) → place_of es i ≡ o → place_of (es ++ e ∷ []) i ≡ o
-        by_place None is = place_from-after 0 es (e ∷ []) i is ∙ place_elsewhere (0 + length es) e [] i (λ h. apart (sym h))
-        by_place (Some p) is = place_from-front 0 es (e ∷ []) i p is
 
 pub table_pop : (variables : ℕ) (places : List (Option ℕ)) (es : List Entry) (e : Entry) → IsPlaceTable variables places (es ++ e ∷ []) →
     e.literal.index < variables → place_of es e.literal.index ≡ None → IsPlaceTable variables (set places e.literal.index None) es
@@ -222,16 +223,9 @@ table_pop variables places es e table below unset = record {
   each = λ i in'. elim (cases_eq i e.literal.index) [
     | inl is ↦ ap (slice_get (set places e.literal.index None)) is
         ∙ (slice_get_set_same places e.literal.index None (omega (arith, table.all)) ∙ ap Some (sym (ap (place_of es) is ∙ unset)))
-    | inr apart ↦ slice_get_set places e.literal.index i None apart ∙ (table.each i in' ∙ ap Some (kept i apart))
+    | inr apart ↦ slice_get_set places e.literal.index i None apart ∙ (table.each i in' ∙ ap Some (place_kept es e i apart))
   ];
 }
-  where
-    kept : (i : ℕ) → (i ≡ e.literal.index → ⊥) → place_of (es ++ e ∷ []) i ≡ place_of es i
-    kept i apart = by_place (place_of es i) refl
-      where
-        by_place : (o : Option ℕ) → place_of es i ≡ o → place_of (es ++ e ∷ []) i ≡ o
-        by_place None is = place_from-after 0 es (e ∷ []) i is ∙ place_elsewhere (0 + length es) e [] i (λ h. apart (sym h))
-        by_place (Some p) is = place_from-front 0 es (e ∷ []) i p is
 
 -- ---- the truths of literals
 
@@ -239,24 +233,25 @@ has_push : (es : List Entry) (e : Entry) (l : Lit) → same e.literal l ≡ fals
 has_push [] e l h = ap (λ b. b || false) h
 has_push (x ∷ es) e l h = ap (λ b. same x.literal l || b) (has_push es e l h)
 
+pub code_inside : (variables : ℕ) (truths : List Bool) (es : List Entry) (l : Lit) → AreTruths variables truths es → l.index < variables →
+    code_of l < length truths
+code_inside variables truths es l table below = omega (arith, table.all, code_within variables l below)
+
+codes_apart : (l m : Lit) → (code_of l ≡ code_of m → ⊥) → same m l ≡ false
+codes_apart l m apart = false_from_ne_true (same m l) (λ s. apart (ap code_of (sym (same_is m l s))))
+
 pub truths_push : (variables : ℕ) (truths : List Bool) (es : List Entry) (e : Entry) → AreTruths variables truths es →
     e.literal.index < variables → AreTruths variables (set truths (code_of e.literal) true) (es ++ e ∷ [])
 truths_push variables truths es e table below = record {
   all = length-set truths (code_of e.literal) true ∙ table.all;
   each = λ l in'. elim (cases_eq (code_of l) (code_of e.literal)) [
     | inl is ↦ ap (slice_get (set truths (code_of e.literal) true)) is
-        ∙ (slice_get_set_same truths (code_of e.literal) true within
+        ∙ (slice_get_set_same truths (code_of e.literal) true (code_inside variables truths es e.literal table below)
         ∙ ap Some (sym (entry_has (es ++ e ∷ []) (length es) e l (slice_get-behind es e []) (code_one e.literal l (sym is)))))
     | inr apart ↦ slice_get_set truths (code_of e.literal) (code_of l) true apart
-        ∙ (table.each l in' ∙ ap Some (sym (has_push es e l (differ l apart))))
+        ∙ (table.each l in' ∙ ap Some (sym (has_push es e l (codes_apart l e.literal apart))))
   ];
 }
-  where
-    within : code_of e.literal < length truths
-    within = omega (arith, table.all, code_within variables e.literal below)
-
-    differ : (l : Lit) → (code_of l ≡ code_of e.literal → ⊥) → same e.literal l ≡ false
-    differ l apart = false_from_ne_true (same e.literal l) (λ s. apart (ap code_of (sym (same_is e.literal l s))))
 
 pub truths_pop : (variables : ℕ) (truths : List Bool) (es : List Entry) (e : Entry) → AreTruths variables truths (es ++ e ∷ []) →
     e.literal.index < variables → place_of es e.literal.index ≡ None → AreTruths variables (set truths (code_of e.literal) false) es
@@ -264,25 +259,15 @@ truths_pop variables truths es e table below unset = record {
   all = length-set truths (code_of e.literal) false ∙ table.all;
   each = λ l in'. elim (cases_eq (code_of l) (code_of e.literal)) [
     | inl is ↦ ap (slice_get (set truths (code_of e.literal) false)) is
-        ∙ (slice_get_set_same truths (code_of e.literal) false within
+        ∙ (slice_get_set_same truths (code_of e.literal) false (code_inside variables truths (es ++ e ∷ []) e.literal table below)
         ∙ ap Some (sym (ap (has (literals_of es)) (sym (code_one e.literal l (sym is))) ∙ unset_has 0 es e.literal unset)))
     | inr apart ↦ slice_get_set truths (code_of e.literal) (code_of l) false apart
-        ∙ (table.each l in' ∙ ap Some (has_push es e l (differ l apart)))
+        ∙ (table.each l in' ∙ ap Some (has_push es e l (codes_apart l e.literal apart)))
   ];
 }
-  where
-    within : code_of e.literal < length truths
-    within = omega (arith, table.all, code_within variables e.literal below)
-
-    differ : (l : Lit) → (code_of l ≡ code_of e.literal → ⊥) → same e.literal l ≡ false
-    differ l apart = false_from_ne_true (same e.literal l) (λ s. apart (ap code_of (sym (same_is e.literal l s))))
 
 -- what the table has at a literal's code
 pub truth_at : (variables : ℕ) (truths : List Bool) (es : List Entry) (l : Lit) (code : ℕ) (b : Bool) → AreTruths variables truths es →
     l.index < variables → code ≡ code_of l → b ≡ get_or truths code b → b ≡ has (literals_of es) l
 truth_at variables truths es l code b table below is read =
     read ∙ get_or_from_slice_get truths code (has (literals_of es) l) b (ap (slice_get truths) is ∙ table.each l below)
-
-pub code_inside : (variables : ℕ) (truths : List Bool) (es : List Entry) (l : Lit) → AreTruths variables truths es → l.index < variables →
-    code_of l < length truths
-code_inside variables truths es l table below = omega (arith, table.all, code_within variables l below)

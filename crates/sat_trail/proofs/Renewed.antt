@@ -1,12 +1,12 @@
 -- A watch that has another blocker of its clause is still a watch of it.
-use Rattle.std.proofs.Common.{◌≡◌, ℕ, List, Some, slice_get, sym, ap, ◌∙◌, subst, arith, inl, inr, ◌⊎◌}
+use Rattle.std.proofs.Common.{◌≡◌, ℕ, List, length, Some, slice_get, sym, ap, ◌∙◌, subst, arith, inl, inr, ◌⊎◌}
 use Rattle.std.proofs.lemmas.Option.{same_Some, slice_get_within}
 use Rattle.std.proofs.lemmas.Bool.{cases_eq}
-use Rattle.clause_core.specs.Literals.{Lit, has, code_of}
+use Rattle.clause_core.specs.Literals.{Lit, code_of}
 use Rattle.sat_trail.specs.States.{TrailState}
 use Rattle.sat_trail.specs.declared.watches.Watch.{Watch}
 use Rattle.sat_trail.specs.declared.watches.Watches.{Watches}
-use Rattle.sat_trail.specs.internal.Watching.{HasWatch, HasList, RenewsWatch, AreWatched, IsVisit, AreDue}
+use Rattle.sat_trail.specs.internal.Watching.{HasWatch, HasList, RenewsWatch, IsBlocked, AreWatched, IsVisit, AreDue}
 use Rattle.sat_trail.proofs.WatchLists.{has_watch_same}
 use Rattle.sat_trail.proofs.Visits.{HasOther, other_in, clause_within}
 
@@ -59,20 +59,18 @@ module _ {t : TrailState} {w v : Watches} {f : Lit} {index : ℕ} {watch : Watch
 
   pub watched_renewed : AreWatched t v
   watched_renewed = subst (AreWatched t) (sym is) (record {
-    lists_all = renews.all ∙ watched.lists_all;
-    pairs_few = watched.pairs_few;
-    asides = watched.asides;
+    listing = record {
+      lists_all = renews.all ∙ watched.lists_all;
+      pairs_few = watched.pairs_few;
+      blocked = λ code k l x now at. elim (renewed_was code k l x now at) [
+        | inl p ↦ watched.blocked code k p.0 x p.1 p.2
+        | inr e ↦ subst (IsBlocked t.clauses (length w.pairs.items)) e (clause_within o.read, other_in o)
+      ];
+      paired = watched.paired;
+      listed = λ number pair l at of. (let r = watched.listed number pair l at of in (r.0, has_renewed (code_of l) number r.0 r.1));
+    };
     head_few = watched.head_few;
-    blocked = λ code k l x now at. elim (renewed_was code k l x now at) [
-      | inl p ↦ watched.blocked code k p.0 x p.1 p.2
-      | inr e ↦ (let clause_is : watch.clause ≡ x.clause = ap (λ (y : Watch). y.clause) e in (
-        omega (arith, clause_within o.read, clause_is),
-        λ clause named. ap (has clause) (ap (λ (y : Watch). y.blocker) (sym e))
-            ∙ other_in o clause (ap (slice_get t.clauses) clause_is ∙ named),
-      ))
-    ];
-    paired = watched.paired;
-    listed = λ number pair l at of. (let r = watched.listed number pair l at of in (r.0, has_renewed (code_of l) number r.0 r.1));
+    asides = watched.asides;
     excused = watched.excused;
     unpaired = watched.unpaired;
   })

@@ -23,25 +23,13 @@ use Rattle.sat_trail.proofs.TrailSteps.{IsOpen, open_two, open_true, quiet_from,
 
 -- ---- what is true stays true
 
-pub excused_grown : (es more : List Entry) (clause : List Lit) (number limit level : ℕ) → IsExcused es clause number limit level →
-    IsExcused (es ++ more) clause number limit level
-excused_grown es more clause number limit level x = record {
-  place = x.place;
-  entry = x.entry;
-  there = slice_get_grown es more x.place x.entry x.there;
-  member = x.member;
-  in_time = x.in_time;
-}
+pub excused_from : {es fs : List Entry} {clause : List Lit} {number limit level now bound lower : ℕ} (x : IsExcused es clause number limit level)
+    (place : ℕ) → slice_get fs place ≡ Some x.entry → (now < bound → x.entry.level ≤ lower) → IsExcused fs clause now bound lower
+excused_from x place there in_time = record { place = place; entry = x.entry; there = there; member = x.member; in_time = in_time }
 
-pub excused_lower : (es : List Entry) (clause : List Lit) (number limit less level : ℕ) → less ≤ limit →
-    IsExcused es clause number limit level → IsExcused es clause number less level
-excused_lower es clause number limit less level h x = record {
-  place = x.place;
-  entry = x.entry;
-  there = x.there;
-  member = x.member;
-  in_time = λ below. x.in_time (omega arith);
-}
+pub excused_grown : {es : List Entry} (more : List Entry) {clause : List Lit} {number limit level : ℕ} → IsExcused es clause number limit level →
+    IsExcused (es ++ more) clause number limit level
+excused_grown {es} more x = excused_from x x.place (slice_get_grown es more x.place x.entry x.there) x.in_time
 
 -- a clause that is set aside or waits stays so at another index, or among other entries
 pub aside_from : {es fs : List Entry} {xs ys : List Aside} {held now index number : ℕ} {clause : List Lit} (a : IsAside es xs held number clause) →
@@ -74,48 +62,32 @@ excused_by t sound clause l number limit level member is_true late =
 
 -- ---- entries more
 
-watched_more : (t u : TrailState) (w : Watches) (more : List Entry) → AreWatched t w → u.variables ≡ t.variables → u.clauses ≡ t.clauses →
-    u.entries ≡ t.entries ++ more → t.level ≤ u.level → AreWatched u w
-watched_more t u w more watched variables clauses entries above = record {
-  lists_all = watched.lists_all ∙ ap (λ n. 2 * n) (sym variables);
-  pairs_few = omega (arith, watched.pairs_few, ap length clauses);
-  head_few = omega (arith, watched.head_few, ap length entries, length-append t.entries more);
+watched_more : (t : TrailState) (w : Watches) (more : List Entry) (level : ℕ) → AreWatched t w → t.level ≤ level →
+    AreWatched (record t { entries = t.entries ++ more; level = level }) w
+watched_more t w more level watched above = record {
+  listing = watched.listing;
+  head_few = omega (arith, watched.head_few, length-append t.entries more);
   asides = asides_more above (omega arith) watched.asides;
-  blocked = λ code index list watch listed there. (let r = watched.blocked code index list watch listed there in
-      (r.0, λ clause named. r.1 clause (old watch.clause clause named)));
-  paired = λ number clause pair named is. watched.paired number clause pair (old number clause named) is;
-  listed = watched.listed;
   excused = λ number clause pair l named is of place e there false_by below.
-      elim (watched.excused number clause pair l (old number clause named) is of place e
-      (before place e there (omega (arith, below, watched.head_few))) false_by below) [
-        | inl x ↦ inl (subst (λ (es : List Entry). IsExcused es clause place w.low e.level) (sym entries)
-            (excused_grown t.entries more clause place w.low e.level x))
-        | inr a ↦ inr (still_aside number clause a)
+      elim (watched.excused number clause pair l named is of place e
+      (sym (slice_get-front t.entries more place (omega (arith, below, watched.head_few))) ∙ there) false_by below) [
+        | inl x ↦ inl (excused_grown more x)
+        | inr a ↦ inr (still_aside a)
       ];
-  unpaired = λ number clause named is. still_aside number clause (watched.unpaired number clause (old number clause named) is);
+  unpaired = λ number clause named is. still_aside (watched.unpaired number clause named is);
 }
   where
-    old : (number : ℕ) (clause : List Lit) → slice_get u.clauses number ≡ Some clause → slice_get t.clauses number ≡ Some clause
-    old number clause named = ap (λ (cs : List (List Lit)). slice_get cs number) (sym clauses) ∙ named
-
-    before : (place : ℕ) (e : Entry) → slice_get u.entries place ≡ Some e → place < length t.entries → slice_get t.entries place ≡ Some e
-    before place e there below = sym (slice_get-front t.entries more place below)
-        ∙ (ap (λ (es : List Entry). slice_get es place) (sym entries) ∙ there)
-
-    still_aside : (number : ℕ) (clause : List Lit) → IsAside t.entries w.asides.items w.held number clause →
-        IsAside u.entries w.asides.items w.held number clause
-    still_aside number clause a = aside_from a a.there (λ below. subst (λ (es : List Entry). IsMet es clause a.aside.level) (sym entries)
-        (excused_grown t.entries more clause 0 1 a.aside.level (a.met below)))
+    still_aside : {number : ℕ} {clause : List Lit} → IsAside t.entries w.asides.items w.held number clause →
+        IsAside (t.entries ++ more) w.asides.items w.held number clause
+    still_aside a = aside_from a a.there (λ below. excused_grown more (a.met below))
 
 pub watched_propagated : (t u : TrailState) (w : Watches) → AreWatched t w → Propagates t u → AreWatched u w
-watched_propagated t u w watched grows = watched_more t u w grows.added watched (ap (λ (s : TrailState). s.variables) grows.rest_stays)
-    (ap (λ (s : TrailState). s.clauses) grows.rest_stays) (ap (λ (s : TrailState). s.entries) grows.rest_stays)
-    (omega (arith, ap (λ (s : TrailState). s.level) grows.rest_stays))
+watched_propagated t u w watched grows = subst (λ (s : TrailState). AreWatched s w) (sym grows.rest_stays)
+    (watched_more t w grows.added t.level watched (omega arith))
 
 pub watched_decided : (t u : TrailState) (w : Watches) (l : Lit) → AreWatched t w → u ≡ decided t l → AreWatched u w
-watched_decided t u w l watched is = watched_more t u w (record { literal = l; level = t.level + 1; reason = None } ∷ []) watched
-    (ap (λ (s : TrailState). s.variables) is) (ap (λ (s : TrailState). s.clauses) is) (ap (λ (s : TrailState). s.entries) is)
-    (omega (arith, ap (λ (s : TrailState). s.level) is))
+watched_decided t u w l watched is = subst (λ (s : TrailState). AreWatched s w) (sym is)
+    (watched_more t w (record { literal = l; level = t.level + 1; reason = None } ∷ []) (t.level + 1) watched (omega arith))
 
 pub visit_propagated : (t u : TrailState) (w : Watches) (f : Lit) → IsVisit t w f → Propagates t u → IsVisit u w f
 visit_propagated t u w f visit grows = record {
@@ -130,15 +102,17 @@ visit_propagated t u w f visit grows = record {
 
 pub watched_learnt : (t u : TrailState) (w : Watches) (clause : List Lit) → AreWatched t w → u ≡ with_clause t clause → AreWatched u w
 watched_learnt t u w clause watched is = subst (λ (s : TrailState). AreWatched s w) (sym is) (record {
-  lists_all = watched.lists_all;
-  pairs_few = omega (arith, watched.pairs_few, length_push t.clauses clause);
+  listing = record {
+    lists_all = watched.lists_all;
+    pairs_few = omega (arith, watched.pairs_few, length_push t.clauses clause);
+    blocked = λ code index list watch listed there. (let r = watched.blocked code index list watch listed there in
+        (r.0, λ c named. r.1 c (old watch.clause c r.0 named)));
+    paired = λ number c pair named at. watched.paired number c pair
+        (old number c (slice_get_within w.pairs.items number (Some pair) at) named) at;
+    listed = watched.listed;
+  };
   head_few = watched.head_few;
   asides = watched.asides;
-  blocked = λ code index list watch listed there. (let r = watched.blocked code index list watch listed there in
-      (r.0, λ c named. r.1 c (old watch.clause c r.0 named)));
-  paired = λ number c pair named at. watched.paired number c pair
-      (old number c (slice_get_within w.pairs.items number (Some pair) at) named) at;
-  listed = watched.listed;
   excused = λ number c pair l named at. watched.excused number c pair l
       (old number c (slice_get_within w.pairs.items number (Some pair) at) named) at;
   unpaired = λ number c named at. watched.unpaired number c (old number c (slice_get_within w.pairs.items number None at) named) at;
@@ -179,37 +153,24 @@ pub watched_undone : (t u : TrailState) (w v : Watches) (level : ℕ) → AreWat
     u.entries ≡ take (length u.entries) t.entries → v.head ≡ min (min w.head w.low) (length u.entries) → v.held ≤ w.held →
     ((last : Aside) → slice_get v.asides.items (v.held - 1) ≡ Some last → 0 < v.held → last.level ≤ level) →
     v ≡ record w { held = v.held; head = v.head; low = v.low } → AreWatched u v
-watched_undone t u w v level watched is front head less last rest = subst (AreWatched u) (sym rest) (record {
-  lists_all = watched.lists_all ∙ ap (λ (s : TrailState). 2 * s.variables) (sym is);
-  pairs_few = omega (arith, watched.pairs_few, ap (λ (s : TrailState). length s.clauses) is);
-  head_few = omega (arith, head);
-  asides = record {
-    few = omega (arith, less, watched.asides.few);
-    rise = λ j k a b up below. watched.asides.rise j k a b up (omega arith);
-    low = λ k a below at. omega (
-      arith,
-      held_low k a below at,
-      watched.asides.low k a (omega arith) at,
-      ap (λ (s : TrailState). s.level) is,
-    );
-    known = watched.asides.known;
-  };
-  blocked = λ code index list watch listed there. (let r = watched.blocked code index list watch listed there in
-      (r.0, λ clause named. r.1 clause (old watch.clause clause named)));
-  paired = λ number clause pair named. watched.paired number clause pair (old number clause named);
-  listed = watched.listed;
-  excused = λ number clause pair l named at of place e there false_by below.
-      elim (watched.excused number clause pair l (old number clause named) at of place e (before place e there) false_by
-      (omega (arith, below, head))) [
-        | inl x ↦ inl (still clause place w.low v.low e.level (low_level place e there) x (omega (arith, below, head)))
-        | inr a ↦ inr (still_aside number clause a)
-      ];
-  unpaired = λ number clause named at. still_aside number clause (watched.unpaired number clause (old number clause named) at);
-})
+watched_undone t u w v level watched is front head less last rest =
+    subst (λ (s : TrailState). AreWatched s v) (sym is) (subst (AreWatched (undone t level)) (sym rest) (record {
+      listing = watched.listing;
+      head_few = omega (arith, head, ap (λ (s : TrailState). length s.entries) is);
+      asides = record {
+        few = omega (arith, less, watched.asides.few);
+        rise = λ j k a b up below. watched.asides.rise j k a b up (omega arith);
+        low = λ k a below at. omega (arith, held_low k a below at, watched.asides.low k a (omega arith) at);
+        known = watched.asides.known;
+      };
+      excused = λ number clause pair l named at of place e there false_by below.
+          elim (watched.excused number clause pair l named at of place e (before place e there) false_by (omega (arith, below, head))) [
+            | inl x ↦ inl (still (up_to_low level t.entries place e there) x (omega (arith, below, head)))
+            | inr a ↦ inr (still_aside a)
+          ];
+      unpaired = λ number clause named at. still_aside (watched.unpaired number clause named at);
+    }))
   where
-    old : (number : ℕ) (clause : List Lit) → slice_get u.clauses number ≡ Some clause → slice_get t.clauses number ≡ Some clause
-    old number clause named = ap (λ (s : TrailState). slice_get s.clauses number) (sym is) ∙ named
-
     held_low : (k : ℕ) (a : Aside) → k < v.held → slice_get w.asides.items k ≡ Some a → a.level ≤ level
     held_low k a below at =
         let top = slice_get_some w.asides.items (v.held - 1) (omega (arith, below, less, watched.asides.few)) in
@@ -219,28 +180,19 @@ watched_undone t u w v level watched is front head less last rest = subst (AreWa
           last top.0 (ap (λ (x : Watches). slice_get x.asides.items (v.held - 1)) rest ∙ top.1) (omega (arith, below)),
         )
 
-    before : (place : ℕ) (e : Entry) → slice_get u.entries place ≡ Some e → slice_get t.entries place ≡ Some e
+    before : (place : ℕ) (e : Entry) → slice_get (up_to level t.entries) place ≡ Some e → slice_get t.entries place ≡ Some e
     before place e there = (slice_get-take (length u.entries) t.entries place e
-        (ap (λ (es : List Entry). slice_get es place) (sym front) ∙ there)).1
+        (ap (λ (es : List Entry). slice_get es place) (sym front) ∙ (ap (λ (s : TrailState). slice_get s.entries place) is ∙ there))).1
 
-    low_level : (place : ℕ) (e : Entry) → slice_get u.entries place ≡ Some e → e.level ≤ level
-    low_level place e there = up_to_low level t.entries place e (ap (λ (s : TrailState). slice_get s.entries place) (sym is) ∙ there)
-
-    still : (clause : List Lit) (number limit new_limit at_most : ℕ) → at_most ≤ level → IsExcused t.entries clause number limit at_most →
-        number < limit → IsExcused u.entries clause number new_limit at_most
-    still clause number limit new_limit at_most low x below =
+    still : {clause : List Lit} {number limit bound at_most : ℕ} → at_most ≤ level → IsExcused t.entries clause number limit at_most →
+        number < limit → IsExcused (up_to level t.entries) clause number bound at_most
+    still low x below =
         let r = up_to_at level t.entries x.place x.entry x.there (omega (arith, x.in_time below, low)) in
-        record {
-          place = r.0;
-          entry = x.entry;
-          there = ap (λ (s : TrailState). slice_get s.entries r.0) is ∙ r.1;
-          member = x.member;
-          in_time = λ _. x.in_time below;
-        }
+        excused_from x r.0 r.1 (λ _. x.in_time below)
 
-    still_aside : (number : ℕ) (clause : List Lit) → IsAside t.entries w.asides.items w.held number clause →
-        IsAside u.entries w.asides.items v.held number clause
-    still_aside number clause a = aside_from a a.there (λ below. still clause 0 1 1 a.aside.level (held_low a.index a.aside below a.there)
+    still_aside : {number : ℕ} {clause : List Lit} → IsAside t.entries w.asides.items w.held number clause →
+        IsAside (up_to level t.entries) w.asides.items v.held number clause
+    still_aside a = aside_from a a.there (λ below. still (held_low a.index a.aside below a.there)
         (a.met (omega (arith, below, less))) (omega arith))
 
 -- ---- nothing is left to do
@@ -303,16 +255,12 @@ watched_quiet t w sound watched none_left all_visited = quiet_from trues t.claus
 
 pub watched_low : (t : TrailState) (w v : Watches) → AreWatched t w → v ≡ record w { low = v.low } → v.low ≤ w.low → AreWatched t v
 watched_low t w v watched is less = subst (AreWatched t) (sym is) (record {
-  lists_all = watched.lists_all;
-  pairs_few = watched.pairs_few;
+  listing = watched.listing;
   head_few = watched.head_few;
   asides = watched.asides;
-  blocked = watched.blocked;
-  paired = watched.paired;
-  listed = watched.listed;
   excused = λ number clause pair l named at of place e there false_by below.
       elim (watched.excused number clause pair l named at of place e there false_by below) [
-        | inl x ↦ inl (excused_lower t.entries clause place w.low v.low e.level less x)
+        | inl x ↦ inl (excused_from x x.place x.there (λ early. x.in_time (omega (arith, early, less))))
         | inr a ↦ inr a
       ];
   unpaired = watched.unpaired;
@@ -340,8 +288,14 @@ pub watched_started : (t : TrailState) (w : Watches) → length w.lists.items �
     ((code : ℕ) (list : List Watch) → slice_get w.lists.items code ≡ Some list → list ≡ []) → w.pairs.items ≡ [] →
     w.asides.items ≡ [] → w.held ≡ 0 → w.head ≡ 0 → AreWatched t w
 watched_started t w all empty pairs asides held head = record {
-  lists_all = all;
-  pairs_few = omega (arith, ap length pairs);
+  listing = record {
+    lists_all = all;
+    pairs_few = omega (arith, ap length pairs);
+    blocked = λ code index list watch listed there. absurd (none-some watch
+        (ap (λ (xs : List Watch). slice_get xs index) (sym (empty code list listed)) ∙ there));
+    paired = λ number clause pair named at. absurd (none number (Some pair) at);
+    listed = λ number pair l at. absurd (none number (Some pair) at);
+  };
   head_few = omega (arith, head);
   asides = record {
     few = omega (arith, held);
@@ -349,10 +303,6 @@ watched_started t w all empty pairs asides held head = record {
     low = λ k a below. absurd (omega (arith, held));
     known = λ k a at. absurd (none-some a (ap (λ (xs : List Aside). slice_get xs k) (sym asides) ∙ at));
   };
-  blocked = λ code index list watch listed there. absurd (none-some watch
-      (ap (λ (xs : List Watch). slice_get xs index) (sym (empty code list listed)) ∙ there));
-  paired = λ number clause pair named at. absurd (none number (Some pair) at);
-  listed = λ number pair l at. absurd (none number (Some pair) at);
   excused = λ number clause pair l named at. absurd (none number (Some pair) at);
   unpaired = λ number clause named at. absurd (none number None at);
 }

@@ -5,9 +5,9 @@ use Rattle.std.proofs.Common.{All, Contains}
 use Rattle.std.specs.Prelude.{IsSome, position}
 use Rattle.std.specs.List.{AllByRecursion, position_from}
 use Rattle.std.proofs.lemmas.Iterator.Adapters.{position_from-zero}
-use Rattle.std.proofs.lemmas.Option.{same_Some, none-some, slice_get-get_or}
+use Rattle.std.proofs.lemmas.Option.{none-some, slice_get-get_or}
 use Rattle.std.proofs.lemmas.List.{length-replicate, get_or-replicate, take_at, append_assoc, append-nil, length_push}
-use Rattle.std.proofs.lemmas.List.{length-append, take_all, take-take}
+use Rattle.std.proofs.lemmas.List.{take_all, take-take}
 use Rattle.std.proofs.lemmas.List.Elements.{All-push, All-nil, All-append, All-contains, All-from_recursion}
 use Rattle.std.proofs.lemmas.Bool.{or_cases, or_left, or_right, true≢false, false≢true, cases_lt, cases_Bool, le-leb, lt-leb, cond-true}
 use Rattle.std.proofs.lemmas.Bool.{cond-false}
@@ -164,13 +164,6 @@ propagates_after old t new first then' = record {
       (ap (λ (s : TrailState). s.level) first.rest_stays) then'.forced);
 }
 
-pub propagates_length : (old new : TrailState) → Propagates old new → length old.entries ≤ length new.entries
-propagates_length old new grows = omega (
-  arith,
-  ap (λ (s : TrailState). length s.entries) grows.rest_stays,
-  length-append old.entries grows.added,
-)
-
 contained_at : (clauses : List (List Lit)) (c : List Lit) → Contains clauses c → (k : ℕ) × (slice_get clauses k ≡ Some c)
 contained_at clauses c (k, below, is) = (k, slice_get-get_or clauses k c below ∙ ap Some is)
 
@@ -211,23 +204,6 @@ up_to_all level (e ∷ es) h = cond-true (leb e.level level) (e ∷ up_to level 
 pub up_to-push : (level : ℕ) (es : List Entry) (e : Entry) → level < e.level → up_to level (es ++ e ∷ []) ≡ up_to level es
 up_to-push level [] e h = cond-false (leb e.level level) (e ∷ []) [] (lt-leb e.level level h)
 up_to-push level (x ∷ es) e h = ap (λ (xs : List Entry). cond (leb x.level level) (x ∷ xs) xs) (up_to-push level es e h)
-
--- what a call that says whether a literal is true knows of it
-pub value_true : (es : List Entry) (l : Lit) → truth_of es l ≡ Some true → has (literals_of es) l ≡ true
-value_true es l h = by_tests (has (literals_of es) l) (has (literals_of es) (negation l)) h
-  where
-    by_tests : (a b : Bool) → cond a (Some true) (cond b (Some false) None) ≡ Some true → a ≡ true
-    by_tests true b h = refl
-    by_tests false true h = same_Some false true h
-    by_tests false false h = absurd (none-some true h)
-
-pub value_not_true : (es : List Entry) (l : Lit) (o : Option Bool) → o ≡ truth_of es l → (o ≡ Some true → ⊥) →
-    has (literals_of es) l ≡ false
-value_not_true es l o is n = by_tests (has (literals_of es) l) (has (literals_of es) (negation l)) (is)
-  where
-    by_tests : (a b : Bool) → o ≡ cond a (Some true) (cond b (Some false) None) → a ≡ false
-    by_tests true b h = absurd (n h)
-    by_tests false b h = refl
 
 -- ---- taking back one entry after another
 

@@ -15,7 +15,7 @@ use Rattle.sat_trail.specs.Entries.{literals_of}
 use Rattle.sat_trail.specs.States.{TrailState, IsSound, Propagates, IsFalseAt}
 use Rattle.sat_trail.specs.internal.Watching.{HasList, IsOf, IsPairOf, IsPair, IsPairIn, IsExcused, AreWatched, IsVisit, AreDue}
 use Rattle.sat_trail.proofs.Soundness.{level_within, over_literal}
-use Rattle.sat_trail.proofs.Stays.{excused_grown, excused_by, watched_propagated, visit_propagated}
+use Rattle.sat_trail.proofs.Stays.{excused_from, excused_grown, excused_by, watched_propagated, visit_propagated}
 
 -- ---- literals are set
 
@@ -24,7 +24,7 @@ pub due_propagated : (t u : TrailState) (w : Watches) (f : Lit) (end' : ℕ) →
 due_propagated t u w f end' due grows n clause pair named at of = elim
     (due n clause pair (ap (λ (s : TrailState). slice_get s.clauses n) (sym grows.rest_stays) ∙ named) at of) [
       | inl x ↦ inl (subst (λ (s : TrailState). IsExcused s.entries clause w.head w.low s.level) (sym grows.rest_stays)
-          (excused_grown t.entries grows.added clause w.head w.low t.level x))
+          (excused_grown grows.added x))
       | inr r ↦ inr r
     ]
 
@@ -182,13 +182,9 @@ due_forced (Err e) o sound grows ends = tt
 pub watched_visited : (t : TrailState) (w v : Watches) (f : Lit) → IsSound t → AreWatched t w → IsVisit t w f → AreDue t w f 0 →
     v ≡ record w { head = w.head + 1 } → AreWatched t v
 watched_visited t w v f sound watched visit due is = subst (AreWatched t) (sym is) (record {
-  lists_all = watched.lists_all;
-  pairs_few = watched.pairs_few;
-  asides = watched.asides;
+  listing = watched.listing;
   head_few = omega (arith, slice_get_within t.entries w.head visit.entry visit.there);
-  blocked = watched.blocked;
-  paired = watched.paired;
-  listed = watched.listed;
+  asides = watched.asides;
   excused = λ number clause pair l named at of place e there false_by below. elim (cases_lt place w.head) [
     | inl less ↦ watched.excused number clause pair l named at of place e there false_by less
     | inr more ↦ (let place_is : place ≡ w.head = omega (arith, below, more) in
@@ -206,14 +202,9 @@ watched_visited t w v f sound watched visit due is = subst (AreWatched t) (sym i
   where
     at_level : (clause : List Lit) (place : ℕ) (e : Entry) → IsExcused t.entries clause w.head w.low t.level → place ≡ w.head →
         e ≡ visit.entry → IsExcused t.entries clause place w.low e.level
-    at_level clause place e x place_is entry_is = record {
-      place = x.place;
-      entry = x.entry;
-      there = x.there;
-      member = x.member;
-      in_time = λ below. (let h : w.head < w.low = omega (arith, below, place_is) in
-          omega (arith, x.in_time h, visit.late h, ap (λ (z : Entry). z.level) entry_is));
-    }
+    at_level clause place e x place_is entry_is = excused_from x x.place x.there (λ below.
+        (let h : w.head < w.low = omega (arith, below, place_is) in
+        omega (arith, x.in_time h, visit.late h, ap (λ (z : Entry). z.level) entry_is)))
 
 -- at the first visit each clause that watches the literal is due
 pub due_all : (t : TrailState) (w : Watches) (f : Lit) (list : List Watch) → AreWatched t w →

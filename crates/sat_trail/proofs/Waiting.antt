@@ -6,18 +6,18 @@ use Rattle.std.proofs.lemmas.List.{length_push, length-set}
 use Rattle.std.proofs.lemmas.Bool.{false≢true, cases_lt, cases_eq}
 use Rattle.sequence.proofs.Places.{slice_get_grown, slice_get_push, slice_get-behind, slice_get_some}
 use Rattle.clause_core.specs.Literals.{Lit, negation, has, code_of}
-use Rattle.sat_trail.specs.declared.watches.Watch.{Watch}
+use Rattle.sat_trail.specs.declared.entries.Entry.{Entry}
 use Rattle.sat_trail.specs.declared.watches.Pair.{Pair}
 use Rattle.sat_trail.specs.declared.watches.Aside.{Aside}
 use Rattle.sat_trail.specs.declared.watches.Watches.{Watches}
 use Rattle.sat_trail.specs.Entries.{literals_of}
 use Rattle.sat_trail.specs.States.{TrailState, IsSound}
-use Rattle.sat_trail.specs.internal.Watching.{HasWatch, AddsWatch, IsOf, IsPairOf, IsPair, IsAside, AreWatched, CanWatch, IsNextWaiting, IsOpenAt}
-use Rattle.sat_trail.specs.internal.Watching.{IsWatchedBy, SetsAside, Releases, LooksAtOne}
+use Rattle.sat_trail.specs.internal.Watching.{HasWatch, Attaches, IsOf, IsPairOf, IsPair, pair_of, PutsPair, IsAside, AreListed, AreWatched, CanWatch, IsOpenBy}
+use Rattle.sat_trail.specs.internal.Watching.{IsNextWaiting, IsOpenAt, IsWatchedBy, SetsAside, Releases, left_of, LooksAtOne}
 use Rattle.sat_trail.proofs.Places.{entry_has}
 use Rattle.sat_trail.proofs.Soundness.{over_literal}
 use Rattle.sat_trail.proofs.Stays.{excused_by, lists_have, aside_from, asides_more}
-use Rattle.sat_trail.proofs.WatchLists.{has_watch_more, has_watch_new, AreBlocked, blocked_one, blocked_within, blocked_more, pair_was}
+use Rattle.sat_trail.proofs.WatchLists.{has_watch_more, has_watch_new, blocked_one, blocked_within, blocked_more, pair_set, pair_push, pair_was}
 use Rattle.sat_trail.proofs.WatchLists.{pair_is_new}
 use Rattle.sat_trail.proofs.Visits.{of_clause}
 
@@ -27,8 +27,13 @@ pub watched_taken : (t : TrailState) (w v : Watches) → AreWatched t w → leng
     length w.asides.items ≤ w.held → v.asides.items ≡ w.asides.items ++ record { clause = length w.pairs.items; level = 0 } ∷ [] →
     v.pairs.items ≡ w.pairs.items ++ None ∷ [] → v ≡ record w { pairs = v.pairs; asides = v.asides } → AreWatched t v
 watched_taken t w v watched more none asides pairs is = subst (AreWatched t) (sym is) (record {
-  lists_all = watched.lists_all;
-  pairs_few = omega (arith, count, more);
+  listing = record {
+    lists_all = watched.lists_all;
+    pairs_few = omega (arith, count, more);
+    blocked = blocked_within t.clauses w.lists.items (omega (arith, count)) watched.blocked;
+    paired = λ number clause pair named at. watched.paired number clause pair named (had number pair at);
+    listed = λ number pair l at. watched.listed number pair l (had number pair at);
+  };
   head_few = watched.head_few;
   asides = record {
     few = omega (arith, watched.asides.few, ap length asides, length_push w.asides.items new);
@@ -40,9 +45,6 @@ watched_taken t w v watched more none asides pairs is = subst (AreWatched t) (sy
       | inr p ↦ omega (arith, ap (λ (x : Aside). x.clause) p.1, count)
     ];
   };
-  blocked = λ code index list watch listed there. (let r = watched.blocked code index list watch listed there in (omega (arith, r.0, count), r.1));
-  paired = λ number clause pair named at. watched.paired number clause pair named (had number pair at);
-  listed = λ number pair l at. watched.listed number pair l (had number pair at);
   excused = λ number clause pair l named at of place e there false_by below.
       elim (watched.excused number clause pair l named (had number pair at) of place e there false_by below) [
         | inl x ↦ inl x
@@ -89,8 +91,7 @@ pub watched_aside : (t : TrailState) (w v : Watches) (number : ℕ) (clause : Li
     IsNextWaiting w number → slice_get t.clauses number ≡ Some clause → has clause l ≡ true → has (literals_of t.entries) l ≡ true →
     SetsAside t.level w v → AreWatched t v
 watched_aside t w v number clause l sound watched next named member is_true sets = subst (AreWatched t) (sym sets.rest) (record {
-  lists_all = watched.lists_all;
-  pairs_few = watched.pairs_few;
+  listing = watched.listing;
   head_few = watched.head_few;
   asides = record {
     few = omega (arith, sets.all, sets.more, slice_get_within w.asides.items w.held next.aside next.there);
@@ -112,9 +113,6 @@ watched_aside t w v number clause l sound watched next named member is_true sets
       | inr n ↦ watched.asides.known k a (sym (sets.others k n) ∙ at)
     ];
   };
-  blocked = watched.blocked;
-  paired = watched.paired;
-  listed = watched.listed;
   excused = λ number' c pair m named' at of place e there false_by below.
       elim (watched.excused number' c pair m named' at of place e there false_by below) [
         | inl x ↦ inl x
@@ -161,8 +159,7 @@ watched_aside t w v number clause l sound watched next named member is_true sets
 pub watched_released : (t : TrailState) (w v : Watches) (number : ℕ) → AreWatched t w → IsNextWaiting w number → IsOpenAt t w number →
     Releases w v → AreWatched t v
 watched_released t w v number watched next is_open releases = subst (AreWatched t) (sym releases.rest) (record {
-  lists_all = watched.lists_all;
-  pairs_few = watched.pairs_few;
+  listing = watched.listing;
   head_few = watched.head_few;
   asides = record {
     few = omega (arith, releases.shorter, slice_get_within w.asides.items w.held next.aside next.there);
@@ -171,9 +168,6 @@ watched_released t w v number watched next is_open releases = subst (AreWatched 
     low = λ k a below at. watched.asides.low k a below (sym (releases.before k below) ∙ at);
     known = λ k a at. (let r = releases.no_more k a at in watched.asides.known r.0 a r.1);
   };
-  blocked = watched.blocked;
-  paired = watched.paired;
-  listed = watched.listed;
   excused = λ number' c pair l named at of place e there false_by below. elim (cases_eq number' number) [
     | inl k ↦ absurd (false≢true (sym (is_open.not_false l (subst (λ (p : Pair). IsOf p l) (same_Some pair is_open.pair
         (same_Some (Some pair) (Some is_open.pair) (sym at ∙ (ap (slice_get w.pairs.items) k ∙ is_open.at)))) of))
@@ -202,92 +196,118 @@ watched_released t w v number watched next is_open releases = subst (AreWatched 
       ]
     ]
 
--- ---- a clause that waits watches two literals
+-- ---- a clause watches two literals
 
-pub watched_both : {t : TrailState} {w v : Watches} {number : ℕ} {first second : Lit} {between : List (List Watch)} → IsSound t →
-    AreWatched t w → IsNextWaiting w number → CanWatch t number first second →
-    AddsWatch w.lists.items (code_of first) (record { clause = number; blocker = second }) between →
-    AddsWatch between (code_of second) (record { clause = number; blocker = first }) v.lists.items →
-    v.pairs.items ≡ set w.pairs.items number (Some (record { first = first; second = second; spare = first; start = 0 })) →
-    v ≡ record w { lists = v.lists; pairs = v.pairs } → AreWatched t v
-watched_both {t} {w} {v} {number} {first} {second} {between} sound watched next can adds_first adds_second pairs rest =
-    subst (AreWatched t) (sym rest) (record {
-      lists_all = adds_second.all ∙ (adds_first.all ∙ watched.lists_all);
-      pairs_few = omega (arith, count, watched.pairs_few);
-      head_few = watched.head_few;
-      asides = asides_more (omega arith) (omega (arith, count)) watched.asides;
-      blocked = blocked;
-      paired = λ n c pair named at. elim (cases_eq n number) [
-        | inr d ↦ watched.paired n c pair named (pair_was w.pairs.items new pairs d at)
-        | inl e ↦ subst (IsPair c) (same_Some new pair (is_new n (Some pair) e at)) (subst (λ (d : List Lit). IsPair d new)
-            (same_Some can.clause c (sym can.named ∙ (ap (slice_get t.clauses) (sym e) ∙ named)))
-            (record { first = can.member; second = can.other; spare = can.member; apart = λ k. can.apart (sym k) }))
-      ];
-      listed = λ n pair l at of. elim (cases_eq n number) [
-        | inr d ↦ (let r = watched.listed n pair l (pair_was w.pairs.items new pairs d at) of in (r.0, has_watch_more adds_second (has_watch_more adds_first r.1)))
-        | inl e ↦ subst (λ k. (index : ℕ) × HasWatch v.lists.items (code_of l) k index) (sym e)
-            (new_listed l (subst (λ (q : Pair). IsOf q l) (sym (same_Some new pair (is_new n (Some pair) e at))) of))
-      ];
-      excused = λ n c pair l named at of place x there false_by below. elim (cases_eq n number) [
-        | inr d ↦ watched.excused n c pair l named (pair_was w.pairs.items new pairs d at) of place x there false_by below
-        | inl e ↦ inr (record {
-          index = w.held;
-          aside = next.aside;
-          there = next.there;
-          names = next.names ∙ sym e;
-          met = λ below. absurd (omega (arith, below));
-        })
-      ];
-      unpaired = λ n c named at. elim (cases_eq n number) [
-        | inr d ↦ watched.unpaired n c named (pair_was w.pairs.items new pairs d at)
-        | inl e ↦ absurd (none-some new (sym (is_new n None e at)))
-      ];
-    })
-  where
-    new : Pair
-    new = record { first = first; second = second; spare = first; start = 0 }
+module _ {t : TrailState} {w : Watches} (v : Watches) {number : ℕ} {first second : Lit} (sound : IsSound t) (watched : AreWatched t w)
+    (can : CanWatch t number first second) (attaches : Attaches w.lists.items number first second v.lists.items)
+    (puts : PutsPair w.pairs.items number (pair_of first second) v.pairs.items) (within : number < length v.pairs.items)
+    (wide : length w.pairs.items ≤ length v.pairs.items) (few : length v.pairs.items ≤ length t.clauses) where
+  open attaches use {between, at_first, at_second}
 
-    within_pairs : number < length w.pairs.items
-    within_pairs = omega (arith, watched.asides.known w.held next.aside next.there, next.names)
+  code_in : (l : Lit) → has can.clause l ≡ true → code_of l < length w.lists.items
+  code_in l member = lists_have t w sound watched number can.clause l can.named member
 
-    count : length v.pairs.items ≡ length w.pairs.items
-    count = ap length pairs ∙ length-set w.pairs.items number (Some new)
+  second_in : code_of second < length between
+  second_in = omega (arith, code_in second can.other, at_first.all)
 
-    is_new : (n : ℕ) (o : Option Pair) → n ≡ number → slice_get v.pairs.items n ≡ Some o → Some new ≡ o
-    is_new n o = pair_is_new w.pairs.items pairs within_pairs
+  of_new : {n : ℕ} {pair : Pair} {l : Lit} → n ≡ number → IsPairOf v.pairs.items n pair → IsOf pair l → IsOf (pair_of first second) l
+  of_new {n} {pair} {l} e at of = subst (λ (q : Pair). IsOf q l) (sym (same_Some (pair_of first second) pair (pair_is_new puts at e))) of
 
-    within : (l : Lit) → has can.clause l ≡ true → code_of l < length w.lists.items
-    within l member = lists_have t w sound watched number can.clause l can.named member
+  new_listed : (l : Lit) → IsOf (pair_of first second) l → (index : ℕ) × HasWatch v.lists.items (code_of l) number index
+  new_listed l (inl e) = subst (λ (z : Lit). (index : ℕ) × HasWatch v.lists.items (code_of z) number index) e
+      (let r = has_watch_new at_first (code_in first can.member) in (r.0, has_watch_more at_second r.1))
+  new_listed l (inr e) = subst (λ (z : Lit). (index : ℕ) × HasWatch v.lists.items (code_of z) number index) e
+      (has_watch_new at_second second_in)
 
-    second_within : code_of second < length between
-    second_within = omega (arith, within second can.other, adds_first.all)
+  listing_put : AreListed t.variables t.clauses v.lists.items v.pairs.items
+  listing_put = record {
+    lists_all = at_second.all ∙ (at_first.all ∙ watched.lists_all);
+    pairs_few = few;
+    blocked = blocked_more t.clauses at_second second_in (blocked_one t.clauses first within can.named can.member)
+        (blocked_more t.clauses at_first (code_in first can.member) (blocked_one t.clauses second within can.named can.other)
+        (blocked_within t.clauses w.lists.items wide watched.blocked));
+    paired = λ n c pair named at. elim (cases_eq n number) [
+      | inr d ↦ watched.paired n c pair named (pair_was puts at d)
+      | inl e ↦ subst (IsPair c) (same_Some (pair_of first second) pair (pair_is_new puts at e))
+          (subst (λ (d : List Lit). IsPair d (pair_of first second))
+          (same_Some can.clause c (sym can.named ∙ (ap (slice_get t.clauses) (sym e) ∙ named)))
+          (record { first = can.member; second = can.other; spare = can.member; apart = λ k. can.apart (sym k) }))
+    ];
+    listed = λ n pair l at of. elim (cases_eq n number) [
+      | inr d ↦ (let r = watched.listed n pair l (pair_was puts at d) of in (r.0, has_watch_more at_second (has_watch_more at_first r.1)))
+      | inl e ↦ subst (λ k. (index : ℕ) × HasWatch v.lists.items (code_of l) k index) (sym e) (new_listed l (of_new e at of))
+    ];
+  }
 
-    new_listed : (l : Lit) → IsOf new l → (index : ℕ) × HasWatch v.lists.items (code_of l) number index
-    new_listed l (inl e) = subst (λ (z : Lit). (index : ℕ) × HasWatch v.lists.items (code_of z) number index) e
-        (let r = has_watch_new adds_first (within first can.member) in (r.0, has_watch_more adds_second r.1))
-    new_listed l (inr e) = subst (λ (z : Lit). (index : ℕ) × HasWatch v.lists.items (code_of z) number index) e
-        (has_watch_new adds_second second_within)
+  -- its literals are not false, or it waits
+  pub watched_put : v ≡ record w { lists = v.lists; pairs = v.pairs } → ((c : List Lit) (l : Lit) → IsOf (pair_of first second) l →
+      (has (literals_of t.entries) (negation l) ≡ false) ⊎ IsAside t.entries w.asides.items w.held number c) → AreWatched t v
+  watched_put rest settled = subst (AreWatched t) (sym rest) (record {
+    listing = listing_put;
+    head_few = watched.head_few;
+    asides = asides_more (omega arith) wide watched.asides;
+    excused = λ n c pair l named at of place x there false_by below. elim (cases_eq n number) [
+      | inr d ↦ watched.excused n c pair l named (pair_was puts at d) of place x there false_by below
+      | inl e ↦ elim (settled c l (of_new e at of)) [
+        | inl free ↦ absurd (false≢true (sym free ∙ entry_has t.entries place x (negation l) there false_by))
+        | inr a ↦ inr (subst (λ k. IsAside t.entries w.asides.items w.held k c) (sym e) a)
+      ]
+    ];
+    unpaired = λ n c named at. elim (cases_eq n number) [
+      | inr d ↦ watched.unpaired n c named (pair_was puts at d)
+      | inl e ↦ absurd (none-some (pair_of first second) (sym (pair_is_new puts at e)))
+    ];
+  })
 
-    blocked : AreBlocked t.clauses (length v.pairs.items) v.lists.items
-    blocked =
-        let below : number < length v.pairs.items = omega (arith, count, within_pairs) in
-        blocked_more t.clauses adds_second second_within (blocked_one t.clauses first below can.named can.member)
-        (blocked_more t.clauses adds_first (within first can.member) (blocked_one t.clauses second below can.named can.other)
-        (blocked_within t.clauses w.lists.items (omega (arith, count)) watched.blocked))
+pub both_free : (trues : List Lit) (pair : Pair) → has trues (negation pair.first) ≡ false → has trues (negation pair.second) ≡ false →
+    (l : Lit) → IsOf pair l → has trues (negation l) ≡ false
+both_free trues pair first second l (inl e) = ap (λ (z : Lit). has trues (negation z)) (sym e) ∙ first
+both_free trues pair first second l (inr e) = ap (λ (z : Lit). has trues (negation z)) (sym e) ∙ second
+
+-- the next clause is taken in, and watches two literals that are not false
+pub watched_open : {t : TrailState} {w v : Watches} {number : ℕ} {first second : Lit} {pair : Pair} → IsSound t → AreWatched t w →
+    length w.pairs.items < length t.clauses → number ≡ length w.pairs.items → IsOpenBy t number first second →
+    Attaches w.lists.items number first second v.lists.items → pair ≡ pair_of first second →
+    v.pairs.items ≡ w.pairs.items ++ Some pair ∷ [] → v ≡ record w { lists = v.lists; pairs = v.pairs } → AreWatched t v
+watched_open {t} {w} {v} {number} {first} {second} {pair} sound watched more is free attaches pair_is pairs rest =
+    let count : length v.pairs.items ≡ length w.pairs.items + 1 = omega (arith, ap length pairs, length_push w.pairs.items (Some pair)) in
+    watched_put v sound watched free.watch attaches (subst (λ (q : Pair). PutsPair w.pairs.items number q v.pairs.items) pair_is
+    (subst (λ n. PutsPair w.pairs.items n pair v.pairs.items) (sym is)
+    (subst (PutsPair w.pairs.items (length w.pairs.items) pair) (sym pairs) (pair_push w.pairs.items pair))))
+    (omega (arith, is, count)) (omega (arith, count)) (omega (arith, count, more)) rest
+    (λ c l of. inl (both_free (literals_of t.entries) (pair_of first second) free.first_free free.second_free l of))
+
+-- the next clause that waits does
+pub next_aside : {es : List Entry} {w : Watches} {number : ℕ} {clause : List Lit} → IsNextWaiting w number →
+    IsAside es w.asides.items w.held number clause
+next_aside {es} {w} next =
+    record { index = w.held; aside = next.aside; there = next.there; names = next.names; met = λ below. absurd (omega (arith, below)) }
+
+-- a clause that waits watches two literals
+module _ {t : TrailState} {w b : Watches} (v : Watches) {number : ℕ} {first second : Lit} {pair : Pair} (watched : AreWatched t w)
+    (next : IsNextWaiting w number) (is : pair ≡ pair_of first second) (lists_rest : b ≡ record w { lists = b.lists })
+    (pairs : v.pairs.items ≡ set b.pairs.items number (Some pair)) where
+  within_pairs : number < length w.pairs.items
+  within_pairs = omega (arith, watched.asides.known w.held next.aside next.there, next.names)
+
+  same_pairs : b.pairs.items ≡ w.pairs.items
+  same_pairs = ap (λ (x : Watches). x.pairs.items) lists_rest
+
+  pub both_puts : PutsPair w.pairs.items number (pair_of first second) v.pairs.items
+  both_puts = subst (PutsPair w.pairs.items number (pair_of first second)) (sym pairs)
+      (subst (λ (q : Pair). PutsPair w.pairs.items number q (set b.pairs.items number (Some pair))) is
+      (subst (λ (ps : List (Option Pair)). PutsPair w.pairs.items number pair (set ps number (Some pair))) (sym same_pairs)
+      (pair_set w.pairs.items number pair within_pairs)))
+
+  pub both_count : length v.pairs.items ≡ length w.pairs.items
+  both_count = ap length pairs ∙ (length-set b.pairs.items number (Some pair) ∙ ap length same_pairs)
+
+  pub watched_both : IsSound t → CanWatch t number first second → Attaches w.lists.items number first second v.lists.items →
+      v ≡ record w { lists = v.lists; pairs = v.pairs } → AreWatched t v
+  watched_both sound can attaches rest = watched_put v sound watched can attaches both_puts (omega (arith, within_pairs, both_count))
+      (omega (arith, both_count)) (omega (arith, both_count, watched.pairs_few)) rest (λ c l of. inr (next_aside next))
 
 -- ---- the pair of a clause
-
-pub pair_open : {t : TrailState} {w : Watches} {number : ℕ} {pair : Pair} → IsPairOf w.pairs.items number pair →
-    has (literals_of t.entries) (negation pair.first) ≡ false → has (literals_of t.entries) (negation pair.second) ≡ false →
-    IsOpenAt t w number
-pair_open {t} {w} {number} {pair} at first second = record {
-  pair = pair;
-  at = at;
-  not_false = λ l of. elim of [
-    | inl e ↦ ap (λ (z : Lit). has (literals_of t.entries) (negation z)) (sym e) ∙ first
-    | inr e ↦ ap (λ (z : Lit). has (literals_of t.entries) (negation z)) (sym e) ∙ second
-  ];
-}
 
 pub watched_by : {w : Watches} {number : ℕ} {pair : Pair} {first second : Lit} → IsPairOf w.pairs.items number pair → IsOf pair first →
     IsOf pair second → (second ≡ first → ⊥) → IsWatchedBy w number first second
@@ -296,12 +316,12 @@ watched_by {w} {number} {pair} {first} {second} at (inr p) (inr q) apart = absur
 watched_by {w} {number} {pair} {first} {second} at (inl p) (inr q) apart = record {
   pair = pair;
   at = at;
-  only = λ l of. elim of [ inl e ↦ inl (sym e ∙ p) | inr e ↦ inr (sym e ∙ q) ];
+  only = λ l of. elim of [ inl e ↦ inl (sym p ∙ e) | inr e ↦ inr (sym q ∙ e) ];
 }
 watched_by {w} {number} {pair} {first} {second} at (inr p) (inl q) apart = record {
   pair = pair;
   at = at;
-  only = λ l of. elim of [ inl e ↦ inr (sym e ∙ q) | inr e ↦ inl (sym e ∙ p) ];
+  only = λ l of. elim of [ inl e ↦ inr (sym q ∙ e) | inr e ↦ inl (sym p ∙ e) ];
 }
 
 pub read_pair : (pairs : List (Option Pair)) {number : ℕ} {x : Option Pair} {pair : Pair} → number < length pairs →
@@ -322,6 +342,19 @@ next_waits {w} {x} read below = record {
   there = slice_get-get_or w.asides.items w.held x below ∙ ap Some (sym read);
   names = refl;
 }
+
+-- it still does where other literals are watched, and as much is to be looked at
+module _ (w : Watches) {v : Watches} (rest : v ≡ record w { lists = v.lists; pairs = v.pairs }) where
+  pub waits_still : {number : ℕ} → IsNextWaiting w number → IsNextWaiting v number
+  waits_still next =
+      record { aside = next.aside; there = ap (λ (x : Watches). slice_get x.asides.items x.held) rest ∙ next.there; names = next.names }
+
+  pub left_same : length v.pairs.items ≡ length w.pairs.items → (count : ℕ) → left_of count v ≡ left_of count w
+  left_same pairs count = omega
+      (arith, pairs, ap (λ (x : Watches). x.held) rest, ap (λ (x : Watches). length x.asides.items) rest)
+
+pub next_within : {w : Watches} {number : ℕ} → IsNextWaiting w number → w.held < length w.asides.items
+next_within {w} next = slice_get_within w.asides.items w.held next.aside next.there
 
 pub next_known : {t : TrailState} {w : Watches} {number : ℕ} → AreWatched t w → IsNextWaiting w number → number < length t.clauses
 next_known {t} {w} watched next =

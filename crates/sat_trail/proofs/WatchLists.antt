@@ -1,13 +1,14 @@
 -- The lists of watches when one has a watch more or less.
 use Rattle.std.proofs.Common.{◌≡◌, ℕ, ◌<◌, ◌≤◌, true, List, [], ◌∷◌, ◌++◌, length, set, Option, Some, slice_get, sym, ap, ◌∙◌, subst, refl, arith, inl}
 use Rattle.std.proofs.Common.{inr}
-use Rattle.std.proofs.lemmas.Option.{same_Some}
-use Rattle.std.proofs.lemmas.Bool.{cases_eq}
-use Rattle.sequence.proofs.Places.{slice_get-behind, slice_get_grown, slice_get_push, slice_get_some, slice_get_set, slice_get_set_same}
+use Rattle.std.proofs.lemmas.Option.{same_Some, slice_get_past}
+use Rattle.std.proofs.lemmas.List.{length_push}
+use Rattle.std.proofs.lemmas.Bool.{cases_lt, cases_eq}
+use Rattle.sequence.proofs.Places.{slice_get-front, slice_get-behind, slice_get_grown, slice_get_push, slice_get_some, slice_get_set, slice_get_set_same}
 use Rattle.clause_core.specs.Literals.{Lit, has}
 use Rattle.sat_trail.specs.declared.watches.Watch.{Watch}
 use Rattle.sat_trail.specs.declared.watches.Pair.{Pair}
-use Rattle.sat_trail.specs.internal.Watching.{HasWatch, AddsWatch, DropsWatch}
+use Rattle.sat_trail.specs.internal.Watching.{HasWatch, AddsWatch, DropsWatch, PutsPair, IsBlocked, AreBlocked}
 
 -- ---- what is in a list
 
@@ -47,26 +48,31 @@ has_watch_new {old} {new} {code} {watch} adds within =
 
 -- ---- a clause gets another pair
 
-pub pair_was : (old : List (Option Pair)) (new : Pair) {pairs : List (Option Pair)} {number other : ℕ} {o : Option Pair} → pairs ≡ set old number (Some new) →
-    (other ≡ number → ⊥) → slice_get pairs other ≡ Some o → slice_get old other ≡ Some o
-pair_was old new {pairs} {number} {other} is n at = sym (slice_get_set old number other (Some new) n)
-    ∙ (ap (λ (ps : List (Option Pair)). slice_get ps other) (sym is) ∙ at)
+pub pair_set : (old : List (Option Pair)) (number : ℕ) (pair : Pair) → number < length old → PutsPair old number pair (set old number (Some pair))
+pair_set old number pair within = record {
+  here = slice_get_set_same old number (Some pair) within;
+  others = λ k apart. slice_get_set old number k (Some pair) apart;
+}
 
-pub pair_is_new : (old : List (Option Pair)) {new : Pair} {pairs : List (Option Pair)} {number other : ℕ} {o : Option Pair} →
-    pairs ≡ set old number (Some new) → number < length old → other ≡ number → slice_get pairs other ≡ Some o → Some new ≡ o
-pair_is_new old {new} {pairs} {number} {other} {o} is within e at = same_Some (Some new) o
-    (sym (slice_get_set_same old number (Some new) within) ∙ (ap (λ (ps : List (Option Pair)). slice_get ps number) (sym is) ∙ (ap (slice_get pairs) (sym e) ∙ at)))
+pub pair_push : (old : List (Option Pair)) (pair : Pair) → PutsPair old (length old) pair (old ++ Some pair ∷ [])
+pair_push old pair = record {
+  here = slice_get-behind old (Some pair) [];
+  others = λ k apart. elim (cases_lt k (length old)) [
+    | inl below ↦ slice_get-front old (Some pair ∷ []) k below
+    | inr above ↦ slice_get_past (old ++ Some pair ∷ []) k (omega (arith, above, apart, length_push old (Some pair)))
+        ∙ sym (slice_get_past old k above)
+  ];
+}
+
+module _ {old new : List (Option Pair)} {at : ℕ} {pair : Pair} (puts : PutsPair old at pair new) {number : ℕ} {o : Option Pair}
+    (read : slice_get new number ≡ Some o) where
+  pub pair_was : (number ≡ at → ⊥) → slice_get old number ≡ Some o
+  pair_was n = sym (puts.others number n) ∙ read
+
+  pub pair_is_new : number ≡ at → Some pair ≡ o
+  pair_is_new e = same_Some (Some pair) o (sym puts.here ∙ (ap (slice_get new) (sym e) ∙ read))
 
 -- ---- the blockers
-
--- the watch is of one of the first clauses, and its blocker is of that clause
-abbrev pub IsBlocked : List (List Lit) → ℕ → Watch → Type 0
-IsBlocked clauses count watch =
-    (watch.clause < count) × ((clause : List Lit) → slice_get clauses watch.clause ≡ Some clause → has clause watch.blocker ≡ true)
-
-abbrev pub AreBlocked : List (List Lit) → ℕ → List (List Watch) → Type 0
-AreBlocked clauses count lists = (code index : ℕ) (list : List Watch) (watch : Watch) → slice_get lists code ≡ Some list →
-    slice_get list index ≡ Some watch → IsBlocked clauses count watch
 
 module _ (clauses : List (List Lit)) {count : ℕ} where
   pub blocked_one : {number : ℕ} {clause : List Lit} (l : Lit) → number < count → slice_get clauses number ≡ Some clause →

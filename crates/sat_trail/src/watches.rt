@@ -1,12 +1,13 @@
 //! Unit propagation by two watched literals a clause.
 
 ghost use Rattle.std.specs.Prelude.{◌≡◌, ℕ, ◌+◌, ◌-◌, ◌*◌, ◌<◌, ◌≤◌, ◌^◌, ◌&&◌, not, min, cond, nat_lt, true, false, length, List, [], ◌∷◌, ◌++◌, Option, Some, None, IfOk, OnOk, MatchOption, slice_get};
+ghost use Rattle.std.specs.Option.{unwrap_or};
 ghost use Rattle.clause_core.specs.Literals.{Lit, negation, same, has, code_of};
 ghost use Rattle.clause_core.specs.Clauses.{IsOver};
 ghost use Rattle.sat_trail.specs.declared.entries.Entry.{Entry};
-ghost use Rattle.sat_trail.specs.Entries.{literals_of};
+ghost use Rattle.sat_trail.specs.Entries.{literals_of, place_of};
 ghost use Rattle.sat_trail.specs.States.{TrailState, IsSound, Propagates, IsFalseAt, EndsWith};
-ghost use Rattle.sat_trail.specs.internal.Watching.{HasList, TakesOut, RenewsBlocker, AddsWatch, RenewsWatch, DropsWatch, IsOf, IsPairIn, IsNextPair, AreWatched, IsVisit, AreDue, AreOthersFalse, CanForce, CanWatch, IsFalseBy, IsLater, IsBestOf, IsFree, AreFalseBetween, IsNextWaiting, IsOpenAt, IsWatchedBy, SetsAside, Releases, left_of, LeavesSome, LooksAtOne};
+ghost use Rattle.sat_trail.specs.internal.Watching.{HasList, TakesOut, RenewsBlocker, AddsWatch, Attaches, RenewsWatch, DropsWatch, IsOf, IsPairIn, pair_of, IsNextPair, AreWatched, IsVisit, AreDue, AreOthersFalse, CanForce, CanWatch, IsOpenBy, HasStatus, IsFirstFree, AreFalseBefore, AreAllBefore, IsOther, IsFree, AreFalseBetween, IsNextWaiting, IsOpenAt, IsWatchedBy, SetsAside, Releases, left_of, LeavesSome, LooksAtOne};
 
 use crate::stack::Stack;
 use clause_core::Literal;
@@ -104,6 +105,18 @@ pub struct Pair {
 }
 
 impl Pair {
+    /// Of two literals of a clause that watched none so far.
+    fn new(first: Literal, second: Literal) -> Pair
+        ensures { result ≡ pair_of first second }
+    {
+        Pair {
+            first,
+            second,
+            spare: first,
+            start: 0,
+        }
+    }
+
     /// The literal of the pair that is not this one.
     fn other(&self, literal: Literal) -> Literal
         ensures of { IsOf self.now result }
@@ -132,6 +145,17 @@ pub struct Aside {
     pub clause: u32,
     /// The level at which it was set aside.
     pub level: u32,
+}
+
+/// What a clause is while literals are set.
+#[derive(Clone, Copy)]
+pub enum Status {
+    /// All its literals are false.
+    Conflict,
+    /// All but this one are false.
+    Unit(Literal),
+    /// These two are not false.
+    Open(Literal, Literal),
 }
 
 /// Which literals each clause watches, and how far propagation has come.
@@ -215,25 +239,47 @@ impl Watches {
         Ok(None)
     }
 
-    /// Takes the next clause in where none waits, and answers whether one waits. An `Err` says that memory
-    /// ran out.
+    /// Takes clauses in until one waits, and answers whether one does. An `Err` says that memory ran out.
     fn take_in(&mut self, stack: &Stack<'_>) -> Result<bool, NoMemory>
-        requires { AreWatched stack.now self.old }
+        requires usable { stack.now.broken ≡ false }
+        requires sound { IsSound stack.now }
+        requires watched { AreWatched stack.now self.old }
         ensures watched { OnOk result (AreWatched stack.now self.new) }
         ensures left { IfOk result (LeavesSome (length stack.now.clauses) self.old self.new) }
     {
-        if self.held < self.asides.len() {
-            return Ok(true);
+        while self.held >= self.asides.len() && self.pairs.len() < stack.clause_count() as usize {
+            self.take_next(stack)?;
         }
-        if self.pairs.len() >= stack.clause_count() as usize {
-            return Ok(false);
+        Ok(self.held < self.asides.len())
+    }
+
+    /// Takes the next clause in: it watches two literals that are not false, or else it waits. An `Err` says
+    /// that memory ran out.
+    fn take_next(&mut self, stack: &Stack<'_>) -> Result<(), NoMemory>
+        requires usable { stack.now.broken ≡ false }
+        requires sound { IsSound stack.now }
+        requires watched { AreWatched stack.now self.old }
+        requires more { length self.old.pairs.items < length stack.now.clauses }
+        requires none { length self.old.asides.items ≤ self.old.held }
+        ensures watched { OnOk result (AreWatched stack.now self.new) }
+        ensures left { OnOk result (left_of (length stack.now.clauses) self.new < left_of (length stack.now.clauses) self.old) }
+    {
+        let number = self.pairs.len() as u32;
+        match status_of(stack, number) {
+            Status::Open(first, second) => {
+                self.attach(number, first, second)?;
+                self.pairs.push(Some(Pair::new(first, second)))?;
+                Ok(())
+            }
+            _ => {
+                self.asides.push(Aside {
+                    clause: number,
+                    level: 0,
+                })?;
+                self.pairs.push(None)?;
+                Ok(())
+            }
         }
-        self.asides.push(Aside {
-            clause: self.pairs.len() as u32,
-            level: 0,
-        })?;
-        self.pairs.push(None)?;
-        Ok(true)
     }
 
     /// Looks at a clause that waits, and answers its number if it is false. An `Err` says that memory ran out.
@@ -252,16 +298,10 @@ impl Watches {
             self.release();
             return Ok(None);
         }
-        let literals = stack.clause(number).literals();
-        let Some(first) = best(stack, literals, &None) else {
-            return Ok(Some(number));
-        };
-        if stack.is_true(first.negated()) {
-            return Ok(Some(number));
-        }
-        match best(stack, literals, &Some(first)) {
-            None => self.force_aside(stack, number, first),
-            Some(second) => self.look_at_two(stack, number, first, second),
+        match status_of(stack, number) {
+            Status::Conflict => Ok(Some(number)),
+            Status::Unit(literal) => self.force_aside(stack, number, literal),
+            Status::Open(first, second) => self.open(stack, number, first, second),
         }
     }
 
@@ -273,36 +313,28 @@ impl Watches {
         ensures { result ≡ true → IsOpenAt stack.now self.now number }
     {
         match &self.pairs[number as usize] {
-            Some(pair) => {
-                !stack.is_true(pair.first.negated()) && !stack.is_true(pair.second.negated())
-            }
+            Some(pair) => !is_false(stack, pair.first) && !is_false(stack, pair.second),
             None => false,
         }
     }
 
-    /// Looks at a clause that waits by two of its literals, the first of which is not false: from now on it
-    /// watches these. It answers none. An `Err` says that memory ran out.
-    fn look_at_two(
+    /// A clause that waits does so no more: it watches these two literals, which are not false. It answers
+    /// none. An `Err` says that memory ran out.
+    fn open(
         &mut self,
-        stack: &mut Stack<'_>,
+        stack: &Stack<'_>,
         number: u32,
         first: Literal,
         second: Literal,
     ) -> Result<Option<u32>, NoMemory>
-        requires usable { stack.old.broken ≡ false }
-        requires sound { IsSound stack.old }
-        requires watched { AreWatched stack.old self.old }
+        requires sound { IsSound stack.now }
+        requires watched { AreWatched stack.now self.old }
         requires waits { IsNextWaiting self.old number }
-        requires literals { CanWatch stack.old number first second }
-        ensures ok { OnOk result (Propagates stack.old stack.new) }
-        ensures watched { OnOk result (AreWatched stack.new self.new) }
-        ensures ends { IfOk result (λ conflict. MatchOption conflict (LooksAtOne self.old self.new) (IsFalseAt stack.new)) }
-        ensures sound { IsSound stack.new }
+        requires open { IsOpenBy stack.now number first second }
+        ensures watched { OnOk result (AreWatched stack.now self.new) }
+        ensures ends { IfOk result (λ conflict. MatchOption conflict (LooksAtOne self.old self.new) (IsFalseAt stack.now)) }
     {
         self.watch_both(stack, number, first, second)?;
-        if stack.is_true(second.negated()) {
-            return self.force_aside(stack, number, first);
-        }
         self.release();
         Ok(None)
     }
@@ -327,15 +359,32 @@ impl Watches {
         if self.is_watched_by(number, first, second) {
             return Ok(());
         }
-        self.add_watch(first, number, second)?;
-        self.add_watch(second, number, first)?;
-        self.pairs[number as usize] = Some(Pair {
-            first,
-            second,
-            spare: first,
-            start: 0,
-        });
+        self.attach(number, first, second)?;
+        self.pairs[number as usize] = Some(Pair::new(first, second));
         Ok(())
+    }
+
+    /// A clause that waits and whose literals but this one are false watches it and the one that was made false
+    /// last, if there is one. An `Err` says that memory ran out.
+    fn watch_last(
+        &mut self,
+        stack: &Stack<'_>,
+        number: u32,
+        literal: Literal,
+    ) -> Result<(), NoMemory>
+        requires usable { stack.now.broken ≡ false }
+        requires sound { IsSound stack.now }
+        requires watched { AreWatched stack.now self.old }
+        requires waits { IsNextWaiting self.old number }
+        requires forced { CanForce stack.now number literal }
+        ensures watched { OnOk result (AreWatched stack.now self.new) }
+        ensures pairs { OnOk result (length self.new.pairs.items ≡ length self.old.pairs.items) }
+        ensures rest { OnOk result (self.new ≡ record self.old { lists = self.new.lists; pairs = self.new.pairs }) }
+    {
+        match last_other(stack, stack.clause(number).literals(), literal) {
+            None => Ok(()),
+            Some(other) => self.watch_both(stack, number, literal, other),
+        }
     }
 
     /// Whether the clause of a number watches both of these literals.
@@ -369,6 +418,7 @@ impl Watches {
         ensures ends { IfOk result (λ conflict. MatchOption conflict (LooksAtOne self.old self.new) (IsFalseAt stack.new)) }
         ensures sound { IsSound stack.new }
     {
+        self.watch_last(stack, number, literal)?;
         force(stack, number, literal)?;
         self.set_aside(stack.level());
         Ok(None)
@@ -400,6 +450,17 @@ impl Watches {
         ensures rest { self.new ≡ record self.old { low = self.new.low } }
     {
         self.low = lowered(self.low, place, stack.level_at(place) < stack.level());
+    }
+
+    /// A clause watches two literals. An `Err` says that memory ran out.
+    fn attach(&mut self, number: u32, first: Literal, second: Literal) -> Result<(), NoMemory>
+        requires first { code_of first < length self.old.lists.items }
+        requires second { code_of second < length self.old.lists.items }
+        ensures lists { OnOk result (Attaches self.old.lists.items number first second self.new.lists.items) }
+        ensures rest { self.new ≡ record self.old { lists = self.new.lists } }
+    {
+        self.add_watch(first, number, second)?;
+        self.add_watch(second, number, first)
     }
 
     /// Adds a watch of a clause to a literal's list. An `Err` says that memory ran out.
@@ -545,7 +606,7 @@ fn force_or_fail(
     ensures ends { IfOk result (λ conflict. MatchOption conflict (has (literals_of stack.new.entries) literal ≡ true) (IsFalseAt stack.new)) }
     ensures sound { IsSound stack.new }
 {
-    if stack.is_true(literal.negated()) {
+    if is_false(stack, literal) {
         return Ok(Some(number));
     }
     force(stack, number, literal)?;
@@ -577,103 +638,59 @@ fn lowered(limit: u32, number: u32, is_late: bool) -> u32
     if is_late { limit.min(number) } else { limit }
 }
 
-/// The place of the entry that makes the literal false; none exactly where it is not false.
-fn false_place(stack: &Stack<'_>, literal: Literal) -> Option<u32>
-    requires usable { stack.now.broken ≡ false }
-    requires sound { IsSound stack.now }
-    requires over { literal.index < stack.now.variables }
-    ensures { MatchOption result (has (literals_of stack.now.entries) (negation literal) ≡ false) (IsFalseBy stack.now literal) }
-{
-    if !stack.is_true(literal.negated()) {
-        return None;
-    }
-    stack.set_place(literal.variable())
-}
-
 /// The position as a number of 32 bits; 0 where it does not fit.
 fn number_of_position(position: usize) -> u32 {
     u32::try_from(position).unwrap_or(0)
 }
 
-/// When the literal was made false: a place; the largest number where it is not false.
-fn rank(stack: &Stack<'_>, literal: Literal) -> u32
+/// What the clause of a number is while literals are set.
+fn status_of(stack: &Stack<'_>, number: u32) -> Status
     requires usable { stack.now.broken ≡ false }
     requires sound { IsSound stack.now }
-    requires over { literal.index < stack.now.variables }
-    ensures { nat_lt result 4294967295 ≡ has (literals_of stack.now.entries) (negation literal) }
+    requires given { number < length stack.now.clauses }
+    ensures { HasStatus stack.now number result }
 {
-    match false_place(stack, literal) {
-        Some(place) => place,
-        None => u32::MAX,
+    let literals = stack.clause(number).literals();
+    let Some(place) = first_free(stack, literals) else {
+        return Status::Conflict;
+    };
+    let first = literals[place];
+    match free_between(stack, literals, first, place + 1, literals.len()) {
+        Some(position) => Status::Open(first, literals[position]),
+        None => Status::Unit(first),
     }
 }
 
-/// Of the literals but this one, one that is not false, or else the one that was made false last; none
-/// where there are no others.
-fn best(stack: &Stack<'_>, literals: &[Literal], except: &Option<Literal>) -> Option<Literal>
-    requires usable { stack.now.broken ≡ false }
-    requires sound { IsSound stack.now }
+/// The position of the first literal that is not false; none where all are false.
+fn first_free(stack: &Stack<'_>, literals: &[Literal]) -> Option<usize>
     requires over { IsOver stack.now.variables literals.now }
-    ensures { IsBestOf (literals_of stack.now.entries) literals.now except.now result }
+    ensures { MatchOption result (AreFalseBefore (literals_of stack.now.entries) literals.now (length literals.now)) (IsFirstFree (literals_of stack.now.entries) literals.now) }
+{
+    for position in 0..literals.len() {
+        if !is_false(stack, literals[position]) {
+            return Some(position);
+        }
+    }
+    None
+}
+
+/// Of the literals but this one, the one that was set last; none where there are no others.
+fn last_other(stack: &Stack<'_>, literals: &[Literal], except: Literal) -> Option<Literal>
+    requires usable { stack.now.broken ≡ false }
+    requires over { IsOver stack.now.variables literals.now }
+    ensures { MatchOption result (AreAllBefore literals.now except (length literals.now)) (IsOther literals.now except) }
 {
     let mut found = None;
-    for literal in literals {
-        found = better(stack, found, *literal, except);
-        if is_not_false(stack, &found) {
-            return found;
+    let mut last = 0;
+    for position in 0..literals.len() {
+        let literal = literals[position];
+        let place = set_place_or_zero(stack, literal);
+        if literal != except && (found.is_none() || place > last) {
+            found = Some(literal);
+            last = place;
         }
     }
     found
-}
-
-/// Whether there is a literal, and it is not false.
-fn is_not_false(stack: &Stack<'_>, found: &Option<Literal>) -> bool
-    requires { (l : Lit) → found.now ≡ Some l → l.index < stack.now.variables }
-    ensures { MatchOption found.now (result ≡ false) (λ l. result ≡ not (has (literals_of stack.now.entries) (negation l))) }
-{
-    match found {
-        Some(literal) => !stack.is_true(literal.negated()),
-        None => false,
-    }
-}
-
-/// The better one of the literal that was found and another one, which is passed over if it is the one
-/// given.
-fn better(
-    stack: &Stack<'_>,
-    found: Option<Literal>,
-    literal: Literal,
-    except: &Option<Literal>,
-) -> Option<Literal>
-    requires usable { stack.now.broken ≡ false }
-    requires sound { IsSound stack.now }
-    requires over { literal.index < stack.now.variables }
-    requires found { (l : Lit) → found ≡ Some l → l.index < stack.now.variables }
-    ensures { (before : List Lit) → IsBestOf (literals_of stack.now.entries) before except.now found →
-        IsBestOf (literals_of stack.now.entries) (before ++ literal ∷ []) except.now result }
-{
-    if *except == Some(literal) {
-        return found;
-    }
-    match found {
-        None => Some(literal),
-        Some(other) => Some(later(stack, other, literal)),
-    }
-}
-
-/// The second literal if it was made false later than the first one, or is not false; else the first.
-fn later(stack: &Stack<'_>, first: Literal, second: Literal) -> Literal
-    requires usable { stack.now.broken ≡ false }
-    requires sound { IsSound stack.now }
-    requires first_over { first.index < stack.now.variables }
-    requires second_over { second.index < stack.now.variables }
-    ensures { IsLater (literals_of stack.now.entries) first second result }
-{
-    if rank(stack, second) > rank(stack, first) {
-        second
-    } else {
-        first
-    }
 }
 
 /// The position of a literal that is not false, but not of the one given; none where all others are
@@ -720,5 +737,22 @@ fn is_free(stack: &Stack<'_>, literal: Literal, except: Literal) -> bool
     requires over { literal.index < stack.now.variables }
     ensures { result ≡ (not (same literal except) && not (has (literals_of stack.now.entries) (negation literal))) }
 {
-    literal != except && !stack.is_true(literal.negated())
+    literal != except && !is_false(stack, literal)
+}
+
+/// Whether the literal is false.
+fn is_false(stack: &Stack<'_>, literal: Literal) -> bool
+    requires { literal.index < stack.now.variables }
+    ensures { result ≡ has (literals_of stack.now.entries) (negation literal) }
+{
+    stack.is_true(literal.negated())
+}
+
+/// The place at which the literal's variable is set; 0 where it is not.
+fn set_place_or_zero(stack: &Stack<'_>, literal: Literal) -> u32
+    requires usable { stack.now.broken ≡ false }
+    requires over { literal.index < stack.now.variables }
+    ensures { result ≡ unwrap_or (place_of stack.now.entries literal.index) 0 }
+{
+    stack.set_place(literal.variable()).unwrap_or(0)
 }

@@ -1,15 +1,17 @@
 -- Internal: only private functions of this crate use these words. How clauses watch literals, and how far propagation has
 -- come. The idea is that of M. Moskewicz and others, Chaff: Engineering an Efficient SAT Solver, 2001.
 use Rattle.std.specs.Prelude.{◌≡◌, ℕ, ◌+◌, ◌-◌, ◌*◌, ◌<◌, ◌≤◌, ◌⊎◌, Bool, true, false, List, ◌∷◌, ◌++◌, [], length, Option, Some, None}
-use Rattle.std.specs.Prelude.{MatchOption, slice_get}
+use Rattle.std.specs.Prelude.{slice_get}
 use Rattle.clause_core.specs.Literals.{Lit, negation, has, code_of}
 use Rattle.clause_core.specs.Clauses.{IsIncreasing}
 use Rattle.sat_trail.specs.declared.entries.Entry.{Entry}
 use Rattle.sat_trail.specs.Entries.{literals_of}
-use Rattle.sat_trail.specs.States.{TrailState}
+use Rattle.sat_trail.specs.States.{TrailState, IsFalseAt}
 use Rattle.sat_trail.specs.declared.watches.Watch.{Watch}
 use Rattle.sat_trail.specs.declared.watches.Pair.{Pair}
 use Rattle.sat_trail.specs.declared.watches.Aside.{Aside}
+use Rattle.sat_trail.specs.declared.watches.Status.{Status}
+use Rattle.sat_trail.specs.declared.watches.Status.TheVariants.{Conflict, Unit, Open}
 use Rattle.sat_trail.specs.declared.watches.Watches.{Watches}
 
 -- ---- lists of watches
@@ -47,6 +49,12 @@ pub record AddsWatch (old : List (List Watch)) (code : ℕ) (watch : Watch) (new
   pub here : (list : List Watch) → slice_get old code ≡ Some list → slice_get new code ≡ Some (list ++ watch ∷ [])
   pub others : (other : ℕ) → (other ≡ code → ⊥) → slice_get new other ≡ slice_get old other
 
+-- the clause of this number gets a watch in the lists of two literals, whose blocker is the other one
+pub record Attaches (old : List (List Watch)) (number : ℕ) (first second : Lit) (new : List (List Watch)) : Type 0 where
+  pub between : List (List Watch)
+  pub at_first : AddsWatch old (code_of first) (record { clause = number; blocker = second }) between
+  pub at_second : AddsWatch between (code_of second) (record { clause = number; blocker = first }) new
+
 -- a watch in one list has another blocker
 pub record RenewsWatch (old : List (List Watch)) (code index : ℕ) (blocker : Lit) (new : List (List Watch)) : Type 0 where
   pub all : length new ≡ length old
@@ -70,6 +78,15 @@ IsOf pair l = (pair.first ≡ l) ⊎ (pair.second ≡ l)
 -- the clause of this number has this pair
 abbrev pub IsPairOf : List (Option Pair) → ℕ → Pair → Type 0
 IsPairOf pairs number pair = slice_get pairs number ≡ Some (Some pair)
+
+-- the pair of two literals of a clause that watched none so far
+abbrev pub pair_of : Lit → Lit → Pair
+pair_of first second = record { first = first; second = second; spare = first; start = 0 }
+
+-- the clause of this number has this pair, and all others have what they had
+pub record PutsPair (old : List (Option Pair)) (number : ℕ) (pair : Pair) (new : List (Option Pair)) : Type 0 where
+  pub here : slice_get new number ≡ Some (Some pair)
+  pub others : (k : ℕ) → (k ≡ number → ⊥) → slice_get new k ≡ slice_get old k
 
 -- the pair is of two literals of the clause, and so is its spare one
 pub record IsPair (clause : List Lit) (pair : Pair) : Type 0 where
@@ -110,23 +127,33 @@ pub record AreAsides (asides : List Aside) (held level count : ℕ) : Type 0 whe
 
 -- ---- what holds between the visits of entries
 
+-- the watch is of one of the first clauses, and its blocker is of that clause
+abbrev pub IsBlocked : List (List Lit) → ℕ → Watch → Type 0
+IsBlocked clauses count watch =
+    (watch.clause < count) × ((clause : List Lit) → slice_get clauses watch.clause ≡ Some clause → has clause watch.blocker ≡ true)
+
+abbrev pub AreBlocked : List (List Lit) → ℕ → List (List Watch) → Type 0
+AreBlocked clauses count lists = (code index : ℕ) (list : List Watch) (watch : Watch) → slice_get lists code ≡ Some list →
+    slice_get list index ≡ Some watch → IsBlocked clauses count watch
+
 -- Each watch is of a clause that was taken in, and its other literal is of that clause; each pair is of literals of its
--- clause, both of which the clause watches. A watched literal that is false by an entry visited has its clause excused,
--- before the place `low` by a literal that is taken back no earlier, or that clause is set aside or waits; so does one that
--- watches nothing.
+-- clause, both of which the clause watches.
+pub record AreListed (variables : ℕ) (clauses : List (List Lit)) (lists : List (List Watch)) (pairs : List (Option Pair)) : Type 0 where
+  pub lists_all : length lists ≡ 2 * variables
+  pub pairs_few : length pairs ≤ length clauses
+  pub blocked : AreBlocked clauses (length pairs) lists
+  pub paired : (number : ℕ) (clause : List Lit) (pair : Pair) → slice_get clauses number ≡ Some clause →
+      IsPairOf pairs number pair → IsPair clause pair
+  pub listed : (number : ℕ) (pair : Pair) (l : Lit) → IsPairOf pairs number pair → IsOf pair l →
+      (index : ℕ) × HasWatch lists (code_of l) number index
+
+-- A watched literal that is false by an entry visited has its clause excused, before the place `low` by a literal that is
+-- taken back no earlier, or that clause is set aside or waits; so does one that watches nothing.
 pub record AreWatched (t : TrailState) (w : Watches) : Type 0 where
-  pub lists_all : length w.lists.items ≡ 2 * t.variables
-  pub pairs_few : length w.pairs.items ≤ length t.clauses
+  pub listing : AreListed t.variables t.clauses w.lists.items w.pairs.items
+  pub open listing use *
   pub head_few : w.head ≤ length t.entries
   pub asides : AreAsides w.asides.items w.held t.level (length w.pairs.items)
-  pub blocked : (code index : ℕ) (list : List Watch) (watch : Watch) → slice_get w.lists.items code ≡ Some list →
-      slice_get list index ≡ Some watch →
-      (watch.clause < length w.pairs.items) × ((clause : List Lit) → slice_get t.clauses watch.clause ≡ Some clause →
-      has clause watch.blocker ≡ true)
-  pub paired : (number : ℕ) (clause : List Lit) (pair : Pair) → slice_get t.clauses number ≡ Some clause →
-      IsPairOf w.pairs.items number pair → IsPair clause pair
-  pub listed : (number : ℕ) (pair : Pair) (l : Lit) → IsPairOf w.pairs.items number pair → IsOf pair l →
-      (index : ℕ) × HasWatch w.lists.items (code_of l) number index
   pub excused : (number : ℕ) (clause : List Lit) (pair : Pair) (l : Lit) → slice_get t.clauses number ≡ Some clause →
       IsPairOf w.pairs.items number pair → IsOf pair l →
       (place : ℕ) (e : Entry) → slice_get t.entries place ≡ Some e → e.literal ≡ negation l → place < w.head →
@@ -183,7 +210,7 @@ pub record IsOpenAt (t : TrailState) (w : Watches) (number : ℕ) : Type 0 where
 pub record IsWatchedBy (w : Watches) (number : ℕ) (first second : Lit) : Type 0 where
   pub pair : Pair
   pub at : IsPairOf w.pairs.items number pair
-  pub only : (l : Lit) → IsOf pair l → (l ≡ first) ⊎ (l ≡ second)
+  pub only : (l : Lit) → IsOf pair l → IsOf (pair_of first second) l
 
 -- ---- what holds within the visit of an entry
 
@@ -216,16 +243,25 @@ pub record CanForce (t : TrailState) (number : ℕ) (l : Lit) : Type 0 where
   pub member : has clause l ≡ true
   pub others : AreOthersFalse (literals_of t.entries) clause l
 
--- the clause of this number has the two literals, the first of which is not false; if the second is, all others are
+-- the clause of this number has the two literals
 pub record CanWatch (t : TrailState) (number : ℕ) (first second : Lit) : Type 0 where
   pub clause : List Lit
   pub named : slice_get t.clauses number ≡ Some clause
-  pub increasing : IsIncreasing clause
   pub member : has clause first ≡ true
   pub other : has clause second ≡ true
   pub apart : second ≡ first → ⊥
-  pub not_false : has (literals_of t.entries) (negation first) ≡ false
-  pub others : has (literals_of t.entries) (negation second) ≡ true → AreOthersFalse (literals_of t.entries) clause first
+
+-- and they are not false
+pub record IsOpenBy (t : TrailState) (number : ℕ) (first second : Lit) : Type 0 where
+  pub watch : CanWatch t number first second
+  pub first_free : has (literals_of t.entries) (negation first) ≡ false
+  pub second_free : has (literals_of t.entries) (negation second) ≡ false
+
+-- what the clause of this number is
+abbrev pub HasStatus : TrailState → ℕ → Status → Type 0
+HasStatus t number Conflict = IsFalseAt t number
+HasStatus t number (Unit l) = CanForce t number l × (has (literals_of t.entries) (negation l) ≡ false)
+HasStatus t number (Open first second) = IsOpenBy t number first second
 
 -- the pair is of literals of the clause of this number
 pub record IsPairIn (t : TrailState) (number : ℕ) (pair : Pair) : Type 0 where
@@ -239,28 +275,26 @@ pub record IsNextPair (t : TrailState) (number : ℕ) (other : Lit) (pair : Pair
   pub second : pair.second ≡ other
   pub not_false : has (literals_of t.entries) (negation pair.first) ≡ false
 
--- the entry at this place makes the literal false
-pub record IsFalseBy (t : TrailState) (l : Lit) (place : ℕ) : Type 0 where
-  pub entry : Entry
-  pub there : slice_get t.entries place ≡ Some entry
-  pub is : entry.literal ≡ negation l
+-- the literals before this position are false
+abbrev pub AreFalseBefore : List Lit → List Lit → ℕ → Type 0
+AreFalseBefore trues literals end = (k : ℕ) (l : Lit) → k < end → slice_get literals k ≡ Some l → has trues (negation l) ≡ true
 
--- of the literals but the one given, one; if it is false all of them are
-pub record IsBest (trues literals : List Lit) (except : Option Lit) (l : Lit) : Type 0 where
-  pub member : has literals l ≡ true
-  pub apart : except ≡ Some l → ⊥
-  pub best : has trues (negation l) ≡ true → (m : Lit) → has literals m ≡ true → (except ≡ Some m → ⊥) → has trues (negation m) ≡ true
+-- at this position stands the first literal that is not false
+pub record IsFirstFree (trues literals : List Lit) (position : ℕ) : Type 0 where
+  pub literal : Lit
+  pub there : slice_get literals position ≡ Some literal
+  pub not_false : has trues (negation literal) ≡ false
+  pub before : AreFalseBefore trues literals position
 
--- one of two literals; if it is false both are
-abbrev pub IsLater : List Lit → Lit → Lit → Lit → Type 0
-IsLater trues first second l =
-    ((l ≡ first) × (has trues (negation first) ≡ true → has trues (negation second) ≡ true)) ⊎
-    ((l ≡ second) × (has trues (negation second) ≡ true → has trues (negation first) ≡ true))
+-- each literal before this position is the one given
+abbrev pub AreAllBefore : List Lit → Lit → ℕ → Type 0
+AreAllBefore literals l end = (k : ℕ) (m : Lit) → k < end → slice_get literals k ≡ Some m → m ≡ l
 
--- the best of the literals but for the one given; none where there are no others
-abbrev pub IsBestOf : List Lit → List Lit → Option Lit → Option Lit → Type 0
-IsBestOf trues literals except found = MatchOption found ((m : Lit) → has literals m ≡ true → except ≡ Some m)
-    (IsBest trues literals except)
+-- one of the literals, but not the one given
+pub record IsOther (literals : List Lit) (except l : Lit) : Type 0 where
+  pub position : ℕ
+  pub there : slice_get literals position ≡ Some l
+  pub apart : l ≡ except → ⊥
 
 -- at this position stands a literal that is not false and not the one given
 pub record IsFree (trues literals : List Lit) (except : Lit) (position : ℕ) : Type 0 where

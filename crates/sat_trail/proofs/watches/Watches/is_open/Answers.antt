@@ -1,26 +1,21 @@
-use Rattle.std.proofs.Common.{◌≡◌, ◌<◌, Bool, true, false, not, refl, sym, ap, subst, inl, inr, ◌∙◌}
-use Rattle.std.proofs.lemmas.Bool.{false≢true}
-use Rattle.clause_core.specs.Literals.{Lit, has}
+use Rattle.std.proofs.Common.{sym, inl, inr, refl, ◌∙◌}
+use Rattle.std.proofs.lemmas.Bool.{not-true}
 use Rattle.sat_trail.specs.Entries.{literals_of}
-use Rattle.sat_trail.proofs.Waiting.{read_pair, pair_over, pair_open}
+use Rattle.sat_trail.proofs.Waiting.{read_pair, pair_over, both_free}
 use Rattle.sat_trail.proofs.watches.Watches.is_open.Goals as goal
 
-pub is_true-requires : goal.is_true-requires
-is_true-requires c = subst (λ (l : Lit). l.index < c.args.stack.now.variables) (sym c.negated.ensures)
-    (pair_over c.args.number c.requires.sound c.requires.watched (read_pair c.args.self.now.pairs.items c.requires.within c.index.ensures c.in-Some.is) (inl refl))
+pub is_false-requires : goal.is_false-requires
+is_false-requires c = pair_over c.args.number c.requires.sound c.requires.watched
+    (read_pair c.args.self.now.pairs.items c.requires.within c.index.ensures c.in-Some.is) (inl refl)
 
-pub is_true-requires-then-not-is_true : goal.is_true-requires-then-not-is_true
-is_true-requires-then-not-is_true c = subst (λ (l : Lit). l.index < c.args.stack.now.variables) (sym c.negated-then-not-is_true.ensures)
-    (pair_over c.args.number c.requires.sound c.requires.watched
-    (read_pair c.args.self.now.pairs.items c.requires.within c.index.ensures c.in-Some.is) (inr refl))
+pub is_false-requires-then-not-is_false : goal.is_false-requires-then-not-is_false
+is_false-requires-then-not-is_false c = pair_over c.args.number c.requires.sound c.requires.watched
+    (read_pair c.args.self.now.pairs.items c.requires.within c.index.ensures c.in-Some.is) (inr refl)
 
-pub returns-then-not-is_true : goal.returns-then-not-is_true
-returns-then-not-is_true c = λ h.
-    let trues = literals_of c.args.stack.now.entries in
-    pair_open (read_pair c.args.self.now.pairs.items c.requires.within c.index.ensures c.in-Some.is) (ap (has trues) (sym c.negated.ensures)
-    ∙ (sym c.is_true.ensures ∙ c.if-not-is_true.true)) (ap (has trues) (sym c.negated-then-not-is_true.ensures)
-    ∙ (sym c.is_true-then-not-is_true.ensures ∙ is_false c.is_true-then-not-is_true.result h))
-  where
-    is_false : (b : Bool) → not b ≡ true → b ≡ false
-    is_false true h = absurd (false≢true h)
-    is_false false h = refl
+pub returns-then-not-is_false : goal.returns-then-not-is_false
+returns-then-not-is_false c = λ h. record {
+  pair = c.in-Some.pair;
+  at = read_pair c.args.self.now.pairs.items c.requires.within c.index.ensures c.in-Some.is;
+  not_false = both_free (literals_of c.args.stack.now.entries) c.in-Some.pair (sym c.is_false.ensures ∙ c.if-not-is_false.true)
+      (sym c.is_false-then-not-is_false.ensures ∙ not-true c.is_false-then-not-is_false.result h);
+}

@@ -1,7 +1,12 @@
-use Rattle.std.proofs.Common.{length, set, Some, sym, ap, arith, ◌∙◌}
+use Rattle.std.proofs.Common.{◌≡◌, List, length, set, Option, Some, sym, ap, subst, arith, ◌∙◌}
+use Rattle.std.proofs.lemmas.Option.{slice_get_within}
+use Rattle.std.proofs.lemmas.List.{length-set}
 use Rattle.std.specs.Vec.{with_item}
 use Rattle.std.proofs.lemmas.Result.{on_ok_weaker}
+use Rattle.sat_trail.specs.declared.watches.Pair.{Pair}
 use Rattle.sat_trail.specs.declared.watches.Watches.{Watches}
+use Rattle.sat_trail.specs.internal.Watching.{PutsPair}
+use Rattle.sat_trail.proofs.WatchLists.{pair_set}
 use Rattle.sat_trail.proofs.Stays.{watched_propagated, visit_propagated, lists_have}
 use Rattle.sat_trail.proofs.Visits.{HasRead, has_read, HasOther, has_other, clause_within, blocker_over, due_blocked, due_unpaired}
 use Rattle.sat_trail.proofs.Visits.{other_over, pair_read, due_other, due_forced}
@@ -32,21 +37,29 @@ changed c =
     }
 
 moves : (c : After-drop_watch) → Moves c.args.stack.now c.args.self.now (changed c) c.args.falsified c.args.index
-moves c = record {
-  watch = c.get-watch.result;
-  other = c.other-other.result;
-  new = c.in-Some-next_pair.next;
-  between = c.add_watch.new.self.lists.items;
-  was_read = has_other (has_read c.requires.sound c.requires.watched c.requires.visit c.requires.due c.requires.list c.code.ensures
-      c.index.ensures c.get-watch.ensures) c.index-2.ensures c.in-Some.is c.other-other.ensures.of c.other-other.ensures.apart;
-  next = c.in-Some-next_pair.ensures;
-  adds = c.in_ok-add_watch.ensures.lists;
-  drops = c.drop_watch.ensures.lists;
-  pairs = ap (λ (x : Watches). set x.pairs.items c.get-watch.result.clause (Some c.in-Some-next_pair.next)) c.drop_watch.ensures.rest
-      ∙ ap (λ (x : Watches). set x.pairs.items c.get-watch.result.clause (Some c.in-Some-next_pair.next)) c.add_watch.ensures.rest;
-  rest = ap (λ (x : Watches). record x { pairs = (changed c).pairs }) c.drop_watch.ensures.rest
-      ∙ ap (λ (x : Watches). record x { lists = (changed c).lists; pairs = (changed c).pairs }) c.add_watch.ensures.rest;
-}
+moves c =
+    let w = c.args.self.now in
+    let number = c.get-watch.result.clause in
+    let new = c.in-Some-next_pair.next in
+    let o = has_other (has_read c.requires.sound c.requires.watched c.requires.visit c.requires.due c.requires.list c.code.ensures
+    c.index.ensures c.get-watch.ensures) c.index-2.ensures c.in-Some.is c.other-other.ensures.of c.other-other.ensures.apart in
+    let same : c.drop_watch.new.self.pairs.items ≡ w.pairs.items =
+    ap (λ (x : Watches). x.pairs.items) c.drop_watch.ensures.rest ∙ ap (λ (x : Watches). x.pairs.items) c.add_watch.ensures.rest in
+    record {
+      watch = c.get-watch.result;
+      other = c.other-other.result;
+      new = new;
+      between = c.add_watch.new.self.lists.items;
+      was_read = o;
+      next = c.in-Some-next_pair.ensures;
+      adds = c.in_ok-add_watch.ensures.lists;
+      drops = c.drop_watch.ensures.lists;
+      puts = subst (λ (ps : List (Option Pair)). PutsPair w.pairs.items number new (set ps number (Some new))) (sym same)
+          (pair_set w.pairs.items number new (slice_get_within w.pairs.items number (Some o.pair) o.at));
+      count = length-set c.drop_watch.new.self.pairs.items number (Some new) ∙ ap length same;
+      rest = ap (λ (x : Watches). record x { pairs = (changed c).pairs }) c.drop_watch.ensures.rest
+          ∙ ap (λ (x : Watches). record x { lists = (changed c).lists; pairs = (changed c).pairs }) c.add_watch.ensures.rest;
+    }
 
 pub is_true-requires : goal.is_true-requires
 is_true-requires c = blocker_over (read (goal.at.is_true-requires c).After-get-watch)
