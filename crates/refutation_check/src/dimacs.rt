@@ -1,6 +1,6 @@
 //! The reader of formulas in the DIMACS form.
 
-ghost use Rattle.std.specs.Prelude.{◌≡◌, ◌+◌, ◌^◌, ◌<◌, ◌≤◌, ℕ, ℤ, nat_abs, cond, [], ◌∷◌, ◌++◌, List, Some, None, Err, IfOk, OnOk, IfErr, IfSome, IfNone, length, option_map, count_by, is_some, All};
+ghost use Rattle.std.specs.Prelude.{◌≡◌, ◌+◌, ◌^◌, ◌<◌, ◌≤◌, ℕ, ℤ, true, false, nat_abs, cond, [], ◌∷◌, ◌++◌, List, Some, None, Err, IfOk, OnOk, IfErr, IfSome, IfNone, length, option_map, count_by, is_some, All};
 ghost use Rattle.clause_core.specs.Clauses.{IsOver};
 ghost use Rattle.tsl_text.specs.Lines.{lines, words};
 ghost use Rattle.tsl_text.specs.Cursor.{line_view};
@@ -8,17 +8,16 @@ ghost use Rattle.tsl_text.specs.Numbers.{signed_number_in};
 ghost use Rattle.refutation_check.specs.DataLines.{is_comment, data_lines};
 ghost use Rattle.refutation_check.specs.Numbers.{is_zero};
 ghost use Rattle.refutation_check.specs.CnfText.{header, is_right, first_wrong, numbers_of, cnf_answer, is_cnf, form_at, too_many_variables, too_many_clauses};
-ghost use Rattle.refutation_check.specs.internal.Reading.{data_lines_from, words_from, words_left, HasFewLines, AreWithinLimits, ended_clauses};
+ghost use Rattle.refutation_check.specs.internal.Reading.{data_lines_from, words_from, words_left, begins_with_blank, HasFewLines, AreWithinLimits, ended_clauses};
 
 use crate::lines::is_comment;
 use crate::numbers::literal_of;
+use crate::walk::{front_number, is_blank, line_len};
 use clause_core::{Clause, Cnf, Literal, clause_of};
 use sequence::{NoMemory, Sequence};
 use std::alloc::Global;
 use thiserror::Error;
-use tsl_text::{
-    Line, Lines, first_line, first_word, line_count, lines_of, number_in, signed_number_in,
-};
+use tsl_text::{Line, Lines, first_line, first_word, line_count, lines_of, number_in};
 
 /// How many variables a formula may have.
 pub const MOST_VARIABLES: u64 = 1_048_576;
@@ -64,19 +63,19 @@ pub struct Counts {
     pub clauses: u64,
 }
 
-/// What is left of a text: the rest of a line, that line's number, and the text after the line.
+/// What is left of a text, from within a line on, and the number of that line.
 #[derive(Clone, Copy)]
 struct Rest<'a> {
-    line: &'a [u8],
     number: u32,
     text: &'a [u8],
 }
 
-/// A word, and the number of its line.
+/// A word, the number that it means, if it means one, and the number of its line.
 #[derive(Clone, Copy)]
 struct Word<'a> {
     line: u32,
     bytes: &'a [u8],
+    number: Option<i64>,
 }
 
 /// The formula that a text in the DIMACS form tells. Lines that begin with `c` are comments. The first other
@@ -95,7 +94,7 @@ pub fn read_dimacs(alloc: Global, text: &[u8]) -> Result<Cnf, CnfError>
     let Some(counts) = header(first.bytes) else {
         return Err(CnfError::Form(first.number));
     };
-    let rest = after_line(first.number, left.text);
+    let rest = line_start(first.number + 1, left.text);
     match read_words(alloc, counts, rest)? {
         Err(line) => Err(CnfError::Form(line)),
         Ok(told) => {
@@ -119,7 +118,7 @@ pub fn read_dimacs(alloc: Global, text: &[u8]) -> Result<Cnf, CnfError>
 fn first_data_line(text: &[u8]) -> Option<(Line<'_>, Lines<'_>)>
     requires { length text.now + 1 < 2 ^ 32 }
     ensures some { IfSome result (λ found. data_lines text.now ≡ line_view found.0 ∷ data_lines_from (found.0.number + 1) found.1.text.now) }
-    ensures few { IfSome result (λ found. HasFewLines found.0.number found.1.text.now) }
+    ensures few { IfSome result (λ found. HasFewLines (found.0.number + 1) found.1.text.now) }
     ensures none { IfNone result (data_lines text.now ≡ []) }
 {
     let mut left = lines_of(text);
@@ -149,75 +148,97 @@ fn header(line: &[u8]) -> Option<Counts>
     })
 }
 
-/// What is left after a line of this number, where this text stands after it.
-fn after_line(number: u32, text: &[u8]) -> Rest<'_>
-    ensures left { words_left result.line.now result.number result.text.now ≡ words_from (number + 1) text.now }
-    ensures empty { result.line.now ≡ [] }
-    ensures number { result.number ≡ number }
-    ensures text { result.text.now ≡ text.now }
+/// What is left from the beginning of a line of this number on; nothing of the line is left where it is a comment.
+fn line_start(number: u32, text: &[u8]) -> Rest<'_>
+    requires { HasFewLines number text.now }
+    ensures left { words_left result.number result.text.now ≡ words_from number text.now }
+    ensures few { HasFewLines result.number result.text.now }
+    ensures within { length result.text.now ≤ length text.now }
 {
-    Rest {
-        line: &text[text.len()..],
-        number,
-        text,
+    if is_comment(text) {
+        Rest {
+            number,
+            text: &text[line_len(text)..],
+        }
+    } else {
+        Rest { number, text }
     }
+}
+
+/// What is left after the blank at the front.
+fn after_blank(rest: Rest<'_>) -> Rest<'_>
+    requires blank { begins_with_blank rest.text.now ≡ true }
+    requires few { HasFewLines rest.number rest.text.now }
+    ensures left { words_left result.number result.text.now ≡ words_left rest.entry.number rest.entry.text.now }
+    ensures few { HasFewLines result.number result.text.now }
+    ensures shorter { length result.text.now < length rest.entry.text.now }
+{
+    let text = &rest.text[1..];
+    if rest.text[0] == b'\n' {
+        line_start(rest.number + 1, text)
+    } else {
+        Rest { text, ..rest }
+    }
+}
+
+/// What is left from the next word on. `None` where no word is left.
+fn word_start(rest: Rest<'_>) -> Option<Rest<'_>>
+    requires { HasFewLines rest.number rest.text.now }
+    ensures left { IfSome result (λ start. words_left start.number start.text.now ≡ words_left rest.entry.number rest.entry.text.now) }
+    ensures begins { IfSome result (λ start. 0 < length start.text.now) }
+    ensures word { IfSome result (λ start. begins_with_blank start.text.now ≡ false) }
+    ensures few { IfSome result (λ start. HasFewLines start.number start.text.now) }
+    ensures within { IfSome result (λ start. length start.text.now ≤ length rest.entry.text.now) }
+    ensures none { IfNone result (words_left rest.entry.number rest.entry.text.now ≡ []) }
+{
+    let mut rest = rest;
+    while begins_with_blank(rest.text) {
+        rest = after_blank(rest);
+    }
+    if rest.text.is_empty() {
+        None
+    } else {
+        Some(rest)
+    }
+}
+
+/// Whether the first byte is a blank.
+fn begins_with_blank(text: &[u8]) -> bool
+    ensures { result ≡ begins_with_blank text.now }
+{
+    !text.is_empty() && is_blank(text[0])
 }
 
 /// The next word, and what is left after it.
 fn next_word(rest: Rest<'_>) -> Option<(Word<'_>, Rest<'_>)>
     requires { HasFewLines rest.number rest.text.now }
-    ensures some { IfSome result (λ found. words_left rest.entry.line.now rest.entry.number rest.entry.text.now
-        ≡ (found.0.line, found.0.bytes.now) ∷ words_left found.1.line.now found.1.number found.1.text.now) }
+    ensures some { IfSome result (λ found. words_left rest.entry.number rest.entry.text.now
+        ≡ (found.0.line, found.0.bytes.now) ∷ words_left found.1.number found.1.text.now) }
+    ensures number { IfSome result (λ found. found.0.number ≡ signed_number_in found.0.bytes.now) }
     ensures few { IfSome result (λ found. HasFewLines found.1.number found.1.text.now) }
-    ensures shorter { IfSome result (λ found. length found.1.line.now + length found.1.text.now < length rest.entry.line.now + length rest.entry.text.now) }
-    ensures none { IfNone result (words_left rest.entry.line.now rest.entry.number rest.entry.text.now ≡ []) }
+    ensures shorter { IfSome result (λ found. length found.1.text.now < length rest.entry.text.now) }
+    ensures none { IfNone result (words_left rest.entry.number rest.entry.text.now ≡ []) }
 {
-    let mut rest = rest;
-    loop {
-        if let Some((bytes, line)) = first_word(rest.line) {
-            let word = Word {
-                line: rest.number,
-                bytes,
-            };
-            return Some((word, Rest { line, ..rest }));
-        }
-        rest = next_line(rest)?;
-    }
-}
-
-/// The line after this one; nothing of it is left where it is a comment. `None` where there is no further line.
-fn next_line(rest: Rest<'_>) -> Option<Rest<'_>>
-    requires { HasFewLines rest.number rest.text.now }
-    ensures left { IfSome result (λ next. words_left next.line.now next.number next.text.now ≡ words_from (rest.entry.number + 1) rest.entry.text.now) }
-    ensures few { IfSome result (λ next. HasFewLines next.number next.text.now) }
-    ensures within { IfSome result (λ next. length next.line.now + length next.text.now ≤ length rest.entry.text.now) }
-    ensures shorter { IfSome result (λ next. length next.text.now < length rest.entry.text.now) }
-    ensures none { IfNone result (rest.entry.text.now ≡ []) }
-{
-    let (line, after) = first_line(Lines {
-        number: rest.number + 1,
-        text: rest.text,
-    })?;
-    if is_comment(line.bytes) {
-        Some(after_line(line.number, after.text))
-    } else {
-        Some(Rest {
-            line: line.bytes,
-            number: line.number,
-            text: after.text,
-        })
-    }
+    let start = word_start(rest)?;
+    let (number, len) = front_number(start.text);
+    let word = Word {
+        line: start.number,
+        bytes: &start.text[..len],
+        number,
+    };
+    let text = &start.text[len..];
+    Some((word, Rest { text, ..start }))
 }
 
 /// What the words tell where they are right, and otherwise the line of the first wrong word.
 fn read_words(alloc: Global, counts: Counts, rest: Rest<'_>) -> Result<Result<Told, u32>, NoMemory>
     requires { HasFewLines rest.number rest.text.now }
-    ensures right { IfOk result (λ read. IfOk read (λ told. first_wrong counts (words_left rest.entry.line.now rest.entry.number rest.entry.text.now) ≡ None)) }
-    ensures ended { IfOk result (λ read. IfOk read (λ told. told.ended ≡ count_by is_zero (numbers_of (words_left rest.entry.line.now rest.entry.number rest.entry.text.now)))) }
+    ensures right { IfOk result (λ read. IfOk read (λ told. first_wrong counts (words_left rest.entry.number rest.entry.text.now) ≡ None)) }
+    ensures ended { IfOk result (λ read. IfOk read (λ told. told.ended ≡ count_by is_zero (numbers_of (words_left rest.entry.number rest.entry.text.now)))) }
     ensures clauses { IfOk result (λ read. IfOk read (λ told. AreWithinLimits counts →
-        told.clauses.items ≡ ended_clauses [] (numbers_of (words_left rest.entry.line.now rest.entry.number rest.entry.text.now)))) }
+        told.clauses.items ≡ ended_clauses [] (numbers_of (words_left rest.entry.number rest.entry.text.now)))) }
     ensures over { IfOk result (λ read. IfOk read (λ told. All (IsOver counts.variables) told.clauses.items)) }
-    ensures wrong { IfOk result (λ read. IfErr read (λ line. option_map (λ word. word.1.0) (first_wrong counts (words_left rest.entry.line.now rest.entry.number rest.entry.text.now)) ≡ Some line)) }
+    ensures wrong { IfOk result (λ read. IfErr read (λ line. option_map (λ word. word.1.0) (first_wrong counts (words_left rest.entry.number rest.entry.text.now)) ≡ Some line)) }
 {
     let mut told = Told {
         ended: 0,
@@ -226,7 +247,7 @@ fn read_words(alloc: Global, counts: Counts, rest: Rest<'_>) -> Result<Result<To
     };
     let mut rest = rest;
     while let Some((word, later)) = next_word(rest) {
-        let Some(number) = right_number(counts, told.ended, word.bytes) else {
+        let Some(number) = right_number(counts, told.ended, word) else {
             return Ok(Err(word.line));
         };
         told.add(alloc, counts, number)?;
@@ -236,13 +257,14 @@ fn read_words(alloc: Global, counts: Counts, rest: Rest<'_>) -> Result<Result<To
 }
 
 /// The number that the word means, if the word is right after so many ended clauses.
-fn right_number(counts: Counts, ended: u64, word: &[u8]) -> Option<i64>
-    ensures value { IfSome result (λ number. signed_number_in word.now ≡ Some number) }
+fn right_number(counts: Counts, ended: u64, word: Word<'_>) -> Option<i64>
+    requires { word.number ≡ signed_number_in word.bytes.now }
+    ensures value { IfSome result (λ number. signed_number_in word.entry.bytes.now ≡ Some number) }
     ensures few { IfSome result (λ number. ended < counts.clauses) }
     ensures within { IfSome result (λ number. nat_abs number ≤ counts.variables) }
-    ensures right { (line : ℕ) → is_right counts (ended, (line, word.now)) ≡ is_some result }
+    ensures right { (line : ℕ) → is_right counts (ended, (line, word.entry.bytes.now)) ≡ is_some result }
 {
-    match signed_number_in(word) {
+    match word.number {
         None => None,
         Some(number) => {
             if ended < counts.clauses && number.unsigned_abs() <= counts.variables {

@@ -18,6 +18,7 @@ mod lrat;
 mod marks;
 mod numbers;
 mod steps;
+mod walk;
 
 pub use checker::{LogError, check};
 pub use dimacs::{CnfError, MOST_CLAUSES, MOST_VARIABLES, read_dimacs};

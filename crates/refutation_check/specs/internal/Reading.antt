@@ -4,7 +4,7 @@ use Rattle.std.specs.Prelude.{filter, length, flat_map, find, filter_map, Option
 use Rattle.clause_core.specs.Literals.{Lit, signed_number_of, literal_of}
 use Rattle.clause_core.specs.Clauses.{in_order}
 use Rattle.sequence.specs.Options.{all_there}
-use Rattle.tsl_text.specs.Lines.{NumberedLine, lines_from}
+use Rattle.tsl_text.specs.Lines.{NumberedLine, lines_from, is_blank}
 use Rattle.tsl_text.specs.Numbers.{signed_number_in}
 use Rattle.refutation_check.specs.DataLines.{is_comment, words_at, words_beside}
 use Rattle.refutation_check.specs.Numbers.{is_zero}
@@ -30,13 +30,28 @@ data_lines_from number text = filter (λ line. not (is_comment line.bytes)) (lin
 abbrev pub words_from : ℕ → List ℕ → List (ℕ × List ℕ)
 words_from number text = flat_map words_beside (data_lines_from number text)
 
--- the words of what is left of a line, and those of the text after it
-abbrev pub words_left : List ℕ → ℕ → List ℕ → List (ℕ × List ℕ)
-words_left line number text = words_at number line ++ words_from (number + 1) text
+-- what stands before the first line feed
+abbrev pub line_rest : List ℕ → List ℕ
+line_rest [] = []
+line_rest (byte ∷ bytes) = cond (byte == 10) [] (byte ∷ line_rest bytes)
 
--- a number above that of each line after this one can be counted
+-- what stands after the first line feed
+abbrev pub later_lines : List ℕ → List ℕ
+later_lines [] = []
+later_lines (byte ∷ bytes) = cond (byte == 10) bytes (later_lines bytes)
+
+-- the words of a text that begins within a line of this number
+abbrev pub words_left : ℕ → List ℕ → List (ℕ × List ℕ)
+words_left number text = words_at number (line_rest text) ++ words_from (number + 1) (later_lines text)
+
+-- whether the first byte is a blank
+abbrev pub begins_with_blank : List ℕ → Bool
+begins_with_blank [] = false
+begins_with_blank (byte ∷ bytes) = is_blank byte
+
+-- a number above that of each line, the first of which has this one, can be counted
 abbrev pub HasFewLines : ℕ → List ℕ → Type 0
-HasFewLines number text = (number + 1) + length text < 2 ^ 32
+HasFewLines number text = number + length text < 2 ^ 32
 
 -- the counts of a header are within the limits
 abbrev pub AreWithinLimits : Counts → Type 0

@@ -15,7 +15,7 @@ returns-in_default-right_number-clause-wrong c =
     let ended = c.loop-word.told.ended in
     let word : ℕ × List ℕ = (c.in-Some.word.line, c.in-Some.word.bytes.now) in
     let later = c.in-Some.later in
-    let rest = words_left later.line.now later.number later.text.now in
+    let rest = words_left later.number later.text.now in
     let wrong : is_right counts (ended, word) ≡ false = c.right_number.ensures.right word.0 ∙ ap is_some c.in_default-right_number.is in
     ap (option_map (λ (w : ℕ × (ℕ × List ℕ)). w.1.0)) (sym c.loop-word.invariant.wrong
     ∙ (ap (λ ws. wrong_among counts (with_zeros ended ws)) c.in-Some.ensures.some ∙ wrong_here counts ended word rest wrong))
@@ -27,7 +27,7 @@ loop-word-preserved c =
     let kept = c.loop-word.invariant in
     let word : ℕ × List ℕ = (c.in-Some.word.line, c.in-Some.word.bytes.now) in
     let later = c.in-Some.later in
-    let rest = words_left later.line.now later.number later.text.now in
+    let rest = words_left later.number later.text.now in
     let fits : FitsSigned w64 c.in-Some-right_number.number = search rules in
     let number = to_z w64 (of_z w64 c.in-Some-right_number.number) in
     let right : is_right counts (told.ended, word) ≡ true = c.right_number.ensures.right word.0 ∙ ap is_some c.in-Some-right_number.is in
