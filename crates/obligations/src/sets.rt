@@ -41,7 +41,8 @@ fn insert_member(set: &mut Vec<u32>, member: u32) -> Result<(), NoMemory>
 pub(crate) fn union_of(alloc: Global, left: &[u32], right: &[u32]) -> Result<Vec<u32>, NoMemory>
     ensures { IfOk result (λ both. both.items ≡ union nat_cmp left.now right.now) }
 {
-    let mut both = left.to_vec(alloc)?;
+    let mut both = Vec::with_capacity(alloc, left.len().saturating_add(right.len()))?;
+    both.extend_from_slice(left)?;
     for member in right {
         insert_member(&mut both, *member)?;
     }
