@@ -22,3 +22,4 @@ pub mod Placed
 pub mod LeftOut
 pub mod Gathering
 pub mod Over
+pub mod Around

@@ -1,14 +1,14 @@
 //! The literals of the clauses of edges.
 
-ghost use Rattle.std.specs.Prelude.{◌≡◌, ◌<◌, ◌≤◌, ◌+◌, ◌^◌, ◌++◌, ◌∷◌, [], cond, OnOk, IfOk};
+ghost use Rattle.std.specs.Prelude.{◌≡◌, ◌<◌, ◌≤◌, ◌+◌, ◌^◌, ◌++◌, ◌∷◌, [], cond, nat_le, length, take, List, OnOk};
+ghost use Rattle.clause_core.specs.Literals.{Lit};
 ghost use Rattle.ltl_formula.specs.Cubes.{has_bit};
 ghost use Rattle.cobuchi_automata.specs.Edges.{edge_tree};
 ghost use Rattle.annotation_check.specs.Annotations.{after_edge};
-ghost use Rattle.bounded_encoding.specs.FrameView.{frame_tree, IsFramed};
-ghost use Rattle.bounded_encoding.specs.Sides.{differing, numbered, clause_along};
-ghost use Rattle.bounded_encoding.specs.internal.Transitions.{IsWithin};
+ghost use Rattle.bounded_encoding.specs.SimpleClauses.{yes_at, no_at};
+ghost use Rattle.bounded_encoding.specs.Sides.{differing};
+ghost use Rattle.bounded_encoding.specs.internal.Transitions.{IsAround};
 
-use crate::frame::{Frame, next_base, number_base};
 use crate::simple_clauses::literal;
 use clause_core::Literal;
 use cobuchi_automata::Edge;
@@ -24,6 +24,15 @@ pub(crate) struct Transition {
     pub(crate) edge: Edge,
     /// The row.
     pub(crate) row: u32,
+}
+
+/// The indices of the first numbers of the pair that a transition leaves and of the one that it reaches.
+#[derive(Clone, Copy)]
+pub(crate) struct Pairs {
+    /// That of the pair that it leaves.
+    pub(crate) left: u32,
+    /// That of the pair that it reaches.
+    pub(crate) reached: u32,
 }
 
 /// Whether a number has a bit.
@@ -77,57 +86,54 @@ pub(crate) fn put_differing(
 }
 
 /// What the pair after an edge has at least.
-fn after_edge(number: u32, edge: Edge) -> u32
+pub(crate) fn after_edge(number: u32, edge: Edge) -> u32
     requires { number + 1 < 2 ^ 31 }
     ensures { result ≡ after_edge number (edge_tree edge) }
 {
     number + u32::from(edge.rejecting)
 }
 
-/// Adds the literal of a pair whose number is at least this one, unless that is above the bound.
-fn push_numbered(
+/// Puts the literals that the clauses of a transition to a state share in place of what a list holds, between two
+/// others.
+pub(crate) fn put_shared(
     literals: &mut Vec<Literal>,
-    frame: &Frame,
-    t: u32,
-    p: u32,
-    number: u32,
+    next: u32,
+    unless: &[Literal],
 ) -> Result<(), NoMemory>
-    requires framed { IsFramed (frame_tree frame.now) }
-    requires state { t < frame.now.states }
-    requires automaton_state { p < frame.now.automaton.now.states }
-    ensures { OnOk result (literals.new.items ≡ literals.old.items ++ numbered (frame_tree frame.now) t p number) }
+    requires { next + 1 < 2 ^ 31 }
+    ensures { OnOk result (IsAround (no_at next ∷ unless.now) literals.new.items) }
 {
-    if number > frame.bound {
-        return Ok(());
-    }
-    let base = number_base(frame, t, p);
-    literals.push(literal(base + number, true))?;
+    let shared = literal(next, false);
+    literals.clear();
+    literals.push(shared)?;
+    literals.push(shared)?;
+    literals.extend_from_slice(unless)?;
+    literals.push(shared)?;
     Ok(())
 }
 
-/// Puts the literals of a transition to a state where its pair has at least a number in place of what a list
-/// holds. Those that are true where the machine does not do as the edge asks are given.
-pub(crate) fn put_transition_literals(
-    literals: &mut Vec<Literal>,
-    frame: &Frame,
-    transition: Transition,
-    unless: &[Literal],
-    t: u32,
-    i: u32,
-) -> Result<(), NoMemory>
-    requires framed { IsFramed (frame_tree frame.now) }
-    requires within { IsWithin (frame_tree frame.now) transition }
-    requires next { t < frame.now.states }
-    requires number { i < frame.now.bound + 1 }
-    ensures { OnOk result (literals.new.items
-        ≡ clause_along (frame_tree frame.now) unless.now transition.state (edge_tree transition.edge) transition.row t i) }
+/// Puts the literals of two numbers in place of the first and of the last one, and tells how many are of the clause:
+/// where the later number is above the bound, the last one is not.
+pub(crate) fn put_numbers(
+    literals: &mut [Literal],
+    pairs: Pairs,
+    number: u32,
+    later: u32,
+    bound: u32,
+) -> usize
+    requires ends { 2 ≤ length literals.old }
+    requires left { pairs.left + number + 1 < 2 ^ 31 }
+    requires reached { pairs.reached + bound + 1 < 2 ^ 31 }
+    ensures put { (middle : List Lit) → IsAround middle literals.old →
+        take result literals.new ≡ no_at (pairs.left + number) ∷ (middle ++ cond (nat_le later bound) (yes_at (pairs.reached + later) ∷ []) []) }
+    ensures around { (middle : List Lit) → IsAround middle literals.old → IsAround middle literals.new }
+    ensures inside { result ≤ length literals.new }
 {
-    let pair = number_base(frame, transition.state, transition.edge.from) + i;
-    let next = next_base(frame, transition.state, transition.row) + t;
-    literals.clear();
-    literals.push(literal(pair, false))?;
-    literals.push(literal(next, false))?;
-    literals.extend_from_slice(unless)?;
-    let number = after_edge(i, transition.edge);
-    push_numbered(literals, frame, t, transition.edge.to, number)
+    let last = literals.len() - 1;
+    literals[0] = literal(pairs.left + number, false);
+    if later > bound {
+        return last;
+    }
+    literals[last] = literal(pairs.reached + later, true);
+    last + 1
 }

@@ -8,12 +8,14 @@ ghost use Rattle.bounded_encoding.specs.Sides.{clause_along, clauses_to, clauses
 ghost use Rattle.bounded_encoding.specs.Sides.{clauses_of_edges, clauses_of_side};
 ghost use Rattle.bounded_encoding.specs.Made.{with_clauses};
 ghost use Rattle.bounded_encoding.specs.Refusing.{Refuses};
-ghost use Rattle.bounded_encoding.specs.internal.Transitions.{IsWithin};
+ghost use Rattle.bounded_encoding.specs.Frames.{next_at};
+ghost use Rattle.bounded_encoding.specs.SimpleClauses.{no_at};
+ghost use Rattle.bounded_encoding.specs.internal.Transitions.{IsWithin, ArePairs, IsAround};
 
 use crate::builder::Builder;
-use crate::edge_literals::{Transition, put_differing, put_transition_literals};
+use crate::edge_literals::{Pairs, Transition, after_edge, put_differing, put_numbers, put_shared};
 use crate::errors::EncodeError;
-use crate::frame::{Frame, add_nexts, add_numbers, add_start};
+use crate::frame::{Frame, add_nexts, add_numbers, add_start, next_base, number_base};
 use crate::side::Side;
 use clause_core::Literal;
 use cobuchi_automata::Edge;
@@ -28,29 +30,31 @@ struct Room {
     literals: Vec<Literal>,
 }
 
-/// Adds the clause of a transition to a state where its pair has at least a number. The list is room for its
-/// literals.
+/// Adds the clause of a transition to a state where its pair has at least a number. The list has the literals that do
+/// not depend on the number, between two others.
 fn add_transition(
     alloc: Global,
     out: &mut Builder,
-    literals: &mut Vec<Literal>,
+    literals: &mut [Literal],
     frame: &Frame,
     transition: Transition,
     unless: &[Literal],
     t: u32,
+    pairs: Pairs,
     i: u32,
 ) -> Result<(), EncodeError>
-    requires framed { IsFramed (frame_tree frame.now) }
-    requires within { IsWithin (frame_tree frame.now) transition }
-    requires next { t < frame.now.states }
+    requires pairs { ArePairs (frame_tree frame.now) transition t pairs }
     requires number { i < frame.now.bound + 1 }
+    requires around { IsAround (no_at (next_at (frame_tree frame.now) transition.state transition.row t) ∷ unless.now) literals.old }
+    ensures around { IsAround (no_at (next_at (frame_tree frame.now) transition.state transition.row t) ∷ unless.now) literals.new }
     ensures added { OnOk result (out.new ≡ with_clauses out.old
         (clause_along (frame_tree frame.now) unless.now transition.state (edge_tree transition.edge) transition.row t i ∷ [])) }
     ensures refused { Refuses result (with_clauses out.old
         (clause_along (frame_tree frame.now) unless.now transition.state (edge_tree transition.edge) transition.row t i ∷ [])) }
 {
-    put_transition_literals(literals, frame, transition, unless, t, i)?;
-    out.add(alloc, literals.as_slice())
+    let later = after_edge(i, transition.edge);
+    let count = put_numbers(literals, pairs, i, later, frame.bound);
+    out.add(alloc, &literals[..count])
 }
 
 /// Adds the clauses of a transition to a state, one for each number.
@@ -58,6 +62,44 @@ fn add_transition(
 fn add_each_number(
     alloc: Global,
     out: &mut Builder,
+    literals: &mut [Literal],
+    frame: &Frame,
+    transition: Transition,
+    unless: &[Literal],
+    t: u32,
+    pairs: Pairs,
+) -> Result<(), EncodeError>
+    requires pairs { ArePairs (frame_tree frame.now) transition t pairs }
+    requires around { IsAround (no_at (next_at (frame_tree frame.now) transition.state transition.row t) ∷ unless.now) literals.old }
+    ensures added { OnOk result (out.new ≡ with_clauses out.old
+        (clauses_to (frame_tree frame.now) unless.now transition.state (edge_tree transition.edge) transition.row t)) }
+    ensures refused { Refuses result (with_clauses out.old
+        (clauses_to (frame_tree frame.now) unless.now transition.state (edge_tree transition.edge) transition.row t)) }
+{
+    for i in 0..frame.bound + 1 {
+        add_transition(alloc, out, literals, frame, transition, unless, t, pairs, i)?;
+    }
+    Ok(())
+}
+
+/// The pairs that a transition leaves and reaches.
+fn pairs_of(frame: &Frame, transition: Transition, t: u32) -> Pairs
+    requires framed { IsFramed (frame_tree frame.now) }
+    requires within { IsWithin (frame_tree frame.now) transition }
+    requires next { t < frame.now.states }
+    ensures { ArePairs (frame_tree frame.now) transition t result }
+{
+    Pairs {
+        left: number_base(frame, transition.state, transition.edge.from),
+        reached: number_base(frame, t, transition.edge.to),
+    }
+}
+
+/// Adds the clauses of a transition to a state, which has a clause for each number. The list is room for their
+/// literals.
+fn add_numbered(
+    alloc: Global,
+    out: &mut Builder,
     literals: &mut Vec<Literal>,
     frame: &Frame,
     transition: Transition,
@@ -72,10 +114,19 @@ fn add_each_number(
     ensures refused { Refuses result (with_clauses out.old
         (clauses_to (frame_tree frame.now) unless.now transition.state (edge_tree transition.edge) transition.row t)) }
 {
-    for i in 0..frame.bound + 1 {
-        add_transition(alloc, out, literals, frame, transition, unless, t, i)?;
-    }
-    Ok(())
+    let next = next_base(frame, transition.state, transition.row) + t;
+    put_shared(literals, next, unless)?;
+    let pairs = pairs_of(frame, transition, t);
+    add_each_number(
+        alloc,
+        out,
+        literals.as_mut_slice(),
+        frame,
+        transition,
+        unless,
+        t,
+        pairs,
+    )
 }
 
 /// Whether a transition to a state leads from a pair to itself by an edge that is not rejecting. Its clauses have
@@ -107,7 +158,7 @@ fn add_transitions_to(
     if leads_to_itself(transition.state, transition.edge, t) {
         return Ok(());
     }
-    add_each_number(alloc, out, literals, frame, transition, unless, t)
+    add_numbered(alloc, out, literals, frame, transition, unless, t)
 }
 
 /// Adds the clauses of a transition to each state.

@@ -9,10 +9,13 @@ pub returns-in_err-add_transition-clause-refused : goal.returns-in_err-add_trans
 returns-in_err-add_transition-clause-refused c = passed_on _ _ _ c.from_residual.ensures.1
     (λ is. stop _ _ _ _ (λ i. clause_along (frame_tree c.args.frame.now) c.args.unless.now c.args.transition.state
     (edge_tree c.args.transition.edge) c.args.transition.row c.args.t i ∷ [])
-    c.loop-i-test.true c.loop-i.invariant (c.in_err-add_transition.ensures.refused is))
+    c.loop-i-test.true c.loop-i.invariant.added (c.in_err-add_transition.ensures.refused is))
 
 pub loop-i-preserved : goal.loop-i-preserved
-loop-i-preserved c = step _ _ _ _ _
-    (λ i. clause_along (frame_tree c.args.frame.now) c.args.unless.now c.args.transition.state
-    (edge_tree c.args.transition.edge) c.args.transition.row c.args.t i ∷ [])
-    c.loop-i-test.true c.loop-i.invariant c.in_ok-add_transition.ensures.added
+loop-i-preserved c = record {
+  around = c.in_ok-add_transition.ensures.around;
+  added = step _ _ _ _ _
+      (λ i. clause_along (frame_tree c.args.frame.now) c.args.unless.now c.args.transition.state
+      (edge_tree c.args.transition.edge) c.args.transition.row c.args.t i ∷ [])
+      c.loop-i-test.true c.loop-i.invariant.added c.in_ok-add_transition.ensures.added;
+}
