@@ -6,4 +6,5 @@ pub mod Paths
 pub mod Visiting
 pub mod Looking
 pub mod Thinning
+pub mod Values
 pub mod Finding

@@ -16,6 +16,7 @@ ghost use Rattle.branch_finder.specs.internal.Sets.{first_of, numbered_set};
 ghost use Rattle.branch_finder.specs.internal.Planes.{ComesFrom};
 ghost use Rattle.branch_finder.specs.internal.Prints.{ArePrintsWithin};
 ghost use Rattle.branch_finder.specs.internal.Looking.{IsSearch, IsPath};
+ghost use Rattle.branch_finder.specs.internal.Values.{AreApart};
 ghost use Rattle.branch_finder.specs.internal.Finding.{IsFoundOf, HasNoneBy, HasNoneOn, HasNoneOf};
 
 use crate::arguments::arguments_of;
@@ -28,6 +29,7 @@ use crate::moving::{plane_of, states_after};
 use crate::prints::{equality_bits, prints_of};
 use crate::sets::{sets_of, vector_masks};
 use crate::thinning::needed_window;
+use crate::values::may_be_one;
 use crate::visiting::visited_states;
 use crate::windows::window_seen;
 use lane_planes::any_bit;
@@ -50,6 +52,24 @@ fn first_vectors(alloc: Global, firsts: &[u32], numbers: &[u32]) -> Result<Vec<u
     Ok(path)
 }
 
+/// Whether a pair may be seen on a path: not where the space has no equalities and the values of predicate terms are apart.
+fn may_be_seen(
+    alloc: Global,
+    search: &Search,
+    _numbers: &[u32],
+    path: &[u32],
+) -> Result<bool, NoMemory>
+    requires search { IsSearch search.now }
+    requires path { IsPath search.now _numbers.now path.now }
+    ensures { IfOk result (λ may. may ≡ false
+        → (search.now.mask ≡ 0) × AreApart (space_tree search.now.space.now) search.now.cells.now path.now) }
+{
+    if search.mask != 0 {
+        return Ok(true);
+    }
+    Ok(may_be_one(alloc, search.space, search.cells, path)?)
+}
+
 /// A congruent window that is spurious along a path of sets by states with these prints, with what it needs, if
 /// there is one. The path is that of the first vectors that have the sets.
 fn window_along(
@@ -68,6 +88,9 @@ fn window_along(
     ensures none { IfOk result (λ found. IfNone found (HasNoneBy (space_tree search.now.space.now)
         (environment_tree search.now.environment.now) search.now.cells.now search.now.equality search.now.mask path.now prints.now)) }
 {
+    if !may_be_seen(alloc, search, numbers, path)? {
+        return Ok(None);
+    }
     let updates = updates_along(alloc, search.space, search.cells, path)?;
     let equalities = equalities_along(alloc, search.space, prints)?;
     let table = classes_along(

@@ -11,6 +11,8 @@ use Rattle.branch_finder.specs.internal.Paths.{equalities_along}
 use Rattle.branch_finder.specs.internal.Thinning.{IsCandidate}
 use Rattle.branch_finder.proofs.Seen.{each_is_equality}
 use Rattle.branch_finder.proofs.Found.{thinned_found}
+use Rattle.branch_finder.proofs.NoneSeen.{none_seen}
+use Rattle.branch_finder.proofs.ValueLemmas.{no_bit_of_none, none_seen_apart, none_alone}
 use Rattle.branch_finder.proofs.finding.window_along.Goals as goal
 
 pub classes_along-requires : goal.classes_along-requires
@@ -35,3 +37,18 @@ returns-in-Some-clause-found c =
     thinned_found space e search.cells.now search.equality (length c.args.path.now) window
     (subst (λ n. IsCandidate space e search.cells.now search.equality n window) seen.long thinned.candidate) c.requires.path.short
     thinned.updates thinned.equalities
+
+pub returns-then-not-branch-clause-none : goal.returns-then-not-branch-clause-none
+returns-then-not-branch-clause-none c =
+    let search = c.args.search.now in
+    let space = space_tree search.space.now in
+    let e = environment_tree search.environment.now in
+    let cells = search.cells.now in
+    let path = c.args.path.now in
+    let prints = c.args.prints.now in
+    let apart = c.in_ok-may_be_seen.ensures c.if-not-branch.true in
+    let no_bit = no_bit_of_none search.mask apart.0 in
+    none_seen space e cells search.equality search.mask path prints search.space.now.is_space c.requires.search.fits.vectors
+    c.requires.path.vectors c.requires.each c.requires.search.mask c.requires.prints
+    (none_seen_apart space e cells search.equality search.mask path prints no_bit apart.1 c.requires.prints)
+    (none_alone space e cells search.equality search.mask path prints no_bit c.requires.search.mask)
