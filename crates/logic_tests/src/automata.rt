@@ -3,11 +3,11 @@
 use cobuchi_automata::{
     Automaton, BuildError, Edge, MOST_AUTOMATON_EDGES, MOST_AUTOMATON_STATES, build,
 };
+use logic_values::{always, both, either, next};
 use ltl_formula::{Ltl, LtlList};
 use std::alloc::Global;
 use std::process::Abort;
 use std::test::Fail;
-use test_values::{always, both, either, next};
 
 /// Takes the last of some formulas.
 fn taken(formulas: &mut Vec<Ltl>) -> Result<Ltl, Fail> {

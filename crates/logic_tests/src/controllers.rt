@@ -8,12 +8,12 @@ ghost use Rattle.machines.specs.Moves.{FitsSpace};
 use annotation_check::{Annotation, annotate};
 use cobuchi_automata::Automaton;
 use letter_space::Space;
+use logic_values::{Row, one_test, small_space, table_automaton, table_controller};
 use machines::Controller;
 use sequence::NoMemory;
 use std::alloc::Global;
 use std::process::Abort;
 use std::test::Fail;
-use test_values::{Row, one_test, small_space, table_automaton, table_controller};
 use tsl_terms::Probe;
 
 /// A small space, and the controller that has these choices and next states by state and valuation.

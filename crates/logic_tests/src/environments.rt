@@ -8,12 +8,12 @@ ghost use Rattle.machines.specs.Moves.{EnvironmentFits};
 use crate::controllers::{ONE_STOPS, numbers_are};
 use annotation_check::annotate_environment;
 use letter_space::Space;
+use logic_values::{Row, one_test, small_space, table_automaton};
 use machines::Environment;
 use sequence::Sequence;
 use std::alloc::Global;
 use std::process::Abort;
 use std::test::Fail;
-use test_values::{Row, one_test, small_space, table_automaton};
 use tsl_terms::Probe;
 
 /// Whether a number is below a bound.

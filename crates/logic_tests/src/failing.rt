@@ -3,10 +3,11 @@
 use crate::controllers::{FOR_EVER, IN_TURN, example};
 use cobuchi_automata::build;
 use full_bound::{LetterLoop, failing_loop};
+use logic_values::space_of_spec;
+use spec_values::spec_of;
 use std::alloc::Global;
 use std::process::Abort;
 use std::test::Fail;
-use test_values::{space_of_spec, spec_of};
 use tsl_terms::{Formula, whole};
 use underapprox::to_letters;
 

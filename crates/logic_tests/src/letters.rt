@@ -7,11 +7,12 @@ ghost use Rattle.tsl_terms.specs.declared.operator.UnaryOperator.TheVariants.{Fi
 ghost use Rattle.tsl_terms.specs.FormulaTree.{atom, update, unary, formula_tree};
 
 use letter_space::space_of;
+use logic_values::{always, either, finally};
 use ltl_formula::{Ltl, negate};
 use sequence::NoMemory;
+use spec_values::{guaranteed_always, two_formulas};
 use std::alloc::Global;
 use std::test::Fail;
-use test_values::{always, either, finally, guaranteed_always, two_formulas};
 use tsl_terms::{Formula, NameKind, Names, Spec, Term, TermList, whole};
 use underapprox::to_letters;
 

@@ -1,12 +1,12 @@
 //! What no clause says: that long lists are compared and dropped, and that memory does not run out
 //! where there is ample.
 
+use logic_values::{always, finally};
 use ltl_formula::{Ltl, LtlList, copy_ltl, negate};
 use sequence::NoMemory;
 use std::alloc::Global;
 use std::cmp::Ordering;
 use std::test::Fail;
-use test_values::{always, finally};
 
 /// A list of so many members.
 fn list_of(alloc: Global, count: usize) -> Result<LtlList, Fail> {

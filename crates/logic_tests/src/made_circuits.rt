@@ -8,11 +8,11 @@ use crate::controllers::{FOR_EVER, IN_TURN, example};
 use circuits::{Circuit, Gate};
 use controller_circuits::circuit_of;
 use letter_space::Space;
+use logic_values::one_test;
 use machines::Controller;
 use std::alloc::Global;
 use std::process::Abort;
 use std::test::Fail;
-use test_values::one_test;
 
 /// The state is whether the test has held, and the second choice is taken where it holds again.
 const HELD_AGAIN: &[(u32, u32)] = &[(0, 0), (0, 1), (0, 1), (1, 1)];

@@ -4,9 +4,9 @@ ghost use Rattle.std.specs.Prelude.{◌≡◌, ◌∷◌, [], codes, IfOk};
 
 use letter_space::{Space, space_of};
 use sequence::NoMemory;
+use spec_values::{guaranteed_always, in_front, probe_of, test_of, update_of};
 use std::alloc::Global;
 use std::test::Fail;
-use test_values::{guaranteed_always, in_front, probe_of, test_of, update_of};
 use tsl_terms::{FormulaList, NameKind, Names, Spec, Term};
 
 /// `z`, `x`, `p` and `y`.

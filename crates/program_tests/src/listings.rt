@@ -1,10 +1,10 @@
 //! Texts and their listings, or their first line at fault.
 
 use program_listing::{ListingError, read_listing};
+use spec_values::repeated;
 use std::alloc::Global;
 use std::process::Abort;
 use std::test::Fail;
-use test_values::repeated;
 
 /// Texts that have a listing.
 const READ: &[&[u8]] = &[

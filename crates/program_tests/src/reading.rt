@@ -7,10 +7,10 @@ ghost use Rattle.program_tree.specs.ProgramView.{program_tree};
 ghost use Rattle.program_tree.specs.Writable.{IsWritable};
 
 use flow_program::{Program, ProgramError, read_program, write_program};
+use spec_values::{names_told, repeated};
 use std::alloc::Global;
 use std::process::Abort;
 use std::test::Fail;
-use test_values::{names_told, repeated};
 use tsl_terms::Names;
 
 /// The lines of a program.

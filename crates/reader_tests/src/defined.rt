@@ -1,9 +1,9 @@
 //! Texts with definitions, and what they are read as.
 
 use crate::reading::{lists, names, nested, outcome};
+use spec_values::repeated;
 use std::alloc::Global;
 use std::test::Fail;
-use test_values::repeated;
 
 /// Texts, and the four lists of formulas that they are read as, or the refusal.
 const DEFINED: &[(&[u8], &str)] = &[

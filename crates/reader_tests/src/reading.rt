@@ -1,9 +1,9 @@
 //! What a text is read as, told as tests compare it.
 
+use spec_values::{names_told, repeated};
 use std::alloc::Global;
 use std::process::Abort;
 use std::test::Fail;
-use test_values::{names_told, repeated};
 use tsl_reader::{SpecError, read_spec};
 use tsl_terms::Spec;
 

@@ -1,10 +1,10 @@
 //! Texts and what they are read as.
 
 use crate::reading::{lists, names, nested, outcome, reading};
+use spec_values::repeated;
 use std::alloc::Global;
 use std::process::Abort;
 use std::test::Fail;
-use test_values::repeated;
 use tsl_terms::FormulaList;
 
 /// What stands between the braces of a section of guarantees, and the first formula that it is read as,

@@ -1,10 +1,10 @@
 //! Automata that are read and written.
 
 use automaton_text::{read_automaton, read_hoa, write_automaton};
+use logic_values::no_bits;
 use std::alloc::Global;
 use std::process::Abort;
 use std::test::Fail;
-use test_values::no_bits;
 use tsl_terms::Names;
 
 /// The automaton of a formula that holds of each loop.

@@ -2,14 +2,13 @@
 
 use clause_core::{Clause, Literal, clause_of};
 use cobuchi_automata::{Automaton, build};
+use logic_values::{both, no_bits, still_environment};
 use ltl_formula::Ltl;
 use machines::{Round, Side};
 use sequence::NoMemory;
+use spec_values::{copying_window, equality_window, names_of_copies};
 use std::alloc::Global;
 use std::test::Fail;
-use test_values::{
-    both, copying_window, equality_window, names_of_copies, no_bits, still_environment,
-};
 use tsl_report::{ReasonText, environment_text, none_text, rounds_text, spent_text, window_text};
 use tsl_terms::{NameKind, Names};
 

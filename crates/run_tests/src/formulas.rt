@@ -12,10 +12,10 @@ ghost use Rattle.tsl_meaning.specs.RunLasso.{HasTruths, IsJudged};
 
 use interp_core::{Algebra, Judge};
 use sequence::{NoMemory, Sequence};
+use spec_values::repeated;
 use std::alloc::{AllocError, Global};
 use std::process::Abort;
 use std::test::Fail;
-use test_values::repeated;
 use tsl_meaning::{LoopRun, Position, judge};
 use tsl_terms::{AtomRef, Formula, FormulaList, Term, TermList, atoms};
 

@@ -7,11 +7,11 @@ ghost use Rattle.tsl_meaning.specs.Interpretation.{IsInterpretation, IsEqualityO
 
 use interp_core::Judge;
 use sequence::Sequence;
+use spec_values::repeated;
 use std::alloc::Global;
 use std::process::Abort;
 use std::test::Fail;
 use table_interp::{InputError, TableError, Tables, read_inputs, read_tables};
-use test_values::repeated;
 use tsl_meaning::InputLoop;
 use tsl_terms::{NameKind, Names};
 

@@ -1,9 +1,9 @@
 //! Literals, clauses and assignments.
 
 use clause_core::{Assignment, Literal, contains, is_tautology, meets};
+use logic_values::{clause, numbers_of};
 use sequence::Sequence;
 use std::test::Fail;
-use test_values::{clause, numbers_of};
 
 /// Numbers of literals, the largest ones among them.
 const NUMBERS: &[i32] = &[1, -1, 2, -7, i32::MAX, -i32::MAX];

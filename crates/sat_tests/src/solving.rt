@@ -5,12 +5,12 @@ ghost use Rattle.sat_core.specs.Answers.{IsRightAnswer};
 
 use crate::traces::is_trace;
 use clause_core::{Assignment, Clause, Cnf, Literal, clause_of, is_tautology, meets};
+use logic_values::{clause, clauses_of, formula, formula_of};
 use refutation_check::check;
 use sat_core::{Answer, solve};
 use sequence::Sequence;
 use std::alloc::Global;
 use std::test::Fail;
-use test_values::{clause, clauses_of, formula, formula_of};
 
 /// The clauses 1 2 and 1 -2.
 const PAIR: &[&[i32]] = &[&[1, 2], &[1, -2]];

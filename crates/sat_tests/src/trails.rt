@@ -3,9 +3,9 @@
 ghost use Rattle.std.specs.Prelude.{◌≡◌, OnOk, false};
 
 use clause_core::is_tautology;
+use logic_values::{clause, formula_of, literal};
 use sat_trail::{Trail, TrailError};
 use std::test::Fail;
-use test_values::{clause, formula_of, literal};
 
 /// Of each entry its place, its literal, its level and its reason.
 const ENTRIES: &[(u32, i32, u32, Option<u32>)] = &[

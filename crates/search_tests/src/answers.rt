@@ -7,10 +7,10 @@ use crate::printed::verdict_said;
 use bounded_encoding::Found;
 use program_check::CheckError;
 use refinement_loop::{Outcome, Reason, RefineError, Sizes, ask, refine};
+use spec_values::spec_of;
 use std::alloc::Global;
 use std::process::Abort;
 use std::test::Fail;
-use test_values::spec_of;
 use tsl_terms::{Listed, Probe, Term, TermList, Window};
 
 /// The running example: a cell keeps its value or takes an input, and where some input has a property, the cell

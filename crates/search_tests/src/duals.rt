@@ -6,10 +6,11 @@ ghost use Rattle.cobuchi_automata.specs.declared.build_error.TheConstants.{MOST_
 use crate::printed::numbers_said;
 use cobuchi_automata::Automaton;
 use counterstrategy::{DualError, FoundDual, encode_dual, find_environment};
+use logic_values::{Row, automaton_of, space_of_spec, table_automaton};
+use spec_values::spec_of;
 use std::alloc::Global;
 use std::process::Abort;
 use std::test::Fail;
-use test_values::{Row, automaton_of, space_of_spec, spec_of, table_automaton};
 
 /// Copies an input.
 const COPY: &[u8] = b"always guarantee { [y <- x]; }";

@@ -2,10 +2,11 @@
 
 use annotation_check::annotate;
 use bounded_encoding::{Found, find_controller};
+use logic_values::{automaton_of_negation, space_of_spec};
+use spec_values::spec_of;
 use std::alloc::Global;
 use std::process::Abort;
 use std::test::Fail;
-use test_values::{automaton_of_negation, space_of_spec, spec_of};
 
 /// Copies an input.
 const COPY: &[u8] = b"always guarantee { [y <- x]; }";

@@ -9,12 +9,13 @@ ghost use Rattle.search_tests.specs.Examples.{probe_on, example_space};
 
 use control_flow_model::flow_of;
 use letter_space::{Controlled, Space};
+use logic_values::table_controller;
 use program_tree::{Node, Program};
 use sequence::{NoMemory, Sequence};
+use spec_values::probe_of;
 use std::alloc::Global;
 use std::process::Abort;
 use std::test::Fail;
-use test_values::{probe_of, table_controller};
 use tsl_terms::{Probe, SignalLists, Term, Window};
 
 /// A node: a predicate with the nodes to go to, or the signal that the cell takes and the next state.

@@ -1,10 +1,10 @@
 //! Programs that are accepted, and programs that are not.
 
 use crate::printed::verdict_said;
+use spec_values::{program_of, spec_of};
 use std::alloc::Global;
 use std::process::Abort;
 use std::test::Fail;
-use test_values::{program_of, spec_of};
 
 /// Two updates that are wanted again and again.
 const IN_TURN: &[u8] = b"always guarantee { F [g <- a()]; F [g <- b()]; }";

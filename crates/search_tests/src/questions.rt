@@ -7,10 +7,11 @@ use crate::printed::numbers_said;
 use bounded_encoding::{EncodeError, encode};
 use cobuchi_automata::Automaton;
 use letter_space::Space;
+use logic_values::{Row, automaton_of_negation, space_of_spec, table_automaton};
+use spec_values::spec_of;
 use std::alloc::Global;
 use std::process::Abort;
 use std::test::Fail;
-use test_values::{Row, automaton_of_negation, space_of_spec, spec_of, table_automaton};
 
 /// No signal and no predicate term.
 const NOTHING: &[u8] = b"";

@@ -9,13 +9,14 @@ ghost use Rattle.machines.specs.Moves.{EnvironmentFits};
 
 use branch_finder::{BranchError, find_window};
 use letter_space::Space;
+use logic_values::space_of_spec;
 use machines::Environment;
 use sequence::{NoMemory, Sequence};
+use spec_values::spec_of;
 use std::alloc::Global;
 use std::fmt::Write;
 use std::process::Abort;
 use std::test::Fail;
-use test_values::{space_of_spec, spec_of};
 use tsl_terms::{Window, equality_of};
 
 /// Tests of an input and of a cell, with the bits 0 and 1, and a cell that keeps itself, with bit 2, or copies

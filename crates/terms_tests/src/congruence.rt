@@ -7,11 +7,11 @@ ghost use Rattle.tsl_terms.specs.WellFormed.{name_fits};
 
 use program_tree::Program;
 use sequence::NoMemory;
+use spec_values::{on_two, program_of};
 use std::alloc::Global;
 use std::process::Abort;
 use std::test::Fail;
 use term_congruence::{classes_along, congruent};
-use test_values::{on_two, program_of};
 use tsl_terms::{Equated, Listed, NameKind, Names, Probe, Term, TermList, equality_of};
 
 /// What a text has before the window of a program.

@@ -13,9 +13,9 @@ use interp_core::{
     Algebra, FreeList, FreeTerm, Leaves, TermAlgebra, Wheel, evaluate, image, test_term,
 };
 use sequence::{NoMemory, Sequence};
+use spec_values::on_one;
 use std::alloc::Global;
 use std::test::Fail;
-use test_values::on_one;
 use tsl_terms::{Probe, Term, TermList};
 
 /// So many applications of function 1 to signal 3.

@@ -1,11 +1,11 @@
 //! Terms and formulas that are built, gathered and compared.
 
 use sequence::{NoMemory, Sequence};
-use std::alloc::Global;
-use std::test::Fail;
-use test_values::{
+use spec_values::{
     equality_window, guaranteed_always, names_of_copies, probe_of, test_of, two_formulas, update_of,
 };
+use std::alloc::Global;
+use std::test::Fail;
 use tsl_terms::{
     Formula, FormulaList, Listed, NameKind, Names, Spec, Term, TermList, Window, choices,
     copy_formula, copy_term, copy_window, node_count, predicates, same_term, signals, under, whole,

@@ -1,6 +1,6 @@
 use Rattle.std.proofs.Common.{◌≡◌, ◌++◌}
-use Rattle.test_values.specs.Repeated.{copies}
-use Rattle.test_values.proofs.texts.repeated.Given as goal
+use Rattle.spec_values.specs.Repeated.{copies}
+use Rattle.spec_values.proofs.texts.repeated.Given as goal
 
 -- the first text, and a copy for each time gone through
 abbrev pub invariant-loop : goal.invariant-loop

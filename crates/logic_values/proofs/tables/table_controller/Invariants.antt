@@ -1,8 +1,8 @@
 use Rattle.std.proofs.Common.{◌≡◌, map, length}
 use Rattle.std.specs.List.{AllByRecursion}
 use Rattle.machines.specs.MachineView.{entry_tree}
-use Rattle.test_values.specs.Entries.{IsSmallEntry}
-use Rattle.test_values.proofs.tables.table_controller.Given as goal
+use Rattle.logic_values.specs.Entries.{IsSmallEntry}
+use Rattle.logic_values.proofs.tables.table_controller.Given as goal
 
 -- an entry for each row gone through
 abbrev pub invariant-loop-choice : goal.invariant-loop-choice

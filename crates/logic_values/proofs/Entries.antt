@@ -8,7 +8,7 @@ use Rattle.letter_space.proofs.Places.{slice_get_image}
 use Rattle.machines.specs.declared.controller.Entry.{Entry}
 use Rattle.machines.specs.MachineTree.{NameStates}
 use Rattle.machines.specs.MachineView.{entry_tree}
-use Rattle.test_values.specs.Entries.{IsSmallEntry}
+use Rattle.logic_values.specs.Entries.{IsSmallEntry}
 
 pub entry_added : (states i : ℕ) (entries : List Entry) (x : Entry) → IsSmallEntry states (entry_tree x) →
     (length entries ≡ i) × AllByRecursion (IsSmallEntry states) (map entry_tree entries) →

@@ -3,9 +3,9 @@ use Rattle.std.specs.List.{AllByRecursion}
 use Rattle.machines.specs.declared.controller.Entry.{Entry}
 use Rattle.machines.specs.MachineTree.{NameStates}
 use Rattle.machines.specs.MachineView.{entry_tree}
-use Rattle.test_values.specs.Entries.{IsSmallEntry}
-use Rattle.test_values.proofs.Entries.{entry_added, entries_stay}
-use Rattle.test_values.proofs.tables.table_controller.Goals as goal
+use Rattle.logic_values.specs.Entries.{IsSmallEntry}
+use Rattle.logic_values.proofs.Entries.{entry_added, entries_stay}
+use Rattle.logic_values.proofs.tables.table_controller.Goals as goal
 
 pub loop-choice-preserved : goal.loop-choice-preserved
 loop-choice-preserved c =

@@ -1,5 +1,5 @@
 use Rattle.std.proofs.Common.{◌≡◌, length}
-use Rattle.test_values.proofs.clauses.clauses_of.Given as goal
+use Rattle.logic_values.proofs.clauses.clauses_of.Given as goal
 
 abbrev pub invariant-loop-numbers : goal.invariant-loop-numbers
 invariant-loop-numbers l = length l.clauses.items ≡ l.numbers-index

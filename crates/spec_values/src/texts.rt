@@ -1,7 +1,7 @@
 //! Texts.
 
 ghost use Rattle.std.specs.Prelude.{◌≡◌, ◌++◌, IfOk};
-ghost use Rattle.test_values.specs.Repeated.{copies};
+ghost use Rattle.spec_values.specs.Repeated.{copies};
 
 use sequence::NoMemory;
 use std::alloc::Global;

@@ -3,7 +3,7 @@
 ghost use Rattle.std.specs.Prelude.{◌≡◌, ◌∷◌, [], map, IfOk};
 ghost use Rattle.std.specs.List.{AllByRecursion};
 ghost use Rattle.machines.specs.MachineView.{entry_tree, environment_tree};
-ghost use Rattle.test_values.specs.Entries.{IsSmallEntry};
+ghost use Rattle.logic_values.specs.Entries.{IsSmallEntry};
 
 use machines::{Controller, Entry, Environment};
 use sequence::{NoMemory, Sequence};
