@@ -1,5 +1,5 @@
 -- Lists of literals by what is in them.
-use Rattle.std.proofs.Common.{◌≡◌, ℕ, zero, suc, ◌+◌, ◌*◌, ◌<◌, Bool, true, false, not, cond, ◌&&◌, ◌||◌, length, ℤ, pos, negsuc, neg_ℤ}
+use Rattle.std.proofs.Common.{◌≡◌, ℕ, zero, suc, ◌+◌, ◌*◌, ◌<◌, ◌≤◌, Bool, true, false, not, cond, ◌&&◌, ◌||◌, length, ℤ, pos, negsuc, neg_ℤ}
 use Rattle.std.proofs.Common.{◌<ℤ◌, List, [], ◌∷◌, ◌++◌, sym, ap, ◌∙◌, subst, refl, arith, inl, inr, ◌⊎◌, Contains, IsPermutation}
 use Rattle.std.specs.Ordering.{int_cmp, is_lt, MatchOrdering}
 use Rattle.std.specs.List.{list_any, AllByRecursion}
@@ -332,6 +332,12 @@ pair_from clause h = let r = any_has (λ l. has clause (negation l)) clause h in
 
 pub has_pair_from : (clause : List Lit) (l : Lit) → has clause l ≡ true → has clause (negation l) ≡ true → has_pair clause ≡ true
 has_pair_from clause l h k = any_from_has (λ m. has clause (negation m)) clause l h k
+
+pub short_has_no_pair : (clause : List Lit) → length clause ≤ 1 → has_pair clause ≡ false
+short_has_no_pair [] short = refl
+short_has_no_pair (x ∷ []) short =
+    ap (λ (b : Bool). (b || false) || false) (false_from_ne_true (same x (negation x)) (λ s. negation_differs x (sym (same_is x (negation x) s))))
+short_has_no_pair (x ∷ y ∷ rest) short = absurd (omega (arith, short))
 
 -- a literal whose negation is not in the clause takes no part in a pair
 pair_without : (x : Lit) (clause rest : List Lit) → ((l : Lit) → has clause l ≡ (same x l || has rest l)) →

@@ -129,7 +129,10 @@ pub fn is_tautology(clause: &Clause) -> bool
     ensures { result ≡ has_pair clause.now }
 {
     let mut rest = clause.literals();
-    while let Some((first, after)) = rest.split_first() {
+    while rest.len() > 1 {
+        let Some((first, after)) = rest.split_first() else {
+            return false;
+        };
         let Some((last, before)) = rest.split_last() else {
             return false;
         };
