@@ -8,3 +8,4 @@ pub mod Visits
 pub mod Waiting
 pub mod Renewed
 pub mod Moved
+pub mod PairSlots

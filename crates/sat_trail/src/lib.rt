@@ -10,11 +10,11 @@
 //! literals, and is looked at where one of them becomes false.
 #![tactic(auto)]
 
-mod database;
 mod entries;
 mod errors;
 mod stack;
 mod trail;
+mod trail_clauses;
 mod watches;
 
 pub use errors::TrailError;

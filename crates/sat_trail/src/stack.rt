@@ -6,8 +6,8 @@ ghost use Rattle.clause_core.specs.Clauses.{IsOver, has_pair};
 ghost use Rattle.sat_trail.specs.Entries.{entry_with, place_of, truth_of, literals_of, MayStand};
 ghost use Rattle.sat_trail.specs.States.{IsSound, started, extended, decided, with_clause, undone};
 
-use crate::database::ClauseDatabase;
 use crate::entries::Entry;
+use crate::trail_clauses::TrailClauses;
 use clause_core::{Clause, Cnf, Literal};
 use sequence::NoMemory;
 use std::alloc::Global;
@@ -19,7 +19,7 @@ use std::marker::Model;
 #[derive(Drop)]
 pub struct Stack<'f> {
     variables: u32,
-    clauses: ClauseDatabase<'f>,
+    clauses: TrailClauses<'f>,
     entries: Vec<Entry>,
     places: Vec<Option<u32>>,
     truths: Vec<bool>,
@@ -52,7 +52,7 @@ impl<'f> Stack<'f> {
     {
         Ok(Stack {
             variables: cnf.variables,
-            clauses: ClauseDatabase::new(cnf.clauses.as_slice(), learnt),
+            clauses: TrailClauses::new(cnf.clauses.as_slice(), learnt),
             entries: Vec::new(alloc),
             places: vec![in alloc; None; cnf.variables as usize]?,
             truths: vec![in alloc; false; 2 * cnf.variables as usize]?,

@@ -67,7 +67,7 @@ impl<'f> Trail<'f> {
         ensures sound { IfOk result IsSound }
     {
         let stack = Stack::new(alloc, cnf, learnt)?;
-        let watches = Watches::new(alloc, cnf.variables)?;
+        let watches = Watches::new(alloc, cnf.variables, cnf.clauses.as_slice())?;
         Ok(Trail { stack, watches })
     }
 

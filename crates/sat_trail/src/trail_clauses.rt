@@ -9,12 +9,12 @@ use std::marker::Model;
 /// The clauses of a formula, which are borrowed, and behind them the learnt ones. A contract sees them as
 /// one list.
 #[derive(Drop)]
-pub struct ClauseDatabase<'f> {
+pub struct TrailClauses<'f> {
     formula: &'f [Clause],
     learnt: Vec<Clause>,
 }
 
-impl<'f> Model for ClauseDatabase<'f> {
+impl<'f> Model for TrailClauses<'f> {
     ghost use Rattle.std.specs.Prelude.{◌+◌, ◌<◌, ◌^◌, ◌++◌, List, length};
     ghost use Rattle.clause_core.specs.Literals.{Lit};
 
@@ -25,13 +25,13 @@ impl<'f> Model for ClauseDatabase<'f> {
     ghost invariant = { λ d. length d.formula.now + length d.learnt.items < 2 ^ 32 };
 }
 
-impl<'f> ClauseDatabase<'f> {
+impl<'f> TrailClauses<'f> {
     /// The clauses of a formula, and behind them these.
-    pub fn new(formula: &'f [Clause], learnt: Vec<Clause>) -> ClauseDatabase<'f>
+    pub fn new(formula: &'f [Clause], learnt: Vec<Clause>) -> TrailClauses<'f>
         requires { length formula.now + length learnt.items < 2 ^ 32 }
         ensures { result ≡ formula.now ++ learnt.items }
     {
-        ClauseDatabase { formula, learnt }
+        TrailClauses { formula, learnt }
     }
 
     /// How many clauses there are.

@@ -10,7 +10,7 @@ ghost use Rattle.sat_trail.specs.States.{TrailState, IsSound, Propagates, IsFals
 ghost use Rattle.sat_trail.specs.internal.Watching.{HasList, TakesOut, RenewsBlocker, AddsWatch, Attaches, RenewsWatch, DropsWatch, IsOf, IsPairIn, pair_of, IsNextPair, AreWatched, IsVisit, AreDue, AreOthersFalse, CanForce, CanWatch, IsOpenBy, HasStatus, IsFirstFree, AreFalseBefore, AreAllBefore, IsOther, IsFree, AreFalseBetween, IsNextWaiting, IsOpenAt, IsWatchedBy, SetsAside, Releases, left_of, LeavesSome, LooksAtOne};
 
 use crate::stack::Stack;
-use clause_core::Literal;
+use clause_core::{Clause, Literal};
 use sequence::NoMemory;
 use std::alloc::Global;
 use std::marker::Model;
@@ -41,13 +41,12 @@ impl Model for WatchList {
 }
 
 impl WatchList {
-    /// No clause watches the literal.
-    fn new(alloc: Global) -> WatchList
-        ensures { result ≡ [] }
+    /// No clause watches the literal; there is room for so many. An `Err` says that memory ran out.
+    fn with_room(alloc: Global, count: usize) -> Result<WatchList, NoMemory>
+        ensures { IfOk result (λ list. list ≡ []) }
     {
-        WatchList {
-            watches: Vec::new(alloc),
-        }
+        let watches = Vec::with_capacity(alloc, count)?;
+        Ok(WatchList { watches })
     }
 
     /// How many watches there are.
@@ -137,6 +136,57 @@ impl Pair {
     }
 }
 
+/// The pair of a clause, or none: then its two literals are the same. So it takes no more memory than a pair. A
+/// contract sees an option.
+#[derive(Drop)]
+pub struct PairSlot {
+    pair: Pair,
+}
+
+impl Model for PairSlot {
+    ghost use Rattle.std.specs.Prelude.{Option, Some, None, cond};
+    ghost use Rattle.clause_core.specs.Literals.{same};
+    ghost use Rattle.sat_trail.specs.declared.watches.Pair.{Pair};
+
+    ghost Value = { Option Pair };
+
+    ghost view = { λ slot. cond (same slot.pair.first slot.pair.second) None (Some slot.pair) };
+}
+
+impl PairSlot {
+    /// No pair.
+    #[tactic(auto, using(crate::proofs::PairSlots::empty_slot))]
+    fn none() -> PairSlot
+        ensures { result ≡ None }
+    {
+        let literal = Literal::default();
+        PairSlot {
+            pair: Pair::new(literal, literal),
+        }
+    }
+
+    /// A pair.
+    #[tactic(auto, using(crate::proofs::PairSlots::full_slot))]
+    fn of(pair: Pair) -> PairSlot
+        requires { pair.first ≡ pair.second → ⊥ }
+        ensures { result ≡ Some pair }
+    {
+        PairSlot { pair }
+    }
+
+    /// The pair, if there is one.
+    #[tactic(auto, using(crate::proofs::PairSlots::empty_slot, crate::proofs::PairSlots::full_slot))]
+    fn read(&self) -> Option<Pair>
+        ensures { result ≡ self.now }
+    {
+        if self.pair.first == self.pair.second {
+            None
+        } else {
+            Some(self.pair)
+        }
+    }
+}
+
 /// A clause that waits to be looked at, or is set aside until a level is taken back: some literal of it is
 /// true, but was set above the level at which the clause came to be unit.
 #[derive(Clone, Copy)]
@@ -164,7 +214,7 @@ pub struct Watches {
     /// The watches of each literal, by its code.
     pub lists: Vec<WatchList>,
     /// The pair of each clause that was taken in; none of a clause of one literal.
-    pub pairs: Vec<Option<Pair>>,
+    pub pairs: Vec<PairSlot>,
     /// The clauses that are set aside, their levels rising, and behind them those that wait to be looked at.
     pub asides: Vec<Aside>,
     /// How many clauses are set aside.
@@ -176,20 +226,21 @@ pub struct Watches {
 }
 
 impl Watches {
-    /// No clause is taken in, and no entry visited. An `Err` says that memory ran out.
-    pub fn new(alloc: Global, variables: u32) -> Result<Watches, NoMemory>
+    /// No clause is taken in, and no entry visited; there is room for what these clauses watch first. An `Err` says that memory ran out.
+    pub fn new(alloc: Global, variables: u32, clauses: &[Clause]) -> Result<Watches, NoMemory>
         requires { variables < 2 ^ 31 }
         ensures { IfOk result (λ watches. (t : TrailState) → t.variables ≡ variables → AreWatched t watches) }
     {
         let count = 2 * variables;
+        let counts = watch_counts(alloc, count, clauses)?;
         let mut lists = Vec::with_capacity(alloc, count as usize)?;
         for code in 0..count {
-            let _ = code;
-            lists.push(WatchList::new(alloc))?;
+            let room = count_at(counts.as_slice(), code);
+            lists.push(WatchList::with_room(alloc, room)?)?;
         }
         Ok(Watches {
             lists,
-            pairs: Vec::new(alloc),
+            pairs: Vec::with_capacity(alloc, clauses.len())?,
             asides: Vec::new(alloc),
             held: 0,
             head: 0,
@@ -268,7 +319,7 @@ impl Watches {
         match status_of(stack, number) {
             Status::Open(first, second) => {
                 self.attach(number, first, second)?;
-                self.pairs.push(Some(Pair::new(first, second)))?;
+                self.pairs.push(PairSlot::of(Pair::new(first, second)))?;
                 Ok(())
             }
             _ => {
@@ -276,7 +327,7 @@ impl Watches {
                     clause: number,
                     level: 0,
                 })?;
-                self.pairs.push(None)?;
+                self.pairs.push(PairSlot::none())?;
                 Ok(())
             }
         }
@@ -312,7 +363,7 @@ impl Watches {
         requires within { number < length self.now.pairs.items }
         ensures { result ≡ true → IsOpenAt stack.now self.now number }
     {
-        match &self.pairs[number as usize] {
+        match self.pairs[number as usize].read() {
             Some(pair) => !is_false(stack, pair.first) && !is_false(stack, pair.second),
             None => false,
         }
@@ -360,7 +411,7 @@ impl Watches {
             return Ok(());
         }
         self.attach(number, first, second)?;
-        self.pairs[number as usize] = Some(Pair::new(first, second));
+        self.pairs[number as usize] = PairSlot::of(Pair::new(first, second));
         Ok(())
     }
 
@@ -393,7 +444,7 @@ impl Watches {
         requires apart { second ≡ first → ⊥ }
         ensures { result ≡ true → IsWatchedBy self.now number first second }
     {
-        match &self.pairs[number as usize] {
+        match self.pairs[number as usize].read() {
             Some(pair) => pair.is_of(first) && pair.is_of(second),
             None => false,
         }
@@ -546,7 +597,7 @@ impl Watches {
         if stack.is_true(watch.blocker) {
             return Ok(None);
         }
-        let Some(pair) = &self.pairs[watch.clause as usize] else {
+        let Some(pair) = self.pairs[watch.clause as usize].read() else {
             return Ok(None);
         };
         let other = pair.other(falsified);
@@ -554,14 +605,39 @@ impl Watches {
             self.renew_watch(falsified, index, other);
             return Ok(None);
         }
-        let Some(next) = next_pair(stack, watch.clause, pair, other) else {
+        let Some(next) = next_pair(stack, watch.clause, &pair, other) else {
             return force_or_fail(stack, watch.clause, other);
         };
         self.add_watch(next.first, watch.clause, other)?;
         self.drop_watch(falsified, index);
-        self.pairs[watch.clause as usize] = Some(next);
+        self.pairs[watch.clause as usize] = PairSlot::of(next);
         Ok(None)
     }
+}
+
+/// How many of these clauses have a literal among their first two, for each literal by its code. An `Err` says that
+/// memory ran out.
+fn watch_counts(alloc: Global, count: u32, clauses: &[Clause]) -> Result<Vec<u32>, NoMemory> {
+    let mut counts = vec![in alloc; 0; count as usize]?;
+    for clause in clauses {
+        if let [first, second, ..] = clause.literals() {
+            add_one(counts.as_mut_slice(), first.code());
+            add_one(counts.as_mut_slice(), second.code());
+        }
+    }
+    Ok(counts)
+}
+
+/// Adds one to the count at an index.
+fn add_one(counts: &mut [u32], index: usize) {
+    if let Some(count) = counts.get_mut(index) {
+        *count = count.saturating_add(1);
+    }
+}
+
+/// The count at an index; 0 where there is none.
+fn count_at(counts: &[u32], index: u32) -> usize {
+    counts.get(index as usize).copied().unwrap_or(0) as usize
 }
 
 /// The pair that a clause watches next, where one of its pair is false and this is the other one: a literal

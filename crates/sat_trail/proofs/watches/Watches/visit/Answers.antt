@@ -13,7 +13,7 @@ use Rattle.sat_trail.proofs.Visits.{other_over, pair_read, due_other, due_forced
 use Rattle.sat_trail.proofs.Renewed.{watched_renewed, visit_renewed, list_renewed, due_renewed}
 use Rattle.sat_trail.proofs.Moved.{Moves, list_kept, watched_moved, due_moved, list_moved}
 use Rattle.sat_trail.proofs.watches.Watches.visit.Goals as goal
-use Rattle.sat_trail.proofs.watches.Watches.visit.Goals.{After-get-watch, After-other-other, After-drop_watch}
+use Rattle.sat_trail.proofs.watches.Watches.visit.Goals.{After-get-watch, After-other-other, After-of}
 
 read : (c : After-get-watch) → HasRead c.args.stack.now c.args.self.now c.args.falsified c.args.index c.get-watch.result
 read c = has_read c.requires.sound c.requires.watched c.requires.visit c.requires.due c.requires.list c.code.ensures c.index.ensures
@@ -22,27 +22,27 @@ read c = has_read c.requires.sound c.requires.watched c.requires.visit c.require
 other : (c : After-other-other) → HasOther c.args.stack.now c.args.self.now c.args.falsified c.args.index c.get-watch.result
     c.other-other.result
 other c = has_other (has_read c.requires.sound c.requires.watched c.requires.visit c.requires.due c.requires.list c.code.ensures
-    c.index.ensures c.get-watch.ensures) c.index-2.ensures c.in-Some.is c.other-other.ensures.of c.other-other.ensures.apart
+    c.index.ensures c.get-watch.ensures) c.index-2.ensures (sym c.read.ensures ∙ c.in-Some.is) c.other-other.ensures.of c.other-other.ensures.apart
 
-abbrev changed : After-drop_watch → Watches
+abbrev changed : After-of → Watches
 changed c =
     let w = c.drop_watch.new.self in
     record {
       lists = w.lists;
-      pairs = with_item w.pairs c.get-watch.result.clause (Some c.in-Some-next_pair.next);
+      pairs = with_item w.pairs c.get-watch.result.clause c.of.result;
       asides = w.asides;
       held = w.held;
       head = w.head;
       low = w.low;
     }
 
-moves : (c : After-drop_watch) → Moves c.args.stack.now c.args.self.now (changed c) c.args.falsified c.args.index
+moves : (c : After-of) → Moves c.args.stack.now c.args.self.now (changed c) c.args.falsified c.args.index
 moves c =
     let w = c.args.self.now in
     let number = c.get-watch.result.clause in
     let new = c.in-Some-next_pair.next in
     let o = has_other (has_read c.requires.sound c.requires.watched c.requires.visit c.requires.due c.requires.list c.code.ensures
-    c.index.ensures c.get-watch.ensures) c.index-2.ensures c.in-Some.is c.other-other.ensures.of c.other-other.ensures.apart in
+    c.index.ensures c.get-watch.ensures) c.index-2.ensures (sym c.read.ensures ∙ c.in-Some.is) c.other-other.ensures.of c.other-other.ensures.apart in
     let same : c.drop_watch.new.self.pairs.items ≡ w.pairs.items =
     ap (λ (x : Watches). x.pairs.items) c.drop_watch.ensures.rest ∙ ap (λ (x : Watches). x.pairs.items) c.add_watch.ensures.rest in
     record {
@@ -54,9 +54,10 @@ moves c =
       next = c.in-Some-next_pair.ensures;
       adds = c.in_ok-add_watch.ensures.lists;
       drops = c.drop_watch.ensures.lists;
-      puts = subst (λ (ps : List (Option Pair)). PutsPair w.pairs.items number new (set ps number (Some new))) (sym same)
-          (pair_set w.pairs.items number new (slice_get_within w.pairs.items number (Some o.pair) o.at));
-      count = length-set c.drop_watch.new.self.pairs.items number (Some new) ∙ ap length same;
+      puts = subst (λ (x : Option Pair). PutsPair w.pairs.items number new (set c.drop_watch.new.self.pairs.items number x)) (sym c.of.ensures)
+          (subst (λ (ps : List (Option Pair)). PutsPair w.pairs.items number new (set ps number (Some new))) (sym same)
+          (pair_set w.pairs.items number new (slice_get_within w.pairs.items number (Some o.pair) o.at)));
+      count = length-set c.drop_watch.new.self.pairs.items number c.of.result ∙ ap length same;
       rest = ap (λ (x : Watches). record x { pairs = (changed c).pairs }) c.drop_watch.ensures.rest
           ∙ ap (λ (x : Watches). record x { lists = (changed c).lists; pairs = (changed c).pairs }) c.add_watch.ensures.rest;
     }
@@ -74,7 +75,7 @@ index-requires-2 c = omega
 
 pub returns-in_default-clause-ends : goal.returns-in_default-clause-ends
 returns-in_default-clause-ends c = due_unpaired (read (goal.at.returns-in_default-clause-ends c).After-get-watch) c.index-2.ensures
-    c.in_default.is
+    (sym c.read.ensures ∙ c.in_default.is)
 
 pub is_true-requires-2 : goal.is_true-requires-2
 is_true-requires-2 c = other_over (other (goal.at.is_true-requires-2 c).After-other-other)
@@ -97,7 +98,7 @@ returns-then-is_true-2-clause-ends c =
     due_renewed o c.renew_watch.ensures.lists c.renew_watch.ensures.rest (due_other o (sym c.is_true-2.ensures ∙ c.if-is_true-2.true))
 
 pub next_pair-requires-clause-pair : goal.next_pair-requires-clause-pair
-next_pair-requires-clause-pair c = pair_read (read (goal.at.next_pair-requires-clause-pair c).After-get-watch) c.index-2.ensures c.in-Some.is
+next_pair-requires-clause-pair c = pair_read (read (goal.at.next_pair-requires-clause-pair c).After-get-watch) c.index-2.ensures (sym c.read.ensures ∙ c.in-Some.is)
 
 pub returns-in_default-next_pair-clause-watched : goal.returns-in_default-next_pair-clause-watched
 returns-in_default-next_pair-clause-watched c = on_ok_weaker c.force_or_fail.result
@@ -123,6 +124,9 @@ add_watch-requires c =
 pub drop_watch-requires : goal.drop_watch-requires
 drop_watch-requires c = list_kept c.in-Some-next_pair.next.first c.requires.visit c.in-Some-next_pair.ensures.not_false c.in_ok-add_watch.ensures.lists c.requires.list
 
+pub of-requires : goal.of-requires
+of-requires c = c.in-Some-next_pair.ensures.is_in.is.apart
+
 pub index_mut-requires : goal.index_mut-requires
 index_mut-requires c = omega (
   arith,
@@ -133,10 +137,10 @@ index_mut-requires c = omega (
 )
 
 pub returns-clause-watched : goal.returns-clause-watched
-returns-clause-watched c = watched_moved (moves (goal.at.returns-clause-watched c).After-drop_watch)
+returns-clause-watched c = watched_moved (moves (goal.at.returns-clause-watched c).After-of)
 
 pub returns-clause-list : goal.returns-clause-list
-returns-clause-list c = list_moved (moves (goal.at.returns-clause-list c).After-drop_watch)
+returns-clause-list c = list_moved (moves (goal.at.returns-clause-list c).After-of)
 
 pub returns-clause-ends : goal.returns-clause-ends
-returns-clause-ends c = due_moved (moves (goal.at.returns-clause-ends c).After-drop_watch)
+returns-clause-ends c = due_moved (moves (goal.at.returns-clause-ends c).After-of)

@@ -1,8 +1,9 @@
-use Rattle.std.proofs.Common.{Some, ap, inl, inr, refl}
+use Rattle.std.proofs.Common.{set, ap, inl, inr, refl}
 use Rattle.std.specs.Vec.{with_item}
 use Rattle.sat_trail.specs.declared.watches.Watches.{Watches}
 use Rattle.sat_trail.proofs.Stays.{lists_have}
 use Rattle.sat_trail.proofs.Waiting.{watched_both, both_puts, watched_by}
+use Rattle.sat_trail.proofs.PairSlots.{pair_apart}
 use Rattle.sat_trail.proofs.watches.Watches.watch_both.Goals as goal
 
 pub attach-requires-clause-first : goal.attach-requires-clause-first
@@ -15,16 +16,19 @@ attach-requires-clause-second c =
     let l = c.requires.literals in
     lists_have c.args.stack.now c.args.self.now c.requires.sound c.requires.watched c.args.number l.clause c.args.second l.named l.other
 
+pub of-requires : goal.of-requires
+of-requires c = pair_apart c.new.ensures c.requires.literals.apart
+
 pub returns-clause-watched : goal.returns-clause-watched
 returns-clause-watched c =
     let b = c.attach.new.self in
-    let v = record b { pairs = with_item b.pairs c.args.number (Some c.new.result) } in
-    watched_both {b = b} v c.requires.watched c.requires.waits c.new.ensures c.attach.ensures.rest refl c.requires.sound c.requires.literals
+    let v = record b { pairs = with_item b.pairs c.args.number c.of.result } in
+    watched_both {b = b} v c.requires.watched c.requires.waits c.new.ensures c.attach.ensures.rest (ap (set b.pairs.items c.args.number) c.of.ensures) c.requires.sound c.requires.literals
     c.in_ok-attach.ensures.lists (ap (λ (x : Watches). record x { pairs = v.pairs }) c.attach.ensures.rest)
 
 pub returns-clause-pair : goal.returns-clause-pair
 returns-clause-pair c =
     let b = c.attach.new.self in
-    let puts = both_puts {b = b} (record b { pairs = with_item b.pairs c.args.number (Some c.new.result) }) c.requires.watched
-    c.requires.waits c.new.ensures c.attach.ensures.rest refl in
+    let puts = both_puts {b = b} (record b { pairs = with_item b.pairs c.args.number c.of.result }) c.requires.watched
+    c.requires.waits c.new.ensures c.attach.ensures.rest (ap (set b.pairs.items c.args.number) c.of.ensures) in
     watched_by puts.here (inl refl) (inr refl) c.requires.literals.apart
