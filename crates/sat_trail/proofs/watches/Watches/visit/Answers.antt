@@ -25,16 +25,7 @@ other c = has_other (has_read c.requires.sound c.requires.watched c.requires.vis
     c.index.ensures c.get-watch.ensures) c.index-2.ensures (sym c.read.ensures ∙ c.in-Some.is) c.other-other.ensures.of c.other-other.ensures.apart
 
 abbrev changed : After-of → Watches
-changed c =
-    let w = c.drop_watch.new.self in
-    record {
-      lists = w.lists;
-      pairs = with_item w.pairs c.get-watch.result.clause c.of.result;
-      asides = w.asides;
-      held = w.held;
-      head = w.head;
-      low = w.low;
-    }
+changed c = record c.drop_watch.new.self { pairs = with_item c.drop_watch.new.self.pairs c.get-watch.result.clause c.of.result }
 
 moves : (c : After-of) → Moves c.args.stack.now c.args.self.now (changed c) c.args.falsified c.args.index
 moves c =
@@ -123,9 +114,6 @@ add_watch-requires c =
 
 pub drop_watch-requires : goal.drop_watch-requires
 drop_watch-requires c = list_kept c.in-Some-next_pair.next.first c.requires.visit c.in-Some-next_pair.ensures.not_false c.in_ok-add_watch.ensures.lists c.requires.list
-
-pub of-requires : goal.of-requires
-of-requires c = c.in-Some-next_pair.ensures.is_in.is.apart
 
 pub index_mut-requires : goal.index_mut-requires
 index_mut-requires c = omega (

@@ -102,13 +102,6 @@ pub returns-clause-watched : goal.returns-clause-watched
 returns-clause-watched c =
     let w = c.loop-index.self in
     let kept = c.loop-index.invariant in
-    watched_visited c.loop-index.stack w (record {
-      lists = w.lists;
-      pairs = w.pairs;
-      asides = w.asides;
-      held = w.held;
-      head = w.head + 1;
-      low = w.low;
-    }) c.negated-falsified.result kept.sound kept.watched kept.visit
+    watched_visited c.loop-index.stack w (record w { head = w.head + 1 }) c.negated-falsified.result kept.sound kept.watched kept.visit
     (subst (λ (n : ℕ). AreDue c.loop-index.stack w c.negated-falsified.result n)
     (let e : c.loop-index.index ≡ 0 = omega (arith, c.loop-index-test.false) in e) kept.due) refl
