@@ -85,6 +85,14 @@ fn add_joins(
     Ok(())
 }
 
+/// The most joins that room is made for beforehand.
+const MOST_ROOM: usize = 16;
+
+/// How many joins room is made for beforehand.
+fn room_for_joins(left: &[NumberedChoice], right: &[NumberedChoice]) -> usize {
+    left.len().saturating_mul(right.len()).min(MOST_ROOM)
+}
+
 /// Each choice of the left list joined with each of the right one, left first.
 pub(crate) fn joins_of(
     alloc: Global,
@@ -96,7 +104,7 @@ pub(crate) fn joins_of(
     ensures many { IfErr result (λ e. e ≡ StepError.Choices →
         most_choices < length (joins nat_eq nat_cmp (choice_keys left.now) (choice_keys right.now))) }
 {
-    let mut list = Vec::new(alloc);
+    let mut list = Vec::with_capacity(alloc, room_for_joins(left, right))?;
     for choice in left {
         add_joins(alloc, &mut list, choice, right)?;
     }

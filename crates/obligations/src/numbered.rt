@@ -1,6 +1,7 @@
 //! Choices over the numbers of formulas.
 
 ghost use Rattle.std.specs.Prelude.{◌≡◌, IfOk, nat_eq};
+ghost use Rattle.std.specs.List.{list_any};
 ghost use Rattle.obligations.specs.Numbers.{choice_key};
 ghost use Rattle.obligations.specs.Choices.{is_subset, is_within};
 
@@ -44,9 +45,26 @@ impl NumberedChoice {
     }
 }
 
+/// Whether a number stands among others.
+fn stands_among(numbers: &[u32], number: u32) -> bool
+    ensures { result ≡ list_any (λ other. nat_eq other number) numbers.now }
+{
+    for other in numbers {
+        if *other == number {
+            return true;
+        }
+    }
+    false
+}
+
 /// Whether each number of a list is in another.
 fn is_subset(small: &[u32], large: &[u32]) -> bool
     ensures { result ≡ is_subset nat_eq small.now large.now }
 {
-    small.iter().all(|number| large.contains(number))
+    for number in small {
+        if !stands_among(large, *number) {
+            return false;
+        }
+    }
+    true
 }
