@@ -1,6 +1,7 @@
 pub mod Choices
 pub mod Expansion
 pub mod Numbers
+pub mod Codes
 pub mod Obligations
 pub mod Named
 pub mod Expansions

@@ -32,7 +32,7 @@ pub use expanding::{LETTER_BITS, expand, number_of};
 pub use expansions::{choices_of_numbers, no_expansions};
 pub use laws::{choices_contain_those_of_members, sets_hold_by_a_choice};
 pub use naming::{names_of, names_of_formula};
-pub use numbered::NumberedChoice;
+pub use numbered::{NumberedChoice, code_of};
 pub use set::Set;
 pub use step_error::{MOST_CHOICES, StepError};
 pub use stepping::{Choice, step};

@@ -1,15 +1,20 @@
 //! Choices over the numbers of formulas.
 
-ghost use Rattle.std.specs.Prelude.{◌≡◌, IfOk, nat_eq};
+ghost use Rattle.std.specs.Prelude.{◌≡◌, ◌++◌, IfOk, nat_eq};
 ghost use Rattle.std.specs.List.{list_any};
+ghost use Rattle.std.specs.Hash as fed;
+ghost use Rattle.std.specs.Cmp.Rules.{hashing};
+ghost use Rattle.std.proofs.Common.{rules};
+ghost use Rattle.obligations.specs.Codes.{numbers_code};
 ghost use Rattle.obligations.specs.Numbers.{choice_key};
 ghost use Rattle.obligations.specs.Choices.{is_subset, is_within};
 
 use sequence::NoMemory;
 use std::alloc::Global;
+use std::hash::{Hash, Hasher};
 
 /// What one step asks of the letter, and the numbers of the formulas that it leaves.
-#[derive(PartialEq, Eq, Hash, Drop)]
+#[derive(PartialEq, Eq, Drop)]
 pub struct NumberedChoice {
     /// The bits that it asks for.
     pub care: u64,
@@ -19,6 +24,30 @@ pub struct NumberedChoice {
     pub next: Vec<u32>,
     /// The untils that are put off, by rising numbers.
     pub postponed: Vec<u32>,
+}
+
+/// A number that is made of a list of numbers, by which lists that differ are told apart quickly.
+pub fn code_of(numbers: &[u32]) -> u64
+    ensures { result ≡ numbers_code numbers.now }
+{
+    let mut code = 1u64;
+    for number in numbers {
+        code = (code ^ u64::from(*number)).wrapping_mul(1_099_511_628_211);
+    }
+    code
+}
+
+impl Hash for NumberedChoice {
+    ghost hash_input = { λ c. fed.u64 c.care ++ (fed.u64 c.want ++ (fed.u64 (numbers_code c.next.items) ++ fed.u64 (numbers_code c.postponed.items))) };
+
+    ghost respects_eq = { Prim.search (hashing, rules) };
+
+    fn hash<H: Hasher>(&self, state: &mut H) {
+        state.write_u64(self.care);
+        state.write_u64(self.want);
+        state.write_u64(code_of(&self.next));
+        state.write_u64(code_of(&self.postponed));
+    }
 }
 
 impl NumberedChoice {
