@@ -1,6 +1,10 @@
 //! States over the numbers of formulas, and states and edges that are found.
 
-ghost use Rattle.std.specs.Prelude.{◌≡◌, ◌≤◌, Some, IfOk, IfErr, OnOk, length, slice_get};
+ghost use Rattle.std.specs.Prelude.{◌≡◌, ◌++◌, ◌≤◌, Some, IfOk, IfErr, OnOk, length, slice_get};
+ghost use Rattle.std.specs.Hash as fed;
+ghost use Rattle.std.specs.Cmp.Rules.{hashing};
+ghost use Rattle.std.proofs.Common.{rules};
+ghost use Rattle.obligations.specs.Codes.{numbers_code};
 ghost use Rattle.cobuchi_automata.specs.Edges.{edge_tree, edge_trees};
 ghost use Rattle.cobuchi_automata.specs.Refusals.{most_automaton_states, most_automaton_edges};
 ghost use Rattle.cobuchi_automata.specs.internal.Exploring.{state_key, state_keys, Grows, IsStateRefusal, IsEdgeRefusal};
@@ -8,15 +12,28 @@ ghost use Rattle.cobuchi_automata.specs.internal.Exploring.{state_key, state_key
 use crate::automaton::Edge;
 use crate::build_error::{BuildError, MOST_AUTOMATON_EDGES, MOST_AUTOMATON_STATES};
 use indexmap::IndexSet;
+use obligations::code_of;
 use sequence::NoMemory;
+use std::hash::{Hash, Hasher};
 
 /// A set of formulas by their numbers, and the number of the until that is waited for.
-#[derive(PartialEq, Eq, Hash, Drop)]
+#[derive(PartialEq, Eq, Drop)]
 pub(crate) struct State {
     /// The numbers of the formulas, in order.
     pub(crate) members: Vec<u32>,
     /// The number of the until that is waited for.
     pub(crate) counter: usize,
+}
+
+impl Hash for State {
+    ghost hash_input = { λ s. fed.u64 (numbers_code s.members.items) ++ fed.usize s.counter };
+
+    ghost respects_eq = { Prim.search (hashing, rules) };
+
+    fn hash<H: Hasher>(&self, state: &mut H) {
+        state.write_u64(code_of(&self.members));
+        state.write_usize(self.counter);
+    }
 }
 
 /// The number of a state among others; it is added at their end where it is not there.
