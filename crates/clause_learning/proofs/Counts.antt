@@ -1,16 +1,7 @@
--- Lists of the first numbers, and how many of them pass a test.
-use Rattle.std.proofs.Common.{◌≡◌, ◌∙◌, ℕ, zero, suc, ◌+◌, ◌<◌, ◌≤◌, ◌==◌, Bool, true, false, not, ◌&&◌, cond, sym, ap, ap₂, arith, inl, inr, refl}
-use Rattle.std.proofs.Common.{List, [], ◌∷◌, ◌++◌, length, slice_get, Some}
+-- How many of the first numbers pass a test.
+use Rattle.std.proofs.Common.{◌≡◌, ◌∙◌, ℕ, zero, suc, ◌+◌, ◌<◌, ◌==◌, Bool, true, false, not, ◌&&◌, cond, ap, ap₂, arith, inl, inr, refl}
 use Rattle.std.proofs.lemmas.Bool.{cases_eq, eq-eqb, ne_eqb}
 use Rattle.std.proofs.Math.Bool.{and-true, and-false}
-use Rattle.sequence.proofs.Places.{slice_get-front, slice_get-behind}
-
-pub counted_push : {X : Type 0} (of_number : ℕ → X) (xs : List X) (n : ℕ) → length xs ≡ n →
-    ((k : ℕ) → k < n → slice_get xs k ≡ Some (of_number k)) → (k : ℕ) → k < n + 1 → slice_get (xs ++ of_number n ∷ []) k ≡ Some (of_number k)
-counted_push of_number xs n long each k below = elim (cases_eq k n) [
-  | inl is ↦ ap (slice_get (xs ++ of_number n ∷ [])) (is ∙ sym long) ∙ (slice_get-behind xs (of_number n) [] ∙ ap (λ (j : ℕ). Some (of_number j)) (sym is))
-  | inr apart ↦ slice_get-front xs (of_number n ∷ []) k (omega arith) ∙ each k (omega arith)
-]
 
 -- how many of the first numbers pass a test
 pub count_below : (ℕ → Bool) → ℕ → ℕ

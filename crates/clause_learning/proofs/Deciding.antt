@@ -2,7 +2,7 @@
 use Rattle.std.proofs.Common.{◌≡◌, ℕ, ◌+◌, ◌<◌, ◌≤◌, true, false, not, ◌&&◌, ◌||◌, List, [], ◌∷◌, ◌++◌, length, Option, Some}
 use Rattle.std.proofs.Common.{get_or, None, slice_get, sym, ap, ◌∙◌, subst, refl, arith, eqb, inl, inr}
 use Rattle.std.proofs.lemmas.Bool.{true≢false, and_from, not_from_false, or_left, or_right, cases_eq, cases_lt, ne_eqb, eq-eqb}
-use Rattle.std.proofs.lemmas.Option.{none-some, same_Some, slice_get_within}
+use Rattle.std.proofs.lemmas.Option.{none-some, same_Some}
 use Rattle.sat_trail.specs.declared.entries.Entry.{Entry}
 use Rattle.sat_trail.specs.Entries.{place_of}
 use Rattle.sat_trail.specs.States.{TrailState, IsSound, Propagates, up_to}

@@ -6,6 +6,7 @@ pub mod Deciding
 pub mod HintLists
 pub mod Marking
 pub mod Hints
+pub mod ShelfNumbers
 pub mod LogHints
 pub mod Stages
 pub mod Noting

@@ -6,28 +6,30 @@ use Rattle.std.proofs.lemmas.Option.{none-some, same_Some, slice_get_within, get
 use Rattle.std.proofs.lemmas.List.{append_assoc, append-nil, length-append, length_push}
 use Rattle.std.proofs.lemmas.List.Elements.{All-from_recursion, recursion_from_All, All-push, All-nil}
 use Rattle.sequence.proofs.Places.{slice_get_some, slice_get-front, slice_get-behind, slice_get_push, contains_at}
+use Rattle.sequence.specs.Numbers.{numbers_from}
+use Rattle.sequence.proofs.Numbers.{length-numbers, numbers_at}
 use Rattle.clause_core.specs.Literals.{Lit}
 use Rattle.refutation_check.specs.Checking.{HintEffect, numbered_from, clause_named, effect_of_named, led_to, refused_hint}
 use Rattle.refutation_check.specs.Checking.HintEffect.{ends, makes, shows_nothing}
 use Rattle.clause_learning.specs.declared.shelves.Shelf.{Shelf}
 use Rattle.clause_learning.specs.Hints.{AreHints}
-use Rattle.clause_learning.specs.Shelves.{log_number, log_hints, AreLogNumbers, AreFirst, AreShelved}
+use Rattle.clause_learning.specs.Shelves.{numbers_of, log_number, log_hints, AreLogNumbers, AreFirst, AreShelved}
 use Rattle.clause_learning.proofs.Hints.{named_one}
 
 -- the first clauses of a log
 pub first_named : (clauses later : List (List Lit)) (shelf : Shelf) → AreFirst (length clauses) shelf →
-    AreLogNumbers (clauses ++ later) clauses shelf.numbers.items
-first_named clauses later shelf first = record {
-  one_each = first.one_number_each;
-  each = λ place number at. (let within = slice_get_within shelf.numbers.items place number at in
-      let below : place < length clauses = omega (arith, within, first.one_number_each) in
-      let is : place + 1 ≡ number = same_Some (place + 1) number (sym (first.upward place below) ∙ at) in
+    AreLogNumbers (clauses ++ later) clauses (numbers_of shelf)
+first_named clauses later shelf first = subst (AreLogNumbers (clauses ++ later) clauses) (sym first) (record {
+  one_each = length-numbers 1 (length clauses);
+  each = λ place number at. (let within = slice_get_within (numbers_from 1 (length clauses)) place number at in
+      let below : place < length clauses = omega (arith, within, length-numbers 1 (length clauses)) in
+      let is : 1 + place ≡ number = same_Some (1 + place) number (sym (numbers_at 1 (length clauses) place below) ∙ at) in
       let back : number - 1 ≡ place = omega (arith, is) in (
         omega (arith, is),
         omega (arith, is, below, length-append clauses later),
         ap (slice_get (clauses ++ later)) back ∙ slice_get-front clauses later place below,
       ));
-}
+})
 
 -- a clause that stands in the log already
 pub named_again : (known clauses kept : List (List Lit)) (numbers more : List ℕ) (place number : ℕ) (clause : List Lit) →
@@ -143,26 +145,24 @@ pub kept_less : (formula clauses : List (List Lit)) (numbers : List ℕ) (place 
 kept_less formula clauses numbers place others shelf are = record {
   stood = are.stood;
   fewer = omega (arith, are.fewer);
-  one_use_each = are.one_use_each;
   named = are.named;
 }
 
 -- a clause is kept with its number
 pub kept_more : (formula clauses : List (List Lit)) (numbers : List ℕ) (place : ℕ) (others : List (List Lit)) (shelf after : Shelf)
     (clause : List Lit) (number : ℕ) → AreShelved formula clauses numbers place others shelf → slice_get clauses place ≡ Some clause →
-    slice_get numbers place ≡ Some number → after.numbers.items ≡ shelf.numbers.items ++ number ∷ [] →
-    length after.uses.items ≡ length shelf.uses.items + 1 → AreShelved formula clauses numbers (place + 1) (others ++ clause ∷ []) after
-kept_more formula clauses numbers place others shelf after clause number are at named numbers_are uses_are =
+    slice_get numbers place ≡ Some number → numbers_of after ≡ numbers_of shelf ++ number ∷ [] →
+    AreShelved formula clauses numbers (place + 1) (others ++ clause ∷ []) after
+kept_more formula clauses numbers place others shelf after clause number are at named numbers_are =
     let whole : (formula ++ others) ++ clause ∷ [] ≡ formula ++ (others ++ clause ∷ []) = append_assoc formula others (clause ∷ []) in
     let longer : length (formula ++ (others ++ clause ∷ [])) ≡ length (formula ++ others) + 1 =
     sym (ap length whole) ∙ length_push (formula ++ others) clause in
     record {
       stood = All-push (Contains clauses) others clause are.stood (contains_at clauses place clause at);
       fewer = omega (arith, are.fewer, longer);
-      one_use_each = omega (arith, uses_are, are.one_use_each, longer);
-      named = λ later old. subst (λ (cs : List (List Lit)). AreLogNumbers (formula ++ later) cs after.numbers.items) whole
+      named = λ later old. subst (λ (cs : List (List Lit)). AreLogNumbers (formula ++ later) cs (numbers_of after)) whole
           (subst (AreLogNumbers (formula ++ later) ((formula ++ others) ++ clause ∷ [])) (sym numbers_are)
-          (named_again (formula ++ later) clauses (formula ++ others) numbers shelf.numbers.items place number clause old (are.named later old)
+          (named_again (formula ++ later) clauses (formula ++ others) numbers (numbers_of shelf) place number clause old (are.named later old)
           at named));
     }
 
@@ -174,7 +174,6 @@ first_kept formula clauses numbers others shelf none first =
     record {
       stood = subst (All (Contains clauses)) (sym none) (All-nil (Contains clauses));
       fewer = omega (arith, ap length whole);
-      one_use_each = first.one_use_each ∙ sym (ap length whole);
-      named = λ later old. subst (λ (cs : List (List Lit)). AreLogNumbers (formula ++ later) cs shelf.numbers.items) (sym whole)
+      named = λ later old. subst (λ (cs : List (List Lit)). AreLogNumbers (formula ++ later) cs (numbers_of shelf)) (sym whole)
           (first_named formula later shelf first);
     }

@@ -22,6 +22,7 @@ use Rattle.clause_learning.specs.declared.journal.Journal.{Journal}
 use Rattle.clause_learning.specs.declared.units.Units.{Units}
 use Rattle.clause_learning.specs.Units.{AreUnits, AddsHint, ShowAlone, HaveNoted, MayHaveNoted}
 use Rattle.clause_learning.specs.Units.HaveNoted.{more}
+use Rattle.clause_learning.specs.Shelves.{numbers_of}
 use Rattle.clause_learning.proofs.Hints.{named_one}
 use Rattle.clause_learning.proofs.Stages.{forced_by}
 
@@ -221,8 +222,7 @@ pub record IsNoting (old : TrailState) (journal : Journal) (units : Units) (new 
   pub start : new.level ≡ 0
   pub sound : IsSound new
   pub units_are : AreUnits new later
-  pub numbers : length after.shelf.numbers.items ≡ length new.clauses
-  pub uses : length after.shelf.uses.items ≡ length new.clauses
+  pub numbers : length (numbers_of after.shelf) ≡ length new.clauses
 
 module _ (old : TrailState) (journal : Journal) (units : Units) (middle : TrailState) (between : Journal) (now : Units) (new : TrailState)
     (after : Journal) (later : Units) (may : MayHaveNoted middle between now new after later) where
@@ -242,15 +242,13 @@ module _ (old : TrailState) (journal : Journal) (units : Units) (middle : TrailS
       start = ap (λ (t : TrailState). t.level) same_trail ∙ is.start;
       sound = subst IsSound (sym same_trail) is.sound;
       units_are = units_are;
-      numbers = ap (λ (j : Journal). length j.shelf.numbers.items) same_journal
+      numbers = ap (λ (j : Journal). length (numbers_of j.shelf)) same_journal
           ∙ (is.numbers ∙ sym (ap (λ (t : TrailState). length t.clauses) same_trail));
-      uses = ap (λ (j : Journal). length j.shelf.uses.items) same_journal
-          ∙ (is.uses ∙ sym (ap (λ (t : TrailState). length t.clauses) same_trail));
     }
     | inr (has_noted, one_more) ↦ (let longer : length new.clauses ≡ length middle.clauses + 1 =
         ap (λ (t : TrailState). length t.clauses) has_noted.trail_is ∙ length_push middle.clauses (has_noted.literal ∷ []) in
-        let numbers : length after.shelf.numbers.items ≡ length new.clauses = ap length has_noted.numbers_are
-        ∙ (length_push between.shelf.numbers.items between.next ∙ (ap (λ (n : ℕ). n + 1) is.numbers ∙ sym longer)) in
+        let numbers : length (numbers_of after.shelf) ≡ length new.clauses = ap length has_noted.numbers_are
+        ∙ (length_push (numbers_of between.shelf) between.next ∙ (ap (λ (n : ℕ). n + 1) is.numbers ∙ sym longer)) in
         record {
           count = is.count + 1;
           noted = more is.noted has_noted;
@@ -264,6 +262,5 @@ module _ (old : TrailState) (journal : Journal) (units : Units) (middle : TrailS
           sound = has_noted.sound;
           units_are = units_are;
           numbers = numbers;
-          uses = has_noted.one_use_each ∙ numbers;
         })
   ]

@@ -1,7 +1,7 @@
 -- Which variable is next, and how one of the queue is changed.
-use Rattle.std.proofs.Common.{List, length, set, get_or, ◌&&◌, ◌≡◌, ◌∙◌, ℕ, ◌+◌, ◌-◌, ◌<◌, ◌≤◌, ◌==◌, Bool, true, false, not, ◌||◌, cond, sym, ap, ap₂, arith, inl, inr, refl}
+use Rattle.std.proofs.Common.{List, length, set, get_or, ◌≡◌, ◌∙◌, ℕ, ◌+◌, ◌<◌, ◌≤◌, ◌==◌, Bool, true, false, not, ◌||◌, cond, sym, ap, ap₂, arith, inl, inr, refl}
 use Rattle.std.specs.Prelude.{◌⊎◌}
-use Rattle.std.proofs.lemmas.Bool.{true≢false, false≢true, cases_eq, cases_lt, eq-eqb, ne_eqb, eqb-false, or_cases, or_left, or_right, not-true, not_from_false, false_from_ne_true, lt-ltb, le-ltb, and_parts, eqb-true}
+use Rattle.std.proofs.lemmas.Bool.{true≢false, cases_eq, cases_lt, eq-eqb, ne_eqb, eqb-false, or_cases, or_left, or_right, not-true, not_from_false, false_from_ne_true, lt-ltb, le-ltb}
 use Rattle.std.proofs.lemmas.List.{get_or_past, get_or-set_same, get_or-set_other}
 use Rattle.clause_learning.specs.declared.queue.VariableQueue.{VariableQueue}
 use Rattle.clause_learning.specs.declared.tournament.Rank.{Rank}

@@ -1,11 +1,10 @@
 -- What comes first, and how the nodes of a tournament are played again.
-use Rattle.std.proofs.Common.{◌≡◌, ◌∙◌, ℕ, zero, suc, ◌+◌, ◌-◌, ◌*◌, ◌/◌, ◌%◌, ◌^◌, ◌<◌, ◌≤◌, ◌==◌, Bool, true, false, not, cond, List, length}
+use Rattle.std.proofs.Common.{◌≡◌, ◌∙◌, ℕ, zero, suc, ◌+◌, ◌-◌, ◌*◌, ◌/◌, ◌%◌, ◌<◌, ◌≤◌, Bool, true, false, cond, List}
 use Rattle.std.proofs.Common.{refl, sym, ap, ap₂, subst, arith, inl, inr, nat_lt}
-use Rattle.std.specs.Prelude.{◌⊎◌}
-use Rattle.std.proofs.lemmas.Bool.{false≢true, cases_eq, cases_lt, eq-eqb, ne_eqb, lt-ltb, le-ltb, ltb-true, ltb-false, cases_Bool, cases_order}
+use Rattle.std.proofs.lemmas.Bool.{false≢true, cases_eq, cases_lt, eq-eqb, ne_eqb, lt-ltb, le-ltb, ltb-true, ltb-false, cases_order}
 use Rattle.clause_learning.specs.declared.tournament.Rank.{Rank}
 use Rattle.clause_learning.specs.declared.tournament.Tournament.{Tournament}
-use Rattle.clause_learning.specs.Tournaments.{IsTournament, IsWon, is_before, winner, rank_at, weight}
+use Rattle.clause_learning.specs.Tournaments.{IsTournament, IsWon, is_before, winner, rank_at}
 
 -- ---- the order
 

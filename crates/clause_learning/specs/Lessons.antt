@@ -12,7 +12,7 @@ use Rattle.refutation_check.specs.declared.steps.Log.{Log}
 use Rattle.refutation_check.specs.Checking.{numbered_from, refused_hint}
 use Rattle.clause_learning.specs.declared.journal.Journal.{Journal}
 use Rattle.clause_learning.specs.Levels.{IsSetAt}
-use Rattle.clause_learning.specs.Shelves.{log_hints}
+use Rattle.clause_learning.specs.Shelves.{numbers_of, log_hints}
 
 -- One literal of the clause is false at the present level. The others are false at lower levels, the largest of
 -- which is the level to go back to; that is 0 where there are no others.
@@ -55,10 +55,9 @@ pub record HasLearnt (anew steps : Bool) (old : TrailState) (journal : Journal) 
   pub lesson : IsLesson old clause hints back
   pub trail_is : new ≡ with_clause (undone old (level_after anew steps back old.level)) clause
   pub steps_are : after.steps.items
-      ≡ journal.steps.items ++ learnt_step journal.next clause (log_hints journal.shelf.numbers.items hints) ∷ []
+      ≡ journal.steps.items ++ learnt_step journal.next clause (log_hints (numbers_of journal.shelf) hints) ∷ []
   pub next_is : after.next ≡ journal.next + 1
-  pub numbers_are : after.shelf.numbers.items ≡ journal.shelf.numbers.items ++ journal.next ∷ []
-  pub one_use_each : length after.shelf.uses.items ≡ length after.shelf.numbers.items
+  pub numbers_are : numbers_of after.shelf ≡ numbers_of journal.shelf ++ journal.next ∷ []
 
 -- a log of the steps and of one more with the empty clause, which hints show behind these clauses
 pub record IsRefutingLog (clauses : List (List Lit)) (journal : Journal) (log : Log) : Type 0 where
@@ -66,4 +65,4 @@ pub record IsRefutingLog (clauses : List (List Lit)) (journal : Journal) (log : 
   pub shown : refused_hint (numbered_from 1 clauses) [] 1 hints ≡ None
   pub few_hints : length hints + 1 < 2 ^ 32
   pub named : AreHints (length clauses) hints
-  pub steps_are : log.steps ≡ journal.steps.items ++ learnt_step journal.next [] (log_hints journal.shelf.numbers.items hints) ∷ []
+  pub steps_are : log.steps ≡ journal.steps.items ++ learnt_step journal.next [] (log_hints (numbers_of journal.shelf) hints) ∷ []

@@ -1,10 +1,15 @@
 -- Internal to the solver: no clause of a public function of `sat_core` uses these words.
 -- The clauses on a trail by their numbers in the log. A trail may lack clauses that the log has.
-use Rattle.std.specs.Prelude.{◌≡◌, ◌⊎◌, ℕ, ◌+◌, ◌-◌, ◌<◌, ◌≤◌, Bool, true, List, ◌++◌, map, length, Some, slice_get, slice_index_or, All, Contains}
+use Rattle.std.specs.Prelude.{◌≡◌, ◌⊎◌, ℕ, ◌-◌, ◌≤◌, Bool, true, List, ◌++◌, map, length, Some, slice_get, slice_index_or, All, Contains}
 use Rattle.clause_core.specs.Literals.{Lit}
 use Rattle.sat_trail.specs.States.{TrailState, started}
+use Rattle.sequence.specs.Numbers.{numbers_from}
 use Rattle.clause_learning.specs.declared.journal.Journal.{Journal}
 use Rattle.clause_learning.specs.declared.shelves.Shelf.{Shelf}
+
+-- The numbers in the log of the clauses on a trail, in their order. Those of the formula stand first, and have the numbers from 1 on.
+abbrev pub numbers_of : Shelf → List ℕ
+numbers_of shelf = numbers_from 1 shelf.formula ++ map (λ learnt. learnt.number) shelf.learnt.items
 
 -- the number in the log of the clause that a hint names on the trail
 abbrev pub log_number : List ℕ → ℕ → ℕ
@@ -21,19 +26,16 @@ pub record AreLogNumbers (known clauses : List (List Lit)) (numbers : List ℕ) 
       (1 ≤ number) × (number ≤ length known) × (slice_get known (number - 1) ≡ slice_get clauses place)
 
 -- the numbers of the first clauses: from 1 on, one after another
-pub record AreFirst (count : ℕ) (shelf : Shelf) : Type 0 where
-  pub one_number_each : length shelf.numbers.items ≡ count
-  pub one_use_each : length shelf.uses.items ≡ count
-  pub upward : (place : ℕ) → place < count → slice_get shelf.numbers.items place ≡ Some (place + 1)
+abbrev pub AreFirst : ℕ → Shelf → Type 0
+AreFirst count shelf = numbers_of shelf ≡ numbers_from 1 count
 
 -- So many clauses of a trail were looked at. Those of the formula are kept, and these others, with their numbers.
 pub record AreShelved (formula clauses : List (List Lit)) (numbers : List ℕ) (looked : ℕ) (others : List (List Lit)) (shelf : Shelf) :
     Type 0 where
   pub stood : All (Contains clauses) others
   pub fewer : length (formula ++ others) ≤ looked
-  pub one_use_each : length shelf.uses.items ≡ length (formula ++ others)
   pub named : (later : List (List Lit)) → AreLogNumbers (formula ++ later) clauses numbers →
-      AreLogNumbers (formula ++ later) (formula ++ others) shelf.numbers.items
+      AreLogNumbers (formula ++ later) (formula ++ others) (numbers_of shelf)
 
 -- a trail begins with the clauses of the formula and some of the others that stood on the old one
 pub record BeginsAnew (variables : ℕ) (formula : List (List Lit)) (old : TrailState) (numbers : List ℕ) (new : TrailState) (shelf : Shelf) :
@@ -45,4 +47,4 @@ pub record BeginsAnew (variables : ℕ) (formula : List (List Lit)) (old : Trail
 -- the trail stays as it is, or where it may be shortened it begins anew; the steps stay
 abbrev pub IsShortened : Bool → ℕ → List (List Lit) → TrailState → Journal → TrailState → Journal → Type 0
 IsShortened wanted variables formula old journal new after = ((new ≡ old) × (after ≡ journal))
-    ⊎ ((wanted ≡ true) × BeginsAnew variables formula old journal.shelf.numbers.items new after.shelf)
+    ⊎ ((wanted ≡ true) × BeginsAnew variables formula old (numbers_of journal.shelf) new after.shelf)

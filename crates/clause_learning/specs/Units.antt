@@ -8,7 +8,7 @@ use Rattle.clause_learning.specs.declared.journal.Journal.{Journal}
 use Rattle.clause_learning.specs.declared.units.Units.{Units}
 use Rattle.clause_learning.specs.Hints.{AreHints}
 use Rattle.clause_learning.specs.Lessons.{learnt_step}
-use Rattle.clause_learning.specs.Shelves.{log_hints}
+use Rattle.clause_learning.specs.Shelves.{numbers_of, log_hints}
 
 -- there is a place for each variable, and clauses of the trail alone are named
 pub record AreUnits (t : TrailState) (units : Units) : Type 0 where
@@ -39,10 +39,9 @@ pub record HasNoted (old : TrailState) (journal : Journal) (new : TrailState) (a
   pub sound : IsSound new
   pub trail_is : new ≡ with_clause old (literal ∷ [])
   pub steps_are : after.steps.items
-      ≡ journal.steps.items ++ learnt_step journal.next (literal ∷ []) (log_hints journal.shelf.numbers.items hints) ∷ []
+      ≡ journal.steps.items ++ learnt_step journal.next (literal ∷ []) (log_hints (numbers_of journal.shelf) hints) ∷ []
   pub next_is : after.next ≡ journal.next + 1
-  pub numbers_are : after.shelf.numbers.items ≡ journal.shelf.numbers.items ++ journal.next ∷ []
-  pub one_use_each : length after.shelf.uses.items ≡ length after.shelf.numbers.items
+  pub numbers_are : numbers_of after.shelf ≡ numbers_of journal.shelf ++ journal.next ∷ []
 
 -- so many clauses are added, one after another
 pub data HaveNoted : ℕ → TrailState → Journal → TrailState → Journal → Type 0 where

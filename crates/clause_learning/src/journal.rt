@@ -3,7 +3,7 @@
 ghost use Rattle.std.specs.Prelude.{◌≡◌, ◌+◌, ◌<◌, ◌^◌, ◌++◌, ◌∷◌, [], length, OnOk, IfOk};
 ghost use Rattle.clause_learning.specs.Hints.{AreHints};
 ghost use Rattle.clause_learning.specs.Lessons.{learnt_step};
-ghost use Rattle.clause_learning.specs.Shelves.{log_hints, AreFirst};
+ghost use Rattle.clause_learning.specs.Shelves.{numbers_of, log_hints, AreFirst};
 
 use crate::shelves::{Shelf, first_use};
 use clause_core::Clause;
@@ -23,17 +23,17 @@ pub struct Journal {
 }
 
 impl Journal {
-    /// No step was taken behind so many clauses. An `Err` says that memory ran out.
-    pub fn new(alloc: Global, count: u32) -> Result<Journal, NoMemory>
-        ensures steps { IfOk result (λ journal. journal.steps.items ≡ []) }
-        ensures next { IfOk result (λ journal. journal.next ≡ count + 1) }
-        ensures shelf { IfOk result (λ journal. AreFirst count journal.shelf) }
+    /// No step was taken behind so many clauses.
+    pub fn new(alloc: Global, count: u32) -> Journal
+        ensures steps { result.steps.items ≡ [] }
+        ensures next { result.next ≡ count + 1 }
+        ensures shelf { AreFirst count result.shelf }
     {
-        Ok(Journal {
+        Journal {
             steps: Vec::new(alloc),
             next: u64::from(count) + 1,
-            shelf: Shelf::new(alloc, count)?,
-        })
+            shelf: Shelf::new(alloc, count),
+        }
     }
 
     /// How many steps were taken.
@@ -46,14 +46,13 @@ impl Journal {
     /// Takes the next step: the clause, by hints that name clauses on the trail, to which it is about to
     /// be added. An `Err` says that memory ran out.
     pub fn add(&mut self, alloc: Global, clause: Clause, hints: &[u64]) -> Result<(), NoMemory>
-        requires few { self.old.next + 1 < 2 ^ 64 }
-        requires uses { length self.old.shelf.uses.items ≡ length self.old.shelf.numbers.items }
-        requires named { AreHints (length self.old.shelf.numbers.items) hints.now }
+        requires next { self.old.next + 1 < 2 ^ 64 }
+        requires few { length (numbers_of self.old.shelf) < 2 ^ 32 }
+        requires named { AreHints (length (numbers_of self.old.shelf)) hints.now }
         ensures steps { OnOk result (self.new.steps.items
-            ≡ self.old.steps.items ++ learnt_step self.old.next clause (log_hints self.old.shelf.numbers.items hints.now) ∷ []) }
+            ≡ self.old.steps.items ++ learnt_step self.old.next clause (log_hints (numbers_of self.old.shelf) hints.now) ∷ []) }
         ensures next { OnOk result (self.new.next ≡ self.old.next + 1) }
-        ensures numbers { OnOk result (self.new.shelf.numbers.items ≡ self.old.shelf.numbers.items ++ self.old.next ∷ []) }
-        ensures uses { OnOk result (length self.new.shelf.uses.items ≡ length self.new.shelf.numbers.items) }
+        ensures numbers { OnOk result (numbers_of self.new.shelf ≡ numbers_of self.old.shelf ++ self.old.next ∷ []) }
     {
         let now = self.len();
         let hints = self.shelf.log_hints(alloc, hints, now)?;

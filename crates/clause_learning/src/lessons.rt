@@ -4,6 +4,7 @@ ghost use Rattle.std.specs.Prelude.{◌≡◌, ◌+◌, ◌<◌, ◌^◌, false,
 ghost use Rattle.sat_trail.specs.States.{IsSound, IsFalseAt};
 ghost use Rattle.clause_learning.specs.Levels.{AreNoneFalseBelow};
 ghost use Rattle.clause_learning.specs.Lessons.{IsLesson, HasLearnt, IsRefutingLog, level_after};
+ghost use Rattle.clause_learning.specs.Shelves.{numbers_of};
 ghost use Rattle.clause_learning.specs.ConflictWalks.{AreNoMarks};
 ghost use Rattle.clause_learning.specs.Decisions.{AreDecisions};
 ghost use Rattle.clause_learning.specs.Units.{AreUnits};
@@ -53,8 +54,7 @@ pub fn learn(
     requires units { AreUnits trail.old units.now }
     requires decisions { AreDecisions trail.old.variables trail.old.entries decisions.old }
     requires next { journal.old.next + 1 < 2 ^ 64 }
-    requires numbers { length journal.old.shelf.numbers.items ≡ length trail.old.clauses }
-    requires uses { length journal.old.shelf.uses.items ≡ length trail.old.clauses }
+    requires numbers { length (numbers_of journal.old.shelf) ≡ length trail.old.clauses }
     ensures learnt { OnOk result (HasLearnt anew steps trail.old journal.old trail.new journal.new) }
     ensures sound { OnOk result (IsSound trail.new) }
     ensures marks { OnOk result (AreNoMarks trail.new.variables walk.new.marks) }
@@ -104,8 +104,7 @@ pub fn refute(
     requires marks { AreNoMarks trail.now.variables walk.old.marks }
     requires units { AreUnits trail.now units.now }
     requires next { journal.next + 1 < 2 ^ 64 }
-    requires numbers { length journal.shelf.numbers.items ≡ length trail.now.clauses }
-    requires uses { length journal.shelf.uses.items ≡ length trail.now.clauses }
+    requires numbers { length (numbers_of journal.shelf) ≡ length trail.now.clauses }
     ensures { IfOk result (IsRefutingLog trail.now.clauses journal) }
 {
     let lesson = lesson_of(alloc, trail, units, walk, conflict)?;

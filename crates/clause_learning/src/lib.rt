@@ -35,6 +35,6 @@ pub use lessons::{learn, refute};
 pub use marks::Marks;
 pub use queue::VariableQueue;
 pub use restarts::Restarts;
-pub use shelves::{Kept, Shelf};
+pub use shelves::{ClauseUse, Kept, Shelf};
 pub use units::Units;
 pub use walks::Walk;

@@ -4,7 +4,7 @@ ghost use Rattle.std.specs.Prelude.{◌≡◌, ℕ, ◌+◌, ◌<◌, ◌≤◌,
 ghost use Rattle.clause_core.specs.Literals.{Lit};
 ghost use Rattle.sat_trail.specs.States.{TrailState, IsSound};
 ghost use Rattle.clause_learning.specs.Hints.{AreHints};
-ghost use Rattle.clause_learning.specs.Shelves.{log_hints, AreFirst, AreShelved};
+ghost use Rattle.clause_learning.specs.Shelves.{numbers_of, log_hints, AreFirst, AreShelved};
 
 use clause_core::{Clause, clause_of};
 use sat_trail::Trail;
@@ -14,14 +14,23 @@ use std::alloc::Global;
 /// The most literals of a learnt clause that always stays on the trail.
 const SHORT: usize = 2;
 
-/// Of each clause on a trail its number in the log, and when it was last used: how many clauses were
+/// A clause behind those of the formula: its number in the log, and when it was last used, which is how many clauses were
 /// learnt before, or the largest number if it always stays.
+#[derive(Clone, Copy)]
+pub struct ClauseUse {
+    /// The number in the log.
+    pub number: u64,
+    /// When the clause was used.
+    pub used: u64,
+}
+
+/// The clauses on a trail. Those of the formula stand first: they have the numbers from 1 on, and always stay.
 #[derive(Drop)]
 pub struct Shelf {
-    /// The numbers.
-    pub numbers: Vec<u64>,
-    /// When the clauses were used.
-    pub uses: Vec<u64>,
+    /// How many clauses the formula has.
+    pub formula: u32,
+    /// The clauses behind them.
+    pub learnt: Vec<ClauseUse>,
 }
 
 /// What is kept of a trail beside the clauses of the formula.
@@ -29,33 +38,70 @@ pub struct Shelf {
 pub struct Kept {
     /// The learnt clauses.
     pub learnt: Vec<Clause>,
-    /// The numbers and uses of the formula's clauses and of these.
+    /// The numbers of the formula's clauses, and the numbers and uses of these.
     pub shelf: Shelf,
 }
 
 impl Shelf {
-    /// That of the first clauses of the log, which always stay. An `Err` says that memory ran out.
-    pub fn new(alloc: Global, count: u32) -> Result<Shelf, NoMemory>
-        ensures { IfOk result (AreFirst count) }
+    /// That of the first clauses of the log, which always stay.
+    pub fn new(alloc: Global, count: u32) -> Shelf
+        ensures { AreFirst count result }
     {
-        let mut numbers = Vec::with_capacity(alloc, count as usize)?;
-        for place in 0..count {
-            numbers.push(u64::from(place) + 1)?;
+        Shelf {
+            formula: count,
+            learnt: Vec::new(alloc),
         }
-        Ok(Shelf {
-            numbers,
-            uses: vec![in alloc; u64::MAX; count as usize]?,
-        })
+    }
+
+    /// How many clauses there are.
+    pub fn len(&self) -> u32
+        requires { length (numbers_of self.now) < 2 ^ 32 }
+        ensures { result ≡ length (numbers_of self.now) }
+    {
+        self.formula + self.learnt.len() as u32
     }
 
     /// Puts a clause of the log at the end. An `Err` says that memory ran out.
     pub fn add(&mut self, number: u64, used: u64) -> Result<(), NoMemory>
-        ensures numbers { OnOk result (self.new.numbers.items ≡ self.old.numbers.items ++ number ∷ []) }
-        ensures uses { OnOk result (length self.new.uses.items ≡ length self.old.uses.items + 1) }
+        ensures { OnOk result (numbers_of self.new ≡ numbers_of self.old ++ number ∷ []) }
     {
-        self.numbers.push(number)?;
-        self.uses.push(used)?;
+        self.learnt.push(ClauseUse { number, used })?;
         Ok(())
+    }
+
+    /// The number in the log of the clause at a place.
+    fn number_at(&self, place: u32) -> u64
+        requires { place < length (numbers_of self.now) }
+        ensures { result ≡ slice_index_or (numbers_of self.now) place 0 }
+    {
+        if place < self.formula {
+            u64::from(place) + 1
+        } else {
+            self.learnt[(place - self.formula) as usize].number
+        }
+    }
+
+    /// When the clause at a place was used.
+    fn used_at(&self, place: u32) -> u64
+        requires { place < length (numbers_of self.now) }
+    {
+        if place < self.formula {
+            u64::MAX
+        } else {
+            self.learnt[(place - self.formula) as usize].used
+        }
+    }
+
+    /// Notes that the clause at a place is used now.
+    fn note_use(&mut self, place: u32, now: u64)
+        requires { place < length (numbers_of self.old) }
+        ensures { numbers_of self.new ≡ numbers_of self.old }
+    {
+        if place < self.formula {
+            return;
+        }
+        let learnt = &mut self.learnt[(place - self.formula) as usize];
+        learnt.used = learnt.used.max(now);
     }
 
     /// Hints of the log in place of hints that name clauses on the trail, which are used now. An `Err`
@@ -66,33 +112,22 @@ impl Shelf {
         hints: &[u64],
         now: u64,
     ) -> Result<Vec<u64>, NoMemory>
-        requires uses { length self.old.uses.items ≡ length self.old.numbers.items }
-        requires named { AreHints (length self.old.numbers.items) hints.now }
-        ensures hints { IfOk result (λ named. named.items ≡ log_hints self.old.numbers.items hints.now) }
-        ensures numbers { self.new.numbers ≡ self.old.numbers }
-        ensures uses { length self.new.uses.items ≡ length self.old.uses.items }
+        requires few { length (numbers_of self.old) < 2 ^ 32 }
+        requires named { AreHints (length (numbers_of self.old)) hints.now }
+        ensures hints { IfOk result (λ named. named.items ≡ log_hints (numbers_of self.old) hints.now) }
+        ensures numbers { numbers_of self.new ≡ numbers_of self.old }
     {
         let mut named = Vec::with_capacity(alloc, hints.len())?;
         for hint in hints {
-            named.push(self.take_up(*hint as usize - 1, now))?;
+            let place = (*hint - 1) as u32;
+            self.note_use(place, now);
+            named.push(self.number_at(place))?;
         }
         Ok(named)
     }
 
-    /// The number in the log of the clause at a place, which is used now.
-    fn take_up(&mut self, place: usize, now: u64) -> u64
-        requires uses { length self.old.uses.items ≡ length self.old.numbers.items }
-        requires within { place < length self.old.numbers.items }
-        ensures number { result ≡ slice_index_or self.old.numbers.items place 0 }
-        ensures numbers { self.new.numbers ≡ self.old.numbers }
-        ensures uses { length self.new.uses.items ≡ length self.old.uses.items }
-    {
-        self.uses[place] = self.uses[place].max(now);
-        self.numbers[place]
-    }
-
-    /// The learnt clauses on the trail that were used from then on, and the numbers and uses of the formula's clauses
-    /// and of these. An `Err` says that memory ran out.
+    /// The learnt clauses on the trail that were used from then on, with the numbers of the formula's clauses and of
+    /// these. An `Err` says that memory ran out.
     pub fn kept(
         &self,
         alloc: Global,
@@ -103,46 +138,43 @@ impl Shelf {
         requires usable { trail.now.broken ≡ false }
         requires few { length trail.now.clauses < 2 ^ 32 }
         requires formula { length formula.now ≤ length trail.now.clauses }
-        requires numbers { length self.now.numbers.items ≡ length trail.now.clauses }
-        requires uses { length self.now.uses.items ≡ length trail.now.clauses }
-        ensures { IfOk result (λ kept. AreShelved formula.now trail.now.clauses self.now.numbers.items (length trail.now.clauses)
+        requires numbers { length (numbers_of self.now) ≡ length trail.now.clauses }
+        ensures { IfOk result (λ kept. AreShelved formula.now trail.now.clauses (numbers_of self.now) (length trail.now.clauses)
             kept.learnt.items kept.shelf) }
     {
-        let shelf = Shelf::new(alloc, formula.len() as u32)?;
         let mut kept = Kept {
             learnt: Vec::new(alloc),
-            shelf,
+            shelf: Shelf::new(alloc, formula.len() as u32),
         };
-        for place in formula.len()..self.numbers.len() {
+        for place in formula.len() as u32..self.len() {
             self.pass(alloc, trail, place, from, &mut kept)?;
         }
         Ok(kept)
     }
 
-    /// Keeps the learnt clause at a place, if it was used from then on. An `Err` says that memory ran out.
+    /// Keeps the clause at a place, if it was used from then on. An `Err` says that memory ran out.
     fn pass(
         &self,
         alloc: Global,
         trail: &Trail<'_>,
-        place: usize,
+        place: u32,
         from: u64,
         kept: &mut Kept,
     ) -> Result<(), NoMemory>
         requires usable { trail.now.broken ≡ false }
-        requires few { length trail.now.clauses < 2 ^ 32 }
         requires within { place < length trail.now.clauses }
-        requires numbers { length self.now.numbers.items ≡ length trail.now.clauses }
-        requires uses { length self.now.uses.items ≡ length trail.now.clauses }
+        requires numbers { length (numbers_of self.now) ≡ length trail.now.clauses }
         ensures { (formula : List (List Lit)) →
-            AreShelved formula trail.now.clauses self.now.numbers.items place kept.old.learnt.items kept.old.shelf →
-            OnOk result (AreShelved formula trail.now.clauses self.now.numbers.items (place + 1) kept.new.learnt.items kept.new.shelf) }
+            AreShelved formula trail.now.clauses (numbers_of self.now) place kept.old.learnt.items kept.old.shelf →
+            OnOk result (AreShelved formula trail.now.clauses (numbers_of self.now) (place + 1) kept.new.learnt.items kept.new.shelf) }
     {
-        if self.uses[place] < from {
+        let used = self.used_at(place);
+        if used < from {
             return Ok(());
         }
-        let clause = clause_of(alloc, trail.clause(place as u32).literals())?;
+        let clause = clause_of(alloc, trail.clause(place).literals())?;
         kept.learnt.push(clause)?;
-        kept.shelf.add(self.numbers[place], self.uses[place])
+        kept.shelf.add(self.number_at(place), used)
     }
 }
 

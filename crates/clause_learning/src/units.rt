@@ -3,6 +3,7 @@
 ghost use Rattle.std.specs.Prelude.{◌≡◌, ◌↔◌, ◌&&◌, ◌+◌, ◌-◌, ◌<◌, ◌≤◌, ◌^◌, ◌∷◌, [], ℕ, List, false, true, length, max, nat_lt, Some, None, slice_get, IsTrue, IfOk, IfSome, OnOk};
 ghost use Rattle.clause_core.specs.Literals.{Lit, has};
 ghost use Rattle.sat_trail.specs.States.{TrailState, IsSound};
+ghost use Rattle.clause_learning.specs.Shelves.{numbers_of};
 ghost use Rattle.clause_learning.specs.Units.{AreUnits, ShowAlone, AddsHint, HasNoted, HaveNoted, MayHaveNoted};
 
 use crate::journal::Journal;
@@ -113,8 +114,7 @@ impl Units {
         requires added { self.old.added ≤ self.old.most }
         requires few { length trail.old.clauses + (self.old.most - self.old.added) + 1 < 2 ^ 32 }
         requires next { journal.old.next + self.old.most + 1 < 2 ^ 64 }
-        requires numbers { length journal.old.shelf.numbers.items ≡ length trail.old.clauses }
-        requires uses { length journal.old.shelf.uses.items ≡ length trail.old.clauses }
+        requires numbers { length (numbers_of journal.old.shelf) ≡ length trail.old.clauses }
         ensures noted { OnOk result ((count : ℕ) × HaveNoted count trail.old journal.old trail.new journal.new × (self.new.added ≡ self.old.added + count)) }
         ensures units { OnOk result (AreUnits trail.new self.new) }
         ensures added { self.new.added ≤ self.new.most }
@@ -146,8 +146,7 @@ impl Units {
         requires added { self.old.added ≤ self.old.most }
         requires few { length trail.old.clauses + (self.old.most - self.old.added) + 1 < 2 ^ 32 }
         requires next { journal.old.next + (self.old.most - self.old.added) + 1 < 2 ^ 64 }
-        requires numbers { length journal.old.shelf.numbers.items ≡ length trail.old.clauses }
-        requires uses { length journal.old.shelf.uses.items ≡ length trail.old.clauses }
+        requires numbers { length (numbers_of journal.old.shelf) ≡ length trail.old.clauses }
         ensures noted { OnOk result (MayHaveNoted trail.old journal.old self.old trail.new journal.new self.new) }
         ensures units { OnOk result (AreUnits trail.new self.new) }
         ensures added { self.new.added ≤ self.new.most }
@@ -251,8 +250,7 @@ impl Units {
         requires room { self.old.added < self.old.most }
         requires few { length trail.old.clauses + 1 < 2 ^ 32 }
         requires next { journal.old.next + 1 < 2 ^ 64 }
-        requires numbers { length journal.old.shelf.numbers.items ≡ length trail.old.clauses }
-        requires uses { length journal.old.shelf.uses.items ≡ length trail.old.clauses }
+        requires numbers { length (numbers_of journal.old.shelf) ≡ length trail.old.clauses }
         ensures noted { OnOk result (HasNoted trail.old journal.old trail.new journal.new) }
         ensures units { OnOk result (AreUnits trail.new self.new) }
         ensures added { OnOk result (self.new.added ≡ self.old.added + 1) }

@@ -17,7 +17,7 @@ use Rattle.clause_learning.specs.declared.choices.Decisions.{Decisions}
 use Rattle.clause_learning.specs.declared.marks.Marks.{Marks}
 use Rattle.clause_learning.specs.Decisions.{AreDecisions}
 use Rattle.clause_learning.specs.ConflictWalks.{AreNoMarks}
-use Rattle.clause_learning.specs.Shelves.{log_hints}
+use Rattle.clause_learning.specs.Shelves.{numbers_of, log_hints}
 use Rattle.clause_learning.specs.Lessons.{learnt_step}
 use Rattle.clause_learning.specs.Units.{AreUnits, HasNoted, HaveNoted, HasPropagated}
 use Rattle.clause_learning.specs.Units.HaveNoted.{none, more}
@@ -26,9 +26,8 @@ use Rattle.clause_learning.proofs.Deciding.{decisions_grown}
 
 -- a search with its log, whose steps have the next numbers
 pub record IsLogged (shortens : Bool) (variables : ℕ) (clauses : List (List Lit)) (t : TrailState) (journal : Journal) : Type 0 where
-  pub search : IsSearch shortens variables clauses t journal.steps.items journal.shelf.numbers.items
+  pub search : IsSearch shortens variables clauses t journal.steps.items (numbers_of journal.shelf)
   pub next : journal.next ≡ length clauses + length journal.steps.items + 1
-  pub uses : length journal.shelf.uses.items ≡ length t.clauses
 
 one_no_pair : (l : Lit) → has_pair (l ∷ []) ≡ false
 one_no_pair l = ap (λ (b : Bool). b || false) (false_from_ne_true (has (l ∷ []) (negation l))
@@ -41,7 +40,6 @@ module _ (variables : ℕ) (clauses : List (List Lit)) (shortens : Bool) (is : s
     record {
       search = search;
       next = omega (arith, logged.next, noted.next_is, count);
-      uses = noted.one_use_each ∙ search.named.one_each;
     },
     count,
   )
@@ -50,23 +48,23 @@ module _ (variables : ℕ) (clauses : List (List Lit)) (shortens : Bool) (is : s
       clause = noted.literal ∷ []
 
       step : Step
-      step = learnt_step journal.next clause (log_hints journal.shelf.numbers.items noted.hints)
+      step = learnt_step journal.next clause (log_hints (numbers_of journal.shelf) noted.hints)
 
       count : length after.steps.items ≡ length journal.steps.items + 1
       count = ap (λ (ss : List Step). length ss) noted.steps_are ∙ length_push journal.steps.items step
 
       one_more : IsSearch shortens variables clauses (with_clause t clause) (journal.steps.items ++ step ∷ [])
-          (journal.shelf.numbers.items ++ journal.next ∷ [])
-      one_more = search_more shortens variables clauses t journal.steps.items journal.shelf.numbers.items journal.next logged.search
+          (numbers_of journal.shelf ++ journal.next ∷ [])
+      one_more = search_more shortens variables clauses t journal.steps.items (numbers_of journal.shelf) journal.next logged.search
           logged.next clause noted.hints (All-push (λ (l : Lit). l.index < t.variables) [] noted.literal
           (All-nil (λ (l : Lit). l.index < t.variables)) noted.over) (one_no_pair noted.literal) noted.shown noted.few_hints noted.named
           (tt, tt) t.entries t.level (subst IsSound noted.trail_is noted.sound) (λ none. absurd (true≢false (sym is ∙ none)))
           (λ level below. absurd (omega (arith, noted.start)))
 
-      search : IsSearch shortens variables clauses u after.steps.items after.shelf.numbers.items
-      search = subst (λ (s : TrailState). IsSearch shortens variables clauses s after.steps.items after.shelf.numbers.items)
+      search : IsSearch shortens variables clauses u after.steps.items (numbers_of after.shelf)
+      search = subst (λ (s : TrailState). IsSearch shortens variables clauses s after.steps.items (numbers_of after.shelf))
           (sym noted.trail_is) (subst (λ (ss : List Step). IsSearch shortens variables clauses (with_clause t clause) ss
-          after.shelf.numbers.items) (sym noted.steps_are) (subst (λ (ns : List ℕ). IsSearch shortens variables clauses
+          (numbers_of after.shelf)) (sym noted.steps_are) (subst (λ (ns : List ℕ). IsSearch shortens variables clauses
           (with_clause t clause) (journal.steps.items ++ step ∷ []) ns) (sym noted.numbers_are) one_more))
 
   pub search_have_noted : (count : ℕ) (t u : TrailState) (journal after : Journal) → IsLogged shortens variables clauses t journal →
@@ -118,10 +116,9 @@ module _ (count : ℕ) (t u : TrailState) (journal after : Journal) (has_propaga
       (logged : IsLogged shortens variables clauses t journal) where
     first_logged : IsLogged shortens variables clauses found journal
     first_logged = record {
-      search = search_propagated shortens variables clauses t found journal.steps.items journal.shelf.numbers.items logged.search
+      search = search_propagated shortens variables clauses t found journal.steps.items (numbers_of journal.shelf) logged.search
           has_propagated.first has_propagated.first_sound;
       next = logged.next;
-      uses = logged.uses ∙ sym (ap (λ (s : TrailState). length s.clauses) has_propagated.first.rest_stays);
     }
 
     noted_logged : IsLogged shortens variables clauses noted after × (length after.steps.items ≡ length journal.steps.items + count)
@@ -134,10 +131,9 @@ module _ (count : ℕ) (t u : TrailState) (journal after : Journal) (has_propaga
         × (length after.steps.items ≡ length journal.steps.items + count)
     search_propagates = (
       record {
-        search = search_propagated shortens variables clauses noted u after.steps.items after.shelf.numbers.items noted_logged.0.search
+        search = search_propagated shortens variables clauses noted u after.steps.items (numbers_of after.shelf) noted_logged.0.search
             has_propagated.last sound;
         next = noted_logged.0.next;
-        uses = noted_logged.0.uses ∙ sym (ap (λ (s : TrailState). length s.clauses) has_propagated.last.rest_stays);
       },
       noted_logged.1,
     )

@@ -12,7 +12,7 @@ use Rattle.std.proofs.lemmas.List.Elements.{All-push, All-nil, recursion_from_Al
 use Rattle.std.proofs.lemmas.List.Elements.{Contains-append_left}
 use Rattle.clause_learning.specs.declared.journal.Journal.{Journal}
 use Rattle.clause_learning.specs.declared.shelves.Shelf.{Shelf}
-use Rattle.clause_learning.specs.Shelves.{log_number, log_hints, AreLogNumbers, AreFirst, BeginsAnew, IsShortened}
+use Rattle.clause_learning.specs.Shelves.{numbers_of, log_number, log_hints, AreLogNumbers, AreFirst, BeginsAnew, IsShortened}
 use Rattle.clause_learning.proofs.LogHints.{first_named, named_next, shown_in_log, hints_in_log}
 use Rattle.sat_core.specs.internal.Ends.{IsEnd, IsSearchAnswer}
 use Rattle.clause_learning.specs.Hints.{AreHints}
@@ -84,10 +84,10 @@ pub record IsSearch (shortens : Bool) (variables : ℕ) (clauses : List (List Li
 
 pub search_begins : (shortens : Bool) (variables : ℕ) (clauses : List (List Lit)) (t : TrailState) (steps : List Step) (shelf : Shelf) →
     t ≡ started variables clauses → IsSound t → steps ≡ [] → AreFirst (length clauses) shelf →
-    IsSearch shortens variables clauses t steps shelf.numbers.items
+    IsSearch shortens variables clauses t steps (numbers_of shelf)
 search_begins shortens variables clauses t steps shelf is sound none first =
-    subst (λ (ss : List Step). IsSearch shortens variables clauses t ss shelf.numbers.items) (sym none)
-    (subst (λ (s : TrailState). IsSearch shortens variables clauses s [] shelf.numbers.items) (sym is) (record {
+    subst (λ (ss : List Step). IsSearch shortens variables clauses t ss (numbers_of shelf)) (sym none)
+    (subst (λ (s : TrailState). IsSearch shortens variables clauses s [] (numbers_of shelf)) (sym is) (record {
       usable = refl;
       sound = subst IsSound is sound;
       same_variables = refl;
@@ -463,7 +463,7 @@ module _ (shortens : Bool) (variables : ℕ) (clauses : List (List Lit)) (t : Tr
   }
 
 module _ (shortens : Bool) (variables : ℕ) (clauses : List (List Lit)) (anew : Bool) (t u : TrailState) (journal after : Journal)
-    (search : IsSearch shortens variables clauses t journal.steps.items journal.shelf.numbers.items)
+    (search : IsSearch shortens variables clauses t journal.steps.items (numbers_of journal.shelf))
     (next_is : journal.next ≡ length clauses + length journal.steps.items + 1) (learnt : HasLearnt anew shortens t journal u after)
     (sound : IsSound u) (above : 0 < t.level) where
   abbrev clause : List Lit
@@ -479,7 +479,7 @@ module _ (shortens : Bool) (variables : ℕ) (clauses : List (List Lit)) (anew :
   taken = journal.steps.items
 
   abbrev names : List ℕ
-  names = journal.shelf.numbers.items
+  names = numbers_of journal.shelf
 
   abbrev target : ℕ
   target = level_after anew shortens back t.level
@@ -525,19 +525,19 @@ module _ (shortens : Bool) (variables : ℕ) (clauses : List (List Lit)) (anew :
             (omega (arith, below, target_low anew shortens all));
       }))
 
-  pub search_learnt : IsSearch shortens variables clauses u after.steps.items after.shelf.numbers.items
-  search_learnt = subst (λ (s : TrailState). IsSearch shortens variables clauses s after.steps.items after.shelf.numbers.items)
+  pub search_learnt : IsSearch shortens variables clauses u after.steps.items (numbers_of after.shelf)
+  search_learnt = subst (λ (s : TrailState). IsSearch shortens variables clauses s after.steps.items (numbers_of after.shelf))
       (sym learnt.trail_is) (subst (λ (ss : List Step). IsSearch shortens variables clauses (with_clause (undone t target) clause) ss
-      after.shelf.numbers.items) (sym learnt.steps_are) (subst (λ (ns : List ℕ). IsSearch shortens variables clauses
+      (numbers_of after.shelf)) (sym learnt.steps_are) (subst (λ (ns : List ℕ). IsSearch shortens variables clauses
       (with_clause (undone t target) clause) (taken ++ step ∷ []) ns) (sym learnt.numbers_are) one_more))
 
 -- ---- a trail that begins anew
 
 pub search_shortened : (variables : ℕ) (clauses : List (List Lit)) (shortens : Bool) (t u : TrailState) (steps : List Step)
     (numbers : List ℕ) (shelf : Shelf) → IsSearch shortens variables clauses t steps numbers → shortens ≡ true →
-    BeginsAnew variables clauses t numbers u shelf → IsSound u → IsSearch shortens variables clauses u steps shelf.numbers.items
+    BeginsAnew variables clauses t numbers u shelf → IsSound u → IsSearch shortens variables clauses u steps (numbers_of shelf)
 search_shortened variables clauses shortens t u steps numbers shelf search is begins sound =
-    subst (λ (s : TrailState). IsSearch shortens variables clauses s steps shelf.numbers.items) (sym begins.trail_is) (record {
+    subst (λ (s : TrailState). IsSearch shortens variables clauses s steps (numbers_of shelf)) (sym begins.trail_is) (record {
       usable = refl;
       sound = subst IsSound begins.trail_is sound;
       same_variables = refl;
@@ -555,26 +555,21 @@ search_shortened variables clauses shortens t u steps numbers shelf search is be
 
 -- the steps and the trail after a call that may shorten it
 pub search_stays : (shortens wanted : Bool) (variables : ℕ) (clauses : List (List Lit)) (t u : TrailState) (journal after : Journal) →
-    IsSearch shortens variables clauses t journal.steps.items journal.shelf.numbers.items →
-    length journal.shelf.uses.items ≡ length t.clauses → wanted ≡ shortens → IsSound u →
+    IsSearch shortens variables clauses t journal.steps.items (numbers_of journal.shelf) → wanted ≡ shortens → IsSound u →
     after ≡ record journal { shelf = after.shelf } → IsShortened wanted variables clauses t journal u after →
-    IsSearch shortens variables clauses u after.steps.items after.shelf.numbers.items × (length after.shelf.uses.items ≡ length u.clauses)
-search_stays shortens wanted variables clauses t u journal after search uses same sound rest (inl (here, all)) =
-    subst (λ (s : TrailState). IsSearch shortens variables clauses s after.steps.items after.shelf.numbers.items
-    × (length after.shelf.uses.items ≡ length s.clauses)) (sym here)
-    (subst (λ (j : Journal). IsSearch shortens variables clauses t j.steps.items j.shelf.numbers.items
-    × (length j.shelf.uses.items ≡ length t.clauses)) (sym all) (search, uses))
-search_stays shortens wanted variables clauses t u journal after search uses same sound rest (inr (is, begins)) = (
-  subst (λ (ss : List Step). IsSearch shortens variables clauses u ss after.shelf.numbers.items)
-      (sym (ap (λ (j : Journal). j.steps.items) rest)) (search_shortened variables clauses shortens t u journal.steps.items
-      journal.shelf.numbers.items after.shelf search (sym same ∙ is) begins sound),
-  begins.kept.one_use_each ∙ sym (ap (λ (s : TrailState). length s.clauses) begins.trail_is),
-)
+    IsSearch shortens variables clauses u after.steps.items (numbers_of after.shelf)
+search_stays shortens wanted variables clauses t u journal after search same sound rest (inl (here, all)) =
+    subst (λ (s : TrailState). IsSearch shortens variables clauses s after.steps.items (numbers_of after.shelf)) (sym here)
+    (subst (λ (j : Journal). IsSearch shortens variables clauses t j.steps.items (numbers_of j.shelf)) (sym all) search)
+search_stays shortens wanted variables clauses t u journal after search same sound rest (inr (is, begins)) =
+    subst (λ (ss : List Step). IsSearch shortens variables clauses u ss (numbers_of after.shelf))
+    (sym (ap (λ (j : Journal). j.steps.items) rest)) (search_shortened variables clauses shortens t u journal.steps.items
+    (numbers_of journal.shelf) after.shelf search (sym same ∙ is) begins sound)
 
 -- ---- the answers
 
 pub search_refuted : (shortens : Bool) (variables : ℕ) (clauses : List (List Lit)) (t : TrailState) (journal : Journal) (log : Log) →
-    IsSearch shortens variables clauses t journal.steps.items journal.shelf.numbers.items →
+    IsSearch shortens variables clauses t journal.steps.items (numbers_of journal.shelf) →
     journal.next ≡ length clauses + length journal.steps.items + 1 → IsRefutingLog t.clauses journal log →
     AreRefuting variables clauses log.steps
 search_refuted shortens variables clauses t journal log search next_is refuted =
@@ -591,7 +586,7 @@ search_refuted shortens variables clauses t journal log search next_is refuted =
     steps = journal.steps.items
 
     numbers : List ℕ
-    numbers = journal.shelf.numbers.items
+    numbers = numbers_of journal.shelf
 
     before : List (List Lit)
     before = known clauses steps
@@ -701,14 +696,14 @@ search_satisfied shortens variables clauses t found of_trail truths search over 
 }
 
 pub search_ended : (shortens : Bool) (variables : ℕ) (clauses : List (List Lit)) (t : TrailState) (journal : Journal) (budget : ℕ) →
-    IsSearch shortens variables clauses t journal.steps.items journal.shelf.numbers.items →
+    IsSearch shortens variables clauses t journal.steps.items (numbers_of journal.shelf) →
     journal.next ≡ length clauses + length journal.steps.items + 1 → (shortens ≡ false → length journal.steps.items ≡ budget) →
     (answer : Answer) → IsEnd t.clauses journal answer → IsSearchAnswer shortens variables clauses budget answer
 search_ended shortens variables clauses t journal budget search next_is spent (Sat assignment) end' = absurd end'
 search_ended shortens variables clauses t journal budget search next_is spent (Unsat log) end' =
     search_refuted shortens variables clauses t journal log search next_is end'
 search_ended shortens variables clauses t journal budget search next_is spent (Spent trace) end' = λ keeps.
-    search_spent shortens variables clauses t journal.steps.items journal.shelf.numbers.items budget trace search (spent keeps) end'.0
+    search_spent shortens variables clauses t journal.steps.items (numbers_of journal.shelf) budget trace search (spent keeps) end'.0
     end'.1 keeps
 
 -- ---- the measure

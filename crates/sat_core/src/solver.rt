@@ -9,7 +9,7 @@ ghost use Rattle.clause_learning.specs.Decisions.{AreDecisions};
 ghost use Rattle.sat_core.specs.internal.Ends.{IsEnd, IsSearchAnswer};
 ghost use Rattle.clause_learning.specs.Lessons.{clauses_of};
 ghost use Rattle.clause_learning.specs.ConflictWalks.{AreNoMarks};
-ghost use Rattle.clause_learning.specs.Shelves.{IsShortened};
+ghost use Rattle.clause_learning.specs.Shelves.{IsShortened, numbers_of};
 
 use crate::answers::Answer;
 use clause_core::{Clause, Cnf};
@@ -46,10 +46,8 @@ fn search(alloc: Global, cnf: &Cnf, budget: u64, shortens: bool) -> Result<Answe
     requires few { length cnf.now.clauses + budget < 2 ^ 32 - 1 }
     ensures { IfOk result (IsSearchAnswer shortens cnf.now.variables cnf.now.clauses budget) }
 {
-    let Ok(mut trail) = Trail::new(alloc, cnf) else {
-        return Err(NoMemory);
-    };
-    let mut journal = Journal::new(alloc, cnf.clauses.len() as u32)?;
+    let mut trail = Trail::with_learnt(alloc, cnf, Vec::new(alloc))?;
+    let mut journal = Journal::new(alloc, cnf.clauses.len() as u32);
     let mut walk = Walk::new(alloc, cnf.variables)?;
     let mut decisions = Decisions::new(alloc, cnf.variables)?;
     let mut units = Units::new(alloc, cnf.variables, most_units(cnf, budget, shortens))?;
@@ -123,8 +121,7 @@ fn propagate(
     requires added { units.old.added ≤ units.old.most }
     requires few { length trail.old.clauses + (units.old.most - units.old.added) + 1 < 2 ^ 32 }
     requires next { journal.old.next + units.old.most + 1 < 2 ^ 64 }
-    requires numbers { length journal.old.shelf.numbers.items ≡ length trail.old.clauses }
-    requires uses { length journal.old.shelf.uses.items ≡ length trail.old.clauses }
+    requires numbers { length (numbers_of journal.old.shelf) ≡ length trail.old.clauses }
     ensures propagated { OnOk result ((count : ℕ) × HasPropagated count trail.old journal.old trail.new journal.new × (units.new.added ≡ units.old.added + count)) }
     ensures ends { IfOk result (λ answer. EndsWith answer trail.new) }
     ensures units { OnOk result (AreUnits trail.new units.new) }
@@ -156,8 +153,7 @@ fn shortened<'f>(
     requires sound { IsSound trail }
     requires variables { cnf.now.variables ≡ trail.variables }
     requires formula { length cnf.now.clauses ≤ length trail.clauses }
-    requires numbers { length journal.old.shelf.numbers.items ≡ length trail.clauses }
-    requires uses { length journal.old.shelf.uses.items ≡ length trail.clauses }
+    requires numbers { length (numbers_of journal.old.shelf) ≡ length trail.clauses }
     requires units { AreUnits trail units.old }
     requires decisions { AreDecisions trail.variables trail.entries decisions.old }
     ensures trail { IfOk result (λ new. IsShortened drops.old.wanted cnf.now.variables cnf.now.clauses trail.entry journal.old new journal.new) }
@@ -178,9 +174,10 @@ fn shortened<'f>(
         .shelf
         .kept(alloc, cnf.clauses.as_slice(), &trail, from)?;
     let Kept { learnt, shelf } = kept;
+    let count = cnf.clauses.len() as u32 + learnt.len() as u32;
     let new = Trail::with_learnt(alloc, cnf, learnt)?;
     journal.shelf = shelf;
-    units.renew(&new, journal.shelf.uses.len() as u32);
+    units.renew(&new, count);
     Ok(new)
 }
 
@@ -197,8 +194,7 @@ fn end(
     requires marks { AreNoMarks trail.variables walk.marks }
     requires units { AreUnits trail units.now }
     requires next { journal.next + 1 < 2 ^ 64 }
-    requires numbers { length journal.shelf.numbers.items ≡ length trail.clauses }
-    requires uses { length journal.shelf.uses.items ≡ length trail.clauses }
+    requires numbers { length (numbers_of journal.shelf) ≡ length trail.clauses }
     ensures { IfOk result (IsEnd trail.entry.clauses journal) }
 {
     trail.undo_to(0);

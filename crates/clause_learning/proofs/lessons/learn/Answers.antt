@@ -4,7 +4,7 @@ use Rattle.clause_core.specs.Clauses.{IsOver, has_pair}
 use Rattle.sat_trail.specs.States.{TrailState, with_clause, undone}
 use Rattle.clause_learning.specs.Hints.{AreHints}
 use Rattle.clause_learning.specs.Lessons.{learnt_step, level_after}
-use Rattle.clause_learning.specs.Shelves.{log_hints}
+use Rattle.clause_learning.specs.Shelves.{numbers_of, log_hints}
 use Rattle.clause_learning.specs.ConflictWalks.{AreNoMarks}
 use Rattle.clause_learning.specs.Decisions.{AreDecisions}
 use Rattle.clause_learning.proofs.LessonLemmas.{lesson_over, lesson_no_pair, copied}
@@ -46,14 +46,13 @@ returns-clause-learnt c =
       trail_is = c.in_ok-learn.ensures.ok ∙ (ap (λ (s : TrailState). with_clause s c.in_ok-clause_of.field-0) back
           ∙ ap (with_clause (undone t target)) copy);
       steps_are = c.in_ok-add.ensures.steps ∙ ap (λ (hs : List ℕ). c.args.journal.now.steps.items
-          ++ learnt_step c.args.journal.now.next lesson.clause (log_hints c.args.journal.now.shelf.numbers.items hs) ∷ []) hints;
+          ++ learnt_step c.args.journal.now.next lesson.clause (log_hints (numbers_of c.args.journal.now.shelf) hs) ∷ []) hints;
       next_is = c.in_ok-add.ensures.next;
       numbers_are = c.in_ok-add.ensures.numbers;
-      one_use_each = c.in_ok-add.ensures.uses;
     }
 
 pub add-requires-clause-named : goal.add-requires-clause-named
-add-requires-clause-named c = subst (AreHints (length c.args.journal.now.shelf.numbers.items)) (sym c.as_slice-2.ensures.value)
+add-requires-clause-named c = subst (AreHints (length (numbers_of c.args.journal.now.shelf))) (sym c.as_slice-2.ensures.value)
     (subst (λ (n : ℕ). AreHints n c.in_ok-lesson.lesson.hints.items) (sym c.requires.numbers) c.in_ok-lesson.ensures.lesson.named)
 
 pub bump-requires-clause-queue : goal.bump-requires-clause-queue

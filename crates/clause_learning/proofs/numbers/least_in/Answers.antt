@@ -1,4 +1,4 @@
-use Rattle.std.proofs.Common.{◌≡◌, ◌<◌, ◌*◌, ◌+◌, length, refl, arith, inl, inr}
+use Rattle.std.proofs.Common.{refl, arith}
 use Rattle.std.proofs.lemmas.Nat.{trailing_le}
 use Rattle.lane_planes.specs.Planes.{word_at}
 use Rattle.lane_planes.proofs.BitLemmas.{first_is}

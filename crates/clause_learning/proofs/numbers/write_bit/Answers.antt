@@ -1,4 +1,4 @@
-use Rattle.std.proofs.Common.{◌≡◌, ◌==◌, ◌/◌, ◌%◌, ◌<◌, ℕ, Bool, true, false, cond, slice_set, ap, sym, ◌∙◌, arith}
+use Rattle.std.proofs.Common.{◌==◌, ◌/◌, ◌%◌, ◌<◌, ℕ, Bool, true, false, cond, slice_set, ap, sym, ◌∙◌, arith}
 use Rattle.lane_planes.specs.Planes.{has_bit, word_at}
 use Rattle.clause_learning.proofs.NumberBits.{word_set, word_cleared, written}
 use Rattle.clause_learning.proofs.numbers.write_bit.Goals.{then-is_set, else-is_set}

@@ -1,17 +1,17 @@
-use Rattle.std.proofs.Common.{◌≡◌, ◌+◌, ◌-◌, ◌*◌, ◌<◌, ◌≤◌, ℕ, false, List, [], Option, length, ap, sym, subst, ◌∙◌, arith}
+use Rattle.std.proofs.Common.{◌≡◌, ◌+◌, ◌-◌, ◌*◌, ◌<◌, ◌≤◌, ◌++◌, ℕ, false, List, [], Option, length, ap, sym, subst, ◌∙◌, arith}
 use Rattle.std.proofs.lemmas.Result.{IfOk-weaker}
-use Rattle.std.proofs.lemmas.List.{length_push, length-append}
+use Rattle.std.proofs.lemmas.List.{length_push, length-append, append-nil}
 use Rattle.clause_core.specs.Literals.{Lit}
 use Rattle.sat_core.specs.internal.Ends.{IsEnd, IsSearchAnswer}
 use Rattle.clause_core.specs.Propagation.{IsQuiet}
 use Rattle.refutation_check.specs.declared.steps.Step.{Step}
 use Rattle.sat_trail.specs.Entries.{literals_of}
-use Rattle.sat_trail.specs.States.{TrailState, IsSound, EndsWith}
+use Rattle.sat_trail.specs.States.{TrailState, IsSound, EndsWith, started}
 use Rattle.sat_trail.proofs.Soundness.{length_entries}
 use Rattle.clause_learning.specs.declared.journal.Journal.{Journal}
 use Rattle.clause_learning.specs.Decisions.{AreSet, AreDecisions, AreVariableTruths, HasDecided, Decides}
 use Rattle.clause_learning.specs.ConflictWalks.{AreNoMarks}
-use Rattle.clause_learning.specs.Shelves.{log_hints, AreFirst}
+use Rattle.clause_learning.specs.Shelves.{numbers_of, log_hints, AreFirst}
 use Rattle.clause_learning.specs.Lessons.{learnt_step, HasLearnt}
 use Rattle.sat_core.proofs.Searching.{IsSearch, search_begins, search_decided, search_learnt, search_stays}
 use Rattle.sat_core.proofs.Searching.{search_satisfied, search_refuted, search_ended, decided_longer, less_unset, less_budget}
@@ -30,7 +30,7 @@ conflicted c =
 taught : (c : After-learn) →
     HasLearnt c.is_due-anew.result c.args.shortens c.propagate.new.trail c.propagate.new.journal c.learn.new.trail c.learn.new.journal →
     IsSound c.learn.new.trail → IsSearch c.args.shortens c.args.cnf.now.variables c.args.cnf.now.clauses c.learn.new.trail
-    c.learn.new.journal.steps.items c.learn.new.journal.shelf.numbers.items
+    c.learn.new.journal.steps.items (numbers_of c.learn.new.journal.shelf)
 taught c learnt sound =
     let e = c.in_ok-conflict.ensures in
     let p = searching_propagated c.loop-units.invariant.searching e.propagated e.units e.added e.most e.sound in
@@ -41,29 +41,25 @@ taught c learnt sound =
 pub loop-units-init : goal.loop-units-init
 loop-units-init c =
     let cnf = c.args.cnf.now in
-    let journal = c.in_ok-journal.journal in
+    let journal = c.new-journal.result in
     let units = c.in_ok-units.ensures in
-    let search = search_begins c.args.shortens cnf.variables cnf.clauses c.in-Ok.trail journal.steps.items journal.shelf
-    c.in-Ok.ensures.ok c.in-Ok.ensures.sound c.in_ok-journal.ensures.steps
-    (subst (λ (n : ℕ). AreFirst n journal.shelf) c.len.ensures c.in_ok-journal.ensures.shelf) in
+    let start : c.in_ok-trail.trail ≡ started cnf.variables cnf.clauses = c.in_ok-trail.ensures.ok
+    ∙ ap (started cnf.variables) (ap (λ (cs : List (List Lit)). cnf.clauses ++ cs) c.new.ensures.items ∙ append-nil cnf.clauses) in
+    let search = search_begins c.args.shortens cnf.variables cnf.clauses c.in_ok-trail.trail journal.steps.items journal.shelf
+    start c.in_ok-trail.ensures.sound c.new-journal.ensures.steps
+    (subst (λ (n : ℕ). AreFirst n journal.shelf) c.len.ensures c.new-journal.ensures.shelf) in
     record {
       searching = record {
         logged = record {
           search = search;
-          next = omega (arith, c.in_ok-journal.ensures.next, c.len.ensures, ap length c.in_ok-journal.ensures.steps);
-          uses = omega (
-            arith,
-            c.in_ok-journal.ensures.shelf.one_use_each,
-            c.len.ensures,
-            ap (λ (s : TrailState). length s.clauses) c.in-Ok.ensures.ok,
-          );
+          next = omega (arith, c.new-journal.ensures.next, c.len.ensures, ap length c.new-journal.ensures.steps);
         };
-        order = subst (λ (s : TrailState). AreDecisions s.variables s.entries c.in_ok-decisions.decisions) (sym c.in-Ok.ensures.ok)
+        order = subst (λ (s : TrailState). AreDecisions s.variables s.entries c.in_ok-decisions.decisions) (sym start)
             (c.in_ok-decisions.ensures []);
-        unmarked = subst (λ (s : TrailState). AreNoMarks s.variables c.in_ok-walk.walk.marks) (sym c.in-Ok.ensures.ok)
+        unmarked = subst (λ (s : TrailState). AreNoMarks s.variables c.in_ok-walk.walk.marks) (sym start)
             c.in_ok-walk.ensures;
-        table = units.units c.in-Ok.trail search.same_variables;
-        within = omega (arith, ap length c.in_ok-journal.ensures.steps);
+        table = units.units c.in_ok-trail.trail search.same_variables;
+        within = omega (arith, ap length c.new-journal.ensures.steps);
         counted = omega (arith, units.added);
         few = omega (arith, units.added);
         room = omega (arith, units.most, c.most_units.ensures.room);
@@ -104,8 +100,8 @@ assignment_of-requires-clause-variables c =
     subst (Decides u c.loop-units.decisions w c.decide.new.self) c.if-branch.false c.in_ok-decide.ensures in
     sym (ap (λ (s : TrailState). s.variables) all.1 ∙ p.0.logged.search.same_variables)
 
-pub returns-in_default-2 : goal.returns-in_default-2
-returns-in_default-2 c =
+pub returns-in_default : goal.returns-in_default
+returns-in_default c =
     let e = c.in_ok-conflict.ensures in
     let p = searching_propagated c.loop-units.invariant.searching e.propagated e.units e.added e.most e.sound in
     let u = c.propagate.new.trail in
@@ -114,8 +110,8 @@ returns-in_default-2 c =
     subst (Decides u c.loop-units.decisions w c.decide.new.self) c.if-branch.false c.in_ok-decide.ensures in
     let cnf = c.args.cnf.now in
     let journal = c.propagate.new.journal in
-    let quiet : IsQuiet u.clauses (literals_of u.entries) = subst (λ (o : Option ℕ). EndsWith o u) c.in_default-2.is e.ends in
-    search_satisfied c.args.shortens cnf.variables cnf.clauses u journal.steps.items journal.shelf.numbers.items
+    let quiet : IsQuiet u.clauses (literals_of u.entries) = subst (λ (o : Option ℕ). EndsWith o u) c.in_default.is e.ends in
+    search_satisfied c.args.shortens cnf.variables cnf.clauses u journal.steps.items (numbers_of journal.shelf)
     c.in_ok-assignment.assignment.truths p.0.logged.search cnf.over quiet
     (subst (AreSet u.entries) p.0.logged.search.same_variables all.0)
     (subst (λ (s : TrailState). AreVariableTruths s.entries cnf.variables c.in_ok-assignment.assignment.truths) all.1
@@ -131,16 +127,15 @@ loop-units-preserved-then-branch c =
     subst (Decides u c.loop-units.decisions w c.decide.new.self) c.if-branch.true c.in_ok-decide.ensures in
     let cnf = c.args.cnf.now in
     let journal = c.propagate.new.journal in
-    let quiet : IsQuiet u.clauses (literals_of u.entries) = subst (λ (o : Option ℕ). EndsWith o u) c.in_default-2.is e.ends in
+    let quiet : IsQuiet u.clauses (literals_of u.entries) = subst (λ (o : Option ℕ). EndsWith o u) c.in_default.is e.ends in
     let variables : w.variables ≡ u.variables = ap (λ (s : TrailState). s.variables) decided.trail_is in
     let clauses : length w.clauses ≡ length u.clauses = ap (λ (s : TrailState). length s.clauses) decided.trail_is in
     record {
       searching = record {
         logged = record {
-          search = search_decided c.args.shortens cnf.variables cnf.clauses u w journal.steps.items journal.shelf.numbers.items
+          search = search_decided c.args.shortens cnf.variables cnf.clauses u w journal.steps.items (numbers_of journal.shelf)
               decided.literal p.0.logged.search quiet decided.trail_is decided.sound;
           next = p.0.logged.next;
-          uses = p.0.logged.uses ∙ sym clauses;
         };
         order = decided.decisions;
         unmarked = subst (λ (n : ℕ). AreNoMarks n c.loop-units.walk.marks) (sym variables) p.0.unmarked;
@@ -200,9 +195,6 @@ refute-requires-clause-next c =
 pub refute-requires-clause-numbers : goal.refute-requires-clause-numbers
 refute-requires-clause-numbers c = (conflicted (goal.at.refute-requires-clause-numbers c).After-level).logged.search.named.one_each
 
-pub refute-requires-clause-uses : goal.refute-requires-clause-uses
-refute-requires-clause-uses c = (conflicted (goal.at.refute-requires-clause-uses c).After-level).logged.uses
-
 pub end-requires-clause-marks : goal.end-requires-clause-marks
 end-requires-clause-marks c = (conflicted (goal.at.end-requires-clause-marks c).After-level).unmarked
 
@@ -214,9 +206,6 @@ end-requires-clause-next c =
 pub end-requires-clause-numbers : goal.end-requires-clause-numbers
 end-requires-clause-numbers c = (conflicted (goal.at.end-requires-clause-numbers c).After-level).logged.search.named.one_each
 
-pub end-requires-clause-uses : goal.end-requires-clause-uses
-end-requires-clause-uses c = (conflicted (goal.at.end-requires-clause-uses c).After-level).logged.uses
-
 pub learn-requires-clause-marks : goal.learn-requires-clause-marks
 learn-requires-clause-marks c = (conflicted (goal.at.learn-requires-clause-marks c).After-level).unmarked
 
@@ -227,9 +216,6 @@ learn-requires-clause-next c =
 
 pub learn-requires-clause-numbers : goal.learn-requires-clause-numbers
 learn-requires-clause-numbers c = (conflicted (goal.at.learn-requires-clause-numbers c).After-level).logged.search.named.one_each
-
-pub learn-requires-clause-uses : goal.learn-requires-clause-uses
-learn-requires-clause-uses c = (conflicted (goal.at.learn-requires-clause-uses c).After-level).logged.uses
 
 pub returns-then-level-eq0 : goal.returns-then-level-eq0
 returns-then-level-eq0 c =
@@ -288,11 +274,6 @@ shortened-requires-clause-numbers c =
     (taught (goal.at.shortened-requires-clause-numbers c).After-learn
     c.in_ok-learn.ensures.learnt c.in_ok-learn.ensures.sound).named.one_each
 
-pub shortened-requires-clause-uses : goal.shortened-requires-clause-uses
-shortened-requires-clause-uses c =
-    c.in_ok-learn.ensures.learnt.one_use_each ∙ (taught (goal.at.shortened-requires-clause-uses c).After-learn
-    c.in_ok-learn.ensures.learnt c.in_ok-learn.ensures.sound).named.one_each
-
 pub loop-units-smaller : goal.loop-units-smaller
 loop-units-smaller c =
     let e = c.in_ok-conflict.ensures in
@@ -305,7 +286,7 @@ loop-units-smaller c =
       arith,
       ap (λ (j : Journal). length j.steps.items) c.shortened.ensures.journal,
       ap (λ (ss : List Step). length ss) learnt.steps_are,
-      length_push journal.steps.items (learnt_step journal.next learnt.clause (log_hints journal.shelf.numbers.items learnt.hints)),
+      length_push journal.steps.items (learnt_step journal.next learnt.clause (log_hints (numbers_of journal.shelf) learnt.hints)),
     ) in
     let left : c.args.budget + c.shortened.new.units.added - length after.steps.items + 1
     ≡ c.args.budget + c.loop-units.units.added - length c.loop-units.journal.steps.items = omega (
@@ -318,7 +299,7 @@ loop-units-smaller c =
       c.len-in-loop-units.ensures,
       c.if-learnt-budget.false,
     ) in
-    less_budget _ _ cnf.variables (cnf.variables - length c.in_ok-trail.trail.entries)
+    less_budget _ _ cnf.variables (cnf.variables - length c.in_ok-trail-2.trail.entries)
     (cnf.variables - length c.loop-units.trail.entries) left (omega arith)
 
 pub loop-units-preserved : goal.loop-units-preserved
@@ -336,16 +317,16 @@ loop-units-preserved c =
       arith,
       ap (λ (j : Journal). length j.steps.items) c.shortened.ensures.journal,
       ap (λ (ss : List Step). length ss) learnt.steps_are,
-      length_push journal.steps.items (learnt_step journal.next learnt.clause (log_hints journal.shelf.numbers.items learnt.hints)),
+      length_push journal.steps.items (learnt_step journal.next learnt.clause (log_hints (numbers_of journal.shelf) learnt.hints)),
     ) in
-    let kept = c.in_ok-trail.trail in
+    let kept = c.in_ok-trail-2.trail in
     let stays = search_stays c.args.shortens c.loop-units.drops.wanted cnf.variables cnf.clauses w kept middle after more
-    (learnt.one_use_each ∙ more.named.one_each) c.loop-units.invariant.wanted c.in_ok-trail.ensures.sound c.shortened.ensures.journal
-    c.in_ok-trail.ensures.trail in
+    c.loop-units.invariant.wanted c.in_ok-trail-2.ensures.sound c.shortened.ensures.journal
+    c.in_ok-trail-2.ensures.trail in
     record {
       searching = record {
         logged = record {
-          search = stays.0;
+          search = stays;
           next = omega (
             arith,
             count,
@@ -353,12 +334,11 @@ loop-units-preserved c =
             learnt.next_is,
             p.0.logged.next,
           );
-          uses = stays.1;
         };
-        order = c.in_ok-trail.ensures.decisions;
-        unmarked = subst (λ (n : ℕ). AreNoMarks n c.learn.new.walk.marks) (more.same_variables ∙ sym stays.0.same_variables)
+        order = c.in_ok-trail-2.ensures.decisions;
+        unmarked = subst (λ (n : ℕ). AreNoMarks n c.learn.new.walk.marks) (more.same_variables ∙ sym stays.same_variables)
             c.in_ok-learn.ensures.marks;
-        table = c.in_ok-trail.ensures.units;
+        table = c.in_ok-trail-2.ensures.units;
         within = omega (
           arith,
           count,

@@ -2,7 +2,8 @@ use Rattle.std.proofs.Common.{◌≡◌, ℕ, false, List, length, length-append
 use Rattle.std.proofs.lemmas.List.Elements.{All-weaker, All-contains}
 use Rattle.clause_core.specs.Literals.{Lit}
 use Rattle.clause_core.specs.Clauses.{IsOver, has_pair}
-use Rattle.clause_learning.specs.Shelves.{AreShelved}
+use Rattle.sat_trail.specs.States.{TrailState}
+use Rattle.clause_learning.specs.Shelves.{numbers_of, AreShelved}
 use Rattle.sat_core.proofs.solver.shortened.Goals as goal
 
 -- what holds of each clause on the trail holds of each that is kept
@@ -29,6 +30,30 @@ pub with_learnt-requires-clause-no_pairs : goal.with_learnt-requires-clause-no_p
 with_learnt-requires-clause-no_pairs c = kept_all (λ clause. has_pair clause ≡ false) c.args.trail.clauses
     c.in_ok-kept.kept.learnt.items c.requires.sound.no_pairs c.in_ok-kept.ensures.stood
 
+pub overflow_add-count : goal.overflow_add-count
+overflow_add-count c = omega (
+  arith,
+  c.in_ok-kept.ensures.fewer,
+  length-append c.as_slice.result.now c.in_ok-kept.kept.learnt.items,
+  ap length c.as_slice.ensures,
+  c.requires.sound.few_clauses,
+  c.len-3.ensures,
+  c.len-4.ensures,
+)
+
+pub renew-requires-clause-count : goal.renew-requires-clause-count
+renew-requires-clause-count c = omega (
+  arith,
+  c.in_ok-kept.ensures.fewer,
+  length-append c.as_slice.result.now c.in_ok-kept.kept.learnt.items,
+  length-append c.args.cnf.now.clauses c.in_ok-kept.kept.learnt.items,
+  ap length c.as_slice.ensures,
+  c.requires.sound.few_clauses,
+  c.len-3.ensures,
+  c.len-4.ensures,
+  ap (λ (s : TrailState). length s.clauses) c.in_ok-new.ensures.ok,
+)
+
 pub returns-clause-trail : goal.returns-clause-trail
 returns-clause-trail c =
     let t = c.args.trail in
@@ -37,7 +62,7 @@ returns-clause-trail c =
       c.is_due.ensures.wanted c.if-not-is_due.false,
       record {
         others = kept.learnt.items;
-        kept = subst (λ (formula : List (List Lit)). AreShelved formula t.clauses c.args.journal.now.shelf.numbers.items (length t.clauses)
+        kept = subst (λ (formula : List (List Lit)). AreShelved formula t.clauses (numbers_of c.args.journal.now.shelf) (length t.clauses)
             kept.learnt.items kept.shelf) c.as_slice.ensures c.in_ok-kept.ensures;
         trail_is = c.in_ok-new.ensures.ok;
       },

@@ -1,4 +1,4 @@
-use Rattle.std.proofs.Common.{◌≡◌, ◌∙◌, ◌<◌, arith, ℕ, List, length, None, refl, ap, rules}
+use Rattle.std.proofs.Common.{◌≡◌, ◌∙◌, arith, ℕ, List, length, None, refl, ap, rules}
 use Rattle.sat_trail.specs.Entries.{place_of}
 use Rattle.clause_learning.proofs.Deciding.{decisions_set, decisions_popped, next_unset, none_unset}
 use Rattle.clause_learning.proofs.Counts.{count_less}

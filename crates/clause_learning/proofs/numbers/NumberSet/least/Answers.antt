@@ -1,6 +1,6 @@
-use Rattle.std.proofs.Common.{◌≡◌, ◌<◌, ◌≤◌, ◌/◌, ℕ, List, length, ap, sym, subst, ◌∙◌, arith}
+use Rattle.std.proofs.Common.{ℕ, List, length, ap, sym, subst, arith}
 use Rattle.clause_learning.specs.NumberSets.{IsLeastBit, IsFirstWord}
-use Rattle.clause_learning.proofs.NumberBits.{first_word, no_number, bit_within}
+use Rattle.clause_learning.proofs.NumberBits.{first_word}
 use Rattle.clause_learning.proofs.numbers.NumberSet.least.Goals as goal
 
 pub least_in-word-requires-clause-few : goal.least_in-word-requires-clause-few

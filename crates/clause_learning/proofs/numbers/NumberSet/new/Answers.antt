@@ -1,4 +1,4 @@
-use Rattle.std.proofs.Common.{◌≡◌, ◌+◌, ◌/◌, ℕ, length, replicate, ap, ◌∙◌, arith, rules}
+use Rattle.std.proofs.Common.{◌≡◌, ◌+◌, ◌/◌, length, replicate, ap, ◌∙◌, arith, rules}
 use Rattle.std.proofs.lemmas.List.{length-replicate}
 use Rattle.clause_learning.proofs.NumberBits.{empty_plane, empty_summary}
 use Rattle.clause_learning.proofs.numbers.NumberSet.new.Goals as goal

@@ -1,4 +1,4 @@
-use Rattle.std.proofs.Common.{◌≡◌, ◌==◌, ◌/◌, ◌*◌, ◌≤◌, ◌<◌, ℕ, List, length, cond, not, sym, ap, ap₂, subst, ◌∙◌, arith}
+use Rattle.std.proofs.Common.{◌==◌, ◌/◌, ℕ, List, length, cond, not, sym, ap, ap₂, subst, ◌∙◌, arith}
 use Rattle.std.specs.Vec.{with_items}
 use Rattle.std.proofs.lemmas.List.{with_items_is}
 use Rattle.lane_planes.specs.Planes.{has_bit, word_at}

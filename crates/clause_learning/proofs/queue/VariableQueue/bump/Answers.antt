@@ -1,6 +1,6 @@
 use Rattle.std.proofs.Common.{◌≡◌, ◌==◌, ◌+◌, ◌*◌, ◌/◌, ◌^◌, ◌<◌, ◌≤◌, ℕ, length, cond, refl, sym, ap, ◌∙◌, arith}
 use Rattle.std.proofs.lemmas.Option.{get_or_from_slice_get, slice_get_read}
-use Rattle.clause_learning.specs.Queues.{activity_of, AreBounded, limit}
+use Rattle.clause_learning.specs.Queues.{activity_of, limit}
 use Rattle.clause_learning.proofs.Queueing.{made_active, beside_over, beside_under, bounded_with}
 use Rattle.clause_learning.proofs.queue.VariableQueue.bump.Goals as goal
 use Rattle.clause_learning.proofs.queue.VariableQueue.bump.Goals.{After-set_activity}

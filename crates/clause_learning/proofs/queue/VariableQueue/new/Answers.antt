@@ -1,4 +1,4 @@
-use Rattle.std.proofs.Common.{◌≡◌, ◌==◌, ℕ, List, length, ap, ◌∙◌, arith, inl, inr}
+use Rattle.std.proofs.Common.{◌==◌, ℕ, List, length, ap, ◌∙◌, arith, inl, inr}
 use Rattle.std.proofs.lemmas.Bool.{cases_eq, eq-eqb, or_left, or_right}
 use Rattle.clause_learning.specs.Queues.{is_queued}
 use Rattle.clause_learning.proofs.queue.VariableQueue.new.Goals as goal

@@ -1,7 +1,6 @@
-use Rattle.std.proofs.Common.{◌≡◌, ◌<◌, ◌+◌, ℕ, refl, sym, ap, ◌∙◌, arith, inl}
-use Rattle.clause_learning.specs.NumberSets.{contains, IsLeastBit}
-use Rattle.clause_learning.specs.Tournaments.{weight}
-use Rattle.clause_learning.specs.Queues.{activity_of, variable_count}
+use Rattle.std.proofs.Common.{refl, arith, inl}
+use Rattle.clause_learning.specs.NumberSets.{contains}
+use Rattle.clause_learning.specs.Queues.{activity_of}
 use Rattle.clause_learning.proofs.Queueing.{next_active, next_inactive, none_queued, queue_changed, unchanged, queued_below}
 use Rattle.clause_learning.proofs.queue.VariableQueue.pop.Goals as goal
 

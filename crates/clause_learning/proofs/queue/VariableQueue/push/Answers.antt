@@ -1,8 +1,8 @@
-use Rattle.std.proofs.Common.{◌≡◌, ◌<◌, ◌+◌, ℕ, true, length, refl, sym, ap, ◌∙◌, arith, inl, inr}
+use Rattle.std.proofs.Common.{◌≡◌, true, length, refl, sym, arith, inr}
 use Rattle.std.proofs.lemmas.Option.{get_or_from_slice_get, slice_get_read}
 use Rattle.clause_learning.specs.NumberSets.{contains}
 use Rattle.clause_learning.specs.Tournaments.{weight}
-use Rattle.clause_learning.specs.Queues.{activity_of, variable_count}
+use Rattle.clause_learning.specs.Queues.{activity_of}
 use Rattle.clause_learning.proofs.Queueing.{queue_changed, unchanged}
 use Rattle.clause_learning.proofs.queue.VariableQueue.push.Goals as goal
 use Rattle.clause_learning.proofs.queue.VariableQueue.push.Goals.{After-index-activity}

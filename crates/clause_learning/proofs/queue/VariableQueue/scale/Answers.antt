@@ -1,8 +1,8 @@
-use Rattle.std.proofs.Common.{◌≡◌, ◌<◌, ◌≤◌, ◌/◌, ◌==◌, ◌^◌, ℕ, length, refl, sym, ap, ◌∙◌, arith, inl, inr}
+use Rattle.std.proofs.Common.{◌≡◌, ◌<◌, ◌/◌, ◌^◌, ℕ, length, refl, sym, ap, ◌∙◌, arith, inl, inr}
 use Rattle.std.proofs.lemmas.Bool.{cases_eq, cases_lt}
 use Rattle.std.proofs.lemmas.List.{get_or_past}
 use Rattle.std.proofs.lemmas.Option.{get_or_from_slice_get, slice_get_read}
-use Rattle.clause_learning.specs.Queues.{activity_of, scaled, variable_count}
+use Rattle.clause_learning.specs.Queues.{activity_of, scaled}
 use Rattle.clause_learning.proofs.Queueing.{at_one, at_other}
 use Rattle.clause_learning.proofs.queue.VariableQueue.scale.Goals as goal
 use Rattle.clause_learning.proofs.queue.VariableQueue.scale.Goals.{After-loop-variable}

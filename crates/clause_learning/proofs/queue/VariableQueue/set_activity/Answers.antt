@@ -1,11 +1,11 @@
-use Rattle.std.proofs.Common.{◌≡◌, ◌==◌, ◌||◌, ◌+◌, ℕ, Bool, not, cond, refl, sym, ap, ◌∙◌, arith, inl, inr}
+use Rattle.std.proofs.Common.{◌==◌, Bool, cond, refl, sym, ap, ◌∙◌, inl, inr}
 use Rattle.std.specs.Vec.{with_item}
 use Rattle.std.proofs.lemmas.Bool.{eqb-true, true≢false}
 use Rattle.std.proofs.lemmas.List.{length-set}
 use Rattle.clause_learning.specs.declared.queue.VariableQueue.{VariableQueue}
 use Rattle.clause_learning.specs.NumberSets.{contains}
 use Rattle.clause_learning.specs.Tournaments.{weight}
-use Rattle.clause_learning.specs.Queues.{IsQueue, is_queued, activity_of, variable_count}
+use Rattle.clause_learning.specs.Queues.{is_queued}
 use Rattle.clause_learning.proofs.Queueing.{IsChanged, queue_changed, queued_changed, unchanged, written_at, counted, none_left}
 use Rattle.clause_learning.proofs.queue.VariableQueue.set_activity.Goals.{After-set-then-queued}
 use Rattle.clause_learning.proofs.queue.VariableQueue.set_activity.Goals as goal

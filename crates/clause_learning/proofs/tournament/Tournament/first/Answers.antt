@@ -1,8 +1,8 @@
-use Rattle.std.proofs.Common.{◌≡◌, ◌<◌, ◌+◌, length, refl, sym, ap, ◌∙◌, subst, arith}
+use Rattle.std.proofs.Common.{◌≡◌, ◌+◌, length, refl, sym, ap, ◌∙◌, arith}
 use Rattle.std.proofs.lemmas.Option.{get_or_from_slice_get, slice_get_read}
 use Rattle.clause_learning.specs.declared.tournament.Rank.{Rank}
 use Rattle.clause_learning.specs.Tournaments.{is_before, rank_at, weight}
-use Rattle.clause_learning.proofs.Rounds.{Leads, leads_to, first_leads, first_leaf}
+use Rattle.clause_learning.proofs.Rounds.{leads_to, first_leads, first_leaf}
 use Rattle.clause_learning.proofs.tournament.Tournament.first.Goals as goal
 use Rattle.clause_learning.proofs.tournament.Tournament.first.Goals.{After-index}
 

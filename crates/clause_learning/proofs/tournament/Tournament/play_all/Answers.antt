@@ -1,4 +1,4 @@
-use Rattle.std.proofs.Common.{◌≡◌, ℕ, ◌-◌, ◌+◌, ◌∙◌, ap, sym, arith}
+use Rattle.std.proofs.Common.{ℕ, ◌-◌, ◌+◌, ◌∙◌, ap, arith}
 use Rattle.clause_learning.specs.declared.tournament.Rank.{Rank}
 use Rattle.clause_learning.specs.Tournaments.{rank_at}
 use Rattle.clause_learning.proofs.Rounds.{replayed}

@@ -18,7 +18,6 @@ loop-self-init c = record {
   sound = c.requires.sound;
   units_are = c.requires.units;
   numbers = c.requires.numbers;
-  uses = c.requires.uses;
 }
 
 pub loop-self-preserved : goal.loop-self-preserved
