@@ -23,3 +23,5 @@ pub mod LeftOut
 pub mod Gathering
 pub mod Over
 pub mod Around
+pub mod NoPairs
+pub mod Moved

@@ -1,8 +1,10 @@
 //! Clauses made so far.
 
-ghost use Rattle.std.specs.Prelude.{◌≡◌, ◌≤◌, ◌∷◌, [], length, OnOk, OnErr};
+ghost use Rattle.std.specs.Prelude.{◌≡◌, ◌≤◌, ◌∷◌, ◌++◌, [], false, length, IfErr, OnOk, OnErr};
+ghost use Rattle.clause_core.specs.Clauses.{in_order, has_pair};
 ghost use Rattle.bounded_encoding.specs.Made.{with_clauses};
 ghost use Rattle.bounded_encoding.specs.Refusing.{Refuses};
+ghost use Rattle.bounded_encoding.specs.declared.errors.EncodeError.TheVariants.{Clauses};
 
 use crate::errors::EncodeError;
 use clause_core::{Clause, Literal, clause_of, is_tautology};
@@ -59,6 +61,30 @@ impl Builder {
         if is_tautology(&clause) {
             return Ok(());
         }
+        self.push(clause)
+    }
+
+    /// Adds the clause of these literals, none of which is the negation of another. Nothing is added at an `Err`.
+    pub(crate) fn add_without_pair(
+        &mut self,
+        alloc: Global,
+        literals: &[Literal],
+    ) -> Result<(), EncodeError>
+        requires unpaired { has_pair (in_order literals.now) ≡ false }
+        ensures added { OnOk result (self.new ≡ with_clauses self.old (literals.now ∷ [])) }
+        ensures refused { Refuses result (with_clauses self.old (literals.now ∷ [])) }
+        ensures unchanged { OnErr result (self.new ≡ self.old) }
+    {
+        let clause = clause_of(alloc, literals)?;
+        self.push(clause)
+    }
+
+    /// Adds a clause. Nothing is added at an `Err`.
+    fn push(&mut self, clause: Clause) -> Result<(), EncodeError>
+        ensures added { OnOk result (self.new ≡ record { clauses = self.old.clauses ++ clause ∷ []; most = self.old.most }) }
+        ensures refused { IfErr result (λ e. e ≡ Clauses → self.old.most ≤ length self.old.clauses) }
+        ensures unchanged { OnErr result (self.new ≡ self.old) }
+    {
         if self.list.len() as u64 >= self.limit {
             return Err(EncodeError::Clauses);
         }

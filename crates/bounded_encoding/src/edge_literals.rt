@@ -1,13 +1,13 @@
 //! The literals of the clauses of edges.
 
-ghost use Rattle.std.specs.Prelude.{◌≡◌, ◌<◌, ◌≤◌, ◌+◌, ◌^◌, ◌++◌, ◌∷◌, [], cond, nat_le, length, take, List, OnOk};
+ghost use Rattle.std.specs.Prelude.{◌≡◌, ◌<◌, ◌≤◌, ◌+◌, ◌^◌, ◌++◌, ◌∷◌, [], cond, nat_le, length, take, map, List, All, IfOk, OnOk};
 ghost use Rattle.clause_core.specs.Literals.{Lit};
 ghost use Rattle.ltl_formula.specs.Cubes.{has_bit};
 ghost use Rattle.cobuchi_automata.specs.Edges.{edge_tree};
 ghost use Rattle.annotation_check.specs.Annotations.{after_edge};
 ghost use Rattle.bounded_encoding.specs.SimpleClauses.{yes_at, no_at};
 ghost use Rattle.bounded_encoding.specs.Sides.{differing};
-ghost use Rattle.bounded_encoding.specs.internal.Transitions.{IsAround};
+ghost use Rattle.bounded_encoding.specs.internal.Transitions.{moved, IsAround, IsRoom};
 
 use crate::simple_clauses::literal;
 use clause_core::Literal;
@@ -15,7 +15,8 @@ use cobuchi_automata::Edge;
 use sequence::NoMemory;
 use std::alloc::Global;
 
-/// A state of the machine, an edge, and a row that meets it.
+/// A state of the machine, an edge, and a row that meets it, with the index of the first variable of what the machine
+/// does in that state and row.
 #[derive(Clone, Copy)]
 pub(crate) struct Transition {
     /// The state.
@@ -24,6 +25,8 @@ pub(crate) struct Transition {
     pub(crate) edge: Edge,
     /// The row.
     pub(crate) row: u32,
+    /// The index of the first own variable.
+    pub(crate) base: u32,
 }
 
 /// The indices of the first numbers of the pair that a transition leaves and of the one that it reaches.
@@ -93,23 +96,46 @@ pub(crate) fn after_edge(number: u32, edge: Edge) -> u32
     number + u32::from(edge.rejecting)
 }
 
-/// Puts the literals that the clauses of a transition to a state share in place of what a list holds, between two
-/// others.
-pub(crate) fn put_shared(
-    literals: &mut Vec<Literal>,
-    next: u32,
-    unless: &[Literal],
-) -> Result<(), NoMemory>
-    requires { next + 1 < 2 ^ 31 }
-    ensures { OnOk result (IsAround (no_at next ∷ unless.now) literals.new.items) }
+/// The literal of the variable that is so many further on.
+fn moved(base: u32, asked: Literal) -> Literal
+    requires { base + asked.index + 1 < 2 ^ 31 }
+    ensures { result ≡ moved base asked }
 {
-    let shared = literal(next, false);
-    literals.clear();
-    literals.push(shared)?;
-    literals.push(shared)?;
-    literals.extend_from_slice(unless)?;
-    literals.push(shared)?;
-    Ok(())
+    Literal::of_variable(base + asked.variable(), asked.is_positive())
+}
+
+/// Room for the literals of a clause: as many as are asked for, two before them and one behind.
+pub(crate) fn room_for(alloc: Global, asked: &[Literal]) -> Result<Vec<Literal>, NoMemory>
+    ensures { IfOk result (λ room. length room.items ≡ length asked.now + 3) }
+{
+    let any = Literal::default();
+    let mut literals = Vec::new(alloc);
+    literals.push(any)?;
+    literals.push(any)?;
+    literals.extend_from_slice(asked)?;
+    literals.push(any)?;
+    Ok(literals)
+}
+
+/// Puts what is asked for in place of what stands between the first two literals and the last one, each literal's
+/// variable so many further on.
+pub(crate) fn put_moved(literals: &mut [Literal], base: u32, asked: &[Literal])
+    requires fits { All (λ l. base + l.index + 1 < 2 ^ 31) asked.now }
+    requires room { length literals.old ≡ length asked.now + 3 }
+    ensures { IsRoom (map (moved base) asked.now) literals.new }
+{
+    for place in 0..asked.len() {
+        literals[place + 2] = moved(base, asked[place]);
+    }
+}
+
+/// Puts the literal of a next state behind the first one.
+pub(crate) fn put_next(literals: &mut [Literal], next: u32)
+    requires room { 2 ≤ length literals.old }
+    requires next { next + 1 < 2 ^ 31 }
+    ensures { (middle : List Lit) → IsRoom middle literals.old → IsAround (no_at next ∷ middle) literals.new }
+{
+    literals[1] = literal(next, false);
 }
 
 /// Puts the literals of two numbers in place of the first and of the last one, and tells how many are of the clause:

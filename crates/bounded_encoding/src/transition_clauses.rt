@@ -1,34 +1,27 @@
 //! The clauses of transitions, for a machine of either side.
 
-ghost use Rattle.std.specs.Prelude.{◌≡◌, ◌<◌, ◌+◌, ◌↔◌, ◌∷◌, [], true, false, OnOk, All};
+ghost use Rattle.std.specs.Prelude.{◌≡◌, ◌<◌, ◌+◌, ◌↔◌, ◌∷◌, [], true, false, length, OnOk, All};
 ghost use Rattle.std.specs.List.{flat_map};
 ghost use Rattle.cobuchi_automata.specs.Edges.{edge_tree, IsBetween};
 ghost use Rattle.bounded_encoding.specs.FrameView.{frame_tree, side_of, IsFramed, IsServed};
-ghost use Rattle.bounded_encoding.specs.Sides.{clause_along, clauses_to, clauses_from, clauses_under, clauses_along, clauses_in};
+ghost use Rattle.clause_core.specs.Clauses.{in_order, has_pair};
+ghost use Rattle.bounded_encoding.specs.Sides.{differing, clauses_under, clauses_along, clauses_in};
 ghost use Rattle.bounded_encoding.specs.Sides.{clauses_of_edges, clauses_of_side};
 ghost use Rattle.bounded_encoding.specs.Made.{with_clauses};
 ghost use Rattle.bounded_encoding.specs.Refusing.{Refuses};
-ghost use Rattle.bounded_encoding.specs.Frames.{next_at};
-ghost use Rattle.bounded_encoding.specs.SimpleClauses.{no_at};
-ghost use Rattle.bounded_encoding.specs.internal.Transitions.{IsWithin, ArePairs, IsAround};
+ghost use Rattle.bounded_encoding.specs.internal.Transitions.{IsWithin, ArePairs, IsAround, IsRoom, AreUnpaired};
+ghost use Rattle.bounded_encoding.specs.internal.Transitions.{unless, shared, clause_for, clauses_for, clauses_of_transition};
 
 use crate::builder::Builder;
-use crate::edge_literals::{Pairs, Transition, after_edge, put_differing, put_numbers, put_shared};
+use crate::edge_literals::{
+    Pairs, Transition, after_edge, put_differing, put_moved, put_next, put_numbers, room_for,
+};
 use crate::errors::EncodeError;
 use crate::frame::{Frame, add_nexts, add_numbers, add_start, next_base, number_base};
 use crate::side::Side;
 use clause_core::Literal;
 use cobuchi_automata::Edge;
 use std::alloc::Global;
-
-/// Room for the literals of one clause after another, so that each of them takes no memory anew.
-#[derive(Drop)]
-struct Room {
-    /// Those that are true where the machine does not do as an edge asks.
-    unless: Vec<Literal>,
-    /// Those of a clause.
-    literals: Vec<Literal>,
-}
 
 /// Adds the clause of a transition to a state where its pair has at least a number. The list has the literals that do
 /// not depend on the number, between two others.
@@ -38,23 +31,21 @@ fn add_transition(
     literals: &mut [Literal],
     frame: &Frame,
     transition: Transition,
-    unless: &[Literal],
     t: u32,
     pairs: Pairs,
     i: u32,
 ) -> Result<(), EncodeError>
     requires pairs { ArePairs (frame_tree frame.now) transition t pairs }
     requires number { i < frame.now.bound + 1 }
-    requires around { IsAround (no_at (next_at (frame_tree frame.now) transition.state transition.row t) ∷ unless.now) literals.old }
-    ensures around { IsAround (no_at (next_at (frame_tree frame.now) transition.state transition.row t) ∷ unless.now) literals.new }
-    ensures added { OnOk result (out.new ≡ with_clauses out.old
-        (clause_along (frame_tree frame.now) unless.now transition.state (edge_tree transition.edge) transition.row t i ∷ [])) }
-    ensures refused { Refuses result (with_clauses out.old
-        (clause_along (frame_tree frame.now) unless.now transition.state (edge_tree transition.edge) transition.row t i ∷ [])) }
+    requires unpaired { has_pair (in_order (clause_for (frame_tree frame.now) transition t i)) ≡ false }
+    requires around { IsAround (shared (frame_tree frame.now) transition t) literals.old }
+    ensures around { IsAround (shared (frame_tree frame.now) transition t) literals.new }
+    ensures added { OnOk result (out.new ≡ with_clauses out.old (clause_for (frame_tree frame.now) transition t i ∷ [])) }
+    ensures refused { Refuses result (with_clauses out.old (clause_for (frame_tree frame.now) transition t i ∷ [])) }
 {
     let later = after_edge(i, transition.edge);
     let count = put_numbers(literals, pairs, i, later, frame.bound);
-    out.add(alloc, &literals[..count])
+    out.add_without_pair(alloc, &literals[..count])
 }
 
 /// Adds the clauses of a transition to a state, one for each number.
@@ -65,19 +56,18 @@ fn add_each_number(
     literals: &mut [Literal],
     frame: &Frame,
     transition: Transition,
-    unless: &[Literal],
     t: u32,
     pairs: Pairs,
 ) -> Result<(), EncodeError>
     requires pairs { ArePairs (frame_tree frame.now) transition t pairs }
-    requires around { IsAround (no_at (next_at (frame_tree frame.now) transition.state transition.row t) ∷ unless.now) literals.old }
-    ensures added { OnOk result (out.new ≡ with_clauses out.old
-        (clauses_to (frame_tree frame.now) unless.now transition.state (edge_tree transition.edge) transition.row t)) }
-    ensures refused { Refuses result (with_clauses out.old
-        (clauses_to (frame_tree frame.now) unless.now transition.state (edge_tree transition.edge) transition.row t)) }
+    requires unpaired { AreUnpaired (frame_tree frame.now) transition t }
+    requires around { IsAround (shared (frame_tree frame.now) transition t) literals.old }
+    ensures around { OnOk result (IsAround (shared (frame_tree frame.now) transition t) literals.new) }
+    ensures added { OnOk result (out.new ≡ with_clauses out.old (clauses_for (frame_tree frame.now) transition t)) }
+    ensures refused { Refuses result (with_clauses out.old (clauses_for (frame_tree frame.now) transition t)) }
 {
     for i in 0..frame.bound + 1 {
-        add_transition(alloc, out, literals, frame, transition, unless, t, pairs, i)?;
+        add_transition(alloc, out, literals, frame, transition, t, pairs, i)?;
     }
     Ok(())
 }
@@ -96,37 +86,30 @@ fn pairs_of(frame: &Frame, transition: Transition, t: u32) -> Pairs
 }
 
 /// Adds the clauses of a transition to a state, which has a clause for each number. The list is room for their
-/// literals.
+/// literals, and has those that do not depend on the state.
 fn add_numbered(
     alloc: Global,
     out: &mut Builder,
-    literals: &mut Vec<Literal>,
+    literals: &mut [Literal],
     frame: &Frame,
     transition: Transition,
-    unless: &[Literal],
     t: u32,
 ) -> Result<(), EncodeError>
     requires framed { IsFramed (frame_tree frame.now) }
     requires within { IsWithin (frame_tree frame.now) transition }
     requires next { t < frame.now.states }
-    ensures added { OnOk result (out.new ≡ with_clauses out.old
-        (clauses_to (frame_tree frame.now) unless.now transition.state (edge_tree transition.edge) transition.row t)) }
-    ensures refused { Refuses result (with_clauses out.old
-        (clauses_to (frame_tree frame.now) unless.now transition.state (edge_tree transition.edge) transition.row t)) }
+    requires unpaired { AreUnpaired (frame_tree frame.now) transition t }
+    requires room { IsRoom (unless (frame_tree frame.now) transition) literals.old }
+    ensures room { OnOk result (IsRoom (unless (frame_tree frame.now) transition) literals.new) }
+    ensures added { OnOk result (out.new ≡ with_clauses out.old (clauses_for (frame_tree frame.now) transition t)) }
+    ensures refused { Refuses result (with_clauses out.old (clauses_for (frame_tree frame.now) transition t)) }
 {
-    let next = next_base(frame, transition.state, transition.row) + t;
-    put_shared(literals, next, unless)?;
+    put_next(
+        literals,
+        next_base(frame, transition.state, transition.row) + t,
+    );
     let pairs = pairs_of(frame, transition, t);
-    add_each_number(
-        alloc,
-        out,
-        literals.as_mut_slice(),
-        frame,
-        transition,
-        unless,
-        t,
-        pairs,
-    )
+    add_each_number(alloc, out, literals, frame, transition, t, pairs)
 }
 
 /// Whether a transition to a state leads from a pair to itself by an edge that is not rejecting. Its clauses have
@@ -141,24 +124,23 @@ pub(crate) fn leads_to_itself(state: u32, edge: Edge, t: u32) -> bool
 fn add_transitions_to(
     alloc: Global,
     out: &mut Builder,
-    literals: &mut Vec<Literal>,
+    literals: &mut [Literal],
     frame: &Frame,
     transition: Transition,
-    unless: &[Literal],
     t: u32,
 ) -> Result<(), EncodeError>
     requires framed { IsFramed (frame_tree frame.now) }
     requires within { IsWithin (frame_tree frame.now) transition }
     requires next { t < frame.now.states }
-    ensures added { OnOk result (out.new ≡ with_clauses out.old
-        (clauses_to (frame_tree frame.now) unless.now transition.state (edge_tree transition.edge) transition.row t)) }
-    ensures refused { Refuses result (with_clauses out.old
-        (clauses_to (frame_tree frame.now) unless.now transition.state (edge_tree transition.edge) transition.row t)) }
+    requires room { IsRoom (unless (frame_tree frame.now) transition) literals.old }
+    ensures room { OnOk result (IsRoom (unless (frame_tree frame.now) transition) literals.new) }
+    ensures added { OnOk result (out.new ≡ with_clauses out.old (clauses_for (frame_tree frame.now) transition t)) }
+    ensures refused { Refuses result (with_clauses out.old (clauses_for (frame_tree frame.now) transition t)) }
 {
     if leads_to_itself(transition.state, transition.edge, t) {
         return Ok(());
     }
-    add_numbered(alloc, out, literals, frame, transition, unless, t)
+    add_numbered(alloc, out, literals, frame, transition, t)
 }
 
 /// Adds the clauses of a transition to each state.
@@ -166,51 +148,77 @@ fn add_transitions_to(
 fn add_each_next(
     alloc: Global,
     out: &mut Builder,
-    literals: &mut Vec<Literal>,
+    literals: &mut [Literal],
     frame: &Frame,
     transition: Transition,
-    unless: &[Literal],
 ) -> Result<(), EncodeError>
     requires framed { IsFramed (frame_tree frame.now) }
     requires within { IsWithin (frame_tree frame.now) transition }
-    ensures added { OnOk result (out.new ≡ with_clauses out.old
-        (clauses_from (frame_tree frame.now) unless.now transition.state (edge_tree transition.edge) transition.row)) }
-    ensures refused { Refuses result (with_clauses out.old
-        (clauses_from (frame_tree frame.now) unless.now transition.state (edge_tree transition.edge) transition.row)) }
+    requires room { IsRoom (unless (frame_tree frame.now) transition) literals.old }
+    ensures room { OnOk result (IsRoom (unless (frame_tree frame.now) transition) literals.new) }
+    ensures added { OnOk result (out.new ≡ with_clauses out.old (clauses_of_transition (frame_tree frame.now) transition)) }
+    ensures refused { Refuses result (with_clauses out.old (clauses_of_transition (frame_tree frame.now) transition)) }
 {
     for t in 0..frame.states {
-        add_transitions_to(alloc, out, literals, frame, transition, unless, t)?;
+        add_transitions_to(alloc, out, literals, frame, transition, t)?;
     }
     Ok(())
+}
+
+/// Adds the clauses of a transition to each state. Given are the literals that are true where the machine does not do as
+/// the edge asks, as if its own variables were the first of all, and room for those of a clause.
+fn add_moved(
+    alloc: Global,
+    out: &mut Builder,
+    literals: &mut [Literal],
+    asked: &[Literal],
+    frame: &Frame,
+    transition: Transition,
+) -> Result<(), EncodeError>
+    requires framed { IsFramed (frame_tree frame.now) }
+    requires within { IsWithin (frame_tree frame.now) transition }
+    requires asked { asked.now ≡ differing 0 frame.now.first_bit frame.now.bits (edge_tree transition.edge) }
+    requires room { length literals.old ≡ length asked.now + 3 }
+    ensures room { OnOk result (length literals.new ≡ length asked.now + 3) }
+    ensures added { OnOk result (out.new ≡ with_clauses out.old (clauses_of_transition (frame_tree frame.now) transition)) }
+    ensures refused { Refuses result (with_clauses out.old (clauses_of_transition (frame_tree frame.now) transition)) }
+{
+    put_moved(literals, transition.base, asked);
+    add_each_next(alloc, out, literals, frame, transition)
 }
 
 /// Adds the clauses of a state, an edge and a row that meets it.
 fn add_transitions_under<S: Side>(
     alloc: Global,
     out: &mut Builder,
-    room: &mut Room,
+    literals: &mut [Literal],
+    asked: &[Literal],
     frame: &Frame,
     side: &S,
-    transition: Transition,
+    s: u32,
+    edge: Edge,
+    row: u32,
 ) -> Result<(), EncodeError>
     requires served { IsServed frame.now (S.met side.now) (S.base side.now) (S.asked side.now) (S.is_cell side.now) }
-    requires within { IsWithin (frame_tree frame.now) transition }
-    ensures added { OnOk result (out.new ≡ with_clauses out.old
-        (clauses_under (side_of frame.now (S.met side.now) (S.base side.now)) transition.state (edge_tree transition.edge) transition.row)) }
-    ensures refused { Refuses result (with_clauses out.old
-        (clauses_under (side_of frame.now (S.met side.now) (S.base side.now)) transition.state (edge_tree transition.edge) transition.row)) }
+    requires state { s < frame.now.states }
+    requires between { IsBetween frame.now.automaton.now.states edge }
+    requires row { row < frame.now.rows }
+    requires asked { asked.now ≡ differing 0 frame.now.first_bit frame.now.bits (edge_tree edge) }
+    requires room { length literals.old ≡ length asked.now + 3 }
+    ensures room { OnOk result (length literals.new ≡ length asked.now + 3) }
+    ensures added { OnOk result (out.new
+        ≡ with_clauses out.old (clauses_under (side_of frame.now (S.met side.now) (S.base side.now)) s (edge_tree edge) row)) }
+    ensures refused { Refuses result
+        (with_clauses out.old (clauses_under (side_of frame.now (S.met side.now) (S.base side.now)) s (edge_tree edge) row)) }
 {
-    let base = side.own_base(transition.state, transition.row);
-    let unless = &mut room.unless;
-    put_differing(unless, base, frame.first_bit, frame.bits, transition.edge)?;
-    add_each_next(
-        alloc,
-        out,
-        &mut room.literals,
-        frame,
-        transition,
-        unless.as_slice(),
-    )
+    let base = side.own_base(s, row);
+    let transition = Transition {
+        state: s,
+        edge,
+        row,
+        base,
+    };
+    add_moved(alloc, out, literals, asked, frame, transition)
 }
 
 /// Adds the clauses of a state and an edge, in each of some rows.
@@ -218,6 +226,8 @@ fn add_transitions_under<S: Side>(
 fn add_each_row<S: Side>(
     alloc: Global,
     out: &mut Builder,
+    literals: &mut [Literal],
+    asked: &[Literal],
     frame: &Frame,
     side: &S,
     s: u32,
@@ -228,22 +238,15 @@ fn add_each_row<S: Side>(
     requires state { s < frame.now.states }
     requires between { IsBetween frame.now.automaton.now.states edge }
     requires met { All (λ r. r < frame.now.rows) met.now }
+    requires asked { asked.now ≡ differing 0 frame.now.first_bit frame.now.bits (edge_tree edge) }
+    requires room { length literals.old ≡ length asked.now + 3 }
     ensures added { OnOk result (out.new ≡ with_clauses out.old
         (flat_map (clauses_under (side_of frame.now (S.met side.now) (S.base side.now)) s (edge_tree edge)) met.now)) }
     ensures refused { Refuses result (with_clauses out.old
         (flat_map (clauses_under (side_of frame.now (S.met side.now) (S.base side.now)) s (edge_tree edge)) met.now)) }
 {
-    let mut room = Room {
-        unless: Vec::new(alloc),
-        literals: Vec::new(alloc),
-    };
     for row in met {
-        let transition = Transition {
-            state: s,
-            edge,
-            row: *row,
-        };
-        add_transitions_under(alloc, out, &mut room, frame, side, transition)?;
+        add_transitions_under(alloc, out, literals, asked, frame, side, s, edge, *row)?;
     }
     Ok(())
 }
@@ -262,14 +265,27 @@ fn add_transitions_along<S: Side>(
     requires between { IsBetween frame.now.automaton.now.states edge }
     ensures added { OnOk result (out.new ≡ with_clauses out.old
         (clauses_along (side_of frame.now (S.met side.now) (S.base side.now)) s (edge_tree edge))) }
-    ensures refused { Refuses result (with_clauses out.old
-        (clauses_along (side_of frame.now (S.met side.now) (S.base side.now)) s (edge_tree edge))) }
+    ensures refused { Refuses result (with_clauses out.old (clauses_along (side_of frame.now (S.met side.now) (S.base side.now)) s (edge_tree edge))) }
 {
     if frame.states == 1 && leads_to_itself(s, edge, 0) {
         return Ok(());
     }
     let met = side.met_rows(alloc, edge)?;
-    add_each_row(alloc, out, frame, side, s, edge, met.as_slice())
+    let rows = met.as_slice();
+    let mut asked = Vec::new(alloc);
+    put_differing(&mut asked, 0, frame.first_bit, frame.bits, edge)?;
+    let mut literals = room_for(alloc, asked.as_slice())?;
+    add_each_row(
+        alloc,
+        out,
+        literals.as_mut_slice(),
+        asked.as_slice(),
+        frame,
+        side,
+        s,
+        edge,
+        rows,
+    )
 }
 
 /// Adds the clauses of a state and each of some edges.

@@ -15,6 +15,6 @@ returns-then-leads_to_itself-clause-added g c =
 
 pub add_each_row-requires-clause-met : goal.add_each_row-requires-clause-met
 add_each_row-requires-clause-met g c = subst (λ (met : List ℕ). All (λ r. r < c.args.frame.now.rows) met)
-    (sym (c.as_slice.ensures.value ∙ c.in_ok-met.ensures))
+    (sym (c.as_slice-rows.ensures.value ∙ c.in_ok-met.ensures))
     (All-from_recursion (λ r. r < c.args.frame.now.rows) (g.S.Side.met c.args.side.now (edge_tree c.args.edge))
     (c.requires.served.side.met (edge_tree c.args.edge)))
