@@ -13,7 +13,7 @@ use Rattle.clause_learning.specs.Queues.{IsVariableQueue, IsNext, variable_count
 use Rattle.clause_learning.specs.Decisions.{AreSet, AreDecisions, IsNextUnset}
 use Rattle.clause_learning.specs.Tournaments.{is_before}
 use Rattle.clause_learning.proofs.Queueing.{queued_below}
-use Rattle.clause_learning.proofs.Walking.{up_to_has}
+use Rattle.clause_learning.proofs.Analysing.{up_to_has}
 
 still_set : (es added : List Entry) (index : ℕ) → (place_of es index ≡ None → ⊥) → place_of (es ++ added) index ≡ None → ⊥
 still_set es added index set_before none = by_place (place_of es index) refl

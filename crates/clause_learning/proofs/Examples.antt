@@ -8,8 +8,8 @@ use Rattle.std.proofs.lemmas.List.Elements.{All-from_recursion}
 use Rattle.clause_core.specs.Literals.{Lit, literal_of, negation, has}
 use Rattle.sat_trail.specs.declared.entries.Entry.{Entry}
 use Rattle.sat_trail.specs.Entries.{entry_with}
-use Rattle.clause_learning.specs.declared.marks.Marks.{Marks}
-use Rattle.clause_learning.specs.ConflictWalks.{count_at, is_of_clause, AreMarks, must_go, IsReplaced}
+use Rattle.clause_learning.specs.declared.seen.Seen.{Seen}
+use Rattle.clause_learning.specs.ConflictAnalysis.{count_at, is_of_clause, AreSeen, must_go, IsReplaced}
 
 abbrev a : Lit
 a = literal_of (pos 1)
@@ -17,13 +17,13 @@ a = literal_of (pos 1)
 abbrev b : Lit
 b = literal_of (pos 2)
 
--- ---- the walk
+-- ---- the analysis
 
 -- 1 at level 0 by the clause 0, 2 decided, -3 by the clause 1
 abbrev entries : List Entry
 entries = entry_with a 0 (Some 0) ∷ entry_with b 1 None ∷ entry_with (literal_of (negsuc 2)) 1 (Some 1) ∷ []
 
--- the entries at the first two places are marked
+-- the entries at the first two places are seen
 abbrev first_two : ℕ → Bool
 first_two place = nat_lt place 2
 
@@ -38,10 +38,10 @@ of_the_clause = refl
 of_no_entry : map (is_of_clause entries (literal_of (pos 4) ∷ [])) (0 ∷ 1 ∷ 2 ∷ []) ≡ false ∷ false ∷ false ∷ []
 of_no_entry = refl
 
--- marks at the places 0 and 2: one is of level 1
-are_marks : (m : Marks) → m.flags.items ≡ true ∷ false ∷ true ∷ [] → m.lowest ≡ 0 → m.waiting ≡ 1 → m.looked.items ≡ 2 ∷ [] →
-    AreMarks (record { variables = 3; clauses = []; entries = entries; level = 1; broken = false }) m
-are_marks m flags lowest waiting looked = record {
+-- seen at the places 0 and 2: one is of level 1
+are_seen : (m : Seen) → m.flags.items ≡ true ∷ false ∷ true ∷ [] → m.lowest ≡ 0 → m.waiting ≡ 1 → m.looked.items ≡ 2 ∷ [] →
+    AreSeen (record { variables = 3; clauses = []; entries = entries; level = 1; broken = false }) m
+are_seen m flags lowest waiting looked = record {
   one_each = ap length flags;
   within = λ place h. among place (sym (ap (λ (fs : List Bool). get_or fs place false) flags) ∙ h);
   above = λ place h. omega (arith, lowest);
@@ -68,7 +68,7 @@ to_other r = elim r.forces [
   | inr alone ↦ (let e = ap (λ (ls : List Lit). has ls a) (same_Some (b ∷ []) (a ∷ []) alone) in false≢true e)
 ]
 
--- the reason of an entry at the present level takes its place where another one is marked there
+-- the reason of an entry at the present level takes its place where another one is seen there
 crowded : must_go 1 2 1 ≡ true
 crowded = refl
 

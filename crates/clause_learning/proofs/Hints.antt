@@ -1,4 +1,4 @@
--- Hints lead to a false clause from the literals that a walk has found.
+-- Hints lead to a false clause from the literals that an analysis has found.
 use Rattle.std.proofs.Common.{◌≡◌, ℕ, zero, suc, ◌+◌, Bool, true, false, not, cond, ◌||◌, List, [], ◌∷◌, ◌++◌, map, take, Option, Some}
 use Rattle.std.proofs.Common.{slice_get, sym, ap, ◌∙◌, refl, arith, eqb, inl, inr}
 use Rattle.std.proofs.lemmas.Bool.{or_cases, or_left, or_right, cases_Bool, cases_eq, eq-eqb, ne_eqb, cond-true, cond-false}
@@ -15,8 +15,8 @@ use Rattle.sat_trail.proofs.TrailSteps.{has_not_false, has_one}
 use Rattle.sat_trail.proofs.Places.{AreApart, place_of_entry, has_entry, entry_has, one_entry}
 use Rattle.refutation_check.specs.Checking.{numbered_from, clause_named, effect_of_open, effect_of_named, led_to, refused_hint}
 use Rattle.refutation_check.specs.Checking.HintEffect.{makes, shows_nothing}
-use Rattle.clause_learning.specs.ConflictWalks.{is_of_clause, Carries, Shows}
-use Rattle.clause_learning.proofs.Marking.{is_of_clause_has}
+use Rattle.clause_learning.specs.ConflictAnalysis.{is_of_clause, Carries, Shows}
+use Rattle.clause_learning.proofs.SeenEntries.{is_of_clause_has}
 
 -- ---- clauses by the numbers of a log
 
@@ -75,13 +75,13 @@ opposites_differ es apart j k d e at_j at_k n =
     false_from_ne_true (same (negation d.literal) (negation e.literal))
     (λ s. n (one_entry es apart j k d e at_j at_k (ap (λ (l : Lit). l.index) (same_is (negation d.literal) (negation e.literal) s))).0)
 
--- ---- the hints of a walk
+-- ---- the hints of an analysis
 
 -- a false clause ends the hints
 pub shows_start : (t : TrailState) → AreApart t.entries → (clause : List Lit) (number n : ℕ) (ms : ℕ → Bool) →
     slice_get t.clauses number ≡ Some clause → not_false (literals_of t.entries) clause ≡ [] →
     ((k : ℕ) → is_of_clause t.entries clause k ≡ true → ms k ≡ true) → Shows t n ms [] ((number + 1) ∷ [])
-shows_start t apart clause number n ms named is_false marked trues carries position =
+shows_start t apart clause number n ms named is_false entries_seen trues carries position =
     let agree : not_false trues clause ≡ not_false (literals_of t.entries) clause =
     not_false_same trues (literals_of t.entries) clause (λ l member. same_tests (has trues (negation l))
     (has (literals_of t.entries) (negation l)) (carries.set_true (negation l)) (back l member)) in
@@ -93,20 +93,20 @@ shows_start t apart clause number n ms named is_false marked trues carries posit
     back : (l : Lit) → has clause l ≡ true → has (literals_of t.entries) (negation l) ≡ true → has trues (negation l) ≡ true
     back l member h =
         let r = has_entry t.entries (negation l) h in
-        ap (has trues) (sym r.3) ∙ carries.marked r.0 r.1 r.2 (marked r.0 (false_by t.entries apart clause l member r.0 r.1 r.2 r.3))
+        ap (has trues) (sym r.3) ∙ carries.entries_seen r.0 r.1 r.2 (entries_seen r.0 (false_by t.entries apart clause l member r.0 r.1 r.2 r.3))
 
 pub shows_kept : (t : TrailState) → AreApart t.entries → (q : ℕ) (e : Entry) (ms ns : ℕ → Bool) (kept : List Lit) (hints : List ℕ) →
     slice_get t.entries q ≡ Some e → ((k : ℕ) → (k ≡ q → ⊥) → ms k ≡ true → ns k ≡ true) → Shows t (q + 1) ms kept hints →
     Shows t q ns (kept ++ negation e.literal ∷ []) hints
 shows_kept t apart q e ms ns kept hints at others shows trues carries position = shows trues (record {
   set_true = carries.set_true;
-  marked = λ k d at_k m. elim (cases_eq k q) [
+  entries_seen = λ k d at_k m. elim (cases_eq k q) [
     | inl i ↦ (let d_is : d ≡ e = slice_get_one t.entries q d e (ap (slice_get t.entries) (sym i) ∙ at_k) at in
         ap (λ (x : Entry). has trues x.literal) d_is ∙ (carries.passed q e at (omega arith)
         ∙ (has-append kept (negation e.literal ∷ []) (negation e.literal)
         ∙ or_right (has kept (negation e.literal)) (has (negation e.literal ∷ []) (negation e.literal))
         (or_left (same (negation e.literal) (negation e.literal)) false (same_from (negation e.literal) (negation e.literal) refl)))))
-    | inr n ↦ carries.marked k d at_k (others k n m)
+    | inr n ↦ carries.entries_seen k d at_k (others k n m)
   ];
   passed = λ k d at_k below. carries.passed k d at_k (omega arith)
       ∙ (has-append kept (negation e.literal ∷ []) (negation d.literal)
@@ -151,7 +151,7 @@ shows_replaced t apart q e reason clause ms ns kept hints at named forced fresh 
         back h =
             let r = has_entry (take q t.entries) (negation l) h in
             let at_k = slice_get-take q t.entries r.0 r.1 r.2 in
-            ap (has trues) (sym r.3) ∙ carries.marked r.0 r.1 at_k.1 (added r.0 (λ i. omega (arith, at_k.0))
+            ap (has trues) (sym r.3) ∙ carries.entries_seen r.0 r.1 at_k.1 (added r.0 (λ i. omega (arith, at_k.0))
             (false_by t.entries apart clause l member r.0 r.1 at_k.1 r.3))
 
     more : Carries t.entries (q + 1) ms kept (e.literal ∷ trues)
@@ -160,11 +160,11 @@ shows_replaced t apart q e reason clause ms ns kept hints at named forced fresh 
         | inl s ↦ entry_has t.entries q e l at (same_is e.literal l s)
         | inr s ↦ carries.set_true l s
       ];
-      marked = λ k d at_k m. elim (cases_eq k q) [
+      entries_seen = λ k d at_k m. elim (cases_eq k q) [
         | inl i ↦ (let d_is : d ≡ e = slice_get_one t.entries q d e (ap (slice_get t.entries) (sym i) ∙ at_k) at in
             or_left (same e.literal d.literal) (has trues d.literal) (same_from e.literal d.literal
             (ap (λ (x : Entry). x.literal) (sym d_is))))
-        | inr n ↦ or_right (same e.literal d.literal) (has trues d.literal) (carries.marked k d at_k (others k n m))
+        | inr n ↦ or_right (same e.literal d.literal) (has trues d.literal) (carries.entries_seen k d at_k (others k n m))
       ];
       passed = λ k d at_k below. ap (λ b. b || has trues d.literal) (entries_differ t.entries apart q k e d at at_k (λ i. omega arith))
           ∙ carries.passed k d at_k (omega arith);

@@ -4,12 +4,12 @@ pub mod Rounds
 pub mod Queueing
 pub mod Deciding
 pub mod HintLists
-pub mod Marking
+pub mod SeenEntries
 pub mod Hints
-pub mod ShelfNumbers
+pub mod DatabaseNumbers
 pub mod LogHints
 pub mod Stages
 pub mod Noting
-pub mod LessonLemmas
-pub mod Walking
+pub mod LearntClauseLemmas
+pub mod Analysing
 mod Examples

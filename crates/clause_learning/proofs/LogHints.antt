@@ -11,15 +11,15 @@ use Rattle.sequence.proofs.Numbers.{length-numbers, numbers_at}
 use Rattle.clause_core.specs.Literals.{Lit}
 use Rattle.refutation_check.specs.Checking.{HintEffect, numbered_from, clause_named, effect_of_named, led_to, refused_hint}
 use Rattle.refutation_check.specs.Checking.HintEffect.{ends, makes, shows_nothing}
-use Rattle.clause_learning.specs.declared.shelves.Shelf.{Shelf}
+use Rattle.clause_learning.specs.declared.clause_database.ClauseDatabase.{ClauseDatabase}
 use Rattle.clause_learning.specs.Hints.{AreHints}
-use Rattle.clause_learning.specs.Shelves.{numbers_of, log_number, log_hints, AreLogNumbers, AreFirst, AreShelved}
+use Rattle.clause_learning.specs.ClauseDatabases.{numbers_of, log_number, log_hints, AreLogNumbers, AreFirst, AreKept}
 use Rattle.clause_learning.proofs.Hints.{named_one}
 
 -- the first clauses of a log
-pub first_named : (clauses later : List (List Lit)) (shelf : Shelf) → AreFirst (length clauses) shelf →
-    AreLogNumbers (clauses ++ later) clauses (numbers_of shelf)
-first_named clauses later shelf first = subst (AreLogNumbers (clauses ++ later) clauses) (sym first) (record {
+pub first_named : (clauses later : List (List Lit)) (database : ClauseDatabase) → AreFirst (length clauses) database →
+    AreLogNumbers (clauses ++ later) clauses (numbers_of database)
+first_named clauses later database first = subst (AreLogNumbers (clauses ++ later) clauses) (sym first) (record {
   one_each = length-numbers 1 (length clauses);
   each = λ place number at. (let within = slice_get_within (numbers_from 1 (length clauses)) place number at in
       let below : place < length clauses = omega (arith, within, length-numbers 1 (length clauses)) in
@@ -140,20 +140,20 @@ module _ (known clauses : List (List Lit)) (numbers : List ℕ) (are : AreLogNum
 -- ---- what is kept of a trail
 
 -- a clause is left out
-pub kept_less : (formula clauses : List (List Lit)) (numbers : List ℕ) (place : ℕ) (others : List (List Lit)) (shelf : Shelf) →
-    AreShelved formula clauses numbers place others shelf → AreShelved formula clauses numbers (place + 1) others shelf
-kept_less formula clauses numbers place others shelf are = record {
+pub kept_less : (formula clauses : List (List Lit)) (numbers : List ℕ) (place : ℕ) (others : List (List Lit)) (database : ClauseDatabase) →
+    AreKept formula clauses numbers place others database → AreKept formula clauses numbers (place + 1) others database
+kept_less formula clauses numbers place others database are = record {
   stood = are.stood;
   fewer = omega (arith, are.fewer);
   named = are.named;
 }
 
 -- a clause is kept with its number
-pub kept_more : (formula clauses : List (List Lit)) (numbers : List ℕ) (place : ℕ) (others : List (List Lit)) (shelf after : Shelf)
-    (clause : List Lit) (number : ℕ) → AreShelved formula clauses numbers place others shelf → slice_get clauses place ≡ Some clause →
-    slice_get numbers place ≡ Some number → numbers_of after ≡ numbers_of shelf ++ number ∷ [] →
-    AreShelved formula clauses numbers (place + 1) (others ++ clause ∷ []) after
-kept_more formula clauses numbers place others shelf after clause number are at named numbers_are =
+pub kept_more : (formula clauses : List (List Lit)) (numbers : List ℕ) (place : ℕ) (others : List (List Lit)) (database after : ClauseDatabase)
+    (clause : List Lit) (number : ℕ) → AreKept formula clauses numbers place others database → slice_get clauses place ≡ Some clause →
+    slice_get numbers place ≡ Some number → numbers_of after ≡ numbers_of database ++ number ∷ [] →
+    AreKept formula clauses numbers (place + 1) (others ++ clause ∷ []) after
+kept_more formula clauses numbers place others database after clause number are at named numbers_are =
     let whole : (formula ++ others) ++ clause ∷ [] ≡ formula ++ (others ++ clause ∷ []) = append_assoc formula others (clause ∷ []) in
     let longer : length (formula ++ (others ++ clause ∷ [])) ≡ length (formula ++ others) + 1 =
     sym (ap length whole) ∙ length_push (formula ++ others) clause in
@@ -162,18 +162,18 @@ kept_more formula clauses numbers place others shelf after clause number are at 
       fewer = omega (arith, are.fewer, longer);
       named = λ later old. subst (λ (cs : List (List Lit)). AreLogNumbers (formula ++ later) cs (numbers_of after)) whole
           (subst (AreLogNumbers (formula ++ later) ((formula ++ others) ++ clause ∷ [])) (sym numbers_are)
-          (named_again (formula ++ later) clauses (formula ++ others) numbers (numbers_of shelf) place number clause old (are.named later old)
+          (named_again (formula ++ later) clauses (formula ++ others) numbers (numbers_of database) place number clause old (are.named later old)
           at named));
     }
 
 -- the clauses of the formula alone
-pub first_kept : (formula clauses : List (List Lit)) (numbers : List ℕ) (others : List (List Lit)) (shelf : Shelf) → others ≡ [] →
-    AreFirst (length formula) shelf → AreShelved formula clauses numbers (length formula) others shelf
-first_kept formula clauses numbers others shelf none first =
+pub first_kept : (formula clauses : List (List Lit)) (numbers : List ℕ) (others : List (List Lit)) (database : ClauseDatabase) → others ≡ [] →
+    AreFirst (length formula) database → AreKept formula clauses numbers (length formula) others database
+first_kept formula clauses numbers others database none first =
     let whole : formula ++ others ≡ formula = ap (λ (cs : List (List Lit)). formula ++ cs) none ∙ append-nil formula in
     record {
       stood = subst (All (Contains clauses)) (sym none) (All-nil (Contains clauses));
       fewer = omega (arith, ap length whole);
-      named = λ later old. subst (λ (cs : List (List Lit)). AreLogNumbers (formula ++ later) cs (numbers_of shelf)) (sym whole)
-          (first_named formula later shelf first);
+      named = λ later old. subst (λ (cs : List (List Lit)). AreLogNumbers (formula ++ later) cs (numbers_of database)) (sym whole)
+          (first_named formula later database first);
     }

@@ -18,11 +18,11 @@ use Rattle.sat_trail.specs.States.{TrailState, IsSound}
 use Rattle.sat_trail.proofs.TrailSteps.{none_not_false, not_false_has}
 use Rattle.refutation_check.specs.Checking.{numbered_from, clause_named, effect_of_open, effect_of_named, led_to, refused_hint}
 use Rattle.refutation_check.specs.Checking.HintEffect.{makes, shows_nothing}
-use Rattle.clause_learning.specs.declared.journal.Journal.{Journal}
+use Rattle.clause_learning.specs.declared.proof_log.ProofLog.{ProofLog}
 use Rattle.clause_learning.specs.declared.units.Units.{Units}
 use Rattle.clause_learning.specs.Units.{AreUnits, AddsHint, ShowAlone, HaveNoted, MayHaveNoted}
 use Rattle.clause_learning.specs.Units.HaveNoted.{more}
-use Rattle.clause_learning.specs.Shelves.{numbers_of}
+use Rattle.clause_learning.specs.ClauseDatabases.{numbers_of}
 use Rattle.clause_learning.proofs.Hints.{named_one}
 use Rattle.clause_learning.proofs.Stages.{forced_by}
 
@@ -210,9 +210,9 @@ module _ (t : TrailState) (sound : IsSound t) (place : ℕ) (within : place < le
 -- ---- clauses are added one after another
 
 -- some were added, and there is room for the others that may be added
-pub record IsNoting (old : TrailState) (journal : Journal) (units : Units) (new : TrailState) (after : Journal) (later : Units) : Type 0 where
+pub record IsNoting (old : TrailState) (proof_log : ProofLog) (units : Units) (new : TrailState) (after : ProofLog) (later : Units) : Type 0 where
   pub count : ℕ
-  pub noted : HaveNoted count old journal new after
+  pub noted : HaveNoted count old proof_log new after
   pub added : later.added ≡ units.added + count
   pub most : later.most ≡ units.most
   pub room : later.added ≤ later.most
@@ -222,33 +222,33 @@ pub record IsNoting (old : TrailState) (journal : Journal) (units : Units) (new 
   pub start : new.level ≡ 0
   pub sound : IsSound new
   pub units_are : AreUnits new later
-  pub numbers : length (numbers_of after.shelf) ≡ length new.clauses
+  pub numbers : length (numbers_of after.database) ≡ length new.clauses
 
-module _ (old : TrailState) (journal : Journal) (units : Units) (middle : TrailState) (between : Journal) (now : Units) (new : TrailState)
-    (after : Journal) (later : Units) (may : MayHaveNoted middle between now new after later) where
-  pub noting_more : IsNoting old journal units middle between now → AreUnits new later → later.most ≡ now.most → later.added ≤ later.most →
-      IsNoting old journal units new after later
+module _ (old : TrailState) (proof_log : ProofLog) (units : Units) (middle : TrailState) (between : ProofLog) (now : Units) (new : TrailState)
+    (after : ProofLog) (later : Units) (may : MayHaveNoted middle between now new after later) where
+  pub noting_more : IsNoting old proof_log units middle between now → AreUnits new later → later.most ≡ now.most → later.added ≤ later.most →
+      IsNoting old proof_log units new after later
   noting_more is units_are most room = elim may [
-    | inl (same_trail, same_journal, same_count) ↦ record {
+    | inl (same_trail, same_proof_log, same_count) ↦ record {
       count = is.count;
-      noted = subst (λ (t : TrailState). HaveNoted is.count old journal t after) (sym same_trail)
-          (subst (HaveNoted is.count old journal middle) (sym same_journal) is.noted);
+      noted = subst (λ (t : TrailState). HaveNoted is.count old proof_log t after) (sym same_trail)
+          (subst (HaveNoted is.count old proof_log middle) (sym same_proof_log) is.noted);
       added = same_count ∙ is.added;
       most = most ∙ is.most;
       room = room;
       few = omega (arith, is.few, ap (λ (t : TrailState). length t.clauses) same_trail, most, same_count);
-      next = omega (arith, is.next, ap (λ (j : Journal). j.next) same_journal, most, same_count);
+      next = omega (arith, is.next, ap (λ (j : ProofLog). j.next) same_proof_log, most, same_count);
       usable = ap (λ (t : TrailState). t.broken) same_trail ∙ is.usable;
       start = ap (λ (t : TrailState). t.level) same_trail ∙ is.start;
       sound = subst IsSound (sym same_trail) is.sound;
       units_are = units_are;
-      numbers = ap (λ (j : Journal). length (numbers_of j.shelf)) same_journal
+      numbers = ap (λ (j : ProofLog). length (numbers_of j.database)) same_proof_log
           ∙ (is.numbers ∙ sym (ap (λ (t : TrailState). length t.clauses) same_trail));
     }
     | inr (has_noted, one_more) ↦ (let longer : length new.clauses ≡ length middle.clauses + 1 =
         ap (λ (t : TrailState). length t.clauses) has_noted.trail_is ∙ length_push middle.clauses (has_noted.literal ∷ []) in
-        let numbers : length (numbers_of after.shelf) ≡ length new.clauses = ap length has_noted.numbers_are
-        ∙ (length_push (numbers_of between.shelf) between.next ∙ (ap (λ (n : ℕ). n + 1) is.numbers ∙ sym longer)) in
+        let numbers : length (numbers_of after.database) ≡ length new.clauses = ap length has_noted.numbers_are
+        ∙ (length_push (numbers_of between.database) between.next ∙ (ap (λ (n : ℕ). n + 1) is.numbers ∙ sym longer)) in
         record {
           count = is.count + 1;
           noted = more is.noted has_noted;

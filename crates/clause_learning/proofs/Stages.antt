@@ -1,4 +1,4 @@
--- The clause of a walk has one literal of the present level in the end.
+-- The clause of an analysis has one literal of the present level in the end.
 use Rattle.std.proofs.Common.{◌≡◌, ℕ, suc, ◌+◌, ◌<◌, ◌≤◌, Bool, true, false, not, cond, ◌||◌, List, [], ◌∷◌, ◌++◌, take, Option, Some}
 use Rattle.std.proofs.Common.{None, slice_get, sym, ap, ◌∙◌, subst, refl, arith, eqb, ltb, inl, inr, ◌⊎◌, MatchOption, max}
 use Rattle.std.proofs.lemmas.Bool.{false≢true, or_cases, or_left, or_right, and_cases, and_parts, cases_Bool, cases_lt, eqb-true}
@@ -14,12 +14,12 @@ use Rattle.sat_trail.specs.States.{TrailState, IsSound}
 use Rattle.sat_trail.proofs.TrailSteps.{has_one, has_not_false}
 use Rattle.sat_trail.proofs.Places.{AreApart, place_of_entry, has_entry, unset_has}
 use Rattle.sat_trail.proofs.Soundness.{apart_from, level_at_next, levels_rise, level_within}
-use Rattle.clause_learning.specs.declared.walks.Walk.{Walk}
+use Rattle.clause_learning.specs.declared.analysis.Analysis.{Analysis}
 use Rattle.clause_learning.specs.Levels.{IsSetAt}
-use Rattle.clause_learning.specs.ConflictWalks.{is_marked, is_of_clause, count_at, AreMarks, must_go, MayStay, IsForcing, IsReplaced}
-use Rattle.clause_learning.specs.ConflictWalks.{IsEarly, IsLate}
-use Rattle.clause_learning.proofs.Marking.{one_at, count_some, count_has, HasMarked, one_same, one_other, is_of_clause_from, without}
-use Rattle.clause_learning.proofs.Marking.{without_other, without_from, count_without}
+use Rattle.clause_learning.specs.ConflictAnalysis.{is_seen, is_of_clause, count_at, AreSeen, must_go, MayStay, IsForcing, IsReplaced}
+use Rattle.clause_learning.specs.ConflictAnalysis.{IsEarly, IsLate}
+use Rattle.clause_learning.proofs.SeenEntries.{one_at, count_some, count_has, HasSeen, one_same, one_other, is_of_clause_from, without}
+use Rattle.clause_learning.proofs.SeenEntries.{without_other, without_from, count_without}
 
 -- ---- levels of entries
 
@@ -108,23 +108,23 @@ stays_there present waiting e positive left = inr (positive, stays present waiti
 -- ---- one entry is passed
 
 module _ (t : TrailState) (sound : IsSound t) (q : ℕ) (e : Entry) (at : slice_get t.entries q ≡ Some e) (ms : ℕ → Bool)
-    (marked : ms q ≡ true) (ahead : (k : ℕ) → ms k ≡ true → k < q + 1) where
-  -- where a marked entry of the present level waits, this one is of that level
+    (entries_seen : ms q ≡ true) (ahead : (k : ℕ) → ms k ≡ true → k < q + 1) where
+  -- where a seen entry of the present level waits, this one is of that level
   top_level : 0 < count_at t.level ms t.entries → e.level ≡ t.level
   top_level h =
       let r = count_some t.level ms t.entries h in
       omega (
         arith,
-        entry_levels t sound r.place q r.entry e r.there at (let b = ahead r.place r.is_marked in omega arith),
+        entry_levels t sound r.place q r.entry e r.there at (let b = ahead r.place r.is_seen in omega arith),
         r.same_level,
         entry_low t sound q e at,
       )
 
   -- where two do, another one waits
-  another_waits : 1 < count_at t.level ms t.entries → e.level ≡ t.level → HasMarked t.level (without ms q) t.entries
+  another_waits : 1 < count_at t.level ms t.entries → e.level ≡ t.level → HasSeen t.level (without ms q) t.entries
   another_waits h top = count_some t.level (without ms q) t.entries
       (left (count_at t.level (without ms q) t.entries) (one_at t.level true e) (count_at t.level ms t.entries)
-      (count_without t.level ms (without ms q) t.entries q e at marked (λ k. refl)) (one_same t.level e top) h)
+      (count_without t.level ms (without ms q) t.entries q e at entries_seen (λ k. refl)) (one_same t.level e top) h)
     where
       left : (n x m : ℕ) → n + x ≡ m → x ≡ 1 → 1 < m → 0 < n
       left n x m s o h = omega arith
@@ -133,7 +133,7 @@ module _ (t : TrailState) (sound : IsSound t) (q : ℕ) (e : Entry) (at : slice_
   crowded_forced : 1 < count_at t.level ms t.entries → e.reason ≡ None → ⊥
   crowded_forced h none =
       let r = another_waits h (top_level (omega arith)) in
-      let o = without_from ms q r.place r.is_marked in
+      let o = without_from ms q r.place r.is_seen in
       let d = decided_above t sound r.place q r.entry e r.there at (let b = ahead r.place o.1 in let n = o.0 in omega arith) none in
       omega (arith, r.same_level, top_level (omega arith))
 
@@ -171,18 +171,18 @@ module _ (t : TrailState) (sound : IsSound t) (q : ℕ) (e : Entry) (at : slice_
         ]
 
 -- the opposite of an entry's literal stays
-pub stage_kept : (t : TrailState) → IsSound t → (q : ℕ) (e : Entry) → slice_get t.entries q ≡ Some e → (w v : Walk) → AreMarks t w.marks →
-    is_marked w.marks q ≡ true → ((k : ℕ) → is_marked w.marks k ≡ true → k < q + 1) → AreMarks t v.marks →
-    ((k : ℕ) → is_marked v.marks k ≡ without (is_marked w.marks) q k) → v.kept.items ≡ w.kept.items ++ negation e.literal ∷ [] →
-    v.back ≡ cond (nat_lt e.level t.level) (max w.back e.level) w.back → MayStay t.level w.marks.waiting e →
+pub stage_kept : (t : TrailState) → IsSound t → (q : ℕ) (e : Entry) → slice_get t.entries q ≡ Some e → (w v : Analysis) → AreSeen t w.seen →
+    is_seen w.seen q ≡ true → ((k : ℕ) → is_seen w.seen k ≡ true → k < q + 1) → AreSeen t v.seen →
+    ((k : ℕ) → is_seen v.seen k ≡ without (is_seen w.seen) q k) → v.kept.items ≡ w.kept.items ++ negation e.literal ∷ [] →
+    v.back ≡ cond (nat_lt e.level t.level) (max w.back e.level) w.back → MayStay t.level w.seen.waiting e →
     IsEarly t w ⊎ IsLate t w → IsLate t v
-stage_kept t sound q e at w v marks marked ahead after cleared kept back stays stage = elim stage
+stage_kept t sound q e at w v seen entries_seen ahead after cleared kept back stays stage = elim stage
     [ inl early ↦ first early | inr late ↦ next late ]
   where
-    counts : v.marks.waiting + one_at t.level true e ≡ w.marks.waiting
-    counts = summed v.marks.waiting (count_at t.level (is_marked v.marks) t.entries) (one_at t.level true e)
-        (count_at t.level (is_marked w.marks) t.entries) w.marks.waiting after.counted
-        (count_without t.level (is_marked w.marks) (is_marked v.marks) t.entries q e at marked cleared) marks.counted
+    counts : v.seen.waiting + one_at t.level true e ≡ w.seen.waiting
+    counts = summed v.seen.waiting (count_at t.level (is_seen v.seen) t.entries) (one_at t.level true e)
+        (count_at t.level (is_seen w.seen) t.entries) w.seen.waiting after.counted
+        (count_without t.level (is_seen w.seen) (is_seen v.seen) t.entries q e at entries_seen cleared) seen.counted
       where
         summed : (v n x m w : ℕ) → v ≡ n → n + x ≡ m → w ≡ m → v + x ≡ w
         summed v n x m w a s c = omega arith
@@ -200,16 +200,16 @@ stage_kept t sound q e at w v marks marked ahead after cleared kept back stays s
     first : IsEarly t w → IsLate t v
     first early =
         let top : e.level ≡ t.level = elim early.waits [
-          | inl h ↦ top_level t sound q e at (is_marked w.marks) marked ahead (omega (arith, marks.counted))
+          | inl h ↦ top_level t sound q e at (is_seen w.seen) entries_seen ahead (omega (arith, seen.counted))
           | inr h ↦ (let low = entry_low t sound q e at in omega arith)
         ] in
         let positive : 0 < e.level = elim stays [
           | inl none ↦ decided_positive t sound q e at none
           | inr r ↦ r.0
         ] in
-        let few : w.marks.waiting ≤ 1 = elim (cases_lt 1 w.marks.waiting) [
+        let few : w.seen.waiting ≤ 1 = elim (cases_lt 1 w.seen.waiting) [
           | inl many ↦ elim stays [
-            | inl none ↦ absurd (crowded_forced t sound q e at (is_marked w.marks) marked ahead (omega (arith, marks.counted)) none)
+            | inl none ↦ absurd (crowded_forced t sound q e at (is_seen w.seen) entries_seen ahead (omega (arith, seen.counted)) none)
             | inr r ↦ elim r.1 [ inl n ↦ absurd (n top) | inr h ↦ h ]
           ]
           | inr h ↦ h
@@ -230,8 +230,8 @@ stage_kept t sound q e at w v marks marked ahead after cleared kept back stays s
 
     next : IsLate t w → IsLate t v
     next late =
-        let other : e.level ≡ t.level → ⊥ = λ top. (let h = count_has t.level (is_marked w.marks) t.entries q e marked at top in omega
-        (arith, marks.counted, late.alone)) in
+        let other : e.level ≡ t.level → ⊥ = λ top. (let h = count_has t.level (is_seen w.seen) t.entries q e entries_seen at top in omega
+        (arith, seen.counted, late.alone)) in
         let low : e.level < t.level = (let h = entry_low t sound q e at in omega arith) in
         let none = one_other t.level true e other in
         let back_is : v.back ≡ max w.back e.level = back ∙ cond-true (nat_lt e.level t.level) (max w.back e.level) w.back
@@ -274,13 +274,13 @@ stage_kept t sound q e at w v marks marked ahead after cleared kept back stays s
         }
 
 -- the reason takes the place of an entry
-pub stage_replaced : (t : TrailState) → IsSound t → (q : ℕ) (e : Entry) → slice_get t.entries q ≡ Some e → (w v : Walk) →
-    AreMarks t w.marks → is_marked w.marks q ≡ true → ((k : ℕ) → is_marked w.marks k ≡ true → k < q + 1) → AreMarks t v.marks →
+pub stage_replaced : (t : TrailState) → IsSound t → (q : ℕ) (e : Entry) → slice_get t.entries q ≡ Some e → (w v : Analysis) →
+    AreSeen t w.seen → is_seen w.seen q ≡ true → ((k : ℕ) → is_seen w.seen k ≡ true → k < q + 1) → AreSeen t v.seen →
     (reason : ℕ) (forced : IsForced t.clauses (take q t.entries) reason e.literal) →
-    ((k : ℕ) → is_marked v.marks k ≡ without (λ j. is_marked w.marks j || is_of_clause t.entries forced.clause j) q k) →
-    v.kept.items ≡ w.kept.items → v.back ≡ w.back → IsReplaced t.clauses t.level w.marks.waiting e reason →
+    ((k : ℕ) → is_seen v.seen k ≡ without (λ j. is_seen w.seen j || is_of_clause t.entries forced.clause j) q k) →
+    v.kept.items ≡ w.kept.items → v.back ≡ w.back → IsReplaced t.clauses t.level w.seen.waiting e reason →
     IsEarly t w ⊎ IsLate t w → IsEarly t v ⊎ IsLate t v
-stage_replaced t sound q e at w v marks marked ahead after reason forced cleared kept back replaced stage = elim stage
+stage_replaced t sound q e at w v seen entries_seen ahead after reason forced cleared kept back replaced stage = elim stage
     [ inl early ↦ inl (still early) | inr late ↦ inr (later late) ]
   where
     still : IsEarly t w → IsEarly t v
@@ -289,21 +289,21 @@ stage_replaced t sound q e at w v marks marked ahead after reason forced cleared
       low = back ∙ early.low;
       waits = elim replaced.why [
         | inl zero_level ↦ elim early.waits [
-          | inl h ↦ (let top = top_level t sound q e at (is_marked w.marks) marked ahead (omega (arith, marks.counted)) in inr
+          | inl h ↦ (let top = top_level t sound q e at (is_seen w.seen) entries_seen ahead (omega (arith, seen.counted)) in inr
               (omega arith))
           | inr h ↦ inr h
         ]
         | inr (inr low) ↦ elim early.waits [
-          | inl h ↦ (let top = top_level t sound q e at (is_marked w.marks) marked ahead (omega (arith, marks.counted)) in
+          | inl h ↦ (let top = top_level t sound q e at (is_seen w.seen) entries_seen ahead (omega (arith, seen.counted)) in
               absurd (omega arith))
           | inr h ↦ inr h
         ]
-        | inr (inl crowded) ↦ inl (let r = another_waits t sound q e at (is_marked w.marks) marked ahead
-            (omega (arith, marks.counted, crowded.1)) crowded.0 in
-            let o = without_from (is_marked w.marks) q r.place r.is_marked in
-            let m = cleared r.place ∙ (without_other (λ j. is_marked w.marks j || is_of_clause t.entries forced.clause j) q r.place o.0
-            ∙ or_left (is_marked w.marks r.place) (is_of_clause t.entries forced.clause r.place) o.1) in
-            let h = count_has t.level (is_marked v.marks) t.entries r.place r.entry m r.there r.same_level in
+        | inr (inl crowded) ↦ inl (let r = another_waits t sound q e at (is_seen w.seen) entries_seen ahead
+            (omega (arith, seen.counted, crowded.1)) crowded.0 in
+            let o = without_from (is_seen w.seen) q r.place r.is_seen in
+            let m = cleared r.place ∙ (without_other (λ j. is_seen w.seen j || is_of_clause t.entries forced.clause j) q r.place o.0
+            ∙ or_left (is_seen w.seen r.place) (is_of_clause t.entries forced.clause r.place) o.1) in
+            let h = count_has t.level (is_seen v.seen) t.entries r.place r.entry m r.there r.same_level in
             omega (arith, after.counted, h))
       ];
     }
@@ -313,8 +313,8 @@ stage_replaced t sound q e at w v marks marked ahead after reason forced cleared
       asserted = late.asserted;
       others = late.others;
       kept_is = kept ∙ late.kept_is;
-      alone = elim (cases_lt 0 v.marks.waiting) [
-        | inl some ↦ absurd (none (count_some t.level (is_marked v.marks) t.entries (omega (arith, after.counted))))
+      alone = elim (cases_lt 0 v.seen.waiting) [
+        | inl some ↦ absurd (none (count_some t.level (is_seen v.seen) t.entries (omega (arith, after.counted))))
         | inr h ↦ omega arith
       ];
       last = late.last;
@@ -333,10 +333,10 @@ stage_replaced t sound q e at w v marks marked ahead after reason forced cleared
       ));
     }
       where
-        none : HasMarked t.level (is_marked v.marks) t.entries → ⊥
+        none : HasSeen t.level (is_seen v.seen) t.entries → ⊥
         none r =
-            let before = ahead_replaced t sound q e at (is_marked w.marks) marked ahead reason forced r.place
-            (sym (cleared r.place) ∙ r.is_marked) in
+            let before = ahead_replaced t sound q e at (is_seen w.seen) entries_seen ahead reason forced r.place
+            (sym (cleared r.place) ∙ r.is_seen) in
             let low = entry_levels t sound r.place q r.entry e r.there at (omega arith) in
             elim replaced.why [
               | inl zero_level ↦ omega (arith, low, r.same_level, late.below)

@@ -4,7 +4,7 @@ pub mod NumberSets
 pub mod Queues
 pub mod Tournaments
 pub mod Decisions
-pub mod Shelves
-pub mod Lessons
+pub mod ClauseDatabases
+pub mod LearntClauses
 pub mod Units
-pub mod ConflictWalks
+pub mod ConflictAnalysis

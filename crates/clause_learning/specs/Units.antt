@@ -4,11 +4,11 @@ use Rattle.std.specs.Prelude.{◌≡◌, ℕ, ◌+◌, ◌-◌, ◌<◌, ◌≤�
 use Rattle.clause_core.specs.Literals.{Lit, negation}
 use Rattle.sat_trail.specs.States.{TrailState, IsSound, Propagates, with_clause}
 use Rattle.refutation_check.specs.Checking.{numbered_from, refused_hint}
-use Rattle.clause_learning.specs.declared.journal.Journal.{Journal}
+use Rattle.clause_learning.specs.declared.proof_log.ProofLog.{ProofLog}
 use Rattle.clause_learning.specs.declared.units.Units.{Units}
 use Rattle.clause_learning.specs.Hints.{AreHints}
-use Rattle.clause_learning.specs.Lessons.{learnt_step}
-use Rattle.clause_learning.specs.Shelves.{numbers_of, log_hints}
+use Rattle.clause_learning.specs.LearntClauses.{learnt_step}
+use Rattle.clause_learning.specs.ClauseDatabases.{numbers_of, log_hints}
 
 -- there is a place for each variable, and clauses of the trail alone are named
 pub record AreUnits (t : TrailState) (units : Units) : Type 0 where
@@ -28,7 +28,7 @@ pub record ShowAlone (clauses : List (List Lit)) (literal : Lit) (hints : List �
 
 -- A clause of one literal is added to a trail at level 0, and its step stands behind the others, with the next number;
 -- its hints show it.
-pub record HasNoted (old : TrailState) (journal : Journal) (new : TrailState) (after : Journal) : Type 0 where
+pub record HasNoted (old : TrailState) (proof_log : ProofLog) (new : TrailState) (after : ProofLog) : Type 0 where
   pub literal : Lit
   pub hints : List ℕ
   pub over : literal.index < old.variables
@@ -39,27 +39,27 @@ pub record HasNoted (old : TrailState) (journal : Journal) (new : TrailState) (a
   pub sound : IsSound new
   pub trail_is : new ≡ with_clause old (literal ∷ [])
   pub steps_are : after.steps.items
-      ≡ journal.steps.items ++ learnt_step journal.next (literal ∷ []) (log_hints (numbers_of journal.shelf) hints) ∷ []
-  pub next_is : after.next ≡ journal.next + 1
-  pub numbers_are : numbers_of after.shelf ≡ numbers_of journal.shelf ++ journal.next ∷ []
+      ≡ proof_log.steps.items ++ learnt_step proof_log.next (literal ∷ []) (log_hints (numbers_of proof_log.database) hints) ∷ []
+  pub next_is : after.next ≡ proof_log.next + 1
+  pub numbers_are : numbers_of after.database ≡ numbers_of proof_log.database ++ proof_log.next ∷ []
 
 -- so many clauses are added, one after another
-pub data HaveNoted : ℕ → TrailState → Journal → TrailState → Journal → Type 0 where
-  none : {t : TrailState} → {journal : Journal} → HaveNoted 0 t journal t journal
-  more : {count : ℕ} → {old middle new : TrailState} → {journal between after : Journal} →
-      HaveNoted count old journal middle between → HasNoted middle between new after → HaveNoted (count + 1) old journal new after
+pub data HaveNoted : ℕ → TrailState → ProofLog → TrailState → ProofLog → Type 0 where
+  none : {t : TrailState} → {proof_log : ProofLog} → HaveNoted 0 t proof_log t proof_log
+  more : {count : ℕ} → {old middle new : TrailState} → {proof_log between after : ProofLog} →
+      HaveNoted count old proof_log middle between → HasNoted middle between new after → HaveNoted (count + 1) old proof_log new after
 
 -- one clause is added, or none
-abbrev pub MayHaveNoted : TrailState → Journal → Units → TrailState → Journal → Units → Type 0
-MayHaveNoted old journal units new after later = ((new ≡ old) × (after ≡ journal) × (later.added ≡ units.added))
-    ⊎ (HasNoted old journal new after × (later.added ≡ units.added + 1))
+abbrev pub MayHaveNoted : TrailState → ProofLog → Units → TrailState → ProofLog → Units → Type 0
+MayHaveNoted old proof_log units new after later = ((new ≡ old) × (after ≡ proof_log) × (later.added ≡ units.added))
+    ⊎ (HasNoted old proof_log new after × (later.added ≡ units.added + 1))
 
 -- propagation went on, and so many clauses were added on the way
-pub record HasPropagated (count : ℕ) (old : TrailState) (journal : Journal) (new : TrailState) (after : Journal) : Type 0 where
+pub record HasPropagated (count : ℕ) (old : TrailState) (proof_log : ProofLog) (new : TrailState) (after : ProofLog) : Type 0 where
   pub found : TrailState
   pub noted : TrailState
   pub first : Propagates old found
   pub first_sound : IsSound found
-  pub clauses : HaveNoted count found journal noted after
+  pub clauses : HaveNoted count found proof_log noted after
   pub noted_sound : IsSound noted
   pub last : Propagates noted new

@@ -3,10 +3,10 @@
 ghost use Rattle.std.specs.Prelude.{◌≡◌, ◌↔◌, ◌&&◌, ◌+◌, ◌-◌, ◌<◌, ◌≤◌, ◌^◌, ◌∷◌, [], ℕ, List, false, true, length, max, nat_lt, Some, None, slice_get, IsTrue, IfOk, IfSome, OnOk};
 ghost use Rattle.clause_core.specs.Literals.{Lit, has};
 ghost use Rattle.sat_trail.specs.States.{TrailState, IsSound};
-ghost use Rattle.clause_learning.specs.Shelves.{numbers_of};
+ghost use Rattle.clause_learning.specs.ClauseDatabases.{numbers_of};
 ghost use Rattle.clause_learning.specs.Units.{AreUnits, ShowAlone, AddsHint, HasNoted, HaveNoted, MayHaveNoted};
 
-use crate::journal::Journal;
+use crate::proof_log::ProofLog;
 use clause_core::{Clause, Literal, clause_of};
 use sat_trail::Trail;
 use sequence::NoMemory;
@@ -105,7 +105,7 @@ impl Units {
         &mut self,
         alloc: Global,
         trail: &mut Trail<'_>,
-        journal: &mut Journal,
+        proof_log: &mut ProofLog,
     ) -> Result<(), NoMemory>
         requires usable { trail.old.broken ≡ false }
         requires sound { IsSound trail.old }
@@ -113,9 +113,9 @@ impl Units {
         requires units { AreUnits trail.old self.old }
         requires added { self.old.added ≤ self.old.most }
         requires few { length trail.old.clauses + (self.old.most - self.old.added) + 1 < 2 ^ 32 }
-        requires next { journal.old.next + self.old.most + 1 < 2 ^ 64 }
-        requires numbers { length (numbers_of journal.old.shelf) ≡ length trail.old.clauses }
-        ensures noted { OnOk result ((count : ℕ) × HaveNoted count trail.old journal.old trail.new journal.new × (self.new.added ≡ self.old.added + count)) }
+        requires next { proof_log.old.next + self.old.most + 1 < 2 ^ 64 }
+        requires numbers { length (numbers_of proof_log.old.database) ≡ length trail.old.clauses }
+        ensures noted { OnOk result ((count : ℕ) × HaveNoted count trail.old proof_log.old trail.new proof_log.new × (self.new.added ≡ self.old.added + count)) }
         ensures units { OnOk result (AreUnits trail.new self.new) }
         ensures added { self.new.added ≤ self.new.most }
         ensures most { self.new.most ≡ self.old.most }
@@ -124,7 +124,7 @@ impl Units {
         while self.looked < trail.set_count() {
             let place = self.looked;
             self.looked += 1;
-            self.note_entry(alloc, trail, journal, place)?;
+            self.note_entry(alloc, trail, proof_log, place)?;
         }
         Ok(())
     }
@@ -135,7 +135,7 @@ impl Units {
         &mut self,
         alloc: Global,
         trail: &mut Trail<'_>,
-        journal: &mut Journal,
+        proof_log: &mut ProofLog,
         place: u32,
     ) -> Result<(), NoMemory>
         requires usable { trail.old.broken ≡ false }
@@ -145,9 +145,9 @@ impl Units {
         requires units { AreUnits trail.old self.old }
         requires added { self.old.added ≤ self.old.most }
         requires few { length trail.old.clauses + (self.old.most - self.old.added) + 1 < 2 ^ 32 }
-        requires next { journal.old.next + (self.old.most - self.old.added) + 1 < 2 ^ 64 }
-        requires numbers { length (numbers_of journal.old.shelf) ≡ length trail.old.clauses }
-        ensures noted { OnOk result (MayHaveNoted trail.old journal.old self.old trail.new journal.new self.new) }
+        requires next { proof_log.old.next + (self.old.most - self.old.added) + 1 < 2 ^ 64 }
+        requires numbers { length (numbers_of proof_log.old.database) ≡ length trail.old.clauses }
+        ensures noted { OnOk result (MayHaveNoted trail.old proof_log.old self.old trail.new proof_log.new self.new) }
         ensures units { OnOk result (AreUnits trail.new self.new) }
         ensures added { self.new.added ≤ self.new.most }
         ensures rest { self.new ≡ record self.old { numbers = self.new.numbers; count = self.new.count; added = self.new.added } }
@@ -166,7 +166,7 @@ impl Units {
         let Some(hints) = self.hints_of(alloc, trail, reason, literal)? else {
             return Ok(());
         };
-        self.add(alloc, trail, journal, literal, hints)
+        self.add(alloc, trail, proof_log, literal, hints)
     }
 
     /// Notes that the clause of a number has this literal alone.
@@ -237,7 +237,7 @@ impl Units {
         &mut self,
         alloc: Global,
         trail: &mut Trail<'_>,
-        journal: &mut Journal,
+        proof_log: &mut ProofLog,
         literal: Literal,
         hints: Vec<u64>,
     ) -> Result<(), NoMemory>
@@ -249,16 +249,16 @@ impl Units {
         requires units { AreUnits trail.old self.old }
         requires room { self.old.added < self.old.most }
         requires few { length trail.old.clauses + 1 < 2 ^ 32 }
-        requires next { journal.old.next + 1 < 2 ^ 64 }
-        requires numbers { length (numbers_of journal.old.shelf) ≡ length trail.old.clauses }
-        ensures noted { OnOk result (HasNoted trail.old journal.old trail.new journal.new) }
+        requires next { proof_log.old.next + 1 < 2 ^ 64 }
+        requires numbers { length (numbers_of proof_log.old.database) ≡ length trail.old.clauses }
+        ensures noted { OnOk result (HasNoted trail.old proof_log.old trail.new proof_log.new) }
         ensures units { OnOk result (AreUnits trail.new self.new) }
         ensures added { OnOk result (self.new.added ≡ self.old.added + 1) }
         ensures at_most { self.new.added ≤ self.old.added + 1 }
         ensures rest { self.new ≡ record self.old { numbers = self.new.numbers; count = self.new.count; added = self.new.added } }
     {
         let number = trail.learn(clause_with(alloc, literal)?)?;
-        journal.add(alloc, clause_with(alloc, literal)?, hints.as_slice())?;
+        proof_log.add(alloc, clause_with(alloc, literal)?, hints.as_slice())?;
         self.note(literal, number);
         self.added += 1;
         Ok(())

@@ -12,7 +12,7 @@ use Rattle.clause_core.proofs.Semantics.{reached_within, none_false_within}
 use Rattle.sat_trail.proofs.TrailSteps.{IsOpen, open_two, open_true, quiet_from}
 use Rattle.refutation_check.specs.declared.steps.Step.{Step}
 use Rattle.sat_core.proofs.LogNumbers.{is_numbered}
-use Rattle.clause_learning.specs.Lessons.{learnt_step}
+use Rattle.clause_learning.specs.LearntClauses.{learnt_step}
 use Rattle.sat_core.specs.Answers.{AreSatisfying, AreRefuting, IsWholeTrace}
 use Rattle.sat_core.proofs.Counting.{word, not_within}
 use Rattle.sat_core.proofs.Searching.{quiet_reaches}

@@ -11,32 +11,32 @@ use Rattle.sat_trail.specs.declared.entries.Entry.{Entry}
 use Rattle.sat_trail.specs.States.{TrailState, IsSound, with_clause}
 use Rattle.sat_trail.proofs.TrailSteps.{has_one}
 use Rattle.refutation_check.specs.declared.steps.Step.{Step}
-use Rattle.clause_learning.specs.declared.journal.Journal.{Journal}
+use Rattle.clause_learning.specs.declared.proof_log.ProofLog.{ProofLog}
 use Rattle.clause_learning.specs.declared.units.Units.{Units}
 use Rattle.clause_learning.specs.declared.choices.Decisions.{Decisions}
-use Rattle.clause_learning.specs.declared.marks.Marks.{Marks}
+use Rattle.clause_learning.specs.declared.seen.Seen.{Seen}
 use Rattle.clause_learning.specs.Decisions.{AreDecisions}
-use Rattle.clause_learning.specs.ConflictWalks.{AreNoMarks}
-use Rattle.clause_learning.specs.Shelves.{numbers_of, log_hints}
-use Rattle.clause_learning.specs.Lessons.{learnt_step}
+use Rattle.clause_learning.specs.ConflictAnalysis.{AreNoneSeen}
+use Rattle.clause_learning.specs.ClauseDatabases.{numbers_of, log_hints}
+use Rattle.clause_learning.specs.LearntClauses.{learnt_step}
 use Rattle.clause_learning.specs.Units.{AreUnits, HasNoted, HaveNoted, HasPropagated}
 use Rattle.clause_learning.specs.Units.HaveNoted.{none, more}
 use Rattle.sat_core.proofs.Searching.{IsSearch, HasGrown, search_propagated, search_more}
 use Rattle.clause_learning.proofs.Deciding.{decisions_grown}
 
 -- a search with its log, whose steps have the next numbers
-pub record IsLogged (shortens : Bool) (variables : ℕ) (clauses : List (List Lit)) (t : TrailState) (journal : Journal) : Type 0 where
-  pub search : IsSearch shortens variables clauses t journal.steps.items (numbers_of journal.shelf)
-  pub next : journal.next ≡ length clauses + length journal.steps.items + 1
+pub record IsLogged (reduces : Bool) (variables : ℕ) (clauses : List (List Lit)) (t : TrailState) (proof_log : ProofLog) : Type 0 where
+  pub search : IsSearch reduces variables clauses t proof_log.steps.items (numbers_of proof_log.database)
+  pub next : proof_log.next ≡ length clauses + length proof_log.steps.items + 1
 
 one_no_pair : (l : Lit) → has_pair (l ∷ []) ≡ false
 one_no_pair l = ap (λ (b : Bool). b || false) (false_from_ne_true (has (l ∷ []) (negation l))
     (λ h. negation_differs l (sym (has_one l (negation l) h))))
 
-module _ (variables : ℕ) (clauses : List (List Lit)) (shortens : Bool) (is : shortens ≡ true) where
-  search_noted : (t u : TrailState) (journal after : Journal) → IsLogged shortens variables clauses t journal →
-      HasNoted t journal u after → IsLogged shortens variables clauses u after × (length after.steps.items ≡ length journal.steps.items + 1)
-  search_noted t u journal after logged noted = (
+module _ (variables : ℕ) (clauses : List (List Lit)) (reduces : Bool) (is : reduces ≡ true) where
+  search_noted : (t u : TrailState) (proof_log after : ProofLog) → IsLogged reduces variables clauses t proof_log →
+      HasNoted t proof_log u after → IsLogged reduces variables clauses u after × (length after.steps.items ≡ length proof_log.steps.items + 1)
+  search_noted t u proof_log after logged noted = (
     record {
       search = search;
       next = omega (arith, logged.next, noted.next_is, count);
@@ -48,50 +48,50 @@ module _ (variables : ℕ) (clauses : List (List Lit)) (shortens : Bool) (is : s
       clause = noted.literal ∷ []
 
       step : Step
-      step = learnt_step journal.next clause (log_hints (numbers_of journal.shelf) noted.hints)
+      step = learnt_step proof_log.next clause (log_hints (numbers_of proof_log.database) noted.hints)
 
-      count : length after.steps.items ≡ length journal.steps.items + 1
-      count = ap (λ (ss : List Step). length ss) noted.steps_are ∙ length_push journal.steps.items step
+      count : length after.steps.items ≡ length proof_log.steps.items + 1
+      count = ap (λ (ss : List Step). length ss) noted.steps_are ∙ length_push proof_log.steps.items step
 
-      one_more : IsSearch shortens variables clauses (with_clause t clause) (journal.steps.items ++ step ∷ [])
-          (numbers_of journal.shelf ++ journal.next ∷ [])
-      one_more = search_more shortens variables clauses t journal.steps.items (numbers_of journal.shelf) journal.next logged.search
+      one_more : IsSearch reduces variables clauses (with_clause t clause) (proof_log.steps.items ++ step ∷ [])
+          (numbers_of proof_log.database ++ proof_log.next ∷ [])
+      one_more = search_more reduces variables clauses t proof_log.steps.items (numbers_of proof_log.database) proof_log.next logged.search
           logged.next clause noted.hints (All-push (λ (l : Lit). l.index < t.variables) [] noted.literal
           (All-nil (λ (l : Lit). l.index < t.variables)) noted.over) (one_no_pair noted.literal) noted.shown noted.few_hints noted.named
           (tt, tt) t.entries t.level (subst IsSound noted.trail_is noted.sound) (λ none. absurd (true≢false (sym is ∙ none)))
           (λ level below. absurd (omega (arith, noted.start)))
 
-      search : IsSearch shortens variables clauses u after.steps.items (numbers_of after.shelf)
-      search = subst (λ (s : TrailState). IsSearch shortens variables clauses s after.steps.items (numbers_of after.shelf))
-          (sym noted.trail_is) (subst (λ (ss : List Step). IsSearch shortens variables clauses (with_clause t clause) ss
-          (numbers_of after.shelf)) (sym noted.steps_are) (subst (λ (ns : List ℕ). IsSearch shortens variables clauses
-          (with_clause t clause) (journal.steps.items ++ step ∷ []) ns) (sym noted.numbers_are) one_more))
+      search : IsSearch reduces variables clauses u after.steps.items (numbers_of after.database)
+      search = subst (λ (s : TrailState). IsSearch reduces variables clauses s after.steps.items (numbers_of after.database))
+          (sym noted.trail_is) (subst (λ (ss : List Step). IsSearch reduces variables clauses (with_clause t clause) ss
+          (numbers_of after.database)) (sym noted.steps_are) (subst (λ (ns : List ℕ). IsSearch reduces variables clauses
+          (with_clause t clause) (proof_log.steps.items ++ step ∷ []) ns) (sym noted.numbers_are) one_more))
 
-  pub search_have_noted : (count : ℕ) (t u : TrailState) (journal after : Journal) → IsLogged shortens variables clauses t journal →
-      HaveNoted count t journal u after → IsLogged shortens variables clauses u after
-      × (length after.steps.items ≡ length journal.steps.items + count)
-  search_have_noted count t u journal after logged none = (logged, omega arith)
-  search_have_noted count t u journal after logged (more {count = n} {middle = m} {between = b} before noted) =
-      let r = search_have_noted n t m journal b logged before in
+  pub search_have_noted : (count : ℕ) (t u : TrailState) (proof_log after : ProofLog) → IsLogged reduces variables clauses t proof_log →
+      HaveNoted count t proof_log u after → IsLogged reduces variables clauses u after
+      × (length after.steps.items ≡ length proof_log.steps.items + count)
+  search_have_noted count t u proof_log after logged none = (logged, omega arith)
+  search_have_noted count t u proof_log after logged (more {count = n} {middle = m} {between = b} before noted) =
+      let r = search_have_noted n t m proof_log b logged before in
       let s = search_noted m u b after r.0 noted in
       (s.0, omega (arith, r.1, s.1))
 
 -- where no clause is added nothing changes
-none_noted : (variables : ℕ) (clauses : List (List Lit)) (shortens : Bool) (count : ℕ) (t u : TrailState) (journal after : Journal) →
-    IsLogged shortens variables clauses t journal → HaveNoted count t journal u after → count ≡ 0 →
-    IsLogged shortens variables clauses u after × (length after.steps.items ≡ length journal.steps.items + count)
-none_noted variables clauses shortens count t u journal after logged none h = (logged, omega arith)
-none_noted variables clauses shortens count t u journal after logged (more {count = n} before noted) h = absurd (omega (arith, h))
+none_noted : (variables : ℕ) (clauses : List (List Lit)) (reduces : Bool) (count : ℕ) (t u : TrailState) (proof_log after : ProofLog) →
+    IsLogged reduces variables clauses t proof_log → HaveNoted count t proof_log u after → count ≡ 0 →
+    IsLogged reduces variables clauses u after × (length after.steps.items ≡ length proof_log.steps.items + count)
+none_noted variables clauses reduces count t u proof_log after logged none h = (logged, omega arith)
+none_noted variables clauses reduces count t u proof_log after logged (more {count = n} before noted) h = absurd (omega (arith, h))
 
 -- clauses alone are new
-pub noted_rest : (count : ℕ) (t u : TrailState) (journal after : Journal) → HaveNoted count t journal u after →
+pub noted_rest : (count : ℕ) (t u : TrailState) (proof_log after : ProofLog) → HaveNoted count t proof_log u after →
     u ≡ record t { clauses = u.clauses }
-noted_rest count t u journal after none = refl
-noted_rest count t u journal after (more {count = n} {middle = m} {between = b} before noted) = noted.trail_is
-    ∙ (ap (λ (s : TrailState). with_clause s (noted.literal ∷ [])) (noted_rest n t m journal b before)
+noted_rest count t u proof_log after none = refl
+noted_rest count t u proof_log after (more {count = n} {middle = m} {between = b} before noted) = noted.trail_is
+    ∙ (ap (λ (s : TrailState). with_clause s (noted.literal ∷ [])) (noted_rest n t m proof_log b before)
     ∙ sym (ap (λ (s : TrailState). record t { clauses = s.clauses }) noted.trail_is))
 
-module _ (count : ℕ) (t u : TrailState) (journal after : Journal) (has_propagated : HasPropagated count t journal u after) where
+module _ (count : ℕ) (t u : TrailState) (proof_log after : ProofLog) (has_propagated : HasPropagated count t proof_log u after) where
   abbrev found : TrailState
   found = has_propagated.found
 
@@ -99,7 +99,7 @@ module _ (count : ℕ) (t u : TrailState) (journal after : Journal) (has_propaga
   noted = has_propagated.noted
 
   rest : noted ≡ record found { clauses = noted.clauses }
-  rest = noted_rest count found noted journal after has_propagated.clauses
+  rest = noted_rest count found noted proof_log after has_propagated.clauses
 
   pub propagated_grown : HasGrown t u
   propagated_grown = record {
@@ -112,26 +112,26 @@ module _ (count : ℕ) (t u : TrailState) (journal after : Journal) (has_propaga
         ∙ append_assoc t.entries has_propagated.first.added has_propagated.last.added));
   }
 
-  module _ (shortens : Bool) (variables : ℕ) (clauses : List (List Lit)) (only : shortens ≡ false → count ≡ 0) (sound : IsSound u)
-      (logged : IsLogged shortens variables clauses t journal) where
-    first_logged : IsLogged shortens variables clauses found journal
+  module _ (reduces : Bool) (variables : ℕ) (clauses : List (List Lit)) (only : reduces ≡ false → count ≡ 0) (sound : IsSound u)
+      (logged : IsLogged reduces variables clauses t proof_log) where
+    first_logged : IsLogged reduces variables clauses found proof_log
     first_logged = record {
-      search = search_propagated shortens variables clauses t found journal.steps.items (numbers_of journal.shelf) logged.search
+      search = search_propagated reduces variables clauses t found proof_log.steps.items (numbers_of proof_log.database) logged.search
           has_propagated.first has_propagated.first_sound;
       next = logged.next;
     }
 
-    noted_logged : IsLogged shortens variables clauses noted after × (length after.steps.items ≡ length journal.steps.items + count)
-    noted_logged = elim (cases_Bool shortens) [
-      | inl is ↦ search_have_noted variables clauses shortens is count found noted journal after first_logged has_propagated.clauses
-      | inr not' ↦ none_noted variables clauses shortens count found noted journal after first_logged has_propagated.clauses (only not')
+    noted_logged : IsLogged reduces variables clauses noted after × (length after.steps.items ≡ length proof_log.steps.items + count)
+    noted_logged = elim (cases_Bool reduces) [
+      | inl is ↦ search_have_noted variables clauses reduces is count found noted proof_log after first_logged has_propagated.clauses
+      | inr not' ↦ none_noted variables clauses reduces count found noted proof_log after first_logged has_propagated.clauses (only not')
     ]
 
-    pub search_propagates : IsLogged shortens variables clauses u after
-        × (length after.steps.items ≡ length journal.steps.items + count)
+    pub search_propagates : IsLogged reduces variables clauses u after
+        × (length after.steps.items ≡ length proof_log.steps.items + count)
     search_propagates = (
       record {
-        search = search_propagated shortens variables clauses noted u after.steps.items (numbers_of after.shelf) noted_logged.0.search
+        search = search_propagated reduces variables clauses noted u after.steps.items (numbers_of after.database) noted_logged.0.search
             has_propagated.last sound;
         next = noted_logged.0.next;
       },
@@ -141,38 +141,38 @@ module _ (count : ℕ) (t u : TrailState) (journal after : Journal) (has_propaga
 -- ---- the search between its steps
 
 -- What holds between the decisions of a search that may learn so many clauses. Its steps are those of learnt clauses and
--- of clauses of one literal, and these are added only where the trail may be shortened.
-pub record IsSearching (shortens : Bool) (variables : ℕ) (clauses : List (List Lit)) (budget : ℕ) (t : TrailState) (journal : Journal)
-    (units : Units) (decisions : Decisions) (marks : Marks) : Type 0 where
-  pub logged : IsLogged shortens variables clauses t journal
+-- of clauses of one literal, and these are added only where the trail may be reduced.
+pub record IsSearching (reduces : Bool) (variables : ℕ) (clauses : List (List Lit)) (budget : ℕ) (t : TrailState) (proof_log : ProofLog)
+    (units : Units) (decisions : Decisions) (seen : Seen) : Type 0 where
+  pub logged : IsLogged reduces variables clauses t proof_log
   pub order : AreDecisions t.variables t.entries decisions
-  pub unmarked : AreNoMarks t.variables marks
+  pub none_seen : AreNoneSeen t.variables seen
   pub table : AreUnits t units
-  pub within : length journal.steps.items ≤ budget + units.added
-  pub counted : units.added ≤ length journal.steps.items
+  pub within : length proof_log.steps.items ≤ budget + units.added
+  pub counted : units.added ≤ length proof_log.steps.items
   pub few : units.added ≤ units.most
   pub room : length clauses + budget + units.most < 2 ^ 32 - 1
-  pub only : shortens ≡ false → units.most ≡ 0
+  pub only : reduces ≡ false → units.most ≡ 0
 
 -- it holds behind a propagation, the entries have grown, and as many steps are left
-pub searching_propagated : {shortens : Bool} → {variables : ℕ} → {clauses : List (List Lit)} → {budget : ℕ} → {t u : TrailState} →
-    {journal after : Journal} → {units later : Units} → {decisions : Decisions} → {marks : Marks} →
-    IsSearching shortens variables clauses budget t journal units decisions marks →
-    ((count : ℕ) × HasPropagated count t journal u after × (later.added ≡ units.added + count)) → AreUnits u later →
+pub searching_propagated : {reduces : Bool} → {variables : ℕ} → {clauses : List (List Lit)} → {budget : ℕ} → {t u : TrailState} →
+    {proof_log after : ProofLog} → {units later : Units} → {decisions : Decisions} → {seen : Seen} →
+    IsSearching reduces variables clauses budget t proof_log units decisions seen →
+    ((count : ℕ) × HasPropagated count t proof_log u after × (later.added ≡ units.added + count)) → AreUnits u later →
     later.added ≤ later.most → later.most ≡ units.most → IsSound u →
-    IsSearching shortens variables clauses budget u after later decisions marks × HasGrown t u
-    × (budget + later.added - length after.steps.items ≡ budget + units.added - length journal.steps.items)
-searching_propagated {shortens = shortens} {variables = variables} {clauses = clauses} {budget = budget} {t = t} {u = u}
-    {journal = journal} {after = after} {units = units} {later = later} {decisions = decisions} {marks = marks} i p table few same sound =
-    let grown : HasGrown t u = propagated_grown p.0 t u journal after p.1 in
-    let r = search_propagates p.0 t u journal after p.1 shortens variables clauses
+    IsSearching reduces variables clauses budget u after later decisions seen × HasGrown t u
+    × (budget + later.added - length after.steps.items ≡ budget + units.added - length proof_log.steps.items)
+searching_propagated {reduces = reduces} {variables = variables} {clauses = clauses} {budget = budget} {t = t} {u = u}
+    {proof_log = proof_log} {after = after} {units = units} {later = later} {decisions = decisions} {seen = seen} i p table few same sound =
+    let grown : HasGrown t u = propagated_grown p.0 t u proof_log after p.1 in
+    let r = search_propagates p.0 t u proof_log after p.1 reduces variables clauses
     (λ keeps. omega (arith, i.only keeps, few, same, p.2)) sound i.logged in (
       record {
         logged = r.0;
         order = subst (λ (n : ℕ). AreDecisions n u.entries decisions) (sym grown.same_variables)
             (subst (λ (es : List Entry). AreDecisions t.variables es decisions) (sym grown.entries_are)
             (decisions_grown t.variables t.entries grown.added decisions i.order));
-        unmarked = subst (λ (n : ℕ). AreNoMarks n marks) (sym grown.same_variables) i.unmarked;
+        none_seen = subst (λ (n : ℕ). AreNoneSeen n seen) (sym grown.same_variables) i.none_seen;
         table = table;
         within = omega (arith, i.within, r.1, p.2);
         counted = omega (arith, i.counted, r.1, p.2);

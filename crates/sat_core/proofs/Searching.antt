@@ -10,9 +10,9 @@ use Rattle.std.proofs.lemmas.Option.{none-some, same_Some}
 use Rattle.std.proofs.lemmas.List.{append_assoc, append-nil, map-append, length-append, length_push, length-map}
 use Rattle.std.proofs.lemmas.List.Elements.{All-push, All-nil, recursion_from_All, Contains-append_cases}
 use Rattle.std.proofs.lemmas.List.Elements.{Contains-append_left}
-use Rattle.clause_learning.specs.declared.journal.Journal.{Journal}
-use Rattle.clause_learning.specs.declared.shelves.Shelf.{Shelf}
-use Rattle.clause_learning.specs.Shelves.{numbers_of, log_number, log_hints, AreLogNumbers, AreFirst, BeginsAnew, IsShortened}
+use Rattle.clause_learning.specs.declared.proof_log.ProofLog.{ProofLog}
+use Rattle.clause_learning.specs.declared.clause_database.ClauseDatabase.{ClauseDatabase}
+use Rattle.clause_learning.specs.ClauseDatabases.{numbers_of, log_number, log_hints, AreLogNumbers, AreFirst, BeginsAnew, IsReduced}
 use Rattle.clause_learning.proofs.LogHints.{first_named, named_next, shown_in_log, hints_in_log}
 use Rattle.sat_core.specs.internal.Ends.{IsEnd, IsSearchAnswer}
 use Rattle.clause_learning.specs.Hints.{AreHints}
@@ -37,15 +37,15 @@ use Rattle.refutation_check.specs.Checking.HintEffect.{makes, shows_nothing}
 use Rattle.refutation_check.specs.Checking.Refusal.{at_line, at_hint, unfinished}
 use Rattle.clause_learning.specs.Levels.{IsSetAt, AreQuietBelow}
 use Rattle.sat_core.specs.LogNumbers.{AreNumbered}
-use Rattle.clause_learning.specs.Lessons.{IsAsserting, IsLesson, learnt_step, clauses_of, HasLearnt, level_after, IsRefutingLog}
+use Rattle.clause_learning.specs.LearntClauses.{IsAsserting, IsLearntClause, learnt_step, clauses_of, HasLearnt, level_after, IsRefutingLog}
 use Rattle.clause_learning.specs.Decisions.{AreSet, AreVariableTruths}
 use Rattle.sat_core.specs.declared.answers.Answer.{Answer}
 use Rattle.sat_core.specs.declared.answers.Answer.TheVariants.{Sat, Unsat, Spent}
 use Rattle.sat_core.specs.Answers.{AreSatisfying, AreRefuting, IsWholeTrace}
 use Rattle.clause_learning.proofs.Hints.{has-map-negation}
-use Rattle.clause_learning.proofs.LessonLemmas.{lesson_over, lesson_no_pair}
+use Rattle.clause_learning.proofs.LearntClauseLemmas.{learnt_clause_over, learnt_clause_no_pair}
 use Rattle.sat_core.proofs.LogNumbers.{is_numbered, numbered_more}
-use Rattle.clause_learning.proofs.Walking.{up_to_has, up_to_from}
+use Rattle.clause_learning.proofs.Analysing.{up_to_has, up_to_from}
 use Rattle.sat_core.proofs.Counting.{trace_is_short, filter-has}
 
 -- the clauses of a formula and of the steps behind them
@@ -53,16 +53,16 @@ abbrev pub known : List (List Lit) → List Step → List (List Lit)
 known clauses steps = clauses ++ clauses_of steps
 
 -- no clause is false, and where the learnt clauses are to be a trace unit propagation has nothing left to do
-pub record IsCalm (shortens : Bool) (clauses : List (List Lit)) (trues : List Lit) : Type 0 where
+pub record IsCalm (reduces : Bool) (clauses : List (List Lit)) (trues : List Lit) : Type 0 where
   pub none_false : SomeFalse clauses trues → ⊥
-  pub quiet : shortens ≡ false → IsQuiet clauses trues
+  pub quiet : reduces ≡ false → IsQuiet clauses trues
 
 abbrev pub AreCalmBelow : Bool → TrailState → ℕ → Type 0
-AreCalmBelow shortens t n = (level : ℕ) → level < n → IsCalm shortens t.clauses (literals_of (up_to level t.entries))
+AreCalmBelow reduces t n = (level : ℕ) → level < n → IsCalm reduces t.clauses (literals_of (up_to level t.entries))
 
 -- the steps taken so far, and the trail that they lead to, with its clauses by their numbers; whether the trail may be
--- shortened, and then it lacks some of the learnt clauses
-pub record IsSearch (shortens : Bool) (variables : ℕ) (clauses : List (List Lit)) (t : TrailState) (steps : List Step) (numbers : List ℕ) :
+-- reduced, and then it lacks some of the learnt clauses
+pub record IsSearch (reduces : Bool) (variables : ℕ) (clauses : List (List Lit)) (t : TrailState) (steps : List Step) (numbers : List ℕ) :
     Type 0 where
   pub usable : t.broken ≡ false
   pub sound : IsSound t
@@ -75,26 +75,26 @@ pub record IsSearch (shortens : Bool) (variables : ℕ) (clauses : List (List Li
       ≡ None → steps_refusal variables (length clauses) (numbered_from 1 clauses) (steps ++ later) ≡ None
   pub few_hints : HaveFewHints steps
   pub numbered : AreNumbered (length clauses + 1) steps
-  pub traced : shortens ≡ false → (t.clauses ≡ known clauses steps)
+  pub traced : reduces ≡ false → (t.clauses ≡ known clauses steps)
       × ((later : List (List Lit)) → IsTrace variables t.clauses later → IsTrace variables clauses (clauses_of steps ++ later))
   pub increasing : AllByRecursion IsIncreasing (clauses_of steps)
-  pub calm : AreCalmBelow shortens t t.level
+  pub calm : AreCalmBelow reduces t t.level
 
 -- ---- the beginning
 
-pub search_begins : (shortens : Bool) (variables : ℕ) (clauses : List (List Lit)) (t : TrailState) (steps : List Step) (shelf : Shelf) →
-    t ≡ started variables clauses → IsSound t → steps ≡ [] → AreFirst (length clauses) shelf →
-    IsSearch shortens variables clauses t steps (numbers_of shelf)
-search_begins shortens variables clauses t steps shelf is sound none first =
-    subst (λ (ss : List Step). IsSearch shortens variables clauses t ss (numbers_of shelf)) (sym none)
-    (subst (λ (s : TrailState). IsSearch shortens variables clauses s [] (numbers_of shelf)) (sym is) (record {
+pub search_begins : (reduces : Bool) (variables : ℕ) (clauses : List (List Lit)) (t : TrailState) (steps : List Step) (database : ClauseDatabase) →
+    t ≡ started variables clauses → IsSound t → steps ≡ [] → AreFirst (length clauses) database →
+    IsSearch reduces variables clauses t steps (numbers_of database)
+search_begins reduces variables clauses t steps database is sound none first =
+    subst (λ (ss : List Step). IsSearch reduces variables clauses t ss (numbers_of database)) (sym none)
+    (subst (λ (s : TrailState). IsSearch reduces variables clauses s [] (numbers_of database)) (sym is) (record {
       usable = refl;
       sound = subst IsSound is sound;
       same_variables = refl;
       others = [];
       stands = sym (append-nil clauses);
       fewer = omega arith;
-      named = first_named clauses [] shelf first;
+      named = first_named clauses [] database first;
       logged = λ later h. subst (λ (cs : List (List Lit)). steps_refusal variables (length cs) (numbered_from 1 cs) later ≡ None)
           (append-nil clauses) h;
       few_hints = All-nil (λ (step : Step). length step.hints + 1 < 2 ^ 32);
@@ -114,11 +114,11 @@ up_to_added n level [] (e ∷ es) all below = cond-false (leb e.level level) (e 
 up_to_added n level (x ∷ es) added all below = ap (λ (xs : List Entry). cond (leb x.level level) (x ∷ xs) xs)
     (up_to_added n level es added all below)
 
-pub search_propagated : (shortens : Bool) (variables : ℕ) (clauses : List (List Lit)) (t u : TrailState) (steps : List Step)
-    (numbers : List ℕ) → IsSearch shortens variables clauses t steps numbers → Propagates t u → IsSound u →
-    IsSearch shortens variables clauses u steps numbers
-search_propagated shortens variables clauses t u steps numbers search grows sound =
-    subst (λ (s : TrailState). IsSearch shortens variables clauses s steps numbers) (sym grows.rest_stays) (record {
+pub search_propagated : (reduces : Bool) (variables : ℕ) (clauses : List (List Lit)) (t u : TrailState) (steps : List Step)
+    (numbers : List ℕ) → IsSearch reduces variables clauses t steps numbers → Propagates t u → IsSound u →
+    IsSearch reduces variables clauses u steps numbers
+search_propagated reduces variables clauses t u steps numbers search grows sound =
+    subst (λ (s : TrailState). IsSearch reduces variables clauses s steps numbers) (sym grows.rest_stays) (record {
       usable = search.usable;
       sound = subst IsSound grows.rest_stays sound;
       same_variables = search.same_variables;
@@ -131,7 +131,7 @@ search_propagated shortens variables clauses t u steps numbers search grows soun
       numbered = search.numbered;
       traced = search.traced;
       increasing = search.increasing;
-      calm = λ level below. subst (λ (es : List Entry). IsCalm shortens t.clauses (literals_of es))
+      calm = λ level below. subst (λ (es : List Entry). IsCalm reduces t.clauses (literals_of es))
           (sym (up_to_added t.level level t.entries grows.added (recursion_from_All
           (λ (e : Entry). (e.level ≡ t.level) × IsSome e.reason) grows.added grows.forced) below)) (search.calm level below);
     })
@@ -144,11 +144,11 @@ pub record HasGrown (old new : TrailState) : Type 0 where
 
 -- ---- a decision
 
-pub search_decided : (shortens : Bool) (variables : ℕ) (clauses : List (List Lit)) (t u : TrailState) (steps : List Step)
-    (numbers : List ℕ) (l : Lit) → IsSearch shortens variables clauses t steps numbers → IsQuiet t.clauses (literals_of t.entries) →
-    u ≡ decided t l → IsSound u → IsSearch shortens variables clauses u steps numbers
-search_decided shortens variables clauses t u steps numbers l search quiet is sound =
-    subst (λ (s : TrailState). IsSearch shortens variables clauses s steps numbers) (sym is) (record {
+pub search_decided : (reduces : Bool) (variables : ℕ) (clauses : List (List Lit)) (t u : TrailState) (steps : List Step)
+    (numbers : List ℕ) (l : Lit) → IsSearch reduces variables clauses t steps numbers → IsQuiet t.clauses (literals_of t.entries) →
+    u ≡ decided t l → IsSound u → IsSearch reduces variables clauses u steps numbers
+search_decided reduces variables clauses t u steps numbers l search quiet is sound =
+    subst (λ (s : TrailState). IsSearch reduces variables clauses s steps numbers) (sym is) (record {
       usable = search.usable;
       sound = subst IsSound is sound;
       same_variables = search.same_variables;
@@ -161,7 +161,7 @@ search_decided shortens variables clauses t u steps numbers l search quiet is so
       numbered = search.numbered;
       traced = search.traced;
       increasing = search.increasing;
-      calm = λ level below. subst (λ (es : List Entry). IsCalm shortens t.clauses (literals_of es))
+      calm = λ level below. subst (λ (es : List Entry). IsCalm reduces t.clauses (literals_of es))
           (sym (up_to-push level t.entries (entry_with l (t.level + 1) None) below)) (at_level level below);
     })
   where
@@ -169,12 +169,12 @@ search_decided shortens variables clauses t u steps numbers l search quiet is so
     whole = up_to_all t.level t.entries (λ k e at. (let h : e.level ≤ t.level = omega
         (arith, level_within t.variables t.clauses t.entries search.sound.stand k e at, search.sound.level_reached) in h))
 
-    at_level : (level : ℕ) → level < t.level + 1 → IsCalm shortens t.clauses (literals_of (up_to level t.entries))
+    at_level : (level : ℕ) → level < t.level + 1 → IsCalm reduces t.clauses (literals_of (up_to level t.entries))
     at_level level below = elim (cases_lt level t.level) [
       | inl less ↦ search.calm level less
       | inr same ↦ (let is : level ≡ t.level = omega arith in
-          subst (λ (n : ℕ). IsCalm shortens t.clauses (literals_of (up_to n t.entries))) (sym is)
-          (subst (λ (es : List Entry). IsCalm shortens t.clauses (literals_of es)) (sym whole)
+          subst (λ (n : ℕ). IsCalm reduces t.clauses (literals_of (up_to n t.entries))) (sym is)
+          (subst (λ (es : List Entry). IsCalm reduces t.clauses (literals_of es)) (sym whole)
           (record { none_false = quiet.none_false; quiet = λ _. quiet })))
     ]
 
@@ -276,18 +276,18 @@ step_accepted variables clauses clause hints over no_pair shown =
     (refused_hint (numbered_from 1 clauses) (map negation clause) 1 hints)) no_step
     ∙ ap (option_map (at_hint (length clauses + 1))) shown
 
-module _ (t : TrailState) (sound : IsSound t) (clause : List Lit) (hints : List ℕ) (back : ℕ) (lesson : IsLesson t clause hints back) where
-  lesson_learnt : AreQuietBelow t t.level → 0 < t.level → IsLearnt t.variables t.clauses clause
-  lesson_learnt quiet above = record {
+module _ (t : TrailState) (sound : IsSound t) (clause : List Lit) (hints : List ℕ) (back : ℕ) (learnt_clause : IsLearntClause t clause hints back) where
+  clause_is_learnt : AreQuietBelow t t.level → 0 < t.level → IsLearnt t.variables t.clauses clause
+  clause_is_learnt quiet above = record {
     not_empty = λ none. false≢true (sym (ap (λ (ls : List Lit). has ls asserting.asserted) none) ∙ asserting.member);
-    over = lesson_over t sound clause hints back lesson;
-    no_pair = lesson_no_pair t sound clause hints back lesson;
-    found = shown_found t.clauses hints (map negation clause) 1 lesson.shown;
+    over = learnt_clause_over t sound clause hints back learnt_clause;
+    no_pair = learnt_clause_no_pair t sound clause hints back learnt_clause;
+    found = shown_found t.clauses hints (map negation clause) 1 learnt_clause.shown;
     adds = (asserting.asserted, Contains_from_has clause asserting.asserted asserting.member, not_found);
   }
     where
       asserting : IsAsserting t clause back
-      asserting = lesson.asserting above
+      asserting = learnt_clause.asserting above
 
       others_set : (l : Lit) → has (map negation (filter (λ m. not (same m asserting.asserted)) clause)) l ≡ true →
           has (literals_of (up_to back t.entries)) l ≡ true
@@ -314,25 +314,25 @@ module _ (t : TrailState) (sound : IsSound t) (clause : List Lit) (hints : List 
 
   -- below the present level the literal that is asserted is not false
   first_open : (above : 0 < t.level) (level : ℕ) → level < t.level →
-      has (not_false (literals_of (up_to level t.entries)) clause) (lesson.asserting above).asserted ≡ true
+      has (not_false (literals_of (up_to level t.entries)) clause) (learnt_clause.asserting above).asserted ≡ true
   first_open above level below =
-      let asserting = lesson.asserting above in
+      let asserting = learnt_clause.asserting above in
       has_not_false (literals_of (up_to level t.entries)) clause asserting.asserted asserting.member
       (open_below t sound asserting.asserted level t.level asserting.last below)
 
-  lesson_met : (above : 0 < t.level) (level : ℕ) → level < t.level →
+  learnt_clause_met : (above : 0 < t.level) (level : ℕ) → level < t.level →
       (SomeFalse t.clauses (literals_of (up_to level t.entries)) → ⊥) →
       SomeFalse (t.clauses ++ clause ∷ []) (literals_of (up_to level t.entries)) → ⊥
-  lesson_met above level below none_false (c, in', f) = elim (Contains-append_cases t.clauses (clause ∷ []) c in') [
+  learnt_clause_met above level below none_false (c, in', f) = elim (Contains-append_cases t.clauses (clause ∷ []) c in') [
     | inl old ↦ none_false (c, old, f)
-    | inr new ↦ false≢true (sym (ap (λ (ls : List Lit). has ls (lesson.asserting above).asserted)
+    | inr new ↦ false≢true (sym (ap (λ (ls : List Lit). has ls (learnt_clause.asserting above).asserted)
         (ap (not_false (literals_of (up_to level t.entries))) (only c new) ∙ f)) ∙ first_open above level below)
   ]
 
-  lesson_quiet : AreQuietBelow t t.level → (above : 0 < t.level) (level : ℕ) → level < back →
+  learnt_clause_quiet : AreQuietBelow t t.level → (above : 0 < t.level) (level : ℕ) → level < back →
       IsQuiet (t.clauses ++ clause ∷ []) (literals_of (up_to level t.entries))
-  lesson_quiet quiet above level below = record {
-    none_false = lesson_met above level low before.none_false;
+  learnt_clause_quiet quiet above level below = record {
+    none_false = learnt_clause_met above level low before.none_false;
     none_unit = λ c l in' u. elim (Contains-append_cases t.clauses (clause ∷ []) c in') [
       | inl old ↦ before.none_unit c l old u
       | inr new ↦ (let left : not_false trues clause ≡ l ∷ [] = ap (not_false trues) (only c new) ∙ u.others_false in
@@ -343,7 +343,7 @@ module _ (t : TrailState) (sound : IsSound t) (clause : List Lit) (hints : List 
   }
     where
       asserting : IsAsserting t clause back
-      asserting = lesson.asserting above
+      asserting = learnt_clause.asserting above
 
       trues : List Lit
       trues = literals_of (up_to level t.entries)
@@ -397,8 +397,8 @@ search_numbered clauses steps numbered step is hints =
     (is_numbered step (length (known clauses steps)) is hints)
 
 -- a clause that hints show stands at the end of the trail, and its step behind the others, with the next number
-module _ (shortens : Bool) (variables : ℕ) (clauses : List (List Lit)) (t : TrailState) (taken : List Step) (names : List ℕ) (next : ℕ)
-    (search : IsSearch shortens variables clauses t taken names) (next_is : next ≡ length clauses + length taken + 1)
+module _ (reduces : Bool) (variables : ℕ) (clauses : List (List Lit)) (t : TrailState) (taken : List Step) (names : List ℕ) (next : ℕ)
+    (search : IsSearch reduces variables clauses t taken names) (next_is : next ≡ length clauses + length taken + 1)
     (clause : List Lit) (hints : List ℕ) (over : IsOver t.variables clause) (no_pair : has_pair clause ≡ false)
     (shown : refused_hint (numbered_from 1 t.clauses) (map negation clause) 1 hints ≡ None) (few_hints : length hints + 1 < 2 ^ 32)
     (named : AreHints (length t.clauses) hints) (increasing : IsIncreasing clause) where
@@ -434,11 +434,11 @@ module _ (shortens : Bool) (variables : ℕ) (clauses : List (List Lit)) (t : Tr
 
   -- the trail may have gone back before
   pub search_more : (es : List Entry) (level : ℕ) → IsSound (with_clause (record t { entries = es; level = level }) clause) →
-      (shortens ≡ false → (t.clauses ++ clause ∷ [] ≡ known clauses (taken ++ next_step ∷ []))
+      (reduces ≡ false → (t.clauses ++ clause ∷ [] ≡ known clauses (taken ++ next_step ∷ []))
       × ((later : List (List Lit)) → IsTrace variables (t.clauses ++ clause ∷ []) later →
       IsTrace variables clauses (clauses_of (taken ++ next_step ∷ []) ++ later))) →
-      AreCalmBelow shortens (with_clause (record t { entries = es; level = level }) clause) level →
-      IsSearch shortens variables clauses (with_clause (record t { entries = es; level = level }) clause) (taken ++ next_step ∷ [])
+      AreCalmBelow reduces (with_clause (record t { entries = es; level = level }) clause) level →
+      IsSearch reduces variables clauses (with_clause (record t { entries = es; level = level }) clause) (taken ++ next_step ∷ [])
       (names ++ next ∷ [])
   search_more es level sound traced calm = record {
     usable = search.usable;
@@ -462,9 +462,9 @@ module _ (shortens : Bool) (variables : ℕ) (clauses : List (List Lit)) (t : Tr
     calm = calm;
   }
 
-module _ (shortens : Bool) (variables : ℕ) (clauses : List (List Lit)) (anew : Bool) (t u : TrailState) (journal after : Journal)
-    (search : IsSearch shortens variables clauses t journal.steps.items (numbers_of journal.shelf))
-    (next_is : journal.next ≡ length clauses + length journal.steps.items + 1) (learnt : HasLearnt anew shortens t journal u after)
+module _ (reduces : Bool) (variables : ℕ) (clauses : List (List Lit)) (anew : Bool) (t u : TrailState) (proof_log after : ProofLog)
+    (search : IsSearch reduces variables clauses t proof_log.steps.items (numbers_of proof_log.database))
+    (next_is : proof_log.next ≡ length clauses + length proof_log.steps.items + 1) (learnt : HasLearnt anew reduces t proof_log u after)
     (sound : IsSound u) (above : 0 < t.level) where
   abbrev clause : List Lit
   clause = learnt.clause
@@ -476,13 +476,13 @@ module _ (shortens : Bool) (variables : ℕ) (clauses : List (List Lit)) (anew :
   back = learnt.back
 
   abbrev taken : List Step
-  taken = journal.steps.items
+  taken = proof_log.steps.items
 
   abbrev names : List ℕ
-  names = numbers_of journal.shelf
+  names = numbers_of proof_log.database
 
   abbrev target : ℕ
-  target = level_after anew shortens back t.level
+  target = level_after anew reduces back t.level
 
   -- a search that owes a trace goes back to the level that was taught, or to 0
   target_low : (a b : Bool) → b ≡ false → level_after a b back t.level ≤ back
@@ -490,13 +490,13 @@ module _ (shortens : Bool) (variables : ℕ) (clauses : List (List Lit)) (anew :
   target_low false true h = absurd (true≢false h)
   target_low false false h = omega arith
 
-  were_quiet : shortens ≡ false → AreQuietBelow t t.level
+  were_quiet : reduces ≡ false → AreQuietBelow t t.level
   were_quiet all level below = (search.calm level below).quiet all
 
   abbrev step : Step
-  step = learnt_step journal.next clause (log_hints names hints)
+  step = learnt_step proof_log.next clause (log_hints names hints)
 
-  still_traced : shortens ≡ false → (t.clauses ++ clause ∷ [] ≡ known clauses (taken ++ step ∷ []))
+  still_traced : reduces ≡ false → (t.clauses ++ clause ∷ [] ≡ known clauses (taken ++ step ∷ []))
       × ((later : List (List Lit)) → IsTrace variables (t.clauses ++ clause ∷ []) later →
       IsTrace variables clauses (clauses_of (taken ++ step ∷ []) ++ later))
   still_traced all =
@@ -507,37 +507,37 @@ module _ (shortens : Bool) (variables : ℕ) (clauses : List (List Lit)) (anew :
             ∙ append_assoc (clauses_of taken) (clause ∷ []) later))
             (r.1 (clause ∷ later) (
               subst (λ (v : ℕ). IsLearnt v t.clauses clause) search.same_variables
-                  (lesson_learnt t search.sound clause hints back learnt.lesson (were_quiet all) above),
+                  (clause_is_learnt t search.sound clause hints back learnt.learnt_clause (were_quiet all) above),
               h,
             )),
       )
 
-  one_more : IsSearch shortens variables clauses (with_clause (undone t target) clause) (taken ++ step ∷ []) (names ++ journal.next ∷ [])
-  one_more = search_more shortens variables clauses t taken names journal.next search next_is clause hints
-      (lesson_over t search.sound clause hints back learnt.lesson) (lesson_no_pair t search.sound clause hints back learnt.lesson)
-      learnt.lesson.shown learnt.lesson.few_hints learnt.lesson.named learnt.lesson.increasing (up_to target t.entries) (min target t.level)
+  one_more : IsSearch reduces variables clauses (with_clause (undone t target) clause) (taken ++ step ∷ []) (names ++ proof_log.next ∷ [])
+  one_more = search_more reduces variables clauses t taken names proof_log.next search next_is clause hints
+      (learnt_clause_over t search.sound clause hints back learnt.learnt_clause) (learnt_clause_no_pair t search.sound clause hints back learnt.learnt_clause)
+      learnt.learnt_clause.shown learnt.learnt_clause.few_hints learnt.learnt_clause.named learnt.learnt_clause.increasing (up_to target t.entries) (min target t.level)
       (subst IsSound learnt.trail_is sound) still_traced (λ level below. subst
-      (λ (es : List Entry). IsCalm shortens (t.clauses ++ clause ∷ []) (literals_of es))
+      (λ (es : List Entry). IsCalm reduces (t.clauses ++ clause ∷ []) (literals_of es))
       (sym (up_to-up_to level target t.entries (omega arith))) (record {
-        none_false = lesson_met t search.sound clause hints back learnt.lesson above level (omega (arith, below))
+        none_false = learnt_clause_met t search.sound clause hints back learnt.learnt_clause above level (omega (arith, below))
             (search.calm level (omega (arith, below))).none_false;
-        quiet = λ all. lesson_quiet t search.sound clause hints back learnt.lesson (were_quiet all) above level
-            (omega (arith, below, target_low anew shortens all));
+        quiet = λ all. learnt_clause_quiet t search.sound clause hints back learnt.learnt_clause (were_quiet all) above level
+            (omega (arith, below, target_low anew reduces all));
       }))
 
-  pub search_learnt : IsSearch shortens variables clauses u after.steps.items (numbers_of after.shelf)
-  search_learnt = subst (λ (s : TrailState). IsSearch shortens variables clauses s after.steps.items (numbers_of after.shelf))
-      (sym learnt.trail_is) (subst (λ (ss : List Step). IsSearch shortens variables clauses (with_clause (undone t target) clause) ss
-      (numbers_of after.shelf)) (sym learnt.steps_are) (subst (λ (ns : List ℕ). IsSearch shortens variables clauses
+  pub search_learnt : IsSearch reduces variables clauses u after.steps.items (numbers_of after.database)
+  search_learnt = subst (λ (s : TrailState). IsSearch reduces variables clauses s after.steps.items (numbers_of after.database))
+      (sym learnt.trail_is) (subst (λ (ss : List Step). IsSearch reduces variables clauses (with_clause (undone t target) clause) ss
+      (numbers_of after.database)) (sym learnt.steps_are) (subst (λ (ns : List ℕ). IsSearch reduces variables clauses
       (with_clause (undone t target) clause) (taken ++ step ∷ []) ns) (sym learnt.numbers_are) one_more))
 
 -- ---- a trail that begins anew
 
-pub search_shortened : (variables : ℕ) (clauses : List (List Lit)) (shortens : Bool) (t u : TrailState) (steps : List Step)
-    (numbers : List ℕ) (shelf : Shelf) → IsSearch shortens variables clauses t steps numbers → shortens ≡ true →
-    BeginsAnew variables clauses t numbers u shelf → IsSound u → IsSearch shortens variables clauses u steps (numbers_of shelf)
-search_shortened variables clauses shortens t u steps numbers shelf search is begins sound =
-    subst (λ (s : TrailState). IsSearch shortens variables clauses s steps (numbers_of shelf)) (sym begins.trail_is) (record {
+pub search_reduced : (variables : ℕ) (clauses : List (List Lit)) (reduces : Bool) (t u : TrailState) (steps : List Step)
+    (numbers : List ℕ) (database : ClauseDatabase) → IsSearch reduces variables clauses t steps numbers → reduces ≡ true →
+    BeginsAnew variables clauses t numbers u database → IsSound u → IsSearch reduces variables clauses u steps (numbers_of database)
+search_reduced variables clauses reduces t u steps numbers database search is begins sound =
+    subst (λ (s : TrailState). IsSearch reduces variables clauses s steps (numbers_of database)) (sym begins.trail_is) (record {
       usable = refl;
       sound = subst IsSound begins.trail_is sound;
       same_variables = refl;
@@ -553,26 +553,26 @@ search_shortened variables clauses shortens t u steps numbers shelf search is be
       calm = λ level below. absurd (omega arith);
     })
 
--- the steps and the trail after a call that may shorten it
-pub search_stays : (shortens wanted : Bool) (variables : ℕ) (clauses : List (List Lit)) (t u : TrailState) (journal after : Journal) →
-    IsSearch shortens variables clauses t journal.steps.items (numbers_of journal.shelf) → wanted ≡ shortens → IsSound u →
-    after ≡ record journal { shelf = after.shelf } → IsShortened wanted variables clauses t journal u after →
-    IsSearch shortens variables clauses u after.steps.items (numbers_of after.shelf)
-search_stays shortens wanted variables clauses t u journal after search same sound rest (inl (here, all)) =
-    subst (λ (s : TrailState). IsSearch shortens variables clauses s after.steps.items (numbers_of after.shelf)) (sym here)
-    (subst (λ (j : Journal). IsSearch shortens variables clauses t j.steps.items (numbers_of j.shelf)) (sym all) search)
-search_stays shortens wanted variables clauses t u journal after search same sound rest (inr (is, begins)) =
-    subst (λ (ss : List Step). IsSearch shortens variables clauses u ss (numbers_of after.shelf))
-    (sym (ap (λ (j : Journal). j.steps.items) rest)) (search_shortened variables clauses shortens t u journal.steps.items
-    (numbers_of journal.shelf) after.shelf search (sym same ∙ is) begins sound)
+-- the steps and the trail after a call that may reduce it
+pub search_stays : (reduces wanted : Bool) (variables : ℕ) (clauses : List (List Lit)) (t u : TrailState) (proof_log after : ProofLog) →
+    IsSearch reduces variables clauses t proof_log.steps.items (numbers_of proof_log.database) → wanted ≡ reduces → IsSound u →
+    after ≡ record proof_log { database = after.database } → IsReduced wanted variables clauses t proof_log u after →
+    IsSearch reduces variables clauses u after.steps.items (numbers_of after.database)
+search_stays reduces wanted variables clauses t u proof_log after search same sound rest (inl (here, all)) =
+    subst (λ (s : TrailState). IsSearch reduces variables clauses s after.steps.items (numbers_of after.database)) (sym here)
+    (subst (λ (j : ProofLog). IsSearch reduces variables clauses t j.steps.items (numbers_of j.database)) (sym all) search)
+search_stays reduces wanted variables clauses t u proof_log after search same sound rest (inr (is, begins)) =
+    subst (λ (ss : List Step). IsSearch reduces variables clauses u ss (numbers_of after.database))
+    (sym (ap (λ (j : ProofLog). j.steps.items) rest)) (search_reduced variables clauses reduces t u proof_log.steps.items
+    (numbers_of proof_log.database) after.database search (sym same ∙ is) begins sound)
 
 -- ---- the answers
 
-pub search_refuted : (shortens : Bool) (variables : ℕ) (clauses : List (List Lit)) (t : TrailState) (journal : Journal) (log : Log) →
-    IsSearch shortens variables clauses t journal.steps.items (numbers_of journal.shelf) →
-    journal.next ≡ length clauses + length journal.steps.items + 1 → IsRefutingLog t.clauses journal log →
+pub search_refuted : (reduces : Bool) (variables : ℕ) (clauses : List (List Lit)) (t : TrailState) (proof_log : ProofLog) (log : Log) →
+    IsSearch reduces variables clauses t proof_log.steps.items (numbers_of proof_log.database) →
+    proof_log.next ≡ length clauses + length proof_log.steps.items + 1 → IsRefutingLog t.clauses proof_log log →
     AreRefuting variables clauses log.steps
-search_refuted shortens variables clauses t journal log search next_is refuted =
+search_refuted reduces variables clauses t proof_log log search next_is refuted =
     subst (AreRefuting variables clauses) (sym refuted.steps_are) (record {
       accepted = ap (λ (o : Option Refusal). first_of o (end_refusal (steps ++ last ∷ []))) (search.logged (last ∷ []) accepted)
           ∙ ended steps;
@@ -583,19 +583,19 @@ search_refuted shortens variables clauses t journal log search next_is refuted =
     })
   where
     steps : List Step
-    steps = journal.steps.items
+    steps = proof_log.steps.items
 
     numbers : List ℕ
-    numbers = numbers_of journal.shelf
+    numbers = numbers_of proof_log.database
 
     before : List (List Lit)
     before = known clauses steps
 
-    next_number : journal.next ≡ length before + 1
+    next_number : proof_log.next ≡ length before + 1
     next_number = omega (arith, next_is, known_long clauses steps)
 
     last : Step
-    last = learnt_step journal.next [] (log_hints numbers refuted.hints)
+    last = learnt_step proof_log.next [] (log_hints numbers refuted.hints)
 
     step_taken : step_refusal variables (length before) (numbered_from 1 before) last ≡ None
     step_taken = subst (λ (n : ℕ). step_refusal variables (length before) (numbered_from 1 before)
@@ -614,10 +614,10 @@ search_refuted shortens variables clauses t journal log search next_is refuted =
         found (x ∷ xs) = or_right (is_empty_clause x.clause) (list_any (λ (s : Step). is_empty_clause s.clause) (xs ++ last ∷ []))
             (found xs)
 
-pub search_spent : (shortens : Bool) (variables : ℕ) (clauses : List (List Lit)) (t : TrailState) (steps : List Step) (numbers : List ℕ)
-    (budget : ℕ) (trace : List (List Lit)) → IsSearch shortens variables clauses t steps numbers → length steps ≡ budget →
-    trace ≡ clauses_of steps → (ReachesFalse t.clauses [] → ⊥) → shortens ≡ false → IsWholeTrace variables clauses budget trace
-search_spent shortens variables clauses t steps numbers budget trace search spent is none keeps =
+pub search_spent : (reduces : Bool) (variables : ℕ) (clauses : List (List Lit)) (t : TrailState) (steps : List Step) (numbers : List ℕ)
+    (budget : ℕ) (trace : List (List Lit)) → IsSearch reduces variables clauses t steps numbers → length steps ≡ budget →
+    trace ≡ clauses_of steps → (ReachesFalse t.clauses [] → ⊥) → reduces ≡ false → IsWholeTrace variables clauses budget trace
+search_spent reduces variables clauses t steps numbers budget trace search spent is none keeps =
     let all : IsTrace variables clauses (clauses_of steps) = subst (λ (cs : List (List Lit)). IsTrace variables clauses cs)
     (append-nil (clauses_of steps)) ((search.traced keeps).1 [] none) in
     let count : length (clauses_of steps) ≡ budget = length-map steps (λ (s : Step). s.clause) ∙ spent in
@@ -684,26 +684,26 @@ quiet_met (c ∷ cs) es variables truths apart all read over none =
             (truths_true es variables truths apart all read x over.0 f)
         by_test true f later n = or_right (is_true (assignment_of truths) x) (meets (assignment_of truths) xs) (later n)
 
-pub search_satisfied : (shortens : Bool) (variables : ℕ) (clauses : List (List Lit)) (t : TrailState) (found : List Step)
-    (of_trail : List ℕ) (truths : List Bool) → IsSearch shortens variables clauses t found of_trail → All (IsOver variables) clauses →
+pub search_satisfied : (reduces : Bool) (variables : ℕ) (clauses : List (List Lit)) (t : TrailState) (found : List Step)
+    (of_trail : List ℕ) (truths : List Bool) → IsSearch reduces variables clauses t found of_trail → All (IsOver variables) clauses →
     IsQuiet t.clauses (literals_of t.entries) →
     AreSet t.entries variables → AreVariableTruths t.entries variables truths → AreSatisfying variables clauses truths
-search_satisfied shortens variables clauses t found of_trail truths search over quiet all read = record {
+search_satisfied reduces variables clauses t found of_trail truths search over quiet all read = record {
   one_each = read.all;
   all_met = quiet_met clauses t.entries variables truths (apart_from t.variables t.clauses t.entries search.sound.stand) all read
       (recursion_from_All (IsOver variables) clauses over) (λ c in' f. quiet.none_false
       (c, subst (λ (cs : List (List Lit)). Contains cs c) (sym search.stands) (Contains-append_left clauses search.others c in'), f));
 }
 
-pub search_ended : (shortens : Bool) (variables : ℕ) (clauses : List (List Lit)) (t : TrailState) (journal : Journal) (budget : ℕ) →
-    IsSearch shortens variables clauses t journal.steps.items (numbers_of journal.shelf) →
-    journal.next ≡ length clauses + length journal.steps.items + 1 → (shortens ≡ false → length journal.steps.items ≡ budget) →
-    (answer : Answer) → IsEnd t.clauses journal answer → IsSearchAnswer shortens variables clauses budget answer
-search_ended shortens variables clauses t journal budget search next_is spent (Sat assignment) end' = absurd end'
-search_ended shortens variables clauses t journal budget search next_is spent (Unsat log) end' =
-    search_refuted shortens variables clauses t journal log search next_is end'
-search_ended shortens variables clauses t journal budget search next_is spent (Spent trace) end' = λ keeps.
-    search_spent shortens variables clauses t journal.steps.items (numbers_of journal.shelf) budget trace search (spent keeps) end'.0
+pub search_ended : (reduces : Bool) (variables : ℕ) (clauses : List (List Lit)) (t : TrailState) (proof_log : ProofLog) (budget : ℕ) →
+    IsSearch reduces variables clauses t proof_log.steps.items (numbers_of proof_log.database) →
+    proof_log.next ≡ length clauses + length proof_log.steps.items + 1 → (reduces ≡ false → length proof_log.steps.items ≡ budget) →
+    (answer : Answer) → IsEnd t.clauses proof_log answer → IsSearchAnswer reduces variables clauses budget answer
+search_ended reduces variables clauses t proof_log budget search next_is spent (Sat assignment) end' = absurd end'
+search_ended reduces variables clauses t proof_log budget search next_is spent (Unsat log) end' =
+    search_refuted reduces variables clauses t proof_log log search next_is end'
+search_ended reduces variables clauses t proof_log budget search next_is spent (Spent trace) end' = λ keeps.
+    search_spent reduces variables clauses t proof_log.steps.items (numbers_of proof_log.database) budget trace search (spent keeps) end'.0
     end'.1 keeps
 
 -- ---- the measure

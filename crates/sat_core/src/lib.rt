@@ -12,7 +12,7 @@
 //! What is true at level 0 gets a clause of one literal, with a step of its own, which is no learnt clause and
 //! does not count in the budget. The hints of later steps name that one, and need not show it again.
 //!
-//! Clauses that were not used of late are left out of the trail, at the counts of `Drops`: the trail is made
+//! Clauses that were not used of late are left out of the trail, at the counts of `Reductions`: the trail is made
 //! anew without them, and the same decisions are taken again. What is learnt then is a refutation, but no trace,
 //! since a clause may be learnt twice.
 //!

@@ -3,8 +3,8 @@ use Rattle.clause_core.specs.Literals.{Lit}
 use Rattle.clause_core.specs.Propagation.{IsQuiet}
 use Rattle.sat_trail.specs.Entries.{literals_of}
 use Rattle.sat_trail.specs.States.{TrailState, EndsWith}
-use Rattle.clause_learning.specs.ConflictWalks.{AreNoMarks}
-use Rattle.clause_learning.specs.Lessons.{clauses_of}
+use Rattle.clause_learning.specs.ConflictAnalysis.{AreNoneSeen}
+use Rattle.clause_learning.specs.LearntClauses.{clauses_of}
 use Rattle.sat_core.proofs.Searching.{quiet_reaches}
 use Rattle.sat_core.proofs.solver.end.Goals as goal
 
@@ -20,7 +20,7 @@ returns c =
           (subst (λ (cs : List (List Lit)). IsQuiet cs (literals_of u.entries)) same quiet),
     )
 
-pub refute-requires-clause-marks : goal.refute-requires-clause-marks
-refute-requires-clause-marks c = subst (λ (n : ℕ). AreNoMarks n c.args.walk.marks)
+pub refute-requires-clause-seen : goal.refute-requires-clause-seen
+refute-requires-clause-seen c = subst (λ (n : ℕ). AreNoneSeen n c.args.analysis.seen)
     (sym (ap (λ (s : TrailState). s.variables) c.in_ok-conflict.ensures.ok.rest_stays
-    ∙ ap (λ (s : TrailState). s.variables) c.undo_to.ensures.value)) c.requires.marks
+    ∙ ap (λ (s : TrailState). s.variables) c.undo_to.ensures.value)) c.requires.seen

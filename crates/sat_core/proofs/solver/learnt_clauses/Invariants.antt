@@ -1,5 +1,5 @@
 use Rattle.std.proofs.Common.{◌≡◌, ◌++◌}
-use Rattle.clause_learning.specs.Lessons.{clauses_of}
+use Rattle.clause_learning.specs.LearntClauses.{clauses_of}
 use Rattle.sat_core.proofs.solver.learnt_clauses.Given as goal
 
 abbrev pub invariant-loop-step : goal.invariant-loop-step

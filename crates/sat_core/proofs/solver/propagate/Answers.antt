@@ -30,5 +30,5 @@ returns-then-is_some-clause-propagated c = (
 pub propagate-requires-2 : goal.propagate-requires-2
 propagate-requires-2 c =
     let noted = c.in_ok-note_all.ensures.noted in
-    ap (λ (s : TrailState). s.broken) (noted_rest noted.0 c.propagate.new.self c.note_all.new.trail c.args.journal.now c.note_all.new.journal
+    ap (λ (s : TrailState). s.broken) (noted_rest noted.0 c.propagate.new.self c.note_all.new.trail c.args.proof_log.now c.note_all.new.proof_log
     noted.1) ∙ (ap (λ (s : TrailState). s.broken) c.in_ok-conflict.ensures.ok.rest_stays ∙ c.requires.usable)

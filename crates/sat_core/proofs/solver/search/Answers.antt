@@ -8,11 +8,11 @@ use Rattle.refutation_check.specs.declared.steps.Step.{Step}
 use Rattle.sat_trail.specs.Entries.{literals_of}
 use Rattle.sat_trail.specs.States.{TrailState, IsSound, EndsWith, started}
 use Rattle.sat_trail.proofs.Soundness.{length_entries}
-use Rattle.clause_learning.specs.declared.journal.Journal.{Journal}
+use Rattle.clause_learning.specs.declared.proof_log.ProofLog.{ProofLog}
 use Rattle.clause_learning.specs.Decisions.{AreSet, AreDecisions, AreVariableTruths, HasDecided, Decides}
-use Rattle.clause_learning.specs.ConflictWalks.{AreNoMarks}
-use Rattle.clause_learning.specs.Shelves.{numbers_of, log_hints, AreFirst}
-use Rattle.clause_learning.specs.Lessons.{learnt_step, HasLearnt}
+use Rattle.clause_learning.specs.ConflictAnalysis.{AreNoneSeen}
+use Rattle.clause_learning.specs.ClauseDatabases.{numbers_of, log_hints, AreFirst}
+use Rattle.clause_learning.specs.LearntClauses.{learnt_step, HasLearnt}
 use Rattle.sat_core.proofs.Searching.{IsSearch, search_begins, search_decided, search_learnt, search_stays}
 use Rattle.sat_core.proofs.Searching.{search_satisfied, search_refuted, search_ended, decided_longer, less_unset, less_budget}
 use Rattle.sat_core.proofs.SearchNotes.{IsSearching, searching_propagated}
@@ -20,52 +20,52 @@ use Rattle.sat_core.proofs.solver.search.Goals as goal
 use Rattle.sat_core.proofs.solver.search.Goals.{After-level, After-learn}
 
 -- what holds of the search where a conflict was found
-conflicted : (c : After-level) → IsSearching c.args.shortens c.args.cnf.now.variables c.args.cnf.now.clauses c.args.budget
-    c.propagate.new.trail c.propagate.new.journal c.propagate.new.units c.loop-units.decisions c.loop-units.walk.marks
+conflicted : (c : After-level) → IsSearching c.args.reduces c.args.cnf.now.variables c.args.cnf.now.clauses c.args.budget
+    c.propagate.new.trail c.propagate.new.proof_log c.propagate.new.units c.loop-units.decisions c.loop-units.analysis.seen
 conflicted c =
     let e = c.in_ok-conflict.ensures in
     (searching_propagated c.loop-units.invariant.searching e.propagated e.units e.added e.most e.sound).0
 
 -- and where a clause was learnt from it
 taught : (c : After-learn) →
-    HasLearnt c.is_due-anew.result c.args.shortens c.propagate.new.trail c.propagate.new.journal c.learn.new.trail c.learn.new.journal →
-    IsSound c.learn.new.trail → IsSearch c.args.shortens c.args.cnf.now.variables c.args.cnf.now.clauses c.learn.new.trail
-    c.learn.new.journal.steps.items (numbers_of c.learn.new.journal.shelf)
+    HasLearnt c.is_due-anew.result c.args.reduces c.propagate.new.trail c.propagate.new.proof_log c.learn.new.trail c.learn.new.proof_log →
+    IsSound c.learn.new.trail → IsSearch c.args.reduces c.args.cnf.now.variables c.args.cnf.now.clauses c.learn.new.trail
+    c.learn.new.proof_log.steps.items (numbers_of c.learn.new.proof_log.database)
 taught c learnt sound =
     let e = c.in_ok-conflict.ensures in
     let p = searching_propagated c.loop-units.invariant.searching e.propagated e.units e.added e.most e.sound in
     let above : 0 < c.propagate.new.trail.level = omega (arith, c.level.ensures.value, c.if-level-eq0.false) in
-    search_learnt c.args.shortens c.args.cnf.now.variables c.args.cnf.now.clauses c.is_due-anew.result c.propagate.new.trail
-    c.learn.new.trail c.propagate.new.journal c.learn.new.journal p.0.logged.search p.0.logged.next learnt sound above
+    search_learnt c.args.reduces c.args.cnf.now.variables c.args.cnf.now.clauses c.is_due-anew.result c.propagate.new.trail
+    c.learn.new.trail c.propagate.new.proof_log c.learn.new.proof_log p.0.logged.search p.0.logged.next learnt sound above
 
 pub loop-units-init : goal.loop-units-init
 loop-units-init c =
     let cnf = c.args.cnf.now in
-    let journal = c.new-journal.result in
+    let proof_log = c.new-proof_log.result in
     let units = c.in_ok-units.ensures in
     let start : c.in_ok-trail.trail ≡ started cnf.variables cnf.clauses = c.in_ok-trail.ensures.ok
     ∙ ap (started cnf.variables) (ap (λ (cs : List (List Lit)). cnf.clauses ++ cs) c.new.ensures.items ∙ append-nil cnf.clauses) in
-    let search = search_begins c.args.shortens cnf.variables cnf.clauses c.in_ok-trail.trail journal.steps.items journal.shelf
-    start c.in_ok-trail.ensures.sound c.new-journal.ensures.steps
-    (subst (λ (n : ℕ). AreFirst n journal.shelf) c.len.ensures c.new-journal.ensures.shelf) in
+    let search = search_begins c.args.reduces cnf.variables cnf.clauses c.in_ok-trail.trail proof_log.steps.items proof_log.database
+    start c.in_ok-trail.ensures.sound c.new-proof_log.ensures.steps
+    (subst (λ (n : ℕ). AreFirst n proof_log.database) c.len.ensures c.new-proof_log.ensures.database) in
     record {
       searching = record {
         logged = record {
           search = search;
-          next = omega (arith, c.new-journal.ensures.next, c.len.ensures, ap length c.new-journal.ensures.steps);
+          next = omega (arith, c.new-proof_log.ensures.next, c.len.ensures, ap length c.new-proof_log.ensures.steps);
         };
         order = subst (λ (s : TrailState). AreDecisions s.variables s.entries c.in_ok-decisions.decisions) (sym start)
             (c.in_ok-decisions.ensures []);
-        unmarked = subst (λ (s : TrailState). AreNoMarks s.variables c.in_ok-walk.walk.marks) (sym start)
-            c.in_ok-walk.ensures;
+        none_seen = subst (λ (s : TrailState). AreNoneSeen s.variables c.in_ok-analysis.analysis.seen) (sym start)
+            c.in_ok-analysis.ensures;
         table = units.units c.in_ok-trail.trail search.same_variables;
-        within = omega (arith, ap length c.new-journal.ensures.steps);
+        within = omega (arith, ap length c.new-proof_log.ensures.steps);
         counted = omega (arith, units.added);
         few = omega (arith, units.added);
         room = omega (arith, units.most, c.most_units.ensures.room);
         only = λ keeps. units.most ∙ c.most_units.ensures.none keeps;
       };
-      wanted = c.new-drops.ensures;
+      wanted = c.new-reductions.ensures;
     }
 
 pub decide-requires-clause-usable : goal.decide-requires-clause-usable
@@ -109,9 +109,9 @@ returns-in_default c =
     let all : Decides u c.loop-units.decisions w c.decide.new.self false =
     subst (Decides u c.loop-units.decisions w c.decide.new.self) c.if-branch.false c.in_ok-decide.ensures in
     let cnf = c.args.cnf.now in
-    let journal = c.propagate.new.journal in
+    let proof_log = c.propagate.new.proof_log in
     let quiet : IsQuiet u.clauses (literals_of u.entries) = subst (λ (o : Option ℕ). EndsWith o u) c.in_default.is e.ends in
-    search_satisfied c.args.shortens cnf.variables cnf.clauses u journal.steps.items (numbers_of journal.shelf)
+    search_satisfied c.args.reduces cnf.variables cnf.clauses u proof_log.steps.items (numbers_of proof_log.database)
     c.in_ok-assignment.assignment.truths p.0.logged.search cnf.over quiet
     (subst (AreSet u.entries) p.0.logged.search.same_variables all.0)
     (subst (λ (s : TrailState). AreVariableTruths s.entries cnf.variables c.in_ok-assignment.assignment.truths) all.1
@@ -126,19 +126,19 @@ loop-units-preserved-then-branch c =
     let decided : HasDecided u c.loop-units.decisions w c.decide.new.self =
     subst (Decides u c.loop-units.decisions w c.decide.new.self) c.if-branch.true c.in_ok-decide.ensures in
     let cnf = c.args.cnf.now in
-    let journal = c.propagate.new.journal in
+    let proof_log = c.propagate.new.proof_log in
     let quiet : IsQuiet u.clauses (literals_of u.entries) = subst (λ (o : Option ℕ). EndsWith o u) c.in_default.is e.ends in
     let variables : w.variables ≡ u.variables = ap (λ (s : TrailState). s.variables) decided.trail_is in
     let clauses : length w.clauses ≡ length u.clauses = ap (λ (s : TrailState). length s.clauses) decided.trail_is in
     record {
       searching = record {
         logged = record {
-          search = search_decided c.args.shortens cnf.variables cnf.clauses u w journal.steps.items (numbers_of journal.shelf)
+          search = search_decided c.args.reduces cnf.variables cnf.clauses u w proof_log.steps.items (numbers_of proof_log.database)
               decided.literal p.0.logged.search quiet decided.trail_is decided.sound;
           next = p.0.logged.next;
         };
         order = decided.decisions;
-        unmarked = subst (λ (n : ℕ). AreNoMarks n c.loop-units.walk.marks) (sym variables) p.0.unmarked;
+        none_seen = subst (λ (n : ℕ). AreNoneSeen n c.loop-units.analysis.seen) (sym variables) p.0.none_seen;
         table = record {
           one_each = p.0.table.one_each ∙ sym variables;
           within = omega (arith, p.0.table.within, clauses);
@@ -161,7 +161,7 @@ loop-units-smaller-then-branch c =
     let decided : HasDecided u c.loop-units.decisions w c.decide.new.self =
     subst (Decides u c.loop-units.decisions w c.decide.new.self) c.if-branch.true c.in_ok-decide.ensures in
     let cnf = c.args.cnf.now in
-    let after = c.propagate.new.journal in
+    let after = c.propagate.new.proof_log in
     let longer = decided_longer c.loop-units.trail u w decided.literal p.1 decided.trail_is in
     let same : w.variables ≡ cnf.variables = ap (λ (s : TrailState). s.variables) decided.trail_is ∙ p.0.logged.search.same_variables in
     let short : length w.entries ≤ cnf.variables =
@@ -184,8 +184,8 @@ end-requires-clause-usable c = (conflicted (goal.at.end-requires-clause-usable c
 pub learn-requires-clause-usable : goal.learn-requires-clause-usable
 learn-requires-clause-usable c = (conflicted (goal.at.learn-requires-clause-usable c).After-level).logged.search.usable
 
-pub refute-requires-clause-marks : goal.refute-requires-clause-marks
-refute-requires-clause-marks c = (conflicted (goal.at.refute-requires-clause-marks c).After-level).unmarked
+pub refute-requires-clause-seen : goal.refute-requires-clause-seen
+refute-requires-clause-seen c = (conflicted (goal.at.refute-requires-clause-seen c).After-level).none_seen
 
 pub refute-requires-clause-next : goal.refute-requires-clause-next
 refute-requires-clause-next c =
@@ -195,8 +195,8 @@ refute-requires-clause-next c =
 pub refute-requires-clause-numbers : goal.refute-requires-clause-numbers
 refute-requires-clause-numbers c = (conflicted (goal.at.refute-requires-clause-numbers c).After-level).logged.search.named.one_each
 
-pub end-requires-clause-marks : goal.end-requires-clause-marks
-end-requires-clause-marks c = (conflicted (goal.at.end-requires-clause-marks c).After-level).unmarked
+pub end-requires-clause-seen : goal.end-requires-clause-seen
+end-requires-clause-seen c = (conflicted (goal.at.end-requires-clause-seen c).After-level).none_seen
 
 pub end-requires-clause-next : goal.end-requires-clause-next
 end-requires-clause-next c =
@@ -206,8 +206,8 @@ end-requires-clause-next c =
 pub end-requires-clause-numbers : goal.end-requires-clause-numbers
 end-requires-clause-numbers c = (conflicted (goal.at.end-requires-clause-numbers c).After-level).logged.search.named.one_each
 
-pub learn-requires-clause-marks : goal.learn-requires-clause-marks
-learn-requires-clause-marks c = (conflicted (goal.at.learn-requires-clause-marks c).After-level).unmarked
+pub learn-requires-clause-seen : goal.learn-requires-clause-seen
+learn-requires-clause-seen c = (conflicted (goal.at.learn-requires-clause-seen c).After-level).none_seen
 
 pub learn-requires-clause-next : goal.learn-requires-clause-next
 learn-requires-clause-next c =
@@ -221,7 +221,7 @@ pub returns-then-level-eq0 : goal.returns-then-level-eq0
 returns-then-level-eq0 c =
     let p = conflicted (goal.at.returns-then-level-eq0 c).After-level in
     let cnf = c.args.cnf.now in
-    search_refuted c.args.shortens cnf.variables cnf.clauses c.propagate.new.trail c.propagate.new.journal c.in_ok-log.log
+    search_refuted c.args.reduces cnf.variables cnf.clauses c.propagate.new.trail c.propagate.new.proof_log c.in_ok-log.log
     p.logged.search p.logged.next c.in_ok-log.ensures
 
 pub overflow_sub-learnt : goal.overflow_sub-learnt
@@ -232,9 +232,9 @@ returns-then-learnt-budget c =
     let p = conflicted (goal.at.returns-then-learnt-budget c).After-level in
     let cnf = c.args.cnf.now in
     let u = c.propagate.new.trail in
-    let journal = c.propagate.new.journal in
-    IfOk-weaker c.end.result (IsEnd u.clauses journal) (IsSearchAnswer c.args.shortens cnf.variables cnf.clauses c.args.budget)
-    (search_ended c.args.shortens cnf.variables cnf.clauses u journal c.args.budget p.logged.search p.logged.next
+    let proof_log = c.propagate.new.proof_log in
+    IfOk-weaker c.end.result (IsEnd u.clauses proof_log) (IsSearchAnswer c.args.reduces cnf.variables cnf.clauses c.args.budget)
+    (search_ended c.args.reduces cnf.variables cnf.clauses u proof_log c.args.budget p.logged.search p.logged.next
     (λ keeps. omega (arith, p.only keeps, p.few, p.counted, c.len-in-loop-units.ensures, c.if-learnt-budget.true)))
     c.end.ensures
 
@@ -255,23 +255,23 @@ learn-requires-clause-few c =
 pub learn-requires-clause-decisions : goal.learn-requires-clause-decisions
 learn-requires-clause-decisions c = (conflicted (goal.at.learn-requires-clause-decisions c).After-level).order
 
-pub shortened-requires-clause-usable : goal.shortened-requires-clause-usable
-shortened-requires-clause-usable c =
-    (taught (goal.at.shortened-requires-clause-usable c).After-learn c.in_ok-learn.ensures.learnt c.in_ok-learn.ensures.sound).usable
+pub reduced-requires-clause-usable : goal.reduced-requires-clause-usable
+reduced-requires-clause-usable c =
+    (taught (goal.at.reduced-requires-clause-usable c).After-learn c.in_ok-learn.ensures.learnt c.in_ok-learn.ensures.sound).usable
 
-pub shortened-requires-clause-variables : goal.shortened-requires-clause-variables
-shortened-requires-clause-variables c =
-    sym (taught (goal.at.shortened-requires-clause-variables c).After-learn
+pub reduced-requires-clause-variables : goal.reduced-requires-clause-variables
+reduced-requires-clause-variables c =
+    sym (taught (goal.at.reduced-requires-clause-variables c).After-learn
     c.in_ok-learn.ensures.learnt c.in_ok-learn.ensures.sound).same_variables
 
-pub shortened-requires-clause-formula : goal.shortened-requires-clause-formula
-shortened-requires-clause-formula c =
-    let more = taught (goal.at.shortened-requires-clause-formula c).After-learn c.in_ok-learn.ensures.learnt c.in_ok-learn.ensures.sound in
+pub reduced-requires-clause-formula : goal.reduced-requires-clause-formula
+reduced-requires-clause-formula c =
+    let more = taught (goal.at.reduced-requires-clause-formula c).After-learn c.in_ok-learn.ensures.learnt c.in_ok-learn.ensures.sound in
     omega (arith, ap (λ (cs : List (List Lit)). length cs) more.stands, length-append c.args.cnf.now.clauses more.others)
 
-pub shortened-requires-clause-numbers : goal.shortened-requires-clause-numbers
-shortened-requires-clause-numbers c =
-    (taught (goal.at.shortened-requires-clause-numbers c).After-learn
+pub reduced-requires-clause-numbers : goal.reduced-requires-clause-numbers
+reduced-requires-clause-numbers c =
+    (taught (goal.at.reduced-requires-clause-numbers c).After-learn
     c.in_ok-learn.ensures.learnt c.in_ok-learn.ensures.sound).named.one_each
 
 pub loop-units-smaller : goal.loop-units-smaller
@@ -279,20 +279,20 @@ loop-units-smaller c =
     let e = c.in_ok-conflict.ensures in
     let p = searching_propagated c.loop-units.invariant.searching e.propagated e.units e.added e.most e.sound in
     let cnf = c.args.cnf.now in
-    let journal = c.propagate.new.journal in
+    let proof_log = c.propagate.new.proof_log in
     let learnt = c.in_ok-learn.ensures.learnt in
-    let after = c.shortened.new.journal in
-    let count : length after.steps.items ≡ length journal.steps.items + 1 = omega (
+    let after = c.reduced.new.proof_log in
+    let count : length after.steps.items ≡ length proof_log.steps.items + 1 = omega (
       arith,
-      ap (λ (j : Journal). length j.steps.items) c.shortened.ensures.journal,
+      ap (λ (j : ProofLog). length j.steps.items) c.reduced.ensures.proof_log,
       ap (λ (ss : List Step). length ss) learnt.steps_are,
-      length_push journal.steps.items (learnt_step journal.next learnt.clause (log_hints (numbers_of journal.shelf) learnt.hints)),
+      length_push proof_log.steps.items (learnt_step proof_log.next learnt.clause (log_hints (numbers_of proof_log.database) learnt.hints)),
     ) in
-    let left : c.args.budget + c.shortened.new.units.added - length after.steps.items + 1
-    ≡ c.args.budget + c.loop-units.units.added - length c.loop-units.journal.steps.items = omega (
+    let left : c.args.budget + c.reduced.new.units.added - length after.steps.items + 1
+    ≡ c.args.budget + c.loop-units.units.added - length c.loop-units.proof_log.steps.items = omega (
       arith,
       count,
-      c.shortened.ensures.added,
+      c.reduced.ensures.added,
       p.2,
       p.0.within,
       p.0.counted,
@@ -308,20 +308,20 @@ loop-units-preserved c =
     let p = searching_propagated c.loop-units.invariant.searching e.propagated e.units e.added e.most e.sound in
     let cnf = c.args.cnf.now in
     let w = c.learn.new.trail in
-    let journal = c.propagate.new.journal in
-    let middle = c.learn.new.journal in
+    let proof_log = c.propagate.new.proof_log in
+    let middle = c.learn.new.proof_log in
     let learnt = c.in_ok-learn.ensures.learnt in
     let more = taught (goal.at.loop-units-preserved c).After-learn c.in_ok-learn.ensures.learnt c.in_ok-learn.ensures.sound in
-    let after = c.shortened.new.journal in
-    let count : length after.steps.items ≡ length journal.steps.items + 1 = omega (
+    let after = c.reduced.new.proof_log in
+    let count : length after.steps.items ≡ length proof_log.steps.items + 1 = omega (
       arith,
-      ap (λ (j : Journal). length j.steps.items) c.shortened.ensures.journal,
+      ap (λ (j : ProofLog). length j.steps.items) c.reduced.ensures.proof_log,
       ap (λ (ss : List Step). length ss) learnt.steps_are,
-      length_push journal.steps.items (learnt_step journal.next learnt.clause (log_hints (numbers_of journal.shelf) learnt.hints)),
+      length_push proof_log.steps.items (learnt_step proof_log.next learnt.clause (log_hints (numbers_of proof_log.database) learnt.hints)),
     ) in
     let kept = c.in_ok-trail-2.trail in
-    let stays = search_stays c.args.shortens c.loop-units.drops.wanted cnf.variables cnf.clauses w kept middle after more
-    c.loop-units.invariant.wanted c.in_ok-trail-2.ensures.sound c.shortened.ensures.journal
+    let stays = search_stays c.args.reduces c.loop-units.reductions.wanted cnf.variables cnf.clauses w kept middle after more
+    c.loop-units.invariant.wanted c.in_ok-trail-2.ensures.sound c.reduced.ensures.proof_log
     c.in_ok-trail-2.ensures.trail in
     record {
       searching = record {
@@ -330,28 +330,28 @@ loop-units-preserved c =
           next = omega (
             arith,
             count,
-            ap (λ (j : Journal). j.next) c.shortened.ensures.journal,
+            ap (λ (j : ProofLog). j.next) c.reduced.ensures.proof_log,
             learnt.next_is,
             p.0.logged.next,
           );
         };
         order = c.in_ok-trail-2.ensures.decisions;
-        unmarked = subst (λ (n : ℕ). AreNoMarks n c.learn.new.walk.marks) (more.same_variables ∙ sym stays.same_variables)
-            c.in_ok-learn.ensures.marks;
+        none_seen = subst (λ (n : ℕ). AreNoneSeen n c.learn.new.analysis.seen) (more.same_variables ∙ sym stays.same_variables)
+            c.in_ok-learn.ensures.seen;
         table = c.in_ok-trail-2.ensures.units;
         within = omega (
           arith,
           count,
-          c.shortened.ensures.added,
+          c.reduced.ensures.added,
           p.0.within,
           p.0.counted,
           c.len-in-loop-units.ensures,
           c.if-learnt-budget.false,
         );
-        counted = omega (arith, count, c.shortened.ensures.added, p.0.counted);
-        few = omega (arith, c.shortened.ensures.added, c.shortened.ensures.most, p.0.few);
-        room = omega (arith, c.shortened.ensures.most, p.0.room);
-        only = λ keeps. c.shortened.ensures.most ∙ p.0.only keeps;
+        counted = omega (arith, count, c.reduced.ensures.added, p.0.counted);
+        few = omega (arith, c.reduced.ensures.added, c.reduced.ensures.most, p.0.few);
+        room = omega (arith, c.reduced.ensures.most, p.0.room);
+        only = λ keeps. c.reduced.ensures.most ∙ p.0.only keeps;
       };
-      wanted = c.shortened.ensures.drops ∙ c.loop-units.invariant.wanted;
+      wanted = c.reduced.ensures.reductions ∙ c.loop-units.invariant.wanted;
     }

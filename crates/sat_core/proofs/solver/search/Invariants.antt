@@ -4,10 +4,10 @@ use Rattle.sat_core.proofs.solver.search.Given as goal
 
 abbrev pub invariant-loop-units : goal.invariant-loop-units
 invariant-loop-units l = record {
-  searching : IsSearching l.shortens l.cnf.variables l.cnf.clauses l.budget l.trail l.journal l.units l.decisions l.walk.marks;
-  wanted : l.drops.wanted ≡ l.shortens;
+  searching : IsSearching l.reduces l.cnf.variables l.cnf.clauses l.budget l.trail l.proof_log l.units l.decisions l.analysis.seen;
+  wanted : l.reductions.wanted ≡ l.reduces;
 }
 
 abbrev pub decreases-loop-units : goal.decreases-loop-units
-decreases-loop-units l = (l.budget + l.units.added - length l.journal.steps.items) * (l.cnf.variables + 1)
+decreases-loop-units l = (l.budget + l.units.added - length l.proof_log.steps.items) * (l.cnf.variables + 1)
     + (l.cnf.variables - length l.trail.entries)

@@ -1,7 +1,7 @@
 use Rattle.std.proofs.Common.{◌≡◌, ℕ, ◌+◌, ◌<◌, ◌++◌, ◌∷◌, [], List, length, get_or, sym, ap, ◌∙◌, take}
 use Rattle.std.proofs.lemmas.List.{take_more}
 use Rattle.clause_core.specs.Literals.{Lit}
-use Rattle.clause_learning.proofs.LessonLemmas.{copied}
+use Rattle.clause_learning.proofs.LearntClauseLemmas.{copied}
 use Rattle.sat_tests.proofs.traces.copies.Goals as goal
 
 one_more : (so_far more clauses : List (List Lit)) (i : ℕ) (clause copy : List Lit) → i < length clauses →

@@ -3,7 +3,7 @@ use Rattle.std.specs.Prelude.{◌↔◌}
 use Rattle.std.proofs.lemmas.List.{drop_more}
 use Rattle.clause_core.specs.Literals.{Lit}
 use Rattle.clause_core.specs.Propagation.{IsLearnt, IsTrace}
-use Rattle.clause_learning.proofs.LessonLemmas.{copied}
+use Rattle.clause_learning.proofs.LearntClauseLemmas.{copied}
 use Rattle.sat_tests.proofs.traces.is_trace.Goals as goal
 
 step : (variables : ℕ) (known more : List (List Lit)) (clause : List Lit) (trace : List (List Lit)) (i : ℕ) (T : Type 0) →

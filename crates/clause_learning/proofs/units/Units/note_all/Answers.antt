@@ -23,6 +23,6 @@ loop-self-init c = record {
 pub loop-self-preserved : goal.loop-self-preserved
 loop-self-preserved c =
     let after = c.in_ok-note_entry.ensures in
-    noting_more c.args.trail.now c.args.journal.now c.args.self.now c.loop-self.trail c.loop-self.journal c.loop-self.self
-    c.note_entry.new.trail c.note_entry.new.journal c.note_entry.new.self after.noted c.loop-self.invariant after.units
+    noting_more c.args.trail.now c.args.proof_log.now c.args.self.now c.loop-self.trail c.loop-self.proof_log c.loop-self.self
+    c.note_entry.new.trail c.note_entry.new.proof_log c.note_entry.new.self after.noted c.loop-self.invariant after.units
     (ap (λ (u : Units). u.most) after.rest) after.added

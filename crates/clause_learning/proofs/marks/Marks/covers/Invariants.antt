@@ -1,7 +1,0 @@
-use Rattle.std.proofs.Common.{◌≡◌, drop}
-use Rattle.clause_learning.specs.ConflictWalks.{are_covered}
-use Rattle.clause_learning.proofs.marks.Marks.covers.Given as goal
-
-abbrev pub invariant-loop-literal : goal.invariant-loop-literal
-invariant-loop-literal l = are_covered l.trail.entries l.self (drop l.literal-index l.literal-items)
-    ≡ are_covered l.trail.entries l.self l.literal-items

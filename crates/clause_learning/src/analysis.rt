@@ -1,0 +1,220 @@
+//! The analysis of a conflict: it passes the entries of a trail, from the last one on, and finds what is learnt.
+
+ghost use Rattle.std.specs.Prelude.{◌≡◌, ◌==◌, ◌&&◌, ◌||◌, ℕ, ◌+◌, ◌<◌, max, cond, nat_lt, false, true, not, List, [], ◌∷◌, ◌++◌, length, Some, None, slice_get, MatchOption, IfSome, OnOk, IfOk};
+ghost use Rattle.clause_core.specs.Literals.{Lit, negation};
+ghost use Rattle.sat_trail.specs.declared.entries.Entry.{Entry};
+ghost use Rattle.sat_trail.specs.States.{IsSound, IsFalseAt};
+ghost use Rattle.clause_learning.specs.Levels.{AreNoneFalseBelow};
+ghost use Rattle.clause_learning.specs.Units.{AreUnits};
+ghost use Rattle.clause_learning.specs.ConflictAnalysis.{is_seen, is_of_clause, AreSeen, AreNoneSeen, IsAnalysis, IsAnalysed, must_go, MayStay, IsForcing, IsReplaced};
+
+use crate::seen::Seen;
+use crate::units::Units;
+use clause_core::Literal;
+use sat_trail::Trail;
+use sequence::NoMemory;
+use std::alloc::Global;
+
+/// What an analysis has found so far.
+#[derive(Drop)]
+pub struct Analysis {
+    /// The entries that the analysis is yet to pass and whose opposites are in the clause.
+    pub seen: Seen,
+    /// The literals of the clause that stay.
+    pub kept: Vec<Literal>,
+    /// The hints, the last one first.
+    pub hints: Vec<u64>,
+    /// The largest level below the present one at which a literal that stays is false.
+    pub back: u32,
+}
+
+impl Analysis {
+    /// No analysis has begun. An `Err` says that memory ran out.
+    pub fn new(alloc: Global, variables: u32) -> Result<Analysis, NoMemory>
+        ensures { IfOk result (λ analysis. AreNoneSeen variables analysis.seen) }
+    {
+        Ok(Analysis {
+            seen: Seen::new(alloc, variables)?,
+            kept: Vec::new(alloc),
+            hints: Vec::new(alloc),
+            back: 0,
+        })
+    }
+
+    /// Analyses a clause that is false, over all entries. An `Err` says that memory ran out.
+    pub fn run(&mut self, trail: &Trail<'_>, units: &Units, conflict: u32) -> Result<(), NoMemory>
+        requires usable { trail.now.broken ≡ false }
+        requires sound { IsSound trail.now }
+        requires units { AreUnits trail.now units.now }
+        requires conflict { IsFalseAt trail.now conflict }
+        requires met { AreNoneFalseBelow trail.now trail.now.level }
+        requires seen { AreNoneSeen trail.now.variables self.old.seen }
+        ensures { OnOk result (IsAnalysed trail.now self.new) }
+    {
+        self.begin(trail, conflict)?;
+        let mut place = trail.set_count();
+        while place > self.seen.lowest {
+            place -= 1;
+            self.step(trail, units, place)?;
+        }
+        Ok(())
+    }
+
+    /// Begins with a clause that is false. An `Err` says that memory ran out.
+    fn begin(&mut self, trail: &Trail<'_>, conflict: u32) -> Result<(), NoMemory>
+        requires usable { trail.now.broken ≡ false }
+        requires sound { IsSound trail.now }
+        requires conflict { IsFalseAt trail.now conflict }
+        requires met { AreNoneFalseBelow trail.now trail.now.level }
+        requires seen { AreNoneSeen trail.now.variables self.old.seen }
+        ensures { OnOk result (IsAnalysis trail.now (length trail.now.entries) self.new) }
+    {
+        self.kept.clear();
+        self.hints.clear();
+        self.back = 0;
+        self.seen.begin();
+        self.seen.see_clause(trail, conflict)?;
+        self.hints.push(u64::from(conflict) + 1)?;
+        Ok(())
+    }
+
+    /// Passes an entry. An `Err` says that memory ran out.
+    fn step(&mut self, trail: &Trail<'_>, units: &Units, place: u32) -> Result<(), NoMemory>
+        requires usable { trail.now.broken ≡ false }
+        requires sound { IsSound trail.now }
+        requires units { AreUnits trail.now units.now }
+        requires within { place < length trail.now.entries }
+        requires analysis { IsAnalysis trail.now (place + 1) self.old }
+        ensures { OnOk result (IsAnalysis trail.now place self.new) }
+    {
+        if self.seen.is_seen(place) {
+            self.pass(trail, units, place)
+        } else {
+            Ok(())
+        }
+    }
+
+    /// Passes a seen entry: its reason takes its place in the clause, or the opposite of its literal
+    /// stays. An `Err` says that memory ran out.
+    fn pass(&mut self, trail: &Trail<'_>, units: &Units, place: u32) -> Result<(), NoMemory>
+        requires usable { trail.now.broken ≡ false }
+        requires sound { IsSound trail.now }
+        requires units { AreUnits trail.now units.now }
+        requires within { place < length trail.now.entries }
+        requires entries_seen { is_seen self.old.seen place ≡ true }
+        requires analysis { IsAnalysis trail.now (place + 1) self.old }
+        ensures { OnOk result (IsAnalysis trail.now place self.new) }
+    {
+        match self.replacement(trail, units, place) {
+            Some(reason) => self.replace(trail, place, reason),
+            None => self.keep(trail, place),
+        }
+    }
+
+    /// The number of the clause that takes an entry's place; none where its literal's opposite stays.
+    fn replacement(&self, trail: &Trail<'_>, units: &Units, place: u32) -> Option<u32>
+        requires usable { trail.now.broken ≡ false }
+        requires sound { IsSound trail.now }
+        requires units { AreUnits trail.now units.now }
+        requires within { place < length trail.now.entries }
+        requires seen { AreSeen trail.now self.now.seen }
+        ensures { (entry : Entry) → slice_get trail.now.entries place ≡ Some entry → MatchOption result
+            (MayStay trail.now.level self.now.seen.waiting entry) (IsReplaced trail.now.clauses trail.now.level self.now.seen.waiting entry) }
+    {
+        let level = trail.level_at(place);
+        if level == 0 {
+            return start_reason(trail, units, place);
+        }
+        if self.must_go(trail, level) {
+            return trail.reason_at(place);
+        }
+        if level == trail.level() {
+            return None;
+        }
+        self.covered_reason(trail, place)
+    }
+
+    /// Whether the reason of an entry of this level, above 0, must take its place.
+    fn must_go(&self, trail: &Trail<'_>, level: u32) -> bool
+        requires { trail.now.broken ≡ false }
+        ensures { result ≡ must_go trail.now.level self.now.seen.waiting level }
+    {
+        level == trail.level() && self.seen.is_crowded()
+    }
+
+    /// The number of an entry's reason, where the entries of its variables are seen or of level 0: the
+    /// clause is shorter then.
+    fn covered_reason(&self, trail: &Trail<'_>, place: u32) -> Option<u32>
+        requires usable { trail.now.broken ≡ false }
+        requires sound { IsSound trail.now }
+        requires within { place < length trail.now.entries }
+        requires seen { AreSeen trail.now self.now.seen }
+        ensures { (entry : Entry) → slice_get trail.now.entries place ≡ Some entry → IfSome result (λ reason. entry.reason ≡ Some reason) }
+    {
+        let reason = trail.reason_at(place)?;
+        if self.seen.covers(trail, reason) {
+            Some(reason)
+        } else {
+            None
+        }
+    }
+
+    /// The reason takes the place of an entry. An `Err` says that memory ran out.
+    fn replace(&mut self, trail: &Trail<'_>, place: u32, reason: u32) -> Result<(), NoMemory>
+        requires usable { trail.now.broken ≡ false }
+        requires within { place < length trail.now.entries }
+        requires sound { IsSound trail.now }
+        requires given { reason < length trail.now.clauses }
+        requires entries_seen { is_seen self.old.seen place ≡ true }
+        requires seen { AreSeen trail.now self.old.seen }
+        ensures entries_seen { OnOk result ((clause : List Lit) → slice_get trail.now.clauses reason ≡ Some clause →
+            (other : ℕ) → is_seen self.new.seen other ≡ ((is_seen self.old.seen other || is_of_clause trail.now.entries clause other) && not (other == place))) }
+        ensures seen { OnOk result (AreSeen trail.now self.new.seen) }
+        ensures kept { self.new.kept.items ≡ self.old.kept.items }
+        ensures hints { OnOk result (self.new.hints.items ≡ self.old.hints.items ++ (reason + 1) ∷ []) }
+        ensures back { self.new.back ≡ self.old.back }
+    {
+        self.seen.see_clause(trail, reason)?;
+        self.seen.clear(trail, place);
+        self.hints.push(u64::from(reason) + 1)?;
+        Ok(())
+    }
+
+    /// The opposite of an entry's literal stays in the clause. An `Err` says that memory ran out.
+    fn keep(&mut self, trail: &Trail<'_>, place: u32) -> Result<(), NoMemory>
+        requires usable { trail.now.broken ≡ false }
+        requires sound { IsSound trail.now }
+        requires within { place < length trail.now.entries }
+        requires entries_seen { is_seen self.old.seen place ≡ true }
+        requires seen { AreSeen trail.now self.old.seen }
+        ensures entries_seen { (other : ℕ) → is_seen self.new.seen other ≡ (is_seen self.old.seen other && not (other == place)) }
+        ensures seen { AreSeen trail.now self.new.seen }
+        ensures kept { (entry : Entry) → slice_get trail.now.entries place ≡ Some entry →
+            OnOk result (self.new.kept.items ≡ self.old.kept.items ++ negation entry.literal ∷ []) }
+        ensures hints { self.new.hints.items ≡ self.old.hints.items }
+        ensures back { (entry : Entry) → slice_get trail.now.entries place ≡ Some entry →
+            self.new.back ≡ cond (nat_lt entry.level trail.now.level) (max self.old.back entry.level) self.old.back }
+    {
+        self.seen.clear(trail, place);
+        let level = trail.level_at(place);
+        if level < trail.level() {
+            self.back = self.back.max(level);
+        }
+        self.kept.push(trail.set_at(place).negated())?;
+        Ok(())
+    }
+}
+
+/// Of an entry of level 0 the number of a clause that has its literal alone, or else of its reason.
+fn start_reason(trail: &Trail<'_>, units: &Units, place: u32) -> Option<u32>
+    requires usable { trail.now.broken ≡ false }
+    requires sound { IsSound trail.now }
+    requires units { AreUnits trail.now units.now }
+    requires within { place < length trail.now.entries }
+    ensures { (entry : Entry) → slice_get trail.now.entries place ≡ Some entry → MatchOption result (entry.reason ≡ None) (IsForcing trail.now.clauses entry) }
+{
+    match units.number_of(trail, trail.set_at(place)) {
+        Some(number) => Some(number),
+        None => trail.reason_at(place),
+    }
+}

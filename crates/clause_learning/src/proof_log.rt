@@ -1,0 +1,78 @@
+//! The log of a search so far.
+
+ghost use Rattle.std.specs.Prelude.{◌≡◌, ◌+◌, ◌<◌, ◌^◌, ◌++◌, ◌∷◌, [], length, OnOk, IfOk};
+ghost use Rattle.clause_learning.specs.Hints.{AreHints};
+ghost use Rattle.clause_learning.specs.LearntClauses.{learnt_step};
+ghost use Rattle.clause_learning.specs.ClauseDatabases.{numbers_of, log_hints, AreFirst};
+
+use crate::clause_database::{ClauseDatabase, first_use};
+use clause_core::Clause;
+use refutation_check::{Log, Step};
+use sequence::{NoMemory, Sequence};
+use std::alloc::Global;
+
+/// The steps that were taken, and the clauses on the trail by their numbers.
+#[derive(Drop)]
+pub struct ProofLog {
+    /// The steps, in order.
+    pub steps: Vec<Step>,
+    /// The number of the next step.
+    pub next: u64,
+    /// The clauses on the trail.
+    pub database: ClauseDatabase,
+}
+
+impl ProofLog {
+    /// No step was taken behind so many clauses.
+    pub fn new(alloc: Global, count: u32) -> ProofLog
+        ensures steps { result.steps.items ≡ [] }
+        ensures next { result.next ≡ count + 1 }
+        ensures database { AreFirst count result.database }
+    {
+        ProofLog {
+            steps: Vec::new(alloc),
+            next: u64::from(count) + 1,
+            database: ClauseDatabase::new(alloc, count),
+        }
+    }
+
+    /// How many steps were taken.
+    pub fn len(&self) -> u64
+        ensures { result ≡ length self.now.steps.items }
+    {
+        self.steps.len() as u64
+    }
+
+    /// Takes the next step: the clause, by hints that name clauses on the trail, to which it is about to
+    /// be added. An `Err` says that memory ran out.
+    pub fn add(&mut self, alloc: Global, clause: Clause, hints: &[u64]) -> Result<(), NoMemory>
+        requires next { self.old.next + 1 < 2 ^ 64 }
+        requires few { length (numbers_of self.old.database) < 2 ^ 32 }
+        requires named { AreHints (length (numbers_of self.old.database)) hints.now }
+        ensures steps { OnOk result (self.new.steps.items
+            ≡ self.old.steps.items ++ learnt_step self.old.next clause (log_hints (numbers_of self.old.database) hints.now) ∷ []) }
+        ensures next { OnOk result (self.new.next ≡ self.old.next + 1) }
+        ensures numbers { OnOk result (numbers_of self.new.database ≡ numbers_of self.old.database ++ self.old.next ∷ []) }
+    {
+        let now = self.len();
+        let hints = self.database.log_hints(alloc, hints, now)?;
+        self.database.add(self.next, first_use(&clause, now))?;
+        self.steps.push(Step {
+            number: self.next,
+            clause,
+            hints: Sequence::from_vec(hints),
+        })?;
+        self.next += 1;
+        Ok(())
+    }
+
+    /// The log of the steps.
+    pub fn into_log(self) -> Log
+        ensures { result.steps ≡ self.steps.items }
+    {
+        let ProofLog { steps, .. } = self;
+        Log {
+            steps: Sequence::from_vec(steps),
+        }
+    }
+}
