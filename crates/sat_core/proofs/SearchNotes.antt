@@ -21,13 +21,9 @@ use Rattle.clause_learning.specs.ClauseDatabases.{numbers_of, log_hints}
 use Rattle.clause_learning.specs.LearntClauses.{learnt_step}
 use Rattle.clause_learning.specs.Units.{AreUnits, HasNoted, HaveNoted, HasPropagated}
 use Rattle.clause_learning.specs.Units.HaveNoted.{none, more}
-use Rattle.sat_core.proofs.Searching.{IsSearch, HasGrown, search_propagated, search_more}
+use Rattle.sat_core.specs.internal.Searches.{IsSearch, IsLogged, IsSearching}
+use Rattle.sat_core.proofs.Searching.{HasGrown, search_propagated, search_more}
 use Rattle.clause_learning.proofs.Deciding.{decisions_grown}
-
--- a search with its log, whose steps have the next numbers
-pub record IsLogged (reduces : Bool) (variables : ℕ) (clauses : List (List Lit)) (t : TrailState) (proof_log : ProofLog) : Type 0 where
-  pub search : IsSearch reduces variables clauses t proof_log.steps.items (numbers_of proof_log.database)
-  pub next : proof_log.next ≡ length clauses + length proof_log.steps.items + 1
 
 one_no_pair : (l : Lit) → has_pair (l ∷ []) ≡ false
 one_no_pair l = ap (λ (b : Bool). b || false) (false_from_ne_true (has (l ∷ []) (negation l))
@@ -139,20 +135,6 @@ module _ (count : ℕ) (t u : TrailState) (proof_log after : ProofLog) (has_prop
     )
 
 -- ---- the search between its steps
-
--- What holds between the decisions of a search that may learn so many clauses. Its steps are those of learnt clauses and
--- of clauses of one literal, and these are added only where the trail may be reduced.
-pub record IsSearching (reduces : Bool) (variables : ℕ) (clauses : List (List Lit)) (budget : ℕ) (t : TrailState) (proof_log : ProofLog)
-    (units : Units) (decisions : Decisions) (seen : Seen) : Type 0 where
-  pub logged : IsLogged reduces variables clauses t proof_log
-  pub order : AreDecisions t.variables t.entries decisions
-  pub none_seen : AreNoneSeen t.variables seen
-  pub table : AreUnits t units
-  pub within : length proof_log.steps.items ≤ budget + units.added
-  pub counted : units.added ≤ length proof_log.steps.items
-  pub few : units.added ≤ units.most
-  pub room : length clauses + budget + units.most < 2 ^ 32 - 1
-  pub only : reduces ≡ false → units.most ≡ 0
 
 -- it holds behind a propagation, the entries have grown, and as many steps are left
 pub searching_propagated : {reduces : Bool} → {variables : ℕ} → {clauses : List (List Lit)} → {budget : ℕ} → {t u : TrailState} →

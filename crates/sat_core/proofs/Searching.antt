@@ -15,6 +15,7 @@ use Rattle.clause_learning.specs.declared.clause_database.ClauseDatabase.{Clause
 use Rattle.clause_learning.specs.ClauseDatabases.{numbers_of, log_number, log_hints, AreLogNumbers, AreFirst, BeginsAnew, IsReduced}
 use Rattle.clause_learning.proofs.LogHints.{first_named, named_next, shown_in_log, hints_in_log}
 use Rattle.sat_core.specs.internal.Ends.{IsEnd, IsSearchAnswer}
+use Rattle.sat_core.specs.internal.Searches.{known, IsCalm, AreCalmBelow, IsSearch}
 use Rattle.clause_learning.specs.Hints.{AreHints}
 use Rattle.clause_core.specs.Literals.{Lit, negation, same, has}
 use Rattle.clause_core.specs.Clauses.{IsIncreasing, IsOver, has_pair, is_true, meets, meets_all, assignment_of}
@@ -47,38 +48,6 @@ use Rattle.clause_learning.proofs.LearntClauseLemmas.{learnt_clause_over, learnt
 use Rattle.sat_core.proofs.LogNumbers.{is_numbered, numbered_more}
 use Rattle.clause_learning.proofs.Analysing.{up_to_has, up_to_from}
 use Rattle.sat_core.proofs.Counting.{trace_is_short, filter-has}
-
--- the clauses of a formula and of the steps behind them
-abbrev pub known : List (List Lit) → List Step → List (List Lit)
-known clauses steps = clauses ++ clauses_of steps
-
--- no clause is false, and where the learnt clauses are to be a trace unit propagation has nothing left to do
-pub record IsCalm (reduces : Bool) (clauses : List (List Lit)) (trues : List Lit) : Type 0 where
-  pub none_false : SomeFalse clauses trues → ⊥
-  pub quiet : reduces ≡ false → IsQuiet clauses trues
-
-abbrev pub AreCalmBelow : Bool → TrailState → ℕ → Type 0
-AreCalmBelow reduces t n = (level : ℕ) → level < n → IsCalm reduces t.clauses (literals_of (up_to level t.entries))
-
--- the steps taken so far, and the trail that they lead to, with its clauses by their numbers; whether the trail may be
--- reduced, and then it lacks some of the learnt clauses
-pub record IsSearch (reduces : Bool) (variables : ℕ) (clauses : List (List Lit)) (t : TrailState) (steps : List Step) (numbers : List ℕ) :
-    Type 0 where
-  pub usable : t.broken ≡ false
-  pub sound : IsSound t
-  pub same_variables : t.variables ≡ variables
-  pub others : List (List Lit)
-  pub stands : t.clauses ≡ clauses ++ others
-  pub fewer : length t.clauses ≤ length clauses + length steps
-  pub named : AreLogNumbers (known clauses steps) t.clauses numbers
-  pub logged : (later : List Step) → steps_refusal variables (length (known clauses steps)) (numbered_from 1 (known clauses steps)) later
-      ≡ None → steps_refusal variables (length clauses) (numbered_from 1 clauses) (steps ++ later) ≡ None
-  pub few_hints : HaveFewHints steps
-  pub numbered : AreNumbered (length clauses + 1) steps
-  pub traced : reduces ≡ false → (t.clauses ≡ known clauses steps)
-      × ((later : List (List Lit)) → IsTrace variables t.clauses later → IsTrace variables clauses (clauses_of steps ++ later))
-  pub increasing : AllByRecursion IsIncreasing (clauses_of steps)
-  pub calm : AreCalmBelow reduces t t.level
 
 -- ---- the beginning
 

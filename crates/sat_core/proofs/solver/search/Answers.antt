@@ -13,9 +13,10 @@ use Rattle.clause_learning.specs.Decisions.{AreSet, AreDecisions, AreVariableTru
 use Rattle.clause_learning.specs.ConflictAnalysis.{AreNoneSeen}
 use Rattle.clause_learning.specs.ClauseDatabases.{numbers_of, log_hints, AreFirst}
 use Rattle.clause_learning.specs.LearntClauses.{learnt_step, HasLearnt}
-use Rattle.sat_core.proofs.Searching.{IsSearch, search_begins, search_decided, search_learnt, search_stays}
+use Rattle.sat_core.specs.internal.Searches.{IsSearch, IsSearching}
+use Rattle.sat_core.proofs.Searching.{search_begins, search_decided, search_learnt, search_stays}
 use Rattle.sat_core.proofs.Searching.{search_satisfied, search_refuted, search_ended, decided_longer, less_unset, less_budget}
-use Rattle.sat_core.proofs.SearchNotes.{IsSearching, searching_propagated}
+use Rattle.sat_core.proofs.SearchNotes.{searching_propagated}
 use Rattle.sat_core.proofs.solver.search.Goals as goal
 use Rattle.sat_core.proofs.solver.search.Goals.{After-level, After-learn}
 

@@ -1,5 +1,5 @@
 use Rattle.std.proofs.Common.{◌≡◌, ◌+◌, ◌-◌, ◌*◌, length}
-use Rattle.sat_core.proofs.SearchNotes.{IsSearching}
+use Rattle.sat_core.specs.internal.Searches.{IsSearching}
 use Rattle.sat_core.proofs.solver.search.Given as goal
 
 abbrev pub invariant-loop-units : goal.invariant-loop-units
