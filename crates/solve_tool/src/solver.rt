@@ -1,7 +1,7 @@
 //! The solver's answer to a text.
 
-ghost use Rattle.std.specs.Prelude.{◌≡◌, ◌<◌, ◌≤◌, ◌^◌, length, IfOk};
-ghost use Rattle.refutation_check.specs.CnfText.{cnf_answer};
+ghost use Rattle.std.specs.Prelude.{◌≡◌, ◌<◌, ◌≤◌, ◌^◌, ℕ, length, Err, IfOk};
+ghost use Rattle.refutation_check.specs.CnfText.{cnf_answer, is_cnf, form_at, too_many_variables, too_many_clauses};
 ghost use Rattle.sat_core.specs.Answers.{AreRefuting};
 ghost use Rattle.refutation_check.specs.declared.dimacs.TheConstants.{MOST_VARIABLES, MOST_CLAUSES};
 ghost use Rattle.refutation_text.specs.Parted.{SpellsRefutation};
@@ -20,18 +20,18 @@ use sat_core::{Answer, solve};
 use sequence::{NoMemory, Sequence};
 use std::alloc::Global;
 
-/// What is replied to a text.
+/// What is replied to a text, which is dropped before its formula is solved.
 pub(crate) fn reply_to_bytes(
     alloc: Global,
     request: Request,
-    bytes: &[u8],
+    bytes: Vec<u8>,
 ) -> Result<Reply, NoMemory>
-    requires few_bytes { length bytes.now < 2 ^ 31 }
+    requires few_bytes { length bytes.items < 2 ^ 31 }
     requires some { 1 ≤ request.budget }
     requires few { request.budget ≤ 4000000000 }
-    ensures { IfOk result (IsReplyOn request (cnf_answer bytes.now)) }
+    ensures { IfOk result (IsReplyOn request (cnf_answer bytes.items)) }
 {
-    match read_dimacs(alloc, bytes) {
+    match formula_of(alloc, bytes) {
         Ok(cnf) => reply_to_formula(alloc, request, cnf),
         Err(CnfError::Form(line)) => Reply::refusal(alloc, Refusal::MalformedAt(line)),
         Err(CnfError::Variables) => {
@@ -40,6 +40,17 @@ pub(crate) fn reply_to_bytes(
         Err(CnfError::Clauses) => Reply::refusal(alloc, Refusal::TooManyClauses(MOST_CLAUSES)),
         Err(CnfError::NoMemory) => Err(NoMemory),
     }
+}
+
+/// The formula of a text, which is dropped.
+fn formula_of(alloc: Global, bytes: Vec<u8>) -> Result<Cnf, CnfError>
+    requires { length bytes.items < 2 ^ 31 }
+    ensures ok { IfOk result (λ cnf. cnf_answer bytes.items ≡ is_cnf cnf.variables cnf.clauses) }
+    ensures form { (line : ℕ) → result ≡ Err (CnfError.Form line) → cnf_answer bytes.items ≡ form_at line }
+    ensures variables { result ≡ Err CnfError.Variables → cnf_answer bytes.items ≡ too_many_variables }
+    ensures clauses { result ≡ Err CnfError.Clauses → cnf_answer bytes.items ≡ too_many_clauses }
+{
+    read_dimacs(alloc, &bytes)
 }
 
 /// What is replied to a formula.

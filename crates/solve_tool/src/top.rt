@@ -65,7 +65,7 @@ fn reply_to<S: Source>(alloc: Global, words: &[String], source: &mut S) -> Resul
         return Reply::refusal(alloc, Refusal::OtherWords);
     };
     match read_all(alloc, source, MOST_BYTES) {
-        Ok(bytes) => reply_to_bytes(alloc, request, &bytes),
+        Ok(bytes) => reply_to_bytes(alloc, request, bytes),
         Err(ReadError::TooLong) => Reply::refusal(alloc, Refusal::TooManyBytes(MOST_BYTES)),
         Err(ReadError::Fault) => Reply::refusal(alloc, Refusal::Unread),
         Err(ReadError::NoMemory) => Err(NoMemory),

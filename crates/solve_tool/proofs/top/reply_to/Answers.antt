@@ -14,8 +14,8 @@ pub returns-in-Ok-clause-replies : goal.returns-in-Ok-clause-replies
 returns-in-Ok-clause-replies g c =
     read_reply (map (string_bytes {Z = Global}) c.args.words.now)
     (effect g.S.Source.left g.S.Source.faults c.args.source.now c.read_all.new.source) c.reply_to_bytes.result
-    c.in-Some.request c.in-Ok.bytes.items c.deref.result.now (sym c.request_of.ensures.found ∙ c.in-Some.is) c.in-Ok.ensures.ok_count
-    c.in-Ok.ensures.text c.in-Ok.ensures.within c.deref.ensures.value c.reply_to_bytes.ensures
+    c.in-Some.request c.in-Ok.bytes.items c.in-Ok.bytes.items (sym c.request_of.ensures.found ∙ c.in-Some.is) c.in-Ok.ensures.ok_count
+    c.in-Ok.ensures.text c.in-Ok.ensures.within refl c.reply_to_bytes.ensures
 
 pub returns-in-Err-TooLong-clause-replies : goal.returns-in-Err-TooLong-clause-replies
 returns-in-Err-TooLong-clause-replies g c =
