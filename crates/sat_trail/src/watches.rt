@@ -89,7 +89,7 @@ impl WatchList {
     }
 }
 
-/// The two literals that a clause watches, and a third one that is tried first where another one is looked for.
+/// The two literals that a clause watches, and where another one is looked for.
 #[derive(Clone, Copy)]
 pub struct Pair {
     /// One of the literals.
@@ -99,6 +99,8 @@ pub struct Pair {
     /// A literal of the clause, which is tried before the clause is read: the one that was watched before the
     /// last move. In a clause of three literals it is then the third one.
     pub spare: Literal,
+    /// The position in the clause where the search begins.
+    pub start: u32,
 }
 
 impl Pair {
@@ -110,6 +112,7 @@ impl Pair {
             first,
             second,
             spare: first,
+            start: 0,
         }
     }
 
@@ -652,21 +655,17 @@ fn next_pair(stack: &Stack<'_>, number: u32, pair: &Pair, other: Literal) -> Opt
             first: pair.spare,
             second: other,
             spare,
+            start: pair.start,
         });
     }
     let literals = stack.clause(number).literals();
-    let start = position_of(literals, spare);
-    let position = free_position(stack, literals, other, start)?;
+    let position = free_position(stack, literals, other, pair.start as usize)?;
     Some(Pair {
         first: literals[position],
         second: other,
         spare,
+        start: number_of_position(position),
     })
-}
-
-/// The position of a literal in a clause; 0 where it is not there.
-fn position_of(literals: &[Literal], literal: Literal) -> usize {
-    literals.binary_search(&literal).unwrap_or(0)
 }
 
 /// Sets the literal of a clause whose others are false, or answers the clause's number if that one is
@@ -713,6 +712,11 @@ fn lowered(limit: u32, number: u32, is_late: bool) -> u32
     ensures { result ≡ cond is_late (min limit number) limit }
 {
     if is_late { limit.min(number) } else { limit }
+}
+
+/// The position as a number of 32 bits; 0 where it does not fit.
+fn number_of_position(position: usize) -> u32 {
+    u32::try_from(position).unwrap_or(0)
 }
 
 /// What the clause of a number is while literals are set.
