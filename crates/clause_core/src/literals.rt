@@ -103,7 +103,10 @@ impl Literal {
     pub fn code(self) -> usize
         ensures { result ≡ code_of self }
     {
-        2 * self.index() + usize::from(self.is_positive())
+        // twice the number, or the opposite less 1 of that: a compiler takes no branch for it
+        let double = 2 * i64::from(self.number);
+        let folded = if double < 0 { -1 - double } else { double };
+        folded as usize - 1
     }
 
     /// Whether it is the variable itself, and not its negation.
