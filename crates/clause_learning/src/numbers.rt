@@ -41,6 +41,19 @@ impl NumberSet {
         ensures room { room self.new ≡ room self.old }
         ensures members { (other : ℕ) → contains self.new other ≡ cond (other == number) is_member (contains self.old other) }
     {
+        if self.contains(number) != is_member {
+            self.write(number, is_member);
+        }
+    }
+
+    /// Writes whether a number is in the set.
+    fn write(&mut self, number: u32, is_member: bool)
+        requires set { IsNumberSet self.old }
+        requires within { number < room self.old }
+        ensures set { IsNumberSet self.new }
+        ensures room { room self.new ≡ room self.old }
+        ensures members { (other : ℕ) → contains self.new other ≡ cond (other == number) is_member (contains self.old other) }
+    {
         let word = number as usize / 64;
         let group = word / 64;
         write_bit(self.members.as_mut_slice(), number as usize, is_member);

@@ -4,7 +4,7 @@ use Rattle.std.proofs.lemmas.List.{with_items_is}
 use Rattle.lane_planes.specs.Planes.{has_bit, word_at}
 use Rattle.clause_learning.specs.NumberSets.{AreSummedUp}
 use Rattle.clause_learning.proofs.NumberBits.{summary_written}
-use Rattle.clause_learning.proofs.numbers.NumberSet.set.Goals as goal
+use Rattle.clause_learning.proofs.numbers.NumberSet.write.Goals as goal
 
 pub returns-clause-set : goal.returns-clause-set
 returns-clause-set c =
