@@ -9,8 +9,7 @@ use Rattle.clause_core.specs.Clauses.{IsIncreasing}
 use Rattle.clause_core.proofs.Sets.{same_is, same_from, Contains_from_has, has_from_Contains}
 use Rattle.sat_trail.specs.Entries.{literals_of, entry_with, MayStand}
 use Rattle.sat_trail.specs.States.{TrailState, IsSound, IsFalseAt}
-use Rattle.sat_trail.specs.declared.watches.Status.TheVariants.{Unit}
-use Rattle.sat_trail.specs.internal.Watching.{AreOthersFalse, CanForce, IsOpenBy, HasStatus, IsFirstFree, AreFalseBefore, IsFree}
+use Rattle.sat_trail.specs.internal.Watching.{AreOthersFalse, CanForce, IsUnitBy, IsOpenBy, IsFirstFree, AreFalseBefore, IsFree}
 use Rattle.sat_trail.specs.internal.Watching.{AreFalseBetween}
 use Rattle.sat_trail.proofs.Soundness.{over_literal}
 use Rattle.sat_trail.proofs.TrailSteps.{none_not_false, one_not_false, forced_may_stand}
@@ -86,9 +85,9 @@ module _ {trues literals : List Lit} {place : ℕ} {first : Lit} (f : IsFirstFre
 
 pub unit_found : {t : TrailState} {number place : ℕ} {literals : List Lit} {first : Lit} → slice_get t.clauses number ≡ Some literals →
     IsIncreasing literals → (f : IsFirstFree (literals_of t.entries) literals place) → first ≡ get_or literals place first →
-    AreFalseBetween (literals_of t.entries) literals first (place + 1) (length literals) → HasStatus t number (Unit first)
-unit_found {t} {number} {place} {literals} {first} named increasing f read behind = (
-  record {
+    AreFalseBetween (literals_of t.entries) literals first (place + 1) (length literals) → IsUnitBy t number first
+unit_found {t} {number} {place} {literals} {first} named increasing f read behind = record {
+  force = record {
     clause = literals;
     named = named;
     increasing = increasing;
@@ -98,9 +97,9 @@ unit_found {t} {number} {place} {literals} {first} named increasing f read behin
       | inr h ↦ (let e : k ≡ place = omega (arith, h, below) in
           absurd (n (slice_get_one literals place l f.literal (ap (slice_get literals) (sym e) ∙ at) f.there ∙ first_is f read)))
     ]);
-  },
-  first_not_false f read,
-)
+  };
+  free = first_not_false f read;
+}
 
 pub open_found : {t : TrailState} {number place position : ℕ} {literals : List Lit} {first second : Lit} →
     slice_get t.clauses number ≡ Some literals → (f : IsFirstFree (literals_of t.entries) literals place) → first ≡ get_or literals place first →

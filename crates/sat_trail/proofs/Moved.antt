@@ -12,13 +12,14 @@ use Rattle.sat_trail.specs.declared.watches.Watches.{Watches}
 use Rattle.sat_trail.specs.Entries.{literals_of}
 use Rattle.sat_trail.specs.States.{TrailState, IsSound}
 use Rattle.sat_trail.specs.internal.Watching.{HasWatch, HasList, TakesOut, AddsWatch, DropsWatch, IsOf, IsPairOf, IsPair, PutsPair, AreBlocked, AreWatched}
-use Rattle.sat_trail.specs.internal.Watching.{IsVisit, AreDue, IsFree, IsPairIn, IsNextPair}
+use Rattle.sat_trail.specs.internal.Watching.{IsVisit, AreDue, Visits, IsFree, IsPairIn, IsNextPair}
 use Rattle.sat_trail.proofs.Soundness.{over_literal}
 use Rattle.sat_trail.proofs.Places.{entry_has}
+use Rattle.sat_trail.proofs.TrailSteps.{propagates_none}
 use Rattle.sat_trail.proofs.Stays.{lists_have, asides_more}
 use Rattle.sat_trail.proofs.WatchLists.{has_watch_same, has_watch_more, has_watch_new, blocked_one, blocked_within}
 use Rattle.sat_trail.proofs.WatchLists.{blocked_more, blocked_less, pair_was, pair_is_new}
-use Rattle.sat_trail.proofs.Visits.{HasOther, other_in, of_clause}
+use Rattle.sat_trail.proofs.Visits.{HasOther, other_in, of_clause, visits_on}
 
 -- ---- the pair that is watched next
 
@@ -51,25 +52,24 @@ module _ {t : TrailState} {number : ℕ} {pair : Pair} {other spare first : Lit}
 
 -- ---- the literal to which the watch goes
 
--- it is not the one that is visited, which is false
-fresh_differs : {t : TrailState} {w : Watches} {f : Lit} (first : Lit) → IsVisit t w f → has (literals_of t.entries) (negation first) ≡ false →
-    first ≡ f → ⊥
-fresh_differs {t} {w} {f} first visit not_false e = false≢true (sym not_false ∙ (ap (λ (l : Lit). has (literals_of t.entries) (negation l)) e
-    ∙ entry_has t.entries w.head visit.entry (negation f) visit.there visit.is))
+module _ {t : TrailState} {w : Watches} {f : Lit} {least : ℕ} (first : Lit) (visit : IsVisit t w f least)
+    (not_false : has (literals_of t.entries) (negation first) ≡ false) where
+  -- it is not the one that is visited, which is false
+  fresh_differs : first ≡ f → ⊥
+  fresh_differs e = false≢true (sym not_false ∙ (ap (λ (l : Lit). has (literals_of t.entries) (negation l)) e
+      ∙ entry_has t.entries w.head visit.entry (negation f) visit.there visit.is))
 
-codes_differ : {t : TrailState} {w : Watches} {f : Lit} (first : Lit) → IsVisit t w f → has (literals_of t.entries) (negation first) ≡ false →
-    code_of f ≡ code_of first → ⊥
-codes_differ {t} {w} {f} first visit not_false e = fresh_differs first visit not_false (sym (code_one f first e))
+  codes_differ : code_of f ≡ code_of first → ⊥
+  codes_differ e = fresh_differs (sym (code_one f first e))
 
--- so the list of the one that is visited is as long as before
-pub list_kept : {t : TrailState} {w : Watches} {f : Lit} (first : Lit) {watch : Watch} {more : List (List Watch)} {least : ℕ} → IsVisit t w f →
-    has (literals_of t.entries) (negation first) ≡ false → AddsWatch w.lists.items (code_of first) watch more →
-    HasList w.lists.items (code_of f) least → HasList more (code_of f) least
-list_kept {t} {w} {f} first visit not_false adds l = record {
-  list = l.list;
-  listed = adds.others (code_of f) (codes_differ first visit not_false) ∙ l.listed;
-  long = l.long;
-}
+  -- so the list of the one that is visited is as long as before
+  pub list_kept : {watch : Watch} {more : List (List Watch)} → AddsWatch w.lists.items (code_of first) watch more →
+      HasList more (code_of f) least
+  list_kept adds = record {
+    list = visit.list.list;
+    listed = adds.others (code_of f) codes_differ ∙ visit.list.listed;
+    long = visit.list.long;
+  }
 
 -- ---- the watch is moved
 
@@ -91,7 +91,7 @@ module _ {t : TrailState} {w v : Watches} {f : Lit} {index : ℕ} (m : Moves t w
   open m use {watch, other, new, between, was_read, next.{second, not_false}, adds, drops, puts, count, rest}
   open m.next.is_in use {clause, named, is}
   open m.was_read use {pair, at, of}
-  open m.was_read.read use {sound, watched, visit, due, list, listed, there}
+  open m.was_read.read use {ready.{sound, watched}, visiting.{visit, due}, visiting.visit.list.{list, listed}, there}
 
   unlike : other ≡ f → ⊥
   unlike = m.was_read.apart (watched.paired watch.clause clause pair named at).apart
@@ -154,7 +154,7 @@ module _ {t : TrailState} {w v : Watches} {f : Lit} {index : ℕ} (m : Moves t w
       blocked_less t.clauses drops list_between (blocked_more t.clauses adds first_within
       (blocked_one t.clauses other within named in_other) (blocked_within t.clauses w.lists.items (omega (arith, count)) watched.blocked))
 
-  pub watched_moved : AreWatched t v
+  watched_moved : AreWatched t v
   watched_moved = subst (AreWatched t) (sym rest) (record {
     listing = record {
       lists_all = drops.all ∙ (adds.all ∙ watched.lists_all);
@@ -207,9 +207,9 @@ module _ {t : TrailState} {w v : Watches} {f : Lit} {index : ℕ} (m : Moves t w
             record { list = less.0; watch = h.watch; listed = less.1; there = less.2.before i less_i ∙ p.0; names = h.names },
           )
 
-  pub list_moved : HasList v.lists.items (code_of f) index
-  list_moved = record {
+  pub visits_moved : Visits t t v f index
+  visits_moved = visits_on visit (propagates_none t) watched_moved (record {
     list = less.0;
     listed = less.1;
     long = omega (arith, less.2.shorter, slice_get_within list index watch there);
-  }
+  }) rest

@@ -6,14 +6,15 @@ use Rattle.clause_core.specs.Literals.{Lit, code_of}
 use Rattle.sat_trail.specs.States.{TrailState}
 use Rattle.sat_trail.specs.declared.watches.Watch.{Watch}
 use Rattle.sat_trail.specs.declared.watches.Watches.{Watches}
-use Rattle.sat_trail.specs.internal.Watching.{HasWatch, HasList, RenewsWatch, IsBlocked, AreWatched, IsVisit, AreDue}
+use Rattle.sat_trail.specs.internal.Watching.{HasWatch, RenewsWatch, IsBlocked, AreWatched, AreDue, Visits}
+use Rattle.sat_trail.proofs.TrailSteps.{propagates_none}
 use Rattle.sat_trail.proofs.WatchLists.{has_watch_same}
-use Rattle.sat_trail.proofs.Visits.{HasOther, other_in, clause_within}
+use Rattle.sat_trail.proofs.Visits.{HasOther, other_in, clause_within, visits_on}
 
 module _ {t : TrailState} {w v : Watches} {f : Lit} {index : ℕ} {watch : Watch} {blocker : Lit}
     (o : HasOther t w f index watch blocker)
     (renews : RenewsWatch w.lists.items (code_of f) index blocker v.lists.items) (is : v ≡ record w { lists = v.lists }) where
-  open o.read use {watched, visit, list, listed, there}
+  open o.read use {ready.{watched}, visiting.{visit}, visiting.visit.list.{list, listed}, there}
 
   abbrev renewed : Watch
   renewed = record watch { blocker = blocker }
@@ -57,7 +58,7 @@ module _ {t : TrailState} {w v : Watches} {f : Lit} {index : ℕ} {watch : Watch
         ])
   ]
 
-  pub watched_renewed : AreWatched t v
+  watched_renewed : AreWatched t v
   watched_renewed = subst (AreWatched t) (sym is) (record {
     listing = record {
       lists_all = renews.all ∙ watched.lists_all;
@@ -75,13 +76,10 @@ module _ {t : TrailState} {w v : Watches} {f : Lit} {index : ℕ} {watch : Watch
     unpaired = watched.unpaired;
   })
 
-  pub visit_renewed : IsVisit t v f
-  visit_renewed = subst (λ (x : Watches). IsVisit t x f) (sym is)
-      (record { entry = visit.entry; there = visit.there; is = visit.is; late = visit.late })
-
-  pub list_renewed : HasList v.lists.items (code_of f) index
-  list_renewed = let r = renews.here list listed in
-      record { list = r.0; listed = r.1; long = omega (arith, slice_get_within list index watch there, r.2.all) }
+  pub visits_renewed : Visits t t v f index
+  visits_renewed = visits_on visit (propagates_none t) watched_renewed (let r = renews.here list listed in
+      record { list = r.0; listed = r.1; long = omega (arith, slice_get_within list index watch there, r.2.all) })
+      (is ∙ ap (λ (x : Watches). record w { lists = v.lists; pairs = x.pairs }) (sym is))
 
   pub due_renewed : AreDue t w f index → AreDue t v f index
   due_renewed due = subst (λ (x : Watches). AreDue t x f index) (sym is)

@@ -16,10 +16,11 @@ use Rattle.sat_trail.specs.declared.watches.Aside.{Aside}
 use Rattle.sat_trail.specs.declared.watches.Watches.{Watches}
 use Rattle.sat_trail.specs.Entries.{literals_of}
 use Rattle.sat_trail.specs.States.{TrailState, IsSound, decided, with_clause, undone, up_to, Propagates}
-use Rattle.sat_trail.specs.internal.Watching.{IsOf, IsPairOf, IsExcused, IsMet, IsAside, AreAsides, AreWatched, IsVisit, left_of}
+use Rattle.sat_trail.specs.internal.Watching.{IsOf, IsPairOf, IsExcused, IsMet, IsAside, AreAsides, AreWatched, left_of}
+use Rattle.sat_trail.specs.internal.Watching.{IsReady, PropagatesWatched, GoesBack, CanWatch}
 use Rattle.sat_trail.proofs.Places.{has_entry, entry_has}
 use Rattle.sat_trail.proofs.Soundness.{level_within, over_literal, true_not_false}
-use Rattle.sat_trail.proofs.TrailSteps.{IsOpen, open_two, open_true, quiet_from, has_not_false, has_one}
+use Rattle.sat_trail.proofs.TrailSteps.{IsOpen, open_two, open_true, quiet_from, has_not_false, has_one, propagates_after}
 
 -- ---- what is true stays true
 
@@ -89,14 +90,16 @@ pub watched_decided : (t u : TrailState) (w : Watches) (l : Lit) → AreWatched 
 watched_decided t u w l watched is = subst (λ (s : TrailState). AreWatched s w) (sym is)
     (watched_more t w (record { literal = l; level = t.level + 1; reason = None } ∷ []) (t.level + 1) watched (omega arith))
 
-pub visit_propagated : (t u : TrailState) (w : Watches) (f : Lit) → IsVisit t w f → Propagates t u → IsVisit u w f
-visit_propagated t u w f visit grows = record {
-  entry = visit.entry;
-  there = ap (λ (s : TrailState). slice_get s.entries w.head) grows.rest_stays
-      ∙ slice_get_grown t.entries grows.added w.head visit.entry visit.there;
-  is = visit.is;
-  late = λ below. visit.late below ∙ ap (λ (s : TrailState). s.level) (sym grows.rest_stays);
+pub ready_after : {t u : TrailState} {w v : Watches} → IsReady t w → IsSound u → PropagatesWatched t u v → IsReady u v
+ready_after ready sound grows = record {
+  usable = ap (λ (s : TrailState). s.broken) grows.propagates.rest_stays ∙ ready.usable;
+  sound = sound;
+  watched = grows.watched;
 }
+
+pub grows_after : {s t u : TrailState} {v : Watches} → Propagates s t → PropagatesWatched t u v → PropagatesWatched s u v
+grows_after {s} {t} {u} first grows =
+    record { propagates = propagates_after s t u first grows.propagates; watched = grows.watched }
 
 -- ---- a clause more
 
@@ -149,23 +152,22 @@ up_to_low level (x ∷ es) k e at = by_test (leb x.level level) refl k at (up_to
     by_test true t (suc k) h rest = rest k e h
     by_test false t k h rest = rest k e h
 
-pub watched_undone : (t u : TrailState) (w v : Watches) (level : ℕ) → AreWatched t w → u ≡ undone t level →
-    u.entries ≡ take (length u.entries) t.entries → v.head ≡ min (min w.head w.low) (length u.entries) → v.held ≤ w.held →
-    ((last : Aside) → slice_get v.asides.items (v.held - 1) ≡ Some last → 0 < v.held → last.level ≤ level) →
-    v ≡ record w { held = v.held; head = v.head; low = v.low } → AreWatched u v
-watched_undone t u w v level watched is front head less last rest =
-    subst (λ (s : TrailState). AreWatched s v) (sym is) (subst (AreWatched (undone t level)) (sym rest) (record {
+pub watched_undone : (t u : TrailState) (w v : Watches) (level count : ℕ) → AreWatched t w → u ≡ undone t level →
+    u.entries ≡ take (length u.entries) t.entries → count ≡ length u.entries → GoesBack level count w v → AreWatched u v
+watched_undone t u w v level count watched is front count_is back =
+    subst (λ (s : TrailState). AreWatched s v) (sym is) (subst (AreWatched (undone t level)) (sym back.rest) (record {
       listing = watched.listing;
-      head_few = omega (arith, head, ap (λ (s : TrailState). length s.entries) is);
+      head_few = omega (arith, back.head, count_is, ap (λ (s : TrailState). length s.entries) is);
       asides = record {
-        few = omega (arith, less, watched.asides.few);
+        few = omega (arith, back.held, watched.asides.few);
         rise = λ j k a b up below. watched.asides.rise j k a b up (omega arith);
         low = λ k a below at. omega (arith, held_low k a below at, watched.asides.low k a (omega arith) at);
         known = watched.asides.known;
       };
       excused = λ number clause pair l named at of place e there false_by below.
-          elim (watched.excused number clause pair l named at of place e (before place e there) false_by (omega (arith, below, head))) [
-            | inl x ↦ inl (still (up_to_low level t.entries place e there) x (omega (arith, below, head)))
+          elim (watched.excused number clause pair l named at of place e (before place e there) false_by
+          (omega (arith, below, back.head))) [
+            | inl x ↦ inl (still (up_to_low level t.entries place e there) x (omega (arith, below, back.head)))
             | inr a ↦ inr (still_aside a)
           ];
       unpaired = λ number clause named at. still_aside (watched.unpaired number clause named at);
@@ -173,11 +175,11 @@ watched_undone t u w v level watched is front head less last rest =
   where
     held_low : (k : ℕ) (a : Aside) → k < v.held → slice_get w.asides.items k ≡ Some a → a.level ≤ level
     held_low k a below at =
-        let top = slice_get_some w.asides.items (v.held - 1) (omega (arith, below, less, watched.asides.few)) in
+        let top = slice_get_some w.asides.items (v.held - 1) (omega (arith, below, back.held, watched.asides.few)) in
         omega (
           arith,
-          watched.asides.rise k (v.held - 1) a top.0 (omega (arith, below)) (omega (arith, below, less)) at top.1,
-          last top.0 (ap (λ (x : Watches). slice_get x.asides.items (v.held - 1)) rest ∙ top.1) (omega (arith, below)),
+          watched.asides.rise k (v.held - 1) a top.0 (omega (arith, below)) (omega (arith, below, back.held)) at top.1,
+          back.low top.0 (ap (λ (x : Watches). slice_get x.asides.items (v.held - 1)) back.rest ∙ top.1) (omega (arith, below)),
         )
 
     before : (place : ℕ) (e : Entry) → slice_get (up_to level t.entries) place ≡ Some e → slice_get t.entries place ≡ Some e
@@ -193,7 +195,7 @@ watched_undone t u w v level watched is front head less last rest =
     still_aside : {number : ℕ} {clause : List Lit} → IsAside t.entries w.asides.items w.held number clause →
         IsAside (up_to level t.entries) w.asides.items v.held number clause
     still_aside a = aside_from a a.there (λ below. still (held_low a.index a.aside below a.there)
-        (a.met (omega (arith, below, less))) (omega arith))
+        (a.met (omega (arith, below, back.held))) (omega arith))
 
 -- ---- nothing is left to do
 
@@ -276,6 +278,13 @@ pub lists_have : (t : TrailState) (w : Watches) → IsSound t → AreWatched t w
     slice_get t.clauses number ≡ Some clause → has clause l ≡ true → code_of l < length w.lists.items
 lists_have t w sound watched number clause l named member = omega
     (arith, watched.lists_all, code_within t.variables l (over_literal t sound number clause l named member))
+
+pub lists_can : {t : TrailState} {w : Watches} {number : ℕ} {first second : Lit} → IsSound t → AreWatched t w →
+    CanWatch t number first second → (code_of first < length w.lists.items) × (code_of second < length w.lists.items)
+lists_can {t} {w} {number} {first} {second} sound watched can = (
+  lists_have t w sound watched number can.clause first can.named can.member,
+  lists_have t w sound watched number can.clause second can.named can.other,
+)
 
 -- an answer that is an error breaks the trail
 pub answered : {T E : Type 0} (r : Result T E) (P : Type 0) (b : Bool) → OnOk r P → OnErr r (b ≡ true) → b ≡ false → P

@@ -4,7 +4,8 @@ use Rattle.std.proofs.Common.{◌∙◌, subst, refl, arith, inl, inr, MatchOpti
 use Rattle.std.specs.Prelude.{nat_lt, option_map, is_some, Result, Ok, Err, OnOk, IfOk}
 use Rattle.std.proofs.lemmas.Option.{slice_get_within, same_Some, none-some, slice_get-get_or, get_or_from_slice_get}
 use Rattle.std.proofs.lemmas.Bool.{true≢false, cases_lt, ltb-false}
-use Rattle.sequence.proofs.Places.{slice_get_some, slice_get_one}
+use Rattle.std.proofs.lemmas.Result.{on_ok_weaker}
+use Rattle.sequence.proofs.Places.{slice_get_some, slice_get_one, slice_get_grown}
 use Rattle.clause_core.specs.Literals.{Lit, negation, has, code_of}
 use Rattle.clause_core.proofs.Sets.{negation-negation}
 use Rattle.sat_trail.specs.declared.entries.Entry.{Entry}
@@ -13,14 +14,15 @@ use Rattle.sat_trail.specs.declared.watches.Pair.{Pair}
 use Rattle.sat_trail.specs.declared.watches.Watches.{Watches}
 use Rattle.sat_trail.specs.Entries.{literals_of}
 use Rattle.sat_trail.specs.States.{TrailState, IsSound, Propagates, IsFalseAt}
-use Rattle.sat_trail.specs.internal.Watching.{HasList, IsOf, IsPairOf, IsPair, IsPairIn, IsExcused, AreWatched, IsVisit, AreDue}
+use Rattle.sat_trail.specs.internal.Watching.{HasList, IsOf, IsPairOf, IsPair, IsPairIn, IsExcused, AreWatched, IsReady, IsVisit, AreDue}
+use Rattle.sat_trail.specs.internal.Watching.{IsVisiting, Visits}
 use Rattle.sat_trail.proofs.Soundness.{level_within, over_literal}
-use Rattle.sat_trail.proofs.Stays.{excused_from, excused_grown, excused_by, watched_propagated, visit_propagated}
+use Rattle.sat_trail.proofs.Stays.{excused_from, excused_grown, excused_by, watched_propagated, watched_low, lowered_le, ready_after}
 
 -- ---- literals are set
 
 -- what is due stays due while literals are set
-pub due_propagated : (t u : TrailState) (w : Watches) (f : Lit) (end' : ℕ) → AreDue t w f end' → Propagates t u → AreDue u w f end'
+due_propagated : (t u : TrailState) (w : Watches) (f : Lit) (end' : ℕ) → AreDue t w f end' → Propagates t u → AreDue u w f end'
 due_propagated t u w f end' due grows n clause pair named at of = elim
     (due n clause pair (ap (λ (s : TrailState). slice_get s.clauses n) (sym grows.rest_stays) ∙ named) at of) [
       | inl x ↦ inl (subst (λ (s : TrailState). IsExcused s.entries clause w.head w.low s.level) (sym grows.rest_stays)
@@ -32,30 +34,38 @@ due_propagated t u w f end' due grows n clause pair named at of = elim
 
 -- a watch is read, at this index of the literal's list
 pub record HasRead (t : TrailState) (w : Watches) (f : Lit) (index : ℕ) (watch : Watch) : Type 0 where
-  pub sound : IsSound t
-  pub watched : AreWatched t w
-  pub visit : IsVisit t w f
-  pub due : AreDue t w f (index + 1)
-  pub list : List Watch
-  pub listed : slice_get w.lists.items (code_of f) ≡ Some list
-  pub there : slice_get list index ≡ Some watch
+  pub ready : IsReady t w
+  pub visiting : IsVisiting t w f (index + 1)
+  pub there : slice_get visiting.visit.list.list index ≡ Some watch
 
-pub has_read : {t : TrailState} {w : Watches} {f : Lit} {index k : ℕ} {x : List Watch} {watch : Watch} → IsSound t → AreWatched t w →
-    IsVisit t w f → AreDue t w f (index + 1) → HasList w.lists.items (code_of f) (index + 1) → k ≡ code_of f →
-    x ≡ get_or w.lists.items k x → slice_get x index ≡ Some watch → HasRead t w f index watch
-has_read {t} {w} {f} {index} {k} {x} {watch} sound watched visit due l k_is read there = record {
-  sound = sound;
-  watched = watched;
-  visit = visit;
-  due = due;
-  list = l.list;
-  listed = l.listed;
-  there = ap (λ (xs : List Watch). slice_get xs index) (sym (read ∙ get_or_from_slice_get w.lists.items k l.list x
-      (ap (slice_get w.lists.items) k_is ∙ l.listed))) ∙ there;
+pub has_read : {t : TrailState} {w : Watches} {f : Lit} {index k : ℕ} {x : List Watch} {watch : Watch} → IsReady t w →
+    IsVisiting t w f (index + 1) → k ≡ code_of f → x ≡ get_or w.lists.items k x → slice_get x index ≡ Some watch →
+    HasRead t w f index watch
+has_read {t} {w} {f} {index} {k} {x} {watch} ready visiting k_is read there = record {
+  ready = ready;
+  visiting = visiting;
+  there = (let l = visiting.visit.list in ap (λ (xs : List Watch). slice_get xs index) (sym (read
+      ∙ get_or_from_slice_get w.lists.items k l.list x (ap (slice_get w.lists.items) k_is ∙ l.listed))) ∙ there);
+}
+
+-- the visit of the entry goes on where literals are set, and where nothing changes of the watches but what clauses watch
+pub visits_on : {t u : TrailState} {w v : Watches} {f : Lit} {least end' : ℕ} → IsVisit t w f least → Propagates t u → AreWatched u v →
+    HasList v.lists.items (code_of f) end' → v ≡ record w { lists = v.lists; pairs = v.pairs } → Visits t u v f end'
+visits_on {t} {u} {w} {v} visit grows watched list rest = record {
+  grows = record { propagates = grows; watched = watched };
+  visit = record {
+    entry = visit.entry;
+    there = ap (λ (x : Watches). slice_get u.entries x.head) rest ∙ (ap (λ (s : TrailState). slice_get s.entries w.head) grows.rest_stays
+        ∙ slice_get_grown t.entries grows.added w.head visit.entry visit.there);
+    is = visit.is;
+    late = λ below. visit.late (subst (λ (x : Watches). x.head < x.low) rest below)
+        ∙ ap (λ (s : TrailState). s.level) (sym grows.rest_stays);
+    list = list;
+  };
 }
 
 module _ {t : TrailState} {w : Watches} {f : Lit} {index : ℕ} {watch : Watch} (r : HasRead t w f index watch) where
-  open r use {sound, watched, visit, due, list, listed, there}
+  open r use {ready.{sound, watched}, visiting.{visit, due}, visiting.visit.list.{list, listed}, there}
 
   -- its clause was looked at
   pub clause_within : watch.clause < length w.pairs.items
@@ -128,16 +138,12 @@ pub record HasOther (t : TrailState) (w : Watches) (f : Lit) (index : ℕ) (watc
 pub has_other : {t : TrailState} {w : Watches} {f : Lit} {index : ℕ} {watch : Watch} {x : Option Pair} {pair : Pair} {other : Lit} →
     HasRead t w f index watch → x ≡ get_or w.pairs.items watch.clause x → x ≡ Some pair → IsOf pair other →
     ((pair.first ≡ pair.second → ⊥) → other ≡ f → ⊥) → HasOther t w f index watch other
-has_other {t} {w} {f} {index} {watch} {x} {pair} {other} r read is of apart = record {
-  read = r;
-  pair = pair;
-  at = pair_at r read is;
-  of = of;
-  apart = apart;
-}
+has_other {t} {w} {f} {index} {watch} {x} {pair} r read is of apart =
+    record { read = r; pair = pair; at = pair_at r read is; of = of; apart = apart }
 
 module _ {t : TrailState} {w : Watches} {f : Lit} {index : ℕ} {watch : Watch} {other : Lit} (o : HasOther t w f index watch other) where
-  open o use {read.{sound, watched, visit, due, list, listed, there}, pair, at, of, apart}
+  open o use {read.{ready, visiting, there}, pair, at, of, apart}
+  open o.read.ready use {sound, watched}
 
   pub other_in : (clause : List Lit) → slice_get t.clauses watch.clause ≡ Some clause → has clause other ≡ true
   other_in clause named = of_clause (watched.paired watch.clause clause pair named at) of
@@ -152,21 +158,25 @@ module _ {t : TrailState} {w : Watches} {f : Lit} {index : ℕ} {watch : Watch} 
   due_other is_true = due_true o.read other is_true (λ clause pair named at. other_in clause named)
 
   other_propagated : {u : TrailState} → IsSound u → Propagates t u → HasOther u w f index watch other
+  unfolding visits_on
   other_propagated {u} sound_u grows = record {
-    read = record {
-      sound = sound_u;
-      watched = watched_propagated t u w watched grows;
-      visit = visit_propagated t u w f visit grows;
-      due = due_propagated t u w f (index + 1) due grows;
-      list = list;
-      listed = listed;
+    read = (let visits = visits_on visiting.visit grows (watched_propagated t u w watched grows) visiting.visit.list refl in record {
+      ready = ready_after ready sound_u visits.grows;
+      visiting = record { visit = visits.visit; due = due_propagated t u w f (index + 1) visiting.due grows };
       there = there;
-    };
+    });
     pair = pair;
     at = at;
     of = of;
     apart = apart;
   }
+
+pub visits_forced : {E : Type 0} {t : TrailState} (u : TrailState) {w : Watches} {f : Lit} (index : ℕ) (r : Result (Option ℕ) E) →
+    AreWatched t w → IsVisiting t w f (index + 1) → OnOk r (Propagates t u) → OnOk r (Visits t u w f index)
+visits_forced {E} {t} u {w} index r watched visiting grows =
+    let l = visiting.visit.list in
+    on_ok_weaker r (λ g. visits_on visiting.visit g (watched_propagated t u w watched g)
+    (record { list = l.list; listed = l.listed; long = omega (arith, l.long) }) refl) grows
 
 pub due_forced : {E : Type 0} {t u : TrailState} {w : Watches} {f : Lit} {index : ℕ} {watch : Watch} {other : Lit}
     (r : Result (Option ℕ) E) → HasOther t w f index watch other → IsSound u → OnOk r (Propagates t u) →
@@ -179,9 +189,9 @@ due_forced (Err e) o sound grows ends = tt
 -- ---- an entry is visited
 
 -- the last visit: the entry is visited
-pub watched_visited : (t : TrailState) (w v : Watches) (f : Lit) → IsSound t → AreWatched t w → IsVisit t w f → AreDue t w f 0 →
+pub watched_visited : (t : TrailState) (w v : Watches) (f : Lit) → AreWatched t w → IsVisiting t w f 0 →
     v ≡ record w { head = w.head + 1 } → AreWatched t v
-watched_visited t w v f sound watched visit due is = subst (AreWatched t) (sym is) (record {
+watched_visited t w v f watched visiting is = subst (AreWatched t) (sym is) (record {
   listing = watched.listing;
   head_few = omega (arith, slice_get_within t.entries w.head visit.entry visit.there);
   asides = watched.asides;
@@ -192,7 +202,7 @@ watched_visited t w v f sound watched visit due is = subst (AreWatched t) (sym i
         (ap (slice_get t.entries) (sym place_is) ∙ there) visit.there in
         let l_is : f ≡ l = sym (negation-negation f) ∙ (ap negation (sym visit.is
         ∙ (ap (λ (x : Entry). x.literal) (sym entry_is) ∙ false_by)) ∙ negation-negation l) in
-        elim (due number clause pair named at (subst (IsOf pair) (sym l_is) of)) [
+        elim (visiting.due number clause pair named at (subst (IsOf pair) (sym l_is) of)) [
           | inl x ↦ inl (at_level clause place e x place_is entry_is)
           | inr r ↦ absurd (omega (arith, r.1))
         ])
@@ -200,6 +210,8 @@ watched_visited t w v f sound watched visit due is = subst (AreWatched t) (sym i
   unpaired = watched.unpaired;
 })
   where
+    open visiting use {visit}
+
     at_level : (clause : List Lit) (place : ℕ) (e : Entry) → IsExcused t.entries clause w.head w.low t.level → place ≡ w.head →
         e ≡ visit.entry → IsExcused t.entries clause place w.low e.level
     at_level clause place e x place_is entry_is = excused_from x x.place x.there (λ below.
@@ -207,7 +219,7 @@ watched_visited t w v f sound watched visit due is = subst (AreWatched t) (sym i
         omega (arith, x.in_time h, visit.late h, ap (λ (z : Entry). z.level) entry_is)))
 
 -- at the first visit each clause that watches the literal is due
-pub due_all : (t : TrailState) (w : Watches) (f : Lit) (list : List Watch) → AreWatched t w →
+due_all : (t : TrailState) (w : Watches) (f : Lit) (list : List Watch) → AreWatched t w →
     slice_get w.lists.items (code_of f) ≡ Some list → AreDue t w f (length list)
 due_all t w f list watched listed n clause pair named at of =
     let r = watched.listed n pair f at of in
@@ -227,15 +239,27 @@ pub falsified_over : (t : TrailState) → IsSound t → (head : ℕ) (e : Entry)
     e.literal ≡ negation f → f.index < t.variables
 falsified_over t sound head e f there is = omega (arith, (sound.stand head e there).over, ap (λ (z : Lit). z.index) is)
 
-pub visit_begins : (t : TrailState) (w v : Watches) (f : Lit) (e : Entry) → IsSound t → slice_get t.entries w.head ≡ Some e →
-    e.literal ≡ negation f → v ≡ record w { low = v.low } → v.low ≡ cond (nat_lt e.level t.level) (min w.low w.head) w.low → IsVisit t v f
-visit_begins t w v f e sound there is rest low = record {
-  entry = e;
-  there = ap (slice_get t.entries) head ∙ there;
-  is = is;
-  late = λ below. late (nat_lt e.level t.level) refl low below;
-}
+pub visit_begins : (t : TrailState) (w v : Watches) (f : Lit) (e : Entry) (list : List Watch) → IsReady t w →
+    slice_get t.entries w.head ≡ Some e → e.literal ≡ negation f → slice_get v.lists.items (code_of f) ≡ Some list →
+    v ≡ record w { low = v.low } → v.low ≡ cond (nat_lt e.level t.level) (min w.low w.head) w.low →
+    IsReady t v × IsVisiting t v f (length list)
+visit_begins t w v f e list ready there is listed rest low = (
+  record { usable = ready.usable; sound = ready.sound; watched = watched },
+  record {
+    visit = record {
+      entry = e;
+      there = ap (slice_get t.entries) head ∙ there;
+      is = is;
+      late = λ below. late (nat_lt e.level t.level) refl low below;
+      list = record { list = list; listed = listed; long = omega arith };
+    };
+    due = due_all t v f list watched listed;
+  },
+)
   where
+    watched : AreWatched t v
+    watched = watched_low t w v ready.watched rest (lowered_le (nat_lt e.level t.level) w.low w.head v.low low)
+
     head : v.head ≡ w.head
     head = ap (λ (x : Watches). x.head) rest
 
@@ -244,8 +268,8 @@ visit_begins t w v f e sound there is rest low = record {
     late false h k below = omega (
       arith,
       ltb-false e.level t.level h,
-      sound.level_reached,
-      level_within t.variables t.clauses t.entries sound.stand w.head e there,
+      ready.sound.level_reached,
+      level_within t.variables t.clauses t.entries ready.sound.stand w.head e there,
     )
 
 pub list_read : (lists : List (List Watch)) (code k : ℕ) (x : List Watch) → k ≡ code → x ≡ get_or lists k x → code < length lists →

@@ -13,10 +13,10 @@ use Rattle.sat_trail.specs.declared.watches.Watches.{Watches}
 use Rattle.sat_trail.specs.Entries.{literals_of}
 use Rattle.sat_trail.specs.States.{TrailState, IsSound}
 use Rattle.sat_trail.specs.internal.Watching.{HasWatch, Attaches, IsOf, IsPairOf, IsPair, pair_of, PutsPair, IsAside, AreListed, AreWatched, CanWatch, IsOpenBy}
-use Rattle.sat_trail.specs.internal.Watching.{IsNextWaiting, IsOpenAt, IsWatchedBy, SetsAside, Releases, left_of, LooksAtOne}
+use Rattle.sat_trail.specs.internal.Watching.{IsNextWaiting, IsOpenAt, IsWatchedBy, SetsAside, Releases, left_of, LooksAtOne, Rewatches}
 use Rattle.sat_trail.proofs.Places.{entry_has}
 use Rattle.sat_trail.proofs.Soundness.{over_literal}
-use Rattle.sat_trail.proofs.Stays.{excused_by, lists_have, aside_from, asides_more}
+use Rattle.sat_trail.proofs.Stays.{excused_by, lists_can, aside_from, asides_more}
 use Rattle.sat_trail.proofs.WatchLists.{has_watch_more, has_watch_new, blocked_one, blocked_within, blocked_more, pair_set, pair_push, pair_was}
 use Rattle.sat_trail.proofs.WatchLists.{pair_is_new}
 use Rattle.sat_trail.proofs.Visits.{of_clause}
@@ -204,18 +204,18 @@ module _ {t : TrailState} {w : Watches} (v : Watches) {number : ℕ} {first seco
     (wide : length w.pairs.items ≤ length v.pairs.items) (few : length v.pairs.items ≤ length t.clauses) where
   open attaches use {between, at_first, at_second}
 
-  code_in : (l : Lit) → has can.clause l ≡ true → code_of l < length w.lists.items
-  code_in l member = lists_have t w sound watched number can.clause l can.named member
+  first_in : code_of first < length w.lists.items
+  first_in = (lists_can sound watched can).0
 
   second_in : code_of second < length between
-  second_in = omega (arith, code_in second can.other, at_first.all)
+  second_in = omega (arith, (lists_can sound watched can).1, at_first.all)
 
   of_new : {n : ℕ} {pair : Pair} {l : Lit} → n ≡ number → IsPairOf v.pairs.items n pair → IsOf pair l → IsOf (pair_of first second) l
   of_new {n} {pair} {l} e at of = subst (λ (q : Pair). IsOf q l) (sym (same_Some (pair_of first second) pair (pair_is_new puts at e))) of
 
   new_listed : (l : Lit) → IsOf (pair_of first second) l → (index : ℕ) × HasWatch v.lists.items (code_of l) number index
   new_listed l (inl e) = subst (λ (z : Lit). (index : ℕ) × HasWatch v.lists.items (code_of z) number index) e
-      (let r = has_watch_new at_first (code_in first can.member) in (r.0, has_watch_more at_second r.1))
+      (let r = has_watch_new at_first first_in in (r.0, has_watch_more at_second r.1))
   new_listed l (inr e) = subst (λ (z : Lit). (index : ℕ) × HasWatch v.lists.items (code_of z) number index) e
       (has_watch_new at_second second_in)
 
@@ -224,7 +224,7 @@ module _ {t : TrailState} {w : Watches} (v : Watches) {number : ℕ} {first seco
     lists_all = at_second.all ∙ (at_first.all ∙ watched.lists_all);
     pairs_few = few;
     blocked = blocked_more t.clauses at_second second_in (blocked_one t.clauses first within can.named can.member)
-        (blocked_more t.clauses at_first (code_in first can.member) (blocked_one t.clauses second within can.named can.other)
+        (blocked_more t.clauses at_first first_in (blocked_one t.clauses second within can.named can.other)
         (blocked_within t.clauses w.lists.items wide watched.blocked));
     paired = λ n c pair named at. elim (cases_eq n number) [
       | inr d ↦ watched.paired n c pair named (pair_was puts at d)
@@ -240,7 +240,7 @@ module _ {t : TrailState} {w : Watches} (v : Watches) {number : ℕ} {first seco
   }
 
   -- its literals are not false, or it waits
-  pub watched_put : v ≡ record w { lists = v.lists; pairs = v.pairs } → ((c : List Lit) (l : Lit) → IsOf (pair_of first second) l →
+  watched_put : v ≡ record w { lists = v.lists; pairs = v.pairs } → ((c : List Lit) (l : Lit) → IsOf (pair_of first second) l →
       (has (literals_of t.entries) (negation l) ≡ false) ⊎ IsAside t.entries w.asides.items w.held number c) → AreWatched t v
   watched_put rest settled = subst (AreWatched t) (sym rest) (record {
     listing = listing_put;
@@ -299,13 +299,17 @@ module _ {t : TrailState} {w b : Watches} (v : Watches) {number : ℕ} {first se
       (subst (λ (ps : List (Option Pair)). PutsPair w.pairs.items number pair (set ps number (Some pair))) (sym same_pairs)
       (pair_set w.pairs.items number pair within_pairs)))
 
-  pub both_count : length v.pairs.items ≡ length w.pairs.items
+  both_count : length v.pairs.items ≡ length w.pairs.items
   both_count = ap length pairs ∙ (length-set b.pairs.items number (Some pair) ∙ ap length same_pairs)
 
-  pub watched_both : IsSound t → CanWatch t number first second → Attaches w.lists.items number first second v.lists.items →
-      v ≡ record w { lists = v.lists; pairs = v.pairs } → AreWatched t v
-  watched_both sound can attaches rest = watched_put v sound watched can attaches both_puts (omega (arith, within_pairs, both_count))
-      (omega (arith, both_count)) (omega (arith, both_count, watched.pairs_few)) rest (λ c l of. inr (next_aside next))
+  pub rewatches_both : IsSound t → CanWatch t number first second → Attaches w.lists.items number first second v.lists.items →
+      v ≡ record w { lists = v.lists; pairs = v.pairs } → Rewatches t w v
+  rewatches_both sound can attaches rest = record {
+    watched = watched_put v sound watched can attaches both_puts (omega (arith, within_pairs, both_count))
+        (omega (arith, both_count)) (omega (arith, both_count, watched.pairs_few)) rest (λ c l of. inr (next_aside next));
+    pairs = both_count;
+    rest = rest;
+  }
 
 -- ---- the pair of a clause
 
@@ -343,16 +347,6 @@ next_waits {w} {x} read below = record {
   names = refl;
 }
 
--- it still does where other literals are watched, and as much is to be looked at
-module _ (w : Watches) {v : Watches} (rest : v ≡ record w { lists = v.lists; pairs = v.pairs }) where
-  pub waits_still : {number : ℕ} → IsNextWaiting w number → IsNextWaiting v number
-  waits_still next =
-      record { aside = next.aside; there = ap (λ (x : Watches). slice_get x.asides.items x.held) rest ∙ next.there; names = next.names }
-
-  pub left_same : length v.pairs.items ≡ length w.pairs.items → (count : ℕ) → left_of count v ≡ left_of count w
-  left_same pairs count = omega
-      (arith, pairs, ap (λ (x : Watches). x.held) rest, ap (λ (x : Watches). length x.asides.items) rest)
-
 pub next_within : {w : Watches} {number : ℕ} → IsNextWaiting w number → w.held < length w.asides.items
 next_within {w} next = slice_get_within w.asides.items w.held next.aside next.there
 
@@ -360,14 +354,26 @@ pub next_known : {t : TrailState} {w : Watches} {number : ℕ} → AreWatched t 
 next_known {t} {w} watched next =
     omega (arith, watched.asides.known w.held next.aside next.there, next.names, watched.pairs_few)
 
-pub less_aside : {level : ℕ} {w v : Watches} → w.held < length w.asides.items → SetsAside level w v → LooksAtOne w v
-less_aside below sets = λ count. omega (arith, below, sets.all, sets.more, ap (λ (x : Watches). length x.pairs.items) sets.rest)
+-- it still does where other literals are watched, and as much is to be looked at
+module _ {t : TrailState} {w v : Watches} (r : Rewatches t w v) where
+  pub waits_still : {number : ℕ} → IsNextWaiting w number → IsNextWaiting v number
+  waits_still next =
+      record { aside = next.aside; there = ap (λ (x : Watches). slice_get x.asides.items x.held) r.rest ∙ next.there; names = next.names }
 
-pub less_released : {w v : Watches} → w.held < length w.asides.items → Releases w v → LooksAtOne w v
-less_released below releases = λ count. omega (
-  arith,
-  below,
-  releases.shorter,
-  ap (λ (x : Watches). x.held) releases.rest,
-  ap (λ (x : Watches). length x.pairs.items) releases.rest,
-)
+  left_same : (count : ℕ) → left_of count v ≡ left_of count w
+  left_same count = omega
+      (arith, r.pairs, ap (λ (x : Watches). x.held) r.rest, ap (λ (x : Watches). length x.asides.items) r.rest)
+
+  pub less_aside : {x : Watches} {number level : ℕ} → IsNextWaiting w number → SetsAside level v x → LooksAtOne w x
+  less_aside next sets = λ count. omega
+      (arith, left_same count, next_within (waits_still next), sets.all, sets.more, ap (λ (x : Watches). length x.pairs.items) sets.rest)
+
+  pub less_released : {x : Watches} {number : ℕ} → IsNextWaiting w number → Releases v x → LooksAtOne w x
+  less_released next releases = λ count. omega (
+    arith,
+    left_same count,
+    next_within (waits_still next),
+    releases.shorter,
+    ap (λ (x : Watches). x.held) releases.rest,
+    ap (λ (x : Watches). length x.pairs.items) releases.rest,
+  )

@@ -5,6 +5,7 @@ ghost use Rattle.clause_core.specs.Literals.{has};
 ghost use Rattle.clause_core.specs.Clauses.{IsOver, has_pair};
 ghost use Rattle.sat_trail.specs.Entries.{entry_with, place_of, truth_of, literals_of, MayStand};
 ghost use Rattle.sat_trail.specs.States.{IsSound, started, extended, decided, with_clause, undone};
+ghost use Rattle.sat_trail.specs.internal.Tables.{MayLearn};
 
 use crate::entries::Entry;
 use crate::trail_clauses::TrailClauses;
@@ -76,10 +77,7 @@ impl<'f> Stack<'f> {
 
     /// Adds a clause at the end, and answers its number. An `Err` says that memory ran out.
     pub fn learn(&mut self, clause: Clause) -> Result<u32, NoMemory>
-        requires usable { self.old.broken ≡ false }
-        requires over { IsOver self.old.variables clause }
-        requires no_pair { has_pair clause ≡ false }
-        requires few { length self.old.clauses + 1 < 2 ^ 32 }
+        requires { MayLearn self.old clause }
         ensures ok { OnOk result (self.new ≡ with_clause self.old clause) }
         ensures number { IfOk result (λ number. number ≡ length self.old.clauses) }
         ensures sound { IsSound self.new }

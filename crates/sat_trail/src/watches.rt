@@ -7,7 +7,12 @@ ghost use Rattle.clause_core.specs.Clauses.{IsOver};
 ghost use Rattle.sat_trail.specs.declared.entries.Entry.{Entry};
 ghost use Rattle.sat_trail.specs.Entries.{literals_of, place_of};
 ghost use Rattle.sat_trail.specs.States.{TrailState, IsSound, Propagates, IsFalseAt, EndsWith};
-ghost use Rattle.sat_trail.specs.internal.Watching.{HasList, TakesOut, RenewsBlocker, AddsWatch, Attaches, RenewsWatch, DropsWatch, IsOf, IsPairIn, pair_of, IsNextPair, AreWatched, IsVisit, AreDue, AreOthersFalse, CanForce, CanWatch, IsOpenBy, HasStatus, IsFirstFree, AreFalseBefore, AreAllBefore, IsOther, IsFree, AreFalseBetween, IsNextWaiting, IsOpenAt, IsWatchedBy, SetsAside, Releases, left_of, LeavesSome, LooksAtOne};
+ghost use Rattle.sat_trail.specs.internal.Watching.{HasList, TakesOut, RenewsBlocker, AddsWatch, Attaches, RenewsWatch, DropsWatch, IsOf};
+ghost use Rattle.sat_trail.specs.internal.Watching.{IsPairIn, pair_of, IsNextPair, AreWatched, AreDue, AreOthersFalse, CanForce, CanWatch};
+ghost use Rattle.sat_trail.specs.internal.Watching.{IsOpenBy, HasStatus, IsFirstFree, AreFalseBefore, AreAllBefore, IsOther, IsFree};
+ghost use Rattle.sat_trail.specs.internal.Watching.{AreFalseBetween, IsNextWaiting, IsOpenAt, IsWatchedBy, SetsAside, Releases, left_of};
+ghost use Rattle.sat_trail.specs.internal.Watching.{LeavesSome, LooksAtOne, IsReady, PropagatesWatched, GoesBack, StaysAt, Rewatches};
+ghost use Rattle.sat_trail.specs.internal.Watching.{IsVisiting, Visits, IsUnitBy};
 
 use crate::stack::Stack;
 use clause_core::{Clause, Literal};
@@ -252,10 +257,7 @@ impl Watches {
     /// at, and what an undo may have touched is visited again.
     pub fn undo(&mut self, level: u32, count: u32)
         requires { self.old.held ≤ length self.old.asides.items }
-        ensures head { self.new.head ≡ min (min self.old.head self.old.low) count }
-        ensures held { self.new.held ≤ self.old.held }
-        ensures low { (last : Aside) → slice_get self.new.asides.items (self.new.held - 1) ≡ Some last → 0 < self.new.held → last.level ≤ level }
-        ensures rest { self.new ≡ record self.old { held = self.new.held; head = self.new.head; low = self.new.low } }
+        ensures { GoesBack level count self.old self.new }
     {
         while self.held > 0 && self.asides[self.held - 1].level > level {
             self.held -= 1;
@@ -267,11 +269,8 @@ impl Watches {
     /// Propagates until no clause is unit or a clause is false: then it answers that clause's number.
     /// An `Err` says that memory ran out.
     pub fn propagate(&mut self, stack: &mut Stack<'_>) -> Result<Option<u32>, NoMemory>
-        requires usable { stack.old.broken ≡ false }
-        requires sound { IsSound stack.old }
-        requires watched { AreWatched stack.old self.old }
-        ensures ok { OnOk result (Propagates stack.old stack.new) }
-        ensures watched { OnOk result (AreWatched stack.new self.new) }
+        requires ready { IsReady stack.old self.old }
+        ensures grows { OnOk result (PropagatesWatched stack.old stack.new self.new) }
         ensures ends { IfOk result (λ answer. EndsWith answer stack.new) }
         ensures sound { IsSound stack.new }
     {
@@ -292,9 +291,7 @@ impl Watches {
 
     /// Takes clauses in until one waits, and answers whether one does. An `Err` says that memory ran out.
     fn take_in(&mut self, stack: &Stack<'_>) -> Result<bool, NoMemory>
-        requires usable { stack.now.broken ≡ false }
-        requires sound { IsSound stack.now }
-        requires watched { AreWatched stack.now self.old }
+        requires ready { IsReady stack.now self.old }
         ensures watched { OnOk result (AreWatched stack.now self.new) }
         ensures left { IfOk result (LeavesSome (length stack.now.clauses) self.old self.new) }
     {
@@ -307,9 +304,7 @@ impl Watches {
     /// Takes the next clause in: it watches two literals that are not false, or else it waits. An `Err` says
     /// that memory ran out.
     fn take_next(&mut self, stack: &Stack<'_>) -> Result<(), NoMemory>
-        requires usable { stack.now.broken ≡ false }
-        requires sound { IsSound stack.now }
-        requires watched { AreWatched stack.now self.old }
+        requires ready { IsReady stack.now self.old }
         requires more { length self.old.pairs.items < length stack.now.clauses }
         requires none { length self.old.asides.items ≤ self.old.held }
         ensures watched { OnOk result (AreWatched stack.now self.new) }
@@ -335,12 +330,9 @@ impl Watches {
 
     /// Looks at a clause that waits, and answers its number if it is false. An `Err` says that memory ran out.
     fn look(&mut self, stack: &mut Stack<'_>) -> Result<Option<u32>, NoMemory>
-        requires usable { stack.old.broken ≡ false }
-        requires sound { IsSound stack.old }
-        requires watched { AreWatched stack.old self.old }
+        requires ready { IsReady stack.old self.old }
         requires some { self.old.held < length self.old.asides.items }
-        ensures ok { OnOk result (Propagates stack.old stack.new) }
-        ensures watched { OnOk result (AreWatched stack.new self.new) }
+        ensures grows { OnOk result (PropagatesWatched stack.old stack.new self.new) }
         ensures ends { IfOk result (λ conflict. MatchOption conflict (LooksAtOne self.old self.new) (IsFalseAt stack.new)) }
         ensures sound { IsSound stack.new }
     {
@@ -402,10 +394,8 @@ impl Watches {
         requires watched { AreWatched stack.now self.old }
         requires waits { IsNextWaiting self.old number }
         requires literals { CanWatch stack.now number first second }
-        ensures watched { OnOk result (AreWatched stack.now self.new) }
         ensures pair { OnOk result (IsWatchedBy self.new number first second) }
-        ensures pairs { OnOk result (length self.new.pairs.items ≡ length self.old.pairs.items) }
-        ensures rest { OnOk result (self.new ≡ record self.old { lists = self.new.lists; pairs = self.new.pairs }) }
+        ensures rest { OnOk result (Rewatches stack.now self.old self.new) }
     {
         if self.is_watched_by(number, first, second) {
             return Ok(());
@@ -423,14 +413,10 @@ impl Watches {
         number: u32,
         literal: Literal,
     ) -> Result<(), NoMemory>
-        requires usable { stack.now.broken ≡ false }
-        requires sound { IsSound stack.now }
-        requires watched { AreWatched stack.now self.old }
+        requires ready { IsReady stack.now self.old }
         requires waits { IsNextWaiting self.old number }
         requires forced { CanForce stack.now number literal }
-        ensures watched { OnOk result (AreWatched stack.now self.new) }
-        ensures pairs { OnOk result (length self.new.pairs.items ≡ length self.old.pairs.items) }
-        ensures rest { OnOk result (self.new ≡ record self.old { lists = self.new.lists; pairs = self.new.pairs }) }
+        ensures { OnOk result (Rewatches stack.now self.old self.new) }
     {
         match last_other(stack, stack.clause(number).literals(), literal) {
             None => Ok(()),
@@ -458,14 +444,10 @@ impl Watches {
         number: u32,
         literal: Literal,
     ) -> Result<Option<u32>, NoMemory>
-        requires usable { stack.old.broken ≡ false }
-        requires sound { IsSound stack.old }
-        requires watched { AreWatched stack.old self.old }
+        requires ready { IsReady stack.old self.old }
         requires waits { IsNextWaiting self.old number }
-        requires forced { CanForce stack.old number literal }
-        requires not_false { has (literals_of stack.old.entries) (negation literal) ≡ false }
-        ensures ok { OnOk result (Propagates stack.old stack.new) }
-        ensures watched { OnOk result (AreWatched stack.new self.new) }
+        requires unit { IsUnitBy stack.old number literal }
+        ensures grows { OnOk result (PropagatesWatched stack.old stack.new self.new) }
         ensures ends { IfOk result (λ conflict. MatchOption conflict (LooksAtOne self.old self.new) (IsFalseAt stack.new)) }
         ensures sound { IsSound stack.new }
     {
@@ -545,12 +527,9 @@ impl Watches {
     /// number of one that is false; the entry is then still to be visited. An `Err` says that memory
     /// ran out.
     fn visit_entry(&mut self, stack: &mut Stack<'_>) -> Result<Option<u32>, NoMemory>
-        requires usable { stack.old.broken ≡ false }
-        requires sound { IsSound stack.old }
-        requires watched { AreWatched stack.old self.old }
+        requires ready { IsReady stack.old self.old }
         requires more { self.old.head < length stack.old.entries }
-        ensures ok { OnOk result (Propagates stack.old stack.new) }
-        ensures watched { OnOk result (AreWatched stack.new self.new) }
+        ensures grows { OnOk result (PropagatesWatched stack.old stack.new self.new) }
         ensures left { (count : ℕ) → left_of count self.new ≡ left_of count self.old }
         ensures ends { IfOk result (λ conflict. MatchOption conflict (self.new.head ≡ self.old.head + 1) (IsFalseAt stack.new)) }
         ensures sound { IsSound stack.new }
@@ -578,19 +557,11 @@ impl Watches {
         falsified: Literal,
         index: usize,
     ) -> Result<Option<u32>, NoMemory>
-        requires usable { stack.old.broken ≡ false }
-        requires sound { IsSound stack.old }
-        requires watched { AreWatched stack.old self.old }
-        requires visit { IsVisit stack.old self.old falsified }
-        requires list { HasList self.old.lists.items (code_of falsified) (index + 1) }
-        requires due { AreDue stack.old self.old falsified (index + 1) }
-        ensures ok { OnOk result (Propagates stack.old stack.new) }
-        ensures watched { OnOk result (AreWatched stack.new self.new) }
-        ensures visit { OnOk result (IsVisit stack.new self.new falsified) }
-        ensures list { OnOk result (HasList self.new.lists.items (code_of falsified) index) }
+        requires ready { IsReady stack.old self.old }
+        requires visiting { IsVisiting stack.old self.old falsified (index + 1) }
+        ensures visits { OnOk result (Visits stack.old stack.new self.new falsified index) }
         ensures ends { IfOk result (λ conflict. MatchOption conflict (AreDue stack.new self.new falsified index) (IsFalseAt stack.new)) }
-        ensures head { self.new.head ≡ self.old.head }
-        ensures left { (count : ℕ) → left_of count self.new ≡ left_of count self.old }
+        ensures stays { StaysAt self.old self.new }
         ensures sound { IsSound stack.new }
     {
         let watch = self.lists[falsified.code()].get(index);
@@ -694,8 +665,7 @@ fn force_or_fail(
 fn force(stack: &mut Stack<'_>, number: u32, literal: Literal) -> Result<(), NoMemory>
     requires usable { stack.old.broken ≡ false }
     requires sound { IsSound stack.old }
-    requires forced { CanForce stack.old number literal }
-    requires not_false { has (literals_of stack.old.entries) (negation literal) ≡ false }
+    requires unit { IsUnitBy stack.old number literal }
     ensures ok { OnOk result (Propagates stack.old stack.new) }
     ensures is_true { OnOk result (has (literals_of stack.new.entries) literal ≡ true) }
     ensures sound { IsSound stack.new }

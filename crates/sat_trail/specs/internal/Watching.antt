@@ -1,12 +1,12 @@
 -- Internal: only private functions of this crate use these words. How clauses watch literals, and how far propagation has
 -- come. The idea is that of M. Moskewicz and others, Chaff: Engineering an Efficient SAT Solver, 2001.
-use Rattle.std.specs.Prelude.{◌≡◌, ℕ, ◌+◌, ◌-◌, ◌*◌, ◌<◌, ◌≤◌, ◌⊎◌, Bool, true, false, List, ◌∷◌, ◌++◌, [], length, Option, Some, None}
+use Rattle.std.specs.Prelude.{◌≡◌, ℕ, ◌+◌, ◌-◌, ◌*◌, ◌<◌, ◌≤◌, ◌⊎◌, min, Bool, true, false, List, ◌∷◌, ◌++◌, [], length, Option, Some, None}
 use Rattle.std.specs.Prelude.{slice_get}
 use Rattle.clause_core.specs.Literals.{Lit, negation, has, code_of}
 use Rattle.clause_core.specs.Clauses.{IsIncreasing}
 use Rattle.sat_trail.specs.declared.entries.Entry.{Entry}
 use Rattle.sat_trail.specs.Entries.{literals_of}
-use Rattle.sat_trail.specs.States.{TrailState, IsFalseAt}
+use Rattle.sat_trail.specs.States.{TrailState, IsSound, Propagates, IsFalseAt}
 use Rattle.sat_trail.specs.declared.watches.Watch.{Watch}
 use Rattle.sat_trail.specs.declared.watches.Pair.{Pair}
 use Rattle.sat_trail.specs.declared.watches.Aside.{Aside}
@@ -161,6 +161,24 @@ pub record AreWatched (t : TrailState) (w : Watches) : Type 0 where
   pub unpaired : (number : ℕ) (clause : List Lit) → slice_get t.clauses number ≡ Some clause → slice_get w.pairs.items number ≡ Some None →
       IsAside t.entries w.asides.items w.held number clause
 
+-- propagation may begin or go on: memory has not run out, the trail is sound, and the clauses are watched
+pub record IsReady (t : TrailState) (w : Watches) : Type 0 where
+  pub usable : t.broken ≡ false
+  pub sound : IsSound t
+  pub watched : AreWatched t w
+
+-- a step of propagation: only entries that clauses force are new, and the clauses are still watched
+pub record PropagatesWatched (old new : TrailState) (w : Watches) : Type 0 where
+  pub propagates : Propagates old new
+  pub watched : AreWatched new w
+
+-- propagation goes back to a level, with so many entries left: what was set aside above it waits, and late visits are made again
+pub record GoesBack (level count : ℕ) (old new : Watches) : Type 0 where
+  pub head : new.head ≡ min (min old.head old.low) count
+  pub held : new.held ≤ old.held
+  pub low : (last : Aside) → slice_get new.asides.items (new.held - 1) ≡ Some last → 0 < new.held → last.level ≤ level
+  pub rest : new ≡ record old { held = new.held; head = new.head; low = new.low }
+
 -- ---- what is to be looked at
 
 -- how much is to be looked at, where there are so many clauses: those to be taken in count twice
@@ -175,6 +193,11 @@ LeavesSome count old new false = left_of count new ≡ 0
 -- there is less to be looked at
 abbrev pub LooksAtOne : Watches → Watches → Type 0
 LooksAtOne old new = (count : ℕ) → left_of count new + 1 ≡ left_of count old
+
+-- the next entry to be visited is the same one, and as much is to be looked at as before
+pub record StaysAt (old new : Watches) : Type 0 where
+  pub head : new.head ≡ old.head
+  pub left : (count : ℕ) → left_of count new ≡ left_of count old
 
 -- the next clause that waits has this number
 pub record IsNextWaiting (w : Watches) (number : ℕ) : Type 0 where
@@ -212,14 +235,21 @@ pub record IsWatchedBy (w : Watches) (number : ℕ) (first second : Lit) : Type 
   pub at : IsPairOf w.pairs.items number pair
   pub only : (l : Lit) → IsOf pair l → IsOf (pair_of first second) l
 
+-- a clause watches two literals, other ones or the same, and nothing else changes
+pub record Rewatches (t : TrailState) (old new : Watches) : Type 0 where
+  pub watched : AreWatched t new
+  pub pairs : length new.pairs.items ≡ length old.pairs.items
+  pub rest : new ≡ record old { lists = new.lists; pairs = new.pairs }
+
 -- ---- what holds within the visit of an entry
 
--- the literal is false by the next entry to be visited, which is of the present level or not before the place `low`
-pub record IsVisit (t : TrailState) (w : Watches) (falsified : Lit) : Type 0 where
+-- the literal is false by the next entry to be visited, of the present level or not before `low`; its list is at least so long
+pub record IsVisit (t : TrailState) (w : Watches) (falsified : Lit) (least : ℕ) : Type 0 where
   pub entry : Entry
   pub there : slice_get t.entries w.head ≡ Some entry
   pub is : entry.literal ≡ negation falsified
   pub late : w.head < w.low → entry.level ≡ t.level
+  pub list : HasList w.lists.items (code_of falsified) least
 
 -- each clause that watches the literal is excused, or has a watch that is still to be visited, before this index
 abbrev pub AreDue : TrailState → Watches → Lit → ℕ → Type 0
@@ -228,6 +258,16 @@ AreDue t w falsified end =
     IsOf pair falsified →
     IsExcused t.entries clause w.head w.low t.level ⊎ ((index : ℕ) × (index < end)
     × HasWatch w.lists.items (code_of falsified) number index)
+
+-- the next entry is being visited: the watches of its literal before this index are left, and no others are due
+pub record IsVisiting (t : TrailState) (w : Watches) (falsified : Lit) (end : ℕ) : Type 0 where
+  pub visit : IsVisit t w falsified end
+  pub due : AreDue t w falsified end
+
+-- the visit of a watch is a step of propagation, and the visit of the entry goes on before this index
+pub record Visits (old new : TrailState) (w : Watches) (falsified : Lit) (end : ℕ) : Type 0 where
+  pub grows : PropagatesWatched old new w
+  pub visit : IsVisit new w falsified end
 
 -- ---- what is looked for
 
@@ -242,6 +282,11 @@ pub record CanForce (t : TrailState) (number : ℕ) (l : Lit) : Type 0 where
   pub increasing : IsIncreasing clause
   pub member : has clause l ≡ true
   pub others : AreOthersFalse (literals_of t.entries) clause l
+
+-- the clause of this number is unit: this literal is not false, and the others are
+pub record IsUnitBy (t : TrailState) (number : ℕ) (l : Lit) : Type 0 where
+  pub force : CanForce t number l
+  pub free : has (literals_of t.entries) (negation l) ≡ false
 
 -- the clause of this number has the two literals
 pub record CanWatch (t : TrailState) (number : ℕ) (first second : Lit) : Type 0 where
@@ -260,7 +305,7 @@ pub record IsOpenBy (t : TrailState) (number : ℕ) (first second : Lit) : Type 
 -- what the clause of this number is
 abbrev pub HasStatus : TrailState → ℕ → Status → Type 0
 HasStatus t number Conflict = IsFalseAt t number
-HasStatus t number (Unit l) = CanForce t number l × (has (literals_of t.entries) (negation l) ≡ false)
+HasStatus t number (Unit l) = IsUnitBy t number l
 HasStatus t number (Open first second) = IsOpenBy t number first second
 
 -- the pair is of literals of the clause of this number

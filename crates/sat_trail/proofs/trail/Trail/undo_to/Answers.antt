@@ -1,4 +1,4 @@
-use Rattle.std.proofs.Common.{◌≡◌, false, min, ℕ, sym, subst, ap, ◌∙◌}
+use Rattle.std.proofs.Common.{◌≡◌, false, sym, subst}
 use Rattle.sat_trail.specs.States.{TrailState}
 use Rattle.sat_trail.proofs.Stays.{watched_undone}
 use Rattle.sat_trail.proofs.trail.Trail.undo_to.Goals as goal
@@ -11,9 +11,7 @@ invariant_of-self c =
     let t = c.self.inside.stack in
     let w = c.self.inside.watches in (
       c.undo_to.ensures.sound,
-      λ usable. watched_undone t c.undo_to.new.self w c.undo.new.self c.args.level
-          (c.self.invariant.1 (subst (λ (s : TrailState). s.broken ≡ false)
-          (sym c.self.view_is) c.requires)) c.undo_to.ensures.value c.undo_to.ensures.in_place
-          (c.undo.ensures.head ∙ ap (λ (n : ℕ). min (min w.head w.low) n) c.set_count.ensures.value) c.undo.ensures.held
-          c.undo.ensures.low c.undo.ensures.rest,
+      λ usable. watched_undone t c.undo_to.new.self w c.undo.new.self c.args.level c.set_count.result
+          (c.self.invariant.1 (subst (λ (s : TrailState). s.broken ≡ false) (sym c.self.view_is) c.requires))
+          c.undo_to.ensures.value c.undo_to.ensures.in_place c.set_count.ensures.value c.undo.ensures,
     )

@@ -1,14 +1,12 @@
-use Rattle.std.proofs.Common.{◌≡◌, ◌-◌, false, length}
-use Rattle.sat_trail.specs.States.{IsSound, Propagates}
-use Rattle.sat_trail.specs.internal.Watching.{AreWatched, left_of}
+use Rattle.std.proofs.Common.{◌≡◌, ◌-◌, length}
+use Rattle.sat_trail.specs.States.{Propagates}
+use Rattle.sat_trail.specs.internal.Watching.{IsReady, left_of}
 use Rattle.sat_trail.proofs.watches.Watches.propagate.Given as goal
 
 abbrev pub invariant-loop-self : goal.invariant-loop-self
 invariant-loop-self l = record {
-  usable : l.stack.broken ≡ false;
-  sound : IsSound l.stack;
+  ready : IsReady l.stack l.self;
   grows : Propagates l.fn.stack l.stack;
-  watched : AreWatched l.stack l.self;
 }
 
 abbrev pub decreases-loop-self : goal.decreases-loop-self
@@ -16,10 +14,8 @@ decreases-loop-self l = left_of (length l.stack.clauses) l.self
 
 abbrev pub invariant-loop-self-2 : goal.invariant-loop-self-2
 invariant-loop-self-2 l = record {
-  usable : l.stack.broken ≡ false;
-  sound : IsSound l.stack;
+  ready : IsReady l.stack l.self;
   grows : Propagates l.fn.stack l.stack;
-  watched : AreWatched l.stack l.self;
   none_left : left_of (length l.stack.clauses) l.self ≡ 0;
 }
 

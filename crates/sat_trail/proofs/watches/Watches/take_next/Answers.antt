@@ -2,20 +2,16 @@ use Rattle.std.proofs.Common.{◌≡◌, ◌∷◌, [], ◌++◌, length, Option
 use Rattle.std.proofs.lemmas.List.{length_push}
 use Rattle.sat_trail.specs.declared.watches.Pair.{Pair}
 use Rattle.sat_trail.specs.declared.watches.Watches.{Watches}
-use Rattle.sat_trail.proofs.Stays.{lists_have}
+use Rattle.sat_trail.proofs.Stays.{lists_can}
 use Rattle.sat_trail.proofs.Waiting.{watched_taken, watched_open}
 use Rattle.sat_trail.proofs.PairSlots.{pair_apart}
 use Rattle.sat_trail.proofs.watches.Watches.take_next.Goals as goal
 
 pub attach-requires-clause-first : goal.attach-requires-clause-first
-attach-requires-clause-first c =
-    let l = c.in-Open.ensures.watch in
-    lists_have c.args.stack.now c.args.self.now c.requires.sound c.requires.watched c.len-number.result l.clause c.in-Open.first l.named l.member
+attach-requires-clause-first c = (lists_can c.requires.ready.sound c.requires.ready.watched c.in-Open.ensures.watch).0
 
 pub attach-requires-clause-second : goal.attach-requires-clause-second
-attach-requires-clause-second c =
-    let l = c.in-Open.ensures.watch in
-    lists_have c.args.stack.now c.args.self.now c.requires.sound c.requires.watched c.len-number.result l.clause c.in-Open.second l.named l.other
+attach-requires-clause-second c = (lists_can c.requires.ready.sound c.requires.ready.watched c.in-Open.ensures.watch).1
 
 pub of-requires : goal.of-requires
 of-requires c = pair_apart c.new.ensures c.in-Open.ensures.watch.apart
@@ -23,7 +19,7 @@ of-requires c = pair_apart c.new.ensures c.in-Open.ensures.watch.apart
 pub returns-in_ok-push-in-Open-clause-watched : goal.returns-in_ok-push-in-Open-clause-watched
 returns-in_ok-push-in-Open-clause-watched c =
     let w = c.args.self.now in
-    watched_open {v = record c.attach.new.self { pairs = c.push.new.self }} c.requires.sound c.requires.watched c.requires.more
+    watched_open {v = record c.attach.new.self { pairs = c.push.new.self }} c.requires.ready.sound c.requires.ready.watched c.requires.more
     (omega (arith, c.len-number.ensures, w.pairs.ok.0)) c.in-Open.ensures c.in_ok-attach-in-Open.ensures.lists c.new.ensures
     (c.in_ok-push-in-Open.ensures.items ∙ (ap (λ (x : Option Pair). c.attach.new.self.pairs.items ++ x ∷ []) c.of.ensures
     ∙ ap (λ (x : Watches). x.pairs.items ++ Some c.new.result ∷ []) c.attach.ensures.rest))
@@ -32,8 +28,9 @@ returns-in_ok-push-in-Open-clause-watched c =
 pub returns-in_ok-push-in_default-2-clause-watched : goal.returns-in_ok-push-in_default-2-clause-watched
 returns-in_ok-push-in_default-2-clause-watched c =
     let w = c.args.self.now in
-    watched_taken c.args.stack.now w (record w { pairs = c.push-in_default-2.new.self; asides = c.push-in_default.new.self }) c.requires.watched
-    c.requires.more c.requires.none (c.in_ok-push-in_default.ensures.items ∙ ap (λ n. w.asides.items ++ record { clause = n; level = 0 } ∷ [])
+    watched_taken c.args.stack.now w (record w { pairs = c.push-in_default-2.new.self; asides = c.push-in_default.new.self })
+    c.requires.ready.watched c.requires.more c.requires.none (c.in_ok-push-in_default.ensures.items
+    ∙ ap (λ n. w.asides.items ++ record { clause = n; level = 0 } ∷ [])
     (let e : c.len-number.result ≡ length w.pairs.items = omega (arith, c.len-number.ensures, w.pairs.ok.0) in e))
     (c.in_ok-push-in_default-2.ensures.items ∙ ap (λ (x : Option Pair). w.pairs.items ++ x ∷ []) c.none.ensures) refl
 

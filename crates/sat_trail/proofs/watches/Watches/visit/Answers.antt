@@ -2,27 +2,25 @@ use Rattle.std.proofs.Common.{◌≡◌, List, length, set, Option, Some, sym, a
 use Rattle.std.proofs.lemmas.Option.{slice_get_within}
 use Rattle.std.proofs.lemmas.List.{length-set}
 use Rattle.std.specs.Vec.{with_item}
-use Rattle.std.proofs.lemmas.Result.{on_ok_weaker}
 use Rattle.sat_trail.specs.declared.watches.Pair.{Pair}
 use Rattle.sat_trail.specs.declared.watches.Watches.{Watches}
 use Rattle.sat_trail.specs.internal.Watching.{PutsPair}
 use Rattle.sat_trail.proofs.WatchLists.{pair_set}
-use Rattle.sat_trail.proofs.Stays.{watched_propagated, visit_propagated, lists_have}
+use Rattle.sat_trail.proofs.Stays.{lists_have}
 use Rattle.sat_trail.proofs.Visits.{HasRead, has_read, HasOther, has_other, clause_within, blocker_over, due_blocked, due_unpaired}
-use Rattle.sat_trail.proofs.Visits.{other_over, pair_read, due_other, due_forced}
-use Rattle.sat_trail.proofs.Renewed.{watched_renewed, visit_renewed, list_renewed, due_renewed}
-use Rattle.sat_trail.proofs.Moved.{Moves, list_kept, watched_moved, due_moved, list_moved}
+use Rattle.sat_trail.proofs.Visits.{other_over, pair_read, due_other, visits_forced, due_forced}
+use Rattle.sat_trail.proofs.Renewed.{visits_renewed, due_renewed}
+use Rattle.sat_trail.proofs.Moved.{Moves, list_kept, visits_moved, due_moved}
 use Rattle.sat_trail.proofs.watches.Watches.visit.Goals as goal
 use Rattle.sat_trail.proofs.watches.Watches.visit.Goals.{After-get-watch, After-other-other, After-of}
 
 read : (c : After-get-watch) → HasRead c.args.stack.now c.args.self.now c.args.falsified c.args.index c.get-watch.result
-read c = has_read c.requires.sound c.requires.watched c.requires.visit c.requires.due c.requires.list c.code.ensures c.index.ensures
-    c.get-watch.ensures
+read c = has_read c.requires.ready c.requires.visiting c.code.ensures c.index.ensures c.get-watch.ensures
 
 other : (c : After-other-other) → HasOther c.args.stack.now c.args.self.now c.args.falsified c.args.index c.get-watch.result
     c.other-other.result
-other c = has_other (has_read c.requires.sound c.requires.watched c.requires.visit c.requires.due c.requires.list c.code.ensures
-    c.index.ensures c.get-watch.ensures) c.index-2.ensures (sym c.read.ensures ∙ c.in-Some.is) c.other-other.ensures.of c.other-other.ensures.apart
+other c = has_other (has_read c.requires.ready c.requires.visiting c.code.ensures c.index.ensures c.get-watch.ensures)
+    c.index-2.ensures (sym c.read.ensures ∙ c.in-Some.is) c.other-other.ensures.of c.other-other.ensures.apart
 
 abbrev changed : After-of → Watches
 changed c = record c.drop_watch.new.self { pairs = with_item c.drop_watch.new.self.pairs c.get-watch.result.clause c.of.result }
@@ -32,8 +30,8 @@ moves c =
     let w = c.args.self.now in
     let number = c.get-watch.result.clause in
     let new = c.in-Some-next_pair.next in
-    let o = has_other (has_read c.requires.sound c.requires.watched c.requires.visit c.requires.due c.requires.list c.code.ensures
-    c.index.ensures c.get-watch.ensures) c.index-2.ensures (sym c.read.ensures ∙ c.in-Some.is) c.other-other.ensures.of c.other-other.ensures.apart in
+    let o = has_other (has_read c.requires.ready c.requires.visiting c.code.ensures c.index.ensures c.get-watch.ensures)
+    c.index-2.ensures (sym c.read.ensures ∙ c.in-Some.is) c.other-other.ensures.of c.other-other.ensures.apart in
     let same : c.drop_watch.new.self.pairs.items ≡ w.pairs.items =
     ap (λ (x : Watches). x.pairs.items) c.drop_watch.ensures.rest ∙ ap (λ (x : Watches). x.pairs.items) c.add_watch.ensures.rest in
     record {
@@ -45,8 +43,8 @@ moves c =
       next = c.in-Some-next_pair.ensures;
       adds = c.in_ok-add_watch.ensures.lists;
       drops = c.drop_watch.ensures.lists;
-      puts = subst (λ (x : Option Pair). PutsPair w.pairs.items number new (set c.drop_watch.new.self.pairs.items number x)) (sym c.of.ensures)
-          (subst (λ (ps : List (Option Pair)). PutsPair w.pairs.items number new (set ps number (Some new))) (sym same)
+      puts = subst (λ (x : Option Pair). PutsPair w.pairs.items number new (set c.drop_watch.new.self.pairs.items number x))
+          (sym c.of.ensures) (subst (λ (ps : List (Option Pair)). PutsPair w.pairs.items number new (set ps number (Some new))) (sym same)
           (pair_set w.pairs.items number new (slice_get_within w.pairs.items number (Some o.pair) o.at)));
       count = length-set c.drop_watch.new.self.pairs.items number c.of.result ∙ ap length same;
       rest = ap (λ (x : Watches). record x { pairs = (changed c).pairs }) c.drop_watch.ensures.rest
@@ -71,16 +69,8 @@ returns-in_default-clause-ends c = due_unpaired (read (goal.at.returns-in_defaul
 pub is_true-requires-2 : goal.is_true-requires-2
 is_true-requires-2 c = other_over (other (goal.at.is_true-requires-2 c).After-other-other)
 
-pub returns-then-is_true-2-clause-watched : goal.returns-then-is_true-2-clause-watched
-returns-then-is_true-2-clause-watched c = watched_renewed (other (goal.at.returns-then-is_true-2-clause-watched c).After-other-other)
-    c.renew_watch.ensures.lists c.renew_watch.ensures.rest
-
-pub returns-then-is_true-2-clause-visit : goal.returns-then-is_true-2-clause-visit
-returns-then-is_true-2-clause-visit c = visit_renewed (other (goal.at.returns-then-is_true-2-clause-visit c).After-other-other)
-    c.renew_watch.ensures.lists c.renew_watch.ensures.rest
-
-pub returns-then-is_true-2-clause-list : goal.returns-then-is_true-2-clause-list
-returns-then-is_true-2-clause-list c = list_renewed (other (goal.at.returns-then-is_true-2-clause-list c).After-other-other)
+pub returns-then-is_true-2-clause-visits : goal.returns-then-is_true-2-clause-visits
+returns-then-is_true-2-clause-visits c = visits_renewed (other (goal.at.returns-then-is_true-2-clause-visits c).After-other-other)
     c.renew_watch.ensures.lists c.renew_watch.ensures.rest
 
 pub returns-then-is_true-2-clause-ends : goal.returns-then-is_true-2-clause-ends
@@ -89,17 +79,12 @@ returns-then-is_true-2-clause-ends c =
     due_renewed o c.renew_watch.ensures.lists c.renew_watch.ensures.rest (due_other o (sym c.is_true-2.ensures ∙ c.if-is_true-2.true))
 
 pub next_pair-requires-clause-pair : goal.next_pair-requires-clause-pair
-next_pair-requires-clause-pair c = pair_read (read (goal.at.next_pair-requires-clause-pair c).After-get-watch) c.index-2.ensures (sym c.read.ensures ∙ c.in-Some.is)
+next_pair-requires-clause-pair c = pair_read (read (goal.at.next_pair-requires-clause-pair c).After-get-watch) c.index-2.ensures
+    (sym c.read.ensures ∙ c.in-Some.is)
 
-pub returns-in_default-next_pair-clause-watched : goal.returns-in_default-next_pair-clause-watched
-returns-in_default-next_pair-clause-watched c = on_ok_weaker c.force_or_fail.result
-    (λ grows. watched_propagated c.args.stack.now c.force_or_fail.new.stack c.args.self.now c.requires.watched grows)
-    c.force_or_fail.ensures.ok
-
-pub returns-in_default-next_pair-clause-visit : goal.returns-in_default-next_pair-clause-visit
-returns-in_default-next_pair-clause-visit c = on_ok_weaker c.force_or_fail.result
-    (λ grows. visit_propagated c.args.stack.now c.force_or_fail.new.stack c.args.self.now c.args.falsified c.requires.visit grows)
-    c.force_or_fail.ensures.ok
+pub returns-in_default-next_pair-clause-visits : goal.returns-in_default-next_pair-clause-visits
+returns-in_default-next_pair-clause-visits c = visits_forced c.force_or_fail.new.stack c.args.index c.force_or_fail.result
+    c.requires.ready.watched c.requires.visiting c.force_or_fail.ensures.ok
 
 pub returns-in_default-next_pair-clause-ends : goal.returns-in_default-next_pair-clause-ends
 returns-in_default-next_pair-clause-ends c = due_forced c.force_or_fail.result
@@ -109,11 +94,12 @@ returns-in_default-next_pair-clause-ends c = due_forced c.force_or_fail.result
 pub add_watch-requires : goal.add_watch-requires
 add_watch-requires c =
     let next = c.in-Some-next_pair.ensures.is_in in
-    lists_have c.args.stack.now c.args.self.now c.requires.sound c.requires.watched c.get-watch.result.clause next.clause
+    lists_have c.args.stack.now c.args.self.now c.requires.ready.sound c.requires.ready.watched c.get-watch.result.clause next.clause
     c.in-Some-next_pair.next.first next.named next.is.first
 
 pub drop_watch-requires : goal.drop_watch-requires
-drop_watch-requires c = list_kept c.in-Some-next_pair.next.first c.requires.visit c.in-Some-next_pair.ensures.not_false c.in_ok-add_watch.ensures.lists c.requires.list
+drop_watch-requires c = list_kept c.in-Some-next_pair.next.first c.requires.visiting.visit c.in-Some-next_pair.ensures.not_false
+    c.in_ok-add_watch.ensures.lists
 
 pub index_mut-requires : goal.index_mut-requires
 index_mut-requires c = omega (
@@ -124,11 +110,8 @@ index_mut-requires c = omega (
   c.drop_watch.new.self.pairs.ok.0,
 )
 
-pub returns-clause-watched : goal.returns-clause-watched
-returns-clause-watched c = watched_moved (moves (goal.at.returns-clause-watched c).After-of)
-
-pub returns-clause-list : goal.returns-clause-list
-returns-clause-list c = list_moved (moves (goal.at.returns-clause-list c).After-of)
+pub returns-clause-visits : goal.returns-clause-visits
+returns-clause-visits c = visits_moved (moves (goal.at.returns-clause-visits c).After-of)
 
 pub returns-clause-ends : goal.returns-clause-ends
 returns-clause-ends c = due_moved (moves (goal.at.returns-clause-ends c).After-of)

@@ -1,30 +1,27 @@
 use Rattle.std.proofs.Common.{set, ap, inl, inr, refl}
 use Rattle.std.specs.Vec.{with_item}
 use Rattle.sat_trail.specs.declared.watches.Watches.{Watches}
-use Rattle.sat_trail.proofs.Stays.{lists_have}
-use Rattle.sat_trail.proofs.Waiting.{watched_both, both_puts, watched_by}
+use Rattle.sat_trail.proofs.Stays.{lists_can}
+use Rattle.sat_trail.proofs.Waiting.{rewatches_both, both_puts, watched_by}
 use Rattle.sat_trail.proofs.PairSlots.{pair_apart}
 use Rattle.sat_trail.proofs.watches.Watches.watch_both.Goals as goal
 
 pub attach-requires-clause-first : goal.attach-requires-clause-first
-attach-requires-clause-first c =
-    let l = c.requires.literals in
-    lists_have c.args.stack.now c.args.self.now c.requires.sound c.requires.watched c.args.number l.clause c.args.first l.named l.member
+attach-requires-clause-first c = (lists_can c.requires.sound c.requires.watched c.requires.literals).0
 
 pub attach-requires-clause-second : goal.attach-requires-clause-second
-attach-requires-clause-second c =
-    let l = c.requires.literals in
-    lists_have c.args.stack.now c.args.self.now c.requires.sound c.requires.watched c.args.number l.clause c.args.second l.named l.other
+attach-requires-clause-second c = (lists_can c.requires.sound c.requires.watched c.requires.literals).1
 
 pub of-requires : goal.of-requires
 of-requires c = pair_apart c.new.ensures c.requires.literals.apart
 
-pub returns-clause-watched : goal.returns-clause-watched
-returns-clause-watched c =
+pub returns-clause-rest : goal.returns-clause-rest
+returns-clause-rest c =
     let b = c.attach.new.self in
     let v = record b { pairs = with_item b.pairs c.args.number c.of.result } in
-    watched_both {b = b} v c.requires.watched c.requires.waits c.new.ensures c.attach.ensures.rest (ap (set b.pairs.items c.args.number) c.of.ensures) c.requires.sound c.requires.literals
-    c.in_ok-attach.ensures.lists (ap (λ (x : Watches). record x { pairs = v.pairs }) c.attach.ensures.rest)
+    rewatches_both {b = b} v c.requires.watched c.requires.waits c.new.ensures c.attach.ensures.rest
+    (ap (set b.pairs.items c.args.number) c.of.ensures) c.requires.sound c.requires.literals c.in_ok-attach.ensures.lists
+    (ap (λ (x : Watches). record x { pairs = v.pairs }) c.attach.ensures.rest)
 
 pub returns-clause-pair : goal.returns-clause-pair
 returns-clause-pair c =

@@ -11,7 +11,7 @@ clause-requires-clause-given c = slice_get_within c.args.stack.now.clauses c.arg
 
 pub last_other-requires-clause-over : goal.last_other-requires-clause-over
 last_other-requires-clause-over c = subst (IsOver c.args.stack.now.variables) (sym c.literals.ensures.value)
-    (over_named c.args.stack.now c.requires.sound c.args.number c.clause.result.now c.clause.ensures)
+    (over_named c.args.stack.now c.requires.ready.sound c.args.number c.clause.result.now c.clause.ensures)
 
 pub watch_both-requires-clause-literals : goal.watch_both-requires-clause-literals
 watch_both-requires-clause-literals c =
