@@ -65,6 +65,7 @@ impl Builder {
     }
 
     /// Adds the clause of these literals, none of which is the negation of another. Nothing is added at an `Err`.
+    #[inline(always)]
     pub(crate) fn add_without_pair(
         &mut self,
         alloc: Global,
@@ -80,6 +81,7 @@ impl Builder {
     }
 
     /// Adds a clause. Nothing is added at an `Err`.
+    #[inline(always)]
     fn push(&mut self, clause: Clause) -> Result<(), EncodeError>
         ensures added { OnOk result (self.new ≡ record { clauses = self.old.clauses ++ clause ∷ []; most = self.old.most }) }
         ensures refused { IfErr result (λ e. e ≡ Clauses → self.old.most ≤ length self.old.clauses) }

@@ -48,6 +48,7 @@ impl Clause {
 }
 
 /// Whether the numbers of literals rise strictly after a first one.
+#[inline(always)]
 fn rise_after(first: Literal, literals: &[Literal]) -> bool
     ensures { result ≡ true → IsIncreasing (first ∷ literals.now) }
 {
@@ -63,6 +64,7 @@ fn rise_after(first: Literal, literals: &[Literal]) -> bool
 }
 
 /// Whether the numbers of literals rise strictly.
+#[inline(always)]
 fn are_rising(literals: &[Literal]) -> bool
     ensures { result ≡ true → IsIncreasing literals.now }
 {
@@ -73,6 +75,7 @@ fn are_rising(literals: &[Literal]) -> bool
 }
 
 /// The clause of literals that rise strictly. An `Err` says that memory ran out.
+#[inline(always)]
 #[tactic(auto, using(crate::proofs::Sets::in_order_already))]
 fn rising_clause(alloc: Global, literals: &[Literal]) -> Result<Clause, NoMemory>
     requires { IsIncreasing literals.now }
@@ -83,6 +86,7 @@ fn rising_clause(alloc: Global, literals: &[Literal]) -> Result<Clause, NoMemory
 }
 
 /// The clause of literals in any order. An `Err` says that memory ran out.
+#[inline(never)]
 fn sorted_clause(alloc: Global, literals: &[Literal]) -> Result<Clause, NoMemory>
     ensures { IfOk result (λ clause. clause ≡ in_order literals.now) }
 {
@@ -93,6 +97,7 @@ fn sorted_clause(alloc: Global, literals: &[Literal]) -> Result<Clause, NoMemory
 }
 
 /// The clause of these literals: by rising numbers, each once. An `Err` says that memory ran out.
+#[inline(always)]
 pub fn clause_of(alloc: Global, literals: &[Literal]) -> Result<Clause, NoMemory>
     ensures { IfOk result (λ clause. clause ≡ in_order literals.now) }
 {
