@@ -1,27 +1,28 @@
 -- Clauses of one literal, in a search that may leave clauses out of its trail.
-use Rattle.std.proofs.Common.{◌≡◌, ℕ, ◌+◌, ◌-◌, ◌<◌, ◌≤◌, ◌^◌, Bool, true, false, ◌||◌, List, [], ◌∷◌, ◌++◌}
+use Rattle.std.proofs.Common.{◌≡◌, ℕ, ◌+◌, ◌-◌, ◌*◌, ◌<◌, ◌≤◌, Bool, true, false, ◌||◌, List, [], ◌∷◌, ◌++◌}
 use Rattle.std.proofs.Common.{length, sym, ap, ◌∙◌, subst, refl, arith, inl, inr}
+use Rattle.std.specs.Prelude.{IsSome}
 use Rattle.std.proofs.lemmas.Bool.{true≢false, cases_Bool, false_from_ne_true}
-use Rattle.std.proofs.lemmas.List.{append_assoc, length_push}
+use Rattle.std.proofs.lemmas.List.{append_assoc, append-nil, length_push, length-append}
 use Rattle.std.proofs.lemmas.List.Elements.{All-push, All-nil}
 use Rattle.clause_core.specs.Literals.{Lit, negation, has}
 use Rattle.clause_core.specs.Clauses.{has_pair}
 use Rattle.clause_core.proofs.Sets.{negation_differs}
 use Rattle.sat_trail.specs.declared.entries.Entry.{Entry}
-use Rattle.sat_trail.specs.States.{TrailState, IsSound, with_clause}
+use Rattle.sat_trail.specs.States.{TrailState, IsSound, Propagates, with_clause}
+use Rattle.sat_trail.proofs.Soundness.{length_entries}
 use Rattle.sat_trail.proofs.TrailSteps.{has_one}
 use Rattle.refutation_check.specs.declared.steps.Step.{Step}
 use Rattle.clause_learning.specs.declared.proof_log.ProofLog.{ProofLog}
 use Rattle.clause_learning.specs.declared.units.Units.{Units}
-use Rattle.clause_learning.specs.declared.choices.Decisions.{Decisions}
-use Rattle.clause_learning.specs.declared.seen.Seen.{Seen}
 use Rattle.clause_learning.specs.Decisions.{AreDecisions}
 use Rattle.clause_learning.specs.ConflictAnalysis.{AreNoneSeen}
 use Rattle.clause_learning.specs.ClauseDatabases.{numbers_of, log_hints}
 use Rattle.clause_learning.specs.LearntClauses.{learnt_step}
 use Rattle.clause_learning.specs.Units.{AreUnits, HasNoted, HaveNoted, HasPropagated}
 use Rattle.clause_learning.specs.Units.HaveNoted.{none, more}
-use Rattle.sat_core.specs.internal.Searches.{IsSearch, IsLogged, IsSearching}
+use Rattle.sat_core.specs.declared.search.Search.{Search}
+use Rattle.sat_core.specs.internal.Searches.{IsSearch, IsLogged, Task, steps_left, IsSearching, HasSpent}
 use Rattle.sat_core.proofs.Searching.{HasGrown, search_propagated, search_more}
 use Rattle.clause_learning.proofs.Deciding.{decisions_grown}
 
@@ -136,32 +137,87 @@ module _ (count : ℕ) (t u : TrailState) (proof_log after : ProofLog) (has_prop
 
 -- ---- the search between its steps
 
--- it holds behind a propagation, the entries have grown, and as many steps are left
-pub searching_propagated : {reduces : Bool} → {variables : ℕ} → {clauses : List (List Lit)} → {budget : ℕ} → {t u : TrailState} →
-    {proof_log after : ProofLog} → {units later : Units} → {decisions : Decisions} → {seen : Seen} →
-    IsSearching reduces variables clauses budget t proof_log units decisions seen →
-    ((count : ℕ) × HasPropagated count t proof_log u after × (later.added ≡ units.added + count)) → AreUnits u later →
-    later.added ≤ later.most → later.most ≡ units.most → IsSound u →
-    IsSearching reduces variables clauses budget u after later decisions seen × HasGrown t u
-    × (budget + later.added - length after.steps.items ≡ budget + units.added - length proof_log.steps.items)
-searching_propagated {reduces = reduces} {variables = variables} {clauses = clauses} {budget = budget} {t = t} {u = u}
-    {proof_log = proof_log} {after = after} {units = units} {later = later} {decisions = decisions} {seen = seen} i p table few same sound =
-    let grown : HasGrown t u = propagated_grown p.0 t u proof_log after p.1 in
-    let r = search_propagates p.0 t u proof_log after p.1 reduces variables clauses
-    (λ keeps. omega (arith, i.only keeps, few, same, p.2)) sound i.logged in (
-      record {
-        logged = r.0;
-        order = subst (λ (n : ℕ). AreDecisions n u.entries decisions) (sym grown.same_variables)
-            (subst (λ (es : List Entry). AreDecisions t.variables es decisions) (sym grown.entries_are)
-            (decisions_grown t.variables t.entries grown.added decisions i.order));
-        none_seen = subst (λ (n : ℕ). AreNoneSeen n seen) (sym grown.same_variables) i.none_seen;
-        table = table;
-        within = omega (arith, i.within, r.1, p.2);
-        counted = omega (arith, i.counted, r.1, p.2);
-        few = few;
-        room = omega (arith, i.room, same);
-        only = λ keeps. omega (arith, i.only keeps, same);
-      },
-      grown,
-      omega (arith, r.1, p.2),
-    )
+module _ {s : Search} {u : TrailState} where
+  -- it holds behind a propagation, no fewer clauses may be learnt, and the entries have grown
+  pub searching_propagated : {start noted : TrailState} → {after : ProofLog} → {later : Units} → IsSearching s → Propagates s.trail start →
+      IsSound start → ((count : ℕ) × HaveNoted count start s.proof_log noted after × (later.added ≡ s.units.added + count)) →
+      IsSound noted → AreUnits noted later → later.added ≤ later.most → later.most ≡ s.units.most → Propagates noted u → IsSound u →
+      IsSearching (record s { trail = u; proof_log = after; units = later })
+      × HasSpent 0 s (record s { trail = u; proof_log = after; units = later }) × (length s.trail.entries ≤ length u.entries)
+  searching_propagated {start = start} {noted = noted} {after = after} {later = later} i first first_sound all noted_sound table few same last sound =
+      let p : HasPropagated all.0 s.trail s.proof_log u after = record {
+        found = start;
+        noted = noted;
+        first = first;
+        first_sound = first_sound;
+        clauses = all.1;
+        noted_sound = noted_sound;
+        last = last;
+      } in
+      let grown : HasGrown s.trail u = propagated_grown all.0 s.trail u s.proof_log after p in
+      let r = search_propagates all.0 s.trail u s.proof_log after p s.reduces s.cnf.now.variables s.cnf.now.clauses
+      (λ keeps. omega (arith, i.only keeps, few, same, all.2)) sound i.logged in (
+        record {
+          no_tautology = i.no_tautology;
+          logged = r.0;
+          order = subst (λ (n : ℕ). AreDecisions n u.entries s.decisions) (sym grown.same_variables)
+              (subst (λ (es : List Entry). AreDecisions s.trail.variables es s.decisions) (sym grown.entries_are)
+              (decisions_grown s.trail.variables s.trail.entries grown.added s.decisions i.order));
+          none_seen = subst (λ (n : ℕ). AreNoneSeen n s.analysis.seen) (sym grown.same_variables) i.none_seen;
+          table = subst (λ (t : TrailState). AreUnits t later) (sym last.rest_stays)
+              (record { one_each = table.one_each; within = table.within });
+          within = omega (arith, i.within, r.1, all.2);
+          counted = omega (arith, i.counted, r.1, all.2);
+          few = few;
+          room = omega (arith, i.room, same);
+          only = λ keeps. omega (arith, i.only keeps, same);
+          wanted = i.wanted;
+        },
+        record {
+          same_task = refl;
+          fewer = omega (arith, r.1, all.2);
+        },
+        omega (arith, ap (λ (es : List Entry). length es) grown.entries_are, length-append s.trail.entries grown.added),
+      )
+
+  -- and where no clause is added
+  pub searching_found : IsSearching s → Propagates s.trail u → IsSound u → IsSearching (record s { trail = u })
+  searching_found i grows sound =
+      let t = s.trail in
+      (searching_propagated {start = t} {noted = t} {after = s.proof_log} {later = s.units} i (record {
+        added = [];
+        rest_stays = ap (λ (es : List Entry). record t { entries = es }) (sym (append-nil t.entries));
+        forced = All-nil (λ (e : Entry). (e.level ≡ t.level) × IsSome e.reason);
+      }) i.logged.search.sound (0, none, omega arith) i.logged.search.sound i.table i.few refl grows sound).0
+
+-- ---- the measure
+
+-- with each decision there are more entries, and with each clause that is learnt fewer may be learnt
+abbrev pub measure : Search → ℕ
+measure s = steps_left s * (s.cnf.now.variables + 1) + (s.cnf.now.variables - length s.trail.entries)
+
+less_unset : (a b v len longer : ℕ) → a ≡ b → len < longer → longer ≤ v → a + (v - longer) < b + (v - len)
+less_unset a b v len longer same h k = omega arith
+
+less_budget : (m n v x y : ℕ) → m + 1 ≡ n → x ≤ v → m * (v + 1) + x < n * (v + 1) + y
+less_budget m n v x y is h = omega (arith, ap (λ k. k * (v + 1)) is)
+
+pub decided_smaller : {s t u : Search} → IsSearching u → HasSpent 0 s t → length s.trail.entries ≤ length t.trail.entries → HasSpent 0 t u →
+    length t.trail.entries < length u.trail.entries → measure u < measure s
+decided_smaller {s = s} {t = t} {u = u} i a grown b longer =
+    let v = u.cnf.now.variables in
+    let search = i.logged.search in
+    let left : steps_left u ≡ steps_left s = omega (arith, a.fewer, b.fewer) in
+    let short : length u.trail.entries ≤ v =
+    omega (arith, length_entries u.trail.variables u.trail.clauses u.trail.entries search.sound.stand, search.same_variables) in
+    subst (λ (n : ℕ). measure u < steps_left s * (n + 1) + (n - length s.trail.entries))
+    (ap (λ (task : Task). task.formula.variables) (b.same_task ∙ a.same_task))
+    (less_unset _ _ v (length s.trail.entries) (length u.trail.entries) (ap (λ (n : ℕ). n * (v + 1)) left) (omega (arith, grown, longer)) short)
+
+pub learnt_smaller : {s t u w : Search} → HasSpent 0 s t → HasSpent 1 t u → HasSpent 0 u w → measure w < measure s
+learnt_smaller {s = s} {t = t} {u = u} {w = w} a b c =
+    let v = w.cnf.now.variables in
+    let left : steps_left w + 1 ≡ steps_left s = omega (arith, a.fewer, b.fewer, c.fewer) in
+    subst (λ (n : ℕ). measure w < steps_left s * (n + 1) + (n - length s.trail.entries))
+    (ap (λ (task : Task). task.formula.variables) (c.same_task ∙ (b.same_task ∙ a.same_task)))
+    (less_budget _ _ v (v - length w.trail.entries) (v - length s.trail.entries) left (omega arith))

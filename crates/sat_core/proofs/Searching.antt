@@ -1,5 +1,5 @@
 -- What holds of a search between its steps.
-use Rattle.std.proofs.Common.{◌≡◌, ℕ, zero, suc, ◌+◌, ◌-◌, ◌*◌, ◌<◌, ◌≤◌, ◌^◌, Bool, true, false, not, cond, ◌||◌, List, [], ◌∷◌, ◌++◌}
+use Rattle.std.proofs.Common.{◌≡◌, ℕ, zero, suc, ◌+◌, ◌<◌, ◌≤◌, ◌^◌, Bool, true, false, not, cond, ◌||◌, List, [], ◌∷◌, ◌++◌}
 use Rattle.std.proofs.Common.{length, map, filter, Option, Some, None, slice_get, sym, ap, ◌∙◌, subst, refl, arith, eqb, leb}
 use Rattle.std.proofs.Common.{inl, inr, Contains, All}
 use Rattle.std.specs.Prelude.{option_map, IsSome, slice_index_or, min}
@@ -12,9 +12,8 @@ use Rattle.std.proofs.lemmas.List.Elements.{All-push, All-nil, recursion_from_Al
 use Rattle.std.proofs.lemmas.List.Elements.{Contains-append_left}
 use Rattle.clause_learning.specs.declared.proof_log.ProofLog.{ProofLog}
 use Rattle.clause_learning.specs.declared.clause_database.ClauseDatabase.{ClauseDatabase}
-use Rattle.clause_learning.specs.ClauseDatabases.{numbers_of, log_number, log_hints, AreLogNumbers, AreFirst, BeginsAnew, IsReduced}
+use Rattle.clause_learning.specs.ClauseDatabases.{numbers_of, log_number, log_hints, AreLogNumbers, AreFirst, BeginsAnew}
 use Rattle.clause_learning.proofs.LogHints.{first_named, named_next, shown_in_log, hints_in_log}
-use Rattle.sat_core.specs.internal.Ends.{IsEnd, IsSearchAnswer}
 use Rattle.sat_core.specs.internal.Searches.{known, IsCalm, AreCalmBelow, IsSearch}
 use Rattle.clause_learning.specs.Hints.{AreHints}
 use Rattle.clause_core.specs.Literals.{Lit, negation, same, has}
@@ -33,15 +32,13 @@ use Rattle.sat_trail.proofs.TrailSteps.{up_to_all, up_to-push, unset_from, has_n
 use Rattle.refutation_check.specs.declared.steps.Step.{Step}
 use Rattle.refutation_check.specs.declared.steps.Log.{Log}
 use Rattle.refutation_check.specs.Checking.{Numbered, numbered_from, clause_named, effect_of_open, effect_of_named, led_to, refused_hint}
-use Rattle.refutation_check.specs.Checking.{Refusal, step_refusal, first_of, steps_refusal, is_empty_clause, end_refusal, HaveFewHints}
+use Rattle.refutation_check.specs.Checking.{Refusal, step_refusal, first_of, steps_refusal, is_empty_clause, end_refusal}
 use Rattle.refutation_check.specs.Checking.HintEffect.{makes, shows_nothing}
 use Rattle.refutation_check.specs.Checking.Refusal.{at_line, at_hint, unfinished}
 use Rattle.clause_learning.specs.Levels.{IsSetAt, AreQuietBelow}
 use Rattle.sat_core.specs.LogNumbers.{AreNumbered}
 use Rattle.clause_learning.specs.LearntClauses.{IsAsserting, IsLearntClause, learnt_step, clauses_of, HasLearnt, level_after, IsRefutingLog}
 use Rattle.clause_learning.specs.Decisions.{AreSet, AreVariableTruths}
-use Rattle.sat_core.specs.declared.answers.Answer.{Answer}
-use Rattle.sat_core.specs.declared.answers.Answer.TheVariants.{Sat, Unsat, Spent}
 use Rattle.sat_core.specs.Answers.{AreSatisfying, AreRefuting, IsWholeTrace}
 use Rattle.clause_learning.proofs.Hints.{has-map-negation}
 use Rattle.clause_learning.proofs.LearntClauseLemmas.{learnt_clause_over, learnt_clause_no_pair}
@@ -522,19 +519,6 @@ search_reduced variables clauses reduces t u steps numbers database search is be
       calm = λ level below. absurd (omega arith);
     })
 
--- the steps and the trail after a call that may reduce it
-pub search_stays : (reduces wanted : Bool) (variables : ℕ) (clauses : List (List Lit)) (t u : TrailState) (proof_log after : ProofLog) →
-    IsSearch reduces variables clauses t proof_log.steps.items (numbers_of proof_log.database) → wanted ≡ reduces → IsSound u →
-    after ≡ record proof_log { database = after.database } → IsReduced wanted variables clauses t proof_log u after →
-    IsSearch reduces variables clauses u after.steps.items (numbers_of after.database)
-search_stays reduces wanted variables clauses t u proof_log after search same sound rest (inl (here, all)) =
-    subst (λ (s : TrailState). IsSearch reduces variables clauses s after.steps.items (numbers_of after.database)) (sym here)
-    (subst (λ (j : ProofLog). IsSearch reduces variables clauses t j.steps.items (numbers_of j.database)) (sym all) search)
-search_stays reduces wanted variables clauses t u proof_log after search same sound rest (inr (is, begins)) =
-    subst (λ (ss : List Step). IsSearch reduces variables clauses u ss (numbers_of after.database))
-    (sym (ap (λ (j : ProofLog). j.steps.items) rest)) (search_reduced variables clauses reduces t u proof_log.steps.items
-    (numbers_of proof_log.database) after.database search (sym same ∙ is) begins sound)
-
 -- ---- the answers
 
 pub search_refuted : (reduces : Bool) (variables : ℕ) (clauses : List (List Lit)) (t : TrailState) (proof_log : ProofLog) (log : Log) →
@@ -663,32 +647,3 @@ search_satisfied reduces variables clauses t found of_trail truths search over q
       (recursion_from_All (IsOver variables) clauses over) (λ c in' f. quiet.none_false
       (c, subst (λ (cs : List (List Lit)). Contains cs c) (sym search.stands) (Contains-append_left clauses search.others c in'), f));
 }
-
-pub search_ended : (reduces : Bool) (variables : ℕ) (clauses : List (List Lit)) (t : TrailState) (proof_log : ProofLog) (budget : ℕ) →
-    IsSearch reduces variables clauses t proof_log.steps.items (numbers_of proof_log.database) →
-    proof_log.next ≡ length clauses + length proof_log.steps.items + 1 → (reduces ≡ false → length proof_log.steps.items ≡ budget) →
-    (answer : Answer) → IsEnd t.clauses proof_log answer → IsSearchAnswer reduces variables clauses budget answer
-search_ended reduces variables clauses t proof_log budget search next_is spent (Sat assignment) end' = absurd end'
-search_ended reduces variables clauses t proof_log budget search next_is spent (Unsat log) end' =
-    search_refuted reduces variables clauses t proof_log log search next_is end'
-search_ended reduces variables clauses t proof_log budget search next_is spent (Spent trace) end' = λ keeps.
-    search_spent reduces variables clauses t proof_log.steps.items (numbers_of proof_log.database) budget trace search (spent keeps) end'.0
-    end'.1 keeps
-
--- ---- the measure
-
-pub decided_longer : (t u w : TrailState) (l : Lit) → HasGrown t u → w ≡ decided u l → length t.entries < length w.entries
-decided_longer t u w l grows is =
-    omega (
-      arith,
-      ap (λ (s : TrailState). length s.entries) is,
-      length_push u.entries (entry_with l (u.level + 1) None),
-      ap (λ (es : List Entry). length es) grows.entries_are,
-      length-append t.entries grows.added,
-    )
-
-pub less_unset : (a b v len more : ℕ) → a ≡ b → len < more → more ≤ v → a + (v - more) < b + (v - len)
-less_unset a b v len more same h k = omega arith
-
-pub less_budget : (m n v x y : ℕ) → m + 1 ≡ n → x ≤ v → m * (v + 1) + x < n * (v + 1) + y
-less_budget m n v x y is h = omega (arith, ap (λ k. k * (v + 1)) is)

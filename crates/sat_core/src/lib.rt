@@ -25,6 +25,7 @@
 #![tactic(auto)]
 
 mod answers;
+mod search;
 mod solver;
 
 pub use answers::Answer;

@@ -1,22 +1,21 @@
 -- Internal: only private functions of this crate use these words. What holds of a search between its steps.
-use Rattle.std.specs.Prelude.{◌≡◌, ℕ, ◌+◌, ◌-◌, ◌<◌, ◌≤◌, ◌^◌, Bool, false, List, ◌++◌, length, None}
+use Rattle.std.specs.Prelude.{◌≡◌, ℕ, ◌+◌, ◌-◌, ◌<◌, ◌≤◌, ◌^◌, Bool, false, List, ◌++◌, length, None, All}
 use Rattle.std.specs.List.{AllByRecursion}
 use Rattle.clause_core.specs.Literals.{Lit}
-use Rattle.clause_core.specs.Clauses.{IsIncreasing}
+use Rattle.clause_core.specs.declared.formulas.Cnf.{Cnf}
+use Rattle.clause_core.specs.Clauses.{IsIncreasing, has_pair}
 use Rattle.clause_core.specs.Propagation.{SomeFalse, IsQuiet, IsTrace}
 use Rattle.sat_trail.specs.Entries.{literals_of}
 use Rattle.sat_trail.specs.States.{TrailState, IsSound, up_to}
 use Rattle.refutation_check.specs.declared.steps.Step.{Step}
 use Rattle.refutation_check.specs.Checking.{numbered_from, steps_refusal, HaveFewHints}
 use Rattle.clause_learning.specs.declared.proof_log.ProofLog.{ProofLog}
-use Rattle.clause_learning.specs.declared.units.Units.{Units}
-use Rattle.clause_learning.specs.declared.choices.Decisions.{Decisions}
-use Rattle.clause_learning.specs.declared.seen.Seen.{Seen}
 use Rattle.clause_learning.specs.ClauseDatabases.{numbers_of, AreLogNumbers}
 use Rattle.clause_learning.specs.ConflictAnalysis.{AreNoneSeen}
 use Rattle.clause_learning.specs.Decisions.{AreDecisions}
 use Rattle.clause_learning.specs.LearntClauses.{clauses_of}
 use Rattle.clause_learning.specs.Units.{AreUnits}
+use Rattle.sat_core.specs.declared.search.Search.{Search}
 use Rattle.sat_core.specs.LogNumbers.{AreNumbered}
 
 -- the clauses of a formula and of the steps behind them
@@ -56,16 +55,35 @@ pub record IsLogged (reduces : Bool) (variables : ℕ) (clauses : List (List Lit
   pub search : IsSearch reduces variables clauses t proof_log.steps.items (numbers_of proof_log.database)
   pub next : proof_log.next ≡ length clauses + length proof_log.steps.items + 1
 
--- What holds between the decisions of a search that may learn so many clauses. Its steps are those of learnt clauses and
--- of clauses of one literal, and these are added only where the trail may be reduced.
-pub record IsSearching (reduces : Bool) (variables : ℕ) (clauses : List (List Lit)) (budget : ℕ) (t : TrailState) (proof_log : ProofLog)
-    (units : Units) (decisions : Decisions) (seen : Seen) : Type 0 where
-  pub logged : IsLogged reduces variables clauses t proof_log
-  pub order : AreDecisions t.variables t.entries decisions
-  pub none_seen : AreNoneSeen t.variables seen
-  pub table : AreUnits t units
-  pub within : length proof_log.steps.items ≤ budget + units.added
-  pub counted : units.added ≤ length proof_log.steps.items
-  pub few : units.added ≤ units.most
-  pub room : length clauses + budget + units.most < 2 ^ 32 - 1
-  pub only : reduces ≡ false → units.most ≡ 0
+-- what a search is to do: over which formula, how many clauses it may learn, and whether its trail may be reduced
+pub record Task : Type 0 where
+  pub formula : Cnf
+  pub budget : ℕ
+  pub reduces : Bool
+
+abbrev pub task_of : Search → Task
+task_of search = record { formula = search.cnf.now; budget = search.budget; reduces = search.reduces }
+
+-- What holds of a search between its steps. Those are the steps of learnt clauses and of clauses of one literal, and these are
+-- added only where the trail may be reduced.
+pub record IsSearching (search : Search) : Type 0 where
+  pub no_tautology : All (λ clause. has_pair clause ≡ false) search.cnf.now.clauses
+  pub logged : IsLogged search.reduces search.cnf.now.variables search.cnf.now.clauses search.trail search.proof_log
+  pub order : AreDecisions search.trail.variables search.trail.entries search.decisions
+  pub none_seen : AreNoneSeen search.trail.variables search.analysis.seen
+  pub table : AreUnits search.trail search.units
+  pub within : length search.proof_log.steps.items ≤ search.budget + search.units.added
+  pub counted : search.units.added ≤ length search.proof_log.steps.items
+  pub few : search.units.added ≤ search.units.most
+  pub room : length search.cnf.now.clauses + search.budget + search.units.most < 2 ^ 32 - 1
+  pub only : search.reduces ≡ false → search.units.most ≡ 0
+  pub wanted : search.reductions.wanted ≡ search.reduces
+
+-- how many more clauses may be learnt
+abbrev pub steps_left : Search → ℕ
+steps_left search = search.budget + search.units.added - length search.proof_log.steps.items
+
+-- a search goes on with its task, and so many fewer clauses may be learnt
+pub record HasSpent (count : ℕ) (old new : Search) : Type 0 where
+  pub same_task : task_of new ≡ task_of old
+  pub fewer : steps_left new + count ≡ steps_left old
