@@ -144,7 +144,8 @@ module _ {s : Search} {u : TrailState} where
       IsSound noted → AreUnits noted later → later.added ≤ later.most → later.most ≡ s.units.most → Propagates noted u → IsSound u →
       IsSearching (record s { trail = u; proof_log = after; units = later })
       × HasSpent 0 s (record s { trail = u; proof_log = after; units = later }) × (length s.trail.entries ≤ length u.entries)
-  searching_propagated {start = start} {noted = noted} {after = after} {later = later} i first first_sound all noted_sound table few same last sound =
+  searching_propagated {start = start} {noted = noted} {after = after} {later = later} i first first_sound all noted_sound table few same
+      last sound =
       let p : HasPropagated all.0 s.trail s.proof_log u after = record {
         found = start;
         noted = noted;
@@ -212,7 +213,8 @@ decided_smaller {s = s} {t = t} {u = u} i a grown b longer =
     omega (arith, length_entries u.trail.variables u.trail.clauses u.trail.entries search.sound.stand, search.same_variables) in
     subst (λ (n : ℕ). measure u < steps_left s * (n + 1) + (n - length s.trail.entries))
     (ap (λ (task : Task). task.formula.variables) (b.same_task ∙ a.same_task))
-    (less_unset _ _ v (length s.trail.entries) (length u.trail.entries) (ap (λ (n : ℕ). n * (v + 1)) left) (omega (arith, grown, longer)) short)
+    (less_unset _ _ v (length s.trail.entries) (length u.trail.entries) (ap (λ (n : ℕ). n * (v + 1)) left)
+    (omega (arith, grown, longer)) short)
 
 pub learnt_smaller : {s t u w : Search} → HasSpent 0 s t → HasSpent 1 t u → HasSpent 0 u w → measure w < measure s
 learnt_smaller {s = s} {t = t} {u = u} {w = w} a b c =

@@ -5,7 +5,8 @@ pub loop-self-smaller-in_default : goal.loop-self-smaller-in_default
 loop-self-smaller-in_default c =
     let p = c.in_ok-conflict.ensures in
     let d = c.in_ok-assignment.ensures in
-    decided_smaller (rw c.in_default-2.is at d.searching) p.spent p.grown (rw c.in_default-2.is at d.spent) (rw c.in_default-2.is at d.grown)
+    let none = c.in_default-2.is in
+    decided_smaller (rw none at d.searching) p.spent p.grown (rw none at d.spent) (rw none at d.grown)
 
 pub loop-self-smaller : goal.loop-self-smaller
 loop-self-smaller c = learnt_smaller c.in_ok-conflict.ensures.spent c.in_ok-learn.ensures.spent c.in_ok-reduce.ensures.spent
