@@ -8,3 +8,4 @@ pub mod ClauseDatabases
 pub mod LearntClauses
 pub mod Units
 pub mod ConflictAnalysis
+pub mod Learning

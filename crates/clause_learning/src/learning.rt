@@ -4,9 +4,9 @@ ghost use Rattle.std.specs.Prelude.{◌≡◌, ◌+◌, ◌<◌, ◌^◌, false,
 ghost use Rattle.sat_trail.specs.States.{IsSound, IsFalseAt};
 ghost use Rattle.clause_learning.specs.Levels.{AreNoneFalseBelow};
 ghost use Rattle.clause_learning.specs.LearntClauses.{IsLearntClause, HasLearnt, IsRefutingLog, level_after};
-ghost use Rattle.clause_learning.specs.ClauseDatabases.{numbers_of};
 ghost use Rattle.clause_learning.specs.ConflictAnalysis.{AreNoneSeen};
 ghost use Rattle.clause_learning.specs.Decisions.{AreDecisions};
+ghost use Rattle.clause_learning.specs.Learning.{CanLearn, IsConflict, AreTables};
 ghost use Rattle.clause_learning.specs.Units.{AreUnits};
 
 use crate::analysis::Analysis;
@@ -44,22 +44,12 @@ pub fn learn(
     anew: bool,
     steps: bool,
 ) -> Result<(), NoMemory>
-    requires usable { trail.old.broken ≡ false }
-    requires sound { IsSound trail.old }
-    requires conflict { IsFalseAt trail.old conflict }
-    requires met { AreNoneFalseBelow trail.old trail.old.level }
-    requires above { 0 < trail.old.level }
-    requires few { length trail.old.clauses + 1 < 2 ^ 32 }
-    requires seen { AreNoneSeen trail.old.variables analysis.old.seen }
-    requires units { AreUnits trail.old units.now }
+    requires ready { CanLearn trail.old proof_log.old units.now analysis.old.seen }
     requires decisions { AreDecisions trail.old.variables trail.old.entries decisions.old }
-    requires next { proof_log.old.next + 1 < 2 ^ 64 }
-    requires numbers { length (numbers_of proof_log.old.database) ≡ length trail.old.clauses }
+    requires few { length trail.old.clauses + 1 < 2 ^ 32 }
+    requires conflict { IsConflict trail.old conflict }
     ensures learnt { OnOk result (HasLearnt anew steps trail.old proof_log.old trail.new proof_log.new) }
-    ensures sound { OnOk result (IsSound trail.new) }
-    ensures seen { OnOk result (AreNoneSeen trail.new.variables analysis.new.seen) }
-    ensures units { OnOk result (AreUnits trail.new units.now) }
-    ensures decisions { OnOk result (AreDecisions trail.new.variables trail.new.entries decisions.new) }
+    ensures tables { OnOk result (AreTables trail.new units.now analysis.new.seen decisions.new) }
 {
     let learnt_clause = learnt_clause_of(alloc, trail, units, analysis, conflict)?;
     let level = level_after(anew, steps, learnt_clause.back, trail.level());
@@ -97,14 +87,9 @@ pub fn refute(
     analysis: &mut Analysis,
     conflict: u32,
 ) -> Result<Log, NoMemory>
-    requires usable { trail.now.broken ≡ false }
-    requires sound { IsSound trail.now }
+    requires ready { CanLearn trail.now proof_log units.now analysis.old.seen }
     requires conflict { IsFalseAt trail.now conflict }
     requires start { trail.now.level ≡ 0 }
-    requires seen { AreNoneSeen trail.now.variables analysis.old.seen }
-    requires units { AreUnits trail.now units.now }
-    requires next { proof_log.next + 1 < 2 ^ 64 }
-    requires numbers { length (numbers_of proof_log.database) ≡ length trail.now.clauses }
     ensures { IfOk result (IsRefutingLog trail.now.clauses proof_log) }
 {
     let learnt_clause = learnt_clause_of(alloc, trail, units, analysis, conflict)?;

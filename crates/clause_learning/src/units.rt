@@ -5,6 +5,7 @@ ghost use Rattle.clause_core.specs.Literals.{Lit, has};
 ghost use Rattle.sat_trail.specs.States.{TrailState, IsSound};
 ghost use Rattle.clause_learning.specs.ClauseDatabases.{numbers_of};
 ghost use Rattle.clause_learning.specs.Units.{AreUnits, ShowAlone, AddsHint, HasNoted, HaveNoted, MayHaveNoted};
+ghost use Rattle.clause_learning.specs.Learning.{CanNote};
 
 use crate::proof_log::ProofLog;
 use clause_core::{Clause, Literal, clause_of};
@@ -107,14 +108,7 @@ impl Units {
         trail: &mut Trail<'_>,
         proof_log: &mut ProofLog,
     ) -> Result<(), NoMemory>
-        requires usable { trail.old.broken ≡ false }
-        requires sound { IsSound trail.old }
-        requires start { trail.old.level ≡ 0 }
-        requires units { AreUnits trail.old self.old }
-        requires added { self.old.added ≤ self.old.most }
-        requires few { length trail.old.clauses + (self.old.most - self.old.added) + 1 < 2 ^ 32 }
-        requires next { proof_log.old.next + self.old.most + 1 < 2 ^ 64 }
-        requires numbers { length (numbers_of proof_log.old.database) ≡ length trail.old.clauses }
+        requires { CanNote trail.old proof_log.old self.old }
         ensures noted { OnOk result ((count : ℕ) × HaveNoted count trail.old proof_log.old trail.new proof_log.new × (self.new.added ≡ self.old.added + count)) }
         ensures units { OnOk result (AreUnits trail.new self.new) }
         ensures added { self.new.added ≤ self.new.most }

@@ -19,6 +19,7 @@ use Rattle.clause_learning.specs.Decisions.{AreDecisions}
 use Rattle.clause_learning.specs.ConflictAnalysis.{AreNoneSeen}
 use Rattle.clause_learning.specs.ClauseDatabases.{numbers_of, log_hints}
 use Rattle.clause_learning.specs.LearntClauses.{learnt_step}
+use Rattle.clause_learning.specs.Learning.{CanLearn}
 use Rattle.clause_learning.specs.Units.{AreUnits, HasNoted, HaveNoted, HasPropagated}
 use Rattle.clause_learning.specs.Units.HaveNoted.{none, more}
 use Rattle.sat_core.specs.declared.search.Search.{Search}
@@ -190,6 +191,19 @@ module _ {s : Search} {u : TrailState} where
         rest_stays = ap (λ (es : List Entry). record t { entries = es }) (sym (append-nil t.entries));
         forced = All-nil (λ (e : Entry). (e.level ≡ t.level) × IsSome e.reason);
       }) i.logged.search.sound (0, none, omega arith) i.logged.search.sound i.table i.few refl grows sound).0
+
+-- ---- learning
+
+-- conflicts of a search can be analysed
+pub can_learn : {s : Search} → IsSearching s → CanLearn s.trail s.proof_log s.units s.analysis.seen
+can_learn i = record {
+  usable = i.logged.search.usable;
+  sound = i.logged.search.sound;
+  none_seen = i.none_seen;
+  table = i.table;
+  next = omega (arith, i.logged.next, i.within, i.few, i.room);
+  numbers = i.logged.search.named.one_each;
+}
 
 -- ---- the measure
 

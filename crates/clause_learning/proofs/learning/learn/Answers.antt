@@ -1,4 +1,5 @@
-use Rattle.std.proofs.Common.{◌≡◌, ◌++◌, ◌∷◌, [], ℕ, List, length, All, ◌<◌, ap, sym, subst, ◌∙◌}
+use Rattle.std.proofs.Common.{◌≡◌, ◌++◌, ◌∷◌, [], ℕ, List, length, All, ◌<◌, ap, sym, subst, ◌∙◌, arith}
+use Rattle.std.proofs.lemmas.List.{length_push}
 use Rattle.clause_core.specs.Literals.{Lit}
 use Rattle.clause_core.specs.Clauses.{IsOver, has_pair}
 use Rattle.sat_trail.specs.States.{TrailState, with_clause, undone}
@@ -18,7 +19,8 @@ learn-requires-clause-over c =
     c.in_ok-clause_of.ensures c.literals.ensures.value c.literals.ensures.increasing in
     subst (λ (ls : List Lit). IsOver c.undo_to.new.self.variables ls) (sym copy)
     (subst (λ (s : TrailState). IsOver s.variables learnt_clause.clause) (sym c.undo_to.ensures.value)
-    (learnt_clause_over t c.requires.sound learnt_clause.clause learnt_clause.hints.items learnt_clause.back c.in_ok-learnt_clause.ensures.learnt_clause))
+    (learnt_clause_over t c.requires.ready.sound learnt_clause.clause learnt_clause.hints.items learnt_clause.back
+    c.in_ok-learnt_clause.ensures.learnt_clause))
 
 pub learn-requires-clause-no_pair : goal.learn-requires-clause-no_pair
 learn-requires-clause-no_pair c =
@@ -26,7 +28,8 @@ learn-requires-clause-no_pair c =
     let learnt_clause = c.in_ok-learnt_clause.learnt_clause in
     let copy : c.in_ok-clause_of.field-0 ≡ learnt_clause.clause = copied c.in_ok-clause_of.field-0 learnt_clause.clause c.literals.result.now
     c.in_ok-clause_of.ensures c.literals.ensures.value c.literals.ensures.increasing in
-    ap has_pair copy ∙ learnt_clause_no_pair t c.requires.sound learnt_clause.clause learnt_clause.hints.items learnt_clause.back c.in_ok-learnt_clause.ensures.learnt_clause
+    ap has_pair copy ∙ learnt_clause_no_pair t c.requires.ready.sound learnt_clause.clause learnt_clause.hints.items learnt_clause.back
+    c.in_ok-learnt_clause.ensures.learnt_clause
 
 pub returns-clause-learnt : goal.returns-clause-learnt
 returns-clause-learnt c =
@@ -53,7 +56,8 @@ returns-clause-learnt c =
 
 pub add-requires-clause-named : goal.add-requires-clause-named
 add-requires-clause-named c = subst (AreHints (length (numbers_of c.args.proof_log.now.database))) (sym c.as_slice-2.ensures.value)
-    (subst (λ (n : ℕ). AreHints n c.in_ok-learnt_clause.learnt_clause.hints.items) (sym c.requires.numbers) c.in_ok-learnt_clause.ensures.learnt_clause.named)
+    (subst (λ (n : ℕ). AreHints n c.in_ok-learnt_clause.learnt_clause.hints.items) (sym c.requires.ready.numbers)
+    c.in_ok-learnt_clause.ensures.learnt_clause.named)
 
 pub bump-requires-clause-queue : goal.bump-requires-clause-queue
 bump-requires-clause-queue c = c.requires.decisions.queue
@@ -67,12 +71,26 @@ pub take_back-requires-clause-decisions : goal.take_back-requires-clause-decisio
 take_back-requires-clause-decisions c =
     c.bump.ensures c.args.trail.now.variables c.args.trail.now.entries c.requires.decisions
 
-pub returns-clause-seen : goal.returns-clause-seen
-returns-clause-seen c = subst (λ (n : ℕ). AreNoneSeen n c.learnt_clause_of.new.analysis.seen)
-    (sym (ap (λ (s : TrailState). s.variables) c.in_ok-learn.ensures.ok
-    ∙ ap (λ (s : TrailState). s.variables) c.undo_to.ensures.value)) c.in_ok-learnt_clause.ensures.seen
-
-pub returns-clause-decisions : goal.returns-clause-decisions
-returns-clause-decisions c = subst (λ (s : TrailState). AreDecisions s.variables s.entries c.take_back.new.self)
-    (sym (c.in_ok-learn.ensures.ok ∙ ap (λ (s : TrailState). with_clause s c.in_ok-clause_of.field-0) c.undo_to.ensures.value))
-    c.take_back.ensures
+pub returns-clause-tables : goal.returns-clause-tables
+returns-clause-tables c =
+    let undone' = c.undo_to.ensures.value in
+    let learnt = c.in_ok-learn.ensures.ok in
+    let table = c.requires.ready.table in
+    record {
+      sound = c.in_ok-learn.ensures.sound;
+      none_seen = subst (λ (n : ℕ). AreNoneSeen n c.learnt_clause_of.new.analysis.seen) (sym (ap (λ (s : TrailState). s.variables) learnt
+          ∙ ap (λ (s : TrailState). s.variables) undone')) c.in_ok-learnt_clause.ensures.seen;
+      table = record {
+        one_each = table.one_each
+            ∙ sym (ap (λ (s : TrailState). s.variables) learnt ∙ ap (λ (s : TrailState). s.variables) undone');
+        within = omega (
+          arith,
+          table.within,
+          ap (λ (s : TrailState). length s.clauses) learnt,
+          ap (λ (s : TrailState). length s.clauses) undone',
+          length_push c.undo_to.new.self.clauses c.in_ok-clause_of.field-0,
+        );
+      };
+      order = subst (λ (s : TrailState). AreDecisions s.variables s.entries c.take_back.new.self)
+          (sym (learnt ∙ ap (λ (s : TrailState). with_clause s c.in_ok-clause_of.field-0) undone')) c.take_back.ensures;
+    }

@@ -16,7 +16,7 @@ loop-self-init c = record {
   usable = c.requires.usable;
   start = c.requires.start;
   sound = c.requires.sound;
-  units_are = c.requires.units;
+  units_are = c.requires.table;
   numbers = c.requires.numbers;
 }
 

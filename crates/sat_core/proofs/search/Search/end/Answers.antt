@@ -1,12 +1,33 @@
-use Rattle.std.proofs.Common.{◌≡◌, ℕ, List, Option, ap, subst, ◌∙◌, arith}
+use Rattle.std.proofs.Common.{◌≡◌, ◌++◌, ℕ, List, Option, length, ap, sym, subst, ◌∙◌, arith}
 use Rattle.clause_core.specs.Literals.{Lit}
 use Rattle.clause_core.specs.Propagation.{IsQuiet}
 use Rattle.sat_trail.specs.Entries.{literals_of}
-use Rattle.sat_trail.specs.States.{TrailState, EndsWith}
+use Rattle.sat_trail.specs.States.{TrailState, EndsWith, undone}
 use Rattle.clause_learning.specs.ClauseDatabases.{numbers_of}
 use Rattle.clause_learning.specs.LearntClauses.{clauses_of, IsRefutingLog}
 use Rattle.sat_core.proofs.Searching.{quiet_reaches, search_refuted, search_spent}
+use Rattle.clause_learning.specs.ConflictAnalysis.{AreNoneSeen}
+use Rattle.clause_learning.specs.Units.{AreUnits}
+use Rattle.sat_core.proofs.SearchNotes.{can_learn}
 use Rattle.sat_core.proofs.search.Search.end.Goals as goal
+
+pub refute-requires-clause-ready : goal.refute-requires-clause-ready
+refute-requires-clause-ready c =
+    let r = can_learn c.requires.searching in
+    let t = c.args.self.trail in
+    let u = c.propagate.new.self in
+    let added = c.in_ok-conflict.ensures.ok.added in
+    let is : u ≡ record (undone t 0) { entries = (undone t 0).entries ++ added } = c.in_ok-conflict.ensures.ok.rest_stays
+    ∙ ap (λ (s : TrailState). record s { entries = s.entries ++ added }) c.undo_to.ensures.value in
+    record {
+      usable = ap (λ (t : TrailState). t.broken) is ∙ r.usable;
+      sound = c.in_ok-conflict.ensures.sound;
+      none_seen = subst (λ (t : TrailState). AreNoneSeen t.variables c.args.self.analysis.seen) (sym is) r.none_seen;
+      table = subst (λ (t : TrailState). AreUnits t c.args.self.units) (sym is)
+          (record { one_each = r.table.one_each; within = r.table.within });
+      next = r.next;
+      numbers = r.numbers ∙ sym (ap (λ (t : TrailState). length t.clauses) is);
+    }
 
 pub returns-in-Some : goal.returns-in-Some
 returns-in-Some c =

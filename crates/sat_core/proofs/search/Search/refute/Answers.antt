@@ -1,5 +1,9 @@
 use Rattle.sat_core.proofs.Searching.{search_refuted}
+use Rattle.sat_core.proofs.SearchNotes.{can_learn}
 use Rattle.sat_core.proofs.search.Search.refute.Goals as goal
+
+pub refute-requires-clause-ready : goal.refute-requires-clause-ready
+refute-requires-clause-ready c = can_learn c.requires.searching
 
 pub returns : goal.returns
 returns c =
