@@ -23,7 +23,7 @@ use Rattle.clause_learning.specs.Learning.{CanLearn}
 use Rattle.clause_learning.specs.Units.{AreUnits, HasNoted, HaveNoted, HasPropagated}
 use Rattle.clause_learning.specs.Units.HaveNoted.{none, more}
 use Rattle.sat_core.specs.declared.search.Search.{Search}
-use Rattle.sat_core.specs.internal.Searches.{IsSearch, IsLogged, Task, steps_left, IsSearching, HasSpent}
+use Rattle.sat_core.specs.internal.Searches.{IsSearch, IsLogged, Task, budget_left, IsSearching, HasSpent}
 use Rattle.sat_core.proofs.Searching.{HasGrown, search_propagated, search_more}
 use Rattle.clause_learning.proofs.Deciding.{decisions_grown}
 
@@ -209,7 +209,7 @@ can_learn i = record {
 
 -- with each decision there are more entries, and with each clause that is learnt fewer may be learnt
 abbrev pub measure : Search → ℕ
-measure s = steps_left s * (s.cnf.now.variables + 1) + (s.cnf.now.variables - length s.trail.entries)
+measure s = budget_left s * (s.cnf.now.variables + 1) + (s.cnf.now.variables - length s.trail.entries)
 
 less_unset : (a b v len longer : ℕ) → a ≡ b → len < longer → longer ≤ v → a + (v - longer) < b + (v - len)
 less_unset a b v len longer same h k = omega arith
@@ -222,10 +222,10 @@ pub decided_smaller : {s t u : Search} → IsSearching u → HasSpent 0 s t → 
 decided_smaller {s = s} {t = t} {u = u} i a grown b longer =
     let v = u.cnf.now.variables in
     let search = i.logged.search in
-    let left : steps_left u ≡ steps_left s = omega (arith, a.fewer, b.fewer) in
+    let left : budget_left u ≡ budget_left s = omega (arith, a.fewer, b.fewer) in
     let short : length u.trail.entries ≤ v =
     omega (arith, length_entries u.trail.variables u.trail.clauses u.trail.entries search.sound.stand, search.same_variables) in
-    subst (λ (n : ℕ). measure u < steps_left s * (n + 1) + (n - length s.trail.entries))
+    subst (λ (n : ℕ). measure u < budget_left s * (n + 1) + (n - length s.trail.entries))
     (ap (λ (task : Task). task.formula.variables) (b.same_task ∙ a.same_task))
     (less_unset _ _ v (length s.trail.entries) (length u.trail.entries) (ap (λ (n : ℕ). n * (v + 1)) left)
     (omega (arith, grown, longer)) short)
@@ -233,7 +233,7 @@ decided_smaller {s = s} {t = t} {u = u} i a grown b longer =
 pub learnt_smaller : {s t u w : Search} → HasSpent 0 s t → HasSpent 1 t u → HasSpent 0 u w → measure w < measure s
 learnt_smaller {s = s} {t = t} {u = u} {w = w} a b c =
     let v = w.cnf.now.variables in
-    let left : steps_left w + 1 ≡ steps_left s = omega (arith, a.fewer, b.fewer, c.fewer) in
-    subst (λ (n : ℕ). measure w < steps_left s * (n + 1) + (n - length s.trail.entries))
+    let left : budget_left w + 1 ≡ budget_left s = omega (arith, a.fewer, b.fewer, c.fewer) in
+    subst (λ (n : ℕ). measure w < budget_left s * (n + 1) + (n - length s.trail.entries))
     (ap (λ (task : Task). task.formula.variables) (c.same_task ∙ (b.same_task ∙ a.same_task)))
     (less_budget _ _ v (v - length w.trail.entries) (v - length s.trail.entries) left (omega arith))

@@ -8,7 +8,7 @@ ghost use Rattle.sat_trail.specs.States.{EndsWith, IsFalseAt};
 ghost use Rattle.clause_learning.specs.LearntClauses.{clauses_of};
 ghost use Rattle.sat_core.specs.Answers.{AreSatisfying, AreRefuting};
 ghost use Rattle.sat_core.specs.internal.Ends.{IsAnswerTo};
-ghost use Rattle.sat_core.specs.internal.Searches.{task_of, steps_left, IsSearching, HasSpent};
+ghost use Rattle.sat_core.specs.internal.Searches.{task_of, budget_left, IsSearching, HasSpent};
 
 use crate::answers::Answer;
 use clause_core::{Assignment, Clause, Cnf};
@@ -150,7 +150,7 @@ impl<'f> Search<'f> {
     /// Learns a clause from a conflict above level 0, where more may be learnt. An `Err` says that memory ran out.
     fn learn(&mut self, alloc: Global, conflict: u32) -> Result<(), NoMemory>
         requires searching { IsSearching self.old }
-        requires left { 0 < steps_left self.old }
+        requires left { 0 < budget_left self.old }
         requires conflict { IsFalseAt self.old.trail conflict }
         requires above { 0 < self.old.trail.level }
         ensures searching { OnOk result (IsSearching self.new) }
@@ -219,7 +219,7 @@ impl<'f> Search<'f> {
     /// false. An `Err` says that memory ran out.
     fn end(mut self, alloc: Global) -> Result<Answer, NoMemory>
         requires searching { IsSearching self }
-        requires spent { steps_left self ≡ 0 }
+        requires spent { budget_left self ≡ 0 }
         ensures { IfOk result (IsAnswerTo (task_of self.entry)) }
     {
         self.trail.undo_to(0);

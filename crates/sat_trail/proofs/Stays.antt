@@ -17,7 +17,7 @@ use Rattle.sat_trail.specs.declared.watches.Watches.{Watches}
 use Rattle.sat_trail.specs.Entries.{literals_of}
 use Rattle.sat_trail.specs.States.{TrailState, IsSound, decided, with_clause, undone, up_to, Propagates}
 use Rattle.sat_trail.specs.internal.Watching.{IsOf, IsPairOf, IsExcused, IsMet, IsAside, AreAsides, AreWatched, left_of}
-use Rattle.sat_trail.specs.internal.Watching.{IsReady, PropagatesWatched, GoesBack, CanWatch}
+use Rattle.sat_trail.specs.internal.Watching.{MayPropagate, PropagatesWatched, GoesBack, CanWatch}
 use Rattle.sat_trail.proofs.Places.{has_entry, entry_has}
 use Rattle.sat_trail.proofs.Soundness.{level_within, over_literal, true_not_false}
 use Rattle.sat_trail.proofs.TrailSteps.{IsOpen, open_two, open_true, quiet_from, has_not_false, has_one, propagates_after}
@@ -90,7 +90,7 @@ pub watched_decided : (t u : TrailState) (w : Watches) (l : Lit) → AreWatched 
 watched_decided t u w l watched is = subst (λ (s : TrailState). AreWatched s w) (sym is)
     (watched_more t w (record { literal = l; level = t.level + 1; reason = None } ∷ []) (t.level + 1) watched (omega arith))
 
-pub ready_after : {t u : TrailState} {w v : Watches} → IsReady t w → IsSound u → PropagatesWatched t u v → IsReady u v
+pub ready_after : {t u : TrailState} {w v : Watches} → MayPropagate t w → IsSound u → PropagatesWatched t u v → MayPropagate u v
 ready_after ready sound grows = record {
   usable = ap (λ (s : TrailState). s.broken) grows.propagates.rest_stays ∙ ready.usable;
   sound = sound;

@@ -14,7 +14,7 @@ use Rattle.sat_trail.specs.declared.watches.Pair.{Pair}
 use Rattle.sat_trail.specs.declared.watches.Watches.{Watches}
 use Rattle.sat_trail.specs.Entries.{literals_of}
 use Rattle.sat_trail.specs.States.{TrailState, IsSound, Propagates, IsFalseAt}
-use Rattle.sat_trail.specs.internal.Watching.{HasList, IsOf, IsPairOf, IsPair, IsPairIn, IsExcused, AreWatched, IsReady, IsVisit, AreDue}
+use Rattle.sat_trail.specs.internal.Watching.{HasList, IsOf, IsPairOf, IsPair, IsPairIn, IsExcused, AreWatched, MayPropagate, IsVisit, AreDue}
 use Rattle.sat_trail.specs.internal.Watching.{IsVisiting, Visits}
 use Rattle.sat_trail.proofs.Soundness.{level_within, over_literal}
 use Rattle.sat_trail.proofs.Stays.{excused_from, excused_grown, excused_by, watched_propagated, watched_low, lowered_le, ready_after}
@@ -34,11 +34,11 @@ due_propagated t u w f end' due grows n clause pair named at of = elim
 
 -- a watch is read, at this index of the literal's list
 pub record HasRead (t : TrailState) (w : Watches) (f : Lit) (index : ℕ) (watch : Watch) : Type 0 where
-  pub ready : IsReady t w
+  pub ready : MayPropagate t w
   pub visiting : IsVisiting t w f (index + 1)
   pub there : slice_get visiting.visit.list.list index ≡ Some watch
 
-pub has_read : {t : TrailState} {w : Watches} {f : Lit} {index k : ℕ} {x : List Watch} {watch : Watch} → IsReady t w →
+pub has_read : {t : TrailState} {w : Watches} {f : Lit} {index k : ℕ} {x : List Watch} {watch : Watch} → MayPropagate t w →
     IsVisiting t w f (index + 1) → k ≡ code_of f → x ≡ get_or w.lists.items k x → slice_get x index ≡ Some watch →
     HasRead t w f index watch
 has_read {t} {w} {f} {index} {k} {x} {watch} ready visiting k_is read there = record {
@@ -239,10 +239,10 @@ pub falsified_over : (t : TrailState) → IsSound t → (head : ℕ) (e : Entry)
     e.literal ≡ negation f → f.index < t.variables
 falsified_over t sound head e f there is = omega (arith, (sound.stand head e there).over, ap (λ (z : Lit). z.index) is)
 
-pub visit_begins : (t : TrailState) (w v : Watches) (f : Lit) (e : Entry) (list : List Watch) → IsReady t w →
+pub visit_begins : (t : TrailState) (w v : Watches) (f : Lit) (e : Entry) (list : List Watch) → MayPropagate t w →
     slice_get t.entries w.head ≡ Some e → e.literal ≡ negation f → slice_get v.lists.items (code_of f) ≡ Some list →
     v ≡ record w { low = v.low } → v.low ≡ cond (nat_lt e.level t.level) (min w.low w.head) w.low →
-    IsReady t v × IsVisiting t v f (length list)
+    MayPropagate t v × IsVisiting t v f (length list)
 visit_begins t w v f e list ready there is listed rest low = (
   record { usable = ready.usable; sound = ready.sound; watched = watched },
   record {

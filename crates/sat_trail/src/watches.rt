@@ -11,7 +11,7 @@ ghost use Rattle.sat_trail.specs.internal.Watching.{HasList, TakesOut, RenewsBlo
 ghost use Rattle.sat_trail.specs.internal.Watching.{IsPairIn, pair_of, IsNextPair, AreWatched, AreDue, AreOthersFalse, CanForce, CanWatch};
 ghost use Rattle.sat_trail.specs.internal.Watching.{IsOpenBy, HasStatus, IsFirstFree, AreFalseBefore, AreAllBefore, IsOther, IsFree};
 ghost use Rattle.sat_trail.specs.internal.Watching.{AreFalseBetween, IsNextWaiting, IsOpenAt, IsWatchedBy, SetsAside, Releases, left_of};
-ghost use Rattle.sat_trail.specs.internal.Watching.{LeavesSome, LooksAtOne, IsReady, PropagatesWatched, GoesBack, StaysAt, Rewatches};
+ghost use Rattle.sat_trail.specs.internal.Watching.{LeavesSome, LooksAtOne, MayPropagate, PropagatesWatched, GoesBack, StaysAt, Rewatches};
 ghost use Rattle.sat_trail.specs.internal.Watching.{IsVisiting, Visits, IsUnitBy};
 
 use crate::stack::Stack;
@@ -269,7 +269,7 @@ impl Watches {
     /// Propagates until no clause is unit or a clause is false: then it answers that clause's number.
     /// An `Err` says that memory ran out.
     pub fn propagate(&mut self, stack: &mut Stack<'_>) -> Result<Option<u32>, NoMemory>
-        requires ready { IsReady stack.old self.old }
+        requires ready { MayPropagate stack.old self.old }
         ensures grows { OnOk result (PropagatesWatched stack.old stack.new self.new) }
         ensures ends { IfOk result (λ answer. EndsWith answer stack.new) }
         ensures sound { IsSound stack.new }
@@ -291,7 +291,7 @@ impl Watches {
 
     /// Takes clauses in until one waits, and answers whether one does. An `Err` says that memory ran out.
     fn take_in(&mut self, stack: &Stack<'_>) -> Result<bool, NoMemory>
-        requires ready { IsReady stack.now self.old }
+        requires ready { MayPropagate stack.now self.old }
         ensures watched { OnOk result (AreWatched stack.now self.new) }
         ensures left { IfOk result (LeavesSome (length stack.now.clauses) self.old self.new) }
     {
@@ -304,7 +304,7 @@ impl Watches {
     /// Takes the next clause in: it watches two literals that are not false, or else it waits. An `Err` says
     /// that memory ran out.
     fn take_next(&mut self, stack: &Stack<'_>) -> Result<(), NoMemory>
-        requires ready { IsReady stack.now self.old }
+        requires ready { MayPropagate stack.now self.old }
         requires more { length self.old.pairs.items < length stack.now.clauses }
         requires none { length self.old.asides.items ≤ self.old.held }
         ensures watched { OnOk result (AreWatched stack.now self.new) }
@@ -330,7 +330,7 @@ impl Watches {
 
     /// Looks at a clause that waits, and answers its number if it is false. An `Err` says that memory ran out.
     fn look(&mut self, stack: &mut Stack<'_>) -> Result<Option<u32>, NoMemory>
-        requires ready { IsReady stack.old self.old }
+        requires ready { MayPropagate stack.old self.old }
         requires some { self.old.held < length self.old.asides.items }
         ensures grows { OnOk result (PropagatesWatched stack.old stack.new self.new) }
         ensures ends { IfOk result (λ conflict. MatchOption conflict (LooksAtOne self.old self.new) (IsFalseAt stack.new)) }
@@ -413,7 +413,7 @@ impl Watches {
         number: u32,
         literal: Literal,
     ) -> Result<(), NoMemory>
-        requires ready { IsReady stack.now self.old }
+        requires ready { MayPropagate stack.now self.old }
         requires waits { IsNextWaiting self.old number }
         requires forced { CanForce stack.now number literal }
         ensures { OnOk result (Rewatches stack.now self.old self.new) }
@@ -444,7 +444,7 @@ impl Watches {
         number: u32,
         literal: Literal,
     ) -> Result<Option<u32>, NoMemory>
-        requires ready { IsReady stack.old self.old }
+        requires ready { MayPropagate stack.old self.old }
         requires waits { IsNextWaiting self.old number }
         requires unit { IsUnitBy stack.old number literal }
         ensures grows { OnOk result (PropagatesWatched stack.old stack.new self.new) }
@@ -527,7 +527,7 @@ impl Watches {
     /// number of one that is false; the entry is then still to be visited. An `Err` says that memory
     /// ran out.
     fn visit_entry(&mut self, stack: &mut Stack<'_>) -> Result<Option<u32>, NoMemory>
-        requires ready { IsReady stack.old self.old }
+        requires ready { MayPropagate stack.old self.old }
         requires more { self.old.head < length stack.old.entries }
         ensures grows { OnOk result (PropagatesWatched stack.old stack.new self.new) }
         ensures left { (count : ℕ) → left_of count self.new ≡ left_of count self.old }
@@ -557,7 +557,7 @@ impl Watches {
         falsified: Literal,
         index: usize,
     ) -> Result<Option<u32>, NoMemory>
-        requires ready { IsReady stack.old self.old }
+        requires ready { MayPropagate stack.old self.old }
         requires visiting { IsVisiting stack.old self.old falsified (index + 1) }
         ensures visits { OnOk result (Visits stack.old stack.new self.new falsified index) }
         ensures ends { IfOk result (λ conflict. MatchOption conflict (AreDue stack.new self.new falsified index) (IsFalseAt stack.new)) }

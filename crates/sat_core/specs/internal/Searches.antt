@@ -80,10 +80,10 @@ pub record IsSearching (search : Search) : Type 0 where
   pub wanted : search.reductions.wanted ≡ search.reduces
 
 -- how many more clauses may be learnt
-abbrev pub steps_left : Search → ℕ
-steps_left search = search.budget + search.units.added - length search.proof_log.steps.items
+abbrev pub budget_left : Search → ℕ
+budget_left search = search.budget + search.units.added - length search.proof_log.steps.items
 
 -- a search goes on with its task, and so many fewer clauses may be learnt
 pub record HasSpent (count : ℕ) (old new : Search) : Type 0 where
   pub same_task : task_of new ≡ task_of old
-  pub fewer : steps_left new + count ≡ steps_left old
+  pub fewer : budget_left new + count ≡ budget_left old

@@ -162,7 +162,7 @@ pub record AreWatched (t : TrailState) (w : Watches) : Type 0 where
       IsAside t.entries w.asides.items w.held number clause
 
 -- propagation may begin or go on: memory has not run out, the trail is sound, and the clauses are watched
-pub record IsReady (t : TrailState) (w : Watches) : Type 0 where
+pub record MayPropagate (t : TrailState) (w : Watches) : Type 0 where
   pub usable : t.broken ≡ false
   pub sound : IsSound t
   pub watched : AreWatched t w
