@@ -1,10 +1,9 @@
 -- Internal to the solver: no clause of a public function of `sat_core` uses these words.
 -- The clauses on a trail by their numbers in the log. A trail may lack clauses that the log has.
-use Rattle.std.specs.Prelude.{◌≡◌, ◌⊎◌, ℕ, ◌-◌, ◌≤◌, Bool, true, List, ◌++◌, map, length, Some, slice_get, slice_index_or, All, Contains}
+use Rattle.std.specs.Prelude.{◌≡◌, ℕ, ◌-◌, ◌≤◌, List, ◌++◌, map, length, Some, slice_get, slice_index_or, All, Contains}
 use Rattle.clause_core.specs.Literals.{Lit}
 use Rattle.sat_trail.specs.States.{TrailState, started}
 use Rattle.sequence.specs.Numbers.{numbers_from}
-use Rattle.clause_learning.specs.declared.proof_log.ProofLog.{ProofLog}
 use Rattle.clause_learning.specs.declared.clause_database.ClauseDatabase.{ClauseDatabase}
 
 -- The numbers in the log of the clauses on a trail, in their order. Those of the formula stand first, and have the numbers from 1 on.
@@ -43,8 +42,3 @@ pub record BeginsAnew (variables : ℕ) (formula : List (List Lit)) (old : Trail
   pub others : List (List Lit)
   pub kept : AreKept formula old.clauses numbers (length old.clauses) others database
   pub trail_is : new ≡ started variables (formula ++ others)
-
--- the trail stays as it is, or where it may be reduced it begins anew; the steps stay
-abbrev pub IsReduced : Bool → ℕ → List (List Lit) → TrailState → ProofLog → TrailState → ProofLog → Type 0
-IsReduced wanted variables formula old proof_log new after = ((new ≡ old) × (after ≡ proof_log))
-    ⊎ ((wanted ≡ true) × BeginsAnew variables formula old (numbers_of proof_log.database) new after.database)
