@@ -26,10 +26,10 @@ use Rattle.sat_trail.proofs.Visits.{HasOther, other_in, of_clause, visits_on}
 pub spare_over : (t : TrailState) → IsSound t → (number : ℕ) (pair : Pair) → IsPairIn t number pair → pair.spare.index < t.variables
 spare_over t sound number pair h = over_literal t sound number h.clause pair.spare h.named h.is.spare
 
-module _ {t : TrailState} {number : ℕ} {pair : Pair} {other spare first : Lit} (start : ℕ) (h : IsPairIn t number pair)
+module _ {t : TrailState} {number : ℕ} {pair : Pair} {other spare first : Lit} (h : IsPairIn t number pair)
     (of : IsOf pair other) (of_spare : IsOf pair spare) where
   next_of : has h.clause first ≡ true → (first ≡ other → ⊥) → has (literals_of t.entries) (negation first) ≡ false →
-      IsNextPair t number other (record { first = first; second = other; spare = spare; start = start })
+      IsNextPair t number other (record { first = first; second = other; spare = spare })
   next_of member apart not_false = record {
     is_in = record {
       clause = h.clause;
@@ -43,7 +43,7 @@ module _ {t : TrailState} {number : ℕ} {pair : Pair} {other spare first : Lit}
   -- the first literal stands at a position in the clause
   pub next_found : {literals clause : List Lit} {position : ℕ} → slice_get t.clauses number ≡ Some clause → literals ≡ clause →
       IsFree (literals_of t.entries) literals other position → first ≡ get_or literals position first →
-      IsNextPair t number other (record { first = first; second = other; spare = spare; start = start })
+      IsNextPair t number other (record { first = first; second = other; spare = spare })
   next_found {literals} {clause} {position} named same found read =
       let is : first ≡ found.literal = read ∙ get_or_from_slice_get literals position found.literal first found.there in
       next_of (ap (λ (ls : List Lit). has ls first) (same_Some h.clause clause (sym h.named ∙ named) ∙ sym same)

@@ -94,7 +94,7 @@ impl WatchList {
     }
 }
 
-/// The two literals that a clause watches, and where another one is looked for.
+/// The two literals that a clause watches, and a third one that is tried first where another one is looked for.
 #[derive(Clone, Copy)]
 pub struct Pair {
     /// One of the literals.
@@ -104,8 +104,6 @@ pub struct Pair {
     /// A literal of the clause, which is tried before the clause is read: the one that was watched before the
     /// last move. In a clause of three literals it is then the third one.
     pub spare: Literal,
-    /// The position in the clause where the search begins.
-    pub start: u32,
 }
 
 impl Pair {
@@ -117,7 +115,6 @@ impl Pair {
             first,
             second,
             spare: first,
-            start: 0,
         }
     }
 
@@ -626,17 +623,23 @@ fn next_pair(stack: &Stack<'_>, number: u32, pair: &Pair, other: Literal) -> Opt
             first: pair.spare,
             second: other,
             spare,
-            start: pair.start,
         });
     }
     let literals = stack.clause(number).literals();
-    let position = free_position(stack, literals, other, pair.start as usize)?;
+    let start = start_in(literals.len(), spare);
+    let position = free_position(stack, literals, other, start)?;
     Some(Pair {
         first: literals[position],
         second: other,
         spare,
-        start: number_of_position(position),
     })
+}
+
+/// A position below a length, by which literal became false: its code is spread over 32 bits by
+/// multiplication, as D. E. Knuth, The Art of Computer Programming 3, 6.4, does it.
+fn start_in(length: usize, literal: Literal) -> usize {
+    let spread = (literal.code() as u32).wrapping_mul(2_654_435_769);
+    (u64::from(spread).wrapping_mul(length as u64) >> 32) as usize
 }
 
 /// Sets the literal of a clause whose others are false, or answers the clause's number if that one is
@@ -682,11 +685,6 @@ fn lowered(limit: u32, number: u32, is_late: bool) -> u32
     ensures { result ≡ cond is_late (min limit number) limit }
 {
     if is_late { limit.min(number) } else { limit }
-}
-
-/// The position as a number of 32 bits; 0 where it does not fit.
-fn number_of_position(position: usize) -> u32 {
-    u32::try_from(position).unwrap_or(0)
 }
 
 /// What the clause of a number is while literals are set.

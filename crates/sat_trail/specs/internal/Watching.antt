@@ -81,7 +81,7 @@ IsPairOf pairs number pair = slice_get pairs number ≡ Some (Some pair)
 
 -- the pair of two literals of a clause that watched none so far
 abbrev pub pair_of : Lit → Lit → Pair
-pair_of first second = record { first = first; second = second; spare = first; start = 0 }
+pair_of first second = record { first = first; second = second; spare = first }
 
 -- the clause of this number has this pair, and all others have what they had
 pub record PutsPair (old : List (Option Pair)) (number : ℕ) (pair : Pair) (new : List (Option Pair)) : Type 0 where

@@ -28,5 +28,5 @@ bounds-literals-position c = slice_get_within c.literals-literals.result.now c.i
     c.in_ok-position.ensures.literal c.in_ok-position.ensures.there
 
 pub returns : goal.returns
-returns c = next_found c.number_of_position.result c.requires.pair c.requires.of c.other-spare.ensures.of c.clause.ensures
+returns c = next_found c.requires.pair c.requires.of c.other-spare.ensures.of c.clause.ensures
     c.literals-literals.ensures.value c.in_ok-position.ensures c.index-literals-position.is
