@@ -1,3 +1,5 @@
 pub mod Sets
+pub mod Parts
+pub mod FirstFound
 pub mod Semantics
 mod Examples

@@ -133,7 +133,15 @@ pub fn contains(small: &Clause, large: &Clause) -> bool
 pub fn is_tautology(clause: &Clause) -> bool
     ensures { result ≡ has_pair clause.now }
 {
-    let mut rest = clause.literals();
+    have_pair(clause.literals())
+}
+
+/// Whether there are a literal and its negation among the literals of a clause, which rise strictly by their numbers.
+pub fn have_pair(literals: &[Literal]) -> bool
+    requires { IsIncreasing literals.now }
+    ensures { result ≡ has_pair literals.now }
+{
+    let mut rest = literals;
     while rest.len() > 1 {
         let Some((first, after)) = rest.split_first() else {
             return false;

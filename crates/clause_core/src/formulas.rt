@@ -3,7 +3,8 @@
 ghost use Rattle.std.specs.Prelude.{◌≡◌, ◌<◌, ◌^◌, All, length};
 ghost use Rattle.clause_core.specs.Clauses.{IsOver, assignment_of, meets};
 
-use crate::clauses::Clause;
+use crate::clause_list::ClauseList;
+use crate::literals::Literal;
 use sequence::Sequence;
 
 /// A formula in conjunctive normal form: clauses over the variables from 1 to a number.
@@ -12,7 +13,7 @@ pub struct Cnf {
     /// How many variables there are.
     pub variables: u32,
     /// The clauses, in order.
-    pub clauses: Sequence<Clause>,
+    pub clauses: ClauseList,
     pub ghost few: { variables < 2 ^ 31 },
     pub ghost over: { All (IsOver variables) clauses },
 }
@@ -24,14 +25,13 @@ pub struct Assignment {
     pub truths: Sequence<bool>,
 }
 
-/// Whether the assignment meets the clause: it makes one of its literals true.
-pub fn meets(assignment: &Assignment, clause: &Clause) -> bool
-    requires { IsOver (length assignment.now.truths) clause.now }
-    ensures { result ≡ meets (assignment_of assignment.now.truths) clause.now }
+/// Whether the assignment meets the clause of these literals: it makes one of them true.
+pub fn meets(assignment: &Assignment, literals: &[Literal]) -> bool
+    requires { IsOver (length assignment.now.truths) literals.now }
+    ensures { result ≡ meets (assignment_of assignment.now.truths) literals.now }
 {
     let truths = assignment.truths.as_slice();
-    clause
-        .literals()
+    literals
         .iter()
         .any(|literal| truths[literal.index()] == literal.is_positive())
 }

@@ -1,10 +1,10 @@
 use Rattle.std.proofs.Common.{◌≡◌, length}
 use Rattle.clause_core.specs.Clauses.{IsIncreasing, has_pair}
-use Rattle.clause_core.proofs.clauses.is_tautology.Given as goal
+use Rattle.clause_core.proofs.clauses.have_pair.Given as goal
 
 abbrev pub invariant-loop-rest : goal.invariant-loop-rest
 invariant-loop-rest l = record {
-  same : has_pair l.rest ≡ has_pair l.clause;
+  same : has_pair l.rest ≡ has_pair l.literals;
   rises : IsIncreasing l.rest;
 }
 

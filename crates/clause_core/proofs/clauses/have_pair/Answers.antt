@@ -2,7 +2,7 @@ use Rattle.std.proofs.Common.{◌≡◌, ◌<ℤ◌, ◌∙◌, sym, subst, arit
 use Rattle.clause_core.specs.Literals.{Lit, signed_number_of, negation}
 use Rattle.clause_core.specs.Clauses.{IsIncreasing}
 use Rattle.clause_core.proofs.Sets.{pair_before, pair_after, short_has_no_pair, IsIncreasing-front, below_tested, above_tested}
-use Rattle.clause_core.proofs.clauses.is_tautology.Goals as goal
+use Rattle.clause_core.proofs.clauses.have_pair.Goals as goal
 
 pub loop-rest-preserved-then-lt : goal.loop-rest-preserved-then-lt
 loop-rest-preserved-then-lt c =
