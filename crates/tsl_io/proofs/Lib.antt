@@ -1,3 +1,4 @@
 mod Examples
 pub mod Told
+pub mod Handed
 pub mod Effects

@@ -6,7 +6,8 @@
 //! answers `Failed`; a `Failed` without a rise comes only at the last value of a `u64`, where the
 //! count cannot rise. So no call can blame the outside for what it did itself.
 //!
-//! `read_all` reads a source to its end, and `write_all_of` writes bytes and flushes. A crate above
+//! `read_all` reads a source to its end, `read_into` hands its bytes on piece by piece to what takes
+//! a text (`TakePieces`), and `write_all_of` writes bytes and flushes. A crate above
 //! may rely on this: what `read_all` answers is exactly what the source held, and none is left;
 //! `TooLong` comes exactly where the source has more bytes than the limit; `write_all_of` adds
 //! exactly the bytes, and after its failure some first bytes of them; a fault is answered only where
@@ -24,14 +25,16 @@ mod memory;
 mod sink;
 mod source;
 mod standard;
+mod taker;
 
 ghost use Rattle.std.specs.Prelude.{◌≡◌};
 ghost use Rattle.tsl_io.specs.Faults.{next_count, Faulted};
 
 pub use memory::{MemorySink, MemorySource};
 pub use sink::{Sink, write_all_of};
-pub use source::{ReadError, Source, read_all};
+pub use source::{ReadError, Source, read_all, read_into};
 pub use standard::{StdSink, StdSource};
+pub use taker::TakePieces;
 use thiserror::Error;
 
 /// A read, a write or a flush failed. The source or the sink counted it.

@@ -1,9 +1,10 @@
 //! Where bytes come from.
 ghost use Rattle.std.specs.Prelude.{◌≡◌, ℕ, ◌+◌, ◌<◌, ◌≤◌, List, length, take, Option, Some, IfOk, OnOk, OnErr, IsErrOf, ◌↔◌, []};
 ghost use Rattle.tsl_io.specs.Told.{before, WhereTold, TakesPrefix, TakesFirst};
+ghost use Rattle.tsl_io.specs.Handed.{HandsOn, HandsOnAtMost};
 ghost use Rattle.tsl_io.specs.Faults.{Faulted};
 
-use crate::Failed;
+use crate::{Failed, TakePieces};
 use std::alloc::{AllocError, Global};
 use thiserror::Error;
 
@@ -73,7 +74,6 @@ const PIECE: usize = 65_536;
 /// `Fault` comes only where a read failed, and `TooLong` exactly where the source gave `limit + 1`
 /// bytes before its end. After each answer some first bytes of the source were taken, and each turn
 /// of the loop takes at least one or is the last. The text and one buffer are all that is kept.
-#[tactic(auto, using(crate::proofs::Told::finished, crate::proofs::Told::length_taken))]
 pub fn read_all<S: Source>(alloc: Global, source: &mut S, limit: u32) -> Result<Vec<u8>, ReadError>
     // What is answered is all that the source held, at most `limit` bytes, and none is left.
     ensures text { IfOk result (λ text.
@@ -99,41 +99,68 @@ pub fn read_all<S: Source>(alloc: Global, source: &mut S, limit: u32) -> Result<
 
     ensures prefix { TakesPrefix (S.left source.old) (S.left source.new) }
 {
+    let mut text = Vec::new(alloc);
+    read_into(alloc, source, limit, &mut text)?;
+    Ok(text)
+}
+
+/// Hands on all bytes of a source, to its end, where they are at most `limit`, piece by piece.
+///
+/// The answers are those of `read_all`. One buffer is all that is kept here.
+pub fn read_into<S: Source, T: TakePieces>(
+    alloc: Global,
+    source: &mut S,
+    limit: u32,
+    taker: &mut T,
+) -> Result<(), ReadError>
+    // At most `limit` bytes were handed on, and none is left.
+    ensures ok { OnOk result (HandsOnAtMost limit (S.left source.old) (S.left source.new) (T.has_taken taker.old) (T.has_taken taker.new)) }
+    ensures none_left { OnOk result
+        (WhereTold (S.left source.old) (λ bytes. S.left source.new ≡ Some [])) }
+
+    // A fault is counted, and any other answer leaves the count.
+    ensures fault { IsErrOf result ReadError.Fault →
+        Faulted (S.faults source.old) (S.faults source.new) }
+    ensures no_fault { (IsErrOf result ReadError.Fault → ⊥) → S.faults source.new ≡ S.faults source.old }
+
+    // More than `limit` bytes were left, and `limit + 1` of them were taken.
+    ensures too_long { IsErrOf result ReadError.TooLong →
+        TakesFirst (limit + 1) (S.left source.old) (S.left source.new) }
+
+    ensures prefix { TakesPrefix (S.left source.old) (S.left source.new) }
+{
     let most = limit as usize + 1;
     let mut buffer = vec![in alloc; 0; PIECE.min(most)]?;
-    let mut text = Vec::new(alloc);
-    while text.len() < most {
-        let room = buffer.len().min(most - text.len());
-        if read_piece(source, &mut buffer[..room], &mut text)? == 0 {
-            return Ok(text);
+    let mut taken = 0;
+    while taken < most {
+        let room = buffer.len().min(most - taken);
+        let count = read_piece(source, &mut buffer[..room], taker)?;
+        if count == 0 {
+            return Ok(());
         }
+        taken += count;
     }
     Err(ReadError::TooLong)
 }
 
-/// Reads once into the piece, adds what came to the text, and answers how many bytes came.
-#[tactic(auto, using(crate::proofs::Told::piece_taken))]
-fn read_piece<S: Source>(
+/// Reads once into the piece, hands on what came, and answers how many bytes came.
+fn read_piece<S: Source, T: TakePieces>(
     source: &mut S,
     piece: &mut [u8],
-    text: &mut Vec<u8>,
+    taker: &mut T,
 ) -> Result<usize, ReadError>
     ensures fits { IfOk result (λ count. count ≤ length piece.old) }
-    ensures longer { IfOk result (λ count.
-        length text.new.items ≡ length text.old.items + count) }
-    ensures taken { OnOk result (before text.new.items (S.left source.new)
-        ≡ before text.old.items (S.left source.old)) }
+    ensures ok { IfOk result (λ count.
+        HandsOn count (S.left source.old) (S.left source.new) (T.has_taken taker.old) (T.has_taken taker.new)) }
     ensures end { IfOk result (λ count. count ≡ 0 → 0 < length piece.old →
         WhereTold (S.left source.new) (λ bytes. bytes ≡ [])) }
-    ensures ok_count { OnOk result (S.faults source.new ≡ S.faults source.old) }
     ensures fault { IsErrOf result ReadError.Fault →
         Faulted (S.faults source.old) (S.faults source.new) }
-    ensures no_memory_count { IsErrOf result ReadError.NoMemory →
-        S.faults source.new ≡ S.faults source.old }
+    ensures no_fault { (IsErrOf result ReadError.Fault → ⊥) → S.faults source.new ≡ S.faults source.old }
     ensures not_too_long { IsErrOf result ReadError.TooLong → ⊥ }
     ensures prefix { TakesPrefix (S.left source.old) (S.left source.new) }
 {
     let count = source.read(piece)?;
-    text.extend_from_slice(&piece[..count])?;
+    taker.take_piece(&piece[..count])?;
     Ok(count)
 }
