@@ -1,12 +1,10 @@
 -- The definitions on cases that were worked by hand: what they accept, and what they refuse.
 use Rattle.std.proofs.Common.{◌≡◌, ℕ, List, [], ◌∷◌, pos, negsuc, Some, None, true, false, refl}
 use Rattle.std.specs.Prelude.{codes}
-use Rattle.refutation_check.specs.declared.dimacs.TheConstants.{MOST_VARIABLES, MOST_CLAUSES}
 use Rattle.clause_core.specs.Literals.{Lit, literal_of}
 use Rattle.refutation_check.specs.declared.steps.Step.{Step}
 use Rattle.refutation_check.specs.DataLines.{data_lines}
-use Rattle.refutation_check.specs.CnfText.{cnf_answer, is_cnf, form_at, too_many_variables}
-use Rattle.refutation_check.specs.LogText.{log_answer, is_log, form_at as log_form_at}
+use Rattle.refutation_check.specs.LogText.{log_answer, is_log, form_at}
 use Rattle.refutation_check.specs.Checking.{log_refusal, at_line, at_hint, unfinished}
 
 -- ---- lines
@@ -20,7 +18,7 @@ numbered : data_lines (codes "c a\nb\ncnf\n d") ≡ record { number = 2; bytes =
 } ∷ []
 numbered = refl
 
--- ---- formulas
+-- ---- logs
 
 abbrev a : Lit
 a = literal_of (pos 1)
@@ -33,64 +31,6 @@ na = literal_of (negsuc 0)
 
 abbrev nb : Lit
 nb = literal_of (negsuc 1)
-
--- a clause over two lines, a comment within it, a repeat, and an empty clause
-formula : cnf_answer (codes "c\n p cnf 2 3\n2 -1\nc 5\n2 0 00 1\n0") ≡ is_cnf 2 ((na ∷ b ∷ []) ∷ [] ∷ (a ∷ []) ∷ [])
-formula = refl
-
-no_clause : cnf_answer (codes "p cnf 0 0") ≡ is_cnf 0 []
-no_clause = refl
-
-empty_text : cnf_answer [] ≡ form_at 1
-empty_text = refl
-
-comments_alone : cnf_answer (codes "c\nc\n") ≡ form_at 3
-comments_alone = refl
-
-missing_clause : cnf_answer (codes "p cnf 2 5\n1 2 0\n1 -2 0\n-1 2 0\n-1 -2 0\n") ≡ form_at 6
-missing_clause = refl
-
-open_clause : cnf_answer (codes "p cnf 2 1\n1 2") ≡ form_at 3
-open_clause = refl
-
-empty_first_line : cnf_answer (codes "\np cnf 0 0\n") ≡ form_at 1
-empty_first_line = refl
-
-blank_comment : cnf_answer (codes " c\np cnf 0 0\n") ≡ form_at 1
-blank_comment = refl
-
-five_words : cnf_answer (codes "p cnf 0 0 0\n") ≡ form_at 1
-five_words = refl
-
-header_twice : cnf_answer (codes "p cnf 1 1\np cnf 1 1\n") ≡ form_at 2
-header_twice = refl
-
-past_variables : cnf_answer (codes "p cnf 2 2\n1 0\n-3 0\n") ≡ form_at 3
-past_variables = refl
-
-past_clauses : cnf_answer (codes "p cnf 2 1\n1 0\n\n2\n") ≡ form_at 4
-past_clauses = refl
-
-wrong_word : cnf_answer (codes "p cnf 2 1\n1x 0\n") ≡ form_at 2
-wrong_word = refl
-
--- the limits in numbers
-most_variables : MOST_VARIABLES ≡ 1048576
-most_variables = refl
-
-most_clauses : MOST_CLAUSES ≡ 2000000
-most_clauses = refl
-
-many_variables : cnf_answer (codes "p cnf 1048577 2000001\n") ≡ form_at 2
-many_variables = refl
-
-many_variables' : cnf_answer (codes "p cnf 1048577 1\n1048577 0\n") ≡ too_many_variables
-many_variables' = refl
-
-as_many_variables : cnf_answer (codes "p cnf 1048576 1\n0\n") ≡ is_cnf 1048576 ([] ∷ [])
-as_many_variables = refl
-
--- ---- logs
 
 -- a comment, a deletion with a 0 among its numbers, a line without a word, a step, an empty clause
 steps : log_answer (codes "c\n5 d 0 3 0\n \n6 2 -1 0 1 2 0\n07 0 5 3 4 0")
@@ -105,37 +45,37 @@ steps = refl
 no_step : log_answer [] ≡ is_log []
 no_step = refl
 
-no_lists : log_answer (codes "5 1 0 1 0\n5\n") ≡ log_form_at 2
+no_lists : log_answer (codes "5 1 0 1 0\n5\n") ≡ form_at 2
 no_lists = refl
 
-one_list : log_answer (codes "5 -1 0\n") ≡ log_form_at 1
+one_list : log_answer (codes "5 -1 0\n") ≡ form_at 1
 one_list = refl
 
-one_list_open : log_answer (codes "5 -1 0 1\n") ≡ log_form_at 1
+one_list_open : log_answer (codes "5 -1 0 1\n") ≡ form_at 1
 one_list_open = refl
 
-behind_the_end : log_answer (codes "5 1 0 1 0 1\n") ≡ log_form_at 1
+behind_the_end : log_answer (codes "5 1 0 1 0 1\n") ≡ form_at 1
 behind_the_end = refl
 
-negative_hint : log_answer (codes "5 1 0 -1 0\n") ≡ log_form_at 1
+negative_hint : log_answer (codes "5 1 0 -1 0\n") ≡ form_at 1
 negative_hint = refl
 
-least_literal : log_answer (codes "5 -2147483648 0 1 0\n") ≡ log_form_at 1
+least_literal : log_answer (codes "5 -2147483648 0 1 0\n") ≡ form_at 1
 least_literal = refl
 
-deletion_without_end : log_answer (codes "5 d 0 3\n") ≡ log_form_at 1
+deletion_without_end : log_answer (codes "5 d 0 3\n") ≡ form_at 1
 deletion_without_end = refl
 
-deletion_without_number : log_answer (codes "d 3 0\n") ≡ log_form_at 1
+deletion_without_number : log_answer (codes "d 3 0\n") ≡ form_at 1
 deletion_without_number = refl
 
 deletion_of_none : log_answer (codes "5 d 0\n") ≡ is_log []
 deletion_of_none = refl
 
-negative_step : log_answer (codes "-5 1 0 1 0\n") ≡ log_form_at 1
+negative_step : log_answer (codes "-5 1 0 1 0\n") ≡ form_at 1
 negative_step = refl
 
-late_comment : log_answer (codes " c\n") ≡ log_form_at 1
+late_comment : log_answer (codes " c\n") ≡ form_at 1
 late_comment = refl
 
 -- ---- checks

@@ -1,6 +1,5 @@
 pub mod Numbers
 pub mod DataLines
-pub mod CnfText
 pub mod LogText
 pub mod Checking
 pub mod internal

@@ -186,7 +186,7 @@ fn look_at_hint(marks: &Marks, cnf: &Cnf, accepted: &[Step], hint: u64) -> Look
 }
 
 /// The clause of a number.
-fn clause_named<'a>(cnf: &'a Cnf, accepted: &'a [Step], number: u64) -> Option<&'a Clause>
+fn clause_named<'a>(cnf: &'a Cnf, accepted: &'a [Step], number: u64) -> Option<&'a [Literal]>
     requires { AreAccepted cnf.now.variables (length cnf.now.clauses) accepted.now }
     ensures value { option_copied result ≡ clause_named (known_after cnf.now.clauses accepted.now) number }
     ensures over { IfSome result (λ clause. IsOver cnf.now.variables clause.now) }
@@ -199,7 +199,7 @@ fn clause_named<'a>(cnf: &'a Cnf, accepted: &'a [Step], number: u64) -> Option<&
 }
 
 /// The clause of the formula that has this number, from 1.
-fn clause_of_formula(cnf: &Cnf, number: u64) -> Option<&Clause>
+fn clause_of_formula(cnf: &Cnf, number: u64) -> Option<&[Literal]>
     requires { number ≤ length cnf.now.clauses }
     ensures value { option_copied result ≡ clause_named (numbered_from 1 cnf.now.clauses) number }
     ensures over { IfSome result (λ clause. IsOver cnf.now.variables clause.now) }
@@ -207,19 +207,19 @@ fn clause_of_formula(cnf: &Cnf, number: u64) -> Option<&Clause>
     if number == 0 {
         None
     } else {
-        Some(&cnf.clauses.as_slice()[number as usize - 1])
+        Some(cnf.clauses.get(number as usize - 1))
     }
 }
 
 /// The clause of the step that has this number.
-fn clause_of_step(accepted: &[Step], number: u64) -> Option<&Clause>
+fn clause_of_step(accepted: &[Step], number: u64) -> Option<&[Literal]>
     requires { AllPairs (λ earlier later. earlier.number < later.number) accepted.now }
     ensures value { option_copied result ≡ clause_named (map numbered accepted.now) number }
     ensures member { IfSome result (λ clause. Any (λ step. step.clause ≡ clause.now) accepted.now) }
 {
     let place = first_from(accepted, number);
     if place < accepted.len() && accepted[place].number == number {
-        Some(&accepted[place].clause)
+        Some(accepted[place].clause.literals())
     } else {
         None
     }

@@ -96,14 +96,14 @@ impl Marks {
         }
     }
 
-    /// What the clause does.
-    pub fn look_at(&self, clause: &Clause) -> Look
-        requires { IsOver self.now.variables clause.now }
-        ensures value { effect_of result ≡ effect_of_open self.now.literals (not_false self.now.literals clause.now) }
+    /// What the clause of these literals does.
+    pub fn look_at(&self, literals: &[Literal]) -> Look
+        requires { IsOver self.now.variables literals.now }
+        ensures value { effect_of result ≡ effect_of_open self.now.literals (not_false self.now.literals literals.now) }
         ensures over { (l : Lit) → result ≡ Look.Makes l → l.index < self.now.variables }
     {
         let mut open = None;
-        for literal in clause.literals() {
+        for literal in literals {
             if !self.is_true(literal.negated()) {
                 if open.is_some() {
                     return Look::ShowsNothing;

@@ -16,13 +16,13 @@ use Rattle.tsl_text.proofs.FieldLaws.{words_word}
 use Rattle.clause_core.specs.Literals.{Lit, signed_number_of, literal_of}
 use Rattle.clause_core.specs.Clauses.{IsIncreasing, IsOver, in_order}
 use Rattle.clause_core.proofs.Sets.{one_increasing, IsIncreasing-in_order, has-in_order}
-use Rattle.refutation_check.specs.declared.dimacs.Counts.{Counts}
+use Rattle.cnf_reader.specs.declared.told.Counts.{Counts}
 use Rattle.refutation_check.specs.DataLines.{is_comment, data_lines, words_beside}
 use Rattle.refutation_check.specs.Numbers.{is_zero}
-use Rattle.refutation_check.specs.CnfText.{cnf_answer, is_cnf, header, counts_of, means, with_zeros, numbers_of}
+use Rattle.cnf_reader.specs.CnfText.{cnf_answer, is_cnf, header, counts_of, means, with_zeros, numbers_of}
 use Rattle.refutation_check.specs.LogText.{is_literal}
-use Rattle.refutation_check.specs.internal.Reading.{ended_clauses}
-use Rattle.refutation_check.proofs.CnfLemmas.{wrong_among, right_here, numbers_more, cnf_is}
+use Rattle.cnf_reader.specs.internal.Told.{ended_clauses}
+use Rattle.cnf_reader.proofs.CnfLemmas.{wrong_among, right_here, numbers_more, cnf_is}
 use Rattle.refutation_check.proofs.NumberLemmas.{zeros_more}
 use Rattle.refutation_text.specs.Written.{literal_word, clause_line, header_line, cnf_text, IsClauseOver, IsWithinLimits}
 use Rattle.refutation_text.proofs.Words.{EachMeans, number_is, decimal_means, literal_means, list_words, list_is_line, list_no_comment}

@@ -14,7 +14,7 @@ use Rattle.tsl_text.proofs.PlaceLaws.{len_at, later_line}
 use Rattle.clause_core.specs.Literals.{Lit}
 use Rattle.refutation_check.specs.declared.steps.Step.{Step}
 use Rattle.refutation_check.specs.Checking.{log_refusal}
-use Rattle.refutation_check.specs.CnfText.{cnf_answer, is_cnf}
+use Rattle.cnf_reader.specs.CnfText.{cnf_answer, is_cnf}
 use Rattle.refutation_check.specs.DataLines.{is_comment}
 use Rattle.refutation_check.specs.LogText.{log_answer}
 use Rattle.refutation_text.specs.Written.{literal_word, clause_line, header_line, cnf_text, log_text, refutation_text, IsClauseOver}

@@ -4,7 +4,7 @@ use Rattle.clause_core.specs.Literals.{Lit}
 use Rattle.tsl_text.specs.Places.{IsBetweenFeeds}
 use Rattle.refutation_check.specs.declared.steps.Step.{Step}
 use Rattle.refutation_check.specs.Checking.{log_refusal}
-use Rattle.refutation_check.specs.CnfText.{cnf_answer, is_cnf}
+use Rattle.cnf_reader.specs.CnfText.{cnf_answer, is_cnf}
 use Rattle.refutation_check.specs.LogText.{log_answer, is_log}
 
 -- What stands before the first line `lrat` spells the formula, and what stands after that line a log that is not refused.

@@ -3,7 +3,7 @@ use Rattle.std.specs.Prelude.{ℕ, ◌+◌, ◌-◌, ◌<◌, ◌≤◌, ◌^◌
 use Rattle.clause_core.specs.Literals.{Lit}
 use Rattle.clause_core.specs.Clauses.{IsIncreasing, IsOver}
 use Rattle.tsl_text.specs.Written.{text_of_lines}
-use Rattle.refutation_check.specs.declared.dimacs.TheConstants.{MOST_VARIABLES, MOST_CLAUSES}
+use Rattle.refutation_check.specs.declared.limits.TheConstants.{MOST_VARIABLES, MOST_CLAUSES}
 use Rattle.refutation_check.specs.declared.steps.Step.{Step}
 
 -- the number of a literal: its variable's, with a `-` before it where the literal is negative

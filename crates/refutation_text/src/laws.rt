@@ -4,7 +4,7 @@ ghost use Rattle.std.specs.Prelude.{◌≡◌, ℕ, List, ◌++◌, None, All, I
 ghost use Rattle.tsl_text.specs.Written.{is_line};
 ghost use Rattle.clause_core.specs.Literals.{Lit};
 ghost use Rattle.refutation_check.specs.Checking.{log_refusal};
-ghost use Rattle.refutation_check.specs.CnfText.{cnf_answer, is_cnf};
+ghost use Rattle.cnf_reader.specs.CnfText.{cnf_answer, is_cnf};
 ghost use Rattle.refutation_check.specs.LogText.{log_answer, is_log};
 ghost use Rattle.refutation_check.specs.declared.steps.Step.{Step};
 ghost use Rattle.refutation_text.specs.Parted.{SpellsRefutation};

@@ -5,7 +5,7 @@ ghost use Rattle.clause_core.specs.Clauses.{IsIncreasing};
 ghost use Rattle.refutation_text.specs.Written.{literal_word, ended_list, clause_line, step_line, header_line, cnf_text, log_text, IsClauseOver};
 ghost use Rattle.refutation_text.specs.Written.{refutation_text};
 
-use clause_core::{Clause, Cnf, Literal};
+use clause_core::{Cnf, Literal};
 use refutation_check::{Log, Step};
 use sequence::NoMemory;
 use tsl_text::{put_bytes, put_number};
@@ -26,10 +26,9 @@ pub fn put_cnf(out: &mut Vec<u8>, cnf: &Cnf) -> Result<(), NoMemory>
     ensures clauses { OnOk result (All (IsClauseOver cnf.now.variables) cnf.now.clauses) }
     ensures text { OnOk result (out.new.items ≡ out.old.items ++ cnf_text cnf.now.variables cnf.now.clauses) }
 {
-    let clauses = cnf.clauses.as_slice();
-    put_header(out, cnf.variables, clauses.len())?;
-    for clause in clauses {
-        put_clause(out, clause)?;
+    put_header(out, cnf.variables, cnf.clauses.len())?;
+    for place in 0..cnf.clauses.len() {
+        put_clause(out, cnf.clauses.get(place))?;
         put_bytes(out, b"\n")?;
     }
     Ok(())
@@ -65,17 +64,16 @@ fn put_step(out: &mut Vec<u8>, step: &Step) -> Result<(), NoMemory>
 {
     put_number(out, step.number)?;
     put_bytes(out, b" ")?;
-    put_clause(out, &step.clause)?;
+    put_clause(out, step.clause.literals())?;
     put_bytes(out, b" ")?;
     put_hints(out, step.hints.as_slice())
 }
 
 /// Appends the literals of a clause and a 0, with single spaces between them. An `Err` says that memory ran out.
-pub fn put_clause(out: &mut Vec<u8>, clause: &Clause) -> Result<(), NoMemory>
-    ensures increasing { IsIncreasing clause.now }
-    ensures text { OnOk result (out.new.items ≡ out.old.items ++ clause_line clause.now) }
+pub fn put_clause(out: &mut Vec<u8>, literals: &[Literal]) -> Result<(), NoMemory>
+    ensures { OnOk result (out.new.items ≡ out.old.items ++ clause_line literals.now) }
 {
-    for literal in clause.literals() {
+    for literal in literals {
         put_literal(out, *literal)?;
         put_bytes(out, b" ")?;
     }

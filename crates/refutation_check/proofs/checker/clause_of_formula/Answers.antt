@@ -1,4 +1,5 @@
-use Rattle.std.proofs.Common.{◌-◌, Some, get_or, sym, ap, ◌∙◌, arith}
+use Rattle.std.proofs.Common.{◌-◌, Some, sym, ap, ◌∙◌, arith}
+use Rattle.std.proofs.lemmas.Option.{get_or_from_slice_get}
 use Rattle.refutation_check.proofs.Naming.{named_at, named_outside}
 use Rattle.refutation_check.proofs.checker.clause_of_formula.Goals as goal
 
@@ -9,7 +10,7 @@ returns-then-number-eq0-clause-value c =
 pub returns-else-number-eq0-clause-value : goal.returns-else-number-eq0-clause-value
 returns-else-number-eq0-clause-value c =
     let clauses = c.args.cnf.now.clauses in
-    let d = c.index-as_slice-number.result in
+    let d = c.get.result.now in
     let some = c.if-number-eq0.false in
-    ap Some (c.index-as_slice-number.is ∙ ap (λ xs. get_or xs (c.args.number - 1) d) c.as_slice.ensures)
+    ap Some (sym (get_or_from_slice_get clauses (c.args.number - 1) d d c.get.ensures.value))
     ∙ sym (named_at clauses 1 (c.args.number - 1) c.args.number d (omega (arith, c.requires, some)) (omega (arith, some)))

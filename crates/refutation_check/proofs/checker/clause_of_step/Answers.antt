@@ -1,4 +1,4 @@
-use Rattle.std.proofs.Common.{◌≡◌, get_or, sym, ap, ◌∙◌, map, None, ◌<◌, length, arith}
+use Rattle.std.proofs.Common.{◌≡◌, get_or, sym, ap, ◌∙◌, map, None, Some, ◌<◌, length, arith}
 use Rattle.std.proofs.lemmas.List.{get_or_default}
 use Rattle.refutation_check.specs.declared.steps.Step.{Step}
 use Rattle.refutation_check.specs.Checking.{clause_named}
@@ -16,7 +16,8 @@ returns-then-accepted-place-clause-value c =
     let number : (get_or steps p d).number ≡ c.args.number =
     ap (λ (s : Step). s.number) (get_or_default steps p d c.index-accepted-place.result c.if-place-accepted.true)
     ∙ c.if-accepted-place.true in
-    sym (named_step steps c.args.number p d c.if-place-accepted.true c.first_from-place.ensures.below number)
+    ap Some c.literals.ensures.value
+    ∙ sym (named_step steps c.args.number p d c.if-place-accepted.true c.first_from-place.ensures.below number)
 
 pub returns-else-place-accepted-clause-value : goal.returns-else-place-accepted-clause-value
 returns-else-place-accepted-clause-value c =

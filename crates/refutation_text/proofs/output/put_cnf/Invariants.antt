@@ -6,9 +6,9 @@ use Rattle.tsl_text.specs.Written.{text_of_lines}
 use Rattle.refutation_text.specs.Written.{clause_line, cnf_text}
 use Rattle.refutation_text.proofs.output.put_cnf.Given as goal
 
-abbrev pub invariant-loop-clause : goal.invariant-loop-clause
-invariant-loop-clause l = record {
-  increasing : AllWithin IsIncreasing l.clauses 0 l.clause-index;
-  written : l.out.items ++ text_of_lines (map clause_line (drop l.clause-index l.clauses))
+abbrev pub invariant-loop-place : goal.invariant-loop-place
+invariant-loop-place l = record {
+  increasing : AllWithin IsIncreasing l.cnf.clauses 0 l.place;
+  written : l.out.items ++ text_of_lines (map clause_line (drop l.place l.cnf.clauses))
       ≡ l.fn.out.items ++ cnf_text l.cnf.variables l.cnf.clauses;
 }

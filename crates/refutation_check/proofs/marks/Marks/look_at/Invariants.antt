@@ -7,7 +7,7 @@ use Rattle.refutation_check.proofs.marks.Marks.look_at.Given as goal
 
 abbrev pub invariant-loop-literal : goal.invariant-loop-literal
 invariant-loop-literal l = record {
-  same : effect_of_open l.self.literals (option_to_list l.open ++ not_false l.self.literals (drop l.literal-index l.literal-items))
-      ≡ effect_of_open l.self.literals (not_false l.self.literals l.clause);
+  same : effect_of_open l.self.literals (option_to_list l.open ++ not_false l.self.literals (drop l.literal-index l.literals))
+      ≡ effect_of_open l.self.literals (not_false l.self.literals l.literals);
   below : (m : Lit) → l.open ≡ Some m → m.index < l.self.variables;
 }

@@ -1,0 +1,6 @@
+pub mod CnfLemmas
+mod Examples
+pub mod StageLemmas
+pub mod LeftLemmas
+pub mod PlaceLemmas
+pub mod WalkLemmas

@@ -1,0 +1,3 @@
+pub mod CnfText
+pub mod Pieces
+pub mod internal

@@ -1,0 +1,5 @@
+pub mod Told
+pub mod Left
+pub mod Stages
+pub mod Reading
+pub mod Places
