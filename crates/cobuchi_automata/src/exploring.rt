@@ -185,7 +185,7 @@ pub(crate) fn explore(
 fn start_states(alloc: Global, number: u32) -> Result<IndexSet<State>, NoMemory>
     ensures { IfOk result (λ states. state_keys states.keys ≡ record { members = number ∷ []; counter = 0 } ∷ []) }
 {
-    let mut members = Vec::new(alloc);
+    let mut members = Vec::with_capacity(alloc, 1)?;
     members.push(number)?;
     let mut states = IndexSet::new(alloc);
     states.insert(State {

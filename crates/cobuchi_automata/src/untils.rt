@@ -91,7 +91,7 @@ fn numbers_of(alloc: Global, names: &[&Ltl], formulas: &[&Ltl]) -> Result<Vec<u3
     requires rising { IsIncreasing tree_cmp (lent_trees names.now) }
     ensures { IfOk result (λ numbers. numbers.items ≡ map (formula_number (lent_trees names.now)) (lent_trees formulas.now)) }
 {
-    let mut numbers = Vec::new(alloc);
+    let mut numbers = Vec::with_capacity(alloc, formulas.len())?;
     for formula in formulas {
         numbers.push(number_of(names, formula))?;
     }

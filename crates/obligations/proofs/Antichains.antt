@@ -2,15 +2,15 @@
 use Rattle.std.proofs.Common.{◌≡◌, ◌∙◌, Bool, true, false, not, ◌&&◌, ◌||◌, cond, List, [], ◌∷◌, ◌++◌, filter}
 use Rattle.std.proofs.Common.{refl, sym, ap, nat_eq, if◌then◌else◌}
 use Rattle.std.specs.Bool.{⊤}
-use Rattle.std.specs.List.{AllByRecursion}
-use Rattle.std.proofs.lemmas.Bool.{false≢true}
+use Rattle.std.specs.List.{list_all, AllByRecursion}
+use Rattle.std.proofs.lemmas.Bool.{false≢true, and_parts}
 use Rattle.std.proofs.lemmas.List.{append-nil, append_assoc}
 use Rattle.std.proofs.lemmas.List.Folds.{list_any-append}
 use Rattle.sequence.specs.Kept.{with_new, is_kept}
 use Rattle.sequence.proofs.Each.{each_both, each_joined, each_filtered}
 use Rattle.obligations.specs.Choices.{same_choice, is_within, without_repeats, is_larger, without_larger, reduced}
 use Rattle.obligations.specs.Numbers.{ChoiceKey}
-use Rattle.obligations.specs.internal.Antichains.{AreApart, IsAntichain}
+use Rattle.obligations.specs.internal.Antichains.{AreApart, IsAntichain, are_apart, is_antichain}
 use Rattle.obligations.proofs.WithinLemmas.{same_key_is, is_same_key}
 
 -- whether a choice is one that is kept, as repeats are told
@@ -27,6 +27,13 @@ is_false true h = absurd (false≢true h)
 
 itself : (c : ChoiceKey) → same_choice nat_eq c c ≡ true
 itself c = is_same_key c c refl refl refl refl
+
+turned : (c d : ChoiceKey) → same_choice nat_eq d c ≡ false → same_choice nat_eq c d ≡ false
+turned c d differ = by (same_choice nat_eq c d) refl
+  where
+    by : (b : Bool) → same_choice nat_eq c d ≡ b → b ≡ false
+    by false is = refl
+    by true is = absurd (false≢true (sym differ ∙ ap (λ e. same_choice nat_eq d e) (same_key_is c d is) ∙ itself d))
 
 -- ---- an antichain is reduced
 
@@ -80,6 +87,31 @@ pub antichain_is_reduced : (cs : List ChoiceKey) → IsAntichain cs → reduced 
 antichain_is_reduced cs anti =
     ap (without_larger nat_eq) (all_new [] cs (none_kept cs) anti) ∙ keeps_all cs anti
 
+-- ---- the test of antichains
+
+told_apart : (c d : ChoiceKey) → are_apart c d ≡ true → AreApart c d
+told_apart c d h =
+    let parts = and_parts (not (is_within nat_eq c d)) (not (is_within nat_eq d c) && not (same_choice nat_eq c d)) h in
+    let more = and_parts (not (is_within nat_eq d c)) (not (same_choice nat_eq c d)) parts.1 in
+    record {
+      differ = turned d c (is_false (same_choice nat_eq c d) more.1);
+      first = is_false (is_within nat_eq c d) parts.0;
+      second = is_false (is_within nat_eq d c) more.0;
+    }
+
+all_told : (c : ChoiceKey) (cs : List ChoiceKey) → list_all (are_apart c) cs ≡ true → AllByRecursion (AreApart c) cs
+all_told c [] h = tt
+all_told c (d ∷ cs) h =
+    let parts = and_parts (are_apart c d) (list_all (are_apart c) cs) h in (told_apart c d parts.0, all_told c cs parts.1)
+
+told_antichain : (cs : List ChoiceKey) → is_antichain cs ≡ true → IsAntichain cs
+told_antichain [] h = tt
+told_antichain (c ∷ cs) h =
+    let parts = and_parts (list_all (are_apart c) cs) (is_antichain cs) h in (all_told c cs parts.0, told_antichain cs parts.1)
+
+pub told_reduced : (cs : List ChoiceKey) → is_antichain cs ≡ true → cs ≡ reduced nat_eq cs
+told_reduced cs h = sym (antichain_is_reduced cs (told_antichain cs h))
+
 -- ---- a reduced list is an antichain
 
 abbrev IsDistinct : List ChoiceKey → Type 0
@@ -100,13 +132,6 @@ distinct_more kept (c ∷ cs) distinct = by (λ ks d. distinct_more ks cs d) (is
         → IsDistinct (with_new is_repeat (if b then kept else kept ++ c ∷ []) cs)
     by more true is = more kept distinct
     by more false is = more (kept ++ c ∷ []) (distinct_push kept c distinct is)
-
-turned : (c d : ChoiceKey) → same_choice nat_eq d c ≡ false → same_choice nat_eq c d ≡ false
-turned c d differ = by (same_choice nat_eq c d) refl
-  where
-    by : (b : Bool) → same_choice nat_eq c d ≡ b → b ≡ false
-    by false is = refl
-    by true is = absurd (false≢true (sym differ ∙ ap (λ e. same_choice nat_eq d e) (same_key_is c d is) ∙ itself d))
 
 module _ (whole : List ChoiceKey) where
   -- where a choice is not larger than one of the whole list, this one does not lie within it

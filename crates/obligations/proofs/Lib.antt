@@ -20,5 +20,6 @@ pub mod StepLemmas
 pub mod StepLaws
 pub mod StepTruth
 pub mod TestedChoices
+pub mod UnitProducts
 pub mod WeightLemmas
 pub mod WithinLemmas

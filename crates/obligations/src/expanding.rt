@@ -11,7 +11,7 @@ ghost use Rattle.obligations.specs.internal.Antichains.{IsAntichain};
 ghost use Rattle.obligations.specs.Numbers.{choice_key, choice_keys, lent_trees, formula_number, numbered_expansion};
 
 use crate::numbered::NumberedChoice;
-use crate::products::{product, sum};
+use crate::products::{product, product_of, sum};
 use crate::searching::find;
 use crate::step_error::StepError;
 use ltl_formula::{Ltl, LtlList};
@@ -38,7 +38,7 @@ fn one(alloc: Global, choice: NumberedChoice) -> Result<Vec<NumberedChoice>, NoM
     ensures choices { IfOk result (λ list. choice_keys list.items ≡ choice_key choice ∷ []) }
     ensures antichain { IfOk result (λ list. IsAntichain (choice_keys list.items)) }
 {
-    let mut list = Vec::new(alloc);
+    let mut list = Vec::with_capacity(alloc, 1)?;
     list.push(choice)?;
     Ok(list)
 }
@@ -89,7 +89,7 @@ fn not_bit_choices(alloc: Global, bit: u32) -> Result<Vec<NumberedChoice>, NoMem
 fn singleton(alloc: Global, number: u32) -> Result<Vec<u32>, NoMemory>
     ensures { IfOk result (λ list. list.items ≡ number ∷ []) }
 {
-    let mut list = Vec::new(alloc);
+    let mut list = Vec::with_capacity(alloc, 1)?;
     list.push(number)?;
     Ok(list)
 }
@@ -141,7 +141,7 @@ fn until_choices(
         (λ put_off. formed nat_eq (choice_keys now.items ++ put_off)) ≡ None) }
 {
     let own = putting_off(alloc, number)?;
-    let put_off = product(alloc, later, &own)?;
+    let put_off = product_of(alloc, later, own)?;
     sum(alloc, now, put_off)
 }
 
@@ -220,7 +220,7 @@ fn expand_all(
     let mut rest = formulas;
     while let LtlList::More(formula, next) = rest {
         let found = expand(alloc, formula, names)?;
-        so_far = product(alloc, &so_far, &found)?;
+        so_far = product_of(alloc, &so_far, found)?;
         rest = next;
     }
     Ok(so_far)

@@ -30,7 +30,7 @@ pub fn no_expansions(
 ) -> Result<Vec<Option<Vec<NumberedChoice>>>, NoMemory>
     ensures { IfOk result (λ made. AreExpansions (lent_trees names.now) made.items) }
 {
-    let mut expansions = Vec::new(alloc);
+    let mut expansions = Vec::with_capacity(alloc, names.len())?;
     for _name in names {
         expansions.push(None)?;
     }

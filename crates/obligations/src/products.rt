@@ -1,8 +1,8 @@
 //! Products and sums of lists of choices, reduced.
 
-ghost use Rattle.std.specs.Prelude.{◌≡◌, ◌∷◌, ◌++◌, [], Some, None, IfOk, IfErr, nat_eq};
+ghost use Rattle.std.specs.Prelude.{◌≡◌, ◌∷◌, ◌++◌, [], Some, None, IfOk, IfErr, nat_eq, true};
 ghost use Rattle.std.specs.Ordering.{nat_cmp};
-ghost use Rattle.obligations.specs.Choices.{formed, product, then_list, goes_on, puts_off};
+ghost use Rattle.obligations.specs.Choices.{formed, product, empty_choice};
 ghost use Rattle.obligations.specs.Numbers.{choice_keys};
 ghost use Rattle.obligations.specs.internal.Antichains.{IsAntichain};
 
@@ -10,6 +10,7 @@ use crate::apart::have_nothing_in_common;
 use crate::joining::joins_of;
 use crate::numbered::NumberedChoice;
 use crate::reducing::reduced;
+use crate::rounds::are_rising;
 use crate::step_error::{MOST_CHOICES, StepError};
 use std::alloc::Global;
 
@@ -47,6 +48,37 @@ pub(crate) fn product(
     Ok(reduced(alloc, list)?)
 }
 
+/// Whether a list is that of the choice alone that asks for nothing and leaves nothing.
+fn is_unit(choices: &[NumberedChoice]) -> bool
+    ensures { result ≡ true → choice_keys choices.now ≡ empty_choice ∷ [] }
+{
+    match choices {
+        [only] => {
+            only.care == 0 && only.want == 0 && only.next.is_empty() && only.postponed.is_empty()
+        }
+        _ => false,
+    }
+}
+
+/// The product of two reduced lists, reduced, where the right one may be used up.
+pub(crate) fn product_of(
+    alloc: Global,
+    left: &[NumberedChoice],
+    right: Vec<NumberedChoice>,
+) -> Result<Vec<NumberedChoice>, StepError>
+    requires left { IsAntichain (choice_keys left.now) }
+    requires right { IsAntichain (choice_keys right.items) }
+    ensures choices { IfOk result (λ kept. product nat_eq nat_cmp (choice_keys left.now) (choice_keys right.items) ≡ Some (choice_keys kept.items)) }
+    ensures antichain { IfOk result (λ kept. IsAntichain (choice_keys kept.items)) }
+    ensures many { IfErr result (λ e. e ≡ StepError.Choices →
+        product nat_eq nat_cmp (choice_keys left.now) (choice_keys right.items) ≡ None) }
+{
+    if right.len() <= MOST_CHOICES && is_unit(left) && are_rising(right.as_slice()) {
+        return Ok(right);
+    }
+    product(alloc, left, right.as_slice())
+}
+
 /// One list after the other, reduced.
 pub(crate) fn sum(
     alloc: Global,
@@ -58,6 +90,9 @@ pub(crate) fn sum(
     ensures many { IfErr result (λ e. e ≡ StepError.Choices →
         formed nat_eq (choice_keys left.items ++ choice_keys right.items) ≡ None) }
 {
+    if left.is_empty() {
+        return formed(alloc, right);
+    }
     left.append(&mut right)?;
     formed(alloc, left)
 }

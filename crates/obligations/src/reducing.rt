@@ -1,8 +1,10 @@
 //! Lists of choices without repeats, and without choices that another one lies within.
 
 ghost use Rattle.std.specs.Prelude.{◌≡◌, ◌∷◌, ◌++◌, [], IfOk, OnOk, nat_eq, cond, not, ◌&&◌, length, map};
+ghost use Rattle.std.specs.List.{list_all};
 ghost use Rattle.sequence.specs.Kept.{is_kept, with_new};
 ghost use Rattle.obligations.specs.Choices.{is_within, same_choice, without_repeats, is_larger, without_larger, reduced};
+ghost use Rattle.obligations.specs.internal.Antichains.{are_apart, is_antichain};
 ghost use Rattle.obligations.specs.internal.Rounds.{flagged_members};
 ghost use Rattle.obligations.specs.Numbers.{choice_key, choice_keys};
 
@@ -160,6 +162,37 @@ fn reduced_by_pairs(
     Ok(kept)
 }
 
+/// Whether two choices differ, and neither lies within the other.
+fn are_apart(left: &NumberedChoice, right: &NumberedChoice) -> bool
+    ensures { result ≡ are_apart (choice_key left.now) (choice_key right.now) }
+{
+    !left.is_within(right) && !right.is_within(left) && left != right
+}
+
+/// Whether a choice is apart from each of a list.
+fn is_apart_from(choice: &NumberedChoice, others: &[NumberedChoice]) -> bool
+    ensures { result ≡ list_all (are_apart (choice_key choice.now)) (choice_keys others.now) }
+{
+    for other in others {
+        if !are_apart(choice, other) {
+            return false;
+        }
+    }
+    true
+}
+
+/// Whether the choices of a list are apart from each other.
+fn is_antichain(choices: &[NumberedChoice]) -> bool
+    ensures { result ≡ is_antichain (choice_keys choices.now) }
+{
+    for place in 0..choices.len() {
+        if !is_apart_from(&choices[place], &choices[place + 1..]) {
+            return false;
+        }
+    }
+    true
+}
+
 /// The most choices of a list that are compared with each other, and neither looked up nor put by their weights.
 const FEW: usize = 64;
 
@@ -173,6 +206,9 @@ pub(crate) fn reduced(
     ensures { IfOk result (λ kept. choice_keys kept.items ≡ reduced nat_eq (choice_keys choices.items)) }
 {
     if choices.len() <= FEW {
+        if is_antichain(choices.as_slice()) {
+            return Ok(choices);
+        }
         return reduced_by_pairs(alloc, choices);
     }
     let distinct = without_repeats(alloc, choices)?;

@@ -1,6 +1,6 @@
 -- Internal: only private functions of this crate use these words.
 -- Lists of choices of which none lies within another, and lists that have nothing in common.
-use Rattle.std.specs.Prelude.{◌≡◌, ℕ, ◌^◌, ◌%◌, Bool, false, ◌&&◌, ◌==◌, List, [], ◌∷◌, bit_and, bit_or, nat_eq, ⊤}
+use Rattle.std.specs.Prelude.{◌≡◌, ℕ, ◌^◌, ◌%◌, Bool, false, true, not, ◌&&◌, ◌==◌, List, [], ◌∷◌, bit_and, bit_or, nat_eq, ⊤}
 use Rattle.std.specs.List.{list_all, AllByRecursion}
 use Rattle.obligations.specs.Choices.{is_within, same_choice}
 use Rattle.obligations.specs.Numbers.{ChoiceKey}
@@ -16,6 +16,14 @@ pub record AreApart (c d : ChoiceKey) : Type 0 where
 abbrev pub IsAntichain : List ChoiceKey → Type 0
 IsAntichain [] = ⊤
 IsAntichain (c ∷ cs) = AllByRecursion (AreApart c) cs × IsAntichain cs
+
+-- the tests of both
+abbrev pub are_apart : ChoiceKey → ChoiceKey → Bool
+are_apart c d = not (is_within nat_eq c d) && (not (is_within nat_eq d c) && not (same_choice nat_eq c d))
+
+abbrev pub is_antichain : List ChoiceKey → Bool
+is_antichain [] = true
+is_antichain (c ∷ cs) = list_all (are_apart c) cs && is_antichain cs
 
 -- all bits of the members of a list
 abbrev pub gathered : {A : Type 0} → (A → ℕ) → List A → ℕ
