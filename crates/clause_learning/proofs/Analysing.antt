@@ -20,8 +20,9 @@ use Rattle.sat_trail.proofs.Soundness.{apart_from, length_entries}
 use Rattle.clause_learning.specs.declared.analysis.Analysis.{Analysis}
 use Rattle.clause_learning.specs.Levels.{IsSetAt, AreNoneFalseBelow}
 use Rattle.clause_learning.specs.LearntClauses.{IsLearntClause, IsAsserting}
-use Rattle.clause_learning.specs.ConflictAnalysis.{is_seen, is_of_clause, AreSeen, MayStay, IsReplaced, Shows, IsLate, IsAnalysis}
-use Rattle.clause_learning.proofs.SeenEntries.{count_has, count_some, without, without_other}
+use Rattle.clause_learning.specs.ConflictAnalysis.{is_seen, is_of_clause, AreSeen, IsCleared, TakesPlace, MayStay, IsReplaced, Shows}
+use Rattle.clause_learning.specs.ConflictAnalysis.{IsLate, IsAnalysis}
+use Rattle.clause_learning.proofs.SeenEntries.{count_has, count_some, without_other}
 use Rattle.clause_learning.proofs.Hints.{false_by, opposites_differ, has-map-negation, shows_start, shows_kept, shows_replaced, has_without}
 use Rattle.clause_learning.proofs.HintLists.{hints_push, hints_reversed}
 use Rattle.clause_learning.proofs.Stages.{forced_from, entry_low, stage_kept, stage_replaced, ahead_cleared, ahead_replaced}
@@ -164,12 +165,12 @@ analysis_begins t sound conflict false_at none_false w seen entries_seen kept hi
 -- ---- one entry
 
 pub analysis_kept : (t : TrailState) → IsSound t → (q : ℕ) (e : Entry) → slice_get t.entries q ≡ Some e → (w v : Analysis) → IsAnalysis t (q + 1) w →
-    is_seen w.seen q ≡ true → AreSeen t v.seen → ((k : ℕ) → is_seen v.seen k ≡ without (is_seen w.seen) q k) →
-    v.kept.items ≡ w.kept.items ++ negation e.literal ∷ [] → v.hints.items ≡ w.hints.items →
-    v.back ≡ cond (nat_lt e.level t.level) (max w.back e.level) w.back → MayStay t.level w.seen.waiting e → IsAnalysis t q v
-analysis_kept t sound q e at w v analysis entries_seen after cleared kept hints back stays = record {
-  seen = after;
-  ahead = λ k h. ahead_cleared t sound q e at (is_seen w.seen) entries_seen analysis.ahead k (sym (cleared k) ∙ h);
+    is_seen w.seen q ≡ true → IsCleared t q w.seen v.seen → v.kept.items ≡ w.kept.items ++ negation e.literal ∷ [] →
+    v.back ≡ cond (nat_lt e.level t.level) (max w.back e.level) w.back → v ≡ record w { seen = v.seen; kept = v.kept; back = v.back } →
+    MayStay t.level w.seen.waiting e → IsAnalysis t q v
+analysis_kept t sound q e at w v analysis here after kept back rest stays = record {
+  seen = after.seen;
+  ahead = λ k h. ahead_cleared t sound q e at (is_seen w.seen) here analysis.ahead k (sym (after.cleared k) ∙ h);
   fresh = λ k d at_k below. ap (λ (ls : List Lit). has ls (negation d.literal)) kept
       ∙ has_without w.kept.items (negation e.literal) (negation d.literal)
       (opposites_differ t.entries apart q k e d at at_k (λ i. omega arith)) (analysis.fresh k d at_k (omega arith));
@@ -178,23 +179,24 @@ analysis_kept t sound q e at w v analysis entries_seen after cleared kept hints 
   shows = subst (λ (ls : List Lit). Shows t q (is_seen v.seen) ls (reverse v.hints.items)) (sym kept)
       (subst (λ (hs : List ℕ). Shows t q (is_seen v.seen) (w.kept.items ++ negation e.literal ∷ []) (reverse hs)) (sym hints)
       (shows_kept t apart q e (is_seen w.seen) (is_seen v.seen) w.kept.items (reverse w.hints.items) at
-      (λ k n m. cleared k ∙ (without_other (is_seen w.seen) q k n ∙ m)) analysis.shows));
-  stage = inr (stage_kept t sound q e at w v analysis.seen entries_seen analysis.ahead after cleared kept back stays analysis.stage);
+      (λ k n m. after.cleared k ∙ (without_other (is_seen w.seen) q k n ∙ m)) analysis.shows));
+  stage = inr (stage_kept t sound q e at w v analysis.seen here analysis.ahead after kept back stays analysis.stage);
 }
   where
+    hints : v.hints.items ≡ w.hints.items
+    hints = ap (λ (a : Analysis). a.hints.items) rest
+
     apart : AreApart t.entries
     apart = apart_from t.variables t.clauses t.entries sound.stand
 
 pub analysis_replaced : (t : TrailState) → IsSound t → (q : ℕ) (e : Entry) → slice_get t.entries q ≡ Some e → (reason : ℕ) (w v : Analysis) →
-    IsAnalysis t (q + 1) w → is_seen w.seen q ≡ true → AreSeen t v.seen →
-    ((clause : List Lit) → slice_get t.clauses reason ≡ Some clause → (k : ℕ) →
-    is_seen v.seen k ≡ without (λ j. is_seen w.seen j || is_of_clause t.entries clause j) q k) → v.kept.items ≡ w.kept.items →
-    v.hints.items ≡ w.hints.items ++ (reason + 1) ∷ [] → v.back ≡ w.back → IsReplaced t.clauses t.level w.seen.waiting e reason →
-    IsAnalysis t q v
-analysis_replaced t sound q e at reason w v analysis entries_seen after cleared kept hints back chosen =
-    let why = chosen in
+    IsAnalysis t (q + 1) w → is_seen w.seen q ≡ true → TakesPlace t q reason w v → v ≡ record w { seen = v.seen; hints = v.hints } →
+    IsReplaced t.clauses t.level w.seen.waiting e reason → IsAnalysis t q v
+analysis_replaced t sound q e at reason w v analysis here replaced rest why =
+    let hints = replaced.hints in
+    let kept : v.kept.items ≡ w.kept.items = ap (λ (a : Analysis). a.kept.items) rest in
     let forced = forced_from t sound q e reason at why.forces in
-    let clear = cleared forced.clause forced.named in
+    let clear = replaced.entries_seen forced.clause forced.named in
     let turned : reverse v.hints.items ≡ (reason + 1) ∷ reverse w.hints.items =
     ap reverse hints ∙ reverse-append w.hints.items ((reason + 1) ∷ []) in
     let both : ℕ → Bool = λ j. is_seen w.seen j || is_of_clause t.entries forced.clause j in
@@ -207,15 +209,16 @@ analysis_replaced t sound q e at reason w v analysis entries_seen after cleared 
     let shown = shows_replaced t apart q e reason forced.clause (is_seen w.seen) (is_seen v.seen) w.kept.items
     (reverse w.hints.items) at forced.named forced.others_false (analysis.fresh q e at (omega arith)) others added analysis.shows in
     record {
-      seen = after;
-      ahead = λ k h. ahead_replaced t sound q e at (is_seen w.seen) entries_seen analysis.ahead reason forced k (sym (clear k) ∙ h);
+      seen = replaced.seen;
+      ahead = λ k h. ahead_replaced t sound q e at (is_seen w.seen) here analysis.ahead reason forced k (sym (clear k) ∙ h);
       fresh = λ k d at_k below. ap (λ (ls : List Lit). has ls (negation d.literal)) kept ∙ analysis.fresh k d at_k (omega arith);
       few = (let f = analysis.few in omega (arith, ap length hints, length_push w.hints.items (reason + 1)));
       named = subst (AreHints (length t.clauses)) (sym hints) (hints_push (length t.clauses) w.hints.items reason analysis.named
           (slice_get_within t.clauses reason forced.clause forced.named));
       shows = subst (λ (ls : List Lit). Shows t q (is_seen v.seen) ls (reverse v.hints.items)) (sym kept)
           (subst (λ (hs : List ℕ). Shows t q (is_seen v.seen) w.kept.items hs) (sym turned) shown);
-      stage = stage_replaced t sound q e at w v analysis.seen entries_seen analysis.ahead after reason forced clear kept back why analysis.stage;
+      stage = stage_replaced t sound q e at w v analysis.seen here analysis.ahead replaced.seen reason forced clear kept
+          (ap (λ (a : Analysis). a.back) rest) why analysis.stage;
     }
   where
     apart : AreApart t.entries

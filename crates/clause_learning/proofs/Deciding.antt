@@ -10,7 +10,7 @@ use Rattle.sat_trail.proofs.Places.{place_found, place_from-front, place_from-af
 use Rattle.clause_learning.specs.declared.queue.VariableQueue.{VariableQueue}
 use Rattle.clause_learning.specs.declared.choices.Decisions.{Decisions}
 use Rattle.clause_learning.specs.Queues.{IsVariableQueue, IsNext, variable_count, is_queued}
-use Rattle.clause_learning.specs.Decisions.{AreSet, AreDecisions, IsNextUnset}
+use Rattle.clause_learning.specs.Decisions.{AreSet, AreForEach, AreDecisions, IsNextUnset}
 use Rattle.clause_learning.specs.Tournaments.{is_before}
 use Rattle.clause_learning.proofs.Queueing.{queued_below}
 use Rattle.clause_learning.proofs.Analysing.{up_to_has}
@@ -40,9 +40,7 @@ set_at_end es e index is none later = none-some (0 + length es)
 pub decisions_grown : (variables : ℕ) (es added : List Entry) (d : Decisions) → AreDecisions variables es d →
     AreDecisions variables (es ++ added) d
 decisions_grown variables es added d are = record {
-  queue = are.queue;
-  one_activity_each = are.one_activity_each;
-  one_value_each = are.one_value_each;
+  each = are.each;
   queued = λ index below none. are.queued index below (unset_before es added index none);
 }
 
@@ -63,13 +61,19 @@ module _ (variables : ℕ) (es : List Entry) (d : Decisions) (queue : VariableQu
   left other below unset apart = others other ∙ and_from (is_queued d.queue other) (not (eqb other index)) (are.queued other below unset)
       (not_from_false (eqb other index) (ne_eqb other index apart))
 
+  each_popped : (n : Decisions) → n.queue ≡ queue → length n.phases.items ≡ length d.phases.items →
+      AreForEach variables n.queue n.phases.items
+  each_popped n is phases = record {
+    queue = subst IsVariableQueue (sym is) is_queue;
+    one_activity_each = ap variable_count is ∙ (count ∙ are.one_activity_each);
+    one_value_each = phases ∙ are.one_value_each;
+  }
+
   -- a variable that is set is taken out
   pub decisions_popped : (place_of es index ≡ None → ⊥) → (n : Decisions) → n.queue ≡ queue → length n.phases.items ≡ length d.phases.items →
       AreDecisions variables es n
   decisions_popped set n is phases = record {
-    queue = subst IsVariableQueue (sym is) is_queue;
-    one_activity_each = ap variable_count is ∙ (count ∙ are.one_activity_each);
-    one_value_each = phases ∙ are.one_value_each;
+    each = each_popped n is phases;
     queued = λ other below unset. ap (λ (q : VariableQueue). is_queued q other) is
         ∙ left other below unset (λ same. set (ap (place_of es) (sym same) ∙ unset));
   }
@@ -78,9 +82,7 @@ module _ (variables : ℕ) (es : List Entry) (d : Decisions) (queue : VariableQu
   pub decisions_set : (place_of es index ≡ None) → (n : Decisions) → n.queue ≡ queue → length n.phases.items ≡ length d.phases.items →
       (e : Entry) → e.literal.index ≡ index → AreDecisions variables (es ++ e ∷ []) n
   decisions_set none n is phases e here = record {
-    queue = subst IsVariableQueue (sym is) is_queue;
-    one_activity_each = ap variable_count is ∙ (count ∙ are.one_activity_each);
-    one_value_each = phases ∙ are.one_value_each;
+    each = each_popped n is phases;
     queued = λ other below unset. ap (λ (q : VariableQueue). is_queued q other) is
         ∙ left other below (unset_before es (e ∷ []) other unset)
         (λ same. set_at_end es e other (here ∙ sym same) (unset_before es (e ∷ []) other unset) unset);
@@ -112,13 +114,11 @@ given_more es last e before after at added given k d low at_k = elim (cases_eq k
       (given k d (omega arith) at_k)
 ]
 
-pub decisions_given : (variables : ℕ) (es : List Entry) (d n : Decisions) (index : ℕ) → AreDecisions variables es d → IsVariableQueue n.queue →
-    variable_count n.queue ≡ variable_count d.queue → length n.phases.items ≡ length d.phases.items →
+pub decisions_given : (variables : ℕ) (es : List Entry) (d n : Decisions) (index : ℕ) → AreDecisions variables es d →
+    AreForEach (variable_count d.queue) n.queue n.phases.items →
     ((other : ℕ) → is_queued n.queue other ≡ (is_queued d.queue other || eqb other index)) → AreDecisions variables es n
-decisions_given variables es d n index are queue count phases added = record {
-  queue = queue;
-  one_activity_each = count ∙ are.one_activity_each;
-  one_value_each = phases ∙ are.one_value_each;
+decisions_given variables es d n index are each added = record {
+  each = subst (λ (k : ℕ). AreForEach k n.queue n.phases.items) are.one_activity_each each;
   queued = λ other below unset. added other ∙ or_left (is_queued d.queue other) (eqb other index) (are.queued other below unset);
 }
 
@@ -127,9 +127,7 @@ pub decisions_left : (t : TrailState) → IsSound t → (d : Decisions) (level p
     AreGiven t.entries place d.queue → ((k : ℕ) (e : Entry) → slice_get t.entries k ≡ Some e → k < place → e.level ≤ level) →
     AreDecisions t.variables (up_to level t.entries) d
 decisions_left t sound d level place are given low = record {
-  queue = are.queue;
-  one_activity_each = are.one_activity_each;
-  one_value_each = are.one_value_each;
+  each = are.each;
   queued = λ index below unset. by_place index below unset (place_of t.entries index) refl;
 }
   where
@@ -149,9 +147,7 @@ decisions_left t sound d level place are given low = record {
 pub decisions_freed : (t : TrailState) (d : Decisions) → AreDecisions t.variables t.entries d → AreGiven t.entries 0 d.queue →
     AreDecisions t.variables [] d
 decisions_freed t d are given = record {
-  queue = are.queue;
-  one_activity_each = are.one_activity_each;
-  one_value_each = are.one_value_each;
+  each = are.each;
   queued = λ index below unset. by_place index below (place_of t.entries index) refl;
 }
   where
@@ -164,9 +160,5 @@ decisions_freed t d are given = record {
 -- what is to be decided again does not matter
 pub decisions_repeated : (variables : ℕ) (es : List Entry) (d n : Decisions) → n ≡ record d { repeated = n.repeated } →
     AreDecisions variables es d → AreDecisions variables es n
-decisions_repeated variables es d n rest are = subst (AreDecisions variables es) (sym rest) (record {
-  queue = are.queue;
-  one_activity_each = are.one_activity_each;
-  one_value_each = are.one_value_each;
-  queued = are.queued;
-})
+decisions_repeated variables es d n rest are = subst (AreDecisions variables es) (sym rest)
+    (record { each = are.each; queued = are.queued })

@@ -1,5 +1,5 @@
 -- Clauses of one literal show the clause of another one, and are added one after another.
-use Rattle.std.proofs.Common.{◌≡◌, ℕ, suc, ◌+◌, ◌-◌, ◌*◌, ◌<◌, ◌≤◌, ◌^◌, Bool, true, false, not, cond, ◌||◌, List, [], ◌∷◌, ◌++◌}
+use Rattle.std.proofs.Common.{◌≡◌, ℕ, suc, ◌+◌, ◌-◌, ◌*◌, ◌<◌, ◌≤◌, Bool, true, false, not, cond, ◌||◌, List, [], ◌∷◌, ◌++◌}
 use Rattle.std.proofs.Common.{map, length, take, Option, Some, None, slice_get, sym, ap, ◌∙◌, subst, refl, arith, eqb, inl, inr}
 use Rattle.std.specs.Prelude.{option_map}
 use Rattle.std.specs.List.{list_any, AllByRecursion, IsDistinct}
@@ -11,7 +11,7 @@ use Rattle.std.proofs.lemmas.Map.Steps.{length-le_from_distinct_below}
 use Rattle.sequence.proofs.Places.{contains_at, slice_get_some, slice_get_one}
 use Rattle.clause_core.specs.Literals.{Lit, negation, same, has, code_of}
 use Rattle.clause_core.specs.Clauses.{IsIncreasing, IsOver}
-use Rattle.clause_core.proofs.Sets.{same_is, same_from, negation-negation, IsIncreasing-apart, code_one, code_within}
+use Rattle.clause_core.proofs.Sets.{AllByRecursion-has, same_is, same_from, negation-negation, IsIncreasing-apart, code_one, code_within}
 use Rattle.sat_trail.specs.declared.entries.Entry.{Entry}
 use Rattle.sat_trail.specs.Entries.{literals_of, IsForced}
 use Rattle.sat_trail.specs.States.{TrailState, IsSound}
@@ -23,6 +23,7 @@ use Rattle.clause_learning.specs.declared.units.Units.{Units}
 use Rattle.clause_learning.specs.Units.{AreUnits, AddsHint, ShowAlone, HaveNoted, MayHaveNoted}
 use Rattle.clause_learning.specs.Units.HaveNoted.{more}
 use Rattle.clause_learning.specs.ClauseDatabases.{numbers_of}
+use Rattle.clause_learning.specs.Learning.{CanNote}
 use Rattle.clause_learning.proofs.Hints.{named_one}
 use Rattle.clause_learning.proofs.Stages.{forced_by}
 
@@ -153,12 +154,14 @@ few_literals variables clause up over =
 
 pub show_alone : (t : TrailState) → IsSound t → (number : ℕ) (clause : List Lit) (literal : Lit) (hints : List ℕ) →
     slice_get t.clauses number ≡ Some clause → IsIncreasing clause → has clause literal ≡ true →
-    AreHintsFor t.clauses literal clause hints → ShowAlone t.clauses literal (hints ++ (number + 1) ∷ [])
+    AreHintsFor t.clauses literal clause hints → ShowAlone t literal (hints ++ (number + 1) ∷ [])
 show_alone t sound number clause literal hints named up member known =
     let within = slice_get_within t.clauses number clause named in
     let over : IsOver t.variables clause = All-contains (IsOver t.variables) t.clauses clause sound.over
     (contains_at t.clauses number clause named) in
     record {
+      over = AllByRecursion-has (λ (l : Lit). l.index < t.variables) clause literal
+          (recursion_from_All (λ (l : Lit). l.index < t.variables) clause over) member;
       shown = lead t.clauses literal clause number named clause hints known up (negation literal ∷ []) 1
           (λ m h n. ap (λ b. b || false) (false_from_ne_true (same (negation literal) (negation m)) (λ s. n (sym (negation-negation m)
           ∙ (ap negation (sym (same_is (negation literal) (negation m) s)) ∙ negation-negation literal)))))
@@ -209,41 +212,37 @@ module _ (t : TrailState) (sound : IsSound t) (place : ℕ) (within : place < le
 
 -- ---- clauses are added one after another
 
--- some were added, and there is room for the others that may be added
+-- some were added, and the others that may be added can be
 pub record IsNoting (old : TrailState) (proof_log : ProofLog) (units : Units) (new : TrailState) (after : ProofLog) (later : Units) : Type 0 where
   pub count : ℕ
   pub noted : HaveNoted count old proof_log new after
-  pub added : later.added ≡ units.added + count
+  pub counted : later.added ≡ units.added + count
   pub most : later.most ≡ units.most
-  pub room : later.added ≤ later.most
-  pub few : length new.clauses + (later.most - later.added) + 1 < 2 ^ 32
-  pub next : after.next + (later.most - later.added) + 1 < 2 ^ 64
-  pub usable : new.broken ≡ false
-  pub start : new.level ≡ 0
-  pub sound : IsSound new
-  pub units_are : AreUnits new later
-  pub numbers : length (numbers_of after.database) ≡ length new.clauses
+  pub ready : CanNote new after later
+  pub open ready use *
 
 module _ (old : TrailState) (proof_log : ProofLog) (units : Units) (middle : TrailState) (between : ProofLog) (now : Units) (new : TrailState)
     (after : ProofLog) (later : Units) (may : MayHaveNoted middle between now new after later) where
   pub noting_more : IsNoting old proof_log units middle between now → AreUnits new later → later.most ≡ now.most → later.added ≤ later.most →
       IsNoting old proof_log units new after later
-  noting_more is units_are most room = elim may [
+  noting_more is table most room = elim may [
     | inl (same_trail, same_proof_log, same_count) ↦ record {
       count = is.count;
       noted = subst (λ (t : TrailState). HaveNoted is.count old proof_log t after) (sym same_trail)
           (subst (HaveNoted is.count old proof_log middle) (sym same_proof_log) is.noted);
-      added = same_count ∙ is.added;
+      counted = same_count ∙ is.counted;
       most = most ∙ is.most;
-      room = room;
-      few = omega (arith, is.few, ap (λ (t : TrailState). length t.clauses) same_trail, most, same_count);
-      next = omega (arith, is.next, ap (λ (j : ProofLog). j.next) same_proof_log, most, same_count);
-      usable = ap (λ (t : TrailState). t.broken) same_trail ∙ is.usable;
-      start = ap (λ (t : TrailState). t.level) same_trail ∙ is.start;
-      sound = subst IsSound (sym same_trail) is.sound;
-      units_are = units_are;
-      numbers = ap (λ (j : ProofLog). length (numbers_of j.database)) same_proof_log
-          ∙ (is.numbers ∙ sym (ap (λ (t : TrailState). length t.clauses) same_trail));
+      ready = record {
+        usable = ap (λ (t : TrailState). t.broken) same_trail ∙ is.usable;
+        sound = subst IsSound (sym same_trail) is.sound;
+        start = ap (λ (t : TrailState). t.level) same_trail ∙ is.start;
+        table = table;
+        added = room;
+        few = omega (arith, is.few, ap (λ (t : TrailState). length t.clauses) same_trail, most, same_count);
+        next = omega (arith, is.next, ap (λ (j : ProofLog). j.next) same_proof_log, most, same_count);
+        numbers = ap (λ (j : ProofLog). length (numbers_of j.database)) same_proof_log
+            ∙ (is.numbers ∙ sym (ap (λ (t : TrailState). length t.clauses) same_trail));
+      };
     }
     | inr (has_noted, one_more) ↦ (let longer : length new.clauses ≡ length middle.clauses + 1 =
         ap (λ (t : TrailState). length t.clauses) has_noted.trail_is ∙ length_push middle.clauses (has_noted.literal ∷ []) in
@@ -252,15 +251,17 @@ module _ (old : TrailState) (proof_log : ProofLog) (units : Units) (middle : Tra
         record {
           count = is.count + 1;
           noted = more is.noted has_noted;
-          added = omega (arith, one_more, is.added);
+          counted = omega (arith, one_more, is.counted);
           most = most ∙ is.most;
-          room = room;
-          few = omega (arith, is.few, longer, most, one_more, room);
-          next = omega (arith, is.next, has_noted.next_is, most, one_more, room);
-          usable = ap (λ (t : TrailState). t.broken) has_noted.trail_is ∙ is.usable;
-          start = ap (λ (t : TrailState). t.level) has_noted.trail_is ∙ is.start;
-          sound = has_noted.sound;
-          units_are = units_are;
-          numbers = numbers;
+          ready = record {
+            usable = ap (λ (t : TrailState). t.broken) has_noted.trail_is ∙ is.usable;
+            sound = has_noted.sound;
+            start = ap (λ (t : TrailState). t.level) has_noted.trail_is ∙ is.start;
+            table = table;
+            added = room;
+            few = omega (arith, is.few, longer, most, one_more, room);
+            next = omega (arith, is.next, has_noted.next_is, most, one_more, room);
+            numbers = numbers;
+          };
         })
   ]

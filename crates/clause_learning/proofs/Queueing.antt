@@ -4,9 +4,11 @@ use Rattle.std.specs.Prelude.{◌⊎◌}
 use Rattle.std.proofs.lemmas.Bool.{true≢false, cases_eq, cases_lt, eq-eqb, ne_eqb, eqb-false, or_cases, or_left, or_right, not-true, not_from_false, false_from_ne_true, lt-ltb, le-ltb}
 use Rattle.std.proofs.lemmas.List.{get_or_past, get_or-set_same, get_or-set_other}
 use Rattle.clause_learning.specs.declared.queue.VariableQueue.{VariableQueue}
+use Rattle.clause_learning.specs.declared.numbers.NumberSet.{NumberSet}
 use Rattle.clause_learning.specs.declared.tournament.Rank.{Rank}
-use Rattle.clause_learning.specs.Tournaments.{IsTournament, is_before, rank_at, weight}
-use Rattle.clause_learning.specs.NumberSets.{IsNumberSet, IsLeastBit, contains, room}
+use Rattle.clause_learning.specs.declared.tournament.Tournament.{Tournament}
+use Rattle.clause_learning.specs.Tournaments.{IsTournament, HasWeight, is_before, rank_at, weight}
+use Rattle.clause_learning.specs.NumberSets.{IsNumberSet, HasMember, IsLeastBit, contains}
 use Rattle.clause_learning.specs.Queues.{IsQueue, IsNext, IsActive, AreBounded, variable_count, activity_of, rank_of, is_queued, beside, scaled, limit}
 use Rattle.clause_learning.proofs.Rounds.{Leads, more, same, leads_from, before_from}
 
@@ -98,12 +100,10 @@ pub record IsChanged (old : VariableQueue) (v weighs : ℕ) (there : Bool) (acti
   pub fitting : (weighs ≡ 0) ⊎ (weighs ≡ activity)
   pub none : there ≡ true → activity ≡ 0
   pub count : variable_count new ≡ variable_count old
-  pub leaves : new.active.leaves ≡ old.active.leaves
-  pub room_is : room new.inactive ≡ room old.inactive
-  pub tournament : IsTournament new.active
-  pub set : IsNumberSet new.inactive
-  pub weights : (o : ℕ) → weight new.active o ≡ cond (o == v) weighs (weight old.active o)
-  pub members : (o : ℕ) → contains new.inactive o ≡ cond (o == v) there (contains old.inactive o)
+  pub weighed : HasWeight old.active v weighs new.active
+  pub open weighed use *
+  pub written : HasMember old.inactive v there new.inactive
+  pub open written use *
   pub activities : (o : ℕ) → activity_of new o ≡ cond (o == v) activity (activity_of old o)
 
 pub at_one : {X : Type 0} (o v : ℕ) (x y : X) → o ≡ v → cond (o == v) x y ≡ x
@@ -119,6 +119,13 @@ unchanged f v o = elim (cases_eq o v) [
   | inr apart ↦ sym (at_other o v (f v) (f o) apart)
 ]
 
+-- nor is a variable's weight, or whether it is in the set
+pub weighs_still : (t : Tournament) (v : ℕ) → IsTournament t → HasWeight t v (weight t v) t
+weighs_still t v is = record { tournament = is; leaves = refl; weights = unchanged (weight t) v }
+
+pub member_still : (numbers : NumberSet) (v : ℕ) → IsNumberSet numbers → HasMember numbers v (contains numbers v) numbers
+member_still numbers v is = record { set = is; same_room = refl; members = unchanged (contains numbers) v }
+
 module _ (old new : VariableQueue) (v weighs : ℕ) (there : Bool) (activity : ℕ) (is : IsQueue old)
     (c : IsChanged old v weighs there activity new) where
   pub queue_changed : IsQueue new
@@ -127,7 +134,7 @@ module _ (old new : VariableQueue) (v weighs : ℕ) (there : Bool) (activity : �
     tournament = c.tournament;
     leaf_each = omega (arith, is.leaf_each, c.count, c.leaves);
     set = c.set;
-    bit_each = omega (arith, is.bit_each, c.count, c.room_is);
+    bit_each = omega (arith, is.bit_each, c.count, c.same_room);
     active = λ o. elim (cases_eq o v) [
       | inl here ↦ (let w = c.weights o ∙ at_one o v weighs (weight old.active o) here in
           let a = c.activities o ∙ at_one o v activity (activity_of old o) here in

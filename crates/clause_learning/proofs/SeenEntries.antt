@@ -15,7 +15,7 @@ use Rattle.sat_trail.proofs.Places.{place_found}
 use Rattle.sat_trail.specs.States.{TrailState, IsSound}
 use Rattle.sat_trail.proofs.Soundness.{length_entries}
 use Rattle.clause_learning.specs.declared.seen.Seen.{Seen}
-use Rattle.clause_learning.specs.ConflictAnalysis.{is_seen, count_from, count_at, stands_at, is_of_clause, AreSeen, AreNoneSeen}
+use Rattle.clause_learning.specs.ConflictAnalysis.{is_seen, count_from, count_at, stands_at, is_of_clause, AreSeen, AreNoneSeen, IsCleared}
 
 -- what one entry counts
 abbrev pub one_at : ℕ → Bool → Entry → ℕ
@@ -283,19 +283,22 @@ module _ (t : TrailState) (m n : Seen) (k : ℕ) (e : Entry) (present : Bool) (b
     clears_count = counts_less t m.waiting (is_seen m) (is_seen n) k e present byte seen.counted entries_seen cleared_here cleared_other at is
         read
 
-    pub clears_flags : (j : ℕ) → is_seen n j ≡ (is_seen m j && not (eqb j k))
+    clears_flags : (j : ℕ) → is_seen n j ≡ (is_seen m j && not (eqb j k))
     clears_flags j = elim (cases_eq j k) [
       | inl here ↦ ap (is_seen n) here ∙ (cleared_here ∙ sym (ap (λ b. is_seen m j && not b) (eq-eqb j k here) ∙ and-false (is_seen m j)))
       | inr other ↦ cleared_other j other ∙ sym (ap (λ b. is_seen m j && not b) (ne_eqb j k other) ∙ and-true (is_seen m j))
     ]
 
-    pub clears : n.lowest ≡ m.lowest → n.looked.items ≡ m.looked.items → n.waiting ≡ m.waiting - byte → AreSeen t n
+    pub clears : n.lowest ≡ m.lowest → n.looked.items ≡ m.looked.items → n.waiting ≡ m.waiting - byte → IsCleared t k m n
     clears lowest looked waiting = record {
-      one_each = ap length flags ∙ (length-set m.flags.items k false ∙ seen.one_each);
-      within = λ j h. seen.within j (before j h);
-      above = λ j h. omega (arith, lowest, seen.above j (before j h));
-      counted = omega (arith, waiting, clears_count);
-      looked = subst (All (λ variable. variable < t.variables)) (sym looked) seen.looked;
+      cleared = clears_flags;
+      seen = record {
+        one_each = ap length flags ∙ (length-set m.flags.items k false ∙ seen.one_each);
+        within = λ j h. seen.within j (before j h);
+        above = λ j h. omega (arith, lowest, seen.above j (before j h));
+        counted = omega (arith, waiting, clears_count);
+        looked = subst (All (λ variable. variable < t.variables)) (sym looked) seen.looked;
+      };
     }
       where
         before : (j : ℕ) → is_seen n j ≡ true → is_seen m j ≡ true

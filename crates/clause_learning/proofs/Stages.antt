@@ -17,7 +17,7 @@ use Rattle.sat_trail.proofs.Soundness.{apart_from, level_at_next, levels_rise, l
 use Rattle.clause_learning.specs.declared.analysis.Analysis.{Analysis}
 use Rattle.clause_learning.specs.Levels.{IsSetAt}
 use Rattle.clause_learning.specs.ConflictAnalysis.{is_seen, is_of_clause, count_at, AreSeen, must_go, MayStay, IsForcing, IsReplaced}
-use Rattle.clause_learning.specs.ConflictAnalysis.{IsEarly, IsLate}
+use Rattle.clause_learning.specs.ConflictAnalysis.{IsCleared, IsEarly, AssertsFirst, IsLate}
 use Rattle.clause_learning.proofs.SeenEntries.{one_at, count_some, count_has, HasSeen, one_same, one_other, is_of_clause_from, without}
 use Rattle.clause_learning.proofs.SeenEntries.{without_other, without_from, count_without}
 
@@ -172,17 +172,17 @@ module _ (t : TrailState) (sound : IsSound t) (q : ℕ) (e : Entry) (at : slice_
 
 -- the opposite of an entry's literal stays
 pub stage_kept : (t : TrailState) → IsSound t → (q : ℕ) (e : Entry) → slice_get t.entries q ≡ Some e → (w v : Analysis) → AreSeen t w.seen →
-    is_seen w.seen q ≡ true → ((k : ℕ) → is_seen w.seen k ≡ true → k < q + 1) → AreSeen t v.seen →
-    ((k : ℕ) → is_seen v.seen k ≡ without (is_seen w.seen) q k) → v.kept.items ≡ w.kept.items ++ negation e.literal ∷ [] →
+    is_seen w.seen q ≡ true → ((k : ℕ) → is_seen w.seen k ≡ true → k < q + 1) → IsCleared t q w.seen v.seen →
+    v.kept.items ≡ w.kept.items ++ negation e.literal ∷ [] →
     v.back ≡ cond (nat_lt e.level t.level) (max w.back e.level) w.back → MayStay t.level w.seen.waiting e →
     IsEarly t w ⊎ IsLate t w → IsLate t v
-stage_kept t sound q e at w v seen entries_seen ahead after cleared kept back stays stage = elim stage
+stage_kept t sound q e at w v seen entries_seen ahead after kept back stays stage = elim stage
     [ inl early ↦ first early | inr late ↦ next late ]
   where
     counts : v.seen.waiting + one_at t.level true e ≡ w.seen.waiting
     counts = summed v.seen.waiting (count_at t.level (is_seen v.seen) t.entries) (one_at t.level true e)
-        (count_at t.level (is_seen w.seen) t.entries) w.seen.waiting after.counted
-        (count_without t.level (is_seen w.seen) (is_seen v.seen) t.entries q e at entries_seen cleared) seen.counted
+        (count_at t.level (is_seen w.seen) t.entries) w.seen.waiting after.seen.counted
+        (count_without t.level (is_seen w.seen) (is_seen v.seen) t.entries q e at entries_seen after.cleared) seen.counted
       where
         summed : (v n x m w : ℕ) → v ≡ n → n + x ≡ m → w ≡ m → v + x ≡ w
         summed v n x m w a s c = omega arith
@@ -218,14 +218,16 @@ stage_kept t sound q e at w v seen entries_seen ahead after cleared kept back st
         let back_is : v.back ≡ w.back = back ∙ cond-false (nat_lt e.level t.level) (max w.back e.level) w.back
         (le-ltb e.level t.level (omega arith)) in
         record {
-          asserted = negation e.literal;
-          others = [];
-          kept_is = kept ∙ ap (λ (ls : List Lit). ls ++ negation e.literal ∷ []) early.empty;
           alone = omega (arith, counts, one, few);
-          last = set_here (negation e.literal) t.level refl top;
-          lower = λ l h. absurd (false≢true h);
-          below = omega (arith, back_is, early.low, top, positive);
-          reached = λ h. absurd (omega (arith, back_is, early.low));
+          asserts = record {
+            asserted = negation e.literal;
+            others = [];
+            kept_is = kept ∙ ap (λ (ls : List Lit). ls ++ negation e.literal ∷ []) early.empty;
+            last = set_here (negation e.literal) t.level refl top;
+            lower = λ l h. absurd (false≢true h);
+            below = omega (arith, back_is, early.low, top, positive);
+            reached = λ h. absurd (omega (arith, back_is, early.low));
+          };
         }
 
     next : IsLate t w → IsLate t v
@@ -237,40 +239,35 @@ stage_kept t sound q e at w v seen entries_seen ahead after cleared kept back st
         let back_is : v.back ≡ max w.back e.level = back ∙ cond-true (nat_lt e.level t.level) (max w.back e.level) w.back
         (lt-ltb e.level t.level low) in
         record {
-          asserted = late.asserted;
-          others = late.others ++ negation e.literal ∷ [];
-          kept_is = kept ∙ ap (λ (ls : List Lit). ls ++ negation e.literal ∷ []) late.kept_is;
           alone = omega (arith, counts, none, late.alone);
-          last = late.last;
-          lower = λ l h. elim (or_cases (has late.others l) (has (negation e.literal ∷ []) l)
-              (sym (has-append late.others (negation e.literal ∷ []) l) ∙ h)) [
-                | inl there ↦ (let r = late.lower l there in (r.0, omega (arith, back_is, r.1), r.2))
-                | inr here ↦ (e.level, omega (arith, back_is), set_here l e.level (has_one (negation e.literal) l here) refl)
-              ];
-          below = omega (arith, back_is, low, late.below);
-          reached = λ h. elim (cases_lt w.back e.level) [
-            | inl more ↦ (
-              negation e.literal,
-              has-append late.others (negation e.literal ∷ []) (negation e.literal)
-                  ∙ or_right (has late.others (negation e.literal)) (has (negation e.literal ∷ []) (negation e.literal))
-                  (or_left (same (negation e.literal) (negation e.literal)) false
-                  (same_from (negation e.literal) (negation e.literal) refl)),
-              set_here (negation e.literal) v.back refl (omega (arith, back_is)),
-            )
-            | inr less ↦ (let r = late.reached (omega (arith, back_is)) in
-                let same_back : w.back ≡ v.back = omega (arith, back_is) in (
-                  r.0,
-                  has-append late.others (negation e.literal ∷ []) r.0 ∙ or_left (has late.others r.0)
-                      (has (negation e.literal ∷ []) r.0) r.1,
-                  record {
-                    place = r.2.place;
-                    entry = r.2.entry;
-                    there = r.2.there;
-                    same_literal = r.2.same_literal;
-                    same_level = r.2.same_level ∙ same_back;
-                  },
-                ))
-          ];
+          asserts = record {
+            asserted = late.asserted;
+            others = late.others ++ negation e.literal ∷ [];
+            kept_is = kept ∙ ap (λ (ls : List Lit). ls ++ negation e.literal ∷ []) late.kept_is;
+            last = late.last;
+            lower = λ l h. elim (or_cases (has late.others l) (has (negation e.literal ∷ []) l)
+                (sym (has-append late.others (negation e.literal ∷ []) l) ∙ h)) [
+                  | inl there ↦ (let r = late.lower l there in (r.0, omega (arith, back_is, r.1), r.2))
+                  | inr here ↦ (e.level, omega (arith, back_is), set_here l e.level (has_one (negation e.literal) l here) refl)
+                ];
+            below = omega (arith, back_is, low, late.below);
+            reached = λ h. elim (cases_lt w.back e.level) [
+              | inl more ↦ (
+                negation e.literal,
+                has-append late.others (negation e.literal ∷ []) (negation e.literal)
+                    ∙ or_right (has late.others (negation e.literal)) (has (negation e.literal ∷ []) (negation e.literal))
+                    (or_left (same (negation e.literal) (negation e.literal)) false
+                    (same_from (negation e.literal) (negation e.literal) refl)),
+                set_here (negation e.literal) v.back refl (omega (arith, back_is)),
+              )
+              | inr less ↦ (let r = late.reached (omega (arith, back_is)) in (
+                r.0,
+                has-append late.others (negation e.literal ∷ []) r.0
+                    ∙ or_left (has late.others r.0) (has (negation e.literal ∷ []) r.0) r.1,
+                subst (IsSetAt t.entries (negation r.0)) (let same_back : w.back ≡ v.back = omega (arith, back_is) in same_back) r.2,
+              ))
+            ];
+          };
         }
 
 -- the reason takes the place of an entry
@@ -310,27 +307,12 @@ stage_replaced t sound q e at w v seen entries_seen ahead after reason forced cl
 
     later : IsLate t w → IsLate t v
     later late = record {
-      asserted = late.asserted;
-      others = late.others;
-      kept_is = kept ∙ late.kept_is;
       alone = elim (cases_lt 0 v.seen.waiting) [
         | inl some ↦ absurd (none (count_some t.level (is_seen v.seen) t.entries (omega (arith, after.counted))))
         | inr h ↦ omega arith
       ];
-      last = late.last;
-      lower = λ l h. (let r = late.lower l h in (r.0, omega (arith, r.1, back), r.2));
-      below = omega (arith, late.below, back);
-      reached = λ h. (let r = late.reached (omega (arith, back)) in (
-        r.0,
-        r.1,
-        record {
-          place = r.2.place;
-          entry = r.2.entry;
-          there = r.2.there;
-          same_literal = r.2.same_literal;
-          same_level = r.2.same_level ∙ sym back;
-        },
-      ));
+      asserts = subst (AssertsFirst t v.kept.items) (sym back)
+          (subst (λ (ls : List Lit). AssertsFirst t ls w.back) (sym kept) late.asserts);
     }
       where
         none : HasSeen t.level (is_seen v.seen) t.entries → ⊥

@@ -2,7 +2,7 @@
 -- The analysis of a conflict along a trail, from its end, that finds what is learnt. An entry is seen while the clause
 -- that is found so far has the opposite of its literal and the analysis is yet to pass it.
 use Rattle.std.specs.Prelude.{◌≡◌, ℕ, suc, ◌+◌, ◌<◌, ◌≤◌, ◌==◌, nat_lt, Bool, true, false, cond, ◌&&◌, ◌||◌, ◌⊎◌, List, [], ◌∷◌, length}
-use Rattle.std.specs.Prelude.{reverse, All, Option, Some, None, slice_get, slice_index_or}
+use Rattle.std.specs.Prelude.{◌++◌, not, reverse, All, Option, Some, None, slice_get, slice_index_or}
 use Rattle.std.specs.List.{list_any, list_all}
 use Rattle.clause_learning.specs.Hints.{AreHints}
 use Rattle.clause_core.specs.Literals.{Lit, negation, has}
@@ -12,7 +12,10 @@ use Rattle.sat_trail.specs.States.{TrailState}
 use Rattle.refutation_check.specs.Checking.{numbered_from, refused_hint}
 use Rattle.clause_learning.specs.declared.seen.Seen.{Seen}
 use Rattle.clause_learning.specs.declared.analysis.Analysis.{Analysis}
+use Rattle.clause_learning.specs.declared.units.Units.{Units}
 use Rattle.clause_learning.specs.Levels.{IsSetAt}
+use Rattle.clause_learning.specs.Trails.{IsUsable}
+use Rattle.clause_learning.specs.Units.{AreUnits}
 
 -- whether the entry at a place is seen
 abbrev pub is_seen : Seen → ℕ → Bool
@@ -49,6 +52,31 @@ pub record AreSeen (t : TrailState) (seen : Seen) : Type 0 where
 pub record AreNoneSeen (variables : ℕ) (seen : Seen) : Type 0 where
   pub one_each : length seen.flags.items ≡ variables
   pub none : (place : ℕ) → is_seen seen place ≡ false
+
+-- an analysis may begin: the tables are those of the trail, and no entry is seen
+pub record CanAnalyse (t : TrailState) (units : Units) (seen : Seen) : Type 0 where
+  pub trail : IsUsable t
+  pub open trail use *
+  pub none_seen : AreNoneSeen t.variables seen
+  pub table : AreUnits t units
+
+-- the entry at this place is seen
+pub record IsSeenAt (t : TrailState) (place : ℕ) (seen : Seen) : Type 0 where
+  pub within : place < length t.entries
+  pub here : is_seen seen place ≡ true
+  pub all : AreSeen t seen
+
+-- the entry at this place is seen no more
+pub record IsCleared (t : TrailState) (place : ℕ) (old new : Seen) : Type 0 where
+  pub cleared : (other : ℕ) → is_seen new other ≡ (is_seen old other && not (other == place))
+  pub seen : AreSeen t new
+
+-- The entries of a clause's variables are seen in place of the one at this place, and the clause is the next hint.
+pub record TakesPlace (t : TrailState) (place reason : ℕ) (old new : Analysis) : Type 0 where
+  pub entries_seen : (clause : List Lit) → slice_get t.clauses reason ≡ Some clause → (other : ℕ) →
+      is_seen new.seen other ≡ ((is_seen old.seen other || is_of_clause t.entries clause other) && not (other == place))
+  pub seen : AreSeen t new.seen
+  pub hints : new.hints.items ≡ old.hints.items ++ (reason + 1) ∷ []
 
 -- whether an entry is of level 0
 abbrev pub is_of_start : Option Entry → Bool
@@ -102,17 +130,22 @@ pub record IsEarly (t : TrailState) (w : Analysis) : Type 0 where
   pub low : w.back ≡ 0
   pub waits : (0 < w.seen.waiting) ⊎ (t.level ≡ 0)
 
--- the first literal kept is false at the present level, and no seen entry of that level waits; the others are
--- false at lower levels, the largest of which is the level to go back to
-pub record IsLate (t : TrailState) (w : Analysis) : Type 0 where
+-- the first literal is false at the present level; the others are false at lower levels, the largest of which is the
+-- level to go back to
+pub record AssertsFirst (t : TrailState) (kept : List Lit) (back : ℕ) : Type 0 where
   pub asserted : Lit
   pub others : List Lit
-  pub kept_is : w.kept.items ≡ asserted ∷ others
-  pub alone : w.seen.waiting ≡ 0
+  pub kept_is : kept ≡ asserted ∷ others
   pub last : IsSetAt t.entries (negation asserted) t.level
-  pub lower : (l : Lit) → has others l ≡ true → (level : ℕ) × (level ≤ w.back) × IsSetAt t.entries (negation l) level
-  pub below : w.back < t.level
-  pub reached : 0 < w.back → (l : Lit) × (has others l ≡ true) × IsSetAt t.entries (negation l) w.back
+  pub lower : (l : Lit) → has others l ≡ true → (level : ℕ) × (level ≤ back) × IsSetAt t.entries (negation l) level
+  pub below : back < t.level
+  pub reached : 0 < back → (l : Lit) × (has others l ≡ true) × IsSetAt t.entries (negation l) back
+
+-- the literals kept assert the first one, and no seen entry of the present level waits
+pub record IsLate (t : TrailState) (w : Analysis) : Type 0 where
+  pub alone : w.seen.waiting ≡ 0
+  pub asserts : AssertsFirst t w.kept.items w.back
+  pub open asserts use *
 
 -- What holds of an analysis that has passed the places from this one on: it has seen places before that one alone, and keeps
 -- no literal whose entry is yet to be passed; each place passed gave one hint at most, and the conflict one; and the

@@ -30,11 +30,16 @@ abbrev pub IsChosen : List Entry → ℕ → Decisions → Lit → Type 0
 IsChosen entries variables d literal = Contains d.repeated.items literal
     ⊎ (IsNextUnset entries variables d.queue literal.index × (literal.positive ≡ slice_index_or d.phases.items literal.index false))
 
--- each of the variables has an activity and a value to be decided to, and is in the queue while it is not set
+-- each of the variables has an activity and a value to be decided to
+pub record AreForEach (variables : ℕ) (activities : VariableQueue) (values : List Bool) : Type 0 where
+  pub queue : IsVariableQueue activities
+  pub one_activity_each : variable_count activities ≡ variables
+  pub one_value_each : length values ≡ variables
+
+-- and each of them is in the queue while it is not set
 pub record AreDecisions (variables : ℕ) (entries : List Entry) (d : Decisions) : Type 0 where
-  pub queue : IsVariableQueue d.queue
-  pub one_activity_each : variable_count d.queue ≡ variables
-  pub one_value_each : length d.phases.items ≡ variables
+  pub each : AreForEach variables d.queue d.phases.items
+  pub open each use *
   pub queued : (index : ℕ) → index < variables → place_of entries index ≡ None → is_queued d.queue index ≡ true
 
 -- a variable that was not set is decided

@@ -42,5 +42,5 @@ pub record CanNote (t : TrailState) (proof_log : ProofLog) (units : Units) : Typ
   pub table : AreUnits t units
   pub added : units.added ≤ units.most
   pub few : length t.clauses + (units.most - units.added) + 1 < 2 ^ 32
-  pub next : proof_log.next + units.most + 1 < 2 ^ 64
+  pub next : proof_log.next + (units.most - units.added) + 1 < 2 ^ 64
   pub numbers : length (numbers_of proof_log.database) ≡ length t.clauses

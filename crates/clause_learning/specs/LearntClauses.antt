@@ -38,6 +38,14 @@ pub record IsLearntClause (t : TrailState) (clause : List Lit) (hints : List ℕ
 abbrev pub learnt_step : ℕ → List Lit → List ℕ → Step
 learnt_step number clause hints = record { number = number; clause = clause; hints = hints }
 
+-- The log takes a step, which stands behind the others, with the next number: the clause, by hints that name clauses on the trail,
+-- to which it is about to be added.
+pub record TakesStep (proof_log : ProofLog) (clause : List Lit) (hints : List ℕ) (after : ProofLog) : Type 0 where
+  pub steps_are : after.steps.items
+      ≡ proof_log.steps.items ++ learnt_step proof_log.next clause (log_hints (numbers_of proof_log.database) hints) ∷ []
+  pub next_is : after.next ≡ proof_log.next + 1
+  pub numbers_are : numbers_of after.database ≡ numbers_of proof_log.database ++ proof_log.next ∷ []
+
 -- the clauses of steps
 abbrev pub clauses_of : List Step → List (List Lit)
 clauses_of steps = map (λ step. step.clause) steps
@@ -47,17 +55,15 @@ clauses_of steps = map (λ step. step.clause) steps
 abbrev pub level_after : Bool → Bool → ℕ → ℕ → ℕ
 level_after anew steps back level = cond anew 0 (cond (steps && nat_lt 20 (level - 1 - back)) (level - 1) back)
 
--- A clause is learnt: the trail goes back, and takes the clause, and its step stands behind the others, with the next number.
+-- a clause is learnt: the trail goes back, and takes the clause, and the log takes its step
 pub record HasLearnt (anew steps : Bool) (old : TrailState) (proof_log : ProofLog) (new : TrailState) (after : ProofLog) : Type 0 where
   pub clause : List Lit
   pub hints : List ℕ
   pub back : ℕ
   pub learnt_clause : IsLearntClause old clause hints back
   pub trail_is : new ≡ with_clause (undone old (level_after anew steps back old.level)) clause
-  pub steps_are : after.steps.items
-      ≡ proof_log.steps.items ++ learnt_step proof_log.next clause (log_hints (numbers_of proof_log.database) hints) ∷ []
-  pub next_is : after.next ≡ proof_log.next + 1
-  pub numbers_are : numbers_of after.database ≡ numbers_of proof_log.database ++ proof_log.next ∷ []
+  pub step : TakesStep proof_log clause hints after
+  pub open step use *
 
 -- a log of the steps and of one more with the empty clause, which hints show behind these clauses
 pub record IsRefutingLog (clauses : List (List Lit)) (proof_log : ProofLog) (log : Log) : Type 0 where

@@ -1,5 +1,6 @@
 pub mod Hints
 pub mod Levels
+pub mod Trails
 pub mod NumberSets
 pub mod Queues
 pub mod Tournaments

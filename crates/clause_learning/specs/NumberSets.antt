@@ -1,6 +1,6 @@
 -- Internal to the solver: no clause of a public function of `sat_core` uses these words.
 -- Sets of numbers as bits, with two summaries of them.
-use Rattle.std.specs.Prelude.{◌≡◌, ℕ, ◌*◌, ◌^◌, ◌<◌, ◌≤◌, Bool, ◌==◌, not, true, false, List, length}
+use Rattle.std.specs.Prelude.{◌≡◌, ℕ, ◌*◌, ◌^◌, ◌<◌, ◌≤◌, Bool, ◌==◌, not, true, false, cond, List, length}
 use Rattle.lane_planes.specs.Planes.{word_at, has_bit}
 use Rattle.clause_learning.specs.declared.numbers.NumberSet.{NumberSet}
 
@@ -28,6 +28,12 @@ pub record AreSummedUp (members words groups : List ℕ) : Type 0 where
 
 abbrev pub IsNumberSet : NumberSet → Type 0
 IsNumberSet set = AreSummedUp set.members.items set.words.items set.groups.items
+
+-- one number is in the set or not, and the others as before
+pub record HasMember (old : NumberSet) (number : ℕ) (is_member : Bool) (new : NumberSet) : Type 0 where
+  pub set : IsNumberSet new
+  pub same_room : room new ≡ room old
+  pub members : (other : ℕ) → contains new other ≡ cond (other == number) is_member (contains old other)
 
 -- the least number whose bit is set
 pub record IsLeastBit (plane : List ℕ) (number : ℕ) : Type 0 where

@@ -1,8 +1,10 @@
 -- Internal to the solver: no clause of a public function of `sat_core` uses these words.
 -- The queue of the variables that may be decided.
-use Rattle.std.specs.Prelude.{◌≡◌, ℕ, ◌+◌, ◌/◌, ◌^◌, ◌<◌, ◌≤◌, Bool, ◌==◌, ◌||◌, ◌⊎◌, not, true, cond, nat_lt, length, slice_index_or}
+use Rattle.std.specs.Prelude.{◌≡◌, ℕ, ◌+◌, ◌/◌, ◌^◌, ◌<◌, ◌≤◌, Bool, ◌==◌, ◌||◌, ◌⊎◌, not, true, cond, nat_lt, List, length, slice_index_or}
 use Rattle.clause_learning.specs.declared.queue.VariableQueue.{VariableQueue}
 use Rattle.clause_learning.specs.declared.tournament.Rank.{Rank}
+use Rattle.clause_learning.specs.declared.tournament.Tournament.{Tournament}
+use Rattle.clause_learning.specs.declared.numbers.NumberSet.{NumberSet}
 use Rattle.clause_learning.specs.Tournaments.{IsTournament, is_before, weight}
 use Rattle.clause_learning.specs.NumberSets.{IsNumberSet, contains, room}
 
@@ -23,14 +25,18 @@ abbrev pub is_queued : VariableQueue → ℕ → Bool
 is_queued queue variable = not (weight queue.active variable == 0) || contains queue.inactive variable
 
 -- those of activity 0 are in the set, the others in the tournament
-pub record IsQueue (queue : VariableQueue) : Type 0 where
-  pub few : variable_count queue < 2 ^ 31
-  pub tournament : IsTournament queue.active
-  pub leaf_each : queue.active.leaves ≡ variable_count queue + 1
-  pub set : IsNumberSet queue.inactive
-  pub bit_each : variable_count queue ≤ room queue.inactive
-  pub active : (variable : ℕ) → (weight queue.active variable ≡ 0) ⊎ (weight queue.active variable ≡ activity_of queue variable)
-  pub inactive : (variable : ℕ) → contains queue.inactive variable ≡ true → (variable < variable_count queue) × (activity_of queue variable ≡ 0)
+pub record AreQueued (ranks : Tournament) (numbers : NumberSet) (activities : List ℕ) : Type 0 where
+  pub few : length activities < 2 ^ 31
+  pub tournament : IsTournament ranks
+  pub leaf_each : ranks.leaves ≡ length activities + 1
+  pub set : IsNumberSet numbers
+  pub bit_each : length activities ≤ room numbers
+  pub active : (variable : ℕ) → (weight ranks variable ≡ 0) ⊎ (weight ranks variable ≡ slice_index_or activities variable 0)
+  pub inactive : (variable : ℕ) → contains numbers variable ≡ true →
+      (variable < length activities) × (slice_index_or activities variable 0 ≡ 0)
+
+abbrev pub IsQueue : VariableQueue → Type 0
+IsQueue queue = AreQueued queue.active queue.inactive queue.activities.items
 
 -- the largest activity
 abbrev pub limit : ℕ
@@ -45,6 +51,11 @@ pub record AreBounded (bound : ℕ) (queue : VariableQueue) : Type 0 where
 pub record IsVariableQueue (q : VariableQueue) : Type 0 where
   pub queue : IsQueue q
   pub bounded : AreBounded limit q
+
+-- the variables are the same ones, and so are those that may be decided
+pub record KeepsVariables (old new : VariableQueue) : Type 0 where
+  pub count : variable_count new ≡ variable_count old
+  pub same : (other : ℕ) → is_queued new other ≡ is_queued old other
 
 -- the next one to be decided: of all others that may be the more active one, or as active and of the smaller number
 pub record IsNext (queue : VariableQueue) (variable : ℕ) : Type 0 where

@@ -24,10 +24,21 @@ weight t variable = (rank_at t.nodes.items (t.leaves + variable)).activity
 abbrev pub IsWon : List Rank → ℕ → Type 0
 IsWon nodes node = rank_at nodes node ≡ winner (rank_at nodes (2 * node)) (rank_at nodes (2 * node + 1))
 
--- The second half of the nodes are the leaves, one for each number in order; those before them were won. The first one is number 1.
-pub record IsTournament (t : Tournament) : Type 0 where
+-- the second half of the nodes are the leaves, one for each number in order
+pub record HasLeaves (t : Tournament) : Type 0 where
   pub some : 0 < t.leaves
   pub few : t.leaves ≤ 2 ^ 31
   pub size : length t.nodes.items ≡ 2 * t.leaves
   pub named : (leaf : ℕ) → leaf < t.leaves → (rank_at t.nodes.items (t.leaves + leaf)).variable ≡ leaf
+
+-- the nodes before the leaves were won; the first one is number 1
+pub record IsTournament (t : Tournament) : Type 0 where
+  pub last_half : HasLeaves t
+  pub open last_half use *
   pub won : (node : ℕ) → 0 < node → node < t.leaves → IsWon t.nodes.items node
+
+-- it is a tournament of as many leaves, in which one variable is so active, and the others as before
+pub record HasWeight (old : Tournament) (variable activity : ℕ) (new : Tournament) : Type 0 where
+  pub tournament : IsTournament new
+  pub leaves : new.leaves ≡ old.leaves
+  pub weights : (other : ℕ) → weight new other ≡ cond (other == variable) activity (weight old other)

@@ -7,8 +7,7 @@ use Rattle.refutation_check.specs.Checking.{numbered_from, refused_hint}
 use Rattle.clause_learning.specs.declared.proof_log.ProofLog.{ProofLog}
 use Rattle.clause_learning.specs.declared.units.Units.{Units}
 use Rattle.clause_learning.specs.Hints.{AreHints}
-use Rattle.clause_learning.specs.LearntClauses.{learnt_step}
-use Rattle.clause_learning.specs.ClauseDatabases.{numbers_of, log_hints}
+use Rattle.clause_learning.specs.LearntClauses.{TakesStep}
 
 -- there is a place for each variable, and clauses of the trail alone are named
 pub record AreUnits (t : TrailState) (units : Units) : Type 0 where
@@ -21,33 +20,36 @@ AddsHint clauses literal other old new = ((other ≡ literal) × (new ≡ old))
     ⊎ ((other ≡ literal → ⊥) × ((hint : ℕ) × (1 ≤ hint) × (slice_get clauses (hint - 1) ≡ Some (negation other ∷ [])) × (new ≡ old ++ hint ∷ [])))
 
 -- hints that show the clause of this literal alone
-pub record ShowAlone (clauses : List (List Lit)) (literal : Lit) (hints : List ℕ) : Type 0 where
-  pub shown : refused_hint (numbered_from 1 clauses) (negation literal ∷ []) 1 hints ≡ None
+pub record ShowAlone (t : TrailState) (literal : Lit) (hints : List ℕ) : Type 0 where
+  pub over : literal.index < t.variables
+  pub shown : refused_hint (numbered_from 1 t.clauses) (negation literal ∷ []) 1 hints ≡ None
   pub few_hints : length hints + 1 < 2 ^ 32
-  pub named : AreHints (length clauses) hints
+  pub named : AreHints (length t.clauses) hints
 
--- A clause of one literal is added to a trail at level 0, and its step stands behind the others, with the next number;
--- its hints show it.
+-- a clause of one literal is added to a trail at level 0, and the log takes its step, whose hints show it
 pub record HasNoted (old : TrailState) (proof_log : ProofLog) (new : TrailState) (after : ProofLog) : Type 0 where
   pub literal : Lit
   pub hints : List ℕ
-  pub over : literal.index < old.variables
-  pub shown : refused_hint (numbered_from 1 old.clauses) (negation literal ∷ []) 1 hints ≡ None
-  pub few_hints : length hints + 1 < 2 ^ 32
-  pub named : AreHints (length old.clauses) hints
+  pub alone : ShowAlone old literal hints
+  pub open alone use *
   pub start : old.level ≡ 0
   pub sound : IsSound new
   pub trail_is : new ≡ with_clause old (literal ∷ [])
-  pub steps_are : after.steps.items
-      ≡ proof_log.steps.items ++ learnt_step proof_log.next (literal ∷ []) (log_hints (numbers_of proof_log.database) hints) ∷ []
-  pub next_is : after.next ≡ proof_log.next + 1
-  pub numbers_are : numbers_of after.database ≡ numbers_of proof_log.database ++ proof_log.next ∷ []
+  pub step : TakesStep proof_log (literal ∷ []) hints after
+  pub open step use *
 
 -- so many clauses are added, one after another
 pub data HaveNoted : ℕ → TrailState → ProofLog → TrailState → ProofLog → Type 0 where
   none : {t : TrailState} → {proof_log : ProofLog} → HaveNoted 0 t proof_log t proof_log
   more : {count : ℕ} → {old middle new : TrailState} → {proof_log between after : ProofLog} →
       HaveNoted count old proof_log middle between → HasNoted middle between new after → HaveNoted (count + 1) old proof_log new after
+
+-- one clause is added, and the numbers of clauses of one literal are those of the new trail
+pub record HasAdded (old : TrailState) (proof_log : ProofLog) (units : Units) (new : TrailState) (after : ProofLog) (later : Units) :
+    Type 0 where
+  pub noted : HasNoted old proof_log new after
+  pub added : later.added ≡ units.added + 1
+  pub table : AreUnits new later
 
 -- one clause is added, or none
 abbrev pub MayHaveNoted : TrailState → ProofLog → Units → TrailState → ProofLog → Units → Type 0

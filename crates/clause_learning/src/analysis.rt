@@ -1,12 +1,13 @@
 //! The analysis of a conflict: it passes the entries of a trail, from the last one on, and finds what is learnt.
 
-ghost use Rattle.std.specs.Prelude.{◌≡◌, ◌==◌, ◌&&◌, ◌||◌, ℕ, ◌+◌, ◌<◌, max, cond, nat_lt, false, true, not, List, [], ◌∷◌, ◌++◌, length, Some, None, slice_get, MatchOption, IfSome, OnOk, IfOk};
-ghost use Rattle.clause_core.specs.Literals.{Lit, negation};
+ghost use Rattle.std.specs.Prelude.{◌≡◌, ◌==◌, ◌&&◌, ◌+◌, ◌<◌, max, cond, nat_lt, false, true, [], ◌∷◌, ◌++◌, length, Some, None, slice_get, MatchOption, IfSome, OnOk, IfOk};
+ghost use Rattle.clause_core.specs.Literals.{negation};
 ghost use Rattle.sat_trail.specs.declared.entries.Entry.{Entry};
-ghost use Rattle.sat_trail.specs.States.{IsSound, IsFalseAt};
+ghost use Rattle.sat_trail.specs.States.{IsFalseAt};
 ghost use Rattle.clause_learning.specs.Levels.{AreNoneFalseBelow};
+ghost use Rattle.clause_learning.specs.Trails.{IsUsable};
 ghost use Rattle.clause_learning.specs.Units.{AreUnits};
-ghost use Rattle.clause_learning.specs.ConflictAnalysis.{is_seen, is_of_clause, AreSeen, AreNoneSeen, IsAnalysis, IsAnalysed, must_go, MayStay, IsForcing, IsReplaced};
+ghost use Rattle.clause_learning.specs.ConflictAnalysis.{is_seen, AreSeen, AreNoneSeen, CanAnalyse, IsSeenAt, IsCleared, TakesPlace, IsAnalysis, IsAnalysed, must_go, MayStay, IsForcing, IsReplaced};
 
 use crate::seen::Seen;
 use crate::units::Units;
@@ -43,12 +44,9 @@ impl Analysis {
 
     /// Analyses a clause that is false, over all entries. An `Err` says that memory ran out.
     pub fn run(&mut self, trail: &Trail<'_>, units: &Units, conflict: u32) -> Result<(), NoMemory>
-        requires usable { trail.now.broken ≡ false }
-        requires sound { IsSound trail.now }
-        requires units { AreUnits trail.now units.now }
+        requires ready { CanAnalyse trail.now units.now self.old.seen }
         requires conflict { IsFalseAt trail.now conflict }
         requires met { AreNoneFalseBelow trail.now trail.now.level }
-        requires seen { AreNoneSeen trail.now.variables self.old.seen }
         ensures { OnOk result (IsAnalysed trail.now self.new) }
     {
         self.begin(trail, conflict)?;
@@ -62,8 +60,7 @@ impl Analysis {
 
     /// Begins with a clause that is false. An `Err` says that memory ran out.
     fn begin(&mut self, trail: &Trail<'_>, conflict: u32) -> Result<(), NoMemory>
-        requires usable { trail.now.broken ≡ false }
-        requires sound { IsSound trail.now }
+        requires trail { IsUsable trail.now }
         requires conflict { IsFalseAt trail.now conflict }
         requires met { AreNoneFalseBelow trail.now trail.now.level }
         requires seen { AreNoneSeen trail.now.variables self.old.seen }
@@ -80,8 +77,7 @@ impl Analysis {
 
     /// Passes an entry. An `Err` says that memory ran out.
     fn step(&mut self, trail: &Trail<'_>, units: &Units, place: u32) -> Result<(), NoMemory>
-        requires usable { trail.now.broken ≡ false }
-        requires sound { IsSound trail.now }
+        requires trail { IsUsable trail.now }
         requires units { AreUnits trail.now units.now }
         requires within { place < length trail.now.entries }
         requires analysis { IsAnalysis trail.now (place + 1) self.old }
@@ -97,11 +93,10 @@ impl Analysis {
     /// Passes a seen entry: its reason takes its place in the clause, or the opposite of its literal
     /// stays. An `Err` says that memory ran out.
     fn pass(&mut self, trail: &Trail<'_>, units: &Units, place: u32) -> Result<(), NoMemory>
-        requires usable { trail.now.broken ≡ false }
-        requires sound { IsSound trail.now }
+        requires trail { IsUsable trail.now }
         requires units { AreUnits trail.now units.now }
         requires within { place < length trail.now.entries }
-        requires entries_seen { is_seen self.old.seen place ≡ true }
+        requires here { is_seen self.old.seen place ≡ true }
         requires analysis { IsAnalysis trail.now (place + 1) self.old }
         ensures { OnOk result (IsAnalysis trail.now place self.new) }
     {
@@ -113,8 +108,7 @@ impl Analysis {
 
     /// The number of the clause that takes an entry's place; none where its literal's opposite stays.
     fn replacement(&self, trail: &Trail<'_>, units: &Units, place: u32) -> Option<u32>
-        requires usable { trail.now.broken ≡ false }
-        requires sound { IsSound trail.now }
+        requires trail { IsUsable trail.now }
         requires units { AreUnits trail.now units.now }
         requires within { place < length trail.now.entries }
         requires seen { AreSeen trail.now self.now.seen }
@@ -145,8 +139,7 @@ impl Analysis {
     /// The number of an entry's reason, where the entries of its variables are seen or of level 0: the
     /// clause is shorter then.
     fn covered_reason(&self, trail: &Trail<'_>, place: u32) -> Option<u32>
-        requires usable { trail.now.broken ≡ false }
-        requires sound { IsSound trail.now }
+        requires trail { IsUsable trail.now }
         requires within { place < length trail.now.entries }
         requires seen { AreSeen trail.now self.now.seen }
         ensures { (entry : Entry) → slice_get trail.now.entries place ≡ Some entry → IfSome result (λ reason. entry.reason ≡ Some reason) }
@@ -161,18 +154,11 @@ impl Analysis {
 
     /// The reason takes the place of an entry. An `Err` says that memory ran out.
     fn replace(&mut self, trail: &Trail<'_>, place: u32, reason: u32) -> Result<(), NoMemory>
-        requires usable { trail.now.broken ≡ false }
-        requires within { place < length trail.now.entries }
-        requires sound { IsSound trail.now }
+        requires trail { IsUsable trail.now }
         requires given { reason < length trail.now.clauses }
-        requires entries_seen { is_seen self.old.seen place ≡ true }
-        requires seen { AreSeen trail.now self.old.seen }
-        ensures entries_seen { OnOk result ((clause : List Lit) → slice_get trail.now.clauses reason ≡ Some clause →
-            (other : ℕ) → is_seen self.new.seen other ≡ ((is_seen self.old.seen other || is_of_clause trail.now.entries clause other) && not (other == place))) }
-        ensures seen { OnOk result (AreSeen trail.now self.new.seen) }
-        ensures kept { self.new.kept.items ≡ self.old.kept.items }
-        ensures hints { OnOk result (self.new.hints.items ≡ self.old.hints.items ++ (reason + 1) ∷ []) }
-        ensures back { self.new.back ≡ self.old.back }
+        requires entry { IsSeenAt trail.now place self.old.seen }
+        ensures replaced { OnOk result (TakesPlace trail.now place reason self.old self.new) }
+        ensures rest { self.new ≡ record self.old { seen = self.new.seen; hints = self.new.hints } }
     {
         self.seen.see_clause(trail, reason)?;
         self.seen.clear(trail, place);
@@ -182,18 +168,14 @@ impl Analysis {
 
     /// The opposite of an entry's literal stays in the clause. An `Err` says that memory ran out.
     fn keep(&mut self, trail: &Trail<'_>, place: u32) -> Result<(), NoMemory>
-        requires usable { trail.now.broken ≡ false }
-        requires sound { IsSound trail.now }
-        requires within { place < length trail.now.entries }
-        requires entries_seen { is_seen self.old.seen place ≡ true }
-        requires seen { AreSeen trail.now self.old.seen }
-        ensures entries_seen { (other : ℕ) → is_seen self.new.seen other ≡ (is_seen self.old.seen other && not (other == place)) }
-        ensures seen { AreSeen trail.now self.new.seen }
+        requires trail { IsUsable trail.now }
+        requires entry { IsSeenAt trail.now place self.old.seen }
+        ensures cleared { IsCleared trail.now place self.old.seen self.new.seen }
         ensures kept { (entry : Entry) → slice_get trail.now.entries place ≡ Some entry →
             OnOk result (self.new.kept.items ≡ self.old.kept.items ++ negation entry.literal ∷ []) }
-        ensures hints { self.new.hints.items ≡ self.old.hints.items }
         ensures back { (entry : Entry) → slice_get trail.now.entries place ≡ Some entry →
             self.new.back ≡ cond (nat_lt entry.level trail.now.level) (max self.old.back entry.level) self.old.back }
+        ensures rest { self.new ≡ record self.old { seen = self.new.seen; kept = self.new.kept; back = self.new.back } }
     {
         self.seen.clear(trail, place);
         let level = trail.level_at(place);
@@ -207,8 +189,7 @@ impl Analysis {
 
 /// Of an entry of level 0 the number of a clause that has its literal alone, or else of its reason.
 fn start_reason(trail: &Trail<'_>, units: &Units, place: u32) -> Option<u32>
-    requires usable { trail.now.broken ≡ false }
-    requires sound { IsSound trail.now }
+    requires trail { IsUsable trail.now }
     requires units { AreUnits trail.now units.now }
     requires within { place < length trail.now.entries }
     ensures { (entry : Entry) → slice_get trail.now.entries place ≡ Some entry → MatchOption result (entry.reason ≡ None) (IsForcing trail.now.clauses entry) }

@@ -2,9 +2,9 @@
 
 ghost use Rattle.std.specs.Prelude.{◌≡◌, ◌==◌, ◌||◌, ◌^◌, ◌<◌, ◌++◌, ◌∷◌, [], ℕ, List, length, true, false, All, Contains, MatchOption, IfSome, IfOk, OnOk};
 ghost use Rattle.sat_trail.specs.declared.entries.Entry.{Entry};
-ghost use Rattle.sat_trail.specs.States.{TrailState, IsSound, up_to};
+ghost use Rattle.sat_trail.specs.States.{IsSound, up_to};
 ghost use Rattle.clause_learning.specs.Queues.{IsVariableQueue, variable_count, is_queued};
-ghost use Rattle.clause_learning.specs.Decisions.{AreSet, IsUnset, AreDecisions, IsNextUnset, Decides, AreVariableTruths};
+ghost use Rattle.clause_learning.specs.Decisions.{AreSet, IsUnset, AreForEach, AreDecisions, IsNextUnset, Decides, AreVariableTruths};
 
 use crate::queue::VariableQueue;
 use clause_core::{Assignment, Literal};
@@ -83,7 +83,6 @@ impl Decisions {
     /// Takes the next variable that is not set out of the queue; none where all are set.
     fn next_variable(&mut self, trail: &Trail<'_>) -> Option<u32>
         requires usable { trail.now.broken ≡ false }
-        requires few { trail.now.variables < 2 ^ 31 }
         requires decisions { AreDecisions trail.now.variables trail.now.entries self.old }
         ensures found { MatchOption result (AreSet trail.now.entries trail.now.variables) (IsNextUnset trail.now.entries trail.now.variables self.old.queue) }
         ensures values { length self.new.phases.items ≡ trail.now.variables }
@@ -150,13 +149,10 @@ impl Decisions {
 
     /// The variable of a literal that is set may be decided again, to the value that it has.
     fn give_back(&mut self, literal: Literal)
-        requires queue { IsVariableQueue self.old.queue }
+        requires each { AreForEach (variable_count self.old.queue) self.old.queue self.old.phases.items }
         requires within { literal.index < variable_count self.old.queue }
-        requires phases { variable_count self.old.queue ≡ length self.old.phases.items }
+        ensures each { AreForEach (variable_count self.old.queue) self.new.queue self.new.phases.items }
         ensures queued { (other : ℕ) → is_queued self.new.queue other ≡ (is_queued self.old.queue other || other == literal.index) }
-        ensures count { variable_count self.new.queue ≡ variable_count self.old.queue }
-        ensures phases { length self.new.phases.items ≡ length self.old.phases.items }
-        ensures queue { IsVariableQueue self.new.queue }
     {
         self.phases[literal.index()] = literal.is_positive();
         self.queue.push(literal.variable() - 1);

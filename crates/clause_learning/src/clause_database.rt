@@ -1,12 +1,11 @@
 //! The clauses on a trail by their numbers in the log.
 
-ghost use Rattle.std.specs.Prelude.{◌≡◌, ℕ, ◌+◌, ◌<◌, ◌≤◌, ◌^◌, ◌++◌, ◌∷◌, [], false, List, length, slice_index_or, IfOk, OnOk};
+ghost use Rattle.std.specs.Prelude.{◌≡◌, ◌+◌, ◌<◌, ◌≤◌, ◌^◌, ◌++◌, ◌∷◌, [], false, List, length, slice_index_or, IfOk, OnOk};
 ghost use Rattle.clause_core.specs.Literals.{Lit};
-ghost use Rattle.sat_trail.specs.States.{TrailState, IsSound};
 ghost use Rattle.clause_learning.specs.Hints.{AreHints};
 ghost use Rattle.clause_learning.specs.ClauseDatabases.{numbers_of, log_hints, AreFirst, AreKept};
 
-use clause_core::{Clause, clause_of};
+use clause_core::{Clause, ClauseList, clause_of};
 use sat_trail::Trail;
 use sequence::NoMemory;
 use std::alloc::Global;
@@ -70,37 +69,37 @@ impl ClauseDatabase {
     }
 
     /// The number in the log of the clause at a place.
-    fn number_at(&self, place: u32) -> u64
+    fn number_at(&self, place: usize) -> u64
         requires { place < length (numbers_of self.now) }
         ensures { result ≡ slice_index_or (numbers_of self.now) place 0 }
     {
-        if place < self.formula {
-            u64::from(place) + 1
+        if place < self.formula as usize {
+            place as u64 + 1
         } else {
-            self.learnt[(place - self.formula) as usize].number
+            self.learnt[place - self.formula as usize].number
         }
     }
 
     /// When the clause at a place was used.
-    fn used_at(&self, place: u32) -> u64
+    fn used_at(&self, place: usize) -> u64
         requires { place < length (numbers_of self.now) }
     {
-        if place < self.formula {
+        if place < self.formula as usize {
             u64::MAX
         } else {
-            self.learnt[(place - self.formula) as usize].used
+            self.learnt[place - self.formula as usize].used
         }
     }
 
     /// Notes that the clause at a place is used now.
-    fn note_use(&mut self, place: u32, now: u64)
+    fn note_use(&mut self, place: usize, now: u64)
         requires { place < length (numbers_of self.old) }
         ensures { numbers_of self.new ≡ numbers_of self.old }
     {
-        if place < self.formula {
+        if place < self.formula as usize {
             return;
         }
-        let learnt = &mut self.learnt[(place - self.formula) as usize];
+        let learnt = &mut self.learnt[place - self.formula as usize];
         learnt.used = learnt.used.max(now);
     }
 
@@ -112,14 +111,13 @@ impl ClauseDatabase {
         hints: &[u64],
         now: u64,
     ) -> Result<Vec<u64>, NoMemory>
-        requires few { length (numbers_of self.old) < 2 ^ 32 }
-        requires named { AreHints (length (numbers_of self.old)) hints.now }
+        requires { AreHints (length (numbers_of self.old)) hints.now }
         ensures hints { IfOk result (λ named. named.items ≡ log_hints (numbers_of self.old) hints.now) }
         ensures numbers { numbers_of self.new ≡ numbers_of self.old }
     {
         let mut named = Vec::with_capacity(alloc, hints.len())?;
         for hint in hints {
-            let place = (*hint - 1) as u32;
+            let place = (*hint - 1) as usize;
             self.note_use(place, now);
             named.push(self.number_at(place))?;
         }
@@ -131,7 +129,7 @@ impl ClauseDatabase {
     pub fn kept(
         &self,
         alloc: Global,
-        formula: &[Clause],
+        formula: &ClauseList,
         trail: &Trail<'_>,
         from: u64,
     ) -> Result<Kept, NoMemory>
@@ -142,11 +140,12 @@ impl ClauseDatabase {
         ensures { IfOk result (λ kept. AreKept formula.now trail.now.clauses (numbers_of self.now) (length trail.now.clauses)
             kept.learnt.items kept.database) }
     {
+        let count = formula.len() as u32;
         let mut kept = Kept {
             learnt: Vec::new(alloc),
-            database: ClauseDatabase::new(alloc, formula.len() as u32),
+            database: ClauseDatabase::new(alloc, count),
         };
-        for place in formula.len() as u32..self.len() {
+        for place in count..self.len() {
             self.pass(alloc, trail, place, from, &mut kept)?;
         }
         Ok(kept)
@@ -168,13 +167,13 @@ impl ClauseDatabase {
             AreKept formula trail.now.clauses (numbers_of self.now) place kept.old.learnt.items kept.old.database →
             OnOk result (AreKept formula trail.now.clauses (numbers_of self.now) (place + 1) kept.new.learnt.items kept.new.database) }
     {
-        let used = self.used_at(place);
+        let used = self.used_at(place as usize);
         if used < from {
             return Ok(());
         }
-        let clause = clause_of(alloc, trail.clause(place).literals())?;
+        let clause = clause_of(alloc, trail.clause(place))?;
         kept.learnt.push(clause)?;
-        kept.database.add(self.number_at(place), used)
+        kept.database.add(self.number_at(place as usize), used)
     }
 }
 

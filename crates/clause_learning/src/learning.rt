@@ -1,13 +1,12 @@
 //! What is learnt from a conflict.
 
-ghost use Rattle.std.specs.Prelude.{◌≡◌, ◌+◌, ◌<◌, ◌^◌, false, All, length, IfOk, OnOk};
-ghost use Rattle.sat_trail.specs.States.{IsSound, IsFalseAt};
+ghost use Rattle.std.specs.Prelude.{◌≡◌, ◌+◌, ◌<◌, ◌^◌, All, length, IfOk, OnOk};
+ghost use Rattle.sat_trail.specs.States.{IsFalseAt};
 ghost use Rattle.clause_learning.specs.Levels.{AreNoneFalseBelow};
 ghost use Rattle.clause_learning.specs.LearntClauses.{IsLearntClause, HasLearnt, IsRefutingLog, level_after};
-ghost use Rattle.clause_learning.specs.ConflictAnalysis.{AreNoneSeen};
+ghost use Rattle.clause_learning.specs.ConflictAnalysis.{AreNoneSeen, CanAnalyse};
 ghost use Rattle.clause_learning.specs.Decisions.{AreDecisions};
 ghost use Rattle.clause_learning.specs.Learning.{CanLearn, IsConflict, AreTables};
-ghost use Rattle.clause_learning.specs.Units.{AreUnits};
 
 use crate::analysis::Analysis;
 use crate::choices::Decisions;
@@ -106,12 +105,9 @@ fn learnt_clause_of(
     analysis: &mut Analysis,
     conflict: u32,
 ) -> Result<LearntClause, NoMemory>
-    requires usable { trail.now.broken ≡ false }
-    requires sound { IsSound trail.now }
+    requires ready { CanAnalyse trail.now units.now analysis.old.seen }
     requires conflict { IsFalseAt trail.now conflict }
     requires met { AreNoneFalseBelow trail.now trail.now.level }
-    requires seen { AreNoneSeen trail.now.variables analysis.old.seen }
-    requires units { AreUnits trail.now units.now }
     ensures learnt_clause { IfOk result (λ learnt_clause. IsLearntClause trail.now learnt_clause.clause learnt_clause.hints.items learnt_clause.back) }
     ensures seen { OnOk result (AreNoneSeen trail.now.variables analysis.new.seen) }
     ensures looked { OnOk result (All (λ variable. variable < trail.now.variables) analysis.new.seen.looked.items) }

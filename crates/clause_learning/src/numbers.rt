@@ -2,7 +2,7 @@
 
 ghost use Rattle.std.specs.Prelude.{◌≡◌, ◌==◌, ℕ, ◌*◌, ◌/◌, ◌^◌, ◌<◌, ◌≤◌, false, not, cond, length, IfOk, MatchOption};
 ghost use Rattle.lane_planes.specs.Planes.{has_bit, word_at};
-ghost use Rattle.clause_learning.specs.NumberSets.{IsNumberSet, IsFirstWord, IsLeastBit, contains, room};
+ghost use Rattle.clause_learning.specs.NumberSets.{IsNumberSet, HasMember, IsFirstWord, IsLeastBit, contains, room};
 
 use lane_planes::first_bit;
 use sequence::NoMemory;
@@ -37,9 +37,7 @@ impl NumberSet {
     pub fn set(&mut self, number: u32, is_member: bool)
         requires set { IsNumberSet self.old }
         requires within { number < room self.old }
-        ensures set { IsNumberSet self.new }
-        ensures room { room self.new ≡ room self.old }
-        ensures members { (other : ℕ) → contains self.new other ≡ cond (other == number) is_member (contains self.old other) }
+        ensures { HasMember self.old number is_member self.new }
     {
         if self.contains(number) != is_member {
             self.write(number, is_member);

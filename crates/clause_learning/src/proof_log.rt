@@ -1,9 +1,9 @@
 //! The log of a search so far.
 
-ghost use Rattle.std.specs.Prelude.{◌≡◌, ◌+◌, ◌<◌, ◌^◌, ◌++◌, ◌∷◌, [], length, OnOk, IfOk};
+ghost use Rattle.std.specs.Prelude.{◌≡◌, ◌+◌, ◌<◌, ◌^◌, [], length, OnOk};
 ghost use Rattle.clause_learning.specs.Hints.{AreHints};
-ghost use Rattle.clause_learning.specs.LearntClauses.{learnt_step};
-ghost use Rattle.clause_learning.specs.ClauseDatabases.{numbers_of, log_hints, AreFirst};
+ghost use Rattle.clause_learning.specs.LearntClauses.{TakesStep};
+ghost use Rattle.clause_learning.specs.ClauseDatabases.{numbers_of, AreFirst};
 
 use crate::clause_database::{ClauseDatabase, first_use};
 use clause_core::Clause;
@@ -47,12 +47,8 @@ impl ProofLog {
     /// be added. An `Err` says that memory ran out.
     pub fn add(&mut self, alloc: Global, clause: Clause, hints: &[u64]) -> Result<(), NoMemory>
         requires next { self.old.next + 1 < 2 ^ 64 }
-        requires few { length (numbers_of self.old.database) < 2 ^ 32 }
         requires named { AreHints (length (numbers_of self.old.database)) hints.now }
-        ensures steps { OnOk result (self.new.steps.items
-            ≡ self.old.steps.items ++ learnt_step self.old.next clause (log_hints (numbers_of self.old.database) hints.now) ∷ []) }
-        ensures next { OnOk result (self.new.next ≡ self.old.next + 1) }
-        ensures numbers { OnOk result (numbers_of self.new.database ≡ numbers_of self.old.database ++ self.old.next ∷ []) }
+        ensures { OnOk result (TakesStep self.old clause hints.now self.new) }
     {
         let now = self.len();
         let hints = self.database.log_hints(alloc, hints, now)?;

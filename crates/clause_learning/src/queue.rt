@@ -1,7 +1,7 @@
 //! The variables that may be decided, the most active one first.
 
-ghost use Rattle.std.specs.Prelude.{◌≡◌, ◌==◌, ◌&&◌, ◌||◌, ℕ, ◌+◌, ◌*◌, ◌^◌, ◌<◌, ◌≤◌, false, true, not, cond, length, MatchOption, IfOk, IfSome};
-ghost use Rattle.clause_learning.specs.Queues.{IsQueue, AreBounded, IsVariableQueue, IsNext, IsActive, variable_count, is_queued, activity_of, rank_of, scaled, limit};
+ghost use Rattle.std.specs.Prelude.{◌≡◌, ◌==◌, ◌&&◌, ◌||◌, ℕ, ◌+◌, ◌*◌, ◌^◌, ◌<◌, false, true, not, cond, MatchOption, IfOk};
+ghost use Rattle.clause_learning.specs.Queues.{IsQueue, AreBounded, IsVariableQueue, KeepsVariables, IsNext, IsActive, variable_count, is_queued, activity_of, scaled, limit};
 
 use crate::numbers::NumberSet;
 use crate::tournament::Tournament;
@@ -121,8 +121,7 @@ impl VariableQueue {
     fn set_activity(&mut self, variable: u32, new_activity: u64)
         requires queue { IsQueue self.old }
         requires within { variable < variable_count self.old }
-        ensures count { variable_count self.new ≡ variable_count self.old }
-        ensures same { (other : ℕ) → is_queued self.new other ≡ is_queued self.old other }
+        ensures kept { KeepsVariables self.old self.new }
         ensures activities { (other : ℕ) → activity_of self.new other ≡ cond (other == variable) new_activity (activity_of self.old other) }
         ensures increment { self.new.increment ≡ self.old.increment }
         ensures queue { IsQueue self.new }
@@ -148,8 +147,7 @@ impl VariableQueue {
     fn scale(&mut self)
         requires queue { IsQueue self.old }
         requires bounded { AreBounded (2 * limit) self.old }
-        ensures count { variable_count self.new ≡ variable_count self.old }
-        ensures same { (other : ℕ) → is_queued self.new other ≡ is_queued self.old other }
+        ensures kept { KeepsVariables self.old self.new }
         ensures activities { (variable : ℕ) → activity_of self.new variable ≡ scaled (activity_of self.old variable) }
         ensures increment { self.new.increment ≡ scaled self.old.increment }
         ensures queue { IsVariableQueue self.new }

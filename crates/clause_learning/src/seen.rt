@@ -1,11 +1,12 @@
 //! The entries of a trail that an analysis has seen.
 
-ghost use Rattle.std.specs.Prelude.{◌≡◌, ◌==◌, ◌&&◌, ◌||◌, ℕ, ◌<◌, ◌≤◌, ◌^◌, All, true, false, not, nat_lt, List, length, Some, slice_get, IfOk, OnOk};
+ghost use Rattle.std.specs.Prelude.{◌≡◌, ◌==◌, ◌||◌, ℕ, ◌<◌, All, true, false, nat_lt, List, length, Some, slice_get, IfOk, OnOk};
 ghost use Rattle.clause_core.specs.Literals.{Lit};
 ghost use Rattle.sat_trail.specs.declared.entries.Entry.{Entry};
 ghost use Rattle.sat_trail.specs.Entries.{place_of};
-ghost use Rattle.sat_trail.specs.States.{TrailState, IsSound};
-ghost use Rattle.clause_learning.specs.ConflictAnalysis.{is_seen, AreSeen, AreNoneSeen, stands_at, is_of_clause, is_covered_at, are_covered};
+ghost use Rattle.sat_trail.specs.States.{TrailState};
+ghost use Rattle.clause_learning.specs.Trails.{IsUsable};
+ghost use Rattle.clause_learning.specs.ConflictAnalysis.{is_seen, AreSeen, AreNoneSeen, IsSeenAt, IsCleared, stands_at, is_of_clause, is_covered_at, are_covered};
 
 use clause_core::Literal;
 use sat_trail::Trail;
@@ -65,15 +66,14 @@ impl Seen {
 
     /// Sees the entries of a clause's variables. An `Err` says that memory ran out.
     pub fn see_clause(&mut self, trail: &Trail<'_>, number: u32) -> Result<(), NoMemory>
-        requires usable { trail.now.broken ≡ false }
-        requires sound { IsSound trail.now }
+        requires trail { IsUsable trail.now }
         requires given { number < length trail.now.clauses }
         requires seen { AreSeen trail.now self.old }
         ensures entries_seen { OnOk result ((clause : List Lit) → slice_get trail.now.clauses number ≡ Some clause →
             (place : ℕ) → is_seen self.new place ≡ (is_seen self.old place || is_of_clause trail.now.entries clause place)) }
         ensures seen { OnOk result (AreSeen trail.now self.new) }
     {
-        for literal in trail.clause(number).literals() {
+        for literal in trail.clause(number) {
             self.see(trail, *literal)?;
         }
         Ok(())
@@ -81,14 +81,13 @@ impl Seen {
 
     /// Whether the entry of each variable of a clause is seen, or of level 0.
     pub fn covers(&self, trail: &Trail<'_>, number: u32) -> bool
-        requires usable { trail.now.broken ≡ false }
-        requires sound { IsSound trail.now }
+        requires trail { IsUsable trail.now }
         requires given { number < length trail.now.clauses }
         requires seen { AreSeen trail.now self.now }
         ensures { (clause : List Lit) → slice_get trail.now.clauses number ≡ Some clause →
             result ≡ are_covered trail.now.entries self.now clause }
     {
-        for literal in trail.clause(number).literals() {
+        for literal in trail.clause(number) {
             if !self.is_covered(trail, *literal) {
                 return false;
             }
@@ -98,8 +97,7 @@ impl Seen {
 
     /// Whether the entry of a literal's variable is seen, or of level 0.
     fn is_covered(&self, trail: &Trail<'_>, literal: Literal) -> bool
-        requires usable { trail.now.broken ≡ false }
-        requires sound { IsSound trail.now }
+        requires trail { IsUsable trail.now }
         requires over { literal.index < trail.now.variables }
         requires seen { AreSeen trail.now self.now }
         ensures { result ≡ is_covered_at trail.now.entries self.now (place_of trail.now.entries literal.index) }
@@ -112,13 +110,9 @@ impl Seen {
 
     /// The entry at a place is seen no more.
     pub fn clear(&mut self, trail: &Trail<'_>, place: u32)
-        requires usable { trail.now.broken ≡ false }
-        requires sound { IsSound trail.now }
-        requires within { place < length trail.now.entries }
-        requires entries_seen { is_seen self.old place ≡ true }
-        requires seen { AreSeen trail.now self.old }
-        ensures cleared { (other : ℕ) → is_seen self.new other ≡ (is_seen self.old other && not (other == place)) }
-        ensures seen { AreSeen trail.now self.new }
+        requires trail { IsUsable trail.now }
+        requires entry { IsSeenAt trail.now place self.old }
+        ensures { IsCleared trail.now place self.old self.new }
     {
         self.flags[place as usize] = false;
         self.waiting -= u32::from(is_present(trail, place));
@@ -126,8 +120,7 @@ impl Seen {
 
     /// Sees the entry of a literal's variable. An `Err` says that memory ran out.
     fn see(&mut self, trail: &Trail<'_>, literal: Literal) -> Result<(), NoMemory>
-        requires usable { trail.now.broken ≡ false }
-        requires sound { IsSound trail.now }
+        requires trail { IsUsable trail.now }
         requires over { literal.index < trail.now.variables }
         requires seen { AreSeen trail.now self.old }
         ensures entries_seen { OnOk result ((place : ℕ) → is_seen self.new place ≡ (is_seen self.old place || stands_at (place_of trail.now.entries literal.index) place)) }

@@ -1,7 +1,7 @@
 //! The variables that may be decided and are active.
 
-ghost use Rattle.std.specs.Prelude.{◌≡◌, ◌==◌, ℕ, ◌+◌, ◌*◌, ◌^◌, ◌<◌, ◌≤◌, false, cond, length, IfOk};
-ghost use Rattle.clause_learning.specs.Tournaments.{IsTournament, is_before, winner, rank_at, weight};
+ghost use Rattle.std.specs.Prelude.{◌≡◌, ◌==◌, ℕ, ◌+◌, ◌*◌, ◌^◌, ◌<◌, false, length, IfOk};
+ghost use Rattle.clause_learning.specs.Tournaments.{HasLeaves, IsTournament, HasWeight, is_before, winner, rank_at, weight};
 
 use sequence::NoMemory;
 use std::alloc::Global;
@@ -69,10 +69,7 @@ impl Tournament {
 
     /// Gives each node the first of the two below it.
     fn play_all(&mut self)
-        requires some { 0 < self.old.leaves }
-        requires few { self.old.leaves ≤ 2 ^ 31 }
-        requires size { length self.old.nodes.items ≡ 2 * self.old.leaves }
-        requires named { (leaf : ℕ) → leaf < self.old.leaves → (rank_at self.old.nodes.items (self.old.leaves + leaf)).variable ≡ leaf }
+        requires { HasLeaves self.old }
         ensures leaves { self.new.leaves ≡ self.old.leaves }
         ensures weights { (variable : ℕ) → weight self.new variable ≡ weight self.old variable }
         ensures tournament { IsTournament self.new }
@@ -107,9 +104,7 @@ impl Tournament {
     pub fn set(&mut self, variable: u32, activity: u64)
         requires tournament { IsTournament self.old }
         requires within { variable < self.old.leaves }
-        ensures tournament { IsTournament self.new }
-        ensures leaves { self.new.leaves ≡ self.old.leaves }
-        ensures weights { (other : ℕ) → weight self.new other ≡ cond (other == variable) activity (weight self.old other) }
+        ensures { HasWeight self.old variable activity self.new }
     {
         let mut node = self.leaves + variable as usize;
         self.nodes[node] = Rank { activity, variable };

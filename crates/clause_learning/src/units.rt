@@ -1,10 +1,10 @@
 //! Clauses of one literal, for what is true at level 0.
 
-ghost use Rattle.std.specs.Prelude.{◌≡◌, ◌↔◌, ◌&&◌, ◌+◌, ◌-◌, ◌<◌, ◌≤◌, ◌^◌, ◌∷◌, [], ℕ, List, false, true, length, max, nat_lt, Some, None, slice_get, IsTrue, IfOk, IfSome, OnOk};
+ghost use Rattle.std.specs.Prelude.{◌≡◌, ◌↔◌, ◌&&◌, ◌+◌, ◌<◌, ◌≤◌, ◌^◌, ◌∷◌, [], ℕ, List, false, true, length, max, nat_lt, Some, None, slice_get, IsTrue, IfOk, IfSome, OnOk};
 ghost use Rattle.clause_core.specs.Literals.{Lit, has};
 ghost use Rattle.sat_trail.specs.States.{TrailState, IsSound};
-ghost use Rattle.clause_learning.specs.ClauseDatabases.{numbers_of};
-ghost use Rattle.clause_learning.specs.Units.{AreUnits, ShowAlone, AddsHint, HasNoted, HaveNoted, MayHaveNoted};
+ghost use Rattle.clause_learning.specs.Trails.{IsUsable};
+ghost use Rattle.clause_learning.specs.Units.{AreUnits, ShowAlone, AddsHint, HasAdded, HaveNoted, MayHaveNoted};
 ghost use Rattle.clause_learning.specs.Learning.{CanNote};
 
 use crate::proof_log::ProofLog;
@@ -70,8 +70,7 @@ impl Units {
 
     /// Begins anew with a trail that has so many clauses.
     pub fn renew(&mut self, trail: &Trail<'_>, count: u32)
-        requires usable { trail.now.broken ≡ false }
-        requires sound { IsSound trail.now }
+        requires trail { IsUsable trail.now }
         requires one_each { length self.old.numbers.items ≡ trail.now.variables }
         requires count { count ≡ length trail.now.clauses }
         ensures units { AreUnits trail.now self.new }
@@ -87,14 +86,13 @@ impl Units {
 
     /// Notes the clause of a number, where it has one literal.
     fn find(&mut self, trail: &Trail<'_>, number: u32)
-        requires usable { trail.now.broken ≡ false }
-        requires sound { IsSound trail.now }
+        requires trail { IsUsable trail.now }
         requires given { number < length trail.now.clauses }
         requires one_each { length self.old.numbers.items ≡ trail.now.variables }
         ensures one_each { length self.new.numbers.items ≡ length self.old.numbers.items }
         ensures rest { self.new ≡ record self.old { numbers = self.new.numbers } }
     {
-        let literals = trail.clause(number).literals();
+        let literals = trail.clause(number);
         if literals.len() == 1 {
             self.numbers[literals[0].index()] = Some(number);
         }
@@ -132,15 +130,8 @@ impl Units {
         proof_log: &mut ProofLog,
         place: u32,
     ) -> Result<(), NoMemory>
-        requires usable { trail.old.broken ≡ false }
-        requires sound { IsSound trail.old }
-        requires start { trail.old.level ≡ 0 }
+        requires ready { CanNote trail.old proof_log.old self.old }
         requires within { place < length trail.old.entries }
-        requires units { AreUnits trail.old self.old }
-        requires added { self.old.added ≤ self.old.most }
-        requires few { length trail.old.clauses + (self.old.most - self.old.added) + 1 < 2 ^ 32 }
-        requires next { proof_log.old.next + (self.old.most - self.old.added) + 1 < 2 ^ 64 }
-        requires numbers { length (numbers_of proof_log.old.database) ≡ length trail.old.clauses }
         ensures noted { OnOk result (MayHaveNoted trail.old proof_log.old self.old trail.new proof_log.new self.new) }
         ensures units { OnOk result (AreUnits trail.new self.new) }
         ensures added { self.new.added ≤ self.new.most }
@@ -185,15 +176,14 @@ impl Units {
         number: u32,
         literal: Literal,
     ) -> Result<Option<Vec<u64>>, NoMemory>
-        requires usable { trail.now.broken ≡ false }
-        requires sound { IsSound trail.now }
+        requires trail { IsUsable trail.now }
         requires given { number < length trail.now.clauses }
         requires member { (clause : List Lit) → slice_get trail.now.clauses number ≡ Some clause → has clause literal ≡ true }
         requires units { AreUnits trail.now self.now }
-        ensures { IfOk result (λ found. IfSome found (λ hints. ShowAlone trail.now.clauses literal hints.items)) }
+        ensures { IfOk result (λ found. IfSome found (λ hints. ShowAlone trail.now literal hints.items)) }
     {
         let mut hints = Vec::new(alloc);
-        for other in trail.clause(number).literals() {
+        for other in trail.clause(number) {
             if !self.show(trail, literal, *other, &mut hints)? {
                 return Ok(None);
             }
@@ -235,19 +225,10 @@ impl Units {
         literal: Literal,
         hints: Vec<u64>,
     ) -> Result<(), NoMemory>
-        requires usable { trail.old.broken ≡ false }
-        requires sound { IsSound trail.old }
-        requires start { trail.old.level ≡ 0 }
-        requires over { literal.index < trail.old.variables }
-        requires shown { ShowAlone trail.old.clauses literal hints.items }
-        requires units { AreUnits trail.old self.old }
+        requires ready { CanNote trail.old proof_log.old self.old }
         requires room { self.old.added < self.old.most }
-        requires few { length trail.old.clauses + 1 < 2 ^ 32 }
-        requires next { proof_log.old.next + 1 < 2 ^ 64 }
-        requires numbers { length (numbers_of proof_log.old.database) ≡ length trail.old.clauses }
-        ensures noted { OnOk result (HasNoted trail.old proof_log.old trail.new proof_log.new) }
-        ensures units { OnOk result (AreUnits trail.new self.new) }
-        ensures added { OnOk result (self.new.added ≡ self.old.added + 1) }
+        requires shown { ShowAlone trail.old literal hints.items }
+        ensures added { OnOk result (HasAdded trail.old proof_log.old self.old trail.new proof_log.new self.new) }
         ensures at_most { self.new.added ≤ self.old.added + 1 }
         ensures rest { self.new ≡ record self.old { numbers = self.new.numbers; count = self.new.count; added = self.new.added } }
     {
@@ -268,10 +249,9 @@ fn clause_with(alloc: Global, literal: Literal) -> Result<Clause, NoMemory>
     clause_of(alloc, literals.as_slice())
 }
 
-/// Whether the clause has this literal alone.
-fn is_alone(clause: &Clause, literal: Literal) -> bool
-    ensures { IsTrue result ↔ (clause.now ≡ literal ∷ []) }
+/// Whether a clause has this literal alone.
+fn is_alone(literals: &[Literal], literal: Literal) -> bool
+    ensures { IsTrue result ↔ (literals.now ≡ literal ∷ []) }
 {
-    let literals = clause.literals();
     literals.len() == 1 && literals[0] == literal
 }

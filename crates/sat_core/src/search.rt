@@ -186,7 +186,7 @@ impl<'f> Search<'f> {
         let kept = self
             .proof_log
             .database
-            .kept(alloc, self.cnf.clauses.as_slice(), &self.trail, from)?;
+            .kept(alloc, &self.cnf.clauses, &self.trail, from)?;
         let Kept { learnt, database } = kept;
         let count = self.cnf.clauses.len() as u32 + learnt.len() as u32;
         self.trail = Trail::with_learnt(alloc, self.cnf, learnt)?;

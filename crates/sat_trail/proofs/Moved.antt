@@ -41,12 +41,12 @@ module _ {t : TrailState} {number : ℕ} {pair : Pair} {other spare first : Lit}
   }
 
   -- the first literal stands at a position in the clause
-  pub next_found : {literals clause : List Lit} {position : ℕ} → slice_get t.clauses number ≡ Some clause → literals ≡ clause →
+  pub next_found : {literals : List Lit} {position : ℕ} → slice_get t.clauses number ≡ Some literals →
       IsFree (literals_of t.entries) literals other position → first ≡ get_or literals position first →
       IsNextPair t number other (record { first = first; second = other; spare = spare })
-  next_found {literals} {clause} {position} named same found read =
+  next_found {literals} {position} named found read =
       let is : first ≡ found.literal = read ∙ get_or_from_slice_get literals position found.literal first found.there in
-      next_of (ap (λ (ls : List Lit). has ls first) (same_Some h.clause clause (sym h.named ∙ named) ∙ sym same)
+      next_of (ap (λ (ls : List Lit). has ls first) (same_Some h.clause literals (sym h.named ∙ named))
       ∙ (ap (has literals) is ∙ has_from_Contains literals found.literal (contains_at literals position found.literal found.there)))
       (λ e. found.apart (sym is ∙ e)) (ap (λ (l : Lit). has (literals_of t.entries) (negation l)) is ∙ found.not_false)
 

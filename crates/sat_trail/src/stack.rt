@@ -2,7 +2,7 @@
 
 ghost use Rattle.std.specs.Prelude.{◌≡◌, ◌+◌, ◌-◌, ◌^◌, ◌<◌, ◌≤◌, true, false, length, List, [], ◌∷◌, ◌++◌, Some, None, IfOk, OnOk, OnErr, IfSome, IfNone, All, Contains, option_map, slice_get, take};
 ghost use Rattle.clause_core.specs.Literals.{has};
-ghost use Rattle.clause_core.specs.Clauses.{IsOver, has_pair};
+ghost use Rattle.clause_core.specs.Clauses.{IsIncreasing, IsOver, has_pair};
 ghost use Rattle.sat_trail.specs.Entries.{entry_with, place_of, truth_of, literals_of, MayStand};
 ghost use Rattle.sat_trail.specs.States.{IsSound, started, extended, decided, with_clause, undone};
 ghost use Rattle.sat_trail.specs.internal.Tables.{MayLearn};
@@ -53,7 +53,7 @@ impl<'f> Stack<'f> {
     {
         Ok(Stack {
             variables: cnf.variables,
-            clauses: TrailClauses::new(cnf.clauses.as_slice(), learnt),
+            clauses: TrailClauses::new(&cnf.clauses, learnt),
             entries: Vec::new(alloc),
             places: vec![in alloc; None; cnf.variables as usize]?,
             truths: vec![in alloc; false; 2 * cnf.variables as usize]?,
@@ -178,11 +178,12 @@ impl<'f> Stack<'f> {
         self.places[variable as usize - 1]
     }
 
-    /// The clause of a number.
-    pub fn clause(&self, number: u32) -> &Clause
+    /// The literals of the clause of a number, by their rising numbers.
+    pub fn clause(&self, number: u32) -> &[Literal]
         requires usable { self.now.broken ≡ false }
         requires given { number < length self.now.clauses }
-        ensures { slice_get self.now.clauses number ≡ Some result.now }
+        ensures value { slice_get self.now.clauses number ≡ Some result.now }
+        ensures increasing { IsIncreasing result.now }
     {
         self.clauses.get(number)
     }

@@ -2,14 +2,14 @@
 
 ghost use Rattle.std.specs.Prelude.{◌≡◌, ◌↔◌, ◌+◌, ◌-◌, ◌^◌, ◌<◌, ◌≤◌, ℕ, true, false, length, List, [], ◌∷◌, ◌++◌, Some, None, IfOk, OnOk, OnErr, IfSome, IfNone, All, Contains, option_map, slice_get, position, take};
 ghost use Rattle.clause_core.specs.Literals.{has};
-ghost use Rattle.clause_core.specs.Clauses.{IsOver, has_pair};
+ghost use Rattle.clause_core.specs.Clauses.{IsIncreasing, IsOver, has_pair};
 ghost use Rattle.sat_trail.specs.Entries.{place_of, truth_of, literals_of};
 ghost use Rattle.sat_trail.specs.States.{IsSound, started, decided, with_clause, undone, Propagates, EndsWith};
 
 use crate::errors::TrailError;
 use crate::stack::Stack;
 use crate::watches::Watches;
-use clause_core::{Clause, Cnf, Literal, is_tautology};
+use clause_core::{Clause, Cnf, Literal};
 use sequence::NoMemory;
 use std::alloc::Global;
 use std::marker::Model;
@@ -43,7 +43,7 @@ impl<'f> Trail<'f> {
         ensures sound { IfOk result IsSound }
         ensures tautology { (place : ℕ) → (result ≡ Err (TrailError.Tautology place)) ↔ (position has_pair cnf.now.clauses ≡ Some place) }
     {
-        if let Some(place) = first_tautology(cnf.clauses.as_slice()) {
+        if let Some(place) = cnf.clauses.first_tautology() {
             return Err(TrailError::Tautology(place as u32));
         }
         match Trail::with_learnt(alloc, cnf, Vec::new(alloc)) {
@@ -67,7 +67,7 @@ impl<'f> Trail<'f> {
         ensures sound { IfOk result IsSound }
     {
         let stack = Stack::new(alloc, cnf, learnt)?;
-        let watches = Watches::new(alloc, cnf.variables, cnf.clauses.as_slice())?;
+        let watches = Watches::new(alloc, cnf.variables, &cnf.clauses)?;
         Ok(Trail { stack, watches })
     }
 
@@ -193,19 +193,13 @@ impl<'f> Trail<'f> {
         self.stack.set_place(variable)
     }
 
-    /// The clause of a number.
-    pub fn clause(&self, number: u32) -> &Clause
+    /// The literals of the clause of a number, by their rising numbers.
+    pub fn clause(&self, number: u32) -> &[Literal]
         requires usable { self.now.broken ≡ false }
         requires given { number < length self.now.clauses }
-        ensures { slice_get self.now.clauses number ≡ Some result.now }
+        ensures value { slice_get self.now.clauses number ≡ Some result.now }
+        ensures increasing { IsIncreasing result.now }
     {
         self.stack.clause(number)
     }
-}
-
-/// The place of the first clause that has a literal and its negation.
-fn first_tautology(clauses: &[Clause]) -> Option<usize>
-    ensures { result ≡ position has_pair clauses.now }
-{
-    clauses.iter().position(|clause| is_tautology(clause))
 }

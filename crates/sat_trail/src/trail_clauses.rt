@@ -1,8 +1,9 @@
 //! The clauses on a trail by their numbers.
 
 ghost use Rattle.std.specs.Prelude.{◌≡◌, ◌+◌, ◌<◌, ◌^◌, ◌++◌, ◌∷◌, [], length, Some, slice_get, cond, is_ok};
+ghost use Rattle.clause_core.specs.Clauses.{IsIncreasing};
 
-use clause_core::Clause;
+use clause_core::{Clause, ClauseList, Literal};
 use sequence::NoMemory;
 use std::marker::Model;
 
@@ -10,7 +11,7 @@ use std::marker::Model;
 /// one list.
 #[derive(Drop)]
 pub struct TrailClauses<'f> {
-    formula: &'f [Clause],
+    formula: &'f ClauseList,
     learnt: Vec<Clause>,
 }
 
@@ -27,7 +28,7 @@ impl<'f> Model for TrailClauses<'f> {
 
 impl<'f> TrailClauses<'f> {
     /// The clauses of a formula, and behind them these.
-    pub fn new(formula: &'f [Clause], learnt: Vec<Clause>) -> TrailClauses<'f>
+    pub fn new(formula: &'f ClauseList, learnt: Vec<Clause>) -> TrailClauses<'f>
         requires { length formula.now + length learnt.items < 2 ^ 32 }
         ensures { result ≡ formula.now ++ learnt.items }
     {
@@ -41,15 +42,18 @@ impl<'f> TrailClauses<'f> {
         (self.formula.len() + self.learnt.len()) as u32
     }
 
-    /// The clause of a number.
-    pub fn get(&self, number: u32) -> &Clause
+    /// The literals of the clause of a number, by their rising numbers.
+    pub fn get(&self, number: u32) -> &[Literal]
         requires { number < length self.now }
-        ensures { slice_get self.now number ≡ Some result.now }
+        ensures value { slice_get self.now number ≡ Some result.now }
+        ensures increasing { IsIncreasing result.now }
     {
         let place = number as usize;
-        match self.formula.get(place) {
-            Some(clause) => clause,
-            None => &self.learnt[place - self.formula.len()],
+        let count = self.formula.len();
+        if place < count {
+            self.formula.get(place)
+        } else {
+            self.learnt[place - count].literals()
         }
     }
 

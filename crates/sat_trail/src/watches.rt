@@ -15,7 +15,7 @@ ghost use Rattle.sat_trail.specs.internal.Watching.{LeavesSome, LooksAtOne, MayP
 ghost use Rattle.sat_trail.specs.internal.Watching.{IsVisiting, Visits, IsUnitBy};
 
 use crate::stack::Stack;
-use clause_core::{Clause, Literal};
+use clause_core::{ClauseList, Literal};
 use sequence::NoMemory;
 use std::alloc::Global;
 use std::marker::Model;
@@ -229,7 +229,7 @@ pub struct Watches {
 
 impl Watches {
     /// No clause is taken in, and no entry visited; there is room for what these clauses watch first. An `Err` says that memory ran out.
-    pub fn new(alloc: Global, variables: u32, clauses: &[Clause]) -> Result<Watches, NoMemory>
+    pub fn new(alloc: Global, variables: u32, clauses: &ClauseList) -> Result<Watches, NoMemory>
         requires { variables < 2 ^ 31 }
         ensures { IfOk result (λ watches. (t : TrailState) → t.variables ≡ variables → AreWatched t watches) }
     {
@@ -415,7 +415,7 @@ impl Watches {
         requires forced { CanForce stack.now number literal }
         ensures { OnOk result (Rewatches stack.now self.old self.new) }
     {
-        match last_other(stack, stack.clause(number).literals(), literal) {
+        match last_other(stack, stack.clause(number), literal) {
             None => Ok(()),
             Some(other) => self.watch_both(stack, number, literal, other),
         }
@@ -585,10 +585,10 @@ impl Watches {
 
 /// How many of these clauses have a literal among their first two, for each literal by its code. An `Err` says that
 /// memory ran out.
-fn watch_counts(alloc: Global, count: u32, clauses: &[Clause]) -> Result<Vec<u32>, NoMemory> {
+fn watch_counts(alloc: Global, count: u32, clauses: &ClauseList) -> Result<Vec<u32>, NoMemory> {
     let mut counts = vec![in alloc; 0; count as usize]?;
-    for clause in clauses {
-        if let [first, second, ..] = clause.literals() {
+    for place in 0..clauses.len() {
+        if let [first, second, ..] = clauses.get(place) {
             add_one(counts.as_mut_slice(), first.code());
             add_one(counts.as_mut_slice(), second.code());
         }
@@ -625,7 +625,7 @@ fn next_pair(stack: &Stack<'_>, number: u32, pair: &Pair, other: Literal) -> Opt
             spare,
         });
     }
-    let literals = stack.clause(number).literals();
+    let literals = stack.clause(number);
     let start = start_in(literals.len(), spare);
     let position = free_position(stack, literals, other, start)?;
     Some(Pair {
@@ -694,7 +694,7 @@ fn status_of(stack: &Stack<'_>, number: u32) -> Status
     requires given { number < length stack.now.clauses }
     ensures { HasStatus stack.now number result }
 {
-    let literals = stack.clause(number).literals();
+    let literals = stack.clause(number);
     let Some(place) = first_free(stack, literals) else {
         return Status::Conflict;
     };

@@ -11,4 +11,4 @@ number_of-requires-clause-over c =
     let t = c.args.trail.now in
     let r = slice_get_some t.entries c.args.place c.requires.within in
     subst (λ (l : Lit). l.index < t.variables) (same_Some r.0.literal c.set_at.result
-    (ap (option_map (λ (x : Entry). x.literal)) (sym r.1) ∙ c.set_at.ensures)) (c.requires.sound.stand c.args.place r.0 r.1).over
+    (ap (option_map (λ (x : Entry). x.literal)) (sym r.1) ∙ c.set_at.ensures)) (c.requires.trail.sound.stand c.args.place r.0 r.1).over

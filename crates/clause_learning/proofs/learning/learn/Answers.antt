@@ -1,11 +1,11 @@
-use Rattle.std.proofs.Common.{◌≡◌, ◌++◌, ◌∷◌, [], ℕ, List, length, All, ◌<◌, ap, sym, subst, ◌∙◌, arith}
+use Rattle.std.proofs.Common.{◌≡◌, ℕ, List, length, All, ◌<◌, ap, sym, subst, ◌∙◌, arith}
 use Rattle.std.proofs.lemmas.List.{length_push}
 use Rattle.clause_core.specs.Literals.{Lit}
 use Rattle.clause_core.specs.Clauses.{IsOver, has_pair}
 use Rattle.sat_trail.specs.States.{TrailState, with_clause, undone}
 use Rattle.clause_learning.specs.Hints.{AreHints}
-use Rattle.clause_learning.specs.LearntClauses.{learnt_step, level_after}
-use Rattle.clause_learning.specs.ClauseDatabases.{numbers_of, log_hints}
+use Rattle.clause_learning.specs.LearntClauses.{TakesStep, level_after}
+use Rattle.clause_learning.specs.ClauseDatabases.{numbers_of}
 use Rattle.clause_learning.specs.ConflictAnalysis.{AreNoneSeen}
 use Rattle.clause_learning.specs.Decisions.{AreDecisions}
 use Rattle.clause_learning.proofs.LearntClauseLemmas.{learnt_clause_over, learnt_clause_no_pair, copied}
@@ -48,10 +48,7 @@ returns-clause-learnt c =
       learnt_clause = c.in_ok-learnt_clause.ensures.learnt_clause;
       trail_is = c.in_ok-learn.ensures.ok ∙ (ap (λ (s : TrailState). with_clause s c.in_ok-clause_of.field-0) back
           ∙ ap (with_clause (undone t target)) copy);
-      steps_are = c.in_ok-add.ensures.steps ∙ ap (λ (hs : List ℕ). c.args.proof_log.now.steps.items
-          ++ learnt_step c.args.proof_log.now.next learnt_clause.clause (log_hints (numbers_of c.args.proof_log.now.database) hs) ∷ []) hints;
-      next_is = c.in_ok-add.ensures.next;
-      numbers_are = c.in_ok-add.ensures.numbers;
+      step = subst (λ (hs : List ℕ). TakesStep c.args.proof_log.now learnt_clause.clause hs c.add.new.self) hints c.in_ok-add.ensures;
     }
 
 pub add-requires-clause-named : goal.add-requires-clause-named

@@ -11,7 +11,7 @@ pub returns : goal.returns
 returns c =
     let t = c.args.trail.now in
     let f = c.requires.conflict in
-    analysis_begins t c.requires.sound c.args.conflict f c.requires.met
+    analysis_begins t c.requires.trail.sound c.args.conflict f c.requires.met
     (record {
       seen = c.see_clause.new.self;
       kept = c.clear.new.self;

@@ -12,5 +12,5 @@ covers-requires-clause-given c =
     let r = slice_get_some t.entries c.args.place c.requires.within in
     let has_reason : r.0.reason ≡ Some c.in_ok-reason.reason = same_Some r.0.reason c.reason_at.result
     (ap (option_map (λ (x : Entry). x.reason)) (sym r.1) ∙ c.reason_at.ensures) ∙ c.in_ok-reason.was in
-    let forced = forced_by t c.requires.sound c.args.place r.0 c.in_ok-reason.reason r.1 has_reason in
+    let forced = forced_by t c.requires.trail.sound c.args.place r.0 c.in_ok-reason.reason r.1 has_reason in
     slice_get_within t.clauses c.in_ok-reason.reason forced.clause forced.named

@@ -40,5 +40,5 @@ returns c = λ e at.
     let level : e.level ≡ c.level_at-level.result = same_Some e.level c.level_at-level.result
     (ap (option_map (λ (x : Entry). x.level)) (sym at) ∙ c.level_at-level.ensures) in
     replaced_below t.clauses t.level c.args.self.now.seen.waiting e (omega (arith, level, c.if-level-eq0.false))
-    (let low = entry_low t c.requires.sound c.args.place e at in omega (arith, level, c.level.ensures.value, c.if-level.false))
+    (let low = entry_low t c.requires.trail.sound c.args.place e at in omega (arith, level, c.level.ensures.value, c.if-level.false))
     c.covered_reason.result (c.covered_reason.ensures e at)

@@ -8,6 +8,6 @@ is_seen-requires c =
     omega (
       arith,
       c.requires.within,
-      length_entries t.variables t.clauses t.entries c.requires.sound.stand,
+      length_entries t.variables t.clauses t.entries c.requires.trail.sound.stand,
       c.requires.analysis.seen.one_each,
     )

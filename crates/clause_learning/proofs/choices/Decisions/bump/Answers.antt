@@ -5,8 +5,10 @@ pub returns : goal.returns
 returns c = λ variables entries are.
     let i = c.loop-variable.invariant in
     record {
-      queue = c.grow.ensures.queue;
-      one_activity_each = c.grow.ensures.count ∙ (i.count ∙ are.one_activity_each);
-      one_value_each = i.phases ∙ are.one_value_each;
+      each = record {
+        queue = c.grow.ensures.queue;
+        one_activity_each = c.grow.ensures.count ∙ (i.count ∙ are.one_activity_each);
+        one_value_each = i.phases ∙ are.one_value_each;
+      };
       queued = λ index below unset. c.grow.ensures.same index ∙ (i.same index ∙ are.queued index below unset);
     }

@@ -23,7 +23,8 @@ returns-then-is_none-clause-found c =
 
 pub overflow_add-index : goal.overflow_add-index
 overflow_add-index c = let d = c.loop-index.invariant.decisions in
-    omega (arith, queued_below c.loop-index.self.queue d.queue.queue c.in-Some.index c.in-Some.ensures.next.queued, d.one_activity_each, c.requires.few)
+    let below = queued_below c.loop-index.self.queue d.queue.queue c.in-Some.index c.in-Some.ensures.next.queued in
+    omega (arith, below, d.one_activity_each, d.queue.queue.few)
 
 pub set_place-requires-clause-over : goal.set_place-requires-clause-over
 set_place-requires-clause-over c = let d = c.loop-index.invariant.decisions in

@@ -39,8 +39,8 @@ loop-place-preserved c =
     let same : before.queue ≡ c.loop-place.self.queue = ap (λ (d : Decisions). d.queue) c.repeat_if.ensures in
     record {
       decisions = decisions_given t.variables t.entries before c.give_back.new.self c.set_at-literal.result.index
-          (decisions_repeated t.variables t.entries c.loop-place.self before c.repeat_if.ensures i.decisions) given.queue
-          given.count given.phases given.queued;
+          (decisions_repeated t.variables t.entries c.loop-place.self before c.repeat_if.ensures i.decisions) given.each
+          given.queued;
       given = given_more t.entries last r.0 before.queue c.give_back.new.self.queue r.1
           (λ other. given.queued other ∙ ap (λ (l : Lit). is_queued before.queue other || eqb other l.index) (sym is))
           (subst (λ (q : VariableQueue). AreGiven t.entries (last + 1) q) (sym same)

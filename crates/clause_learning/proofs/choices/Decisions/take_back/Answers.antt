@@ -34,8 +34,8 @@ loop-place-preserved c =
     let given = c.give_back.ensures in
     let next : c.loop-place.place ≡ last + 1 = omega (arith, c.loop-place-test.true) in
     record {
-      decisions = decisions_given t.variables t.entries c.loop-place.self c.give_back.new.self c.set_at.result.index i.decisions given.queue
-          given.count given.phases given.queued;
+      decisions = decisions_given t.variables t.entries c.loop-place.self c.give_back.new.self c.set_at.result.index i.decisions given.each
+          given.queued;
       given = given_more t.entries last r.0 c.loop-place.self.queue c.give_back.new.self.queue r.1
           (λ other. given.queued other
           ∙ ap (λ (l : Lit). is_queued c.loop-place.self.queue other || eqb other l.index) (sym is))

@@ -1,4 +1,4 @@
-use Rattle.std.proofs.Common.{◌≡◌, ℕ, ◌+◌, ◌-◌, length, Some, slice_get, ap, sym, ◌∙◌, refl, arith}
+use Rattle.std.proofs.Common.{◌≡◌, ◌-◌, length, Some, slice_get, sym, refl, arith}
 use Rattle.std.proofs.lemmas.Option.{slice_get_read}
 use Rattle.clause_learning.proofs.DatabaseNumbers.{numbers_long, number_of_formula, number_of_learnt}
 use Rattle.clause_learning.proofs.clause_database.ClauseDatabase.number_at.Goals as goal
@@ -9,7 +9,7 @@ index-requires c =
     omega (arith, c.requires, numbers_long self, c.if-place-self.false, self.learnt.ok.0)
 
 pub returns-then-place-self : goal.returns-then-place-self
-returns-then-place-self c = ap (λ (n : ℕ). n + 1) c.from.ensures ∙ sym (number_of_formula c.args.self.now c.args.place c.if-place-self.true)
+returns-then-place-self c = sym (number_of_formula c.args.self.now c.args.place c.if-place-self.true)
 
 pub returns-else-place-self : goal.returns-else-place-self
 returns-else-place-self c =

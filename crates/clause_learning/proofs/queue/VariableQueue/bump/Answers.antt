@@ -33,8 +33,8 @@ returns-then-activity-gt-LIMIT-clause-active c =
     let a = activity_of old c.args.variable + old.increment in
     let s = (goal.at.returns-then-activity-gt-LIMIT-clause-active c).After-set_activity in
     let over : limit < a = omega (arith, sum_is s, c.if-activity-gt-LIMIT.true) in
-    made_active old c.set_activity.new.self c.scale.new.self c.args.variable a (c.scale.ensures.count ∙ c.set_activity.ensures.count)
-    (λ o. c.scale.ensures.same o ∙ c.set_activity.ensures.same o) (activities s)
+    made_active old c.set_activity.new.self c.scale.new.self c.args.variable a
+    (c.scale.ensures.kept.count ∙ c.set_activity.ensures.kept.count) (λ o. c.scale.ensures.kept.same o ∙ c.set_activity.ensures.kept.same o) (activities s)
     (λ o. c.scale.ensures.activities o ∙ sym (beside_over a (activity_of c.set_activity.new.self o) over))
     (c.scale.ensures.increment ∙ (ap (λ (n : ℕ). n / 2 ^ 40) c.set_activity.ensures.increment ∙ sym (beside_over a old.increment over)))
 
@@ -44,8 +44,8 @@ returns-else-activity-gt-LIMIT-clause-active c =
     let a = activity_of old c.args.variable + old.increment in
     let s = (goal.at.returns-else-activity-gt-LIMIT-clause-active c).After-set_activity in
     let under : a ≤ limit = omega (arith, sum_is s, c.if-activity-gt-LIMIT.false) in
-    made_active old c.set_activity.new.self c.set_activity.new.self c.args.variable a c.set_activity.ensures.count
-    c.set_activity.ensures.same (activities s) (λ o. sym (beside_under a (activity_of c.set_activity.new.self o) under))
+    made_active old c.set_activity.new.self c.set_activity.new.self c.args.variable a c.set_activity.ensures.kept.count
+    c.set_activity.ensures.kept.same (activities s) (λ o. sym (beside_under a (activity_of c.set_activity.new.self o) under))
     (c.set_activity.ensures.increment ∙ sym (beside_under a old.increment under))
 
 pub returns-else-activity-gt-LIMIT-clause-queue : goal.returns-else-activity-gt-LIMIT-clause-queue

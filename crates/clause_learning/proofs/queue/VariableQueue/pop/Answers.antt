@@ -1,7 +1,7 @@
 use Rattle.std.proofs.Common.{refl, arith, inl}
 use Rattle.clause_learning.specs.NumberSets.{contains}
 use Rattle.clause_learning.specs.Queues.{activity_of}
-use Rattle.clause_learning.proofs.Queueing.{next_active, next_inactive, none_queued, queue_changed, unchanged, queued_below}
+use Rattle.clause_learning.proofs.Queueing.{next_active, next_inactive, none_queued, queue_changed, unchanged, member_still, queued_below}
 use Rattle.clause_learning.proofs.queue.VariableQueue.pop.Goals as goal
 
 pub returns-then-first-gt0-clause-next : goal.returns-then-first-gt0-clause-next
@@ -20,12 +20,8 @@ returns-then-first-gt0-clause-queue c =
         fitting = inl refl;
         none = λ h. (c.requires.queue.inactive v h).1;
         count = refl;
-        leaves = c.set.ensures.leaves;
-        room_is = refl;
-        tournament = c.set.ensures.tournament;
-        set = c.requires.queue.set;
-        weights = c.set.ensures.weights;
-        members = unchanged (contains old.inactive) v;
+        weighed = c.set.ensures;
+        written = member_still old.inactive v c.requires.queue.set;
         activities = unchanged (activity_of old) v;
       });
       bounded = record { activities = c.requires.bounded.activities; increment = c.requires.bounded.increment };

@@ -3,7 +3,7 @@ use Rattle.std.proofs.lemmas.Option.{get_or_from_slice_get, slice_get_read}
 use Rattle.clause_learning.specs.NumberSets.{contains}
 use Rattle.clause_learning.specs.Tournaments.{weight}
 use Rattle.clause_learning.specs.Queues.{activity_of}
-use Rattle.clause_learning.proofs.Queueing.{queue_changed, unchanged}
+use Rattle.clause_learning.proofs.Queueing.{queue_changed, unchanged, weighs_still, member_still}
 use Rattle.clause_learning.proofs.queue.VariableQueue.push.Goals as goal
 use Rattle.clause_learning.proofs.queue.VariableQueue.push.Goals.{After-index-activity}
 
@@ -23,12 +23,8 @@ returns-then-activity-gt0-clause-queue c =
             fitting = inr (sym (read (goal.at.returns-then-activity-gt0-clause-queue c).After-index-activity));
             none = λ h. (c.requires.queue.queue.inactive v h).1;
             count = refl;
-            leaves = c.set.ensures.leaves;
-            room_is = refl;
-            tournament = c.set.ensures.tournament;
-            set = c.requires.queue.queue.set;
-            weights = c.set.ensures.weights;
-            members = unchanged (contains old.inactive) v;
+            weighed = c.set.ensures;
+            written = member_still old.inactive v c.requires.queue.queue.set;
             activities = unchanged (activity_of old) v;
           });
       bounded = record { activities = c.requires.queue.bounded.activities; increment = c.requires.queue.bounded.increment };
@@ -46,12 +42,8 @@ returns-else-activity-gt0-clause-queue c =
             fitting = c.requires.queue.queue.active v;
             none = λ h. none;
             count = refl;
-            leaves = refl;
-            room_is = c.set-else-activity-gt0.ensures.room;
-            tournament = c.requires.queue.queue.tournament;
-            set = c.set-else-activity-gt0.ensures.set;
-            weights = unchanged (weight old.active) v;
-            members = c.set-else-activity-gt0.ensures.members;
+            weighed = weighs_still old.active v c.requires.queue.queue.tournament;
+            written = c.set-else-activity-gt0.ensures;
             activities = unchanged (activity_of old) v;
           });
       bounded = record { activities = c.requires.queue.bounded.activities; increment = c.requires.queue.bounded.increment };

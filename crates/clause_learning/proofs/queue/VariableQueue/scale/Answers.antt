@@ -25,8 +25,8 @@ loop-variable-preserved c =
     let read = get_or_from_slice_get items v c.index.result.now 0 (slice_get_read items (length items) v c.index.result.now refl within c.index.ensures) in
     record {
       queue = s.queue;
-      count = s.count ∙ i.count;
-      same = λ o. s.same o ∙ i.same o;
+      count = s.kept.count ∙ i.count;
+      same = λ o. s.kept.same o ∙ i.same o;
       done = λ o below. elim (cases_eq o v) [
         | inl is ↦ s.activities o ∙ (at_one o v (c.index.result.now / 2 ^ 40) (activity_of old o) is
             ∙ ap (λ (n : ℕ). n / 2 ^ 40) (sym read ∙ (i.left v (omega arith) ∙ ap (activity_of c.args.self.now) (sym is))))
@@ -56,15 +56,7 @@ pub returns-clause-queue : goal.returns-clause-queue
 returns-clause-queue c =
     let i = c.loop-variable.invariant in
     record {
-      queue = record {
-        few = i.queue.few;
-        tournament = i.queue.tournament;
-        leaf_each = i.queue.leaf_each;
-        set = i.queue.set;
-        bit_each = i.queue.bit_each;
-        active = i.queue.active;
-        inactive = i.queue.inactive;
-      };
+      queue = i.queue;
       bounded = record {
         activities = λ o. omega (arith, activities (goal.at.returns-clause-queue c).After-loop-variable o, c.requires.bounded.activities o);
         increment = omega (arith, i.increment, c.requires.bounded.increment);

@@ -6,7 +6,8 @@ use Rattle.clause_learning.specs.declared.queue.VariableQueue.{VariableQueue}
 use Rattle.clause_learning.specs.NumberSets.{contains}
 use Rattle.clause_learning.specs.Tournaments.{weight}
 use Rattle.clause_learning.specs.Queues.{is_queued}
-use Rattle.clause_learning.proofs.Queueing.{IsChanged, queue_changed, queued_changed, unchanged, written_at, counted, none_left}
+use Rattle.clause_learning.proofs.Queueing.{IsChanged, queue_changed, queued_changed, unchanged, weighs_still, member_still}
+use Rattle.clause_learning.proofs.Queueing.{written_at, counted, none_left}
 use Rattle.clause_learning.proofs.queue.VariableQueue.set_activity.Goals.{After-set-then-queued}
 use Rattle.clause_learning.proofs.queue.VariableQueue.set_activity.Goals as goal
 
@@ -25,12 +26,8 @@ changed c = let old = c.args.self.now in
       fitting = inr refl;
       none = λ h. eqb-true c.args.new_activity 0 h;
       count = length-set old.activities.items c.args.variable c.args.new_activity;
-      leaves = c.set.ensures.leaves;
-      room_is = c.set-then-queued.ensures.room;
-      tournament = c.set.ensures.tournament;
-      set = c.set-then-queued.ensures.set;
-      weights = c.set.ensures.weights;
-      members = c.set-then-queued.ensures.members;
+      weighed = c.set.ensures;
+      written = c.set-then-queued.ensures;
       activities = λ o. written_at old.activities.items c.args.variable c.args.new_activity o c.requires.within;
     }
 
@@ -39,13 +36,17 @@ returns-then-queued-clause-queue c = let s = (goal.at.returns-then-queued-clause
     queue_changed c.args.self.now (after s) c.args.variable c.args.new_activity (c.args.new_activity == 0) c.args.new_activity c.requires.queue
     (changed s)
 
-pub returns-then-queued-clause-same : goal.returns-then-queued-clause-same
-returns-then-queued-clause-same c = λ o.
-    let s = (goal.at.returns-then-queued-clause-same c).After-set-then-queued in
+pub returns-then-queued-clause-kept : goal.returns-then-queued-clause-kept
+returns-then-queued-clause-kept c =
+    let s = (goal.at.returns-then-queued-clause-kept c).After-set-then-queued in
     let old = c.args.self.now in
-    queued_changed old (after s) c.args.variable c.args.new_activity (c.args.new_activity == 0) c.args.new_activity c.requires.queue (changed s) o
-    ∙ (ap (λ (b : Bool). cond (o == c.args.variable) b (is_queued old o))
-    (counted c.args.new_activity ∙ (sym c.if-queued.true ∙ c.is_queued-queued.ensures)) ∙ sym (unchanged (is_queued old) c.args.variable o))
+    record {
+      count = (changed s).count;
+      same = λ o. queued_changed old (after s) c.args.variable c.args.new_activity (c.args.new_activity == 0) c.args.new_activity
+          c.requires.queue (changed s) o ∙ (ap (λ (b : Bool). cond (o == c.args.variable) b (is_queued old o))
+          (counted c.args.new_activity ∙ (sym c.if-queued.true ∙ c.is_queued-queued.ensures))
+          ∙ sym (unchanged (is_queued old) c.args.variable o));
+    }
 
 pub returns-else-queued-clause-queue : goal.returns-else-queued-clause-queue
 returns-else-queued-clause-queue c =
@@ -57,11 +58,7 @@ returns-else-queued-clause-queue c =
       fitting = inl none.0;
       none = λ h. absurd (true≢false (sym h ∙ none.1));
       count = length-set old.activities.items c.args.variable c.args.new_activity;
-      leaves = refl;
-      room_is = refl;
-      tournament = c.requires.queue.tournament;
-      set = c.requires.queue.set;
-      weights = unchanged (weight old.active) c.args.variable;
-      members = unchanged (contains old.inactive) c.args.variable;
+      weighed = weighs_still old.active c.args.variable c.requires.queue.tournament;
+      written = member_still old.inactive c.args.variable c.requires.queue.set;
       activities = λ o. written_at old.activities.items c.args.variable c.args.new_activity o c.requires.within;
     })

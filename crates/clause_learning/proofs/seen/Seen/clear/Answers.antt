@@ -2,7 +2,7 @@ use Rattle.std.proofs.Common.{◌<◌, false, refl, arith}
 use Rattle.sequence.proofs.Places.{slice_get_some}
 use Rattle.sat_trail.proofs.Soundness.{length_entries}
 use Rattle.std.specs.Vec.{with_item}
-use Rattle.clause_learning.proofs.SeenEntries.{clears, clears_count, clears_flags}
+use Rattle.clause_learning.proofs.SeenEntries.{clears, clears_count}
 use Rattle.clause_learning.proofs.seen.Seen.clear.Goals as goal
 
 pub index_mut-requires : goal.index_mut-requires
@@ -10,9 +10,9 @@ index_mut-requires c =
     let t = c.args.trail.now in
     omega (
       arith,
-      c.requires.within,
-      length_entries t.variables t.clauses t.entries c.requires.sound.stand,
-      c.requires.seen.one_each,
+      c.requires.entry.within,
+      length_entries t.variables t.clauses t.entries c.requires.trail.sound.stand,
+      c.requires.entry.all.one_each,
       c.args.self.now.flags.ok.0,
     )
 
@@ -20,31 +20,21 @@ pub overflow_sub-self : goal.overflow_sub-self
 overflow_sub-self c =
     let t = c.args.trail.now in
     let m = c.args.self.now in
-    let r = slice_get_some t.entries c.args.place c.requires.within in
+    let r = slice_get_some t.entries c.args.place c.requires.entry.within in
     let room : c.args.place < t.variables = omega
-    (arith, c.requires.within, length_entries t.variables t.clauses t.entries c.requires.sound.stand) in
+    (arith, c.requires.entry.within, length_entries t.variables t.clauses t.entries c.requires.trail.sound.stand) in
     omega (
       arith,
       clears_count t m (record m { flags = with_item m.flags c.args.place false }) c.args.place r.0 c.is_present.result c.from.result
-          c.requires.seen room r.1 (c.is_present.ensures r.0 r.1) c.from.ensures c.requires.entries_seen refl,
+          c.requires.entry.all room r.1 (c.is_present.ensures r.0 r.1) c.from.ensures c.requires.entry.here refl,
     )
 
-pub returns-clause-cleared : goal.returns-clause-cleared
-returns-clause-cleared c =
+pub returns : goal.returns
+returns c =
     let t = c.args.trail.now in
     let m = c.args.self.now in
-    let r = slice_get_some t.entries c.args.place c.requires.within in
+    let r = slice_get_some t.entries c.args.place c.requires.entry.within in
     let room : c.args.place < t.variables = omega
-    (arith, c.requires.within, length_entries t.variables t.clauses t.entries c.requires.sound.stand) in
-    clears_flags t m (record m { flags = with_item m.flags c.args.place false }) c.args.place r.0 c.is_present.result c.from.result c.requires.seen room r.1 (c.is_present.ensures r.0 r.1)
-    c.from.ensures c.requires.entries_seen refl
-
-pub returns-clause-seen : goal.returns-clause-seen
-returns-clause-seen c =
-    let t = c.args.trail.now in
-    let m = c.args.self.now in
-    let r = slice_get_some t.entries c.args.place c.requires.within in
-    let room : c.args.place < t.variables = omega
-    (arith, c.requires.within, length_entries t.variables t.clauses t.entries c.requires.sound.stand) in
-    clears t m _ c.args.place r.0 c.is_present.result c.from.result c.requires.seen room r.1 (c.is_present.ensures r.0 r.1) c.from.ensures
-    c.requires.entries_seen refl refl refl refl
+    (arith, c.requires.entry.within, length_entries t.variables t.clauses t.entries c.requires.trail.sound.stand) in
+    clears t m _ c.args.place r.0 c.is_present.result c.from.result c.requires.entry.all room r.1 (c.is_present.ensures r.0 r.1)
+    c.from.ensures c.requires.entry.here refl refl refl refl

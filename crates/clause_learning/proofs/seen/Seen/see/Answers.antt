@@ -12,7 +12,7 @@ pub is_seen-requires : goal.is_seen-requires
 is_seen-requires c =
     let t = c.args.trail.now in
     let p = place_within t.entries c.variable.result c.args.literal.index c.in-Some.place c.variable.ensures.value c.in-Some.ensures in
-    omega (arith, p.1, length_entries t.variables t.clauses t.entries c.requires.sound.stand, c.requires.seen.one_each)
+    omega (arith, p.1, length_entries t.variables t.clauses t.entries c.requires.trail.sound.stand, c.requires.seen.one_each)
 
 pub returns-then-is_seen-clause-entries_seen : goal.returns-then-is_seen-clause-entries_seen
 returns-then-is_seen-clause-entries_seen c =
@@ -27,7 +27,7 @@ index_mut-requires c =
     omega (
       arith,
       p.1,
-      length_entries t.variables t.clauses t.entries c.requires.sound.stand,
+      length_entries t.variables t.clauses t.entries c.requires.trail.sound.stand,
       c.requires.seen.one_each,
       c.args.self.now.flags.ok.0,
     )
@@ -47,13 +47,13 @@ overflow_add-self c =
     let p = place_within t.entries c.variable.result c.args.literal.index c.in-Some.place c.variable.ensures.value c.in-Some.ensures in
     let r = slice_get_some t.entries c.in-Some.place p.1 in
     let room : c.in-Some.place < t.variables = omega
-    (arith, p.1, length_entries t.variables t.clauses t.entries c.requires.sound.stand) in
+    (arith, p.1, length_entries t.variables t.clauses t.entries c.requires.trail.sound.stand) in
     let n : Seen = record m { flags = with_item m.flags c.in-Some.place true } in
     omega (
       arith,
       adds_count t m n c.in-Some.place r.0 c.is_present.result c.from.result c.requires.seen room r.1 (c.is_present.ensures r.0 r.1)
           c.from.ensures (sym c.is_seen.ensures ∙ c.if-is_seen.false) refl,
-      count_fits t c.requires.sound (is_seen n),
+      count_fits t c.requires.trail.sound (is_seen n),
     )
 
 pub returns-clause-entries_seen : goal.returns-clause-entries_seen
@@ -63,7 +63,7 @@ returns-clause-entries_seen c =
     let p = place_within t.entries c.variable.result c.args.literal.index c.in-Some.place c.variable.ensures.value c.in-Some.ensures in
     let r = slice_get_some t.entries c.in-Some.place p.1 in
     let room : c.in-Some.place < t.variables = omega
-    (arith, p.1, length_entries t.variables t.clauses t.entries c.requires.sound.stand) in
+    (arith, p.1, length_entries t.variables t.clauses t.entries c.requires.trail.sound.stand) in
     on_ok_weaker c.note.result (λ looked j. adds_flags t m c.note.new.self c.in-Some.place r.0 c.is_present.result c.from.result
     c.requires.seen room r.1 (c.is_present.ensures r.0 r.1) c.from.ensures (sym c.is_seen.ensures ∙ c.if-is_seen.false)
     (ap (λ (n : Seen). n.flags.items) c.note.ensures.rest) j
@@ -76,7 +76,7 @@ returns-clause-seen c =
     let p = place_within t.entries c.variable.result c.args.literal.index c.in-Some.place c.variable.ensures.value c.in-Some.ensures in
     let r = slice_get_some t.entries c.in-Some.place p.1 in
     let room : c.in-Some.place < t.variables = omega
-    (arith, p.1, length_entries t.variables t.clauses t.entries c.requires.sound.stand) in
+    (arith, p.1, length_entries t.variables t.clauses t.entries c.requires.trail.sound.stand) in
     on_ok_weaker c.note.result (λ looked. adds t m c.note.new.self c.in-Some.place r.0 c.is_present.result c.from.result c.requires.seen room
     r.1 (c.is_present.ensures r.0 r.1) c.from.ensures (sym c.is_seen.ensures ∙ c.if-is_seen.false)
     (ap (λ (n : Seen). n.flags.items) c.note.ensures.rest)

@@ -25,10 +25,12 @@ pub returns-clause-tournament : goal.returns-clause-tournament
 returns-clause-tournament c =
     let i = c.loop-node.invariant in
     record {
-      some = omega (arith, i.leaves, c.requires.some);
-      few = omega (arith, i.leaves, c.requires.few);
-      size = i.size;
-      named = λ leaf below. ap (λ (r : Rank). r.variable) (i.ranks leaf) ∙ c.requires.named leaf (omega (arith, i.leaves, below));
+      last_half = record {
+        some = omega (arith, i.leaves, c.requires.some);
+        few = omega (arith, i.leaves, c.requires.few);
+        size = i.size;
+        named = λ leaf below. ap (λ (r : Rank). r.variable) (i.ranks leaf) ∙ c.requires.named leaf (omega (arith, i.leaves, below));
+      };
       won = λ k some inner. i.won k (omega (arith, some, c.loop-node-test.false)) inner;
     }
 

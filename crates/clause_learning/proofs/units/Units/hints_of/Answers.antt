@@ -9,7 +9,7 @@ use Rattle.clause_learning.proofs.units.Units.hints_of.Goals as goal
 pub loop-other-preserved : goal.loop-other-preserved
 loop-other-preserved c =
     let t = c.args.trail.now in
-    let items = c.literals-other-items.result.now in
+    let items = c.clause-other-items.result.now in
     let i = c.loop-other.other-index in
     let next : drop i items ≡ c.other-item.result ∷ drop (i + 1) items =
     drop_more items i c.other-item.result (omega (arith, c.loop-other-test.true))
@@ -22,16 +22,13 @@ loop-other-preserved c =
 pub returns : goal.returns
 returns c =
     let t = c.args.trail.now in
-    let items = c.literals-other-items.result.now in
+    let items = c.clause-other-items.result.now in
     let i = c.loop-other.other-index in
-    let clause = c.clause.result.now in
-    let is : items ≡ clause = c.literals-other-items.ensures.value in
     let known : AreHintsFor t.clauses c.args.literal items (c.loop-other.hints.items ++ []) = c.loop-other.invariant []
     (subst (λ (ls : List Lit). AreHintsFor t.clauses c.args.literal ls [])
     (sym (drop_all i items (omega (arith, c.loop-other-test.false)))) none) in
-    subst (ShowAlone t.clauses c.args.literal)
+    subst (ShowAlone t c.args.literal)
     (sym (c.in_ok-push.ensures.items ∙ ap (λ (n : ℕ). c.loop-other.hints.items ++ (n + 1) ∷ []) c.from.ensures))
-    (show_alone t c.requires.sound c.args.number clause c.args.literal c.loop-other.hints.items c.clause.ensures
-    c.literals-other-items.ensures.increasing (c.requires.member clause c.clause.ensures)
-    (subst (λ (ls : List Lit). AreHintsFor t.clauses c.args.literal ls c.loop-other.hints.items) is
-    (subst (AreHintsFor t.clauses c.args.literal items) (append-nil c.loop-other.hints.items) known)))
+    (show_alone t c.requires.trail.sound c.args.number items c.args.literal c.loop-other.hints.items c.clause-other-items.ensures.value
+    c.clause-other-items.ensures.increasing (c.requires.member items c.clause-other-items.ensures.value)
+    (subst (AreHintsFor t.clauses c.args.literal items) (append-nil c.loop-other.hints.items) known))

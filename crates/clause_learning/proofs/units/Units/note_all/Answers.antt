@@ -5,20 +5,7 @@ use Rattle.clause_learning.proofs.Noting.{noting_more}
 use Rattle.clause_learning.proofs.units.Units.note_all.Goals as goal
 
 pub loop-self-init : goal.loop-self-init
-loop-self-init c = record {
-  count = 0;
-  noted = none;
-  added = omega arith;
-  most = refl;
-  room = c.requires.added;
-  few = c.requires.few;
-  next = omega (arith, c.requires.next);
-  usable = c.requires.usable;
-  start = c.requires.start;
-  sound = c.requires.sound;
-  units_are = c.requires.table;
-  numbers = c.requires.numbers;
-}
+loop-self-init c = record { count = 0; noted = none; counted = omega arith; most = refl; ready = c.requires }
 
 pub loop-self-preserved : goal.loop-self-preserved
 loop-self-preserved c =

@@ -1,9 +1,9 @@
-use Rattle.std.proofs.Common.{◌≡◌, ℕ, false, [], List, length, sym, subst, ◌∙◌, All, Contains, arith}
+use Rattle.std.proofs.Common.{◌≡◌, ℕ, false, [], List, sym, subst, ◌∙◌, All, Contains, arith}
 use Rattle.std.proofs.lemmas.List.Elements.{All-weaker, All-contains}
 use Rattle.clause_core.specs.Literals.{Lit}
 use Rattle.clause_core.specs.Clauses.{IsOver, has_pair}
 use Rattle.sat_trail.specs.States.{TrailState}
-use Rattle.clause_learning.specs.ClauseDatabases.{numbers_of, AreKept}
+use Rattle.clause_learning.specs.ClauseDatabases.{numbers_of}
 use Rattle.clause_learning.specs.ConflictAnalysis.{AreNoneSeen}
 use Rattle.clause_learning.specs.Decisions.{AreDecisions}
 use Rattle.sat_core.proofs.Searching.{search_reduced}
@@ -35,8 +35,7 @@ returns-clause-searching c =
     let search = search_reduced s.cnf.now.variables s.cnf.now.clauses s.reduces s.trail u s.proof_log.steps.items
     (numbers_of s.proof_log.database) kept.database i.logged.search (sym i.wanted ∙ c.is_due.ensures.wanted c.if-not-is_due.false) (record {
       others = kept.learnt.items;
-      kept = subst (λ (formula : List (List Lit)). AreKept formula s.trail.clauses (numbers_of s.proof_log.database)
-          (length s.trail.clauses) kept.learnt.items kept.database) c.as_slice.ensures c.in_ok-kept.ensures;
+      kept = c.in_ok-kept.ensures;
       trail_is = is;
     }) c.in_ok-self.ensures.sound in
     record {

@@ -1,4 +1,4 @@
-use Rattle.std.proofs.Common.{◌≡◌, ◌*◌, ◌++◌, ◌∙◌, false, None, List, length-append, replicate, sym, subst, ap, rules, arith}
+use Rattle.std.proofs.Common.{◌≡◌, ◌*◌, ◌++◌, false, None, List, length-append, replicate, sym, subst, rules, arith}
 use Rattle.std.proofs.lemmas.List.Elements.{All-append}
 use Rattle.sat_trail.specs.internal.Tables.{IsPlaceTable, AreTruths}
 use Rattle.clause_core.specs.Literals.{Lit}
@@ -18,7 +18,7 @@ invariant_of-result c =
     (omega (arith, length-append cnf.clauses learnt, c.requires.few)) (All-append (IsOver cnf.variables) cnf.clauses learnt cnf.over
     c.requires.over) (All-append (λ clause. has_pair clause ≡ false) cnf.clauses learnt c.requires.formula c.requires.no_pairs) in
     let all : c.new.result ≡ cnf.clauses ++ learnt =
-    c.new.ensures ∙ ap (λ (cs : List (List Lit)). cs ++ learnt) c.as_slice.ensures in
+    c.new.ensures in
     let none = c.new-2.ensures.items in (
       subst (λ (es : List Entry). IsSound (record {
         variables = cnf.variables;
