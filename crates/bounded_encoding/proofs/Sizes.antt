@@ -3,7 +3,7 @@ use Rattle.std.proofs.Common.{◌≡◌, ◌<◌, ◌≤◌, ◌+◌, ◌*◌, �
 use Rattle.std.proofs.Math.Nat.{mul-le-mul, mul-le-mul_left, mul-le-mul_right}
 use Rattle.std.proofs.Math.Pow.{pow_mono}
 use Rattle.cobuchi_automata.specs.declared.build_error.TheConstants.{MOST_AUTOMATON_STATES}
-use Rattle.refutation_check.specs.declared.dimacs.TheConstants.{MOST_CLAUSES}
+use Rattle.refutation_check.specs.declared.limits.TheConstants.{MOST_CLAUSES}
 use Rattle.bounded_encoding.specs.FrameView.{frame_tree, IsFramed}
 use Rattle.bounded_encoding.specs.declared.frame.Frame.{Frame}
 use Rattle.bounded_encoding.specs.Variables.{valuations_of, choices_in_all}

@@ -1,7 +1,7 @@
 -- What an answer to the question for a controller says.
 use Rattle.std.specs.Prelude.{◌≡◌, ◌≤◌, ℕ, ◌*◌, List, length, Option}
 use Rattle.clause_core.specs.Literals.{Lit}
-use Rattle.refutation_check.specs.declared.dimacs.TheConstants.{MOST_CLAUSES}
+use Rattle.refutation_check.specs.declared.limits.TheConstants.{MOST_CLAUSES}
 use Rattle.refutation_check.specs.declared.steps.Step.{Step}
 use Rattle.sat_core.specs.Answers.{AreRefuting, IsWholeTrace}
 use Rattle.machines.specs.MachineTree.{ControllerTree}

@@ -7,15 +7,14 @@ ghost use Rattle.bounded_encoding.specs.Refusing.{Refuses};
 ghost use Rattle.bounded_encoding.specs.declared.errors.EncodeError.TheVariants.{Clauses};
 
 use crate::errors::EncodeError;
-use clause_core::{Clause, Literal, clause_of, is_tautology};
-use sequence::Sequence;
+use clause_core::{ClauseList, Literal, clause_of, is_tautology};
 use std::alloc::Global;
 use std::marker::Model;
 
 /// Clauses made so far, and how many there may be at most.
 #[derive(Drop)]
 pub struct Builder {
-    list: Vec<Clause>,
+    list: ClauseList,
     limit: u64,
 }
 
@@ -25,9 +24,9 @@ impl Model for Builder {
 
     ghost Value = { Made };
 
-    ghost view = { λ made. record { clauses = made.list.items; most = made.limit } };
+    ghost view = { λ made. record { clauses = made.list; most = made.limit } };
 
-    ghost invariant = { λ made. length made.list.items ≤ made.limit };
+    ghost invariant = { λ made. length made.list ≤ made.limit };
 }
 
 impl Builder {
@@ -36,18 +35,18 @@ impl Builder {
         ensures { result ≡ record { clauses = []; most = limit } }
     {
         Builder {
-            list: Vec::new(alloc),
+            list: ClauseList::new(alloc),
             limit,
         }
     }
 
     /// The clauses.
-    pub fn into_list(self) -> Sequence<Clause>
+    pub fn into_list(self) -> ClauseList
         ensures list { result ≡ self.clauses }
         ensures within { length self.clauses ≤ self.most }
     {
         let Builder { list, .. } = self;
-        Sequence::from_vec(list)
+        list
     }
 
     /// Adds the clause of these literals, but for one with a literal and its negation. Nothing is added at an
@@ -61,7 +60,7 @@ impl Builder {
         if is_tautology(&clause) {
             return Ok(());
         }
-        self.push(clause)
+        self.push(alloc, literals)
     }
 
     /// Adds the clause of these literals, none of which is the negation of another. Nothing is added at an `Err`.
@@ -76,21 +75,20 @@ impl Builder {
         ensures refused { Refuses result (with_clauses self.old (literals.now ∷ [])) }
         ensures unchanged { OnErr result (self.new ≡ self.old) }
     {
-        let clause = clause_of(alloc, literals)?;
-        self.push(clause)
+        self.push(alloc, literals)
     }
 
     /// Adds a clause. Nothing is added at an `Err`.
     #[inline(always)]
-    fn push(&mut self, clause: Clause) -> Result<(), EncodeError>
-        ensures added { OnOk result (self.new ≡ record { clauses = self.old.clauses ++ clause ∷ []; most = self.old.most }) }
+    fn push(&mut self, alloc: Global, literals: &[Literal]) -> Result<(), EncodeError>
+        ensures added { OnOk result (self.new ≡ record { clauses = self.old.clauses ++ in_order literals.now ∷ []; most = self.old.most }) }
         ensures refused { IfErr result (λ e. e ≡ Clauses → self.old.most ≤ length self.old.clauses) }
         ensures unchanged { OnErr result (self.new ≡ self.old) }
     {
         if self.list.len() as u64 >= self.limit {
             return Err(EncodeError::Clauses);
         }
-        self.list.push(clause)?;
+        self.list.push(alloc, literals)?;
         Ok(())
     }
 }

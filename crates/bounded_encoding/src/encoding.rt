@@ -2,7 +2,7 @@
 
 ghost use Rattle.std.specs.Prelude.{◌≡◌, ◌<◌, ◌≤◌, ◌*◌, length, IfOk, IfErr, OnOk};
 ghost use Rattle.cobuchi_automata.specs.declared.build_error.TheConstants.{MOST_AUTOMATON_STATES};
-ghost use Rattle.refutation_check.specs.declared.dimacs.TheConstants.{MOST_CLAUSES};
+ghost use Rattle.refutation_check.specs.declared.limits.TheConstants.{MOST_CLAUSES};
 ghost use Rattle.bounded_encoding.specs.QuestionView.{question_of};
 ghost use Rattle.bounded_encoding.specs.Variables.{variable_count};
 ghost use Rattle.bounded_encoding.specs.Encoding.{demands, encoding};

@@ -2,7 +2,7 @@
 
 ghost use Rattle.std.specs.Prelude.{◌≡◌, ◌<◌, ◌≤◌, ◌^◌, ℕ, length, IfOk, IfErr};
 ghost use Rattle.cobuchi_automata.specs.declared.build_error.TheConstants.{MOST_AUTOMATON_STATES};
-ghost use Rattle.refutation_check.specs.declared.dimacs.TheConstants.{MOST_CLAUSES};
+ghost use Rattle.refutation_check.specs.declared.limits.TheConstants.{MOST_CLAUSES};
 ghost use Rattle.bounded_encoding.specs.QuestionView.{question_of};
 ghost use Rattle.sat_core.specs.Answers.{AreSatisfying};
 ghost use Rattle.bounded_encoding.specs.Variables.{variable_count};

@@ -3,7 +3,7 @@ use Rattle.std.proofs.Common.{◌≡◌, ◌<◌, ◌≤◌, ◌+◌, ◌*◌, �
 use Rattle.std.proofs.Math.Nat.{mul-le-mul}
 use Rattle.letter_space.specs.declared.limits.TheConstants.{MOST_VECTORS}
 use Rattle.cobuchi_automata.specs.declared.build_error.TheConstants.{MOST_AUTOMATON_STATES}
-use Rattle.refutation_check.specs.declared.dimacs.TheConstants.{MOST_CLAUSES}
+use Rattle.refutation_check.specs.declared.limits.TheConstants.{MOST_CLAUSES}
 use Rattle.bounded_encoding.proofs.Posed.{is_posed}
 use Rattle.bounded_encoding.proofs.Sizes.{bound_fits}
 use Rattle.counterstrategy.specs.DualVariables.{tests_in_all, vectors_in_all}

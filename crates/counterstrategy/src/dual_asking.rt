@@ -5,7 +5,7 @@ ghost use Rattle.letter_space.specs.declared.limits.TheConstants.{MOST_VECTORS};
 ghost use Rattle.letter_space.specs.Vectors.{vector_count};
 ghost use Rattle.letter_space.specs.SpaceView.{space_tree};
 ghost use Rattle.cobuchi_automata.specs.declared.build_error.TheConstants.{MOST_AUTOMATON_STATES};
-ghost use Rattle.refutation_check.specs.declared.dimacs.TheConstants.{MOST_CLAUSES};
+ghost use Rattle.refutation_check.specs.declared.limits.TheConstants.{MOST_CLAUSES};
 ghost use Rattle.bounded_encoding.specs.QuestionView.{question_of};
 ghost use Rattle.counterstrategy.specs.DualVariables.{tests_in_all};
 ghost use Rattle.counterstrategy.specs.internal.DualAsking.{dual_tree, vector_letters, IsDualCounted};

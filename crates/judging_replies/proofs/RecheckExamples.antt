@@ -1,7 +1,7 @@
 -- What `recheck` replies on small texts, which compute.
 use Rattle.std.specs.Prelude.{◌≡◌, ℕ, List, codes, refl}
 use Rattle.std.specs.Fmt.{digits}
-use Rattle.refutation_check.specs.CnfText.{cnf_answer}
+use Rattle.cnf_reader.specs.CnfText.{cnf_answer}
 use Rattle.refutation_check.specs.LogText.{log_answer}
 use Rattle.tsl_report.specs.declared.fault.LimitName.TheVariants.{Variables}
 use Rattle.tsl_report.specs.declared.fault.Fault.TheVariants.{CnfForm, LogForm, Large}

@@ -3,7 +3,7 @@ use Rattle.std.proofs.Common.{◌≡◌, ℕ, true, List, refl, ap, sym, ◌∙�
 use Rattle.std.specs.Prelude.{◌≤◌, Option, Some, None, Result, Ok, Err, IfOk, codes}
 use Rattle.tsl_text.specs.Places.{IsBetweenFeeds}
 use Rattle.refutation_check.specs.Checking.{Refusal}
-use Rattle.refutation_check.specs.CnfText.{CnfAnswer, is_cnf, form_at as cnf_form_at, too_many_variables, too_many_clauses, cnf_answer}
+use Rattle.cnf_reader.specs.CnfText.{CnfAnswer, is_cnf, form_at as cnf_form_at, too_many_variables, too_many_clauses, cnf_answer}
 use Rattle.refutation_check.specs.LogText.{LogAnswer, is_log, form_at as log_form_at, log_answer}
 use Rattle.refutation_check.proofs.Refuting.{accepted_refutes}
 use Rattle.tool_replies.specs.declared.status.Status.TheVariants.{Done, No}

@@ -4,12 +4,12 @@ use Rattle.clause_core.specs.Literals.{Lit}
 use Rattle.clause_core.specs.Clauses.{AreUnsatisfiable}
 use Rattle.refutation_check.specs.declared.steps.Step.{Step}
 use Rattle.refutation_check.specs.Checking.{Refusal, at_line, at_hint, unfinished, log_refusal}
-use Rattle.refutation_check.specs.CnfText.{CnfAnswer, is_cnf, form_at as cnf_form_at, too_many_variables, too_many_clauses, cnf_answer}
+use Rattle.cnf_reader.specs.CnfText.{CnfAnswer, is_cnf, form_at as cnf_form_at, too_many_variables, too_many_clauses, cnf_answer}
 use Rattle.refutation_check.specs.LogText.{LogAnswer, is_log, form_at as log_form_at, log_answer}
 use Rattle.tsl_report.specs.declared.fault.Head.TheVariants.{Lrat}
 use Rattle.tsl_report.specs.declared.fault.LimitName.TheVariants.{Variables, Clauses}
 use Rattle.tsl_report.specs.declared.fault.Fault.TheVariants.{Parts, CnfForm, LogForm, Large}
-use Rattle.refutation_check.specs.declared.dimacs.TheConstants.{MOST_VARIABLES, MOST_CLAUSES}
+use Rattle.refutation_check.specs.declared.limits.TheConstants.{MOST_VARIABLES, MOST_CLAUSES}
 use Rattle.tool_replies.specs.declared.status.Status.TheVariants.{Done, No}
 use Rattle.tool_replies.specs.declared.reply.Reply.{Reply}
 use Rattle.tool_replies.specs.HeadLines.{IsFirstLineAt, HasNoLine}

@@ -2,14 +2,14 @@
 
 ghost use Rattle.std.specs.Prelude.{◌≡◌, ◌+◌, ◌<◌, ◌≤◌, ◌^◌, length, drop, IfOk, Some, None};
 ghost use Rattle.refutation_check.specs.Checking.{HaveFewHints, log_refusal, at_line, at_hint, unfinished};
-ghost use Rattle.refutation_check.specs.CnfText.{cnf_answer};
+ghost use Rattle.cnf_reader.specs.CnfText.{cnf_answer};
 ghost use Rattle.refutation_check.specs.LogText.{log_answer};
 ghost use Rattle.judging_replies.specs.Recheck.{RecheckOutcome, parts_reply, log_reply, verdict};
 
 use clause_core::Cnf;
+use cnf_reader::{CnfError, read_dimacs};
 use refutation_check::{
-    CnfError, Log, LogError, LogTextError, MOST_CLAUSES, MOST_VARIABLES, check, read_dimacs,
-    read_lrat,
+    Log, LogError, LogTextError, MOST_CLAUSES, MOST_VARIABLES, check, read_lrat,
 };
 use sequence::NoMemory;
 use std::alloc::Global;

@@ -2,8 +2,7 @@
 
 ghost use Rattle.std.specs.Prelude.{◌≡◌, length, IfOk};
 
-use clause_core::{Clause, Cnf, Literal, clause_of};
-use sequence::Sequence;
+use clause_core::{Clause, ClauseList, Cnf, Literal, clause_of};
 use std::alloc::Global;
 use std::test::Fail;
 
@@ -33,16 +32,23 @@ pub fn clauses_of(alloc: Global, lists: &[&[i32]]) -> Result<Vec<Clause>, Fail>
 }
 
 /// The formula of these clauses over the variables from 1 to a number.
-pub fn formula(variables: u32, clauses: Vec<Clause>) -> Result<Cnf, Fail>
+pub fn formula(alloc: Global, variables: u32, clauses: &[Clause]) -> Result<Cnf, Fail>
     ensures variables { IfOk result (λ cnf. cnf.variables ≡ variables) }
-    ensures clauses { IfOk result (λ cnf. cnf.clauses ≡ clauses.items) }
+    ensures clauses { IfOk result (λ cnf. length cnf.clauses ≡ length clauses.now) }
 {
-    if variables > 1000 || !clauses.iter().all(|clause| clause.is_over(variables)) {
+    if variables > 1000 {
         return Err("too many variables".into());
+    }
+    let mut list = ClauseList::new(alloc);
+    for clause in clauses {
+        if !clause.is_over(variables) {
+            return Err("too large a variable".into());
+        }
+        list.push(alloc, clause.literals())?;
     }
     Ok(Cnf {
         variables,
-        clauses: Sequence::from_vec(clauses),
+        clauses: list,
     })
 }
 
@@ -51,7 +57,8 @@ pub fn formula_of(alloc: Global, variables: u32, lists: &[&[i32]]) -> Result<Cnf
     ensures variables { IfOk result (λ cnf. cnf.variables ≡ variables) }
     ensures clauses { IfOk result (λ cnf. length cnf.clauses ≡ length lists.now) }
 {
-    formula(variables, clauses_of(alloc, lists)?)
+    let clauses = clauses_of(alloc, lists)?;
+    formula(alloc, variables, clauses.as_slice())
 }
 
 /// The numbers of the clause's literals.

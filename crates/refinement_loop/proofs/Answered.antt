@@ -24,7 +24,7 @@ use Rattle.annotation_check.specs.Annotations.{number_of_pair}
 use Rattle.control_flow_model.specs.Flow.{IsFlowOf}
 use Rattle.program_check.specs.Verdicts.{form_for}
 use Rattle.clause_core.specs.declared.formulas.Cnf.{Cnf}
-use Rattle.refutation_check.specs.declared.dimacs.TheConstants.{MOST_CLAUSES}
+use Rattle.refutation_check.specs.declared.limits.TheConstants.{MOST_CLAUSES}
 use Rattle.refutation_check.specs.declared.steps.Log.{Log}
 use Rattle.bounded_encoding.specs.Question.{QuestionTree}
 use Rattle.bounded_encoding.specs.QuestionView.{question_of}

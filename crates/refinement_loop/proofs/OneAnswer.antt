@@ -18,7 +18,7 @@ use Rattle.program_check.specs.declared.verdict.Limit.{Limit}
 use Rattle.program_check.specs.declared.verdict.Limit.TheVariants.{Predicates, Bits, Choices, States, Edges, Clauses, Vectors, Branches}
 use Rattle.program_check.specs.Verdicts.{form_for}
 use Rattle.annotation_check.proofs.OtherNumbers.{annotated_there}
-use Rattle.refutation_check.specs.declared.dimacs.TheConstants.{MOST_CLAUSES}
+use Rattle.refutation_check.specs.declared.limits.TheConstants.{MOST_CLAUSES}
 use Rattle.bounded_encoding.specs.Encoding.{encoding}
 use Rattle.bounded_encoding.specs.Question.{QuestionTree, IsSolution, HasNoController}
 use Rattle.counterstrategy.specs.EnvironmentQuestion.{IsEnvironmentSolution, HasNoEnvironment}

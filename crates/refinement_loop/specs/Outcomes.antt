@@ -26,7 +26,7 @@ use Rattle.program_check.specs.declared.verdict.Limit.{Limit}
 use Rattle.program_check.specs.declared.verdict.Limit.TheVariants as limits
 use Rattle.program_check.specs.Verdicts.{HasFewBits, form_for}
 use Rattle.clause_core.specs.Literals.{Lit}
-use Rattle.refutation_check.specs.declared.dimacs.TheConstants.{MOST_CLAUSES}
+use Rattle.refutation_check.specs.declared.limits.TheConstants.{MOST_CLAUSES}
 use Rattle.sat_core.specs.Answers.{IsWholeTrace}
 use Rattle.bounded_encoding.specs.Question.{QuestionTree}
 use Rattle.bounded_encoding.specs.Variables.{variable_count}

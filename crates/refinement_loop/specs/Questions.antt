@@ -16,7 +16,7 @@ use Rattle.machines.specs.declared.side.Side.TheVariants.{Controller, Environmen
 use Rattle.machines.specs.MachineTree.{ControllerTree, EnvironmentTree}
 use Rattle.control_flow_model.specs.Flow.{IsFlowOf}
 use Rattle.program_check.specs.Verdicts.{HasFewBits, form_for}
-use Rattle.refutation_check.specs.declared.dimacs.TheConstants.{MOST_CLAUSES}
+use Rattle.refutation_check.specs.declared.limits.TheConstants.{MOST_CLAUSES}
 use Rattle.bounded_encoding.specs.Question.{QuestionTree, IsSolution, HasNoController}
 use Rattle.bounded_encoding.specs.Encoding.{encoding}
 use Rattle.counterstrategy.specs.EnvironmentQuestion.{IsEnvironmentSolution, HasNoEnvironment}

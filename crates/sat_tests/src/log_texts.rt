@@ -1,7 +1,8 @@
 //! How formulas, logs and refutations are written.
 
 use clause_core::Literal;
-use refutation_check::{read_dimacs, read_lrat};
+use cnf_reader::read_dimacs;
+use refutation_check::read_lrat;
 use refutation_text::{put_cnf, put_literal, put_log, put_refutation};
 use std::alloc::{AllocError, Global};
 use std::test::Fail;

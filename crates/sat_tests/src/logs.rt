@@ -1,9 +1,8 @@
 //! Formulas and logs as texts, and the check of a log.
 
 use clause_core::Cnf;
-use refutation_check::{
-    CnfError, LogError, LogTextError, MOST_CLAUSES, MOST_VARIABLES, check, read_dimacs, read_lrat,
-};
+use cnf_reader::{CnfError, read_dimacs};
+use refutation_check::{LogError, LogTextError, MOST_CLAUSES, MOST_VARIABLES, check, read_lrat};
 use std::alloc::Global;
 use std::test::Fail;
 
@@ -126,8 +125,8 @@ fn faulty_line(alloc: Global, text: &str) -> Result<Option<u32>, Fail> {
 /// The numbers of the literals, a 0 after each clause.
 fn numbers_of(alloc: Global, cnf: &Cnf) -> Result<Vec<i32>, Fail> {
     let mut numbers = Vec::new(alloc);
-    for clause in cnf.clauses.as_slice() {
-        for literal in clause.literals() {
+    for place in 0..cnf.clauses.len() {
+        for literal in cnf.clauses.get(place) {
             numbers.push(literal.number())?;
         }
         numbers.push(0)?;

@@ -1,6 +1,7 @@
 //! Runs of the solver as a program, over memory.
 
-use refutation_check::{check, read_dimacs, read_lrat};
+use cnf_reader::read_dimacs;
+use refutation_check::{check, read_lrat};
 use solve_tool::{Status, solve};
 use std::alloc::{AllocError, Global};
 use std::process::Abort;

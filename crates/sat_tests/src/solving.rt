@@ -1,10 +1,11 @@
 //! What the solver answers: assignments, logs and traces.
 
-ghost use Rattle.std.specs.Prelude.{IfOk};
+ghost use Rattle.std.specs.Prelude.{◌↔◌, IfOk, IsTrue};
+ghost use Rattle.clause_core.specs.Clauses.{IsOver};
 ghost use Rattle.sat_core.specs.Answers.{IsRightAnswer};
 
 use crate::traces::is_trace;
-use clause_core::{Assignment, Clause, Cnf, Literal, clause_of, is_tautology, meets};
+use clause_core::{Assignment, Clause, Cnf, Literal, clause_of, meets};
 use logic_values::{clause, clauses_of, formula, formula_of};
 use refutation_check::check;
 use sat_core::{Answer, solve};
@@ -49,11 +50,10 @@ const NO_TRACES: &[(u32, &[&[i32]], &[&[i32]])] = &[
 fn answer(alloc: Global, cnf: &Cnf, budget: u64) -> Result<Answer, Fail>
     ensures { IfOk result (IsRightAnswer cnf.now.variables cnf.now.clauses budget) }
 {
-    let clauses = cnf.clauses.as_slice();
-    if clauses.len() > 1000 || budget == 0 || budget > 1000 {
+    if cnf.clauses.len() > 1000 || budget == 0 || budget > 1000 {
         return Err("too large".into());
     }
-    if !clauses.iter().all(|clause| !is_tautology(clause)) {
+    if let Some(_) = cnf.clauses.first_tautology() {
         return Err("a tautology".into());
     }
     Ok(solve(alloc, cnf, budget)?)
@@ -64,12 +64,22 @@ fn is_met(assignment: &Assignment, cnf: &Cnf) -> bool {
     if assignment.truths.len() as u64 != u64::from(cnf.variables) {
         return false;
     }
-    for clause in cnf.clauses.as_slice() {
-        if !clause.is_over(cnf.variables) || !meets(assignment, clause) {
+    for place in 0..cnf.clauses.len() {
+        let literals = cnf.clauses.get(place);
+        if !are_over(literals, cnf.variables) || !meets(assignment, literals) {
             return false;
         }
     }
     true
+}
+
+/// Whether the variables of these literals are at most this one.
+fn are_over(literals: &[Literal], variables: u32) -> bool
+    ensures { IsTrue result ↔ IsOver variables literals.now }
+{
+    literals
+        .iter()
+        .all(|literal| literal.variable() <= variables)
 }
 
 /// Whether one of the eight assignments of three variables meets each clause.
@@ -111,7 +121,7 @@ fn square(alloc: Global, wanted: u32) -> Result<Cnf, Fail> {
         }
         digits /= 2;
     }
-    formula(2, kept)
+    formula(alloc, 2, kept.as_slice())
 }
 
 /// The literal of a variable, if the variable is not too large.
@@ -152,21 +162,22 @@ fn pigeons(alloc: Global, holes: u32) -> Result<Cnf, Fail> {
             }
         }
     }
-    formula(holes.wrapping_mul(holes).wrapping_add(holes), clauses)
+    let variables = holes.wrapping_mul(holes).wrapping_add(holes);
+    formula(alloc, variables, clauses.as_slice())
 }
 
 /// The clauses with one more literal in each, that of a new first variable: true, it meets all of them,
 /// and false, it leaves them as they were.
 fn unless_first(alloc: Global, cnf: &Cnf) -> Result<Cnf, Fail> {
     let mut clauses = Vec::new(alloc);
-    for clause in cnf.clauses.as_slice() {
+    for place in 0..cnf.clauses.len() {
         let mut literals = vec![in alloc; literal(1, true)?]?;
-        for old in clause.literals() {
+        for old in cnf.clauses.get(place) {
             literals.push(literal(old.variable() + 1, old.is_positive())?)?;
         }
         clauses.push(clause_of(alloc, literals.as_slice())?)?;
     }
-    formula(cnf.variables + 1, clauses)
+    formula(alloc, cnf.variables + 1, clauses.as_slice())
 }
 
 /// Whether the clauses are a trace behind the others over so many variables.
@@ -234,14 +245,15 @@ fn behind_chain(alloc: Global, length: u32, cnf: &Cnf) -> Result<Cnf, Fail> {
         ];
         clauses.push(clause_of(alloc, &pair)?)?;
     }
-    for clause in cnf.clauses.as_slice() {
+    for place in 0..cnf.clauses.len() {
         let mut literals = vec![in alloc; literal(length, false)?]?;
-        for old in clause.literals() {
+        for old in cnf.clauses.get(place) {
             literals.push(literal(old.variable().wrapping_add(length), old.is_positive())?)?;
         }
         clauses.push(clause_of(alloc, literals.as_slice())?)?;
     }
-    formula(cnf.variables.wrapping_add(length), clauses)
+    let variables = cnf.variables.wrapping_add(length);
+    formula(alloc, variables, clauses.as_slice())
 }
 
 /// How many hints the log of a refutation has. It is an error if the answer is no log that is accepted.
@@ -299,7 +311,7 @@ fn random_formula(alloc: Global, variables: u32, seed: u64) -> Result<Cnf, Fail>
     for _ in 0..u64::from(variables) * 43 / 10 {
         clauses.push(random_clause(alloc, u64::from(variables), &mut state)?)?;
     }
-    formula(variables, clauses)
+    formula(alloc, variables, clauses.as_slice())
 }
 
 /// Whether the answer is an assignment that meets all clauses.
@@ -419,7 +431,7 @@ fn what_is_no_trace_is_refused(rt: HostRuntime) -> Result<(), Fail> {
 fn a_formula_without_clauses_is_satisfied(rt: HostRuntime) -> Result<(), Fail> {
     let alloc = rt.alloc();
     for variables in [0, 3] {
-        let cnf = formula(variables, Vec::new(alloc))?;
+        let cnf = formula(alloc, variables, &[])?;
         match answer(alloc, &cnf, 1)? {
             Answer::Sat(assignment) => assert!(rt; is_met(&assignment, &cnf)),
             _ => assert!(rt; false),
@@ -450,7 +462,7 @@ fn three_clauses_over_three_variables_are_told_as_by_enumeration(
                 for number in [first, second, third] {
                     clauses.push(numbered_clause(alloc, number)?)?;
                 }
-                let cnf = formula(3, clauses)?;
+                let cnf = formula(alloc, 3, clauses.as_slice())?;
                 match answer(alloc, &cnf, 30)? {
                     Answer::Sat(assignment) => assert!(rt; is_met(&assignment, &cnf)),
                     Answer::Unsat(_) => assert!(rt; !is_satisfiable(alloc, &cnf)?),

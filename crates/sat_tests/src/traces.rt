@@ -5,7 +5,7 @@ ghost use Rattle.std.specs.Prelude.{◌≡◌, ◌↔◌, List, not, map, filter
 ghost use Rattle.clause_core.specs.Literals.{Lit, negation, same, has};
 ghost use Rattle.clause_core.specs.Propagation.{not_false, IsFalse, IsUnit, Reaches, SomeFalse, ReachesFalse, HasReversePropagation, IsNotFound, IsLearnt, IsTrace};
 
-use clause_core::{Clause, Cnf, Literal, clause_of, is_tautology};
+use clause_core::{Clause, ClauseList, Cnf, Literal, clause_of, is_tautology};
 use sequence::NoMemory;
 use std::alloc::Global;
 
@@ -195,12 +195,12 @@ fn is_learnt(
 }
 
 /// Copies of the clauses. An `Err` says that memory ran out.
-fn copies(alloc: Global, clauses: &[Clause]) -> Result<Vec<Clause>, NoMemory>
+fn copies(alloc: Global, clauses: &ClauseList) -> Result<Vec<Clause>, NoMemory>
     ensures { IfOk result (λ copies. copies.items ≡ clauses.now) }
 {
     let mut copies = Vec::with_capacity(alloc, clauses.len())?;
-    for clause in clauses {
-        copies.push(clause_of(alloc, clause.literals())?)?;
+    for place in 0..clauses.len() {
+        copies.push(clause_of(alloc, clauses.get(place))?)?;
     }
     Ok(copies)
 }
@@ -210,7 +210,7 @@ fn copies(alloc: Global, clauses: &[Clause]) -> Result<Vec<Clause>, NoMemory>
 pub fn is_trace(alloc: Global, cnf: &Cnf, trace: &[Clause]) -> Result<bool, NoMemory>
     ensures { IfOk result (λ is. IsTrue is ↔ IsTrace cnf.now.variables cnf.now.clauses trace.now) }
 {
-    let mut known = copies(alloc, cnf.clauses.as_slice())?;
+    let mut known = copies(alloc, &cnf.clauses)?;
     for clause in trace {
         if !is_learnt(alloc, cnf.variables, known.as_slice(), clause)? {
             return Ok(false);

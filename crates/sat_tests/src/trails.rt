@@ -131,7 +131,7 @@ fn a_learnt_clause_stands_behind_the_formula(rt: HostRuntime) -> Result<(), Fail
     if learnt.is_over(4) && !is_tautology(&learnt) {
         let number = trail.learn(learnt)?;
         assert_eq!(rt; number, 2);
-        assert_eq!(rt; trail.clause(number).literals().len(), 1);
+        assert_eq!(rt; trail.clause(number).len(), 1);
         assert!(rt; trail.propagate()?.is_none());
         assert_eq!(rt; value(&trail, 1)?, Some(true));
         assert!(rt; trail.set_count() > 0);

@@ -12,8 +12,8 @@ use tsl_terms::Spec;
 /// The numbers of a formula's clauses, behind the number of its variables.
 pub(crate) fn numbers_said(alloc: Global, cnf: &Cnf) -> Result<String, Fail> {
     let mut text = format!(in alloc; "{}:", cnf.variables)?;
-    for clause in cnf.clauses.as_slice() {
-        for literal in clause.literals() {
+    for place in 0..cnf.clauses.len() {
+        for literal in cnf.clauses.get(place) {
             write!(text, " {}", literal.number())?;
         }
         text.push_str(";")?;

@@ -1,6 +1,11 @@
 -- Clauses with a literal and its negation change nothing.
-use Rattle.std.proofs.Common.{◌≡◌, ℕ, ◌≤◌, Bool, true, false, not, cond, List, [], ◌∷◌, length, All, refl, sym, ◌∙◌}
-use Rattle.std.proofs.lemmas.Bool.{and_parts, and_from, false_from_ne_true, false≢true}
+use Rattle.std.proofs.Common.{◌≡◌, ℕ, suc, ◌+◌, ◌≤◌, Bool, true, false, not, cond, List, [], ◌∷◌, ◌++◌, length, All, refl, sym, ap, subst, arith, ◌∙◌}
+use Rattle.std.specs.Prelude.{Some, None, position}
+use Rattle.std.specs.List.{position_or_len}
+use Rattle.std.proofs.Math.Dec.{ltb}
+use Rattle.std.proofs.lemmas.Option.{none-some}
+use Rattle.std.proofs.lemmas.List.{append_assoc}
+use Rattle.std.proofs.lemmas.Bool.{lt-ltb, ltb-true, and_parts, and_from, false_from_ne_true, false≢true}
 use Rattle.std.proofs.lemmas.List.Elements.{All-nil, All-cons}
 use Rattle.sequence.proofs.Passes.{filter_within}
 use Rattle.clause_core.specs.Literals.{Lit, negation}
@@ -68,3 +73,37 @@ are_proper (c ∷ cs) = by_pair (has_pair c) refl (are_proper cs)
 
 pub few_proper : (clauses : List (List Lit)) → length (proper_clauses clauses) ≤ length clauses
 few_proper clauses = filter_within (λ clause. not (has_pair clause)) clauses
+
+-- a clause that has a pair is left out
+pub left_out : (kept rest : List (List Lit)) (clause : List Lit) → has_pair clause ≡ true →
+    kept ++ proper_clauses rest ≡ kept ++ proper_clauses (clause ∷ rest)
+left_out kept rest clause e = ap (λ b. kept ++ cond (not b) (clause ∷ proper_clauses rest) (proper_clauses rest)) (sym e)
+
+-- one that has none is kept
+pub kept_more : (kept rest : List (List Lit)) (clause : List Lit) → has_pair clause ≡ false →
+    kept ++ clause ∷ [] ++ proper_clauses rest ≡ kept ++ proper_clauses (clause ∷ rest)
+kept_more kept rest clause e = append_assoc kept (clause ∷ []) (proper_clauses rest)
+    ∙ ap (λ b. kept ++ cond (not b) (clause ∷ proper_clauses rest) (proper_clauses rest)) (sym e)
+
+-- where no clause has a pair, all are proper
+pub all_proper : (clauses : List (List Lit)) → position has_pair clauses ≡ None → proper_clauses clauses ≡ clauses
+all_proper [] none = refl
+all_proper (c ∷ cs) none = by_pair (has_pair c) (all_proper cs) none
+  where
+    n : ℕ
+    n = position_or_len has_pair cs
+
+    later : (b : Bool) → ltb n (length cs) ≡ b → cond (ltb (suc n) (suc (length cs))) (Some (suc n)) None ≡ None → cond b (Some n) None ≡ None
+    later true e k =
+        let within : ltb (suc n) (suc (length cs)) ≡ true = lt-ltb (suc n) (suc (length cs)) (omega (arith, ltb-true n (length cs) e)) in
+        absurd (none-some (suc n) (sym k ∙ ap (λ b. cond b (Some (suc n)) None) within))
+    later false e k = refl
+
+    by_pair : (b : Bool) → (position has_pair cs ≡ None → proper_clauses cs ≡ cs) →
+        (let place = cond (not b) (1 + position_or_len has_pair cs) 0 in cond (ltb place (suc (length cs))) (Some place) None ≡ None) →
+        cond (not b) (c ∷ proper_clauses cs) (proper_clauses cs) ≡ c ∷ cs
+    by_pair true further k =
+        let within : ltb 0 (suc (length cs)) ≡ true = lt-ltb 0 (suc (length cs)) (omega (arith)) in
+        absurd (none-some 0 (sym k ∙ ap (λ b. cond b (Some 0) None) within))
+    by_pair false further k = ap (λ rest. c ∷ rest) (further (later (ltb n (length cs)) refl
+        (subst (λ m. cond (ltb m (suc (length cs))) (Some m) None ≡ None) (omega (arith)) k)))

@@ -1,11 +1,14 @@
 -- How the reply of a run comes of its source, and how the run ends.
 use Rattle.std.proofs.Common.{◌≡◌, ◌≢◌, ℕ, ◌+◌, ◌≤◌, Bool, true, false, List, [], ◌++◌, length, refl, ap, sym, ◌∙◌, subst, arith, length-append}
 use Rattle.std.specs.Prelude.{Option, Some, None, Result, Ok, Err, IfOk, cond, codes}
-use Rattle.tsl_io.specs.Told.{TakesFirst, WhereTold}
+use Rattle.tsl_io.specs.Told.{before, TakesFirst, WhereTold}
 use Rattle.tsl_io.specs.Effects.{Effect, HasFailed, NeverFailed, IsUntouched, IsWhole, IsCutOff, AreTold}
 use Rattle.tsl_io.proofs.Effects.{some_bytes, more_bytes}
+use Rattle.tsl_io.proofs.Handed.{whole_kept}
 use Rattle.clause_core.specs.Literals.{Lit}
-use Rattle.refutation_check.specs.CnfText.{CnfAnswer, is_cnf, form_at, too_many_variables, too_many_clauses, cnf_answer}
+use Rattle.cnf_reader.specs.declared.reader.CnfReader.{CnfReader}
+use Rattle.cnf_reader.specs.Pieces.{HasRead}
+use Rattle.cnf_reader.specs.CnfText.{CnfAnswer, is_cnf, form_at, too_many_variables, too_many_clauses, cnf_answer}
 use Rattle.refutation_text.specs.Parted.{SpellsRefutation}
 use Rattle.solve_tool.specs.declared.status.Status.{Status}
 use Rattle.solve_tool.specs.declared.status.Status.TheVariants.{Satisfiable, Unsatisfiable, Unknown, Usage, Reading, Large}
@@ -88,15 +91,24 @@ reply_counts source request (form_at line) reply h count = counts_as source (Mal
 reply_counts source request too_many_variables reply h count = counts_as source (TooManyVariables 1048576) reply h count
 reply_counts source request too_many_clauses reply h count = counts_as source (TooManyClauses 2000000) reply h count
 
--- the reply to bytes that were read
-pub read_reply : {E : Type 0} (words : List (List ℕ)) (source : Effect) (r : Result Reply E) (request : Request) (text lent : List ℕ) →
-    request_of words ≡ Some request → NeverFailed source → WhereTold source.old (λ bytes. text ≡ bytes) → length text ≤ MOST_BYTES →
-    lent ≡ text → IfOk r (IsReplyOn request (cnf_answer lent)) → IfOk r (IsSolverReply words source)
-read_reply words source r request text lent asked count told few same = if_ok r (λ reply h.
-    let on_text : IsReplyOn request (cnf_answer text) reply =
-    subst (λ (b : List ℕ). IsReplyOn request (cnf_answer b) reply) same h in record {
+-- the reply to a text that is no formula
+pub refused_reply : {E : Type 0} (r : Result Reply E) (request : Request) (reader : CnfReader) (answer : CnfAnswer) (refusal : Refusal) →
+    ((text : List ℕ) → HasRead reader text → cnf_answer text ≡ answer) →
+    ((reply : Reply) → reply ≡ refusal_reply refusal → IsReplyOn request answer reply) → IfOk r (λ reply. reply ≡ refusal_reply refusal) →
+    IfOk r (λ reply. (text : List ℕ) → HasRead reader text → IsReplyOn request (cnf_answer text) reply)
+refused_reply r request reader answer refusal given on = if_ok r (λ reply is text read.
+    subst (λ (a : CnfAnswer). IsReplyOn request a reply) (sym (given text read)) (on reply is))
+
+-- the reply to bytes that a reader has read, where none is left
+pub read_reply : {E : Type 0} (words : List (List ℕ)) (source : Effect) (r : Result Reply E) (request : Request) (reader : CnfReader)
+    (text : List ℕ) → request_of words ≡ Some request → NeverFailed source → source.old ≡ before text source.new →
+    WhereTold source.old (λ bytes. source.new ≡ Some []) → length text ≤ MOST_BYTES → HasRead reader text →
+    IfOk r (λ reply. (bytes : List ℕ) → HasRead reader bytes → IsReplyOn request (cnf_answer bytes) reply) →
+    IfOk r (IsSolverReply words source)
+read_reply words source r request reader text asked count taken none few read = if_ok r (λ reply replied.
+    let on_text = replied text read in record {
       bytes = text;
-      told = λ bytes is. sym (told bytes is);
+      told = λ bytes is. sym (whole_kept text [] text bytes source.old source.new refl refl taken (none bytes is) is);
       outcome = on_bytes request asked few on_text;
       count = reply_counts source request (cnf_answer text) reply on_text count;
     })

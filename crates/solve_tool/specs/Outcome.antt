@@ -2,8 +2,8 @@
 use Rattle.std.specs.Prelude.{◌≡◌, ℕ, ◌<◌, ◌≤◌, Bool, true, false, not, List, filter, length, codes, Some, None}
 use Rattle.clause_core.specs.Literals.{Lit}
 use Rattle.clause_core.specs.Clauses.{AreUnsatisfiable, has_pair}
-use Rattle.refutation_check.specs.declared.dimacs.TheConstants.{MOST_VARIABLES, MOST_CLAUSES}
-use Rattle.refutation_check.specs.CnfText.{CnfAnswer, is_cnf, form_at, too_many_variables, too_many_clauses, cnf_answer}
+use Rattle.refutation_check.specs.declared.limits.TheConstants.{MOST_VARIABLES, MOST_CLAUSES}
+use Rattle.cnf_reader.specs.CnfText.{CnfAnswer, is_cnf, form_at, too_many_variables, too_many_clauses, cnf_answer}
 use Rattle.refutation_text.specs.Parted.{SpellsRefutation}
 use Rattle.sat_core.specs.Answers.{AreSatisfying, IsWholeTrace}
 use Rattle.solve_tool.specs.declared.status.Status.{Status}

@@ -1,7 +1,7 @@
 -- What the answers promise.
 use Rattle.std.specs.Prelude.{◌≡◌, ℕ, List, Some}
 use Rattle.clause_core.specs.Literals.{Lit}
-use Rattle.refutation_check.specs.CnfText.{is_cnf, cnf_answer}
+use Rattle.cnf_reader.specs.CnfText.{is_cnf, cnf_answer}
 use Rattle.tsl_io.specs.Told.{with_added}
 use Rattle.tsl_io.specs.Effects.{Effect, AreTold}
 use Rattle.solve_tool.specs.declared.status.Status.{Status}

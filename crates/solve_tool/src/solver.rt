@@ -1,9 +1,12 @@
 //! The solver's answer to a text.
 
-ghost use Rattle.std.specs.Prelude.{◌≡◌, ◌<◌, ◌≤◌, ◌^◌, ℕ, length, Err, IfOk};
-ghost use Rattle.refutation_check.specs.CnfText.{cnf_answer, is_cnf, form_at, too_many_variables, too_many_clauses};
+ghost use Rattle.std.specs.Prelude.{◌≡◌, ◌<◌, ◌≤◌, ◌^◌, ◌++◌, ◌∷◌, ℕ, List, length, IfOk, OnOk};
+ghost use Rattle.clause_core.specs.Literals.{Lit};
+ghost use Rattle.clause_core.specs.Clauses.{IsIncreasing};
+ghost use Rattle.cnf_reader.specs.CnfText.{cnf_answer};
+ghost use Rattle.cnf_reader.specs.Pieces.{HasRead};
 ghost use Rattle.sat_core.specs.Answers.{AreRefuting};
-ghost use Rattle.refutation_check.specs.declared.dimacs.TheConstants.{MOST_VARIABLES, MOST_CLAUSES};
+ghost use Rattle.refutation_check.specs.declared.limits.TheConstants.{MOST_VARIABLES, MOST_CLAUSES};
 ghost use Rattle.refutation_text.specs.Parted.{SpellsRefutation};
 ghost use Rattle.solve_tool.specs.Outcome.{proper_clauses, IsRightReply, IsReplyOn};
 ghost use Rattle.solve_tool.specs.internal.Solutions.{IsSatisfiableReply, IsUnsatisfiableReply, IsUnknownReply};
@@ -13,25 +16,26 @@ use crate::reply::Reply;
 use crate::request::Request;
 use crate::status::Status;
 use crate::values::satisfiable_text;
-use clause_core::{Cnf, is_tautology};
-use refutation_check::{CnfError, Log, MOST_CLAUSES, MOST_VARIABLES, read_dimacs};
+use clause_core::{ClauseList, Cnf, Literal, have_pair};
+use cnf_reader::{CnfError, CnfReader};
+use refutation_check::{Log, MOST_CLAUSES, MOST_VARIABLES};
 use refutation_text::put_refutation;
 use sat_core::{Answer, solve};
-use sequence::{NoMemory, Sequence};
+use sequence::NoMemory;
 use std::alloc::Global;
 
-/// What is replied to a text, which is dropped before its formula is solved.
-pub(crate) fn reply_to_bytes(
+/// What is replied to the text that was read.
+pub(crate) fn reply_to_read(
     alloc: Global,
     request: Request,
-    bytes: Vec<u8>,
+    reader: CnfReader,
 ) -> Result<Reply, NoMemory>
-    requires few_bytes { length bytes.items < 2 ^ 31 }
+    requires read { (text : List ℕ) × HasRead reader text }
     requires some { 1 ≤ request.budget }
     requires few { request.budget ≤ 4000000000 }
-    ensures { IfOk result (IsReplyOn request (cnf_answer bytes.items)) }
+    ensures { IfOk result (λ reply. (text : List ℕ) → HasRead reader text → IsReplyOn request (cnf_answer text) reply) }
 {
-    match formula_of(alloc, bytes) {
+    match reader.finish() {
         Ok(cnf) => reply_to_formula(alloc, request, cnf),
         Err(CnfError::Form(line)) => Reply::refusal(alloc, Refusal::MalformedAt(line)),
         Err(CnfError::Variables) => {
@@ -42,17 +46,6 @@ pub(crate) fn reply_to_bytes(
     }
 }
 
-/// The formula of a text, which is dropped.
-fn formula_of(alloc: Global, bytes: Vec<u8>) -> Result<Cnf, CnfError>
-    requires { length bytes.items < 2 ^ 31 }
-    ensures ok { IfOk result (λ cnf. cnf_answer bytes.items ≡ is_cnf cnf.variables cnf.clauses) }
-    ensures form { (line : ℕ) → result ≡ Err (CnfError.Form line) → cnf_answer bytes.items ≡ form_at line }
-    ensures variables { result ≡ Err CnfError.Variables → cnf_answer bytes.items ≡ too_many_variables }
-    ensures clauses { result ≡ Err CnfError.Clauses → cnf_answer bytes.items ≡ too_many_clauses }
-{
-    read_dimacs(alloc, &bytes)
-}
-
 /// What is replied to a formula.
 fn reply_to_formula(alloc: Global, request: Request, cnf: Cnf) -> Result<Reply, NoMemory>
     requires few_variables { cnf.variables ≤ MOST_VARIABLES }
@@ -61,7 +54,7 @@ fn reply_to_formula(alloc: Global, request: Request, cnf: Cnf) -> Result<Reply, 
     requires few { request.budget ≤ 4000000000 }
     ensures { IfOk result (λ reply. IsRightReply request cnf.variables cnf.clauses reply.status reply.text) }
 {
-    let cnf = without_tautologies(cnf);
+    let cnf = without_tautologies(alloc, cnf)?;
     match solve(alloc, &cnf, request.budget)? {
         Answer::Sat(assignment) => satisfiable(alloc, assignment.truths.as_slice()),
         Answer::Unsat(log) => unsatisfiable(alloc, request.log, &cnf, &log),
@@ -70,17 +63,46 @@ fn reply_to_formula(alloc: Global, request: Request, cnf: Cnf) -> Result<Reply, 
 }
 
 /// The formula without the clauses that have a literal and its negation.
-fn without_tautologies(cnf: Cnf) -> Cnf
-    ensures variables { result.variables ≡ cnf.variables }
-    ensures clauses { result.clauses ≡ proper_clauses cnf.clauses }
+fn without_tautologies(alloc: Global, cnf: Cnf) -> Result<Cnf, NoMemory>
+    ensures variables { IfOk result (λ proper. proper.variables ≡ cnf.variables) }
+    ensures clauses { IfOk result (λ proper. proper.clauses ≡ proper_clauses cnf.clauses) }
 {
-    let variables = cnf.variables;
-    let mut clauses = cnf.clauses.into_vec();
-    clauses.retain(|clause| !is_tautology(clause));
-    Cnf {
-        variables,
-        clauses: Sequence::from_vec(clauses),
+    if cnf.clauses.first_tautology().is_none() {
+        return Ok(cnf);
     }
+    let clauses = proper_clauses(alloc, &cnf.clauses)?;
+    Ok(Cnf {
+        variables: cnf.variables,
+        clauses,
+    })
+}
+
+/// The clauses without those that have a literal and its negation.
+fn proper_clauses(alloc: Global, clauses: &ClauseList) -> Result<ClauseList, NoMemory>
+    ensures { IfOk result (λ proper. proper ≡ proper_clauses clauses.now) }
+{
+    let mut proper = ClauseList::new(alloc);
+    for place in 0..clauses.len() {
+        add_if_proper(alloc, &mut proper, clauses.get(place))?;
+    }
+    Ok(proper)
+}
+
+/// Adds the clause of these literals, unless it has a literal and its negation.
+fn add_if_proper(
+    alloc: Global,
+    proper: &mut ClauseList,
+    literals: &[Literal],
+) -> Result<(), NoMemory>
+    requires { IsIncreasing literals.now }
+    ensures { OnOk result ((rest : List (List Lit)) →
+        proper.new ++ proper_clauses rest ≡ proper.old ++ proper_clauses (literals.now ∷ rest)) }
+{
+    if have_pair(literals) {
+        return Ok(());
+    }
+    proper.push(alloc, literals)?;
+    Ok(())
 }
 
 /// That these truths meet all clauses.

@@ -11,11 +11,12 @@ ghost use Rattle.solve_tool.specs.internal.Sending.{WasSent};
 use crate::refusal::Refusal;
 use crate::reply::Reply;
 use crate::request::{MOST_BYTES, request_of};
-use crate::solver::reply_to_bytes;
+use crate::solver::reply_to_read;
 use crate::status::Status;
+use cnf_reader::CnfReader;
 use sequence::NoMemory;
 use std::alloc::Global;
-use tsl_io::{Failed, ReadError, Sink, Source, read_all, write_all_of};
+use tsl_io::{Failed, ReadError, Sink, Source, read_into, write_all_of};
 
 /// Runs the solver on the words after the program's name.
 ///
@@ -64,8 +65,9 @@ fn reply_to<S: Source>(alloc: Global, words: &[String], source: &mut S) -> Resul
     let Some(request) = request_of(words) else {
         return Reply::refusal(alloc, Refusal::OtherWords);
     };
-    match read_all(alloc, source, MOST_BYTES) {
-        Ok(bytes) => reply_to_bytes(alloc, request, bytes),
+    let mut reader = CnfReader::new(alloc)?;
+    match read_into(alloc, source, MOST_BYTES, &mut reader) {
+        Ok(()) => reply_to_read(alloc, request, reader),
         Err(ReadError::TooLong) => Reply::refusal(alloc, Refusal::TooManyBytes(MOST_BYTES)),
         Err(ReadError::Fault) => Reply::refusal(alloc, Refusal::Unread),
         Err(ReadError::NoMemory) => Err(NoMemory),

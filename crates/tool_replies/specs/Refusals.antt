@@ -9,7 +9,7 @@ use Rattle.tsl_reader.specs.Spells.{HasCause, SpellsNoSpec, most_formula_nodes}
 use Rattle.letter_space.specs.declared.limits.TheConstants.{MOST_PREDICATES, MOST_BITS, MOST_VECTORS}
 use Rattle.obligations.specs.Choices.{most_choices}
 use Rattle.cobuchi_automata.specs.Refusals.{most_automaton_states, most_automaton_edges}
-use Rattle.refutation_check.specs.declared.dimacs.TheConstants.{MOST_CLAUSES}
+use Rattle.refutation_check.specs.declared.limits.TheConstants.{MOST_CLAUSES}
 use Rattle.branch_finder.specs.declared.limits.TheConstants.{MOST_BRANCHES}
 use Rattle.program_check.specs.declared.verdict.Limit.{Limit}
 use Rattle.program_check.specs.declared.verdict.Limit.TheVariants as limits

@@ -232,7 +232,7 @@ fn put_learnt(out: &mut Vec<u8>, clauses: &[Clause]) -> Result<(), NoMemory>
 {
     for clause in clauses {
         put_bytes(out, b"clause ")?;
-        put_clause(out, clause)?;
+        put_clause(out, clause.literals())?;
         put_bytes(out, b"\n")?;
     }
     Ok(())

@@ -11,7 +11,7 @@ use Rattle.program_tree.specs.Fits.{longest as longest_window}
 use Rattle.program_tree.specs.Writable.{most_windows, most_nodes as most_program_nodes, most_states as most_program_states}
 use Rattle.table_interp.specs.declared.TheConstants.{MOST_VALUES, MOST_ENTRIES, MOST_ROWS}
 use Rattle.word_interp.specs.declared.TheConstants.{MOST_BITS as MOST_WORD_BITS}
-use Rattle.refutation_check.specs.declared.dimacs.TheConstants.{MOST_VARIABLES, MOST_CLAUSES}
+use Rattle.refutation_check.specs.declared.limits.TheConstants.{MOST_VARIABLES, MOST_CLAUSES}
 use Rattle.letter_space.specs.declared.limits.TheConstants.{MOST_PREDICATES, MOST_BITS, MOST_VECTORS}
 use Rattle.branch_finder.specs.declared.limits.TheConstants.{MOST_BRANCHES}
 use Rattle.obligations.specs.Choices.{most_choices, letter_bits}

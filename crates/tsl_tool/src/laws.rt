@@ -8,7 +8,7 @@ ghost use Rattle.command_words.specs.declared.task.Task.{Task};
 ghost use Rattle.command_words.specs.declared.task.Task.TheVariants.{Synth};
 ghost use Rattle.command_words.specs.Commands.{AsksFor};
 ghost use Rattle.generator.specs.Generated.{generated_text};
-ghost use Rattle.refutation_check.specs.CnfText.{cnf_answer};
+ghost use Rattle.cnf_reader.specs.CnfText.{cnf_answer};
 ghost use Rattle.refutation_check.specs.LogText.{log_answer};
 ghost use Rattle.tsl_terms.specs.SpecTree.{SpecTree};
 ghost use Rattle.tsl_reader.specs.Spells.{Spells};

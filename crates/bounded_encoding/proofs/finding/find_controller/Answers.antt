@@ -2,7 +2,7 @@ use Rattle.std.proofs.Common.{◌≡◌, ◌≤◌, false, List, length, All, sy
 use Rattle.std.proofs.lemmas.List.Elements.{All-from_recursion}
 use Rattle.clause_core.specs.Literals.{Lit}
 use Rattle.clause_core.specs.Clauses.{has_pair}
-use Rattle.refutation_check.specs.declared.dimacs.TheConstants.{MOST_CLAUSES}
+use Rattle.refutation_check.specs.declared.limits.TheConstants.{MOST_CLAUSES}
 use Rattle.refutation_check.proofs.Refuting.{accepted_refutes}
 use Rattle.sat_core.specs.Answers.{AreRefuting}
 use Rattle.bounded_encoding.specs.QuestionView.{question_of}

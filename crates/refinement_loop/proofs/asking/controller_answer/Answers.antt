@@ -4,7 +4,7 @@ use Rattle.tsl_terms.specs.WindowTree.{window_tree}
 use Rattle.machines.specs.declared.side.Side.TheVariants.{Controller}
 use Rattle.bounded_encoding.specs.QuestionView.{question_of}
 use Rattle.bounded_encoding.specs.Encoding.{encoding}
-use Rattle.refutation_check.specs.declared.dimacs.TheConstants.{MOST_CLAUSES}
+use Rattle.refutation_check.specs.declared.limits.TheConstants.{MOST_CLAUSES}
 use Rattle.refinement_loop.specs.Questions.{bound_under}
 use Rattle.refinement_loop.specs.Outcomes.{HasAskCause}
 use Rattle.refinement_loop.proofs.Answered.{asked_of, refused_question}

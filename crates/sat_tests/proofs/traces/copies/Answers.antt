@@ -1,7 +1,8 @@
 use Rattle.std.proofs.Common.{◌≡◌, ℕ, ◌+◌, ◌<◌, ◌++◌, ◌∷◌, [], List, length, get_or, sym, ap, ◌∙◌, take}
 use Rattle.std.proofs.lemmas.List.{take_more}
+use Rattle.std.proofs.lemmas.Option.{slice_get_within, get_or_from_slice_get}
 use Rattle.clause_core.specs.Literals.{Lit}
-use Rattle.clause_learning.proofs.LearntClauseLemmas.{copied}
+use Rattle.clause_core.proofs.Sets.{in_order_already}
 use Rattle.sat_tests.proofs.traces.copies.Goals as goal
 
 one_more : (so_far more clauses : List (List Lit)) (i : ℕ) (clause copy : List Lit) → i < length clauses →
@@ -10,10 +11,13 @@ one_more so_far more clauses i clause copy below is same begun grown =
     grown ∙ (ap (λ (cs : List (List Lit)). cs ++ copy ∷ []) begun
     ∙ (ap (λ (d : List Lit). take i clauses ++ d ∷ []) (same ∙ is) ∙ sym (take_more clauses i clause below)))
 
-pub loop-clause-preserved : goal.loop-clause-preserved
-loop-clause-preserved c =
-    let clause = c.clause-item.result in
-    let copy : c.in_ok-clause_of.field-0 ≡ clause = copied c.in_ok-clause_of.field-0 clause c.literals.result.now c.in_ok-clause_of.ensures
-    c.literals.ensures.value c.literals.ensures.increasing in
-    one_more c.loop-clause.copies.items c.push.new.self.items c.args.clauses.now c.loop-clause.clause-index clause c.in_ok-clause_of.field-0
-    c.loop-clause-test.true c.clause-item.is copy c.loop-clause.invariant c.in_ok-push.ensures.items
+pub loop-place-preserved : goal.loop-place-preserved
+loop-place-preserved c =
+    let clauses = c.args.clauses.now in
+    let place = c.loop-place.place in
+    let clause = c.get.result.now in
+    let there = c.get.ensures.value in
+    let copy : c.in_ok-clause_of.field-0 ≡ clause = c.in_ok-clause_of.ensures ∙ in_order_already clause c.get.ensures.increasing in
+    one_more c.loop-place.copies.items c.push.new.self.items clauses place clause c.in_ok-clause_of.field-0
+    (slice_get_within clauses place clause there) (sym (get_or_from_slice_get clauses place clause clause there)) copy
+    c.loop-place.invariant c.in_ok-push.ensures.items

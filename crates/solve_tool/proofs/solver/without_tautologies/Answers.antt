@@ -1,11 +1,17 @@
-use Rattle.std.proofs.Common.{not, ap, ◌∙◌, rules}
-use Rattle.std.proofs.lemmas.Fn.{filter_same}
-use Rattle.clause_core.specs.Clauses.{has_pair}
-use Rattle.solve_tool.specs.Outcome.{proper_clauses}
+use Rattle.std.proofs.Common.{◌≡◌, All, sym, subst, rules}
+use Rattle.std.specs.Prelude.{None, position}
+use Rattle.std.proofs.lemmas.List.Elements.{All-filter}
+use Rattle.clause_core.specs.Clauses.{IsOver, has_pair}
+use Rattle.solve_tool.proofs.Proper.{all_proper}
 use Rattle.solve_tool.proofs.solver.without_tautologies.Goals as goal
 
-pub returns-clause-clauses : goal.returns-clause-clauses
-returns-clause-clauses c =
-    c.from_vec.ensures
-    ∙ (filter_same _ (λ clause. not (has_pair clause)) _ (λ x b f' k. search rules) _ _ c.retain.ensures.filtered
-    ∙ ap proper_clauses c.into_vec-clauses.ensures)
+pub returns-then-is_none-clause-clauses : goal.returns-then-is_none-clause-clauses
+returns-then-is_none-clause-clauses c =
+    let none : position has_pair c.args.cnf.clauses ≡ None = search rules in
+    sym (all_proper c.args.cnf.clauses none)
+
+pub invariant_of-result : goal.invariant_of-result
+invariant_of-result c = record {
+  few = c.args.cnf.few;
+  over = subst (All (IsOver c.args.cnf.variables)) (sym c.in_ok-clauses.ensures) (All-filter _ (IsOver c.args.cnf.variables) c.args.cnf.clauses c.args.cnf.over);
+}
