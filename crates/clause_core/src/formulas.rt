@@ -4,6 +4,7 @@ ghost use Rattle.std.specs.Prelude.{◌≡◌, ◌<◌, ◌^◌, All, length};
 ghost use Rattle.clause_core.specs.Clauses.{IsOver, assignment_of, meets};
 
 use crate::clause_list::ClauseList;
+use crate::clauses::Clause;
 use crate::literals::Literal;
 use sequence::Sequence;
 
@@ -25,13 +26,23 @@ pub struct Assignment {
     pub truths: Sequence<bool>,
 }
 
-/// Whether the assignment meets the clause of these literals: it makes one of them true.
-pub fn meets(assignment: &Assignment, literals: &[Literal]) -> bool
-    requires { IsOver (length assignment.now.truths) literals.now }
-    ensures { result ≡ meets (assignment_of assignment.now.truths) literals.now }
+impl Assignment {
+    /// Whether it meets the clause of these literals: it makes one of them true.
+    pub fn meets(&self, literals: &[Literal]) -> bool
+        requires { IsOver (length self.now.truths) literals.now }
+        ensures { result ≡ meets (assignment_of self.now.truths) literals.now }
+    {
+        let truths = self.truths.as_slice();
+        literals
+            .iter()
+            .any(|literal| truths[literal.index()] == literal.is_positive())
+    }
+}
+
+/// Whether the assignment meets the clause: it makes one of its literals true.
+pub fn meets(assignment: &Assignment, clause: &Clause) -> bool
+    requires { IsOver (length assignment.now.truths) clause.now }
+    ensures { result ≡ meets (assignment_of assignment.now.truths) clause.now }
 {
-    let truths = assignment.truths.as_slice();
-    literals
-        .iter()
-        .any(|literal| truths[literal.index()] == literal.is_positive())
+    assignment.meets(clause.literals())
 }

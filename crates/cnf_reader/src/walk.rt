@@ -9,6 +9,7 @@ use tsl_text::{MOST_DIGITS, signed_number_in};
 
 /// The number that the word at the front means, and how many bytes the word has. No number stands for a word that
 /// means none.
+#[inline(always)]
 pub fn front_number(text: &[u8]) -> (Option<i64>, usize)
     ensures len { result.1 ≡ prefix_len (λ byte. not (is_blank byte)) text.now }
     ensures bound { result.1 ≤ length text.now }
@@ -24,6 +25,7 @@ pub fn front_number(text: &[u8]) -> (Option<i64>, usize)
 }
 
 /// The same in one walk, where the word is a number. `None` where it is none.
+#[inline(always)]
 fn plain_number(text: &[u8]) -> Option<(i64, usize)>
     ensures len { IfSome result (λ found. found.1 ≡ prefix_len (λ byte. not (is_blank byte)) text.now) }
     ensures bound { IfSome result (λ found. found.1 ≤ length text.now) }
@@ -39,6 +41,7 @@ fn plain_number(text: &[u8]) -> Option<(i64, usize)>
 }
 
 /// The same where a `-` stands before these bytes.
+#[inline(always)]
 fn negative_number(digits: &[u8]) -> Option<(i64, usize)>
     ensures len { IfSome result (λ found. found.1 ≡ prefix_len (λ byte. not (is_blank byte)) (45 ∷ digits.now)) }
     ensures bound { IfSome result (λ found. found.1 ≤ length digits.now + 1) }
@@ -62,6 +65,7 @@ fn opposite(value: u64) -> Option<i64>
 
 /// The number that the digits at the front spell, and how many they are, where 1 to 18 of them stand before a blank
 /// or the end.
+#[inline(always)]
 fn plain_digits(text: &[u8]) -> Option<(u64, usize)>
     ensures len { IfSome result (λ found. found.1 ≡ prefix_len (λ byte. not (is_blank byte)) text.now) }
     ensures bound { IfSome result (λ found. found.1 ≤ length text.now) }

@@ -65,7 +65,7 @@ fn an_assignment_meets_a_clause_by_one_true_literal(rt: HostRuntime) -> Result<(
     for (numbers, met) in MET {
         let clause = clause(alloc, numbers)?;
         assert!(rt; clause.is_over(2));
-        assert_eq!(rt; meets(&assignment, clause.literals()), *met);
+        assert_eq!(rt; meets(&assignment, &clause), *met);
     }
     assert!(rt; !clause(alloc, &[1, -3])?.is_over(2));
     Ok(())

@@ -5,7 +5,7 @@ ghost use Rattle.clause_core.specs.Clauses.{IsOver};
 ghost use Rattle.sat_core.specs.Answers.{IsRightAnswer};
 
 use crate::traces::is_trace;
-use clause_core::{Assignment, Clause, Cnf, Literal, clause_of, meets};
+use clause_core::{Assignment, Clause, Cnf, Literal, clause_of};
 use logic_values::{clause, clauses_of, formula, formula_of};
 use refutation_check::check;
 use sat_core::{Answer, solve};
@@ -66,7 +66,7 @@ fn is_met(assignment: &Assignment, cnf: &Cnf) -> bool {
     }
     for place in 0..cnf.clauses.len() {
         let literals = cnf.clauses.get(place);
-        if !are_over(literals, cnf.variables) || !meets(assignment, literals) {
+        if !are_over(literals, cnf.variables) || !assignment.meets(literals) {
             return false;
         }
     }
