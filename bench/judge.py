@@ -1,9 +1,10 @@
 #!/usr/bin/env python3
 """Times the verdict of `tsl run` on nested untils, on many operators and on distinct atoms: nodes times positions, doubled in both
-directions, beside a plain program in C, whose verdicts have to be the same."""
+directions, beside a plain program in C, whose verdicts have to be the same. That program reads no formula, so of a run the part counts
+that its verdict takes: as much of the seconds as of the instructions, which valgrind counts, less what it takes without the formulas."""
 import subprocess
 
-from measuring import HERE, PROGRAM, built, measured
+from measuring import HERE, PROGRAM, built, measured, spent_in
 
 DEPTH = 65  # in each formula, so that no formula nests too deep
 MOST_FORMULAS = {"untils": 48, "operators": 36, "atoms": 48}  # so that there are nearly as many nodes as are allowed
@@ -11,6 +12,7 @@ MOST_POSITIONS = 65536
 PREDICATES = 2048  # as many as the plain program has
 BETWEEN = ["U", "->", "||", "&&", "R"]
 BEFORE = ["X", "F", "!", "G"]
+VERDICT = ["judging_replies::meaning::Meaning::judge"]
 
 
 def formula(family, number):
@@ -32,20 +34,29 @@ def text_of(family, formulas, positions):
     return "\n".join(lines).encode()
 
 
+def verdict_on(folder, text):
+    """The seconds that the verdict of a run takes, those of the whole run, its peak of memory, and its status."""
+    seconds, peak, status = measured(folder, text, [PROGRAM, "run"], ("0", "1"))
+    counted = spent_in(text, [PROGRAM, "run"], VERDICT)
+    if not counted:
+        raise SystemExit("what a verdict takes is counted by valgrind: install it")
+    return seconds * counted[1][0] / counted[0], seconds, peak, status
+
+
 def table(folder, reference, family, cases):
     print(family)
-    print(f"{'formulas':>8} {'positions':>9} {'seconds':>9} {'growth':>7} {'peak KiB':>9} {'more KiB':>9} {'plain C':>9} {'ratio':>6}")
+    print(f"{'formulas':>8} {'positions':>9} {'whole run':>9} {'more KiB':>9} {'verdict':>9} {'growth':>7} {'plain C':>9} {'ratio':>6}")
     before = None
     for formulas, positions in cases:
-        without, least, _ = measured(folder, text_of(family, 0, positions), [PROGRAM, "run"], ("0", "1"))
-        seconds, peak, verdict = measured(folder, text_of(family, formulas, positions), [PROGRAM, "run"], ("0", "1"))
-        own = max(seconds - without, 1e-6)
+        without, _, least, _ = verdict_on(folder, text_of(family, 0, positions))
+        verdict, seconds, peak, status = verdict_on(folder, text_of(family, formulas, positions))
+        own = max(verdict - without, 1e-6)
         words = [reference, family, str(formulas), str(DEPTH), str(positions)]
         plain, _, expected = measured(folder, b"", words, ("0", "1"))
-        if verdict != expected:
+        if status != expected:
             raise SystemExit("the verdicts differ")
         growth = f"{own / before:7.2f}" if before else "      -"
-        print(f"{formulas:8} {positions:9} {own:9.5f} {growth} {peak:9} {peak - least:9} {plain:9.5f} {own / plain:6.2f}")
+        print(f"{formulas:8} {positions:9} {seconds:9.5f} {peak - least:9} {own:9.5f} {growth} {plain:9.5f} {own / plain:6.2f}")
         before = own
 
 
