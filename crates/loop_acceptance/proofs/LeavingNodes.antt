@@ -6,8 +6,8 @@ use Rattle.std.proofs.lemmas.Option.{none-some, same_Some, slice_get_within}
 use Rattle.std.proofs.lemmas.List.{length-set}
 use Rattle.sequence.proofs.Places.{slice_get_set, slice_get_set_same, slice_get-take, slice_get_taken}
 use Rattle.loop_acceptance.specs.declared.product.Step.{Step}
-use Rattle.loop_acceptance.specs.declared.search.Mark.{Mark}
-use Rattle.loop_acceptance.specs.declared.search.Mark.TheVariants.{New, Open, Done, Red}
+use Rattle.loop_acceptance.specs.declared.marks.Mark.{Mark}
+use Rattle.loop_acceptance.specs.declared.marks.Mark.TheVariants.{New, Open, Done, Red}
 use Rattle.loop_acceptance.specs.declared.search.Frame.{Frame}
 use Rattle.loop_acceptance.specs.internal.Graph.{StepsTo, Rejects, WalksTo, TurnFrom}
 use Rattle.loop_acceptance.specs.internal.Search.{is_new, is_open, frames_left, nested_left, Is, IsFinished, IsNotNew, HasReddened, TurnsTo}

@@ -5,6 +5,7 @@ pub mod JudgedLoops
 pub mod LeavingNodes
 pub mod LoopTurns
 pub mod OpenedNodes
+pub mod PackedMarks
 pub mod ProductSteps
 pub mod RowsFilled
 pub mod Searched

@@ -7,8 +7,8 @@ use Rattle.std.proofs.lemmas.Option.{none-some, slice_get-get_or, slice_get_with
 use Rattle.std.proofs.lemmas.List.{length-set, length-replicate}
 use Rattle.sequence.proofs.Places.{slice_get_set, slice_get_set_same, slice_get_push, slice_get_grown, slice_get-behind}
 use Rattle.loop_acceptance.specs.declared.product.Step.{Step}
-use Rattle.loop_acceptance.specs.declared.search.Mark.{Mark}
-use Rattle.loop_acceptance.specs.declared.search.Mark.TheVariants.{New, Open, Done, Red}
+use Rattle.loop_acceptance.specs.declared.marks.Mark.{Mark}
+use Rattle.loop_acceptance.specs.declared.marks.Mark.TheVariants.{New, Open, Done, Red}
 use Rattle.loop_acceptance.specs.declared.search.Frame.{Frame}
 use Rattle.loop_acceptance.specs.internal.Graph.{StepsTo, WalksTo}
 use Rattle.loop_acceptance.specs.internal.Search.{is_new, is_open, marks_opened, frames_opened, frames_left, nested_left}

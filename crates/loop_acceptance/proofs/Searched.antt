@@ -2,7 +2,7 @@
 use Rattle.std.proofs.Common.{◌≡◌, ℕ, inl, inr, List, length, Option, subst, arith}
 use Rattle.std.proofs.lemmas.Option.{slice_get_within}
 use Rattle.loop_acceptance.specs.declared.product.Step.{Step}
-use Rattle.loop_acceptance.specs.declared.search.Mark.{Mark}
+use Rattle.loop_acceptance.specs.declared.marks.Mark.{Mark}
 use Rattle.loop_acceptance.specs.declared.search.Frame.{Frame}
 use Rattle.loop_acceptance.specs.internal.Graph.{StepsTo, TurnFrom}
 use Rattle.loop_acceptance.specs.internal.Search.{IsFinished, IsNotNew, IsNestedSearch}

@@ -6,8 +6,8 @@ use Rattle.std.proofs.lemmas.Bool.Decides.{eqb_tells}
 use Rattle.std.proofs.lemmas.Option.{none-some, same_Some, slice_get-get_or, slice_get_within}
 use Rattle.sequence.proofs.Places.{slice_get_set, slice_get_set_same}
 use Rattle.loop_acceptance.specs.declared.product.Step.{Step}
-use Rattle.loop_acceptance.specs.declared.search.Mark.{Mark}
-use Rattle.loop_acceptance.specs.declared.search.Mark.TheVariants.{Open}
+use Rattle.loop_acceptance.specs.declared.marks.Mark.{Mark}
+use Rattle.loop_acceptance.specs.declared.marks.Mark.TheVariants.{Open}
 use Rattle.loop_acceptance.specs.declared.search.Frame.{Frame}
 use Rattle.loop_acceptance.specs.internal.Graph.{WalksTo}
 use Rattle.loop_acceptance.specs.internal.Search.{frames_left, nested_left, Is, IsNotNew, HasFound}

@@ -5,8 +5,8 @@ use Rattle.std.proofs.lemmas.Bool.{cases_lt}
 use Rattle.std.proofs.lemmas.Option.{same_Some, slice_get_within}
 use Rattle.sequence.proofs.Places.{slice_get_some}
 use Rattle.loop_acceptance.specs.declared.product.Step.{Step}
-use Rattle.loop_acceptance.specs.declared.search.Mark.{Mark}
-use Rattle.loop_acceptance.specs.declared.search.Mark.TheVariants.{Red}
+use Rattle.loop_acceptance.specs.declared.marks.Mark.{Mark}
+use Rattle.loop_acceptance.specs.declared.marks.Mark.TheVariants.{Red}
 use Rattle.loop_acceptance.specs.internal.Graph.{StepsTo}
 use Rattle.loop_acceptance.specs.internal.Search.{Is, HasReddened, StepsBy, TurnsTo, LeadsToNoNew, NoneLeadToNew, AreClosed}
 use Rattle.loop_acceptance.proofs.ChosenSteps.{leads_by, by_leads, by_rejects}

@@ -14,6 +14,7 @@
 
 mod judging;
 mod laws;
+mod marks;
 mod product;
 mod rows;
 mod search;

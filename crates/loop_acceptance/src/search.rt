@@ -1,52 +1,17 @@
 //! The search for a turn through a rejecting step.
 
 ghost use Rattle.std.specs.Prelude.{◌≡◌, ◌↔◌, ◌+◌, ◌-◌, ◌<◌, ◌≤◌, ℕ, true, false, length, Some, slice_get, slice_index_or, IfOk, OnOk};
-ghost use Rattle.loop_acceptance.specs.declared.search.Mark.TheVariants.{New, Open, Red};
+ghost use Rattle.loop_acceptance.specs.declared.marks.Mark.TheVariants.{New, Open, Red};
 ghost use Rattle.loop_acceptance.specs.internal.Graph.{StepsTo, Rejects, WalksTo, TurnFrom};
 ghost use Rattle.loop_acceptance.specs.internal.Product.{IsProduct, nodes_of, edge_rows_of, steps_in, row_edges};
-ghost use Rattle.loop_acceptance.specs.internal.Search.{is_new, is_open, is_done, asked_for, nested_left};
+ghost use Rattle.loop_acceptance.specs.internal.Search.{is_open, asked_for, nested_left};
 ghost use Rattle.loop_acceptance.specs.internal.Search.{Is, IsNotNew, AreRed, HasReddened};
 ghost use Rattle.loop_acceptance.specs.internal.Search.{StepsBy, TurnsTo, LeadsToNoNew, NoneLeadToNew, AreClosed, IsNestedSearch};
 
+use crate::marks::{Mark, Marks};
 use crate::product::{Product, Step, node_count, place_count, product_step};
 use sequence::NoMemory;
 use std::alloc::Global;
-
-/// What the search knows of a node.
-#[derive(Clone, Copy)]
-pub(crate) enum Mark {
-    /// It was not met.
-    New,
-    /// The outer search met it and has not left it.
-    Open,
-    /// The outer search has left it.
-    Done,
-    /// An inner search has met it after that.
-    Red,
-}
-
-impl Mark {
-    /// Whether it is new.
-    fn is_new(self) -> bool
-        ensures { result ≡ is_new self }
-    {
-        matches!(self, Mark::New)
-    }
-
-    /// Whether it is open.
-    fn is_open(self) -> bool
-        ensures { result ≡ is_open self }
-    {
-        matches!(self, Mark::Open)
-    }
-
-    /// Whether it is done.
-    fn is_done(self) -> bool
-        ensures { result ≡ is_done self }
-    {
-        matches!(self, Mark::Done)
-    }
-}
 
 /// An open node, and how many places of its steps are left.
 #[derive(Clone, Copy)]
@@ -61,7 +26,7 @@ pub(crate) struct Frame {
 #[derive(Drop)]
 pub(crate) struct Search {
     /// The mark of each node.
-    pub marks: Vec<Mark>,
+    pub marks: Marks,
     /// The open nodes, in the order in which they were met.
     pub frames: Vec<Frame>,
     /// The red nodes, in the order in which they were met.
@@ -73,30 +38,30 @@ impl Search {
 
     /// Makes a node red if it is done. Whether it is open.
     fn meet(&mut self, node: u32) -> Result<bool, NoMemory>
-        requires { node < length self.old.marks.items }
-        ensures tells { IfOk result (λ yes. yes ≡ is_open (slice_index_or self.old.marks.items node New)) }
-        ensures marks { OnOk result (self.new.marks.items ≡ marks_met self.old.marks.items node) }
-        ensures red { OnOk result (self.new.red.items ≡ red_met self.old.marks.items self.old.red.items node) }
+        requires { node < length self.old.marks }
+        ensures tells { IfOk result (λ yes. yes ≡ is_open (slice_index_or self.old.marks node New)) }
+        ensures marks { OnOk result (self.new.marks ≡ marks_met self.old.marks node) }
+        ensures red { OnOk result (self.new.red.items ≡ red_met self.old.marks self.old.red.items node) }
         ensures frames { self.new.frames ≡ self.old.frames }
     {
-        let mark = self.marks[node as usize];
+        let mark = self.marks.get(node);
         if mark.is_done() {
             self.red.push(node)?;
-            self.marks[node as usize] = Mark::Red;
+            self.marks.set(node, Mark::Red);
         }
         Ok(mark.is_open())
     }
 
     /// Opens a node if it is new.
     fn open_node(&mut self, node: u32, places: u32) -> Result<(), NoMemory>
-        requires { node < length self.old.marks.items }
-        ensures marks { OnOk result (self.new.marks.items ≡ marks_opened self.old.marks.items node) }
-        ensures frames { OnOk result (self.new.frames.items ≡ frames_opened self.old.marks.items self.old.frames.items node places) }
+        requires { node < length self.old.marks }
+        ensures marks { OnOk result (self.new.marks ≡ marks_opened self.old.marks node) }
+        ensures frames { OnOk result (self.new.frames.items ≡ frames_opened self.old.marks self.old.frames.items node places) }
         ensures red { self.new.red ≡ self.old.red }
     {
-        if self.marks[node as usize].is_new() {
+        if self.marks.get(node).is_new() {
             self.frames.push(Frame { node, left: places })?;
-            self.marks[node as usize] = Mark::Open;
+            self.marks.set(node, Mark::Open);
         }
         Ok(())
     }
@@ -112,15 +77,15 @@ impl Search {
     ) -> Result<bool, NoMemory>
         requires product { IsProduct product.now }
         requires within { node < nodes_of product.now }
-        requires size { length self.old.marks.items ≡ nodes_of product.now }
-        requires red { AreRed self.old.marks.items self.old.red.items }
-        requires seen { LeadsToNoNew (steps_in product.now) self.old.marks.items node }
-        ensures on { OnOk result (HasReddened (StepsBy (steps_in product.now) rejecting_alone node) self.old.marks.items self.old.red.items
-            self.new.marks.items self.new.red.items) }
+        requires size { length self.old.marks ≡ nodes_of product.now }
+        requires red { AreRed self.old.marks self.old.red.items }
+        requires seen { LeadsToNoNew (steps_in product.now) self.old.marks node }
+        ensures on { OnOk result (HasReddened (StepsBy (steps_in product.now) rejecting_alone node) self.old.marks self.old.red.items
+            self.new.marks self.new.red.items) }
         ensures met { IfOk result (λ yes. yes ≡ false → (s : Step) → asked_for rejecting_alone (steps_in product.now node place) ≡ Some s →
-            Is self.new.marks.items Red s.to) }
+            Is self.new.marks Red s.to) }
         ensures found { IfOk result (λ yes. yes ≡ true → (s : Step) × (asked_for rejecting_alone (steps_in product.now node place) ≡ Some s)
-            × Is self.old.marks.items Open s.to) }
+            × Is self.old.marks Open s.to) }
         ensures frames { self.new.frames ≡ self.old.frames }
     {
         match chosen_step(product, node, place, rejecting_alone) {
@@ -142,15 +107,15 @@ impl Search {
     ) -> Result<bool, NoMemory>
         requires product { IsProduct product.now }
         requires within { node < nodes_of product.now }
-        requires size { length self.old.marks.items ≡ nodes_of product.now }
-        requires red { AreRed self.old.marks.items self.old.red.items }
-        requires seen { LeadsToNoNew (steps_in product.now) self.old.marks.items node }
-        ensures on { OnOk result (HasReddened (StepsBy (steps_in product.now) rejecting_alone node) self.old.marks.items self.old.red.items
-            self.new.marks.items self.new.red.items) }
+        requires size { length self.old.marks ≡ nodes_of product.now }
+        requires red { AreRed self.old.marks self.old.red.items }
+        requires seen { LeadsToNoNew (steps_in product.now) self.old.marks node }
+        ensures on { OnOk result (HasReddened (StepsBy (steps_in product.now) rejecting_alone node) self.old.marks self.old.red.items
+            self.new.marks self.new.red.items) }
         ensures met { IfOk result (λ yes. yes ≡ false → (q : ℕ) → StepsBy (steps_in product.now) rejecting_alone node q →
-            Is self.new.marks.items Red q) }
+            Is self.new.marks Red q) }
         ensures found { IfOk result (λ yes. yes ≡ true → (q : ℕ) × StepsBy (steps_in product.now) rejecting_alone node q
-            × Is self.old.marks.items Open q) }
+            × Is self.old.marks Open q) }
         ensures frames { self.new.frames ≡ self.old.frames }
     {
         for place in 0..place_count(product, node) {
@@ -165,18 +130,18 @@ impl Search {
     /// they lead to is red then.
     fn turns_back(&mut self, product: &Product, node: u32) -> Result<bool, NoMemory>
         requires product { IsProduct product.now }
-        requires size { length self.old.marks.items ≡ nodes_of product.now }
-        requires red { AreRed self.old.marks.items self.old.red.items }
-        requires closed { AreClosed (steps_in product.now) self.old.marks.items self.old.red.items (length self.old.red.items) }
-        requires all_seen { NoneLeadToNew (steps_in product.now) self.old.marks.items }
-        requires seen { LeadsToNoNew (steps_in product.now) self.old.marks.items node }
-        requires is_open { Is self.old.marks.items Open node }
-        ensures on { OnOk result (HasReddened (TurnsTo (steps_in product.now) node) self.old.marks.items self.old.red.items
-            self.new.marks.items self.new.red.items) }
+        requires size { length self.old.marks ≡ nodes_of product.now }
+        requires red { AreRed self.old.marks self.old.red.items }
+        requires closed { AreClosed (steps_in product.now) self.old.marks self.old.red.items (length self.old.red.items) }
+        requires all_seen { NoneLeadToNew (steps_in product.now) self.old.marks }
+        requires seen { LeadsToNoNew (steps_in product.now) self.old.marks node }
+        requires is_open { Is self.old.marks Open node }
+        ensures on { OnOk result (HasReddened (TurnsTo (steps_in product.now) node) self.old.marks self.old.red.items
+            self.new.marks self.new.red.items) }
         ensures none { IfOk result (λ yes. yes ≡ false
-            → AreClosed (steps_in product.now) self.new.marks.items self.new.red.items (length self.new.red.items)
-            × ((q : ℕ) → Rejects (steps_in product.now) node q → Is self.new.marks.items Red q)) }
-        ensures found { IfOk result (λ yes. yes ≡ true → (q : ℕ) × TurnsTo (steps_in product.now) node q × Is self.old.marks.items Open q) }
+            → AreClosed (steps_in product.now) self.new.marks self.new.red.items (length self.new.red.items)
+            × ((q : ℕ) → Rejects (steps_in product.now) node q → Is self.new.marks Red q)) }
+        ensures found { IfOk result (λ yes. yes ≡ true → (q : ℕ) × TurnsTo (steps_in product.now) node q × Is self.old.marks Open q) }
         ensures frames { self.new.frames ≡ self.old.frames }
     {
         let mut place = self.red.len();
@@ -197,17 +162,17 @@ impl Search {
     fn open_along(&mut self, product: &Product, node: u32, place: u32) -> Result<(), NoMemory>
         requires product { IsProduct product.now }
         requires within { node < nodes_of product.now }
-        requires size { length self.old.marks.items ≡ nodes_of product.now }
-        requires search { IsNestedSearch (steps_in product.now) (nodes_of product.now) self.old.marks.items self.old.red.items
+        requires size { length self.old.marks ≡ nodes_of product.now }
+        requires search { IsNestedSearch (steps_in product.now) (nodes_of product.now) self.old.marks self.old.red.items
             self.old.frames.items }
         requires last { (f : Frame) × (slice_get self.old.frames.items (length self.old.frames.items - 1) ≡ Some f) × (f.node ≡ node) }
-        ensures search { OnOk result (IsNestedSearch (steps_in product.now) (nodes_of product.now) self.new.marks.items self.new.red.items
+        ensures search { OnOk result (IsNestedSearch (steps_in product.now) (nodes_of product.now) self.new.marks self.new.red.items
             self.new.frames.items) }
-        ensures seen { OnOk result ((s : Step) → steps_in product.now node place ≡ Some s → IsNotNew self.new.marks.items s.to) }
+        ensures seen { OnOk result ((s : Step) → steps_in product.now node place ≡ Some s → IsNotNew self.new.marks s.to) }
         ensures stay { OnOk result ((i : ℕ) (f : Frame) → slice_get self.old.frames.items i ≡ Some f
             → slice_get self.new.frames.items i ≡ Some f) }
-        ensures left { OnOk result (nested_left (row_edges (edge_rows_of product.now)) self.new.marks.items self.new.frames.items
-            ≤ nested_left (row_edges (edge_rows_of product.now)) self.old.marks.items self.old.frames.items) }
+        ensures left { OnOk result (nested_left (row_edges (edge_rows_of product.now)) self.new.marks self.new.frames.items
+            ≤ nested_left (row_edges (edge_rows_of product.now)) self.old.marks self.old.frames.items) }
     {
         if let Some(step) = product_step(product, node, place) {
             let places = place_count(product, step.to);
@@ -219,14 +184,14 @@ impl Search {
     /// Takes the next step of the last open node.
     fn take_step(&mut self, product: &Product, top: usize) -> Result<(), NoMemory>
         requires product { IsProduct product.now }
-        requires search { IsNestedSearch (steps_in product.now) (nodes_of product.now) self.old.marks.items self.old.red.items
+        requires search { IsNestedSearch (steps_in product.now) (nodes_of product.now) self.old.marks self.old.red.items
             self.old.frames.items }
         requires last { top + 1 ≡ length self.old.frames.items }
         requires some { (f : Frame) × (slice_get self.old.frames.items top ≡ Some f) × (0 < f.left) }
-        ensures search { OnOk result (IsNestedSearch (steps_in product.now) (nodes_of product.now) self.new.marks.items self.new.red.items
+        ensures search { OnOk result (IsNestedSearch (steps_in product.now) (nodes_of product.now) self.new.marks self.new.red.items
             self.new.frames.items) }
-        ensures left { OnOk result (nested_left (row_edges (edge_rows_of product.now)) self.new.marks.items self.new.frames.items
-            < nested_left (row_edges (edge_rows_of product.now)) self.old.marks.items self.old.frames.items) }
+        ensures left { OnOk result (nested_left (row_edges (edge_rows_of product.now)) self.new.marks self.new.frames.items
+            < nested_left (row_edges (edge_rows_of product.now)) self.old.marks self.old.frames.items) }
     {
         let frame = self.frames[top];
         let left = frame.left - 1;
@@ -241,15 +206,15 @@ impl Search {
     /// Leaves the last open node, of which no step is left, if no turn is found. Whether one is.
     fn leave(&mut self, product: &Product, top: usize) -> Result<bool, NoMemory>
         requires product { IsProduct product.now }
-        requires search { IsNestedSearch (steps_in product.now) (nodes_of product.now) self.old.marks.items self.old.red.items
+        requires search { IsNestedSearch (steps_in product.now) (nodes_of product.now) self.old.marks self.old.red.items
             self.old.frames.items }
         requires last { top + 1 ≡ length self.old.frames.items }
         requires none { (f : Frame) × (slice_get self.old.frames.items top ≡ Some f) × (f.left ≡ 0) }
-        ensures search { IfOk result (λ yes. yes ≡ false → IsNestedSearch (steps_in product.now) (nodes_of product.now) self.new.marks.items
+        ensures search { IfOk result (λ yes. yes ≡ false → IsNestedSearch (steps_in product.now) (nodes_of product.now) self.new.marks
             self.new.red.items self.new.frames.items) }
         ensures left { IfOk result (λ yes. yes ≡ false
-            → nested_left (row_edges (edge_rows_of product.now)) self.new.marks.items self.new.frames.items
-            < nested_left (row_edges (edge_rows_of product.now)) self.old.marks.items self.old.frames.items) }
+            → nested_left (row_edges (edge_rows_of product.now)) self.new.marks self.new.frames.items
+            < nested_left (row_edges (edge_rows_of product.now)) self.old.marks self.old.frames.items) }
         ensures found { IfOk result (λ yes. yes ≡ true → TurnFrom (steps_in product.now) 0) }
     {
         let node = self.frames[top].node;
@@ -257,21 +222,21 @@ impl Search {
             return Ok(true);
         }
         self.frames.truncate(top);
-        self.marks[node as usize] = Mark::Done;
+        self.marks.set(node, Mark::Done);
         Ok(false)
     }
 
     /// Takes the next step of the last open node, or leaves the node. Whether a turn is found.
     fn go_on(&mut self, product: &Product) -> Result<bool, NoMemory>
         requires product { IsProduct product.now }
-        requires search { IsNestedSearch (steps_in product.now) (nodes_of product.now) self.old.marks.items self.old.red.items
+        requires search { IsNestedSearch (steps_in product.now) (nodes_of product.now) self.old.marks self.old.red.items
             self.old.frames.items }
         requires some { 0 < length self.old.frames.items }
-        ensures search { IfOk result (λ yes. yes ≡ false → IsNestedSearch (steps_in product.now) (nodes_of product.now) self.new.marks.items
+        ensures search { IfOk result (λ yes. yes ≡ false → IsNestedSearch (steps_in product.now) (nodes_of product.now) self.new.marks
             self.new.red.items self.new.frames.items) }
         ensures left { IfOk result (λ yes. yes ≡ false
-            → nested_left (row_edges (edge_rows_of product.now)) self.new.marks.items self.new.frames.items
-            < nested_left (row_edges (edge_rows_of product.now)) self.old.marks.items self.old.frames.items) }
+            → nested_left (row_edges (edge_rows_of product.now)) self.new.marks self.new.frames.items
+            < nested_left (row_edges (edge_rows_of product.now)) self.old.marks self.old.frames.items) }
         ensures found { IfOk result (λ yes. yes ≡ true → TurnFrom (steps_in product.now) 0) }
     {
         let top = self.frames.len() - 1;
@@ -298,11 +263,12 @@ fn chosen_step(product: &Product, node: u32, place: u32, rejecting_alone: bool) 
 /// The search that has met the first node alone.
 fn begun(alloc: Global, product: &Product) -> Result<Search, NoMemory>
     requires product { IsProduct product.now }
-    ensures { IfOk result (λ search. IsNestedSearch (steps_in product.now) (nodes_of product.now) search.marks.items search.red.items
+    ensures { IfOk result (λ search. IsNestedSearch (steps_in product.now) (nodes_of product.now) search.marks search.red.items
         search.frames.items) }
 {
+    let marks = Marks::new(alloc, node_count(product))?;
     let mut search = Search {
-        marks: vec![in alloc; Mark::New; node_count(product)]?,
+        marks,
         frames: Vec::new(alloc),
         red: Vec::new(alloc),
     };

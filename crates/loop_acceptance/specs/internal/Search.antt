@@ -4,8 +4,8 @@ use Rattle.std.specs.Prelude.{◌≡◌, ℕ, suc, ◌+◌, ◌<◌, ◌≤◌, 
 use Rattle.std.specs.Prelude.{cond, List, [], ◌∷◌, ◌++◌, length, Option, Some, None, option_and_then, slice_get}
 use Rattle.std.specs.Prelude.{slice_set, slice_index_or, ◌⊎◌}
 use Rattle.loop_acceptance.specs.declared.product.Step.{Step}
-use Rattle.loop_acceptance.specs.declared.search.Mark.{Mark}
-use Rattle.loop_acceptance.specs.declared.search.Mark.TheVariants.{New, Open, Done, Red}
+use Rattle.loop_acceptance.specs.declared.marks.Mark.{Mark}
+use Rattle.loop_acceptance.specs.declared.marks.Mark.TheVariants.{New, Open, Done, Red}
 use Rattle.loop_acceptance.specs.declared.search.Frame.{Frame}
 use Rattle.loop_acceptance.specs.internal.Graph.{StepsTo, Rejects, WalksTo}
 

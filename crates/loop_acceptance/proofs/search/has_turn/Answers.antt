@@ -12,6 +12,6 @@ returns c =
     let fits = frames.ok in
     let none : length frames.items ≡ 0 = omega (arith, count, fits) in (
       λ same. absurd (false≢true same),
-      λ turn. absurd (no_turn (steps_in c.args.product.now) (nodes_of c.args.product.now) c.loop-search.search.marks.items
+      λ turn. absurd (no_turn (steps_in c.args.product.now) (nodes_of c.args.product.now) c.loop-search.search.marks
           c.loop-search.search.red.items frames.items c.loop-search.invariant none turn),
     )
