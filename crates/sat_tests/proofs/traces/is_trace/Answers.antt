@@ -29,7 +29,7 @@ loop-clause-preserved c =
     let copy : c.in_ok-clause_of.field-0 ≡ clause = copied c.in_ok-clause_of.field-0 clause c.literals.result.now c.in_ok-clause_of.ensures
     c.literals.ensures.value c.literals.ensures.increasing in
     let learnt : IsLearnt cnf.variables known clause = subst (λ (cs : List
-    (List Lit)). IsLearnt cnf.variables cs clause) c.as_slice-in-loop-clause.ensures.value
+    (List Lit)). IsLearnt cnf.variables cs clause) c.as_slice.ensures.value
     (c.in_ok-is_learnt.ensures.0 c.if-not-branch.false) in
     step cnf.variables known c.push.new.self.items clause c.args.trace.now c.loop-clause.clause-index
     (IsTrace cnf.variables cnf.clauses c.args.trace.now) c.loop-clause-test.true c.clause-item.is
