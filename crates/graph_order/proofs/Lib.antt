@@ -1,4 +1,3 @@
-pub mod WalkLemmas
 pub mod GraphRows
 pub mod Orders
-pub mod CycleLemmas
+pub mod SearchLemmas

@@ -11,7 +11,7 @@ use Rattle.sequence.specs.Numbers.{is_among, IsDistinct}
 use Rattle.sequence.proofs.Numbers.{among_at, among_place, among_push}
 use Rattle.sequence.proofs.Places.{slice_get_push, slice_get_grown}
 use Rattle.graph_order.specs.Graphs.{goes, IsOrder}
-use Rattle.graph_order.specs.internal.Walks.{AreRanked}
+use Rattle.graph_order.specs.internal.Searches.{AreRanked}
 use Rattle.sequence.proofs.Booleans.{eqb_self}
 use Rattle.sequence.proofs.Passes.{list_any_place}
 use Rattle.graph_order.proofs.GraphRows.{none_twice, distinct_more, equal_numbers}

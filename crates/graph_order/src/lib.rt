@@ -6,8 +6,6 @@
 //! - `first_on_cycle` gives the first number that reaches itself (`specs/Reaching.antt`).
 #![tactic(auto)]
 
-mod cycling;
-mod walking;
+mod searching;
 
-pub use cycling::first_on_cycle;
-pub use walking::order;
+pub use searching::{first_on_cycle, order};

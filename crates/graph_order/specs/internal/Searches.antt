@@ -1,28 +1,48 @@
 -- Internal: only private functions of this crate use these words.
--- The walk that tells which numbers reach themselves.
-use Rattle.std.specs.Prelude.{◌≡◌, ℕ, ◌+◌, ◌<◌, ◌≤◌, true, List, [], ◌∷◌, length, reverse, Some, None, Option, slice_get, ◌⊎◌, min}
+-- The walk through all numbers, which ranks them and tells which of them reach themselves.
+use Rattle.std.specs.Prelude.{◌≡◌, ℕ, ◌+◌, ◌<◌, ◌≤◌, true, false, List, [], ◌∷◌, length, reverse, Some, None, Option, slice_get, ◌⊎◌, min}
+use Rattle.std.specs.Option.{option_and_then, option_map_or}
+use Rattle.sequence.specs.Numbers.{is_among}
 use Rattle.graph_order.specs.Graphs.{goes, ReachesFrom}
-use Rattle.graph_order.specs.declared.cycling.Step.{Step}
-use Rattle.graph_order.specs.declared.cycling.Search.{Search}
+use Rattle.graph_order.specs.declared.searching.Step.{Step}
+use Rattle.graph_order.specs.declared.searching.Search.{Search}
 
 -- a number was given a place
 abbrev pub IsMet : List (Option ℕ) → ℕ → Type 0
 IsMet places i = (k : ℕ) × (slice_get places i ≡ Some (Some k))
 
-abbrev pub IsHeld : List ℕ → ℕ → Type 0
-IsHeld held i = (k : ℕ) × (slice_get held k ≡ Some i)
+abbrev pub IsOn : List Step → ℕ → Type 0
+IsOn [] i = ⊥
+IsOn (s ∷ path) i = (s.number ≡ i) ⊎ IsOn path i
 
--- it is not on the path
-abbrev pub IsOff : List Step → ℕ → Type 0
-IsOff [] i = Unit {0}
-IsOff (s ∷ path) i = (s.number ≡ i → ⊥) × IsOff path i
+-- the use at a place of a number that was met was looked at
+abbrev pub IsLooked : List Step → ℕ → ℕ → Type 0
+IsLooked [] i k = Unit {0}
+IsLooked (s ∷ path) i k = (s.number ≡ i → s.left ≤ k) × IsLooked path i k
+
+-- of the numbers held at these places the first may go to the second
+abbrev pub MayGo : List Step → ℕ → ℕ → Type 0
+MayGo [] a m = Unit {0}
+MayGo (s ∷ path) a m = (s.place ≤ a → s.low ≤ m) × (a < s.place → MayGo path a m)
 
 -- the last one of the path, which comes first, is replaced
 abbrev pub lowered : ℕ → List Step → List Step
 lowered low [] = []
 lowered low (s ∷ path) = record s { low = min low s.low } ∷ path
 
+-- the first number that was left that reaches itself, before and after one more is left
+pub record IsTold (s : Step) (old new : Option ℕ) : Type 0 where
+  pub same : s.place < s.low → old ≡ new
+  pub first : s.low ≤ s.place → (j : ℕ) × (new ≡ Some j) × (j ≤ s.number) × ((j ≡ s.number) ⊎ (old ≡ Some j))
+  pub before : (i : ℕ) → old ≡ Some i → (j : ℕ) × (new ≡ Some j) × (j ≤ i)
+
 module _ (graph : List (List ℕ)) where
+  abbrev pub use_at : ℕ → ℕ → Option ℕ
+  use_at i k = option_and_then (λ js. slice_get js k) (slice_get graph i)
+
+  abbrev pub uses_count : ℕ → ℕ
+  uses_count i = option_map_or (λ js. length js) (slice_get graph i) 0
+
   abbrev pub ReachesOrIs : ℕ → ℕ → Type 0
   ReachesOrIs i j = (i ≡ j) ⊎ ReachesFrom graph i j
 
@@ -30,48 +50,52 @@ module _ (graph : List (List ℕ)) where
   LeadsTo [] i = Unit {0}
   LeadsTo (s ∷ path) i = goes graph s.number i ≡ true
 
-  -- from one of those held between the place of s and the bound a use of y was looked at
-  pub record LooksAt (held : List ℕ) (s : Step) (bound y : ℕ) : Type 0 where
-    pub place : ℕ
-    pub from : s.place ≤ place
-    pub below : place < bound
-    pub number : ℕ
-    pub at : slice_get held place ≡ Some number
-    pub row : List ℕ
-    pub is_row : slice_get graph number ≡ Some row
-    pub index : ℕ
-    pub next : slice_get row index ≡ Some y
-    pub past : place ≡ s.place → s.left ≤ index
-
   -- what is known of a number on the path and of those held after it, up to a bound
-  pub record IsSegment (places : List (Option ℕ)) (held : List ℕ) (bound : ℕ) (s : Step) : Type 0 where
-    pub few : (js : List ℕ) → slice_get graph s.number ≡ Some js → s.left ≤ length js
+  pub record IsOnPath (held : List ℕ) (bound : ℕ) (s : Step) : Type 0 where
+    pub within : s.place < bound
+    pub few : s.left ≤ uses_count s.number
     pub here : slice_get held s.place ≡ Some s.number
     pub leads : (a i : ℕ) → a < bound → slice_get held a ≡ Some i → ReachesOrIs i s.number
-    pub met : (j : ℕ) → LooksAt held s bound j → IsMet places j
-    pub low : (j m : ℕ) → LooksAt held s bound j → slice_get held m ≡ Some j → s.low ≤ m
     pub back : (j : ℕ) → s.low ≤ s.place → slice_get held s.low ≡ Some j → ReachesFrom graph s.number j
 
   -- the path, its last one first
-  abbrev pub IsTower : List (Option ℕ) → List ℕ → ℕ → List Step → Type 0
-  IsTower places held bound [] = bound ≡ 0
-  IsTower places held bound (s ∷ path) = (s.place < bound) × IsSegment places held bound s × IsTower places held s.place path
+  abbrev pub IsTower : List ℕ → ℕ → List Step → Type 0
+  IsTower held bound [] = bound ≡ 0
+  IsTower held bound (s ∷ path) = IsOnPath held bound s × IsTower held s.place path
 
-  pub record IsSearch (places : List (Option ℕ)) (held : List ℕ) (path : List Step) (least : Option ℕ) : Type 0 where
+  -- where each number stands that was met: a held one is only gone to from held ones
+  pub record IsHolding (places : List (Option ℕ)) (held : List ℕ) (path : List Step) : Type 0 where
     pub sizes : length places ≡ length graph
     pub placed : (k i : ℕ) → slice_get held k ≡ Some i → slice_get places i ≡ Some (Some k)
-    pub tower : IsTower places held (length held) path
-    pub closed : (i k j : ℕ) (js : List ℕ) → IsMet places i → (IsHeld held i → ⊥) → slice_get graph i ≡ Some js → slice_get js k ≡ Some j →
-        IsMet places j × (IsHeld held j → ⊥)
+    pub tower : IsTower held (length held) path
+    pub seen : (i k j : ℕ) → IsMet places i → IsLooked path i k → use_at i k ≡ Some j →
+        IsMet places j × ((m : ℕ) → slice_get held m ≡ Some j → (a : ℕ) × (slice_get held a ≡ Some i) × MayGo path a m)
+
+  -- the last one first, each goes only to those before it
+  abbrev pub AreRanked : List ℕ → Type 0
+  AreRanked [] = Unit {0}
+  AreRanked (i ∷ done) = ((j : ℕ) → goes graph i j ≡ true → is_among done j ≡ true) × (is_among done i ≡ false) × AreRanked done
+
+  -- what is known of those that were left, the last one first
+  pub record IsLeaving (places : List (Option ℕ)) (path : List Step) (done : List ℕ) (least : Option ℕ) : Type 0 where
+    pub all : (i : ℕ) → IsMet places i → IsOn path i ⊎ (is_among done i ≡ true)
+    pub only : (i : ℕ) → is_among done i ≡ true → IsMet places i × (IsOn path i → ⊥)
     pub told : (i : ℕ) → least ≡ Some i → (i < length graph) × ReachesFrom graph i i
-    pub first : (i : ℕ) → IsMet places i → IsOff path i → ReachesFrom graph i i → (j : ℕ) × (least ≡ Some j) × (j ≤ i)
+    pub first : (i : ℕ) → is_among done i ≡ true → ReachesFrom graph i i → (j : ℕ) × (least ≡ Some j) × (j ≤ i)
+    pub ranked : least ≡ None → AreRanked done
+
+  pub record IsSearch (w : Search) (path : List Step) : Type 0 where
+    pub holds : IsHolding w.places.items w.held.items path
+    pub leaves : IsLeaving w.places.items path (reverse w.ranked.items) w.least
 
   abbrev pub IsSearchOf : Search → Type 0
-  IsSearchOf w = IsSearch w.places.items w.held.items (reverse w.path.items) w.least
+  IsSearchOf w = IsSearch w (reverse w.path.items)
 
-  -- if it reaches itself, the first that does is told
-  abbrev pub IsToldFor : ℕ → Option ℕ → Type 0
-  IsToldFor i least = ReachesFrom graph i i → (j : ℕ) × (least ≡ Some j) × (j ≤ i)
+  -- all numbers were left
+  pub record IsWhole (w : Search) : Type 0 where
+    pub search : IsSearchOf w
+    pub path : w.path.items ≡ []
+    pub met : (i : ℕ) → i < length graph → IsMet w.places.items i
 
 -- how many steps are left at most
 abbrev pub path_left : List Step → ℕ
@@ -86,6 +110,12 @@ new_left (r ∷ rows) (Some k ∷ places) = new_left rows places
 
 abbrev pub steps_left : List (List ℕ) → Search → ℕ
 steps_left graph w = new_left graph w.places.items + path_left (reverse w.path.items)
+
+-- the walk has gone on
+pub record GoesOn (graph : List (List ℕ)) (places : List (Option ℕ)) (path : List Step) (new : Search) : Type 0 where
+  pub search : IsSearchOf graph new
+  pub met : (i : ℕ) → IsMet places i → IsMet new.places.items i
+  pub less : steps_left graph new < new_left graph places + path_left path
 
 -- the walk from a start has come so far
 pub record IsWalking (graph : List (List ℕ)) (start : ℕ) (old now : Search) : Type 0 where

@@ -1,6 +1,6 @@
 use Rattle.graph_order.specs.Graphs.{graph_of}
 use Rattle.graph_order.specs.internal.Searches.{IsWalking, steps_left}
-use Rattle.graph_order.proofs.cycling.Search.walk_from.Given as goal
+use Rattle.graph_order.proofs.searching.Search.walk_from.Given as goal
 
 -- what was met is met, and so is the start
 abbrev pub invariant-loop-last : goal.invariant-loop-last

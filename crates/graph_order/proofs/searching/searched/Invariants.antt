@@ -1,7 +1,7 @@
 use Rattle.std.proofs.Common.{◌≡◌, ◌<◌, ℕ, []}
 use Rattle.graph_order.specs.Graphs.{graph_of}
 use Rattle.graph_order.specs.internal.Searches.{IsSearchOf, IsMet}
-use Rattle.graph_order.proofs.cycling.first_on_cycle.Given as goal
+use Rattle.graph_order.proofs.searching.searched.Given as goal
 
 -- the numbers gone through are met, and none is on the path
 abbrev pub invariant-loop-start : goal.invariant-loop-start

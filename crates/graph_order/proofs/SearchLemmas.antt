@@ -1,0 +1,491 @@
+-- The walk through all numbers: what its steps keep.
+use Rattle.std.proofs.Common.{◌≡◌, ◌∙◌, ℕ, zero, suc, ◌+◌, ◌<◌, ◌≤◌, ◌⊎◌, inl, inr, true, List, [], ◌∷◌, ◌++◌, length, set, take, min}
+use Rattle.std.proofs.Common.{Some, None, Option, Vec, slice_get, replicate, reverse, refl, sym, ap, subst, arith, length-set, length-take-le}
+use Rattle.std.specs.Prelude.{MatchOption}
+use Rattle.std.proofs.lemmas.Bool.{false≢true, cases_lt, false_from_ne_true}
+use Rattle.std.proofs.lemmas.Bool.Decides.{eqb_tells}
+use Rattle.std.proofs.lemmas.List.{reverse-append, length-replicate}
+use Rattle.std.proofs.lemmas.Option.{none-some, same_Some, slice_get_within}
+use Rattle.sequence.specs.Numbers.{is_among}
+use Rattle.sequence.proofs.Numbers.{among_first, among_next}
+use Rattle.sequence.proofs.Places.{slice_get_some, slice_get_set, slice_get_set_same, slice_get-front, slice_get-behind, slice_get_push, slice_get_grown, slice_get-take, slice_get_taken}
+use Rattle.graph_order.specs.Reaching.{one, more}
+use Rattle.std.specs.declared.alloc.Global.{Global}
+use Rattle.graph_order.specs.Graphs.{graph_of, goes, ReachesFrom, IsOrder, IsFirstOnCycle}
+use Rattle.graph_order.specs.declared.searching.Step.{Step}
+use Rattle.graph_order.specs.declared.searching.Search.{Search}
+use Rattle.graph_order.specs.internal.Searches.{IsMet, IsOn, IsLooked, MayGo, lowered, IsTold, use_at, uses_count, ReachesOrIs, LeadsTo, IsOnPath, IsTower}
+use Rattle.graph_order.specs.internal.Searches.{IsHolding, IsLeaving, IsSearchOf, IsWhole, new_left, path_left}
+use Rattle.graph_order.proofs.GraphRows.{rows_count, goes_use, use_goes, use_within, among_cases}
+use Rattle.graph_order.proofs.Orders.{order_is}
+
+-- ---- what is met
+
+none_met : (places : List (Option ℕ)) (v : ℕ) → slice_get places v ≡ Some None → IsMet places v → ⊥
+none_met places v fresh (k, at) = none-some k (same_Some None (Some k) (sym fresh ∙ at))
+
+pub met_more : (places : List (Option ℕ)) (v k i : ℕ) → slice_get places v ≡ Some None → IsMet places i → IsMet (set places v (Some k)) i
+met_more places v k i fresh (m, at) = (m, slice_get_set places v i (Some k) (λ e. none_met places v fresh (m, ap (slice_get places) (sym e) ∙ at)) ∙ at)
+
+pub met_new : (places : List (Option ℕ)) (v k : ℕ) → slice_get places v ≡ Some None → IsMet (set places v (Some k)) v
+met_new places v k fresh = (k, slice_get_set_same places v (Some k) (slice_get_within places v None fresh))
+
+met_cases : (places : List (Option ℕ)) (v k i : ℕ) → IsMet (set places v (Some k)) i → (v ≡ i) ⊎ IsMet places i
+met_cases places v k i (m, at) = elim (eqb_tells v i) [
+  | inl same ↦ inl same.1
+  | inr apart ↦ inr (m, sym (slice_get_set places v i (Some k) (λ e. apart.1 (sym e))) ∙ at)
+]
+
+length_push : (ns : List ℕ) (n : ℕ) → length (ns ++ n ∷ []) ≡ suc (length ns)
+length_push [] n = refl
+length_push (m ∷ ns) n = ap suc (length_push ns n)
+
+pub reversed_with : {X : Type 0} (xs : List X) (x : X) → reverse (xs ++ x ∷ []) ≡ x ∷ reverse xs
+reversed_with xs x = reverse-append xs (x ∷ [])
+
+taken : (n : ℕ) (ns : List ℕ) (a : ℕ) → a < n → slice_get (take n ns) a ≡ slice_get ns a
+taken (suc n) [] a below = refl
+taken (suc n) (m ∷ ns) zero below = refl
+taken (suc n) (m ∷ ns) (suc a) below = taken n ns a (omega arith)
+taken zero ns a below = absurd (omega arith)
+
+module _ (graph : List (List ℕ)) where
+  reach_both : (i j k : ℕ) → ReachesFrom graph i j → ReachesFrom graph j k → ReachesFrom graph i k
+  reach_both i j k (one h) rest = more h rest
+  reach_both i j k (more {y = m} h before) rest = more h (reach_both m j k before rest)
+
+  then_or_is : (i j k : ℕ) → ReachesFrom graph i j → ReachesOrIs graph j k → ReachesFrom graph i k
+  then_or_is i j k reach (inl same) = subst (ReachesFrom graph i) same reach
+  then_or_is i j k reach (inr rest) = reach_both i j k reach rest
+
+  or_is_then : (i j k : ℕ) → ReachesOrIs graph i j → ReachesFrom graph j k → ReachesFrom graph i k
+  or_is_then i j k (inl same) reach = subst (λ m. ReachesFrom graph m k) (sym same) reach
+  or_is_then i j k (inr before) reach = reach_both i j k before reach
+
+  -- ---- the path
+
+  on_held : (held : List ℕ) (bound : ℕ) (path : List Step) (i : ℕ) → IsTower graph held bound path → IsOn path i →
+      (p : ℕ) × (p < bound) × (slice_get held p ≡ Some i)
+  on_held held bound [] i is on = absurd on
+  on_held held bound (s ∷ path) i is (inl same) = (s.place, is.0.within, is.0.here ∙ ap Some same)
+  on_held held bound (s ∷ path) i is (inr on) =
+      let it = on_held held s.place path i is.1 on in (it.0, omega (arith, it.1, is.0.within), it.2)
+
+  looked_off : (path : List Step) (i k : ℕ) → (IsOn path i → ⊥) → IsLooked path i k
+  looked_off [] i k off = tt
+  looked_off (s ∷ path) i k off = (λ same. absurd (off (inl same)), looked_off path i k (λ on. off (inr on)))
+
+  tower_alike : (held new : List ℕ) (limit : ℕ) → ((a : ℕ) → a < limit → slice_get new a ≡ slice_get held a) → (path : List Step) (bound : ℕ) →
+      bound ≤ limit → IsTower graph held bound path → IsTower graph new bound path
+  tower_alike held new limit alike [] bound within is = is
+  tower_alike held new limit alike (s ∷ path) bound within is = (
+    record {
+      within = is.0.within;
+      few = is.0.few;
+      here = alike s.place (omega (arith, is.0.within)) ∙ is.0.here;
+      leads = λ a i below at. is.0.leads a i below (sym (alike a (omega (arith, below))) ∙ at);
+      back = λ j low at. is.0.back j low (sym (alike s.low (omega (arith, low, is.0.within))) ∙ at);
+    },
+    tower_alike held new limit alike path s.place (omega (arith, is.0.within)) is.1,
+  )
+
+  -- ---- a number that was not met
+
+  module _ (places : List (Option ℕ)) (s : Step) (path : List Step) (fresh : slice_get places s.number ≡ Some None) where
+    pub entered : (held : List ℕ) → s.place ≡ length held → s.left ≡ uses_count graph s.number → s.place < s.low →
+        LeadsTo graph path s.number → IsHolding graph places held path →
+        IsHolding graph (set places s.number (Some s.place)) (held ++ s.number ∷ []) (s ∷ path)
+    entered held place left low goes_there is = record {
+      sizes = length-set places s.number _ ∙ is.sizes;
+      placed = λ k i at. elim (slice_get_push held s.number k i at) [
+        | inl old ↦
+            let before = is.placed k i old.1 in
+            slice_get_set places s.number i _ (λ e. none_met places s.number fresh (k, ap (slice_get places) (sym e) ∙ before)) ∙ before
+        | inr last ↦
+            subst (λ n. slice_get (set places s.number (Some s.place)) n ≡ Some (Some k)) last.1
+            (slice_get_set_same places s.number (Some s.place) (slice_get_within places s.number None fresh)
+            ∙ ap (λ n. Some (Some n)) (place ∙ sym last.0))
+      ];
+      tower = (
+        record {
+          within = omega (arith, place, length_push held s.number);
+          few = omega (arith, left);
+          here = ap (slice_get (held ++ s.number ∷ [])) place ∙ slice_get-behind held s.number [];
+          leads = λ a i below at. elim (slice_get_push held s.number a i at) [
+            | inl old ↦ inr (leads path is.tower goes_there a i old.0 old.1)
+            | inr last ↦ inl (sym last.1)
+          ];
+          back = λ j under at. absurd (omega (arith, low, under));
+        },
+        subst (λ n. IsTower graph (held ++ s.number ∷ []) n path) (sym place)
+            (tower_alike held (held ++ s.number ∷ []) (length held) (slice_get-front held (s.number ∷ [])) path (length held) (omega arith) is.tower),
+      );
+      seen = λ i k j met looked used. elim (met_cases places s.number _ i met) [
+        | inl same ↦ absurd (omega (arith, looked.0 same, use_within graph i k j used, ap (uses_count graph) same, left))
+        | inr before ↦
+            let old = is.seen i k j before looked.1 used in (
+              met_more places s.number _ j fresh old.0,
+              λ m at. elim (slice_get_push held s.number m j at) [
+                | inl there ↦
+                    let it = old.1 m there.1 in (
+                      it.0,
+                      slice_get_grown held (s.number ∷ []) it.0 i it.1,
+                      (λ above. absurd (omega (arith, above, place, slice_get_within held it.0 i it.1)), λ below. it.2),
+                    )
+                | inr last ↦ absurd (none_met places s.number fresh (subst (IsMet places) (sym last.1) old.0))
+              ],
+            )
+      ];
+    }
+      where
+        leads : (p : List Step) → IsTower graph held (length held) p → LeadsTo graph p s.number → (a i : ℕ) → a < length held →
+            slice_get held a ≡ Some i → ReachesFrom graph i s.number
+        leads [] none there a i below at = absurd (omega (arith, none, below))
+        leads (t ∷ rest) tower there a i below at = or_is_then i t.number s.number (tower.0.leads a i below at) (one there)
+
+    pub entered_leaves : (done : List ℕ) (least : Option ℕ) → IsLeaving graph places path done least →
+        IsLeaving graph (set places s.number (Some s.place)) (s ∷ path) done least
+    entered_leaves done least is = record {
+      all = λ i met. elim (met_cases places s.number _ i met) [
+        | inl same ↦ inl (inl same)
+        | inr before ↦ elim (is.all i before) [
+          | inl on ↦ inl (inr on)
+          | inr among ↦ inr among
+        ]
+      ];
+      only = λ i among.
+          let old = is.only i among in (
+            met_more places s.number _ i fresh old.0,
+            λ on. elim on [
+              | inl same ↦ none_met places s.number fresh (subst (IsMet places) (sym same) old.0)
+              | inr before ↦ old.1 before
+            ],
+          );
+      told = is.told;
+      first = is.first;
+      ranked = is.ranked;
+    }
+
+  module _ (places : List (Option ℕ)) (held : List ℕ) (s : Step) (path : List Step) (is : IsHolding graph places held (s ∷ path)) where
+    pub last_within : s.number < length graph
+    last_within = omega (arith, slice_get_within places s.number (Some s.place) (is.placed s.place s.number is.tower.0.here), is.sizes)
+
+    -- ---- a used is looked at
+
+    pub looked : (left low k j : ℕ) → suc left ≡ s.left → use_at graph s.number left ≡ Some j → slice_get places j ≡ Some (Some k) →
+        low ≤ s.low → (slice_get held k ≡ Some j → low ≤ k) → (low ≡ s.low) ⊎ ((low ≡ k) × (slice_get held k ≡ Some j)) →
+        IsHolding graph places held (record s { left = left; low = low } ∷ path)
+    looked left low k j one_less next place lower at_most one_of = record {
+      sizes = is.sizes;
+      placed = is.placed;
+      tower = (
+        record {
+          within = last.within;
+          few = omega (arith, one_less, last.few);
+          here = last.here;
+          leads = last.leads;
+          back = λ i below at. elim one_of [
+            | inl same ↦ last.back i (omega (arith, same, below)) (ap (slice_get held) (sym same) ∙ at)
+            | inr there ↦
+                subst (ReachesFrom graph s.number) (same_Some j i (sym there.1 ∙ ap (slice_get held) (sym there.0) ∙ at))
+                (one (use_goes graph s.number left j next))
+          ];
+        },
+        is.tower.1,
+      );
+      seen = λ i n h met looked used. elim (cases_lt n s.left) [
+        | inl under ↦ elim (eqb_tells s.number i) [
+          | inl same ↦
+              let now : n ≡ left = omega (arith, looked.0 same.1, under, one_less) in
+              let is_h : j ≡ h = same_Some j h (sym next ∙ ap (λ m. use_at graph m left) same.1 ∙ ap (use_at graph i) (sym now) ∙ used) in (
+                (k, ap (slice_get places) (sym is_h) ∙ place),
+                λ m at.
+                    let there : slice_get held m ≡ Some j = at ∙ ap Some (sym is_h) in
+                    let is_k : m ≡ k = same_Some m k (same_Some (Some m) (Some k) (sym (is.placed m j there) ∙ place)) in (
+                      s.place,
+                      last.here ∙ ap Some same.1,
+                      (λ above. omega (arith, is_k, at_most (ap (slice_get held) (sym is_k) ∙ there)), λ below. absurd (omega (arith, below))),
+                    ),
+              )
+          | inr apart ↦ before i n h met (λ same. absurd (apart.1 same)) looked.1 used
+        ]
+        | inr past ↦ before i n h met (λ same. past) looked.1 used
+      ];
+    }
+      where
+        last : IsOnPath graph held (length held) s
+        last = is.tower.0
+
+        before : (i n h : ℕ) → IsMet places i → (s.number ≡ i → s.left ≤ n) → IsLooked path i n → use_at graph i n ≡ Some h →
+            IsMet places h × ((m : ℕ) → slice_get held m ≡ Some h →
+            (a : ℕ) × (slice_get held a ≡ Some i) × MayGo (record s { left = left; low = low } ∷ path) a m)
+        before i n h met own others used =
+            let old = is.seen i n h met (own, others) used in
+            (old.0, λ m at. let it = old.1 m at in (it.0, it.1, (λ above. omega (arith, lower, it.2.0 above), it.2.1)))
+
+    -- ---- a number is left
+
+    module _ (left : s.left ≡ 0) where
+      -- what is gone to from a number that is not before the last one is not before what that one reaches
+      behind : (i j : ℕ) → ((a : ℕ) → slice_get held a ≡ Some i → s.place ≤ a) → IsMet places i → goes graph i j ≡ true →
+          IsMet places j × ((m : ℕ) → slice_get held m ≡ Some j → s.low ≤ m)
+      behind i j after met h =
+          let used = goes_use graph i j h in
+          let off : IsOn path i → ⊥ = λ on. let p = on_held held s.place path i is.tower.1 on in omega (arith, p.1, after p.0 p.2) in
+          let old = is.seen i used.0 j met (λ same. omega (arith, left), looked_off path i used.0 off) used.1 in
+          (old.0, λ m at. let it = old.1 m at in it.2.0 (after it.0 it.1))
+
+      behind_all : (i j : ℕ) → s.place < s.low → ((a : ℕ) → slice_get held a ≡ Some i → s.place ≤ a) → IsMet places i → ReachesFrom graph i j →
+          (m : ℕ) → slice_get held m ≡ Some j → s.low ≤ m
+      behind_all i j low after met (one h) = (behind i j after met h).1
+      behind_all i j low after met (more {y = n} h rest) =
+          let next = behind i n after met h in behind_all n j low (λ a at. omega (arith, low, next.1 a at)) next.0 rest
+
+      itself_at : (a : ℕ) → slice_get held a ≡ Some s.number → a ≡ s.place
+      itself_at a at = same_Some a s.place (same_Some (Some a) (Some s.place) (sym (is.placed a s.number at) ∙ is.placed s.place s.number is.tower.0.here))
+
+      pub left_leaves : (done : List ℕ) (least now : Option ℕ) → IsTold s least now → IsLeaving graph places (s ∷ path) done least →
+          IsLeaving graph places path (s.number ∷ done) now
+      left_leaves done least now it old = record {
+        all = λ i met. elim (old.all i met) [
+          | inl on ↦ elim on [
+            | inl same ↦ inr (subst (λ n. is_among (s.number ∷ done) n ≡ true) same (among_first s.number done))
+            | inr rest ↦ inl rest
+          ]
+          | inr among ↦ inr (among_next s.number i done among)
+        ];
+        only = λ i among. elim (among_cases s.number i done among) [
+          | inl same ↦
+              subst (λ n. IsMet places n × (IsOn path n → ⊥)) same
+              (own_met, λ on. let p = on_held held s.place path s.number is.tower.1 on in omega (arith, p.1, itself_at p.0 p.2))
+          | inr before ↦ let was = old.only i before in (was.0, λ on. was.1 (inr on))
+        ];
+        told = λ i same. elim (cases_lt s.place s.low) [
+          | inl low ↦ old.told i (it.same low ∙ same)
+          | inr low ↦
+              let here = it.first low in
+              subst (λ n. (n < length graph) × ReachesFrom graph n n) (same_Some here.0 i (sym here.1 ∙ same)) (elim here.3 [
+                | inl own ↦ subst (λ n. (n < length graph) × ReachesFrom graph n n) (sym own) (last_within, itself low)
+                | inr was ↦ old.told here.0 was
+              ])
+        ];
+        first = λ i among reach. elim (among_cases s.number i done among) [
+          | inl same ↦ elim (cases_lt s.place s.low) [
+            | inl low ↦ absurd (never low (subst (λ n. ReachesFrom graph n n) (sym same) reach))
+            | inr low ↦ let here = it.first low in (here.0, here.1, omega (arith, here.2, same))
+          ]
+          | inr before ↦
+              let was = old.first i before reach in
+              let here = it.before was.0 was.1 in (here.0, here.1, omega (arith, was.2, here.2))
+        ];
+        ranked = λ none. elim (cases_lt s.place s.low) [
+          | inl low ↦ (
+            uses low,
+            false_from_ne_true _ (λ among. (old.only s.number among).1 (inl refl)),
+            old.ranked (it.same low ∙ none),
+          )
+          | inr low ↦ let here = it.first low in absurd (none-some here.0 (sym none ∙ here.1))
+        ];
+      }
+        where
+          own_met : IsMet places s.number
+          own_met = (s.place, is.placed s.place s.number is.tower.0.here)
+
+          after : (a : ℕ) → slice_get held a ≡ Some s.number → s.place ≤ a
+          after a at = omega (arith, itself_at a at)
+
+          never : s.place < s.low → ReachesFrom graph s.number s.number → ⊥
+          never low reach = omega (arith, low, behind_all s.number s.number low after own_met reach s.place is.tower.0.here)
+
+          itself : s.low ≤ s.place → ReachesFrom graph s.number s.number
+          itself low =
+              let inside : s.low < length held = omega (arith, low, is.tower.0.within) in
+              let there = slice_get_some held s.low inside in
+              then_or_is s.number there.0 s.number (is.tower.0.back there.0 low there.1) (is.tower.0.leads s.low there.0 inside there.1)
+
+          uses : s.place < s.low → (j : ℕ) → goes graph s.number j ≡ true → is_among done j ≡ true
+          uses low j h =
+              let next = behind s.number j after own_met h in
+              elim (old.all j next.0) [
+                | inl on ↦ elim on [
+                  | inl same ↦ absurd (omega (arith, low, next.1 s.place (is.tower.0.here ∙ ap Some same)))
+                  | inr rest ↦ let p = on_held held s.place path j is.tower.1 rest in absurd (omega (arith, low, p.1, next.1 p.0 p.2))
+                ]
+                | inr among ↦ among
+              ]
+
+      -- it reaches none that is held before it: what is held from it on is let go
+      pub let_go : s.place ≤ s.low → IsHolding graph places (take s.place held) path
+      let_go low = record {
+        sizes = is.sizes;
+        placed = λ k i at. is.placed k i (slice_get-take s.place held k i at).1;
+        tower = subst (λ n. IsTower graph (take s.place held) n path) (sym (length-take-le s.place held (omega (arith, is.tower.0.within))))
+            (tower_alike held (take s.place held) s.place (taken s.place held) path s.place (omega arith) is.tower.1);
+        seen = λ i k j met looked used.
+            let old = is.seen i k j met (λ same. omega (arith, left), looked) used in (
+              old.0,
+              λ m at.
+                  let there = slice_get-take s.place held m j at in
+                  let it = old.1 m there.1 in
+                  let less : it.0 < s.place = grind (arith, it.2.0, there.0, low) in
+                  (it.0, slice_get_taken s.place held it.0 i less it.1, it.2.1 less),
+            );
+      }
+
+  -- it reaches one that is held before it: what is held from it on stays, below the one before it on the path
+  pub joined : (places : List (Option ℕ)) (held : List ℕ) (s : Step) (path : List Step) → s.left ≡ 0 → s.low < s.place →
+      IsHolding graph places held (s ∷ path) → IsHolding graph places held (lowered s.low path)
+  joined places held s [] left low is = absurd (omega (arith, low, is.tower.1))
+  joined places held s (p ∷ path) left low is = record {
+    sizes = is.sizes;
+    placed = is.placed;
+    tower = (
+      record {
+        within = omega (arith, own.within, before.within);
+        few = before.few;
+        here = before.here;
+        leads = λ a i below at. elim (cases_lt a s.place) [
+          | inl less ↦ before.leads a i less at
+          | inr past ↦ inr (or_is_then i s.number p.number (own.leads a i below at)
+              (then_or_is s.number down.0 p.number (own.back down.0 (omega (arith, low)) down.1) (before.leads s.low down.0 low down.1)))
+        ];
+        back = λ j within at. elim (cases_lt s.low p.low) [
+          | inl less ↦
+              let same : min s.low p.low ≡ s.low = omega (arith, less) in
+              or_is_then p.number s.number j (own.leads p.place p.number (omega (arith, before.within, own.within)) before.here)
+              (own.back j (omega (arith, low)) (ap (slice_get held) (sym same) ∙ at))
+          | inr past ↦
+              let same : min s.low p.low ≡ p.low = omega (arith, past) in
+              before.back j (omega (arith, within, same)) (ap (slice_get held) (sym same) ∙ at)
+        ];
+      },
+      is.tower.1.1,
+    );
+    seen = λ i k j met looked used.
+        let old = is.seen i k j met (λ same. omega (arith, left), looked) used in (
+          old.0,
+          λ m at.
+              let it = old.1 m at in (
+                it.0,
+                it.1,
+                (
+                  λ above. elim (cases_lt it.0 s.place) [
+                    | inl less ↦ omega (arith, (it.2.1 less).0 above)
+                    | inr past ↦ omega (arith, it.2.0 past)
+                  ],
+                  λ below. let less : it.0 < s.place = omega (arith, below, before.within) in (it.2.1 less).1 below,
+                ),
+              ),
+        );
+  }
+    where
+      own : IsOnPath graph held (length held) s
+      own = is.tower.0
+
+      before : IsOnPath graph held s.place p
+      before = is.tower.1.0
+
+      down : (j : ℕ) × (slice_get held s.low ≡ Some j)
+      down = slice_get_some held s.low (omega (arith, low, own.within))
+
+  -- the last one of the path is changed in what was looked at
+  pub leaves_changed : (places : List (Option ℕ)) (s : Step) (left low : ℕ) (path : List Step) (done : List ℕ) (least : Option ℕ) →
+      IsLeaving graph places (s ∷ path) done least → IsLeaving graph places (record s { left = left; low = low } ∷ path) done least
+  leaves_changed places s left low path done least is = record { all = is.all; only = is.only; told = is.told; first = is.first; ranked = is.ranked }
+
+  pub leaves_lowered : (places : List (Option ℕ)) (low : ℕ) (path : List Step) (done : List ℕ) (least : Option ℕ) →
+      IsLeaving graph places path done least → IsLeaving graph places (lowered low path) done least
+  leaves_lowered places low [] done least is = is
+  leaves_lowered places low (s ∷ path) done least is = leaves_changed places s s.left (min low s.low) path done least is
+
+-- ---- how many steps are left
+
+pub fewer_new : (rows : List (List ℕ)) (places : List (Option ℕ)) (v k : ℕ) → slice_get places v ≡ Some None → length places ≡ length rows →
+    new_left rows places ≡ uses_count rows v + 2 + new_left rows (set places v (Some k))
+fewer_new rows [] v k fresh sizes = absurd (none-some None fresh)
+fewer_new [] (p ∷ places) v k fresh sizes = absurd (omega (arith, sizes))
+fewer_new (r ∷ rows) (None ∷ places) zero k fresh sizes = refl
+fewer_new (r ∷ rows) (Some m ∷ places) zero k fresh sizes = absurd (none-some m (sym (same_Some (Some m) None fresh)))
+fewer_new (r ∷ rows) (None ∷ places) (suc v) k fresh sizes = omega (arith, fewer_new rows places v k fresh (omega (arith, sizes)))
+fewer_new (r ∷ rows) (Some m ∷ places) (suc v) k fresh sizes = fewer_new rows places v k fresh (omega (arith, sizes))
+
+pub left_lowered : (low : ℕ) (path : List Step) → path_left (lowered low path) ≡ path_left path
+left_lowered low [] = refl
+left_lowered low (s ∷ path) = refl
+
+-- ---- the beginning and the end
+
+none_in : (n i k : ℕ) → slice_get (replicate n None) i ≡ Some (Some k) → ⊥
+none_in zero i k at = none-some (Some k) at
+none_in (suc n) zero k at = none-some k (same_Some None (Some k) at)
+none_in (suc n) (suc i) k at = none_in n i k at
+
+pub begun_search : (rows : List (Vec ℕ Global)) (w : Search) → w.places.items ≡ replicate (length rows) None → w.held.items ≡ [] →
+    w.path.items ≡ [] → w.ranked.items ≡ [] → w.least ≡ None → IsSearchOf (graph_of rows) w
+begun_search rows w are held path ranked least = record {
+  holds = rw (
+    are,
+    held,
+    path,
+  ) (record {
+    sizes = length-replicate (length rows) None ∙ sym (rows_count rows);
+    placed = λ k i at. absurd (none-some i at);
+    tower = refl;
+    seen = λ i k j met. absurd (none_in (length rows) i met.0 met.1);
+  });
+  leaves = rw (
+    are,
+    path,
+    ranked,
+    least,
+  ) (record {
+    all = λ i met. absurd (none_in (length rows) i met.0 met.1);
+    only = λ i among. absurd (false≢true among);
+    told = λ i same. absurd (none-some i same);
+    first = λ i among. absurd (false≢true among);
+    ranked = λ same. tt;
+  });
+}
+
+pub met_next : (old new : List (Option ℕ)) (start : ℕ) → ((i : ℕ) → i < start → IsMet old i) → ((i : ℕ) → IsMet old i → IsMet new i) →
+    IsMet new start → (i : ℕ) → i < start + 1 → IsMet new i
+met_next old new start before stay now i less = elim (cases_lt i start) [
+  | inl earlier ↦ stay i (before i earlier)
+  | inr past ↦ let same : start ≡ i = omega (arith, less, past) in subst (IsMet new) same now
+]
+
+module _ (graph : List (List ℕ)) (w : Search) (is : IsWhole graph w) where
+  all_among : (i : ℕ) → i < length graph → is_among (reverse w.ranked.items) i ≡ true
+  all_among i inside = elim (is.search.leaves.all i (is.met i inside)) [
+    | inl on ↦ absurd (subst (λ path. IsOn (reverse path) i) is.path on)
+    | inr among ↦ among
+  ]
+
+  pub whole_order : w.least ≡ None → IsOrder graph w.ranked.items
+  whole_order none =
+      order_is graph w.ranked.items (is.search.leaves.ranked none) all_among
+      (λ i among. let met = (is.search.leaves.only i among).0 in omega (arith, slice_get_within w.places.items i _ met.1, is.search.holds.sizes))
+
+  first_of : MatchOption w.least ((i : ℕ) → i < length graph → ReachesFrom graph i i → ⊥) (IsFirstOnCycle graph)
+  first_of = by w.least refl
+    where
+      told : (i : ℕ) → i < length graph → ReachesFrom graph i i → (j : ℕ) × (w.least ≡ Some j) × (j ≤ i)
+      told i less = is.search.leaves.first i (all_among i less)
+
+      by : (o : Option ℕ) → w.least ≡ o → MatchOption o ((i : ℕ) → i < length graph → ReachesFrom graph i i → ⊥) (IsFirstOnCycle graph)
+      by None none = λ i less reach. let it = told i less reach in none-some it.0 (sym none ∙ it.1)
+      by (Some n) some =
+          let it = is.search.leaves.told n some in
+          record {
+            within = it.0;
+            reaches = it.1;
+            first = λ i less reach.
+                let that = told i (omega (arith, less, it.0)) reach in
+                let same : n ≡ that.0 = same_Some n that.0 (sym some ∙ that.1) in omega (arith, less, same, that.2);
+          }
+
+pub whole_first : (rows : List (Vec ℕ Global)) (w : Search) → IsWhole (graph_of rows) w →
+    MatchOption w.least ((i : ℕ) → i < length rows → ReachesFrom (graph_of rows) i i → ⊥) (IsFirstOnCycle (graph_of rows))
+whole_first rows w is =
+    subst (λ n. MatchOption w.least ((i : ℕ) → i < n → ReachesFrom (graph_of rows) i i → ⊥) (IsFirstOnCycle (graph_of rows))) (rows_count rows)
+    (first_of (graph_of rows) w is)
