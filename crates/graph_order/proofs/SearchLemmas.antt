@@ -1,13 +1,13 @@
 -- The walk through all numbers: what its steps keep.
 use Rattle.std.proofs.Common.{◌≡◌, ◌∙◌, ℕ, zero, suc, ◌+◌, ◌<◌, ◌≤◌, ◌⊎◌, inl, inr, true, List, [], ◌∷◌, ◌++◌, length, set, take, min}
-use Rattle.std.proofs.Common.{Some, None, Option, Vec, slice_get, replicate, reverse, refl, sym, ap, subst, arith, length-set, length-take-le}
+use Rattle.std.proofs.Common.{Some, None, Option, Vec, slice_get, reverse, refl, sym, ap, subst, arith, length-set, length-take-le}
 use Rattle.std.specs.Prelude.{MatchOption}
-use Rattle.std.proofs.lemmas.Bool.{false≢true, cases_lt, false_from_ne_true}
+use Rattle.std.proofs.lemmas.Bool.{cases_lt}
 use Rattle.std.proofs.lemmas.Bool.Decides.{eqb_tells}
-use Rattle.std.proofs.lemmas.List.{reverse-append, length-replicate}
+use Rattle.std.proofs.lemmas.List.{reverse-append, length-append}
 use Rattle.std.proofs.lemmas.Option.{none-some, same_Some, slice_get_within}
 use Rattle.sequence.specs.Numbers.{is_among}
-use Rattle.sequence.proofs.Numbers.{among_first, among_next}
+use Rattle.sequence.proofs.Numbers.{among_at, among_place}
 use Rattle.sequence.proofs.Places.{slice_get_some, slice_get_set, slice_get_set_same, slice_get-front, slice_get-behind, slice_get_push, slice_get_grown, slice_get-take, slice_get_taken}
 use Rattle.graph_order.specs.Reaching.{one, more}
 use Rattle.std.specs.declared.alloc.Global.{Global}
@@ -15,9 +15,9 @@ use Rattle.graph_order.specs.Graphs.{graph_of, goes, ReachesFrom, IsOrder, IsFir
 use Rattle.graph_order.specs.declared.searching.Step.{Step}
 use Rattle.graph_order.specs.declared.searching.Search.{Search}
 use Rattle.graph_order.specs.internal.Searches.{IsMet, IsOn, IsLooked, MayGo, lowered, IsTold, use_at, uses_count, ReachesOrIs, LeadsTo, IsOnPath, IsTower}
-use Rattle.graph_order.specs.internal.Searches.{IsHolding, IsLeaving, IsSearchOf, IsWhole, new_left, path_left}
-use Rattle.graph_order.proofs.GraphRows.{rows_count, goes_use, use_goes, use_within, among_cases}
-use Rattle.graph_order.proofs.Orders.{order_is}
+use Rattle.graph_order.specs.internal.Searches.{IsHolding, IsLeaving, IsSearchAt, IsWhole, HasGoneOn, new_left, path_left}
+use Rattle.graph_order.proofs.GraphRows.{rows_count, goes_use, use_goes, use_within}
+use Rattle.graph_order.proofs.Orders.{all_counted}
 
 -- ---- what is met
 
@@ -36,18 +36,23 @@ met_cases places v k i (m, at) = elim (eqb_tells v i) [
   | inr apart ↦ inr (m, sym (slice_get_set places v i (Some k) (λ e. apart.1 (sym e))) ∙ at)
 ]
 
-length_push : (ns : List ℕ) (n : ℕ) → length (ns ++ n ∷ []) ≡ suc (length ns)
-length_push [] n = refl
-length_push (m ∷ ns) n = ap suc (length_push ns n)
-
 pub reversed_with : {X : Type 0} (xs : List X) (x : X) → reverse (xs ++ x ∷ []) ≡ x ∷ reverse xs
 reversed_with xs x = reverse-append xs (x ∷ [])
 
-taken : (n : ℕ) (ns : List ℕ) (a : ℕ) → a < n → slice_get (take n ns) a ≡ slice_get ns a
-taken (suc n) [] a below = refl
-taken (suc n) (m ∷ ns) zero below = refl
-taken (suc n) (m ∷ ns) (suc a) below = taken n ns a (omega arith)
-taken zero ns a below = absurd (omega arith)
+-- ---- how many steps are left
+
+fewer_new : (rows : List (List ℕ)) (places : List (Option ℕ)) (v k : ℕ) → slice_get places v ≡ Some None → length places ≡ length rows →
+    new_left rows places ≡ uses_count rows v + 2 + new_left rows (set places v (Some k))
+fewer_new rows [] v k fresh sizes = absurd (none-some None fresh)
+fewer_new [] (p ∷ places) v k fresh sizes = absurd (omega (arith, sizes))
+fewer_new (r ∷ rows) (None ∷ places) zero k fresh sizes = refl
+fewer_new (r ∷ rows) (Some m ∷ places) zero k fresh sizes = absurd (none-some m (sym (same_Some (Some m) None fresh)))
+fewer_new (r ∷ rows) (None ∷ places) (suc v) k fresh sizes = omega (arith, fewer_new rows places v k fresh (omega (arith, sizes)))
+fewer_new (r ∷ rows) (Some m ∷ places) (suc v) k fresh sizes = fewer_new rows places v k fresh (omega (arith, sizes))
+
+left_lowered : (low : ℕ) (path : List Step) → path_left (lowered low path) ≡ path_left path
+left_lowered low [] = refl
+left_lowered low (s ∷ path) = refl
 
 module _ (graph : List (List ℕ)) where
   reach_both : (i j k : ℕ) → ReachesFrom graph i j → ReachesFrom graph j k → ReachesFrom graph i k
@@ -75,24 +80,25 @@ module _ (graph : List (List ℕ)) where
   looked_off [] i k off = tt
   looked_off (s ∷ path) i k off = (λ same. absurd (off (inl same)), looked_off path i k (λ on. off (inr on)))
 
-  tower_alike : (held new : List ℕ) (limit : ℕ) → ((a : ℕ) → a < limit → slice_get new a ≡ slice_get held a) → (path : List Step) (bound : ℕ) →
-      bound ≤ limit → IsTower graph held bound path → IsTower graph new bound path
-  tower_alike held new limit alike [] bound within is = is
-  tower_alike held new limit alike (s ∷ path) bound within is = (
+  tower_alike : (held new : List ℕ) (limit : ℕ) → ((a i : ℕ) → a < limit → slice_get held a ≡ Some i → slice_get new a ≡ Some i) →
+      ((a i : ℕ) → a < limit → slice_get new a ≡ Some i → slice_get held a ≡ Some i) → (path : List Step) (bound : ℕ) → bound ≤ limit →
+      IsTower graph held bound path → IsTower graph new bound path
+  tower_alike held new limit on off [] bound within is = is
+  tower_alike held new limit on off (s ∷ path) bound within is = (
     record {
       within = is.0.within;
       few = is.0.few;
-      here = alike s.place (omega (arith, is.0.within)) ∙ is.0.here;
-      leads = λ a i below at. is.0.leads a i below (sym (alike a (omega (arith, below))) ∙ at);
-      back = λ j low at. is.0.back j low (sym (alike s.low (omega (arith, low, is.0.within))) ∙ at);
+      here = on s.place s.number (omega (arith, is.0.within)) is.0.here;
+      leads = λ a i below at. is.0.leads a i below (off a i (omega (arith, below)) at);
+      back = λ j low at. is.0.back j low (off s.low j (omega (arith, low, is.0.within)) at);
     },
-    tower_alike held new limit alike path s.place (omega (arith, is.0.within)) is.1,
+    tower_alike held new limit on off path s.place (omega (arith, is.0.within)) is.1,
   )
 
   -- ---- a number that was not met
 
   module _ (places : List (Option ℕ)) (s : Step) (path : List Step) (fresh : slice_get places s.number ≡ Some None) where
-    pub entered : (held : List ℕ) → s.place ≡ length held → s.left ≡ uses_count graph s.number → s.place < s.low →
+    entered : (held : List ℕ) → s.place ≡ length held → s.left ≡ uses_count graph s.number → s.place < s.low →
         LeadsTo graph path s.number → IsHolding graph places held path →
         IsHolding graph (set places s.number (Some s.place)) (held ++ s.number ∷ []) (s ∷ path)
     entered held place left low goes_there is = record {
@@ -108,7 +114,7 @@ module _ (graph : List (List ℕ)) where
       ];
       tower = (
         record {
-          within = omega (arith, place, length_push held s.number);
+          within = omega (arith, place, length-append held (s.number ∷ []));
           few = omega (arith, left);
           here = ap (slice_get (held ++ s.number ∷ [])) place ∙ slice_get-behind held s.number [];
           leads = λ a i below at. elim (slice_get_push held s.number a i at) [
@@ -118,7 +124,7 @@ module _ (graph : List (List ℕ)) where
           back = λ j under at. absurd (omega (arith, low, under));
         },
         subst (λ n. IsTower graph (held ++ s.number ∷ []) n path) (sym place)
-            (tower_alike held (held ++ s.number ∷ []) (length held) (slice_get-front held (s.number ∷ [])) path (length held) (omega arith) is.tower),
+            (tower_alike held _ (length held) (λ a i below. slice_get_grown held (s.number ∷ []) a i) (λ a i below at. sym (slice_get-front held (s.number ∷ []) a below) ∙ at) path (length held) (omega arith) is.tower),
       );
       seen = λ i k j met looked used. elim (met_cases places s.number _ i met) [
         | inl same ↦ absurd (omega (arith, looked.0 same, use_within graph i k j used, ap (uses_count graph) same, left))
@@ -143,36 +149,46 @@ module _ (graph : List (List ℕ)) where
         leads [] none there a i below at = absurd (omega (arith, none, below))
         leads (t ∷ rest) tower there a i below at = or_is_then i t.number s.number (tower.0.leads a i below at) (one there)
 
-    pub entered_leaves : (done : List ℕ) (least : Option ℕ) → IsLeaving graph places path done least →
+    entered_leaves : (done : List ℕ) (least : Option ℕ) → IsLeaving graph places path done least →
         IsLeaving graph (set places s.number (Some s.place)) (s ∷ path) done least
     entered_leaves done least is = record {
       all = λ i met. elim (met_cases places s.number _ i met) [
         | inl same ↦ inl (inl same)
         | inr before ↦ elim (is.all i before) [
           | inl on ↦ inl (inr on)
-          | inr among ↦ inr among
+          | inr there ↦ inr there
         ]
       ];
-      only = λ i among.
-          let old = is.only i among in (
+      only = λ p i at.
+          let old = is.only p i at in (
             met_more places s.number _ i fresh old.0,
             λ on. elim on [
               | inl same ↦ none_met places s.number fresh (subst (IsMet places) (sym same) old.0)
               | inr before ↦ old.1 before
             ],
           );
+      once = is.once;
       told = is.told;
       first = is.first;
-      ranked = is.ranked;
+      earlier = is.earlier;
+    }
+
+    pub entered_on : (held done : List ℕ) (least : Option ℕ) → s.place ≡ length held → s.left ≡ uses_count graph s.number → s.place < s.low →
+        LeadsTo graph path s.number → IsSearchAt graph places held path done least →
+        HasGoneOn graph places path (set places s.number (Some s.place)) (held ++ s.number ∷ []) (s ∷ path) done least
+    entered_on held done least place left low goes_there is = record {
+      search = record { holds = entered held place left low goes_there is.holds; leaves = entered_leaves done least is.leaves };
+      met = λ i met. met_more places s.number s.place i fresh met;
+      less = omega (arith, fewer_new graph places s.number s.place fresh is.holds.sizes, left);
     }
 
   module _ (places : List (Option ℕ)) (held : List ℕ) (s : Step) (path : List Step) (is : IsHolding graph places held (s ∷ path)) where
-    pub last_within : s.number < length graph
+    last_within : s.number < length graph
     last_within = omega (arith, slice_get_within places s.number (Some s.place) (is.placed s.place s.number is.tower.0.here), is.sizes)
 
     -- ---- a used is looked at
 
-    pub looked : (left low k j : ℕ) → suc left ≡ s.left → use_at graph s.number left ≡ Some j → slice_get places j ≡ Some (Some k) →
+    looked : (left low k j : ℕ) → suc left ≡ s.left → use_at graph s.number left ≡ Some j → slice_get places j ≡ Some (Some k) →
         low ≤ s.low → (slice_get held k ≡ Some j → low ≤ k) → (low ≡ s.low) ⊎ ((low ≡ k) × (slice_get held k ≡ Some j)) →
         IsHolding graph places held (record s { left = left; low = low } ∷ path)
     looked left low k j one_less next place lower at_most one_of = record {
@@ -244,21 +260,31 @@ module _ (graph : List (List ℕ)) where
       itself_at : (a : ℕ) → slice_get held a ≡ Some s.number → a ≡ s.place
       itself_at a at = same_Some a s.place (same_Some (Some a) (Some s.place) (sym (is.placed a s.number at) ∙ is.placed s.place s.number is.tower.0.here))
 
-      pub left_leaves : (done : List ℕ) (least now : Option ℕ) → IsTold s least now → IsLeaving graph places (s ∷ path) done least →
-          IsLeaving graph places path (s.number ∷ done) now
+      left_leaves : (done : List ℕ) (least now : Option ℕ) → IsTold s least now → IsLeaving graph places (s ∷ path) done least →
+          IsLeaving graph places path (done ++ s.number ∷ []) now
       left_leaves done least now it old = record {
         all = λ i met. elim (old.all i met) [
           | inl on ↦ elim on [
-            | inl same ↦ inr (subst (λ n. is_among (s.number ∷ done) n ≡ true) same (among_first s.number done))
+            | inl same ↦ inr (length done, slice_get-behind done s.number [] ∙ ap Some same)
             | inr rest ↦ inl rest
           ]
-          | inr among ↦ inr (among_next s.number i done among)
+          | inr there ↦ inr (there.0, slice_get_grown done (s.number ∷ []) there.0 i there.1)
         ];
-        only = λ i among. elim (among_cases s.number i done among) [
-          | inl same ↦
-              subst (λ n. IsMet places n × (IsOn path n → ⊥)) same
-              (own_met, λ on. let p = on_held held s.place path s.number is.tower.1 on in omega (arith, p.1, itself_at p.0 p.2))
-          | inr before ↦ let was = old.only i before in (was.0, λ on. was.1 (inr on))
+        only = λ p i at. elim (slice_get_push done s.number p i at) [
+          | inl before ↦ let was = old.only p i before.1 in (was.0, λ on. was.1 (inr on))
+          | inr last ↦
+              subst (λ n. IsMet places n × (IsOn path n → ⊥)) last.1
+              (own_met, λ on. let a = on_held held s.place path s.number is.tower.1 on in omega (arith, a.1, itself_at a.0 a.2))
+        ];
+        once = λ a b i at_a at_b. elim (slice_get_push done s.number a i at_a) [
+          | inl x ↦ elim (slice_get_push done s.number b i at_b) [
+            | inl y ↦ old.once a b i x.1 y.1
+            | inr y ↦ absurd ((old.only a i x.1).1 (inl y.1))
+          ]
+          | inr x ↦ elim (slice_get_push done s.number b i at_b) [
+            | inl y ↦ absurd ((old.only b i y.1).1 (inl x.1))
+            | inr y ↦ x.0 ∙ sym y.0
+          ]
         ];
         told = λ i same. elim (cases_lt s.place s.low) [
           | inl low ↦ old.told i (it.same low ∙ same)
@@ -269,21 +295,24 @@ module _ (graph : List (List ℕ)) where
                 | inr was ↦ old.told here.0 was
               ])
         ];
-        first = λ i among reach. elim (among_cases s.number i done among) [
-          | inl same ↦ elim (cases_lt s.place s.low) [
-            | inl low ↦ absurd (never low (subst (λ n. ReachesFrom graph n n) (sym same) reach))
-            | inr low ↦ let here = it.first low in (here.0, here.1, omega (arith, here.2, same))
-          ]
-          | inr before ↦
-              let was = old.first i before reach in
+        first = λ p i at reach. elim (slice_get_push done s.number p i at) [
+          | inl before ↦
+              let was = old.first p i before.1 reach in
               let here = it.before was.0 was.1 in (here.0, here.1, omega (arith, was.2, here.2))
+          | inr last ↦ elim (cases_lt s.place s.low) [
+            | inl low ↦ absurd (never low (subst (λ n. ReachesFrom graph n n) (sym last.1) reach))
+            | inr low ↦ let here = it.first low in (here.0, here.1, omega (arith, here.2, last.1))
+          ]
         ];
-        ranked = λ none. elim (cases_lt s.place s.low) [
-          | inl low ↦ (
-            uses low,
-            false_from_ne_true _ (λ among. (old.only s.number among).1 (inl refl)),
-            old.ranked (it.same low ∙ none),
-          )
+        earlier = λ none. elim (cases_lt s.place s.low) [
+          | inl low ↦ λ p i j at h. elim (slice_get_push done s.number p i at) [
+            | inl before ↦
+                let was = old.earlier (it.same low ∙ none) p i j before.1 h in
+                (was.0, was.1, slice_get_grown done (s.number ∷ []) was.0 j was.2)
+            | inr last ↦
+                let there = uses low j (ap (λ n. goes graph n j) last.1 ∙ h) in
+                (there.0, omega (arith, last.0, slice_get_within done there.0 j there.1), slice_get_grown done (s.number ∷ []) there.0 j there.1)
+          ]
           | inr low ↦ let here = it.first low in absurd (none-some here.0 (sym none ∙ here.1))
         ];
       }
@@ -303,24 +332,24 @@ module _ (graph : List (List ℕ)) where
               let there = slice_get_some held s.low inside in
               then_or_is s.number there.0 s.number (is.tower.0.back there.0 low there.1) (is.tower.0.leads s.low there.0 inside there.1)
 
-          uses : s.place < s.low → (j : ℕ) → goes graph s.number j ≡ true → is_among done j ≡ true
+          uses : s.place < s.low → (j : ℕ) → goes graph s.number j ≡ true → (p : ℕ) × (slice_get done p ≡ Some j)
           uses low j h =
               let next = behind s.number j after own_met h in
               elim (old.all j next.0) [
                 | inl on ↦ elim on [
                   | inl same ↦ absurd (omega (arith, low, next.1 s.place (is.tower.0.here ∙ ap Some same)))
-                  | inr rest ↦ let p = on_held held s.place path j is.tower.1 rest in absurd (omega (arith, low, p.1, next.1 p.0 p.2))
+                  | inr rest ↦ let a = on_held held s.place path j is.tower.1 rest in absurd (omega (arith, low, a.1, next.1 a.0 a.2))
                 ]
-                | inr among ↦ among
+                | inr there ↦ there
               ]
 
       -- it reaches none that is held before it: what is held from it on is let go
-      pub let_go : s.place ≤ s.low → IsHolding graph places (take s.place held) path
+      let_go : s.place ≤ s.low → IsHolding graph places (take s.place held) path
       let_go low = record {
         sizes = is.sizes;
         placed = λ k i at. is.placed k i (slice_get-take s.place held k i at).1;
         tower = subst (λ n. IsTower graph (take s.place held) n path) (sym (length-take-le s.place held (omega (arith, is.tower.0.within))))
-            (tower_alike held (take s.place held) s.place (taken s.place held) path s.place (omega arith) is.tower.1);
+            (tower_alike held _ s.place (slice_get_taken s.place held) (λ a i below at. (slice_get-take s.place held a i at).1) path s.place (omega arith) is.tower.1);
         seen = λ i k j met looked used.
             let old = is.seen i k j met (λ same. omega (arith, left), looked) used in (
               old.0,
@@ -333,7 +362,7 @@ module _ (graph : List (List ℕ)) where
       }
 
   -- it reaches one that is held before it: what is held from it on stays, below the one before it on the path
-  pub joined : (places : List (Option ℕ)) (held : List ℕ) (s : Step) (path : List Step) → s.left ≡ 0 → s.low < s.place →
+  joined : (places : List (Option ℕ)) (held : List ℕ) (s : Step) (path : List Step) → s.left ≡ 0 → s.low < s.place →
       IsHolding graph places held (s ∷ path) → IsHolding graph places held (lowered s.low path)
   joined places held s [] left low is = absurd (omega (arith, low, is.tower.1))
   joined places held s (p ∷ path) left low is = record {
@@ -389,90 +418,88 @@ module _ (graph : List (List ℕ)) where
       down = slice_get_some held s.low (omega (arith, low, own.within))
 
   -- the last one of the path is changed in what was looked at
-  pub leaves_changed : (places : List (Option ℕ)) (s : Step) (left low : ℕ) (path : List Step) (done : List ℕ) (least : Option ℕ) →
+  leaves_changed : (places : List (Option ℕ)) (s : Step) (left low : ℕ) (path : List Step) (done : List ℕ) (least : Option ℕ) →
       IsLeaving graph places (s ∷ path) done least → IsLeaving graph places (record s { left = left; low = low } ∷ path) done least
-  leaves_changed places s left low path done least is = record { all = is.all; only = is.only; told = is.told; first = is.first; ranked = is.ranked }
+  leaves_changed places s left low path done least is =
+      record { all = is.all; only = is.only; once = is.once; told = is.told; first = is.first; earlier = is.earlier }
 
-  pub leaves_lowered : (places : List (Option ℕ)) (low : ℕ) (path : List Step) (done : List ℕ) (least : Option ℕ) →
+  leaves_lowered : (places : List (Option ℕ)) (low : ℕ) (path : List Step) (done : List ℕ) (least : Option ℕ) →
       IsLeaving graph places path done least → IsLeaving graph places (lowered low path) done least
   leaves_lowered places low [] done least is = is
   leaves_lowered places low (s ∷ path) done least is = leaves_changed places s s.left (min low s.low) path done least is
 
--- ---- how many steps are left
+  -- ---- steps
 
-pub fewer_new : (rows : List (List ℕ)) (places : List (Option ℕ)) (v k : ℕ) → slice_get places v ≡ Some None → length places ≡ length rows →
-    new_left rows places ≡ uses_count rows v + 2 + new_left rows (set places v (Some k))
-fewer_new rows [] v k fresh sizes = absurd (none-some None fresh)
-fewer_new [] (p ∷ places) v k fresh sizes = absurd (omega (arith, sizes))
-fewer_new (r ∷ rows) (None ∷ places) zero k fresh sizes = refl
-fewer_new (r ∷ rows) (Some m ∷ places) zero k fresh sizes = absurd (none-some m (sym (same_Some (Some m) None fresh)))
-fewer_new (r ∷ rows) (None ∷ places) (suc v) k fresh sizes = omega (arith, fewer_new rows places v k fresh (omega (arith, sizes)))
-fewer_new (r ∷ rows) (Some m ∷ places) (suc v) k fresh sizes = fewer_new rows places v k fresh (omega (arith, sizes))
+  module _ (places : List (Option ℕ)) (held : List ℕ) (s : Step) (path : List Step) (done : List ℕ) (least : Option ℕ)
+      (is : IsSearchAt graph places held (s ∷ path) done least) where
+    pub looked_on : (left low k j : ℕ) → suc left ≡ s.left → use_at graph s.number left ≡ Some j → slice_get places j ≡ Some (Some k) →
+        low ≤ s.low → (slice_get held k ≡ Some j → low ≤ k) → (low ≡ s.low) ⊎ ((low ≡ k) × (slice_get held k ≡ Some j)) →
+        HasGoneOn graph places (s ∷ path) places held (record s { left = left; low = low } ∷ path) done least
+    looked_on left low k j one_less next place lower at_most one_of = record {
+      search = record {
+        holds = looked places held s path is.holds left low k j one_less next place lower at_most one_of;
+        leaves = leaves_changed places s left low path done least is.leaves;
+      };
+      met = λ i met. met;
+      less = omega (arith, one_less);
+    }
 
-pub left_lowered : (low : ℕ) (path : List Step) → path_left (lowered low path) ≡ path_left path
-left_lowered low [] = refl
-left_lowered low (s ∷ path) = refl
+    module _ (now : Option ℕ) (left : s.left ≡ 0) (told : IsTold s least now) where
+      pub joined_on : s.low < s.place → HasGoneOn graph places (s ∷ path) places held (lowered s.low path) (done ++ s.number ∷ []) now
+      joined_on low = record {
+        search = record {
+          holds = joined places held s path left low is.holds;
+          leaves = leaves_lowered places s.low path _ now (left_leaves places held s path is.holds left done least now told is.leaves);
+        };
+        met = λ i met. met;
+        less = omega (arith, left_lowered s.low path);
+      }
 
--- ---- the beginning and the end
+      pub let_go_on : s.place ≤ s.low → HasGoneOn graph places (s ∷ path) places (take s.place held) path (done ++ s.number ∷ []) now
+      let_go_on low = record {
+        search = record {
+          holds = let_go places held s path is.holds left low;
+          leaves = left_leaves places held s path is.holds left done least now told is.leaves;
+        };
+        met = λ i met. met;
+        less = omega arith;
+      }
 
-none_in : (n i k : ℕ) → slice_get (replicate n None) i ≡ Some (Some k) → ⊥
-none_in zero i k at = none-some (Some k) at
-none_in (suc n) zero k at = none-some k (same_Some None (Some k) at)
-none_in (suc n) (suc i) k at = none_in n i k at
+-- ---- the end
 
-pub begun_search : (rows : List (Vec ℕ Global)) (w : Search) → w.places.items ≡ replicate (length rows) None → w.held.items ≡ [] →
-    w.path.items ≡ [] → w.ranked.items ≡ [] → w.least ≡ None → IsSearchOf (graph_of rows) w
-begun_search rows w are held path ranked least = record {
-  holds = rw (
-    are,
-    held,
-    path,
-  ) (record {
-    sizes = length-replicate (length rows) None ∙ sym (rows_count rows);
-    placed = λ k i at. absurd (none-some i at);
-    tower = refl;
-    seen = λ i k j met. absurd (none_in (length rows) i met.0 met.1);
-  });
-  leaves = rw (
-    are,
-    path,
-    ranked,
-    least,
-  ) (record {
-    all = λ i met. absurd (none_in (length rows) i met.0 met.1);
-    only = λ i among. absurd (false≢true among);
-    told = λ i same. absurd (none-some i same);
-    first = λ i among. absurd (false≢true among);
-    ranked = λ same. tt;
-  });
-}
-
-pub met_next : (old new : List (Option ℕ)) (start : ℕ) → ((i : ℕ) → i < start → IsMet old i) → ((i : ℕ) → IsMet old i → IsMet new i) →
-    IsMet new start → (i : ℕ) → i < start + 1 → IsMet new i
-met_next old new start before stay now i less = elim (cases_lt i start) [
-  | inl earlier ↦ stay i (before i earlier)
-  | inr past ↦ let same : start ≡ i = omega (arith, less, past) in subst (IsMet new) same now
-]
-
-module _ (graph : List (List ℕ)) (w : Search) (is : IsWhole graph w) where
-  all_among : (i : ℕ) → i < length graph → is_among (reverse w.ranked.items) i ≡ true
-  all_among i inside = elim (is.search.leaves.all i (is.met i inside)) [
+module _ (rows : List (Vec ℕ Global)) (w : Search) (is : IsWhole (graph_of rows) w) where
+  there : (i : ℕ) → i < length (graph_of rows) → (p : ℕ) × (slice_get w.ranked.items p ≡ Some i)
+  there i inside = elim (is.search.leaves.all i (is.met i inside)) [
     | inl on ↦ absurd (subst (λ path. IsOn (reverse path) i) is.path on)
-    | inr among ↦ among
+    | inr at ↦ at
   ]
 
-  pub whole_order : w.least ≡ None → IsOrder graph w.ranked.items
-  whole_order none =
-      order_is graph w.ranked.items (is.search.leaves.ranked none) all_among
-      (λ i among. let met = (is.search.leaves.only i among).0 in omega (arith, slice_get_within w.places.items i _ met.1, is.search.holds.sizes))
-
-  first_of : MatchOption w.least ((i : ℕ) → i < length graph → ReachesFrom graph i i → ⊥) (IsFirstOnCycle graph)
-  first_of = by w.least refl
+  pub whole_order : w.least ≡ None → IsOrder (graph_of rows) w.ranked.items
+  whole_order none = record {
+    all = all;
+    once = is.search.leaves.once;
+    count = all_counted w.ranked.items (length (graph_of rows)) is.search.leaves.once all within;
+    within = within;
+    earlier = is.search.leaves.earlier none;
+  }
     where
-      told : (i : ℕ) → i < length graph → ReachesFrom graph i i → (j : ℕ) × (w.least ≡ Some j) × (j ≤ i)
-      told i less = is.search.leaves.first i (all_among i less)
+      all : (i : ℕ) → i < length (graph_of rows) → is_among w.ranked.items i ≡ true
+      all i inside = let at = there i inside in among_at w.ranked.items at.0 i at.1
 
-      by : (o : Option ℕ) → w.least ≡ o → MatchOption o ((i : ℕ) → i < length graph → ReachesFrom graph i i → ⊥) (IsFirstOnCycle graph)
+      within : (i : ℕ) → is_among w.ranked.items i ≡ true → i < length (graph_of rows)
+      within i among =
+          let at = among_place w.ranked.items i among in
+          let met = (is.search.leaves.only at.0 i at.1).0 in
+          omega (arith, slice_get_within w.places.items i (Some met.0) met.1, is.search.holds.sizes)
+
+  pub whole_first : MatchOption w.least ((i : ℕ) → i < length rows → ReachesFrom (graph_of rows) i i → ⊥) (IsFirstOnCycle (graph_of rows))
+  whole_first = by w.least refl
+    where
+      told : (i : ℕ) → i < length rows → ReachesFrom (graph_of rows) i i → (j : ℕ) × (w.least ≡ Some j) × (j ≤ i)
+      told i less reach = let at = there i (omega (arith, less, rows_count rows)) in is.search.leaves.first at.0 i at.1 reach
+
+      by : (o : Option ℕ) → w.least ≡ o →
+          MatchOption o ((i : ℕ) → i < length rows → ReachesFrom (graph_of rows) i i → ⊥) (IsFirstOnCycle (graph_of rows))
       by None none = λ i less reach. let it = told i less reach in none-some it.0 (sym none ∙ it.1)
       by (Some n) some =
           let it = is.search.leaves.told n some in
@@ -480,12 +507,6 @@ module _ (graph : List (List ℕ)) (w : Search) (is : IsWhole graph w) where
             within = it.0;
             reaches = it.1;
             first = λ i less reach.
-                let that = told i (omega (arith, less, it.0)) reach in
-                let same : n ≡ that.0 = same_Some n that.0 (sym some ∙ that.1) in omega (arith, less, same, that.2);
+                let that = told i (omega (arith, less, it.0, rows_count rows)) reach in
+                omega (arith, less, same_Some n that.0 (sym some ∙ that.1), that.2);
           }
-
-pub whole_first : (rows : List (Vec ℕ Global)) (w : Search) → IsWhole (graph_of rows) w →
-    MatchOption w.least ((i : ℕ) → i < length rows → ReachesFrom (graph_of rows) i i → ⊥) (IsFirstOnCycle (graph_of rows))
-whole_first rows w is =
-    subst (λ n. MatchOption w.least ((i : ℕ) → i < n → ReachesFrom (graph_of rows) i i → ⊥) (IsFirstOnCycle (graph_of rows))) (rows_count rows)
-    (first_of (graph_of rows) w is)

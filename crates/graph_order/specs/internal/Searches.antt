@@ -1,8 +1,8 @@
 -- Internal: only private functions of this crate use these words.
 -- The walk through all numbers, which ranks them and tells which of them reach themselves.
-use Rattle.std.specs.Prelude.{◌≡◌, ℕ, ◌+◌, ◌<◌, ◌≤◌, true, false, List, [], ◌∷◌, length, reverse, Some, None, Option, slice_get, ◌⊎◌, min}
+use Rattle.std.specs.Prelude.{◌≡◌, ℕ, ◌+◌, ◌<◌, ◌≤◌, true, List, [], ◌∷◌, length, reverse, Some, None, Option, slice_get, ◌⊎◌, min}
 use Rattle.std.specs.Option.{option_and_then, option_map_or}
-use Rattle.sequence.specs.Numbers.{is_among}
+use Rattle.sequence.specs.Numbers.{IsDistinct}
 use Rattle.graph_order.specs.Graphs.{goes, ReachesFrom}
 use Rattle.graph_order.specs.declared.searching.Step.{Step}
 use Rattle.graph_order.specs.declared.searching.Search.{Search}
@@ -71,22 +71,25 @@ module _ (graph : List (List ℕ)) where
     pub seen : (i k j : ℕ) → IsMet places i → IsLooked path i k → use_at i k ≡ Some j →
         IsMet places j × ((m : ℕ) → slice_get held m ≡ Some j → (a : ℕ) × (slice_get held a ≡ Some i) × MayGo path a m)
 
-  -- the last one first, each goes only to those before it
-  abbrev pub AreRanked : List ℕ → Type 0
-  AreRanked [] = Unit {0}
-  AreRanked (i ∷ done) = ((j : ℕ) → goes graph i j ≡ true → is_among done j ≡ true) × (is_among done i ≡ false) × AreRanked done
+  -- each goes only to earlier ones
+  abbrev pub IsEarlier : List ℕ → Type 0
+  IsEarlier done = (p i j : ℕ) → slice_get done p ≡ Some i → goes graph i j ≡ true → (q : ℕ) × (q < p) × (slice_get done q ≡ Some j)
 
-  -- what is known of those that were left, the last one first
+  -- what is known of those that were left
   pub record IsLeaving (places : List (Option ℕ)) (path : List Step) (done : List ℕ) (least : Option ℕ) : Type 0 where
-    pub all : (i : ℕ) → IsMet places i → IsOn path i ⊎ (is_among done i ≡ true)
-    pub only : (i : ℕ) → is_among done i ≡ true → IsMet places i × (IsOn path i → ⊥)
+    pub all : (i : ℕ) → IsMet places i → IsOn path i ⊎ ((p : ℕ) × (slice_get done p ≡ Some i))
+    pub only : (p i : ℕ) → slice_get done p ≡ Some i → IsMet places i × (IsOn path i → ⊥)
+    pub once : IsDistinct done
     pub told : (i : ℕ) → least ≡ Some i → (i < length graph) × ReachesFrom graph i i
-    pub first : (i : ℕ) → is_among done i ≡ true → ReachesFrom graph i i → (j : ℕ) × (least ≡ Some j) × (j ≤ i)
-    pub ranked : least ≡ None → AreRanked done
+    pub first : (p i : ℕ) → slice_get done p ≡ Some i → ReachesFrom graph i i → (j : ℕ) × (least ≡ Some j) × (j ≤ i)
+    pub earlier : least ≡ None → IsEarlier done
 
-  pub record IsSearch (w : Search) (path : List Step) : Type 0 where
-    pub holds : IsHolding w.places.items w.held.items path
-    pub leaves : IsLeaving w.places.items path (reverse w.ranked.items) w.least
+  pub record IsSearchAt (places : List (Option ℕ)) (held : List ℕ) (path : List Step) (done : List ℕ) (least : Option ℕ) : Type 0 where
+    pub holds : IsHolding places held path
+    pub leaves : IsLeaving places path done least
+
+  abbrev pub IsSearch : Search → List Step → Type 0
+  IsSearch w path = IsSearchAt w.places.items w.held.items path w.ranked.items w.least
 
   abbrev pub IsSearchOf : Search → Type 0
   IsSearchOf w = IsSearch w (reverse w.path.items)
@@ -111,11 +114,15 @@ new_left (r ∷ rows) (Some k ∷ places) = new_left rows places
 abbrev pub steps_left : List (List ℕ) → Search → ℕ
 steps_left graph w = new_left graph w.places.items + path_left (reverse w.path.items)
 
--- the walk has gone on
-pub record GoesOn (graph : List (List ℕ)) (places : List (Option ℕ)) (path : List Step) (new : Search) : Type 0 where
-  pub search : IsSearchOf graph new
-  pub met : (i : ℕ) → IsMet places i → IsMet new.places.items i
-  pub less : steps_left graph new < new_left graph places + path_left path
+-- the walk has gone on from one path to another
+pub record HasGoneOn (graph : List (List ℕ)) (old : List (Option ℕ)) (from : List Step) (places : List (Option ℕ)) (held : List ℕ) (path : List Step)
+    (done : List ℕ) (least : Option ℕ) : Type 0 where
+  pub search : IsSearchAt graph places held path done least
+  pub met : (i : ℕ) → IsMet old i → IsMet places i
+  pub less : new_left graph places + path_left path < new_left graph old + path_left from
+
+abbrev pub GoesOn : List (List ℕ) → List (Option ℕ) → List Step → Search → Type 0
+GoesOn graph places path new = HasGoneOn graph places path new.places.items new.held.items (reverse new.path.items) new.ranked.items new.least
 
 -- the walk from a start has come so far
 pub record IsWalking (graph : List (List ℕ)) (start : ℕ) (old now : Search) : Type 0 where

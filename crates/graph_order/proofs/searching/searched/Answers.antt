@@ -1,9 +1,11 @@
-use Rattle.graph_order.proofs.SearchLemmas.{met_next}
+use borrow.Author.Count.{below_more}
+use Rattle.graph_order.specs.internal.Searches.{IsMet}
 use Rattle.graph_order.proofs.searching.searched.Goals as goal
 
 pub loop-start-preserved : goal.loop-start-preserved
 loop-start-preserved c = record {
   search = c.in_ok-walk_from.ensures.search;
   path = c.in_ok-walk_from.ensures.path;
-  met = met_next _ _ c.loop-start.start c.loop-start.invariant.met c.in_ok-walk_from.ensures.met c.in_ok-walk_from.ensures.start;
+  met = below_more (IsMet c.walk_from.new.self.places.items) c.loop-start.start
+      (λ i less. c.in_ok-walk_from.ensures.met i (c.loop-start.invariant.met i less)) c.in_ok-walk_from.ensures.start;
 }
