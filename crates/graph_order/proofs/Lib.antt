@@ -1,3 +1,3 @@
 pub mod GraphRows
-pub mod Orders
+pub mod Counted
 pub mod SearchLemmas

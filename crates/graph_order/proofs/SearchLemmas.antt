@@ -17,7 +17,7 @@ use Rattle.graph_order.specs.declared.searching.Search.{Search}
 use Rattle.graph_order.specs.internal.Searches.{IsMet, IsOn, IsLooked, MayGo, lowered, IsTold, use_at, uses_count, ReachesOrIs, LeadsTo, IsOnPath, IsTower}
 use Rattle.graph_order.specs.internal.Searches.{IsHolding, IsLeaving, IsSearchAt, IsWhole, HasGoneOn, new_left, path_left}
 use Rattle.graph_order.proofs.GraphRows.{rows_count, goes_use, use_goes, use_within}
-use Rattle.graph_order.proofs.Orders.{all_counted}
+use Rattle.graph_order.proofs.Counted.{all_counted}
 
 -- ---- what is met
 
@@ -25,7 +25,8 @@ none_met : (places : List (Option ℕ)) (v : ℕ) → slice_get places v ≡ Som
 none_met places v fresh (k, at) = none-some k (same_Some None (Some k) (sym fresh ∙ at))
 
 pub met_more : (places : List (Option ℕ)) (v k i : ℕ) → slice_get places v ≡ Some None → IsMet places i → IsMet (set places v (Some k)) i
-met_more places v k i fresh (m, at) = (m, slice_get_set places v i (Some k) (λ e. none_met places v fresh (m, ap (slice_get places) (sym e) ∙ at)) ∙ at)
+met_more places v k i fresh (m, at) =
+    (m, slice_get_set places v i (Some k) (λ e. none_met places v fresh (m, ap (slice_get places) (sym e) ∙ at)) ∙ at)
 
 pub met_new : (places : List (Option ℕ)) (v k : ℕ) → slice_get places v ≡ Some None → IsMet (set places v (Some k)) v
 met_new places v k fresh = (k, slice_get_set_same places v (Some k) (slice_get_within places v None fresh))
@@ -95,272 +96,6 @@ module _ (graph : List (List ℕ)) where
     tower_alike held new limit on off path s.place (omega (arith, is.0.within)) is.1,
   )
 
-  -- ---- a number that was not met
-
-  module _ (places : List (Option ℕ)) (s : Step) (path : List Step) (fresh : slice_get places s.number ≡ Some None) where
-    entered : (held : List ℕ) → s.place ≡ length held → s.left ≡ uses_count graph s.number → s.place < s.low →
-        LeadsTo graph path s.number → IsHolding graph places held path →
-        IsHolding graph (set places s.number (Some s.place)) (held ++ s.number ∷ []) (s ∷ path)
-    entered held place left low goes_there is = record {
-      sizes = length-set places s.number _ ∙ is.sizes;
-      placed = λ k i at. elim (slice_get_push held s.number k i at) [
-        | inl old ↦
-            let before = is.placed k i old.1 in
-            slice_get_set places s.number i _ (λ e. none_met places s.number fresh (k, ap (slice_get places) (sym e) ∙ before)) ∙ before
-        | inr last ↦
-            subst (λ n. slice_get (set places s.number (Some s.place)) n ≡ Some (Some k)) last.1
-            (slice_get_set_same places s.number (Some s.place) (slice_get_within places s.number None fresh)
-            ∙ ap (λ n. Some (Some n)) (place ∙ sym last.0))
-      ];
-      tower = (
-        record {
-          within = omega (arith, place, length-append held (s.number ∷ []));
-          few = omega (arith, left);
-          here = ap (slice_get (held ++ s.number ∷ [])) place ∙ slice_get-behind held s.number [];
-          leads = λ a i below at. elim (slice_get_push held s.number a i at) [
-            | inl old ↦ inr (leads path is.tower goes_there a i old.0 old.1)
-            | inr last ↦ inl (sym last.1)
-          ];
-          back = λ j under at. absurd (omega (arith, low, under));
-        },
-        subst (λ n. IsTower graph (held ++ s.number ∷ []) n path) (sym place)
-            (tower_alike held _ (length held) (λ a i below. slice_get_grown held (s.number ∷ []) a i) (λ a i below at. sym (slice_get-front held (s.number ∷ []) a below) ∙ at) path (length held) (omega arith) is.tower),
-      );
-      seen = λ i k j met looked used. elim (met_cases places s.number _ i met) [
-        | inl same ↦ absurd (omega (arith, looked.0 same, use_within graph i k j used, ap (uses_count graph) same, left))
-        | inr before ↦
-            let old = is.seen i k j before looked.1 used in (
-              met_more places s.number _ j fresh old.0,
-              λ m at. elim (slice_get_push held s.number m j at) [
-                | inl there ↦
-                    let it = old.1 m there.1 in (
-                      it.0,
-                      slice_get_grown held (s.number ∷ []) it.0 i it.1,
-                      (λ above. absurd (omega (arith, above, place, slice_get_within held it.0 i it.1)), λ below. it.2),
-                    )
-                | inr last ↦ absurd (none_met places s.number fresh (subst (IsMet places) (sym last.1) old.0))
-              ],
-            )
-      ];
-    }
-      where
-        leads : (p : List Step) → IsTower graph held (length held) p → LeadsTo graph p s.number → (a i : ℕ) → a < length held →
-            slice_get held a ≡ Some i → ReachesFrom graph i s.number
-        leads [] none there a i below at = absurd (omega (arith, none, below))
-        leads (t ∷ rest) tower there a i below at = or_is_then i t.number s.number (tower.0.leads a i below at) (one there)
-
-    entered_leaves : (done : List ℕ) (least : Option ℕ) → IsLeaving graph places path done least →
-        IsLeaving graph (set places s.number (Some s.place)) (s ∷ path) done least
-    entered_leaves done least is = record {
-      all = λ i met. elim (met_cases places s.number _ i met) [
-        | inl same ↦ inl (inl same)
-        | inr before ↦ elim (is.all i before) [
-          | inl on ↦ inl (inr on)
-          | inr there ↦ inr there
-        ]
-      ];
-      only = λ p i at.
-          let old = is.only p i at in (
-            met_more places s.number _ i fresh old.0,
-            λ on. elim on [
-              | inl same ↦ none_met places s.number fresh (subst (IsMet places) (sym same) old.0)
-              | inr before ↦ old.1 before
-            ],
-          );
-      once = is.once;
-      told = is.told;
-      first = is.first;
-      earlier = is.earlier;
-    }
-
-    pub entered_on : (held done : List ℕ) (least : Option ℕ) → s.place ≡ length held → s.left ≡ uses_count graph s.number → s.place < s.low →
-        LeadsTo graph path s.number → IsSearchAt graph places held path done least →
-        HasGoneOn graph places path (set places s.number (Some s.place)) (held ++ s.number ∷ []) (s ∷ path) done least
-    entered_on held done least place left low goes_there is = record {
-      search = record { holds = entered held place left low goes_there is.holds; leaves = entered_leaves done least is.leaves };
-      met = λ i met. met_more places s.number s.place i fresh met;
-      less = omega (arith, fewer_new graph places s.number s.place fresh is.holds.sizes, left);
-    }
-
-  module _ (places : List (Option ℕ)) (held : List ℕ) (s : Step) (path : List Step) (is : IsHolding graph places held (s ∷ path)) where
-    last_within : s.number < length graph
-    last_within = omega (arith, slice_get_within places s.number (Some s.place) (is.placed s.place s.number is.tower.0.here), is.sizes)
-
-    -- ---- a used is looked at
-
-    looked : (left low k j : ℕ) → suc left ≡ s.left → use_at graph s.number left ≡ Some j → slice_get places j ≡ Some (Some k) →
-        low ≤ s.low → (slice_get held k ≡ Some j → low ≤ k) → (low ≡ s.low) ⊎ ((low ≡ k) × (slice_get held k ≡ Some j)) →
-        IsHolding graph places held (record s { left = left; low = low } ∷ path)
-    looked left low k j one_less next place lower at_most one_of = record {
-      sizes = is.sizes;
-      placed = is.placed;
-      tower = (
-        record {
-          within = last.within;
-          few = omega (arith, one_less, last.few);
-          here = last.here;
-          leads = last.leads;
-          back = λ i below at. elim one_of [
-            | inl same ↦ last.back i (omega (arith, same, below)) (ap (slice_get held) (sym same) ∙ at)
-            | inr there ↦
-                subst (ReachesFrom graph s.number) (same_Some j i (sym there.1 ∙ ap (slice_get held) (sym there.0) ∙ at))
-                (one (use_goes graph s.number left j next))
-          ];
-        },
-        is.tower.1,
-      );
-      seen = λ i n h met looked used. elim (cases_lt n s.left) [
-        | inl under ↦ elim (eqb_tells s.number i) [
-          | inl same ↦
-              let now : n ≡ left = omega (arith, looked.0 same.1, under, one_less) in
-              let is_h : j ≡ h = same_Some j h (sym next ∙ ap (λ m. use_at graph m left) same.1 ∙ ap (use_at graph i) (sym now) ∙ used) in (
-                (k, ap (slice_get places) (sym is_h) ∙ place),
-                λ m at.
-                    let there : slice_get held m ≡ Some j = at ∙ ap Some (sym is_h) in
-                    let is_k : m ≡ k = same_Some m k (same_Some (Some m) (Some k) (sym (is.placed m j there) ∙ place)) in (
-                      s.place,
-                      last.here ∙ ap Some same.1,
-                      (λ above. omega (arith, is_k, at_most (ap (slice_get held) (sym is_k) ∙ there)), λ below. absurd (omega (arith, below))),
-                    ),
-              )
-          | inr apart ↦ before i n h met (λ same. absurd (apart.1 same)) looked.1 used
-        ]
-        | inr past ↦ before i n h met (λ same. past) looked.1 used
-      ];
-    }
-      where
-        last : IsOnPath graph held (length held) s
-        last = is.tower.0
-
-        before : (i n h : ℕ) → IsMet places i → (s.number ≡ i → s.left ≤ n) → IsLooked path i n → use_at graph i n ≡ Some h →
-            IsMet places h × ((m : ℕ) → slice_get held m ≡ Some h →
-            (a : ℕ) × (slice_get held a ≡ Some i) × MayGo (record s { left = left; low = low } ∷ path) a m)
-        before i n h met own others used =
-            let old = is.seen i n h met (own, others) used in
-            (old.0, λ m at. let it = old.1 m at in (it.0, it.1, (λ above. omega (arith, lower, it.2.0 above), it.2.1)))
-
-    -- ---- a number is left
-
-    module _ (left : s.left ≡ 0) where
-      -- what is gone to from a number that is not before the last one is not before what that one reaches
-      behind : (i j : ℕ) → ((a : ℕ) → slice_get held a ≡ Some i → s.place ≤ a) → IsMet places i → goes graph i j ≡ true →
-          IsMet places j × ((m : ℕ) → slice_get held m ≡ Some j → s.low ≤ m)
-      behind i j after met h =
-          let used = goes_use graph i j h in
-          let off : IsOn path i → ⊥ = λ on. let p = on_held held s.place path i is.tower.1 on in omega (arith, p.1, after p.0 p.2) in
-          let old = is.seen i used.0 j met (λ same. omega (arith, left), looked_off path i used.0 off) used.1 in
-          (old.0, λ m at. let it = old.1 m at in it.2.0 (after it.0 it.1))
-
-      behind_all : (i j : ℕ) → s.place < s.low → ((a : ℕ) → slice_get held a ≡ Some i → s.place ≤ a) → IsMet places i → ReachesFrom graph i j →
-          (m : ℕ) → slice_get held m ≡ Some j → s.low ≤ m
-      behind_all i j low after met (one h) = (behind i j after met h).1
-      behind_all i j low after met (more {y = n} h rest) =
-          let next = behind i n after met h in behind_all n j low (λ a at. omega (arith, low, next.1 a at)) next.0 rest
-
-      itself_at : (a : ℕ) → slice_get held a ≡ Some s.number → a ≡ s.place
-      itself_at a at = same_Some a s.place (same_Some (Some a) (Some s.place) (sym (is.placed a s.number at) ∙ is.placed s.place s.number is.tower.0.here))
-
-      left_leaves : (done : List ℕ) (least now : Option ℕ) → IsTold s least now → IsLeaving graph places (s ∷ path) done least →
-          IsLeaving graph places path (done ++ s.number ∷ []) now
-      left_leaves done least now it old = record {
-        all = λ i met. elim (old.all i met) [
-          | inl on ↦ elim on [
-            | inl same ↦ inr (length done, slice_get-behind done s.number [] ∙ ap Some same)
-            | inr rest ↦ inl rest
-          ]
-          | inr there ↦ inr (there.0, slice_get_grown done (s.number ∷ []) there.0 i there.1)
-        ];
-        only = λ p i at. elim (slice_get_push done s.number p i at) [
-          | inl before ↦ let was = old.only p i before.1 in (was.0, λ on. was.1 (inr on))
-          | inr last ↦
-              subst (λ n. IsMet places n × (IsOn path n → ⊥)) last.1
-              (own_met, λ on. let a = on_held held s.place path s.number is.tower.1 on in omega (arith, a.1, itself_at a.0 a.2))
-        ];
-        once = λ a b i at_a at_b. elim (slice_get_push done s.number a i at_a) [
-          | inl x ↦ elim (slice_get_push done s.number b i at_b) [
-            | inl y ↦ old.once a b i x.1 y.1
-            | inr y ↦ absurd ((old.only a i x.1).1 (inl y.1))
-          ]
-          | inr x ↦ elim (slice_get_push done s.number b i at_b) [
-            | inl y ↦ absurd ((old.only b i y.1).1 (inl x.1))
-            | inr y ↦ x.0 ∙ sym y.0
-          ]
-        ];
-        told = λ i same. elim (cases_lt s.place s.low) [
-          | inl low ↦ old.told i (it.same low ∙ same)
-          | inr low ↦
-              let here = it.first low in
-              subst (λ n. (n < length graph) × ReachesFrom graph n n) (same_Some here.0 i (sym here.1 ∙ same)) (elim here.3 [
-                | inl own ↦ subst (λ n. (n < length graph) × ReachesFrom graph n n) (sym own) (last_within, itself low)
-                | inr was ↦ old.told here.0 was
-              ])
-        ];
-        first = λ p i at reach. elim (slice_get_push done s.number p i at) [
-          | inl before ↦
-              let was = old.first p i before.1 reach in
-              let here = it.before was.0 was.1 in (here.0, here.1, omega (arith, was.2, here.2))
-          | inr last ↦ elim (cases_lt s.place s.low) [
-            | inl low ↦ absurd (never low (subst (λ n. ReachesFrom graph n n) (sym last.1) reach))
-            | inr low ↦ let here = it.first low in (here.0, here.1, omega (arith, here.2, last.1))
-          ]
-        ];
-        earlier = λ none. elim (cases_lt s.place s.low) [
-          | inl low ↦ λ p i j at h. elim (slice_get_push done s.number p i at) [
-            | inl before ↦
-                let was = old.earlier (it.same low ∙ none) p i j before.1 h in
-                (was.0, was.1, slice_get_grown done (s.number ∷ []) was.0 j was.2)
-            | inr last ↦
-                let there = uses low j (ap (λ n. goes graph n j) last.1 ∙ h) in
-                (there.0, omega (arith, last.0, slice_get_within done there.0 j there.1), slice_get_grown done (s.number ∷ []) there.0 j there.1)
-          ]
-          | inr low ↦ let here = it.first low in absurd (none-some here.0 (sym none ∙ here.1))
-        ];
-      }
-        where
-          own_met : IsMet places s.number
-          own_met = (s.place, is.placed s.place s.number is.tower.0.here)
-
-          after : (a : ℕ) → slice_get held a ≡ Some s.number → s.place ≤ a
-          after a at = omega (arith, itself_at a at)
-
-          never : s.place < s.low → ReachesFrom graph s.number s.number → ⊥
-          never low reach = omega (arith, low, behind_all s.number s.number low after own_met reach s.place is.tower.0.here)
-
-          itself : s.low ≤ s.place → ReachesFrom graph s.number s.number
-          itself low =
-              let inside : s.low < length held = omega (arith, low, is.tower.0.within) in
-              let there = slice_get_some held s.low inside in
-              then_or_is s.number there.0 s.number (is.tower.0.back there.0 low there.1) (is.tower.0.leads s.low there.0 inside there.1)
-
-          uses : s.place < s.low → (j : ℕ) → goes graph s.number j ≡ true → (p : ℕ) × (slice_get done p ≡ Some j)
-          uses low j h =
-              let next = behind s.number j after own_met h in
-              elim (old.all j next.0) [
-                | inl on ↦ elim on [
-                  | inl same ↦ absurd (omega (arith, low, next.1 s.place (is.tower.0.here ∙ ap Some same)))
-                  | inr rest ↦ let a = on_held held s.place path j is.tower.1 rest in absurd (omega (arith, low, a.1, next.1 a.0 a.2))
-                ]
-                | inr there ↦ there
-              ]
-
-      -- it reaches none that is held before it: what is held from it on is let go
-      let_go : s.place ≤ s.low → IsHolding graph places (take s.place held) path
-      let_go low = record {
-        sizes = is.sizes;
-        placed = λ k i at. is.placed k i (slice_get-take s.place held k i at).1;
-        tower = subst (λ n. IsTower graph (take s.place held) n path) (sym (length-take-le s.place held (omega (arith, is.tower.0.within))))
-            (tower_alike held _ s.place (slice_get_taken s.place held) (λ a i below at. (slice_get-take s.place held a i at).1) path s.place (omega arith) is.tower.1);
-        seen = λ i k j met looked used.
-            let old = is.seen i k j met (λ same. omega (arith, left), looked) used in (
-              old.0,
-              λ m at.
-                  let there = slice_get-take s.place held m j at in
-                  let it = old.1 m there.1 in
-                  let less : it.0 < s.place = grind (arith, it.2.0, there.0, low) in
-                  (it.0, slice_get_taken s.place held it.0 i less it.1, it.2.1 less),
-            );
-      }
-
   -- it reaches one that is held before it: what is held from it on stays, below the one before it on the path
   joined : (places : List (Option ℕ)) (held : List ℕ) (s : Step) (path : List Step) → s.left ≡ 0 → s.low < s.place →
       IsHolding graph places held (s ∷ path) → IsHolding graph places held (lowered s.low path)
@@ -428,41 +163,294 @@ module _ (graph : List (List ℕ)) where
   leaves_lowered places low [] done least is = is
   leaves_lowered places low (s ∷ path) done least is = leaves_changed places s s.left (min low s.low) path done least is
 
-  -- ---- steps
+  -- ---- a number that was not met
+
+  module _ (places : List (Option ℕ)) (s : Step) (path : List Step) (fresh : slice_get places s.number ≡ Some None) where
+    pub entered : (held done : List ℕ) (least : Option ℕ) → s.place ≡ length held → s.left ≡ uses_count graph s.number → s.place < s.low →
+        LeadsTo graph path s.number → IsSearchAt graph places held path done least →
+        HasGoneOn graph places path (set places s.number (Some s.place)) (held ++ s.number ∷ []) (s ∷ path) done least
+    entered held done least place left low goes_there is = record {
+      search = record {
+        holds = record {
+          sizes = length-set places s.number _ ∙ is.holds.sizes;
+          placed = λ k i at. elim (slice_get_push held s.number k i at) [
+            | inl old ↦
+                let before = is.holds.placed k i old.1 in
+                slice_get_set places s.number i _ (λ e. none_met places s.number fresh (k, ap (slice_get places) (sym e) ∙ before)) ∙ before
+            | inr last ↦
+                subst (λ n. slice_get (set places s.number (Some s.place)) n ≡ Some (Some k)) last.1
+                (slice_get_set_same places s.number (Some s.place) (slice_get_within places s.number None fresh)
+                ∙ ap (λ n. Some (Some n)) (place ∙ sym last.0))
+          ];
+          tower = (
+            record {
+              within = omega (arith, place, length-append held (s.number ∷ []));
+              few = omega (arith, left);
+              here = ap (slice_get (held ++ s.number ∷ [])) place ∙ slice_get-behind held s.number [];
+              leads = λ a i below at. elim (slice_get_push held s.number a i at) [
+                | inl old ↦ inr (leads path is.holds.tower goes_there a i old.0 old.1)
+                | inr last ↦ inl (sym last.1)
+              ];
+              back = λ j under at. absurd (omega (arith, low, under));
+            },
+            subst (λ n. IsTower graph (held ++ s.number ∷ []) n path) (sym place)
+                (tower_alike held _ (length held) (λ a i below. slice_get_grown held (s.number ∷ []) a i)
+                (λ a i below at. sym (slice_get-front held (s.number ∷ []) a below) ∙ at) path (length held) (omega arith) is.holds.tower),
+          );
+          seen = λ i k j met looked used. elim (met_cases places s.number _ i met) [
+            | inl same ↦ absurd (omega (arith, looked.0 same, use_within graph i k j used, ap (uses_count graph) same, left))
+            | inr before ↦
+                let old = is.holds.seen i k j before looked.1 used in (
+                  met_more places s.number _ j fresh old.0,
+                  λ m at. elim (slice_get_push held s.number m j at) [
+                    | inl there ↦
+                        let it = old.1 m there.1 in (
+                          it.0,
+                          slice_get_grown held (s.number ∷ []) it.0 i it.1,
+                          (λ above. absurd (omega (arith, above, place, slice_get_within held it.0 i it.1)), λ below. it.2),
+                        )
+                    | inr last ↦ absurd (none_met places s.number fresh (subst (IsMet places) (sym last.1) old.0))
+                  ],
+                )
+          ];
+        };
+        leaves = record {
+          all = λ i met. elim (met_cases places s.number _ i met) [
+            | inl same ↦ inl (inl same)
+            | inr before ↦ elim (is.leaves.all i before) [
+              | inl on ↦ inl (inr on)
+              | inr there ↦ inr there
+            ]
+          ];
+          only = λ p i at.
+              let old = is.leaves.only p i at in (
+                met_more places s.number _ i fresh old.0,
+                λ on. elim on [
+                  | inl same ↦ none_met places s.number fresh (subst (IsMet places) (sym same) old.0)
+                  | inr before ↦ old.1 before
+                ],
+              );
+          once = is.leaves.once;
+          told = is.leaves.told;
+          first = is.leaves.first;
+          earlier = is.leaves.earlier;
+        };
+      };
+      met = λ i met. met_more places s.number s.place i fresh met;
+      less = omega (arith, fewer_new graph places s.number s.place fresh is.holds.sizes, left);
+    }
+      where
+        leads : (p : List Step) → IsTower graph held (length held) p → LeadsTo graph p s.number → (a i : ℕ) → a < length held →
+            slice_get held a ≡ Some i → ReachesFrom graph i s.number
+        leads [] none there a i below at = absurd (omega (arith, none, below))
+        leads (t ∷ rest) tower there a i below at = or_is_then i t.number s.number (tower.0.leads a i below at) (one there)
 
   module _ (places : List (Option ℕ)) (held : List ℕ) (s : Step) (path : List Step) (done : List ℕ) (least : Option ℕ)
       (is : IsSearchAt graph places held (s ∷ path) done least) where
-    pub looked_on : (left low k j : ℕ) → suc left ≡ s.left → use_at graph s.number left ≡ Some j → slice_get places j ≡ Some (Some k) →
+    -- ---- a use is looked at
+
+    pub looked : (left low k j : ℕ) → suc left ≡ s.left → use_at graph s.number left ≡ Some j → slice_get places j ≡ Some (Some k) →
         low ≤ s.low → (slice_get held k ≡ Some j → low ≤ k) → (low ≡ s.low) ⊎ ((low ≡ k) × (slice_get held k ≡ Some j)) →
         HasGoneOn graph places (s ∷ path) places held (record s { left = left; low = low } ∷ path) done least
-    looked_on left low k j one_less next place lower at_most one_of = record {
+    looked left low k j one_less next place lower at_most one_of = record {
       search = record {
-        holds = looked places held s path is.holds left low k j one_less next place lower at_most one_of;
+        holds = record {
+          sizes = is.holds.sizes;
+          placed = is.holds.placed;
+          tower = (
+            record {
+              within = last.within;
+              few = omega (arith, one_less, last.few);
+              here = last.here;
+              leads = last.leads;
+              back = λ i below at. elim one_of [
+                | inl same ↦ last.back i (omega (arith, same, below)) (ap (slice_get held) (sym same) ∙ at)
+                | inr there ↦
+                    subst (ReachesFrom graph s.number) (same_Some j i (sym there.1 ∙ ap (slice_get held) (sym there.0) ∙ at))
+                    (one (use_goes graph s.number left j next))
+              ];
+            },
+            is.holds.tower.1,
+          );
+          seen = λ i n h met looked used. elim (cases_lt n s.left) [
+            | inl under ↦ elim (eqb_tells s.number i) [
+              | inl same ↦
+                  let now : n ≡ left = omega (arith, looked.0 same.1, under, one_less) in
+                  let is_h : j ≡ h = same_Some j h (sym next ∙ ap (λ m. use_at graph m left) same.1 ∙ ap (use_at graph i) (sym now) ∙ used) in (
+                    (k, ap (slice_get places) (sym is_h) ∙ place),
+                    λ m at.
+                        let there : slice_get held m ≡ Some j = at ∙ ap Some (sym is_h) in
+                        let is_k : m ≡ k = same_Some m k (same_Some (Some m) (Some k) (sym (is.holds.placed m j there) ∙ place)) in (
+                          s.place,
+                          last.here ∙ ap Some same.1,
+                          (λ above. omega (arith, is_k, at_most (ap (slice_get held) (sym is_k) ∙ there)), λ below. absurd (omega (arith, below))),
+                        ),
+                  )
+              | inr apart ↦ before i n h met (λ same. absurd (apart.1 same)) looked.1 used
+            ]
+            | inr past ↦ before i n h met (λ same. past) looked.1 used
+          ];
+        };
         leaves = leaves_changed places s left low path done least is.leaves;
       };
       met = λ i met. met;
       less = omega (arith, one_less);
     }
+      where
+        last : IsOnPath graph held (length held) s
+        last = is.holds.tower.0
 
-    module _ (now : Option ℕ) (left : s.left ≡ 0) (told : IsTold s least now) where
-      pub joined_on : s.low < s.place → HasGoneOn graph places (s ∷ path) places held (lowered s.low path) (done ++ s.number ∷ []) now
-      joined_on low = record {
-        search = record {
-          holds = joined places held s path left low is.holds;
-          leaves = leaves_lowered places s.low path _ now (left_leaves places held s path is.holds left done least now told is.leaves);
-        };
-        met = λ i met. met;
-        less = omega (arith, left_lowered s.low path);
+        before : (i n h : ℕ) → IsMet places i → (s.number ≡ i → s.left ≤ n) → IsLooked path i n → use_at graph i n ≡ Some h →
+            IsMet places h × ((m : ℕ) → slice_get held m ≡ Some h →
+            (a : ℕ) × (slice_get held a ≡ Some i) × MayGo (record s { left = left; low = low } ∷ path) a m)
+        before i n h met own others used =
+            let old = is.holds.seen i n h met (own, others) used in
+            (old.0, λ m at. let it = old.1 m at in (it.0, it.1, (λ above. omega (arith, lower, it.2.0 above), it.2.1)))
+
+    -- ---- a number is left
+
+    module _ (left : s.left ≡ 0) where
+      -- what is gone to from a number that is not before the last one is not before what that one reaches
+      behind : (i j : ℕ) → ((a : ℕ) → slice_get held a ≡ Some i → s.place ≤ a) → IsMet places i → goes graph i j ≡ true →
+          IsMet places j × ((m : ℕ) → slice_get held m ≡ Some j → s.low ≤ m)
+      behind i j after met h =
+          let used = goes_use graph i j h in
+          let off : IsOn path i → ⊥ = λ on. let p = on_held held s.place path i is.holds.tower.1 on in omega (arith, p.1, after p.0 p.2) in
+          let old = is.holds.seen i used.0 j met (λ same. omega (arith, left), looked_off path i used.0 off) used.1 in
+          (old.0, λ m at. let it = old.1 m at in it.2.0 (after it.0 it.1))
+
+      behind_all : (i j : ℕ) → s.place < s.low → ((a : ℕ) → slice_get held a ≡ Some i → s.place ≤ a) → IsMet places i → ReachesFrom graph i j →
+          (m : ℕ) → slice_get held m ≡ Some j → s.low ≤ m
+      behind_all i j low after met (one h) = (behind i j after met h).1
+      behind_all i j low after met (more {y = n} h rest) =
+          let next = behind i n after met h in behind_all n j low (λ a at. omega (arith, low, next.1 a at)) next.0 rest
+
+      itself_at : (a : ℕ) → slice_get held a ≡ Some s.number → a ≡ s.place
+      itself_at a at =
+          same_Some a s.place (same_Some (Some a) (Some s.place) (sym (is.holds.placed a s.number at)
+          ∙ is.holds.placed s.place s.number is.holds.tower.0.here))
+
+      left_leaves : (now : Option ℕ) → IsTold s least now → IsLeaving graph places path (done ++ s.number ∷ []) now
+      left_leaves now it = record {
+        all = λ i met. elim (is.leaves.all i met) [
+          | inl on ↦ elim on [
+            | inl same ↦ inr (length done, slice_get-behind done s.number [] ∙ ap Some same)
+            | inr rest ↦ inl rest
+          ]
+          | inr there ↦ inr (there.0, slice_get_grown done (s.number ∷ []) there.0 i there.1)
+        ];
+        only = λ p i at. elim (slice_get_push done s.number p i at) [
+          | inl before ↦ let was = is.leaves.only p i before.1 in (was.0, λ on. was.1 (inr on))
+          | inr last ↦
+              subst (λ n. IsMet places n × (IsOn path n → ⊥)) last.1
+              (own_met, λ on. let a = on_held held s.place path s.number is.holds.tower.1 on in omega (arith, a.1, itself_at a.0 a.2))
+        ];
+        once = λ a b i at_a at_b. elim (slice_get_push done s.number a i at_a) [
+          | inl x ↦ elim (slice_get_push done s.number b i at_b) [
+            | inl y ↦ is.leaves.once a b i x.1 y.1
+            | inr y ↦ absurd ((is.leaves.only a i x.1).1 (inl y.1))
+          ]
+          | inr x ↦ elim (slice_get_push done s.number b i at_b) [
+            | inl y ↦ absurd ((is.leaves.only b i y.1).1 (inl x.1))
+            | inr y ↦ x.0 ∙ sym y.0
+          ]
+        ];
+        told = λ i same. elim (cases_lt s.place s.low) [
+          | inl low ↦ is.leaves.told i (it.same low ∙ same)
+          | inr low ↦
+              let here = it.first low in
+              subst (λ n. (n < length graph) × ReachesFrom graph n n) (same_Some here.0 i (sym here.1 ∙ same)) (elim here.3 [
+                | inl own ↦
+                    subst (λ n. (n < length graph) × ReachesFrom graph n n) (sym own)
+                    (omega (arith, slice_get_within places s.number _ own_met.1, is.holds.sizes), itself low)
+                | inr was ↦ is.leaves.told here.0 was
+              ])
+        ];
+        first = λ p i at reach. elim (slice_get_push done s.number p i at) [
+          | inl before ↦
+              let was = is.leaves.first p i before.1 reach in
+              let here = it.before was.0 was.1 in (here.0, here.1, omega (arith, was.2, here.2))
+          | inr last ↦ elim (cases_lt s.place s.low) [
+            | inl low ↦ absurd (never low (subst (λ n. ReachesFrom graph n n) (sym last.1) reach))
+            | inr low ↦ let here = it.first low in (here.0, here.1, omega (arith, here.2, last.1))
+          ]
+        ];
+        earlier = λ none. elim (cases_lt s.place s.low) [
+          | inl low ↦ λ p i j at h. elim (slice_get_push done s.number p i at) [
+            | inl before ↦
+                let was = is.leaves.earlier (it.same low ∙ none) p i j before.1 h in
+                (was.0, was.1, slice_get_grown done (s.number ∷ []) was.0 j was.2)
+            | inr last ↦
+                let there = uses low j (ap (λ n. goes graph n j) last.1 ∙ h) in
+                (there.0, omega (arith, last.0, slice_get_within done there.0 j there.1), slice_get_grown done (s.number ∷ []) there.0 j there.1)
+          ]
+          | inr low ↦ let here = it.first low in absurd (none-some here.0 (sym none ∙ here.1))
+        ];
       }
+        where
+          own_met : IsMet places s.number
+          own_met = (s.place, is.holds.placed s.place s.number is.holds.tower.0.here)
 
-      pub let_go_on : s.place ≤ s.low → HasGoneOn graph places (s ∷ path) places (take s.place held) path (done ++ s.number ∷ []) now
-      let_go_on low = record {
+          after : (a : ℕ) → slice_get held a ≡ Some s.number → s.place ≤ a
+          after a at = omega (arith, itself_at a at)
+
+          never : s.place < s.low → ReachesFrom graph s.number s.number → ⊥
+          never low reach = omega (arith, low, behind_all s.number s.number low after own_met reach s.place is.holds.tower.0.here)
+
+          itself : s.low ≤ s.place → ReachesFrom graph s.number s.number
+          itself low =
+              let inside : s.low < length held = omega (arith, low, is.holds.tower.0.within) in
+              let there = slice_get_some held s.low inside in
+              then_or_is s.number there.0 s.number (is.holds.tower.0.back there.0 low there.1) (is.holds.tower.0.leads s.low there.0 inside there.1)
+
+          uses : s.place < s.low → (j : ℕ) → goes graph s.number j ≡ true → (p : ℕ) × (slice_get done p ≡ Some j)
+          uses low j h =
+              let next = behind s.number j after own_met h in
+              elim (is.leaves.all j next.0) [
+                | inl on ↦ elim on [
+                  | inl same ↦ absurd (omega (arith, low, next.1 s.place (is.holds.tower.0.here ∙ ap Some same)))
+                  | inr rest ↦ let a = on_held held s.place path j is.holds.tower.1 rest in absurd (omega (arith, low, a.1, next.1 a.0 a.2))
+                ]
+                | inr there ↦ there
+              ]
+
+      -- it reaches none that is held before it: what is held from it on is let go
+      pub let_go : (now : Option ℕ) → IsTold s least now → s.place ≤ s.low →
+          HasGoneOn graph places (s ∷ path) places (take s.place held) path (done ++ s.number ∷ []) now
+      let_go now told low = record {
         search = record {
-          holds = let_go places held s path is.holds left low;
-          leaves = left_leaves places held s path is.holds left done least now told is.leaves;
+          holds = record {
+            sizes = is.holds.sizes;
+            placed = λ k i at. is.holds.placed k i (slice_get-take s.place held k i at).1;
+            tower = subst (λ n. IsTower graph (take s.place held) n path) (sym (length-take-le s.place held (omega (arith, is.holds.tower.0.within))))
+                (tower_alike held _ s.place (slice_get_taken s.place held) (λ a i below at. (slice_get-take s.place held a i at).1) path s.place
+                (omega arith) is.holds.tower.1);
+            seen = λ i k j met looked used.
+                let old = is.holds.seen i k j met (λ same. omega (arith, left), looked) used in (
+                  old.0,
+                  λ m at.
+                      let there = slice_get-take s.place held m j at in
+                      let it = old.1 m there.1 in
+                      let less : it.0 < s.place = grind (arith, it.2.0, there.0, low) in
+                      (it.0, slice_get_taken s.place held it.0 i less it.1, it.2.1 less),
+                );
+          };
+          leaves = left_leaves now told;
         };
         met = λ i met. met;
         less = omega arith;
+      }
+
+      -- it reaches one that is held before it, and so does the one before it on the path
+      pub lowered_on : (now : Option ℕ) → IsTold s least now → s.low < s.place →
+          HasGoneOn graph places (s ∷ path) places held (lowered s.low path) (done ++ s.number ∷ []) now
+      lowered_on now told low = record {
+        search = record {
+          holds = joined places held s path left low is.holds;
+          leaves = leaves_lowered places s.low path _ now (left_leaves now told);
+        };
+        met = λ i met. met;
+        less = omega (arith, left_lowered s.low path);
       }
 
 -- ---- the end

@@ -1,16 +1,13 @@
 use Rattle.std.proofs.Common.{reverse, arith}
 use Rattle.graph_order.specs.Graphs.{graph_of}
-use Rattle.graph_order.proofs.SearchLemmas.{entered_on, met_new, reversed_with}
+use Rattle.graph_order.proofs.SearchLemmas.{entered, met_new, reversed_with}
 use Rattle.graph_order.proofs.searching.Search.enter.Goals as goal
 
 pub returns-clause-on : goal.returns-clause-on
 returns-clause-on c =
     let w = c.args.self.now in
-    rw (
-      c.in_ok-push.ensures.items,
-      c.in_ok-push-2.ensures.items,
-      reversed_with,
-    ) (entered_on (graph_of c.args.graph.now) w.places.items
+    rw (c.in_ok-push.ensures.items, c.in_ok-push-2.ensures.items, reversed_with)
+    (entered (graph_of c.args.graph.now) w.places.items
     (record { number = c.args.number; place = c.len-place.result; left = c.count_uses.result; low = c.len.result }) (reverse w.path.items)
     c.requires.fresh w.held.items w.ranked.items w.least (omega arith) c.count_uses.ensures (omega (arith, c.in_ok-push.ensures.len))
     c.requires.leads c.requires.search)

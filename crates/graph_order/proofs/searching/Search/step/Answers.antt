@@ -15,7 +15,6 @@ place_of-requires c =
     )
 
 pub enter-requires-clause-leads : goal.enter-requires-clause-leads
-enter-requires-clause-leads c = rw (
-  c.in_ok-push-in-None.ensures.items,
-  reversed_with,
-) (use_goes (graph_of c.args.graph.now) c.args.last.number (c.args.last.left - 1) c.nth_use-used.result c.nth_use-used.ensures)
+enter-requires-clause-leads c =
+    rw (c.in_ok-push-in-None.ensures.items, reversed_with)
+    (use_goes (graph_of c.args.graph.now) c.args.last.number (c.args.last.left - 1) c.nth_use-used.result c.nth_use-used.ensures)
