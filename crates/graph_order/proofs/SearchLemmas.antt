@@ -177,10 +177,10 @@ module _ (graph : List (List ℕ)) where
             | inl old ↦
                 let before = is.holds.placed k i old.1 in
                 slice_get_set places s.number i _ (λ e. none_met places s.number fresh (k, ap (slice_get places) (sym e) ∙ before)) ∙ before
-            | inr last ↦
-                subst (λ n. slice_get (set places s.number (Some s.place)) n ≡ Some (Some k)) last.1
+            | inr new ↦
+                subst (λ n. slice_get (set places s.number (Some s.place)) n ≡ Some (Some k)) new.1
                 (slice_get_set_same places s.number (Some s.place) (slice_get_within places s.number None fresh)
-                ∙ ap (λ n. Some (Some n)) (place ∙ sym last.0))
+                ∙ ap (λ n. Some (Some n)) (place ∙ sym new.0))
           ];
           tower = (
             record {
@@ -189,7 +189,7 @@ module _ (graph : List (List ℕ)) where
               here = ap (slice_get (held ++ s.number ∷ [])) place ∙ slice_get-behind held s.number [];
               leads = λ a i below at. elim (slice_get_push held s.number a i at) [
                 | inl old ↦ inr (leads path is.holds.tower goes_there a i old.0 old.1)
-                | inr last ↦ inl (sym last.1)
+                | inr new ↦ inl (sym new.1)
               ];
               back = λ j under at. absurd (omega (arith, low, under));
             },
@@ -209,7 +209,7 @@ module _ (graph : List (List ℕ)) where
                           slice_get_grown held (s.number ∷ []) it.0 i it.1,
                           (λ above. absurd (omega (arith, above, place, slice_get_within held it.0 i it.1)), λ below. it.2),
                         )
-                    | inr last ↦ absurd (none_met places s.number fresh (subst (IsMet places) (sym last.1) old.0))
+                    | inr new ↦ absurd (none_met places s.number fresh (subst (IsMet places) (sym new.1) old.0))
                   ],
                 )
           ];
@@ -247,6 +247,12 @@ module _ (graph : List (List ℕ)) where
 
   module _ (places : List (Option ℕ)) (held : List ℕ) (s : Step) (path : List Step) (done : List ℕ) (least : Option ℕ)
       (is : IsSearchAt graph places held (s ∷ path) done least) where
+    last : IsOnPath graph held (length held) s
+    last = is.holds.tower.0
+
+    placed_here : slice_get places s.number ≡ Some (Some s.place)
+    placed_here = is.holds.placed s.place s.number last.here
+
     -- ---- a use is looked at
 
     pub looked : (left low k j : ℕ) → suc left ≡ s.left → use_at graph s.number left ≡ Some j → slice_get places j ≡ Some (Some k) →
@@ -276,14 +282,15 @@ module _ (graph : List (List ℕ)) where
             | inl under ↦ elim (eqb_tells s.number i) [
               | inl same ↦
                   let now : n ≡ left = omega (arith, looked.0 same.1, under, one_less) in
-                  let is_h : j ≡ h = same_Some j h (sym next ∙ ap (λ m. use_at graph m left) same.1 ∙ ap (use_at graph i) (sym now) ∙ used) in (
+                  let there = ap (λ m. use_at graph m left) same.1 ∙ ap (use_at graph i) (sym now) ∙ used in
+                  let is_h : j ≡ h = same_Some j h (sym next ∙ there) in (
                     (k, ap (slice_get places) (sym is_h) ∙ place),
                     λ m at.
                         let there : slice_get held m ≡ Some j = at ∙ ap Some (sym is_h) in
                         let is_k : m ≡ k = same_Some m k (same_Some (Some m) (Some k) (sym (is.holds.placed m j there) ∙ place)) in (
                           s.place,
                           last.here ∙ ap Some same.1,
-                          (λ above. omega (arith, is_k, at_most (ap (slice_get held) (sym is_k) ∙ there)), λ below. absurd (omega (arith, below))),
+                          (λ above. omega (arith, is_k, at_most (rw is_k at there)), λ below. absurd (omega (arith, below))),
                         ),
                   )
               | inr apart ↦ before i n h met (λ same. absurd (apart.1 same)) looked.1 used
@@ -297,9 +304,6 @@ module _ (graph : List (List ℕ)) where
       less = omega (arith, one_less);
     }
       where
-        last : IsOnPath graph held (length held) s
-        last = is.holds.tower.0
-
         before : (i n h : ℕ) → IsMet places i → (s.number ≡ i → s.left ≤ n) → IsLooked path i n → use_at graph i n ≡ Some h →
             IsMet places h × ((m : ℕ) → slice_get held m ≡ Some h →
             (a : ℕ) × (slice_get held a ≡ Some i) × MayGo (record s { left = left; low = low } ∷ path) a m)
@@ -319,16 +323,15 @@ module _ (graph : List (List ℕ)) where
           let old = is.holds.seen i used.0 j met (λ same. omega (arith, left), looked_off path i used.0 off) used.1 in
           (old.0, λ m at. let it = old.1 m at in it.2.0 (after it.0 it.1))
 
-      behind_all : (i j : ℕ) → s.place < s.low → ((a : ℕ) → slice_get held a ≡ Some i → s.place ≤ a) → IsMet places i → ReachesFrom graph i j →
-          (m : ℕ) → slice_get held m ≡ Some j → s.low ≤ m
+      behind_all : (i j : ℕ) → s.place < s.low → ((a : ℕ) → slice_get held a ≡ Some i → s.place ≤ a) → IsMet places i →
+          ReachesFrom graph i j → (m : ℕ) → slice_get held m ≡ Some j → s.low ≤ m
       behind_all i j low after met (one h) = (behind i j after met h).1
       behind_all i j low after met (more {y = n} h rest) =
           let next = behind i n after met h in behind_all n j low (λ a at. omega (arith, low, next.1 a at)) next.0 rest
 
       itself_at : (a : ℕ) → slice_get held a ≡ Some s.number → a ≡ s.place
       itself_at a at =
-          same_Some a s.place (same_Some (Some a) (Some s.place) (sym (is.holds.placed a s.number at)
-          ∙ is.holds.placed s.place s.number is.holds.tower.0.here))
+          same_Some a s.place (same_Some (Some a) (Some s.place) (sym (is.holds.placed a s.number at) ∙ placed_here))
 
       left_leaves : (now : Option ℕ) → IsTold s least now → IsLeaving graph places path (done ++ s.number ∷ []) now
       left_leaves now it = record {
@@ -341,8 +344,8 @@ module _ (graph : List (List ℕ)) where
         ];
         only = λ p i at. elim (slice_get_push done s.number p i at) [
           | inl before ↦ let was = is.leaves.only p i before.1 in (was.0, λ on. was.1 (inr on))
-          | inr last ↦
-              subst (λ n. IsMet places n × (IsOn path n → ⊥)) last.1
+          | inr new ↦
+              subst (λ n. IsMet places n × (IsOn path n → ⊥)) new.1
               (own_met, λ on. let a = on_held held s.place path s.number is.holds.tower.1 on in omega (arith, a.1, itself_at a.0 a.2))
         ];
         once = λ a b i at_a at_b. elim (slice_get_push done s.number a i at_a) [
@@ -370,9 +373,9 @@ module _ (graph : List (List ℕ)) where
           | inl before ↦
               let was = is.leaves.first p i before.1 reach in
               let here = it.before was.0 was.1 in (here.0, here.1, omega (arith, was.2, here.2))
-          | inr last ↦ elim (cases_lt s.place s.low) [
-            | inl low ↦ absurd (never low (subst (λ n. ReachesFrom graph n n) (sym last.1) reach))
-            | inr low ↦ let here = it.first low in (here.0, here.1, omega (arith, here.2, last.1))
+          | inr new ↦ elim (cases_lt s.place s.low) [
+            | inl low ↦ absurd (never low (subst (λ n. ReachesFrom graph n n) (sym new.1) reach))
+            | inr low ↦ let here = it.first low in (here.0, here.1, omega (arith, here.2, new.1))
           ]
         ];
         earlier = λ none. elim (cases_lt s.place s.low) [
@@ -380,35 +383,36 @@ module _ (graph : List (List ℕ)) where
             | inl before ↦
                 let was = is.leaves.earlier (it.same low ∙ none) p i j before.1 h in
                 (was.0, was.1, slice_get_grown done (s.number ∷ []) was.0 j was.2)
-            | inr last ↦
-                let there = uses low j (ap (λ n. goes graph n j) last.1 ∙ h) in
-                (there.0, omega (arith, last.0, slice_get_within done there.0 j there.1), slice_get_grown done (s.number ∷ []) there.0 j there.1)
+            | inr new ↦
+                let there = uses low j (ap (λ n. goes graph n j) new.1 ∙ h) in
+                let less : there.0 < p = omega (arith, new.0, slice_get_within done there.0 j there.1) in
+                (there.0, less, slice_get_grown done (s.number ∷ []) there.0 j there.1)
           ]
           | inr low ↦ let here = it.first low in absurd (none-some here.0 (sym none ∙ here.1))
         ];
       }
         where
           own_met : IsMet places s.number
-          own_met = (s.place, is.holds.placed s.place s.number is.holds.tower.0.here)
+          own_met = (s.place, placed_here)
 
           after : (a : ℕ) → slice_get held a ≡ Some s.number → s.place ≤ a
           after a at = omega (arith, itself_at a at)
 
           never : s.place < s.low → ReachesFrom graph s.number s.number → ⊥
-          never low reach = omega (arith, low, behind_all s.number s.number low after own_met reach s.place is.holds.tower.0.here)
+          never low reach = omega (arith, low, behind_all s.number s.number low after own_met reach s.place last.here)
 
           itself : s.low ≤ s.place → ReachesFrom graph s.number s.number
           itself low =
-              let inside : s.low < length held = omega (arith, low, is.holds.tower.0.within) in
+              let inside : s.low < length held = omega (arith, low, last.within) in
               let there = slice_get_some held s.low inside in
-              then_or_is s.number there.0 s.number (is.holds.tower.0.back there.0 low there.1) (is.holds.tower.0.leads s.low there.0 inside there.1)
+              then_or_is s.number there.0 s.number (last.back there.0 low there.1) (last.leads s.low there.0 inside there.1)
 
           uses : s.place < s.low → (j : ℕ) → goes graph s.number j ≡ true → (p : ℕ) × (slice_get done p ≡ Some j)
           uses low j h =
               let next = behind s.number j after own_met h in
               elim (is.leaves.all j next.0) [
                 | inl on ↦ elim on [
-                  | inl same ↦ absurd (omega (arith, low, next.1 s.place (is.holds.tower.0.here ∙ ap Some same)))
+                  | inl same ↦ absurd (omega (arith, low, next.1 s.place (last.here ∙ ap Some same)))
                   | inr rest ↦ let a = on_held held s.place path j is.holds.tower.1 rest in absurd (omega (arith, low, a.1, next.1 a.0 a.2))
                 ]
                 | inr there ↦ there
@@ -422,9 +426,9 @@ module _ (graph : List (List ℕ)) where
           holds = record {
             sizes = is.holds.sizes;
             placed = λ k i at. is.holds.placed k i (slice_get-take s.place held k i at).1;
-            tower = subst (λ n. IsTower graph (take s.place held) n path) (sym (length-take-le s.place held (omega (arith, is.holds.tower.0.within))))
-                (tower_alike held _ s.place (slice_get_taken s.place held) (λ a i below at. (slice_get-take s.place held a i at).1) path s.place
-                (omega arith) is.holds.tower.1);
+            tower = subst (λ n. IsTower graph (take s.place held) n path) (sym (length-take-le s.place held (omega (arith, last.within))))
+                (tower_alike held _ s.place (slice_get_taken s.place held) (λ a i below at. (slice_get-take s.place held a i at).1)
+                path s.place (omega arith) is.holds.tower.1);
             seen = λ i k j met looked used.
                 let old = is.holds.seen i k j met (λ same. omega (arith, left), looked) used in (
                   old.0,

@@ -115,14 +115,15 @@ abbrev pub steps_left : List (List ℕ) → Search → ℕ
 steps_left graph w = new_left graph w.places.items + path_left (reverse w.path.items)
 
 -- the walk has gone on from one path to another
-pub record HasGoneOn (graph : List (List ℕ)) (old : List (Option ℕ)) (from : List Step) (places : List (Option ℕ)) (held : List ℕ) (path : List Step)
-    (done : List ℕ) (least : Option ℕ) : Type 0 where
+pub record HasGoneOn (graph : List (List ℕ)) (old : List (Option ℕ)) (from : List Step) (places : List (Option ℕ)) (held : List ℕ)
+    (path : List Step) (done : List ℕ) (least : Option ℕ) : Type 0 where
   pub search : IsSearchAt graph places held path done least
   pub met : (i : ℕ) → IsMet old i → IsMet places i
   pub less : new_left graph places + path_left path < new_left graph old + path_left from
 
 abbrev pub GoesOn : List (List ℕ) → List (Option ℕ) → List Step → Search → Type 0
-GoesOn graph places path new = HasGoneOn graph places path new.places.items new.held.items (reverse new.path.items) new.ranked.items new.least
+GoesOn graph places path new =
+    HasGoneOn graph places path new.places.items new.held.items (reverse new.path.items) new.ranked.items new.least
 
 -- the walk from a start has come so far
 pub record IsWalking (graph : List (List ℕ)) (start : ℕ) (old now : Search) : Type 0 where
