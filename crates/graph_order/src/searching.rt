@@ -73,18 +73,12 @@ impl Search {
     }
 
     /// Goes on with a number of which one more use, which was met, is looked at. An `Err` says that memory ran out.
-    fn look(
-        &mut self,
-        graph: &[Vec<u32>],
-        last: Step,
-        used: u32,
-        place: usize,
-    ) -> Result<(), NoMemory>
+    fn look(&mut self, last: Step, used: u32, place: usize) -> Result<(), NoMemory>
         requires left { 0 < last.left }
-        requires search { IsSearch (graph_of graph.now) self.old (last ∷ reverse self.old.path.items) }
-        requires used { (left : ℕ) → suc left ≡ last.left → use_at (graph_of graph.now) last.number left ≡ Some used }
         requires place { slice_get self.old.places.items used ≡ Some (Some place) }
-        ensures { OnOk result (GoesOn (graph_of graph.now) self.old.places.items (last ∷ reverse self.old.path.items) self.new) }
+        ensures { OnOk result ((graph : List (List ℕ)) (left : ℕ) → IsSearch graph self.old (last ∷ reverse self.old.path.items) →
+            suc left ≡ last.left → use_at graph last.number left ≡ Some used →
+            GoesOn graph self.old.places.items (last ∷ reverse self.old.path.items) self.new) }
     {
         let low = self.lower_place(last.low, used, place);
         self.path.push(Step {
@@ -149,7 +143,10 @@ impl Search {
         }
         let used = nth_use(graph, last.number, last.left - 1);
         match self.place_of(used) {
-            Some(place) => self.look(graph, last, used, place),
+            Some(place) => {
+                self.look(last, used, place)?;
+                Ok(())
+            }
             None => {
                 self.path.push(last)?;
                 self.enter(graph, used)
