@@ -336,10 +336,8 @@ module _ (graph : List (List ℕ)) where
       left_leaves : (now : Option ℕ) → IsTold s least now → IsLeaving graph places path (done ++ s.number ∷ []) now
       left_leaves now it = record {
         all = λ i met. elim (is.leaves.all i met) [
-          | inl on ↦ elim on [
-            | inl same ↦ inr (length done, slice_get-behind done s.number [] ∙ ap Some same)
-            | inr rest ↦ inl rest
-          ]
+          | inl (inl same) ↦ inr (length done, slice_get-behind done s.number [] ∙ ap Some same)
+          | inl (inr rest) ↦ inl rest
           | inr there ↦ inr (there.0, slice_get_grown done (s.number ∷ []) there.0 i there.1)
         ];
         only = λ p i at. elim (slice_get_push done s.number p i at) [
@@ -411,10 +409,9 @@ module _ (graph : List (List ℕ)) where
           uses low j h =
               let next = behind s.number j after own_met h in
               elim (is.leaves.all j next.0) [
-                | inl on ↦ elim on [
-                  | inl same ↦ absurd (omega (arith, low, next.1 s.place (last.here ∙ ap Some same)))
-                  | inr rest ↦ let a = on_held held s.place path j is.holds.tower.1 rest in absurd (omega (arith, low, a.1, next.1 a.0 a.2))
-                ]
+                | inl (inl same) ↦ absurd (omega (arith, low, next.1 s.place (last.here ∙ ap Some same)))
+                | inl (inr rest) ↦
+                    let a = on_held held s.place path j is.holds.tower.1 rest in absurd (omega (arith, low, a.1, next.1 a.0 a.2))
                 | inr there ↦ there
               ]
 
