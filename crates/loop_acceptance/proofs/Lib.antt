@@ -1,5 +1,6 @@
 pub mod AcceptedLoops
 pub mod ChosenSteps
+pub mod DividedNodes
 pub mod GoingOn
 pub mod JudgedLoops
 pub mod LeavingNodes

@@ -1,7 +1,7 @@
 -- The steps of a product: where they lead, how many there are, and that they are those of pairs.
-use Rattle.std.proofs.Common.{◌≡◌, ◌∙◌, ℕ, zero, suc, ◌+◌, ◌*◌, ◌/◌, ◌%◌, ◌<◌, ◌≤◌, ◌==◌, if◌then◌else◌, inl, inr, Bool, true, false, cond}
-use Rattle.std.proofs.Common.{List, [], ◌∷◌, length, take, drop, get_or, Option, None, Some, slice_get, Contains, All, Vec, refl}
-use Rattle.std.proofs.Common.{sym, ap, subst, arith, length-append}
+use Rattle.std.proofs.Common.{◌≡◌, ◌∙◌, ℕ, zero, suc, ◌+◌, ◌*◌, ◌/◌, ◌%◌, ◌^◌, ◌<◌, ◌≤◌, ◌==◌, if◌then◌else◌, inl, inr}
+use Rattle.std.proofs.Common.{Bool, true, false, cond, List, [], ◌∷◌, length, take, drop, get_or, Option, None, Some, slice_get, Contains}
+use Rattle.std.proofs.Common.{All, Vec, refl, sym, ap, subst, arith, length-append}
 use Rattle.std.specs.Prelude.{option_and_then, option_map}
 use Rattle.std.specs.declared.alloc.Global.{Global}
 use Rattle.std.proofs.lemmas.Bool.Decides.{eqb_tells}
@@ -112,28 +112,64 @@ module _ (product : Product) (is : IsProduct product) where
       (pair_below states (length product.letters.now) (position_after product.letters.now product.back (p / states)) of.edge.to below
       (is.stays (p % states) k of.edge of.stands))
 
-  -- the step at a place where an edge stands that the letter matches
-  pub step_made : (p k : ℕ) (row : Vec Edge Global) (es : List Edge) (e : Edge) → p < nodes_of product →
-      es ≡ (get_or product.rows.now (p % states) row).items → k < length es → e ≡ get_or es k e →
-      cube_matches e.cube.care e.cube.want (get_or product.letters.now (p / states) 0) ≡ true →
-      steps_in product p k
-      ≡ Some (record {
-        to = position_after product.letters.now product.back (p / states) * states + e.to;
-        rejecting = e.rejecting;
-      })
-  step_made p k row es e below row_is within item matches =
-      let reads = slice_get-get_or product.letters.now (p / states) 0
-      (div_below p states (length product.letters.now) is.starts below) in
-      let stands : edge_at (edge_rows_of product) (p % states) k ≡ Some e =
-      ap (option_and_then (λ r. slice_get r k)) (row_at product.rows.now (p % states) row (mod_below p states is.starts))
-      ∙ ap (λ r. slice_get r k) (sym row_is) ∙ slice_get_read es (length es) k e refl within item in
-      ap (option_and_then (λ d. option_and_then (step_by states (position_after product.letters.now product.back (p / states)) d)
-      (slice_get product.letters.now (p / states)))) stands
-      ∙ ap (option_and_then (step_by states (position_after product.letters.now product.back (p / states)) e)) reads
-      ∙ ap (λ b. cond b (Some (record {
-        to = position_after product.letters.now product.back (p / states) * states + e.to;
-        rejecting = e.rejecting;
-      })) None) matches
+  -- the pair that a node is
+  module _ (p position state : ℕ) (below : p < nodes_of product) (at : position ≡ p / product.pairing.states)
+      (in_state : state ≡ p % product.pairing.states) where
+    position_is : p / states ≡ position
+    position_is = sym (at ∙ ap (λ n. p / n) is.counted)
+
+    state_is : p % states ≡ state
+    state_is = sym (in_state ∙ ap (λ n. p % n) is.counted)
+
+    position_within : position < length product.letters.now
+    position_within =
+        subst (λ n. n < length product.letters.now) position_is (div_below p states (length product.letters.now) is.starts below)
+
+    pub state_within : state < states
+    state_within = subst (λ n. n < states) state_is (mod_below p states is.starts)
+
+    abbrev pair_step : ℕ → ℕ → ℕ → Option Step
+    pair_step i q k = option_and_then (λ e. option_and_then (step_by states (position_after product.letters.now product.back i) e)
+        (slice_get product.letters.now i)) (edge_at (edge_rows_of product) q k)
+
+    step_at_pair : (k : ℕ) → steps_in product p k ≡ pair_step position state k
+    step_at_pair k = ap (λ i. pair_step i (p % states) k) position_is ∙ ap (λ q. pair_step position q k) state_is
+
+    -- the step at a place where an edge stands that the letter matches
+    pub step_made : (k : ℕ) (row : Vec Edge Global) (es : List Edge) (e : Edge) → es ≡ (get_or product.rows.now state row).items →
+        k < length es → e ≡ get_or es k e → cube_matches e.cube.care e.cube.want (get_or product.letters.now position 0) ≡ true →
+        steps_in product p k
+        ≡ Some (record {
+          to = position_after product.letters.now product.back position * states + e.to;
+          rejecting = e.rejecting;
+        })
+    step_made k row es e row_is within item matches =
+        let reads = slice_get-get_or product.letters.now position 0 position_within in
+        let stands : edge_at (edge_rows_of product) state k ≡ Some e =
+        ap (option_and_then (λ r. slice_get r k)) (row_at product.rows.now state row state_within)
+        ∙ ap (λ r. slice_get r k) (sym row_is) ∙ slice_get_read es (length es) k e refl within item in
+        step_at_pair k
+        ∙ ap (option_and_then (λ d. option_and_then (step_by states (position_after product.letters.now product.back position) d)
+        (slice_get product.letters.now position))) stands
+        ∙ ap (option_and_then (step_by states (position_after product.letters.now product.back position) e)) reads
+        ∙ ap (λ b. cond b (Some (record {
+          to = position_after product.letters.now product.back position * states + e.to;
+          rejecting = e.rejecting;
+        })) None) matches
+
+    -- and its number has 32 bits
+    pub step_fits : (k : ℕ) (row : Vec Edge Global) (es : List Edge) (e : Edge) (next : ℕ) →
+        es ≡ (get_or product.rows.now state row).items → k < length es → e ≡ get_or es k e →
+        cube_matches e.cube.care e.cube.want (get_or product.letters.now position 0) ≡ true →
+        next ≡ position_after product.letters.now product.back position → next * states + e.to < 2 ^ 32
+    step_fits k row es e next row_is within item matches next_is =
+        let there = step_within p k (record {
+          to = position_after product.letters.now product.back position * states + e.to;
+          rejecting = e.rejecting;
+        }) (step_made k row es e row_is within item matches) in
+        let same = ap (λ n. n * states + e.to) next_is in
+        let fits = is.fits in
+        omega (arith, there, same, fits)
 
 -- ---- steps are those of pairs
 

@@ -7,6 +7,7 @@ ghost use Rattle.cobuchi_automata.specs.Automata.{StateTree, IsAutomaton};
 ghost use Rattle.cobuchi_automata.specs.Edges.{edge_trees};
 ghost use Rattle.loop_acceptance.specs.Accepts.{loop_of, Accepts};
 
+use crate::pairs::Pairing;
 use crate::product::Product;
 use crate::rows::few_edges_by_state;
 use crate::search::has_turn;
@@ -42,6 +43,7 @@ pub fn judge_loop(
     }
     let product = Product {
         rows: &rows,
+        pairing: Pairing::new(rows.len()),
         letters,
         back: back as usize,
     };

@@ -10,11 +10,16 @@
 //! lead, over nodes that no inner search has met yet. If it meets a node that the outer search has not
 //! left, then there is a turn; otherwise what it met leads to no such node, so no later inner search has
 //! to go there again.
+//!
+//! There may be tens of millions of pairs, and the search goes into all of them. Each step leads from one
+//! position to the next one, so what it keeps of the pairs of neighbouring positions lies together
+//! (`marks`), and which pair a node is takes no division (`pairs`).
 #![tactic(auto)]
 
 mod judging;
 mod laws;
 mod marks;
+mod pairs;
 mod product;
 mod rows;
 mod search;

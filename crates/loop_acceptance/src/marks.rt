@@ -1,10 +1,16 @@
 //! Marks of nodes, which take two bits each.
+//!
+//! Each step leads from one position to the next one, so that a walk goes on over many positions. In the
+//! order of the nodes the marks of two positions lie as far apart as there are states: each step would wait
+//! for memory that no step shortly before it has used. So the marks of 16 neighbouring positions lie
+//! together. With 4,096 states these are 16 KiB, which a processor's first cache holds.
 
-ghost use Rattle.std.specs.Prelude.{◌≡◌, ◌<◌, ℕ, length, Some, slice_get, slice_set, replicate, IfOk};
+ghost use Rattle.std.specs.Prelude.{◌≡◌, ◌<◌, ◌≤◌, ◌^◌, ℕ, length, Some, slice_get, slice_set, replicate, IfOk};
 ghost use Rattle.loop_acceptance.specs.declared.marks.Mark.TheVariants.{New};
-ghost use Rattle.loop_acceptance.specs.internal.PackedMarks.{number_of, mark_of, bits_at, mark_at};
+ghost use Rattle.loop_acceptance.specs.internal.PackedMarks.{number_of, mark_of, bits_at, mark_at, place_of};
 ghost use Rattle.loop_acceptance.specs.internal.Search.{is_new, is_open, is_done};
 
+use crate::pairs::Pairing;
 use sequence::NoMemory;
 use std::alloc::Global;
 use std::marker::Model;
@@ -73,28 +79,34 @@ pub(crate) struct Marks {
     bytes: Vec<u8>,
     /// How many marks there are.
     count: usize,
+    /// How nodes are pairs.
+    pairing: Pairing,
 }
 
 impl Model for Marks {
     ghost use Rattle.std.specs.Prelude.{List, length, ◌*◌, ◌≤◌};
     ghost use Rattle.loop_acceptance.specs.declared.marks.Mark.{Mark};
-    ghost use Rattle.loop_acceptance.specs.internal.PackedMarks.{marks_in};
+    ghost use Rattle.loop_acceptance.specs.internal.PackedMarks.{room_for, marks_in};
 
     ghost Value = { List Mark };
 
-    ghost view = { λ marks. marks_in marks.count marks.bytes.items };
+    ghost view = { λ marks. marks_in marks.pairing.states marks.count marks.bytes.items };
 
-    ghost invariant = { λ marks. marks.count ≤ 4 * length marks.bytes.items };
+    ghost invariant = { λ marks. room_for marks.pairing.states marks.count ≤ 4 * length marks.bytes.items };
 }
 
 impl Marks {
     /// So many marks, which are all new. An `Err` says that memory ran out.
-    pub fn new(alloc: Global, count: usize) -> Result<Marks, NoMemory>
+    pub fn new(alloc: Global, count: usize, pairing: Pairing) -> Result<Marks, NoMemory>
+        requires few { count ≤ 2 ^ 32 }
+        requires few_states { pairing.states ≤ 2 ^ 32 }
         ensures { IfOk result (λ marks. marks ≡ replicate count New) }
     {
+        let blocks = count / pairing.states / 16 + 1;
         Ok(Marks {
-            bytes: vec![in alloc; 0; count / 4 + 1]?,
+            bytes: vec![in alloc; 0; blocks * pairing.states * 4]?,
             count,
+            pairing,
         })
     }
 
@@ -104,7 +116,8 @@ impl Marks {
         requires { node < length self.now }
         ensures { slice_get self.now node ≡ Some result }
     {
-        Mark::of_number(bits_at(self.bytes[node as usize / 4], node % 4))
+        let place = place_of(self.pairing, node);
+        Mark::of_number(bits_at(self.bytes[place / 4], (place % 4) as u32))
     }
 
     /// Gives a node another mark.
@@ -113,9 +126,20 @@ impl Marks {
         requires { node < length self.old }
         ensures { self.new ≡ slice_set self.old node mark }
     {
-        let place = node as usize / 4;
-        self.bytes[place] = with_mark(self.bytes[place], node % 4, mark);
+        let place = place_of(self.pairing, node);
+        let byte = place / 4;
+        self.bytes[byte] = with_mark(self.bytes[byte], (place % 4) as u32, mark);
     }
+}
+
+/// The place of a node's mark: blocks of 16 positions follow each other, in a block the states, and of a
+/// state the positions.
+#[inline(always)]
+fn place_of(pairing: Pairing, node: u32) -> usize
+    ensures { result ≡ place_of pairing.states node }
+{
+    let pair = pairing.pair_of(node);
+    (pair.position / 16 * pairing.states + pair.state) * 16 + pair.position % 16
 }
 
 /// The two bits at a place of a byte, from 0 to 3.

@@ -3,6 +3,7 @@
 ghost use Rattle.std.specs.Prelude.{◌≡◌, ◌<◌, ◌≤◌, ℕ, None, length};
 ghost use Rattle.loop_acceptance.specs.internal.Product.{IsProduct, nodes_of, edge_rows_of, steps_in, row_edges, position_after};
 
+use crate::pairs::Pairing;
 use cobuchi_automata::Edge;
 
 /// A step to a node.
@@ -15,11 +16,14 @@ pub(crate) struct Step {
 }
 
 /// The edges of an automaton by the states that they leave, and a loop of letters. The pair of a position
-/// and a state is a node, whose number is the position times the number of states, and the state.
+/// and a state is a node, whose number is the position times the number of states, and the state. Each
+/// step leads from a position to the next one, or from the last one back.
 #[derive(Clone, Copy)]
 pub(crate) struct Product<'a> {
     /// The edges of each state.
     pub rows: &'a [Vec<Edge>],
+    /// How nodes are pairs of a position and one of so many states.
+    pub pairing: Pairing,
     /// The letters.
     pub letters: &'a [u64],
     /// The number of the letter that the last one goes on to.
@@ -42,7 +46,8 @@ pub(crate) fn place_count(product: &Product, node: u32) -> u32
     ensures past { (k : ℕ) → result ≤ k → steps_in product.now node k ≡ None }
     ensures few { result ≤ row_edges (edge_rows_of product.now) }
 {
-    product.rows[node as usize % product.rows.len()].len() as u32
+    let pair = product.pairing.pair_of(node);
+    product.rows[pair.state].len() as u32
 }
 
 /// The position after a position.
@@ -63,13 +68,13 @@ pub(crate) fn product_step(product: &Product, node: u32, place: u32) -> Option<S
     ensures { result ≡ steps_in product.now node place }
 {
     let states = product.rows.len();
-    let position = node as usize / states;
-    let edge = product.rows[node as usize % states].get(place as usize)?;
-    if !edge.cube.matches(product.letters[position]) {
+    let pair = product.pairing.pair_of(node);
+    let edge = product.rows[pair.state].get(place as usize)?;
+    if !edge.cube.matches(product.letters[pair.position]) {
         return None;
     }
     Some(Step {
-        to: (position_after(product, position) * states + edge.to as usize) as u32,
+        to: (position_after(product, pair.position) * states + edge.to as usize) as u32,
         rejecting: edge.rejecting,
     })
 }

@@ -266,7 +266,7 @@ fn begun(alloc: Global, product: &Product) -> Result<Search, NoMemory>
     ensures { IfOk result (λ search. IsNestedSearch (steps_in product.now) (nodes_of product.now) search.marks search.red.items
         search.frames.items) }
 {
-    let marks = Marks::new(alloc, node_count(product))?;
+    let marks = Marks::new(alloc, node_count(product), product.pairing)?;
     let mut search = Search {
         marks,
         frames: Vec::new(alloc),

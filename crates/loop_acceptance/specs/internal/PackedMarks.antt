@@ -1,5 +1,5 @@
 -- Internal: only private functions and proofs of this crate use these words. Marks that take two bits each.
-use Rattle.std.specs.Prelude.{ℕ, zero, suc, ◌*◌, ◌/◌, ◌%◌, ◌^◌, List, map, slice_index_or}
+use Rattle.std.specs.Prelude.{ℕ, zero, suc, ◌+◌, ◌*◌, ◌/◌, ◌%◌, ◌^◌, List, map, slice_index_or}
 use Rattle.std.specs.List.{range_with_len}
 use Rattle.loop_acceptance.specs.declared.marks.Mark.{Mark}
 use Rattle.loop_acceptance.specs.declared.marks.Mark.TheVariants.{New, Open, Done, Red}
@@ -24,6 +24,16 @@ bits_at byte place = byte / 2 ^ (2 * place) % 4
 abbrev pub mark_at : ℕ → ℕ → Mark
 mark_at byte place = mark_of (bits_at byte place)
 
--- so many marks, of which each byte has four
-abbrev pub marks_in : ℕ → List ℕ → List Mark
-marks_in count bytes = map (λ node. mark_at (slice_index_or bytes (node / 4) 0) (node % 4)) (range_with_len 0 count)
+-- The place of a node's mark, where there are so many states: blocks of 16 positions follow each other, in a block the states, and of
+-- each state the positions.
+abbrev pub place_of : ℕ → ℕ → ℕ
+place_of states node = (node / states / 16 * states + node % states) * 16 + node / states % 16
+
+-- how many places the blocks of so many nodes have
+abbrev pub room_for : ℕ → ℕ → ℕ
+room_for states count = (count / states / 16 + 1) * states * 16
+
+-- so many marks at their places, of which each byte has four
+abbrev pub marks_in : ℕ → ℕ → List ℕ → List Mark
+marks_in states count bytes =
+    map (λ node. mark_at (slice_index_or bytes (place_of states node / 4) 0) (place_of states node % 4)) (range_with_len 0 count)

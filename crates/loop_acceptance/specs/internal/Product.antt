@@ -52,9 +52,11 @@ steps_in product = product_step (length product.rows.now) (edge_rows_of product)
 abbrev pub nodes_of : Product → ℕ
 nodes_of product = length product.letters.now * length product.rows.now
 
--- there is a state, the last letter goes on to one of the letters, edges lead to states, and nodes and their steps have numbers of 32 bits
+-- there is a state, the states are counted, the last letter goes on to one of the letters, edges lead to states, and nodes and their steps
+-- have numbers of 32 bits
 pub record IsProduct (product : Product) : Type 0 where
   pub starts : 1 ≤ length product.rows.now
+  pub counted : product.pairing.states ≡ length product.rows.now
   pub goes_on : product.back < length product.letters.now
   pub fits : nodes_of product ≤ 2 ^ 32
   pub short : list_all is_short (edge_rows_of product) ≡ true

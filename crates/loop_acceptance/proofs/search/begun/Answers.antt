@@ -6,6 +6,17 @@ use Rattle.loop_acceptance.specs.internal.Product.{nodes_of, steps_in}
 use Rattle.loop_acceptance.proofs.OpenedNodes.{opened_first}
 use Rattle.loop_acceptance.proofs.search.begun.Goals as goal
 
+pub new-requires-clause-few_states : goal.new-requires-clause-few_states
+new-requires-clause-few_states c =
+    let product = c.args.product.now in
+    let states = length product.rows.now in
+    let is = c.requires.product in
+    let counted = is.counted in
+    let goes_on = is.goes_on in
+    let fits = is.fits in
+    let fewer = mul-le 1 states (length product.letters.now) states (omega (arith, goes_on)) (omega arith) in
+    omega (arith, fewer, counted, fits)
+
 pub returns : goal.returns
 returns c =
     let product = c.args.product.now in

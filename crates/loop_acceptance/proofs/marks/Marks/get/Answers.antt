@@ -5,11 +5,13 @@ use Rattle.loop_acceptance.proofs.marks.Marks.get.Goals as goal
 
 pub index-requires : goal.index-requires
 index-requires c =
-    let within =
-    byte_within c.self.inside.count c.self.inside.bytes.items c.args.self.now c.args.node c.self.invariant c.self.view_is c.requires in
-    omega (arith, within)
+    let within = byte_within c.self.inside.pairing.states c.self.inside.pairing.some c.self.inside.count c.self.inside.bytes.items
+    c.args.self.now c.args.node c.self.invariant c.self.view_is c.requires in
+    rw c.place_of-place.ensures (omega (arith, within))
 
 pub returns : goal.returns
 returns c =
-    mark_read c.self.inside.count c.self.inside.bytes.items c.args.self.now c.args.node c.self.invariant c.self.view_is c.requires
-    c.index.result.now c.index.ensures ∙ ap Some (sym (c.of_number.ensures ∙ ap mark_of c.bits_at.ensures))
+    let at = c.place_of-place.ensures in
+    mark_read c.self.inside.pairing.states c.self.inside.pairing.some c.self.inside.count c.self.inside.bytes.items
+    c.args.self.now c.args.node c.self.invariant c.self.view_is c.requires c.index.result.now (rw at at c.index.ensures)
+    ∙ ap Some (sym (c.of_number.ensures ∙ ap mark_of (rw at at c.bits_at.ensures)))
