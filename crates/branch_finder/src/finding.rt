@@ -22,6 +22,7 @@ ghost use Rattle.branch_finder.specs.internal.Finding.{IsFoundOf, HasNoneBy, Has
 use crate::arguments::arguments_of;
 use crate::branch_error::BranchError;
 use crate::counting::{are_too_many, count_paths, path_with};
+use crate::differing::may_be_spurious;
 use crate::linking::links_of;
 use crate::listing::{equalities_along, updates_along};
 use crate::looking::{Look, Search, Walk};
@@ -249,6 +250,9 @@ fn least_window(alloc: Global, search: &Search, depth: u32) -> Result<Option<Win
     ensures none { IfOk result (λ found. IfNone found (HasNoSpuriousWindow (space_tree search.now.space.now)
         (environment_tree search.now.environment.now) search.now.cells.now search.now.equality depth)) }
 {
+    if !may_be_spurious(search) {
+        return Ok(None);
+    }
     for length in 0..depth + 1 {
         if let Some(window) = window_of_length(alloc, search, length)? {
             return Ok(Some(window));

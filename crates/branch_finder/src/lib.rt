@@ -24,6 +24,7 @@
 mod arguments;
 mod branch_error;
 mod counting;
+mod differing;
 mod finding;
 mod limits;
 mod linking;

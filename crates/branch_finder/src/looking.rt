@@ -246,7 +246,7 @@ fn are_same(left: &[u32], right: &[u32]) -> bool
 }
 
 /// Whether two predicate terms have the same predicate.
-fn have_one_predicate(space: &Space, left: u32, right: u32) -> bool
+pub(crate) fn have_one_predicate(space: &Space, left: u32, right: u32) -> bool
     requires left { left < length space.now.predicates }
     requires right { right < length space.now.predicates }
     ensures { (p q : ProbeTree) → slice_get (space_tree space.now).predicates left ≡ Some p
