@@ -6,6 +6,7 @@ use Rattle.std.proofs.lemmas.Bool.{false≢true}
 use Rattle.std.proofs.lemmas.List.{drop_all}
 use Rattle.std.proofs.lemmas.Option.{none-some, same_Some, slice_get_within}
 use Rattle.sequence.proofs.Places.{slice_get_one}
+use Rattle.lane_planes.specs.Planes.{has_bit}
 use Rattle.ltl_formula.specs.Cubes.{has_bit as has}
 use Rattle.letter_space.specs.SpaceTree.{SpaceTree}
 use Rattle.machines.specs.MachineTree.{EnvironmentTree, successor_at}
@@ -100,6 +101,18 @@ module _ (space : SpaceTree) (e : EnvironmentTree) (truths_counted : length e.tr
               },
             ),
       )
+
+      -- no state tells a pair apart where in none the left bit is as wanted
+      pub none_apart : (wanted : Bool) (left_mask left : ℕ) (plane from : List ℕ) → HasPrintAs left_mask left pair.left wanted →
+          IsPlaneOf e.states (IsKept e plane left_mask left e.states) from → ((s : ℕ) → has_bit from s ≡ false) →
+          TellsApart space e mask sets prints pair wanted plane → ⊥
+      none_apart wanted left_mask left plane from left_tells kept none told =
+          let below = truth_below pair.left told.middle wanted told.left in
+          false≢true (sym (none told.middle) ∙ (kept.tells told.middle below).1 (record {
+            below = below;
+            set = told.set;
+            truth = (print_is_bit e left_mask left pair.left wanted left_tells told.middle).1 told.left;
+          }))
 
       -- from the plane of states that are led to
       module _ (visited plane : List ℕ) (all : IsPlaneOf e.states (IsVisited e) visited)

@@ -15,6 +15,7 @@ ghost use Rattle.branch_finder.specs.internal.Looking.{pair_tree, IsSearch, IsWa
 
 use crate::moving::{is_some_with, states_after, states_with};
 use crate::prints::{bit_wanted, is_set};
+use lane_planes::any_bit;
 use letter_space::Space;
 use machines::Environment;
 use sequence::{NoMemory, Sequence};
@@ -107,13 +108,11 @@ fn tells_apart(
         plane,
         bit_wanted(pair.left, wanted),
     )?;
-    let last = states_after(
-        alloc,
-        search,
-        from.as_slice(),
-        &walk.numbers[at..],
-        &walk.prints[at..],
-    )?;
+    let from = from.as_slice();
+    if !any_bit(from) {
+        return Ok(false);
+    }
+    let last = states_after(alloc, search, from, &walk.numbers[at..], &walk.prints[at..])?;
     Ok(is_some_with(
         search.environment,
         last.as_slice(),
