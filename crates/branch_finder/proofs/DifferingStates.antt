@@ -1,5 +1,5 @@
 -- Where the states that an environment visits differ in nothing that a congruent window speaks of, no window is spurious.
-use Rattle.std.proofs.Common.{◌≡◌, ℕ, zero, suc, ◌<◌, ◌≤◌, Bool, false, not, List, Option, Some, None, arith}
+use Rattle.std.proofs.Common.{ℕ, zero, suc, ◌<◌, ◌≤◌, Bool, false, not, List, Option, Some, None, arith}
 use Rattle.std.proofs.Common.{length as count_of}
 use Rattle.std.proofs.lemmas.Option.{slice_get_within}
 use Rattle.tsl_terms.specs.TermTree.{ProbeTree}
@@ -10,7 +10,7 @@ use Rattle.machines.specs.MachineTree.{EnvironmentTree}
 use Rattle.machines.specs.Visits.{IsVisited, by_vector}
 use Rattle.branch_finder.specs.Spurious.{IsTruthAt, SidesDiffer, IsSpurious}
 use Rattle.branch_finder.specs.internal.Prints.{AreEqualityBits}
-use Rattle.branch_finder.specs.internal.Differing.{IsMet, DifferSomewhere, IsFalseSomewhere}
+use Rattle.branch_finder.specs.internal.Differing.{IsEver, DifferSomewhere, IsFalseSomewhere}
 
 module _ (space : SpaceTree) (e : EnvironmentTree) (cells : List ℕ) (equality : Option ℕ) (mask : ℕ)
     (bits : AreEqualityBits space equality mask) (w : WindowTree) (within : w.left_at ≤ w.length)
@@ -22,12 +22,12 @@ module _ (space : SpaceTree) (e : EnvironmentTree) (cells : List ℕ) (equality 
       by_vector (spurious.state t) (spurious.vector t) (spurious.state (suc t)) (all_visited t (omega (arith, inside)))
       (spurious.steps t (omega (arith, inside)))
 
-  met : (t : ℕ) (p : ProbeTree) (wanted : Bool) → t ≤ w.length → (truth : IsTruthAt space e (spurious.state t) p wanted) →
-      IsMet e truth.bit wanted
-  met t p wanted inside truth = record {
+  ever : (t : ℕ) (p : ProbeTree) (wanted : Bool) → t ≤ w.length → (truth : IsTruthAt space e (spurious.state t) p wanted) →
+      IsEver e truth.bit wanted
+  ever t p wanted inside truth = record {
     state = spurious.state t;
     visited = all_visited t inside;
-    stands = record { truths = truth.truths; at = truth.are_truths; is = truth.stands };
+    truth = record { truths = truth.truths; at = truth.are_truths; is = truth.stands };
   }
 
   -- if it has a left probe, then two bits differ somewhere, and else an equality is false somewhere
@@ -40,7 +40,7 @@ module _ (space : SpaceTree) (e : EnvironmentTree) (cells : List ℕ) (equality 
       by None last one =
           none_false last.bit (slice_get_within space.predicates last.bit w.right last.is_bit) (record {
             is_equality = bits.all last.bit w.right last.is_bit one.0;
-            met = met w.length w.right false (omega arith) last;
+            ever = ever w.length w.right false (omega arith) last;
           })
       by (Some left) differ one =
           let there = differ.1 in
@@ -56,6 +56,6 @@ module _ (space : SpaceTree) (e : EnvironmentTree) (cells : List ℕ) (equality 
               same = one.0;
             };
             wanted = differ.0;
-            left_met = met w.left_at left differ.0 within there;
-            right_met = met w.length w.right (not differ.0) (omega arith) last;
+            left_is = ever w.left_at left differ.0 within there;
+            right_is = ever w.length w.right (not differ.0) (omega arith) last;
           })

@@ -14,7 +14,8 @@ use Rattle.machines.specs.Visits.{IsVisited, by_vector}
 use Rattle.branch_finder.specs.internal.Prints.{HasPrint}
 use Rattle.branch_finder.specs.internal.Sets.{HasAll, GoesBy, LeadsTo}
 use Rattle.branch_finder.specs.internal.Planes.{IsPlaneOf, ComesFrom, IsTruthOf, IsKept}
-use Rattle.branch_finder.specs.internal.Paths.{PairTree, IsEver, TellsApart, IsToldApart, IsToldFalse}
+use Rattle.branch_finder.specs.internal.Paths.{PairTree, TellsApart, IsToldApart, IsToldFalse}
+use Rattle.branch_finder.specs.internal.Differing.{IsEver}
 
 -- a print says as much as one bit
 abbrev pub HasPrintAs : ℕ → ℕ → ℕ → Bool → Type 0

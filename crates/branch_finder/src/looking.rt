@@ -8,11 +8,12 @@ ghost use Rattle.tsl_terms.specs.Congruence.{IsCongruent};
 ghost use Rattle.letter_space.specs.SpaceView.{space_tree};
 ghost use Rattle.machines.specs.MachineView.{environment_tree};
 ghost use Rattle.branch_finder.specs.internal.Arguments.{ArePlaceLabels};
-ghost use Rattle.branch_finder.specs.internal.Paths.{IsEver, TellsApart, IsToldApart, IsToldFalse, path_window, IsSeen, IsSeenAlone};
+ghost use Rattle.branch_finder.specs.internal.Paths.{TellsApart, IsToldApart, IsToldFalse, path_window, IsSeen, IsSeenAlone};
 ghost use Rattle.branch_finder.specs.internal.Sets.{set_of};
 ghost use Rattle.branch_finder.specs.internal.Planes.{words_of};
 ghost use Rattle.branch_finder.specs.internal.Looking.{pair_tree, IsSearch, IsWalk, IsLook, IsPairWithin};
 
+use crate::differing::may_differ;
 use crate::moving::{is_some_with, states_after, states_with};
 use crate::prints::{bit_wanted, is_set};
 use lane_planes::any_bit;
@@ -127,37 +128,6 @@ fn is_one_side(walk: &Walk, pair: Pair) -> bool
     pair.left == pair.right && pair.left_at as usize == walk.path.len()
 }
 
-/// Whether a bit is as wanted in some state that is visited.
-fn is_ever(search: &Search, bit: u32, wanted: bool) -> bool
-    requires search { IsSearch search.now }
-    requires bit { bit < length search.now.space.now.predicates }
-    ensures { IsTrue result ↔ IsEver (environment_tree search.now.environment.now) bit wanted }
-{
-    is_some_with(search.environment, search.visited, bit_wanted(bit, wanted))
-}
-
-/// Whether a pair's left bit is as wanted in some state that is visited, and its right one is not in some such state.
-fn may_differ_as(search: &Search, pair: Pair, wanted: bool) -> bool
-    requires search { IsSearch search.now }
-    requires left { pair.left < length search.now.space.now.predicates }
-    requires right { pair.right < length search.now.space.now.predicates }
-    ensures { result ≡ false → IsEver (environment_tree search.now.environment.now) pair.left wanted
-        → IsEver (environment_tree search.now.environment.now) pair.right (not wanted) → ⊥ }
-{
-    is_ever(search, pair.left, wanted) && is_ever(search, pair.right, !wanted)
-}
-
-/// Whether a pair's bits differ in some two states that are visited.
-fn may_differ(search: &Search, pair: Pair) -> bool
-    requires search { IsSearch search.now }
-    requires left { pair.left < length search.now.space.now.predicates }
-    requires right { pair.right < length search.now.space.now.predicates }
-    ensures { result ≡ false → (wanted : Bool) → IsEver (environment_tree search.now.environment.now) pair.left wanted
-        → IsEver (environment_tree search.now.environment.now) pair.right (not wanted) → ⊥ }
-{
-    may_differ_as(search, pair, true) || may_differ_as(search, pair, false)
-}
-
 /// Whether a path tells a pair apart, from some state that is visited. Two quick tests come first: one side is never told
 /// apart from itself, nor are bits that do not differ in any two states that are visited. An `Err` says that memory ran
 /// out.
@@ -173,7 +143,7 @@ pub(crate) fn is_told_apart(alloc: Global, walk: &Walk, pair: Pair) -> Result<bo
     if is_one_side(walk, pair) {
         return Ok(false);
     }
-    if !may_differ(search, pair) {
+    if !may_differ(search, pair.left, pair.right) {
         return Ok(false);
     }
     let at = pair.left_at as usize;

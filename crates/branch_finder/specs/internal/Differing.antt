@@ -9,10 +9,10 @@ use Rattle.machines.specs.Visits.{IsVisited}
 use Rattle.branch_finder.specs.internal.Planes.{IsTruthOf}
 
 -- in some state that is visited a bit is as wanted
-pub record IsMet (e : EnvironmentTree) (bit : ℕ) (wanted : Bool) : Type 0 where
+pub record IsEver (e : EnvironmentTree) (bit : ℕ) (wanted : Bool) : Type 0 where
   pub state : ℕ
   pub visited : IsVisited e state
-  pub stands : IsTruthOf e bit wanted state
+  pub truth : IsTruthOf e bit wanted state
 
 -- two bits are predicate terms with one predicate
 pub record HaveOnePredicate (space : SpaceTree) (left right : ℕ) : Type 0 where
@@ -27,10 +27,10 @@ pub record HaveOnePredicate (space : SpaceTree) (left right : ℕ) : Type 0 wher
 pub record DifferSomewhere (space : SpaceTree) (e : EnvironmentTree) (left right : ℕ) : Type 0 where
   pub predicate : HaveOnePredicate space left right
   pub wanted : Bool
-  pub left_met : IsMet e left wanted
-  pub right_met : IsMet e right (not wanted)
+  pub left_is : IsEver e left wanted
+  pub right_is : IsEver e right (not wanted)
 
 -- an equality, one of the bits of a mask, is false in some state that is visited
 pub record IsFalseSomewhere (e : EnvironmentTree) (mask right : ℕ) : Type 0 where
   pub is_equality : has_bit right mask ≡ true
-  pub met : IsMet e right false
+  pub ever : IsEver e right false

@@ -64,12 +64,6 @@ abbrev pub equalities_along : List ProbeTree → ℕ → List ℕ → List Equat
 equalities_along probes offset [] = []
 equalities_along probes offset (print ∷ prints) = equalities_in print 0 offset probes ++ equalities_along probes (suc offset) prints
 
--- in some state that is visited a bit is as wanted
-pub record IsEver (e : EnvironmentTree) (bit : ℕ) (wanted : Bool) : Type 0 where
-  pub state : ℕ
-  pub visited : IsVisited e state
-  pub truth : IsTruthOf e bit wanted state
-
 -- From a state of a plane, sets and prints from a pair's step on tell its bits apart, where the left one is as wanted in that state.
 pub record TellsApart (space : SpaceTree) (e : EnvironmentTree) (mask : ℕ) (sets prints : List ℕ) (pair : PairTree) (wanted : Bool)
     (plane : List ℕ) : Type 0 where

@@ -1,7 +1,7 @@
 use Rattle.machines.specs.MachineView.{environment_tree}
 use Rattle.branch_finder.proofs.VisitLemmas.{is_environment, visited_below}
 use Rattle.branch_finder.proofs.ToldApart.{ever_by_plane}
-use Rattle.branch_finder.proofs.looking.is_ever.Goals as goal
+use Rattle.branch_finder.proofs.differing.is_ever.Goals as goal
 
 pub returns : goal.returns
 returns c =
