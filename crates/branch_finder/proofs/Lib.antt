@@ -16,6 +16,7 @@ pub mod ArgumentLemmas
 pub mod ProbeLabels
 pub mod Thinned
 pub mod SpuriousProbes
+pub mod DifferingStates
 pub mod ValueLemmas
 pub mod Seen
 pub mod NoneSeen

@@ -6,14 +6,16 @@ use Rattle.std.proofs.lemmas.Bool.{false≢true}
 use Rattle.std.proofs.lemmas.List.{drop_all}
 use Rattle.std.proofs.lemmas.Option.{none-some, same_Some, slice_get_within}
 use Rattle.sequence.proofs.Places.{slice_get_one}
+use Rattle.lane_planes.specs.Planes.{has_bit}
 use Rattle.ltl_formula.specs.Cubes.{has_bit as has}
 use Rattle.letter_space.specs.SpaceTree.{SpaceTree}
 use Rattle.machines.specs.MachineTree.{EnvironmentTree, successor_at}
-use Rattle.machines.specs.Visits.{IsVisited}
+use Rattle.machines.specs.Visits.{IsVisited, by_vector}
 use Rattle.branch_finder.specs.internal.Prints.{HasPrint}
 use Rattle.branch_finder.specs.internal.Sets.{HasAll, GoesBy, LeadsTo}
 use Rattle.branch_finder.specs.internal.Planes.{IsPlaneOf, ComesFrom, IsTruthOf, IsKept}
 use Rattle.branch_finder.specs.internal.Paths.{PairTree, TellsApart, IsToldApart, IsToldFalse}
+use Rattle.branch_finder.specs.internal.Differing.{IsEver}
 
 -- a print says as much as one bit
 abbrev pub HasPrintAs : ℕ → ℕ → ℕ → Bool → Type 0
@@ -100,6 +102,18 @@ module _ (space : SpaceTree) (e : EnvironmentTree) (truths_counted : length e.tr
               },
             ),
       )
+
+      -- no state tells a pair apart where in none the left bit is as wanted
+      pub none_apart : (wanted : Bool) (left_mask left : ℕ) (plane from : List ℕ) → HasPrintAs left_mask left pair.left wanted →
+          IsPlaneOf e.states (IsKept e plane left_mask left e.states) from → ((s : ℕ) → has_bit from s ≡ false) →
+          TellsApart space e mask sets prints pair wanted plane → ⊥
+      none_apart wanted left_mask left plane from left_tells kept none told =
+          let below = truth_below pair.left told.middle wanted told.left in
+          false≢true (sym (none told.middle) ∙ (kept.tells told.middle below).1 (record {
+            below = below;
+            set = told.set;
+            truth = (print_is_bit e left_mask left pair.left wanted left_tells told.middle).1 told.left;
+          }))
 
       -- from the plane of states that are led to
       module _ (visited plane : List ℕ) (all : IsPlaneOf e.states (IsVisited e) visited)
@@ -278,6 +292,56 @@ module _ (space : SpaceTree) (e : EnvironmentTree) (mask : ℕ) where
         (printed 0 print refl, state 1, record { vector = vector 0; has = has 0 set refl; goes = steps 0 (omega arith) }, rest.0),
         rest.1,
       )
+
+-- ---- what is ever so
+
+-- a bit is ever as wanted where a plane of the visited states has such a one
+pub ever_by_plane : (e : EnvironmentTree) (own_mask own bit : ℕ) (wanted : Bool) (visited : List ℕ) →
+    HasPrintAs own_mask own bit wanted → IsPlaneOf e.states (IsVisited e) visited → ((s : ℕ) → IsVisited e s → s < e.states) →
+    ((s : ℕ) × IsKept e visited own_mask own e.states s) ↔ IsEver e bit wanted
+ever_by_plane e own_mask own bit wanted visited tells all start_below = (
+  λ some. record {
+    state = some.0;
+    visited = (all.tells some.0 some.1.below).0 some.1.set;
+    truth = (print_is_bit e own_mask own bit wanted tells some.0).0 some.1.truth;
+  },
+  λ ever.
+      let below = start_below ever.state ever.visited in (
+        ever.state,
+        record {
+          below = below;
+          set = (all.tells ever.state below).1 ever.visited;
+          truth = (print_is_bit e own_mask own bit wanted tells ever.state).1 ever.truth;
+        },
+      ),
+)
+
+-- what is led to is visited
+led_visited : (space : SpaceTree) (e : EnvironmentTree) (mask : ℕ) (sets prints : List ℕ) (s t : ℕ) → IsVisited e s →
+    LeadsTo space e mask sets prints s t → IsVisited e t
+led_visited space e mask [] [] s t visited leads = absurd leads
+led_visited space e mask (set ∷ sets) [] s t visited leads = absurd leads
+led_visited space e mask [] (print ∷ next ∷ prints) s t visited leads = absurd leads
+led_visited space e mask [] (print ∷ []) s t visited leads = subst (IsVisited e) leads.1 visited
+led_visited space e mask (set ∷ sets) (print ∷ prints) s t visited leads =
+    led_visited space e mask sets prints leads.1 t (by_vector s leads.2.vector leads.1 visited leads.2.goes) leads.3
+
+module _ (space : SpaceTree) (e : EnvironmentTree) (mask : ℕ) (sets prints : List ℕ) (pair : PairTree)
+    (told : IsToldApart space e mask sets prints pair) where
+  middle_visited : IsVisited e told.middle
+  middle_visited =
+      led_visited space e mask (take pair.left_at sets) (take (suc pair.left_at) prints) told.start told.middle told.visited told.before
+
+  -- bits that do not differ in any two visited states are not told apart
+  pub never_differ : ((wanted : Bool) → IsEver e pair.left wanted → IsEver e pair.right (not wanted) → ⊥) → ⊥
+  never_differ never =
+      never told.wanted (record { state = told.middle; visited = middle_visited; truth = told.left })
+      (record {
+        state = told.last;
+        visited = led_visited space e mask (drop pair.left_at sets) (drop pair.left_at prints) told.middle told.last middle_visited
+            told.after;
+        truth = told.right;
+      })
 
 -- ---- one side alone
 

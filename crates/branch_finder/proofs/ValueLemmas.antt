@@ -1,19 +1,20 @@
--- Values of terms along a path: what unfolds to free terms of one class has one value where no equality is listed. So a path on which
--- values are apart has no pair that is seen.
-use Rattle.std.proofs.Common.{◌≡◌, ◌∙◌, ℕ, zero, suc, ◌+◌, ◌<◌, ◌≤◌, ◌==◌, ◌&&◌, ◌||◌, Bool, true, false, cond, List, [], ◌∷◌, ◌++◌}
-use Rattle.std.proofs.Common.{map, take, drop, get_or, Option, Some, None, slice_get, refl, sym, ap, subst, arith, inl, inr, eq-eqb}
+-- Values of terms along a path: what unfolds to free terms of one class has one value where no equality is listed. So a pair that is seen
+-- looks so.
+use Rattle.std.proofs.Common.{◌≡◌, ◌∙◌, ℕ, zero, suc, ◌+◌, ◌*◌, ◌<◌, ◌==◌, ◌&&◌, ◌||◌, Bool, true, false, cond, List, [], ◌∷◌}
+use Rattle.std.proofs.Common.{◌++◌, map, drop, get_or, Option, Some, None, slice_get, refl, sym, ap, subst, arith, inl, inr, eq-eqb}
 use Rattle.std.proofs.Common.{length as count_of}
 use Rattle.std.specs.List.{AllByRecursion, find}
 use Rattle.std.specs.Prelude.{option_map}
-use Rattle.std.proofs.lemmas.Bool.{false_from_ne_true, and_from, and_parts, or_left, or_right, eqb-true, false≢true, cases_lt}
-use Rattle.std.proofs.lemmas.List.{drop_more, length-map}
+use Rattle.std.proofs.lemmas.Bool.{false_from_ne_true, and_from, and_parts, eqb-true, false≢true}
+use Rattle.std.proofs.lemmas.List.{drop_more, length-map, length-append}
+use Rattle.std.proofs.lemmas.Nat.{div-mul-add, mod-mul-add}
+use Rattle.std.proofs.lemmas.Option.{slice_get_within}
 use Rattle.std.proofs.lemmas.Nat.Bits.{bit_at-zero}
-use Rattle.std.proofs.lemmas.List.Folds.{list_any-append}
 use Rattle.sequence.specs.Numbers.{is_among}
 use Rattle.sequence.proofs.Each.{each_at, each_weaker}
 use Rattle.sequence.proofs.Finds.{found_has, found_passes, find_none_at}
-use Rattle.sequence.proofs.Numbers.{among_at, among_first, among_next}
-use Rattle.sequence.proofs.Places.{slice_get_some, slice_get_taken}
+use Rattle.sequence.proofs.Numbers.{among_first, among_next}
+use Rattle.sequence.proofs.Places.{slice_get_some, slice_get_grown, slice_get-append}
 use Rattle.tsl_terms.specs.TermTree.{TermTree, signal, apply, TermTrees, no_terms, more_terms}
 use Rattle.tsl_terms.specs.WindowTree.{ListedTree, EquatedTree}
 use Rattle.tsl_terms.specs.FreeTree.{FreeTree, leaf_at, applied, FreeTrees, no_free, more_free}
@@ -26,15 +27,13 @@ use Rattle.letter_space.specs.Vectors.{picks_of}
 use Rattle.letter_space.proofs.Places.{slice_get_image}
 use Rattle.machines.specs.MachineTree.{EnvironmentTree}
 use Rattle.branch_finder.specs.internal.Prints.{AreEqualityBits, ArePrintsWithin}
-use Rattle.branch_finder.specs.internal.Sets.{set_of}
 use Rattle.branch_finder.specs.internal.Paths.{vector_at, updates_along, equalities_along, IsSeen, IsSeenAlone}
 use Rattle.branch_finder.specs.internal.Thinning.{IsOwn, IsOwnEquality}
 use Rattle.branch_finder.specs.internal.Values.{mixed, leaf_value, value_by, values_by, probe_value, value_after, signal_value, value_in}
-use Rattle.branch_finder.specs.internal.Values.{value_along, values_along, AreApart}
+use Rattle.branch_finder.specs.internal.Values.{value_along, values_along, AreValues, pair_at, LooksSeen}
 use Rattle.branch_finder.proofs.PathUpdates.{own_updates, vector_is, along_there}
 use Rattle.branch_finder.proofs.PathEqualities.{own_equalities}
-use Rattle.branch_finder.proofs.LoopFacts.{all_more}
-use Rattle.branch_finder.proofs.ToldApart.{not_from_itself}
+use Rattle.branch_finder.proofs.LoopFacts.{before_or_here}
 
 -- ---- free terms
 
@@ -190,50 +189,52 @@ module _ (space : SpaceTree) (cells path : List ℕ) where
       map (probe_value (value_in cells values step)) space.predicates ≡ values_along space cells path step
   row_by_cells values step is = λ i. map (probe_value (λ r. by_cells values step is r i)) space.predicates
 
--- values of rows among others
-abbrev pub HasRows : (ℕ → List ℕ) → ℕ → List ℕ → Type 0
-HasRows rows count values = (j : ℕ) → j < count → (v : ℕ) → is_among (rows j) v ≡ true → is_among values v ≡ true
+-- ---- values of predicate terms
 
-among_either : (xs ys : List ℕ) (v : ℕ) → is_among (xs ++ ys) v ≡ (is_among xs v || is_among ys v)
-among_either xs ys v = list_any-append (λ m. m == v) xs ys
+-- those of a step more
+pub values_more : (space : SpaceTree) (cells path : List ℕ) (step : ℕ) (values new row : List ℕ) →
+    AreValues space cells path step values → new ≡ values ++ row → row ≡ values_along space cells path step →
+    AreValues space cells path (step + 1) new
+values_more space cells path step values new row before is row_is = record {
+  size =
+      let row_size : count_of row ≡ count_of space.predicates
+      = ap count_of row_is ∙ length-map space.predicates (probe_value (value_along space cells path step)) in
+      let more : (step + 1) * count_of space.predicates ≡ step * count_of space.predicates + count_of space.predicates = grind arith in
+      ap count_of is ∙ length-append values row ∙ omega (arith, row_size, before.size, more);
+  each = λ k i value below at. elim (before_or_here k step below) [
+    | inl earlier ↦
+        ap (λ (vs : List ℕ). slice_get vs (k * count_of space.predicates + i)) is
+        ∙ slice_get_grown values row (k * count_of space.predicates + i) value (before.each k i value earlier at)
+    | inr same ↦
+        ap (λ (vs : List ℕ). slice_get vs (k * count_of space.predicates + i)) is
+        ∙ slice_get-append values row i (k * count_of space.predicates + i)
+        (ap (λ m. m + i) (ap (λ m. m * count_of space.predicates) same ∙ sym before.size))
+        ∙ ap (λ (vs : List ℕ). slice_get vs i) row_is ∙ ap (λ m. slice_get (values_along space cells path m) i) (sym same) ∙ at
+  ];
+}
 
-pub one_row_more : (rows : ℕ → List ℕ) (count : ℕ) (values new row : List ℕ) → HasRows rows count values → new ≡ values ++ row →
-    row ≡ rows count → HasRows rows (count + 1) new
-one_row_more rows count values new row before is row_is =
-    all_more (λ j. (v : ℕ) → is_among (rows j) v ≡ true → is_among new v ≡ true) count
-    (λ j below v among. ap (λ ns. is_among ns v) is ∙ among_either values row v
-    ∙ or_left (is_among values v) (is_among row v) (before j below v among))
-    (λ v among. ap (λ ns. is_among ns v) is ∙ among_either values row v
-    ∙ or_right (is_among values v) (is_among row v) (ap (λ ns. is_among ns v) row_is ∙ among))
-
--- no value of the last row is among those of earlier ones or earlier in the last one
-pub apart_by : (rows : ℕ → List ℕ) (count : ℕ) (earlier last : List ℕ) → HasRows rows count earlier → last ≡ rows count →
-    ((i v : ℕ) → slice_get last i ≡ Some v → (is_among earlier v ≡ false) × (is_among (take i last) v ≡ false)) →
-    (left_at left right value : ℕ) → left_at ≤ count → slice_get (rows left_at) left ≡ Some value →
-    slice_get (rows count) right ≡ Some value → (left ≡ right) × (left_at ≡ count)
-apart_by rows count earlier last before is once left_at left right value within at at_too = elim (cases_lt left_at count) [
-  | inl below ↦
-      absurd (false≢true (sym (once right value (ap (λ ns. slice_get ns right) is ∙ at_too)).0
-      ∙ before left_at below value (among_at (rows left_at) left value at)))
-  | inr past ↦
-      let same : left_at ≡ count = omega (arith, past, within) in
-      let there : slice_get last left ≡ Some value = ap (λ ns. slice_get ns left) is ∙ ap (λ n. slice_get (rows n) left) (sym same) ∙ at in
-      let there_too : slice_get last right ≡ Some value = ap (λ ns. slice_get ns right) is ∙ at_too in
-      (in_one left right there there_too, same)
-]
-  where
-    never : (i j : ℕ) → slice_get last i ≡ Some value → slice_get last j ≡ Some value → i < j → ⊥
-    never i j first second below =
-        false≢true (sym (once j value second).1 ∙ among_at (take j last) i value (slice_get_taken j last i value below first))
-
-    in_one : (i j : ℕ) → slice_get last i ≡ Some value → slice_get last j ≡ Some value → i ≡ j
-    in_one i j first second = elim (cases_lt i j) [
-      | inl below ↦ absurd (never i j first second below)
-      | inr not_below ↦ elim (cases_lt j i) [
-        | inl above ↦ absurd (never j i second first above)
-        | inr not_above ↦ omega (arith, not_below, not_above)
-      ]
-    ]
+module _ (space : SpaceTree) (e : EnvironmentTree) (cells : List ℕ) (mask : ℕ) (path prints values : List ℕ)
+    (are : AreValues space cells path (suc (count_of path)) values) where
+  -- a pair's left value stands at some place
+  pub none_looks : (right : ℕ) →
+      ((place : ℕ) → place < count_of values → LooksSeen space e cells mask path prints (pair_at space place right) → ⊥) →
+      (left_at left : ℕ) → LooksSeen space e cells mask path prints (record { left_at = left_at; left = left; right = right }) → ⊥
+  none_looks right none left_at left looks =
+      let width = count_of space.predicates in
+      let below : left < width
+      = omega (
+        arith,
+        slice_get_within (values_along space cells path left_at) left looks.value looks.left,
+        length-map space.predicates (probe_value (value_along space cells path left_at)),
+      ) in
+      let there = are.each left_at left looks.value (omega (arith, looks.within)) looks.left in
+      none (left_at * width + left) (slice_get_within values (left_at * width + left) looks.value there)
+      (subst (LooksSeen space e cells mask path prints)
+      (sym (λ i. record {
+        left_at = div-mul-add left_at width left below i;
+        left = mod-mul-add left_at width left below i;
+        right = right;
+      })) looks)
 
 -- ---- what is seen
 
@@ -256,9 +257,11 @@ module _ (space : SpaceTree) (e : EnvironmentTree) (cells : List ℕ) (equality 
           no_bit own.bit (each_at (λ n. (bit : ℕ) → has_bit bit n ≡ true → has_bit bit mask ≡ true) prints q.offset print.0 within print.1
           own.bit (ap (has_bit own.bit) (sym same) ∙ own.has))
 
-  pub none_seen_apart : AreApart space cells path → ArePrintsWithin mask prints → (left_at left right : ℕ) →
-      IsSeen space e cells equality mask path prints (record { left_at = left_at; left = left; right = right }) → ⊥
-  none_seen_apart apart within left_at left right seen =
+  -- what is seen looks so
+  pub seen_looks : ArePrintsWithin mask prints → (left_at left right : ℕ) →
+      IsSeen space e cells equality mask path prints (record { left_at = left_at; left = left; right = right }) →
+      LooksSeen space e cells mask path prints (record { left_at = left_at; left = left; right = right })
+  seen_looks within left_at left right seen =
       let taken = term_taken_by_cell cells (updates_along space.controlled cells 0 path) in
       let one = subst (λ (qs : List EquatedTree). AreInOneClasses (listed_pairs cells (updates_along space.controlled cells 0 path) qs)
       (all_unfolded cells (updates_along space.controlled cells 0 path) left_at seen.left.arguments)
@@ -270,11 +273,15 @@ module _ (space : SpaceTree) (e : EnvironmentTree) (cells : List ℕ) (equality 
       ∙ one_class_value (mixed 2 seen.left.predicate) _ _ one
       ∙ all_unfolded_value taken (count_of path) (mixed 2 seen.left.predicate) seen.right.arguments
       ∙ ap (λ p. values_by (value_along space cells path (count_of path)) (mixed 2 p) seen.right.arguments) seen.congruent.sides.0 in
-      let side = apart left_at left right (probe_value (value_along space cells path (count_of path)) seen.right) seen.within
-      (slice_get_image (probe_value (value_along space cells path left_at)) space.predicates left seen.left seen.is_left ∙ ap Some same)
-      (slice_get_image (probe_value (value_along space cells path (count_of path))) space.predicates right seen.right seen.is_right) in
-      not_from_itself space e mask (map (set_of space cells) path) prints (record { left_at = left_at; left = left; right = right }) side.0
-      (side.1 ∙ sym (length-map path (set_of space cells))) seen.told
+      record {
+        within = seen.within;
+        value = probe_value (value_along space cells path (count_of path)) seen.right;
+        left = slice_get_image (probe_value (value_along space cells path left_at)) space.predicates left seen.left seen.is_left
+            ∙ ap Some same;
+        right = slice_get_image (probe_value (value_along space cells path (count_of path))) space.predicates right seen.right
+            seen.is_right;
+        told = seen.told;
+      }
 
   pub none_alone : AreEqualityBits space equality mask → (right : ℕ) → IsSeenAlone space e cells equality mask path prints right → ⊥
   none_alone bits right seen = no_bit right (bits.all right seen.probe seen.is_probe seen.congruent.sides.0)

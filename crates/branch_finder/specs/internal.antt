@@ -3,6 +3,7 @@ pub mod Arguments
 pub mod Sets
 pub mod Planes
 pub mod Paths
+pub mod Differing
 pub mod Visiting
 pub mod Looking
 pub mod Thinning

@@ -15,21 +15,22 @@ ghost use Rattle.branch_finder.specs.Finding.{AreControlled, HasNoSpuriousWindow
 ghost use Rattle.branch_finder.specs.internal.Sets.{first_of, numbered_set};
 ghost use Rattle.branch_finder.specs.internal.Planes.{ComesFrom};
 ghost use Rattle.branch_finder.specs.internal.Prints.{ArePrintsWithin};
-ghost use Rattle.branch_finder.specs.internal.Looking.{IsSearch, IsPath};
-ghost use Rattle.branch_finder.specs.internal.Values.{AreApart};
+ghost use Rattle.branch_finder.specs.internal.Looking.{IsSearch, IsPath, IsWalk};
+ghost use Rattle.branch_finder.specs.internal.Values.{LooksSeen};
 ghost use Rattle.branch_finder.specs.internal.Finding.{IsFoundOf, HasNoneBy, HasNoneOn, HasNoneOf};
 
 use crate::arguments::arguments_of;
 use crate::branch_error::BranchError;
 use crate::counting::{are_too_many, count_paths, path_with};
+use crate::differing::may_be_spurious;
 use crate::linking::links_of;
 use crate::listing::{equalities_along, updates_along};
-use crate::looking::{Look, Search};
+use crate::looking::{Look, Search, Walk};
 use crate::moving::{plane_of, states_after};
 use crate::prints::{equality_bits, prints_of};
 use crate::sets::{sets_of, vector_masks};
 use crate::thinning::needed_window;
-use crate::values::may_be_one;
+use crate::values::looks_seen;
 use crate::visiting::visited_states;
 use crate::windows::window_seen;
 use lane_planes::any_bit;
@@ -52,22 +53,18 @@ fn first_vectors(alloc: Global, firsts: &[u32], numbers: &[u32]) -> Result<Vec<u
     Ok(path)
 }
 
-/// Whether a pair may be seen on a path: not where the space has no equalities and the values of predicate terms are apart.
-fn may_be_seen(
-    alloc: Global,
-    search: &Search,
-    _numbers: &[u32],
-    path: &[u32],
-) -> Result<bool, NoMemory>
-    requires search { IsSearch search.now }
-    requires path { IsPath search.now _numbers.now path.now }
-    ensures { IfOk result (λ may. may ≡ false
-        → (search.now.mask ≡ 0) × AreApart (space_tree search.now.space.now) search.now.cells.now path.now) }
+/// Whether a pair may be seen on a path: not where the space has no equalities and none looks seen.
+fn may_be_seen(alloc: Global, walk: &Walk) -> Result<bool, NoMemory>
+    requires walk { IsWalk walk.now }
+    ensures { IfOk result (λ may. may ≡ false → (walk.now.search.mask ≡ 0)
+        × ((left_at left right : ℕ) → LooksSeen (space_tree walk.now.search.space.now) (environment_tree walk.now.search.environment.now)
+        walk.now.search.cells.now walk.now.search.mask walk.now.path.now walk.now.prints.now
+        (record { left_at = left_at; left = left; right = right }) → ⊥)) }
 {
-    if search.mask != 0 {
+    if walk.search.mask != 0 {
         return Ok(true);
     }
-    Ok(may_be_one(alloc, search.space, search.cells, path)?)
+    Ok(looks_seen(alloc, walk)?)
 }
 
 /// A congruent window that is spurious along a path of sets by states with these prints, with what it needs, if
@@ -88,7 +85,13 @@ fn window_along(
     ensures none { IfOk result (λ found. IfNone found (HasNoneBy (space_tree search.now.space.now)
         (environment_tree search.now.environment.now) search.now.cells.now search.now.equality search.now.mask path.now prints.now)) }
 {
-    if !may_be_seen(alloc, search, numbers, path)? {
+    let walk = Walk {
+        search: *search,
+        numbers,
+        path,
+        prints,
+    };
+    if !may_be_seen(alloc, &walk)? {
         return Ok(None);
     }
     let updates = updates_along(alloc, search.space, search.cells, path)?;
@@ -101,10 +104,7 @@ fn window_along(
         path.len() as u32,
     )?;
     let look = Look {
-        search: *search,
-        numbers,
-        path,
-        prints,
+        walk,
         rows: table.rows.as_slice(),
     };
     match window_seen(alloc, &look, updates, equalities)? {
@@ -250,6 +250,9 @@ fn least_window(alloc: Global, search: &Search, depth: u32) -> Result<Option<Win
     ensures none { IfOk result (λ found. IfNone found (HasNoSpuriousWindow (space_tree search.now.space.now)
         (environment_tree search.now.environment.now) search.now.cells.now search.now.equality depth)) }
 {
+    if !may_be_spurious(search) {
+        return Ok(None);
+    }
     for length in 0..depth + 1 {
         if let Some(window) = window_of_length(alloc, search, length)? {
             return Ok(Some(window));

@@ -16,14 +16,15 @@
 //! predicate terms once on each (`arguments`), where all updates and equalities along it are listed, and looks at the
 //! pairs, and at the equalities alone, whose labels are equal: with fewer listed none becomes congruent. What is not
 //! needed is left out at the end (`thinning`). Where no predicate term is an equality, values of the predicate terms
-//! under one reading of all functions tell before that no pair is congruent (`values`). The vectors with all updates of a set are matched by their masks, and
-//! give the states that each state goes to (`linking`); where an environment may be after some steps is a plane of
-//! states (`moving`).
+//! under one reading of all functions tell before which pairs may be congruent: a path that tells none of these apart
+//! is not labelled (`values`). The vectors with all updates of a set are matched by their masks, and give the states
+//! that each state goes to (`linking`); where an environment may be after some steps is a plane of states (`moving`).
 #![tactic(auto)]
 
 mod arguments;
 mod branch_error;
 mod counting;
+mod differing;
 mod finding;
 mod limits;
 mod linking;

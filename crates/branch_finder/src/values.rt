@@ -1,17 +1,20 @@
-//! Values of predicate terms along a path, under one reading of all functions: where no two of them are equal, no pair is congruent.
+//! Values of predicate terms along a path, under one reading of all functions. Where no equality is listed, those of a congruent pair are
+//! equal. So a pair that is seen *looks* seen: its values are equal, and the path tells it apart.
 
-ghost use Rattle.std.specs.Prelude.{◌≡◌, ◌<◌, ◌≤◌, ◌++◌, ℕ, Some, suc, false, length, map, slice_get, take, IfOk, OnOk};
+ghost use Rattle.std.specs.Prelude.{◌≡◌, ◌<◌, ◌≤◌, ◌+◌, ◌*◌, ◌++◌, ℕ, suc, false, length, map, IfOk, OnOk};
 ghost use Rattle.std.specs.List.{AllByRecursion};
-ghost use Rattle.sequence.specs.Numbers.{is_among};
 ghost use Rattle.tsl_terms.specs.TermTree.{term_tree, term_trees, probe_tree};
 ghost use Rattle.letter_space.specs.ControlledView.{controlled_tree};
 ghost use Rattle.letter_space.specs.SpaceView.{space_tree};
 ghost use Rattle.letter_space.specs.Letters.{term_taken};
 ghost use Rattle.letter_space.specs.Vectors.{picks_of, vector_count};
+ghost use Rattle.machines.specs.MachineView.{environment_tree};
 ghost use Rattle.branch_finder.specs.internal.Values.{mixed, leaf_value, value_by, values_by, probe_value, value_after, value_in};
-ghost use Rattle.branch_finder.specs.internal.Values.{AreApart};
+ghost use Rattle.branch_finder.specs.internal.Values.{AreValues, pair_at, LooksSeen};
+ghost use Rattle.branch_finder.specs.internal.Looking.{pair_tree, IsWalk, IsPairWithin};
 
 use crate::listing::term_taken;
+use crate::looking::{Pair, Walk, is_told_apart};
 use letter_space::{Controlled, Space};
 use sequence::NoMemory;
 use std::alloc::Global;
@@ -153,40 +156,19 @@ fn first_values(alloc: Global, cells: &[u32]) -> Result<Vec<u64>, NoMemory>
     Ok(values)
 }
 
-/// Whether a value is among others.
-fn is_there(values: &[u64], value: u64) -> bool
-    ensures { result ≡ is_among values.now value }
-{
-    values.iter().any(|other| *other == value)
-}
-
-/// Whether one of some values is among others or stands twice.
-fn is_repeated(earlier: &[u64], last: &[u64]) -> bool
-    ensures apart { result ≡ false → (i v : ℕ) → slice_get last.now i ≡ Some v
-        → (is_among earlier.now v ≡ false) × (is_among (take i last.now) v ≡ false) }
-{
-    for (place, value) in last.iter().enumerate() {
-        if is_there(earlier, *value) || is_there(&last[..place], *value) {
-            return true;
-        }
-    }
-    false
-}
-
-/// Whether some predicate term at a step of a path has the value of another one at the last step. An `Err` says that
-/// memory ran out.
-pub(crate) fn may_be_one(
+/// The values of the predicate terms at all steps of a path, one step after the other.
+fn values_along(
     alloc: Global,
     space: &Space,
     cells: &[u32],
     path: &[u32],
-) -> Result<bool, NoMemory>
+) -> Result<Vec<u64>, NoMemory>
     requires vectors { AllByRecursion (λ v. v < vector_count (space_tree space.now).controlled) path.now }
     requires short { length path.now ≤ 3 }
-    ensures { IfOk result (λ may. may ≡ false → AreApart (space_tree space.now) cells.now path.now) }
+    ensures { IfOk result (λ values. AreValues (space_tree space.now) cells.now path.now (suc (length path.now)) values.items) }
 {
     let predicates = space.predicates.as_slice();
-    let mut earlier = Vec::new(alloc);
+    let mut along = Vec::new(alloc);
     let mut values = first_values(alloc, cells)?;
     for (step, vector) in path.iter().enumerate() {
         let known = Known {
@@ -194,15 +176,102 @@ pub(crate) fn may_be_one(
             values: values.as_slice(),
             step: step as u32,
         };
-        add_values(&mut earlier, &known, predicates)?;
+        add_values(&mut along, &known, predicates)?;
         values = values_after(alloc, space, &known, *vector)?;
     }
-    let mut last = Vec::new(alloc);
     let known = Known {
         cells,
         values: values.as_slice(),
         step: path.len() as u32,
     };
-    add_values(&mut last, &known, predicates)?;
-    Ok(is_repeated(earlier.as_slice(), last.as_slice()))
+    add_values(&mut along, &known, predicates)?;
+    Ok(along)
+}
+
+/// The pair of the predicate term whose value stands at a place and of one at the last step.
+fn pair_at(walk: &Walk, place: usize, right: u32) -> Pair
+    requires walk { IsWalk walk.now }
+    requires place { place < suc (length walk.now.path.now) * length (space_tree walk.now.search.space.now).predicates }
+    requires right { right < length walk.now.search.space.now.predicates }
+    ensures within { IsPairWithin walk.now result }
+    ensures is { pair_tree result ≡ pair_at (space_tree walk.now.search.space.now) place right }
+{
+    let predicates = walk.search.space.predicates.len();
+    Pair {
+        left_at: (place / predicates) as u32,
+        left: (place % predicates) as u32,
+        right,
+    }
+}
+
+/// Where the value of a predicate term at the last step stands.
+fn last_place(walk: &Walk, right: u32) -> usize
+    requires walk { IsWalk walk.now }
+    requires right { right < length walk.now.search.space.now.predicates }
+    ensures { result ≡ length walk.now.path.now * length (space_tree walk.now.search.space.now).predicates + right }
+{
+    walk.path.len() * walk.search.space.predicates.len() + right as usize
+}
+
+/// Whether the pair of the predicate term whose value stands at a place and of one at the last step looks seen.
+fn looks_seen_at(
+    alloc: Global,
+    walk: &Walk,
+    values: &[u64],
+    place: usize,
+    right: u32,
+) -> Result<bool, NoMemory>
+    requires walk { IsWalk walk.now }
+    requires values { AreValues (space_tree walk.now.search.space.now) walk.now.search.cells.now walk.now.path.now
+        (suc (length walk.now.path.now)) values.now }
+    requires place { place < length values.now }
+    requires right { right < length walk.now.search.space.now.predicates }
+    ensures { IfOk result (λ looks. looks ≡ false → LooksSeen (space_tree walk.now.search.space.now)
+        (environment_tree walk.now.search.environment.now) walk.now.search.cells.now walk.now.search.mask walk.now.path.now
+        walk.now.prints.now (pair_at (space_tree walk.now.search.space.now) place right) → ⊥) }
+{
+    if values[place] != values[last_place(walk, right)] {
+        return Ok(false);
+    }
+    Ok(is_told_apart(alloc, walk, pair_at(walk, place, right))?)
+}
+
+/// Whether some pair with this right bit looks seen.
+fn looks_seen_with_right(
+    alloc: Global,
+    walk: &Walk,
+    values: &[u64],
+    right: u32,
+) -> Result<bool, NoMemory>
+    requires walk { IsWalk walk.now }
+    requires values { AreValues (space_tree walk.now.search.space.now) walk.now.search.cells.now walk.now.path.now
+        (suc (length walk.now.path.now)) values.now }
+    requires right { right < length walk.now.search.space.now.predicates }
+    ensures { IfOk result (λ looks. looks ≡ false → (left_at left : ℕ) → LooksSeen (space_tree walk.now.search.space.now)
+        (environment_tree walk.now.search.environment.now) walk.now.search.cells.now walk.now.search.mask walk.now.path.now
+        walk.now.prints.now (record { left_at = left_at; left = left; right = right }) → ⊥) }
+{
+    for place in 0..values.len() {
+        if looks_seen_at(alloc, walk, values, place, right)? {
+            return Ok(true);
+        }
+    }
+    Ok(false)
+}
+
+/// Whether some pair looks seen on a path. An `Err` says that memory ran out.
+pub(crate) fn looks_seen(alloc: Global, walk: &Walk) -> Result<bool, NoMemory>
+    requires walk { IsWalk walk.now }
+    ensures { IfOk result (λ looks. looks ≡ false → (left_at left right : ℕ) → LooksSeen (space_tree walk.now.search.space.now)
+        (environment_tree walk.now.search.environment.now) walk.now.search.cells.now walk.now.search.mask walk.now.path.now
+        walk.now.prints.now (record { left_at = left_at; left = left; right = right }) → ⊥) }
+{
+    let search = &walk.search;
+    let values = values_along(alloc, search.space, search.cells, walk.path)?;
+    for right in 0..search.space.predicates.len() as u32 {
+        if looks_seen_with_right(alloc, walk, values.as_slice(), right)? {
+            return Ok(true);
+        }
+    }
+    Ok(false)
 }

@@ -25,22 +25,22 @@ fn window_of(
     updates: Vec<Listed>,
     equalities: Vec<Equated>,
 ) -> Result<Window, NoMemory>
-    requires short { length look.now.path.now ≤ 3 }
-    requires right { right < length look.now.search.space.now.predicates }
+    requires short { length look.now.walk.path.now ≤ 3 }
+    requires right { right < length look.now.walk.search.space.now.predicates }
     requires updates { map listed_tree updates.items
-        ≡ updates_along (space_tree look.now.search.space.now).controlled look.now.search.cells.now 0 look.now.path.now }
+        ≡ updates_along (space_tree look.now.walk.search.space.now).controlled look.now.walk.search.cells.now 0 look.now.walk.path.now }
     requires equalities { map equated_tree equalities.items
-        ≡ equalities_along (space_tree look.now.search.space.now).predicates 0 look.now.prints.now }
-    ensures { IfOk result (λ w. (probe : ProbeTree) → slice_get (space_tree look.now.search.space.now).predicates right ≡ Some probe
-        → window_tree w ≡ path_window (space_tree look.now.search.space.now) look.now.search.cells.now look.now.path.now
-        look.now.prints.now (option_map probe_tree left) left_at probe) }
+        ≡ equalities_along (space_tree look.now.walk.search.space.now).predicates 0 look.now.walk.prints.now }
+    ensures { IfOk result (λ w. (probe : ProbeTree) → slice_get (space_tree look.now.walk.search.space.now).predicates right ≡ Some probe
+        → window_tree w ≡ path_window (space_tree look.now.walk.search.space.now) look.now.walk.search.cells.now look.now.walk.path.now
+        look.now.walk.prints.now (option_map probe_tree left) left_at probe) }
 {
-    let predicates = look.search.space.predicates.as_slice();
+    let predicates = look.walk.search.space.predicates.as_slice();
     Ok(Window {
         left,
         left_at,
         right: copy_probe(alloc, &predicates[right as usize])?,
-        length: look.path.len() as u32,
+        length: look.walk.path.len() as u32,
         updates: Sequence::from_vec(updates),
         equalities: Sequence::from_vec(equalities),
     })
@@ -56,15 +56,17 @@ fn window_of_pair(
 ) -> Result<Window, NoMemory>
     requires look { IsLook look.now }
     requires updates { map listed_tree updates.items
-        ≡ updates_along (space_tree look.now.search.space.now).controlled look.now.search.cells.now 0 look.now.path.now }
+        ≡ updates_along (space_tree look.now.walk.search.space.now).controlled look.now.walk.search.cells.now 0 look.now.walk.path.now }
     requires equalities { map equated_tree equalities.items
-        ≡ equalities_along (space_tree look.now.search.space.now).predicates 0 look.now.prints.now }
-    requires seen { IsSeen (space_tree look.now.search.space.now) (environment_tree look.now.search.environment.now)
-        look.now.search.cells.now look.now.search.equality look.now.search.mask look.now.path.now look.now.prints.now (pair_tree pair) }
-    ensures { IfOk result (λ w. IsCandidate (space_tree look.now.search.space.now) (environment_tree look.now.search.environment.now)
-        look.now.search.cells.now look.now.search.equality (length look.now.path.now) (window_tree w)) }
+        ≡ equalities_along (space_tree look.now.walk.search.space.now).predicates 0 look.now.walk.prints.now }
+    requires seen { IsSeen (space_tree look.now.walk.search.space.now) (environment_tree look.now.walk.search.environment.now)
+        look.now.walk.search.cells.now look.now.walk.search.equality look.now.walk.search.mask look.now.walk.path.now
+        look.now.walk.prints.now (pair_tree pair) }
+    ensures { IfOk result (λ w. IsCandidate (space_tree look.now.walk.search.space.now) (environment_tree
+        look.now.walk.search.environment.now)
+        look.now.walk.search.cells.now look.now.walk.search.equality (length look.now.walk.path.now) (window_tree w)) }
 {
-    let predicates = look.search.space.predicates.as_slice();
+    let predicates = look.walk.search.space.predicates.as_slice();
     let left = copy_probe(alloc, &predicates[pair.left as usize])?;
     Ok(window_of(
         alloc,
@@ -87,13 +89,15 @@ fn window_of_right(
 ) -> Result<Window, NoMemory>
     requires look { IsLook look.now }
     requires updates { map listed_tree updates.items
-        ≡ updates_along (space_tree look.now.search.space.now).controlled look.now.search.cells.now 0 look.now.path.now }
+        ≡ updates_along (space_tree look.now.walk.search.space.now).controlled look.now.walk.search.cells.now 0 look.now.walk.path.now }
     requires equalities { map equated_tree equalities.items
-        ≡ equalities_along (space_tree look.now.search.space.now).predicates 0 look.now.prints.now }
-    requires seen { IsSeenAlone (space_tree look.now.search.space.now) (environment_tree look.now.search.environment.now)
-        look.now.search.cells.now look.now.search.equality look.now.search.mask look.now.path.now look.now.prints.now right }
-    ensures { IfOk result (λ w. IsCandidate (space_tree look.now.search.space.now) (environment_tree look.now.search.environment.now)
-        look.now.search.cells.now look.now.search.equality (length look.now.path.now) (window_tree w)) }
+        ≡ equalities_along (space_tree look.now.walk.search.space.now).predicates 0 look.now.walk.prints.now }
+    requires seen { IsSeenAlone (space_tree look.now.walk.search.space.now) (environment_tree look.now.walk.search.environment.now)
+        look.now.walk.search.cells.now look.now.walk.search.equality look.now.walk.search.mask look.now.walk.path.now
+        look.now.walk.prints.now right }
+    ensures { IfOk result (λ w. IsCandidate (space_tree look.now.walk.search.space.now) (environment_tree
+        look.now.walk.search.environment.now)
+        look.now.walk.search.cells.now look.now.walk.search.equality (length look.now.walk.path.now) (window_tree w)) }
 {
     Ok(window_of(alloc, look, None, 0, right, updates, equalities)?)
 }
@@ -108,15 +112,15 @@ pub(crate) fn window_seen(
 ) -> Result<Option<Window>, NoMemory>
     requires look { IsLook look.now }
     requires updates { map listed_tree updates.items
-        ≡ updates_along (space_tree look.now.search.space.now).controlled look.now.search.cells.now 0 look.now.path.now }
+        ≡ updates_along (space_tree look.now.walk.search.space.now).controlled look.now.walk.search.cells.now 0 look.now.walk.path.now }
     requires equalities { map equated_tree equalities.items
-        ≡ equalities_along (space_tree look.now.search.space.now).predicates 0 look.now.prints.now }
-    ensures some { IfOk result (λ seen. IfSome seen (λ w. IsCandidate (space_tree look.now.search.space.now)
-        (environment_tree look.now.search.environment.now) look.now.search.cells.now look.now.search.equality
-        (length look.now.path.now) (window_tree w))) }
-    ensures none { IfOk result (λ seen. IfNone seen (HasNoneBy (space_tree look.now.search.space.now)
-        (environment_tree look.now.search.environment.now) look.now.search.cells.now look.now.search.equality look.now.search.mask
-        look.now.path.now look.now.prints.now)) }
+        ≡ equalities_along (space_tree look.now.walk.search.space.now).predicates 0 look.now.walk.prints.now }
+    ensures some { IfOk result (λ seen. IfSome seen (λ w. IsCandidate (space_tree look.now.walk.search.space.now)
+        (environment_tree look.now.walk.search.environment.now) look.now.walk.search.cells.now look.now.walk.search.equality
+        (length look.now.walk.path.now) (window_tree w))) }
+    ensures none { IfOk result (λ seen. IfNone seen (HasNoneBy (space_tree look.now.walk.search.space.now)
+        (environment_tree look.now.walk.search.environment.now) look.now.walk.search.cells.now look.now.walk.search.equality
+        look.now.walk.search.mask look.now.walk.path.now look.now.walk.prints.now)) }
 {
     if let Some(pair) = seen_pair(alloc, look)? {
         return Ok(Some(window_of_pair(alloc, look, pair, updates, equalities)?));

@@ -10,6 +10,7 @@ use Rattle.machines.specs.Visits.{IsVisited}
 use Rattle.machines.specs.Moves.{EnvironmentFits}
 use Rattle.term_congruence.specs.Classes.{IsClassTable}
 use Rattle.branch_finder.specs.declared.looking.Search.{Search}
+use Rattle.branch_finder.specs.declared.looking.Walk.{Walk}
 use Rattle.branch_finder.specs.declared.looking.Look.{Look}
 use Rattle.branch_finder.specs.declared.looking.Pair.{Pair}
 use Rattle.branch_finder.specs.internal.Prints.{AreEqualityBits, ArePrintsWithin, ArePrints}
@@ -43,19 +44,24 @@ pub record IsPath (search : Search) (numbers path : List ℕ) : Type 0 where
   pub vectors : AllByRecursion (λ v. v < search.environment.now.vectors) path
   pub short : count_of path ≤ 3
 
--- What holds of a path that is looked at: it has one print more than sets, and labels of the predicate terms' arguments where all updates
--- of the cells and all equalities are listed.
+-- What holds of a path of sets and prints: it has one print more than sets.
+pub record IsWalk (walk : Walk) : Type 0 where
+  pub search : IsSearch walk.search
+  pub path : IsPath walk.search walk.numbers.now walk.path.now
+  pub prints : ArePrintsWithin walk.search.mask walk.prints.now
+  pub one_more : count_of walk.prints.now ≡ suc (count_of walk.path.now)
+
+-- What holds of a path that is looked at: it has labels of the predicate terms' arguments where all updates of the cells and all
+-- equalities are listed.
 pub record IsLook (look : Look) : Type 0 where
-  pub search : IsSearch look.search
-  pub path : IsPath look.search look.numbers.now look.path.now
-  pub prints : ArePrintsWithin look.search.mask look.prints.now
-  pub one_more : count_of look.prints.now ≡ suc (count_of look.path.now)
-  pub labelled : IsClassTable (arguments_of (space_tree look.search.space.now).predicates)
-      (updates_along (space_tree look.search.space.now).controlled look.search.cells.now 0 look.path.now)
-      (equalities_along (space_tree look.search.space.now).predicates 0 look.prints.now) (count_of look.path.now) look.rows.now
+  pub walk : IsWalk look.walk
+  pub labelled : IsClassTable (arguments_of (space_tree look.walk.search.space.now).predicates)
+      (updates_along (space_tree look.walk.search.space.now).controlled look.walk.search.cells.now 0 look.walk.path.now)
+      (equalities_along (space_tree look.walk.search.space.now).predicates 0 look.walk.prints.now) (count_of look.walk.path.now)
+      look.rows.now
 
 -- a pair's step is one of the path, and its bits are predicate terms
-pub record IsPairWithin (look : Look) (pair : Pair) : Type 0 where
-  pub left_at : pair.left_at ≤ count_of look.path.now
-  pub left : pair.left < count_of look.search.space.now.predicates
-  pub right : pair.right < count_of look.search.space.now.predicates
+pub record IsPairWithin (walk : Walk) (pair : Pair) : Type 0 where
+  pub left_at : pair.left_at ≤ count_of walk.path.now
+  pub left : pair.left < count_of walk.search.space.now.predicates
+  pub right : pair.right < count_of walk.search.space.now.predicates

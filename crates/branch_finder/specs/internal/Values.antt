@@ -1,13 +1,15 @@
 -- Internal: only private functions of this crate use these words.
 -- Values of terms along a path, under one reading of all functions and of all signals at steps: what unfolds to one free term has one
 -- value. The reading is a number that is mixed from those of the parts.
-use Rattle.std.specs.Prelude.{◌≡◌, ℕ, zero, suc, ◌+◌, ◌*◌, ◌%◌, ◌^◌, ◌==◌, ◌≤◌, List, [], ◌∷◌, map, Option, Some, None, slice_get}
+use Rattle.std.specs.Prelude.{◌≡◌, ℕ, zero, suc, ◌+◌, ◌*◌, ◌/◌, ◌%◌, ◌^◌, ◌==◌, ◌<◌, ◌≤◌, List, [], ◌∷◌, map, Option, Some, None, slice_get}
 use Rattle.std.specs.Prelude.{if◌then◌else◌}
 use Rattle.std.specs.Prelude.{length as count_of}
 use Rattle.tsl_terms.specs.TermTree.{TermTree, signal, apply, TermTrees, no_terms, more_terms, ProbeTree}
 use Rattle.tsl_terms.specs.Unfolding.{term_taken_by_cell}
 use Rattle.letter_space.specs.SpaceTree.{SpaceTree}
-use Rattle.branch_finder.specs.internal.Paths.{updates_along}
+use Rattle.machines.specs.MachineTree.{EnvironmentTree}
+use Rattle.branch_finder.specs.internal.Sets.{set_of}
+use Rattle.branch_finder.specs.internal.Paths.{PairTree, updates_along, IsToldApart}
 
 -- a number of 64 bits with another one mixed in
 unfoldable pub mixed : ℕ → ℕ → ℕ
@@ -57,9 +59,22 @@ value_along space cells path = signal_value (term_taken_by_cell cells (updates_a
 abbrev pub values_along : SpaceTree → List ℕ → List ℕ → ℕ → List ℕ
 values_along space cells path step = map (probe_value (value_along space cells path step)) space.predicates
 
--- no predicate term at a step of a path has the value of another one at the last step
-abbrev pub AreApart : SpaceTree → List ℕ → List ℕ → Type 0
-AreApart space cells path = (left_at left right value : ℕ) → left_at ≤ count_of path
-    → slice_get (values_along space cells path left_at) left ≡ Some value
-    → slice_get (values_along space cells path (count_of path)) right ≡ Some value
-    → (left ≡ right) × (left_at ≡ count_of path)
+-- The values of the predicate terms at the first so many steps of a path, one step after the other.
+pub record AreValues (space : SpaceTree) (cells path : List ℕ) (steps : ℕ) (values : List ℕ) : Type 0 where
+  pub size : count_of values ≡ steps * count_of space.predicates
+  pub each : (step i value : ℕ) → step < steps → slice_get (values_along space cells path step) i ≡ Some value
+      → slice_get values (step * count_of space.predicates + i) ≡ Some value
+
+-- the pair of the predicate term whose value stands at a place of these and of one at the last step
+abbrev pub pair_at : SpaceTree → ℕ → ℕ → PairTree
+pair_at space place right =
+    record { left_at = place / count_of space.predicates; left = place % count_of space.predicates; right = right }
+
+-- A pair of bits looks seen on a path: their predicate terms have one value, and sets and prints tell the pair apart.
+pub record LooksSeen (space : SpaceTree) (e : EnvironmentTree) (cells : List ℕ) (mask : ℕ) (path prints : List ℕ) (pair : PairTree)
+    : Type 0 where
+  pub within : pair.left_at ≤ count_of path
+  pub value : ℕ
+  pub left : slice_get (values_along space cells path pair.left_at) pair.left ≡ Some value
+  pub right : slice_get (values_along space cells path (count_of path)) pair.right ≡ Some value
+  pub told : IsToldApart space e mask (map (set_of space cells) path) prints pair

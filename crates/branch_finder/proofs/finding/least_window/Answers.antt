@@ -34,3 +34,7 @@ returns-clause-none c =
     let search = c.args.search.now in
     none_within (space_tree search.space.now) (environment_tree search.environment.now) search.cells.now search.equality c.args.depth
     (λ n few. c.loop-length.invariant n (omega (arith, few, c.loop-length-test.false)))
+
+pub returns-then-not-may_be_spurious-clause-none : goal.returns-then-not-may_be_spurious-clause-none
+returns-then-not-may_be_spurious-clause-none c w within congruent spurious =
+    c.may_be_spurious.ensures c.if-not-may_be_spurious.true w within.left_within congruent spurious

@@ -12,7 +12,7 @@ use Rattle.branch_finder.specs.internal.Thinning.{IsCandidate}
 use Rattle.branch_finder.proofs.Seen.{each_is_equality}
 use Rattle.branch_finder.proofs.Found.{thinned_found}
 use Rattle.branch_finder.proofs.NoneSeen.{none_seen}
-use Rattle.branch_finder.proofs.ValueLemmas.{no_bit_of_none, none_seen_apart, none_alone}
+use Rattle.branch_finder.proofs.ValueLemmas.{no_bit_of_none, seen_looks, none_alone}
 use Rattle.branch_finder.proofs.finding.window_along.Goals as goal
 
 pub classes_along-requires : goal.classes_along-requires
@@ -46,9 +46,10 @@ returns-then-not-branch-clause-none c =
     let cells = search.cells.now in
     let path = c.args.path.now in
     let prints = c.args.prints.now in
-    let apart = c.in_ok-may_be_seen.ensures c.if-not-branch.true in
-    let no_bit = no_bit_of_none search.mask apart.0 in
+    let looks = c.in_ok-may_be_seen.ensures c.if-not-branch.true in
+    let no_bit = no_bit_of_none search.mask looks.0 in
     none_seen space e cells search.equality search.mask path prints search.space.now.is_space c.requires.search.fits.vectors
     c.requires.path.vectors c.requires.each c.requires.search.mask c.requires.prints
-    (none_seen_apart space e cells search.equality search.mask path prints no_bit apart.1 c.requires.prints)
+    (λ left_at left right seen. looks.1 left_at left right
+    (seen_looks space e cells search.equality search.mask path prints no_bit c.requires.prints left_at left right seen))
     (none_alone space e cells search.equality search.mask path prints no_bit c.requires.search.mask)

@@ -10,13 +10,13 @@ use Rattle.branch_finder.proofs.looking.is_congruent.Goals as goal
 pub returns-then-have_one_predicate : goal.returns-then-have_one_predicate
 returns-then-have_one_predicate c left right is_left is_right =
     let look = c.args.look.now in
-    let search = look.search in
+    let search = look.walk.search in
     let space = space_tree search.space.now in
     let cells = search.cells.now in
-    let path = look.path.now in
-    let prints = look.prints.now in
+    let path = look.walk.path.now in
+    let prints = look.walk.prints.now in
     let pair = c.args.pair in
-    let proper = each_is_equality space search.equality search.mask prints c.requires.look.search.mask c.requires.look.prints in
+    let proper = each_is_equality space search.equality search.mask prints c.requires.look.walk.search.mask c.requires.look.walk.prints in
     let by = congruent_by_labels cells (updates_along space.controlled cells 0 path) (equalities_along space.predicates 0 prints)
     (updates_of_cells space cells path) (map probe_tree search.space.now.predicates) (length path) look.rows.now c.requires.look.labelled
     search.equality proper pair.left pair.left_at pair.right c.requires.pair.left_at c.labels.result.now

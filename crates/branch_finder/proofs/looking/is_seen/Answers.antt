@@ -1,26 +1,10 @@
-use Rattle.std.proofs.Common.{◌∙◌, map, sym, arith}
+use Rattle.std.proofs.Common.{map, arith}
 use Rattle.std.proofs.lemmas.Bool.{false≢true}
 use Rattle.std.proofs.lemmas.List.{length-map}
 use Rattle.sequence.proofs.Places.{slice_get_some}
 use Rattle.tsl_terms.specs.TermTree.{probe_tree}
-use Rattle.letter_space.specs.SpaceView.{space_tree}
-use Rattle.machines.specs.MachineView.{environment_tree}
-use Rattle.branch_finder.specs.internal.Sets.{set_of}
-use Rattle.branch_finder.specs.internal.Looking.{pair_tree}
 use Rattle.branch_finder.proofs.LoopFacts.{false_is_not_true}
-use Rattle.branch_finder.proofs.ToldApart.{not_from_itself}
 use Rattle.branch_finder.proofs.looking.is_seen.Goals as goal
-
-pub returns-then-is_one_side : goal.returns-then-is_one_side
-returns-then-is_one_side c =
-    let look = c.args.look.now in
-    let space = space_tree look.search.space.now in
-    let sets = map (set_of space look.search.cells.now) look.path.now in
-    let one = c.is_one_side.ensures.0 c.if-is_one_side.true in (
-      λ never. absurd (false≢true never),
-      λ seen. absurd (not_from_itself space (environment_tree look.search.environment.now) look.search.mask sets look.prints.now
-          (pair_tree c.args.pair) one.0 (one.1 ∙ sym (length-map look.path.now (set_of space look.search.cells.now))) seen.told),
-    )
 
 pub returns-then-not-is_congruent : goal.returns-then-not-is_congruent
 returns-then-not-is_congruent c = (
@@ -34,11 +18,11 @@ pub returns : goal.returns
 returns c =
     let look = c.args.look.now in
     let pair = c.args.pair in
-    let probes = map probe_tree look.search.space.now.predicates in
+    let probes = map probe_tree look.walk.search.space.now.predicates in
     let left = slice_get_some probes pair.left
-    (omega (arith, c.requires.pair.left, length-map look.search.space.now.predicates probe_tree)) in
+    (omega (arith, c.requires.pair.left, length-map look.walk.search.space.now.predicates probe_tree)) in
     let right = slice_get_some probes pair.right
-    (omega (arith, c.requires.pair.right, length-map look.search.space.now.predicates probe_tree)) in (
+    (omega (arith, c.requires.pair.right, length-map look.walk.search.space.now.predicates probe_tree)) in (
       λ told. record {
         within = c.requires.pair.left_at;
         left = left.0;

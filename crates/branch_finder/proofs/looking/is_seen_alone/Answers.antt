@@ -15,7 +15,7 @@ returns-then-not-is_one c = (
 
 pub returns : goal.returns
 returns c =
-    let predicates = c.args.look.now.search.space.now.predicates in
+    let predicates = c.args.look.now.walk.search.space.now.predicates in
     let probe = slice_get_some (map probe_tree predicates) c.args.right
     (omega (arith, c.requires.right, length-map predicates probe_tree)) in (
       λ told. record {

@@ -10,20 +10,20 @@ use Rattle.branch_finder.proofs.looking.is_told_false.Goals as goal
 
 pub returns : goal.returns
 returns c =
-    let look = c.args.look.now in
-    let space = space_tree look.search.space.now in
-    let environment = look.search.environment.now in
+    let walk = c.args.walk.now in
+    let space = space_tree walk.search.space.now in
+    let environment = walk.search.environment.now in
     let e = environment_tree environment in
-    let cells = look.search.cells.now in
-    let firsts = look.search.firsts.now in
-    let mask = look.search.mask in
-    let prints = look.prints.now in
-    let sets = map (set_of space cells) look.path.now in
-    let comes = subst (λ (ss : List ℕ). IsPlaneOf e.states (ComesFrom space e mask ss prints look.search.visited.now) c.as_slice.result.now)
-    (sets_along space cells firsts look.numbers.now look.path.now c.requires.look.path.is)
+    let cells = walk.search.cells.now in
+    let firsts = walk.search.firsts.now in
+    let mask = walk.search.mask in
+    let prints = walk.prints.now in
+    let sets = map (set_of space cells) walk.path.now in
+    let comes = subst (λ (ss : List ℕ). IsPlaneOf e.states (ComesFrom space e mask ss prints walk.search.visited.now) c.as_slice.result.now)
+    (sets_along space cells firsts walk.numbers.now walk.path.now c.requires.walk.path.is)
     (subst (IsPlaneOf e.states _) (sym c.as_slice.ensures.value) c.in_ok-last.ensures) in
     let both = false_by_planes space e environment.has_truths mask sets prints c.bit_wanted.result.mask c.bit_wanted.result.bits
     c.args.right
-    look.search.visited.now c.as_slice.result.now c.bit_wanted.ensures c.requires.look.search.visited comes
+    walk.search.visited.now c.as_slice.result.now c.bit_wanted.ensures c.requires.walk.search.visited comes
     (visited_below e (is_environment environment)) in
     (λ is. both.0 (c.is_some_with.ensures.0 is), λ told. c.is_some_with.ensures.1 (both.1 told))

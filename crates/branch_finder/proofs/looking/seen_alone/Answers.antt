@@ -6,7 +6,7 @@ use Rattle.branch_finder.proofs.looking.seen_alone.Goals as goal
 
 pub returns-clause-none : goal.returns-clause-none
 returns-clause-none c right seen =
-    let predicates = c.args.look.now.search.space.now.predicates in
+    let predicates = c.args.look.now.walk.search.space.now.predicates in
     c.loop-right.invariant right (omega (
       arith,
       slice_get_within (map probe_tree predicates) right seen.probe seen.is_probe,

@@ -11,15 +11,15 @@ use Rattle.branch_finder.proofs.looking.seen_at.Goals as goal
 pub loop-left-preserved : goal.loop-left-preserved
 loop-left-preserved c left right below seen =
     let look = c.args.look.now in
-    none_more (λ l. (r : ℕ) × IsSeen (space_tree look.search.space.now) (environment_tree look.search.environment.now)
-    look.search.cells.now look.search.equality look.search.mask look.path.now look.prints.now
+    none_more (λ l. (r : ℕ) × IsSeen (space_tree look.walk.search.space.now) (environment_tree look.walk.search.environment.now)
+    look.walk.search.cells.now look.walk.search.equality look.walk.search.mask look.walk.path.now look.walk.prints.now
     (record { left_at = c.args.left_at; left = l; right = r })) c.loop-left.left
     (λ l earlier some. c.loop-left.invariant l some.0 earlier some.1) (λ some. (rw c.in_default.is at c.in_ok-pair.ensures.none) some.0 some.1) left below
     (right, seen)
 
 pub returns-clause-none : goal.returns-clause-none
 returns-clause-none c left right seen =
-    let predicates = c.args.look.now.search.space.now.predicates in
+    let predicates = c.args.look.now.walk.search.space.now.predicates in
     c.loop-left.invariant left right (omega (
       arith,
       slice_get_within (map probe_tree predicates) left seen.left seen.is_left,

@@ -8,6 +8,6 @@ use Rattle.branch_finder.proofs.looking.seen_pair.Given as goal
 abbrev pub invariant-loop-left_at : goal.invariant-loop-left_at
 invariant-loop-left_at l =
     (left_at left right : ℕ) → left_at < l.left_at
-    → IsSeen (space_tree l.look.search.space.now) (environment_tree l.look.search.environment.now) l.look.search.cells.now
-    l.look.search.equality l.look.search.mask l.look.path.now l.look.prints.now
+    → IsSeen (space_tree l.look.walk.search.space.now) (environment_tree l.look.walk.search.environment.now) l.look.walk.search.cells.now
+    l.look.walk.search.equality l.look.walk.search.mask l.look.walk.path.now l.look.walk.prints.now
     (record { left_at = left_at; left = left; right = right }) → ⊥

@@ -8,6 +8,6 @@ use Rattle.branch_finder.proofs.looking.seen_with_left.Given as goal
 abbrev pub invariant-loop-right : goal.invariant-loop-right
 invariant-loop-right l =
     (right : ℕ) → right < l.right
-    → IsSeen (space_tree l.look.search.space.now) (environment_tree l.look.search.environment.now) l.look.search.cells.now
-    l.look.search.equality l.look.search.mask l.look.path.now l.look.prints.now
+    → IsSeen (space_tree l.look.walk.search.space.now) (environment_tree l.look.walk.search.environment.now) l.look.walk.search.cells.now
+    l.look.walk.search.equality l.look.walk.search.mask l.look.walk.path.now l.look.walk.prints.now
     (record { left_at = l.left_at; left = l.left; right = right }) → ⊥

@@ -14,12 +14,12 @@ use Rattle.branch_finder.proofs.windows.window_of_pair.Goals as goal
 pub returns : goal.returns
 returns c =
     let look = c.args.look.now in
-    let search = look.search in
+    let search = look.walk.search in
     let space = space_tree search.space.now in
     let e = environment_tree search.environment.now in
     let cells = search.cells.now in
-    let path = look.path.now in
-    let prints = look.prints.now in
+    let path = look.walk.path.now in
+    let prints = look.walk.prints.now in
     let seen = c.requires.seen in
     let pair = c.args.pair in
     let predicates = search.space.now.predicates in
@@ -38,5 +38,5 @@ returns c =
     let is = c.in_ok-window_of.ensures seen.right seen.is_right
     ∙ ap (λ (p : ProbeTree). path_window space cells path prints (Some p) pair.left_at seen.right) left in
     subst (IsCandidate space e cells search.equality (length path)) (sym is)
-    (seen_candidate space e cells search.equality search.mask path prints search.space.now.is_space c.requires.look.search.fits.vectors
-    c.requires.look.path.vectors c.requires.look.one_more (pair_tree pair) seen)
+    (seen_candidate space e cells search.equality search.mask path prints search.space.now.is_space c.requires.look.walk.search.fits.vectors
+    c.requires.look.walk.path.vectors c.requires.look.walk.one_more (pair_tree pair) seen)

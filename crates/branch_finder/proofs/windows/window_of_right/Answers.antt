@@ -8,12 +8,12 @@ use Rattle.branch_finder.proofs.windows.window_of_right.Goals as goal
 pub returns : goal.returns
 returns c =
     let look = c.args.look.now in
-    let search = look.search in
+    let search = look.walk.search in
     let space = space_tree search.space.now in
     let e = environment_tree search.environment.now in
     let cells = search.cells.now in
-    let path = look.path.now in
+    let path = look.walk.path.now in
     let seen = c.requires.seen in
     subst (IsCandidate space e cells search.equality (length path)) (sym (c.in_ok-window_of.ensures seen.probe seen.is_probe))
-    (alone_candidate space e cells search.equality search.mask path look.prints.now search.space.now.is_space
-    c.requires.look.search.fits.vectors c.requires.look.path.vectors c.requires.look.one_more c.args.right seen)
+    (alone_candidate space e cells search.equality search.mask path look.walk.prints.now search.space.now.is_space
+    c.requires.look.walk.search.fits.vectors c.requires.look.walk.path.vectors c.requires.look.walk.one_more c.args.right seen)
