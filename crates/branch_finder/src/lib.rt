@@ -19,6 +19,7 @@
 //! under one reading of all functions tell before which pairs may be congruent: a path that tells none of these apart
 //! is not labelled (`values`). The vectors with all updates of a set are matched by their masks, and give the states
 //! that each state goes to (`linking`); where an environment may be after some steps is a plane of states (`moving`).
+//! Where visited states differ in nothing that a congruent window speaks of, no path is looked at (`differing`).
 #![tactic(auto)]
 
 mod arguments;
