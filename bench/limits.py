@@ -133,6 +133,14 @@ def paths(size):
     return specification(0, [size, size + 3])
 
 
+def cells_in_tests(size):
+    """So many cells that keep themselves or copy the input. An input that passes at every second step passes in the cell that copies it,
+    as long as it is kept: an environment that keeps to that is told apart by no window, and has a truth of its own at each step."""
+    cells = " ".join(f"[cell{i} <- cell{i}] || [cell{i} <- x];" for i in range(size))
+    kept = "p x <-> X !p x; [cell0 <- x] -> (p x <-> X p cell0); [cell0 <- cell0] -> (p cell0 <-> X p cell0);"
+    return f"always guarantee {{ {cells} }} always assume {{ {kept} }} guarantee {{ false; }}"
+
+
 def late_choices(size):
     """Ten tests, and fourteen steps before a negated conjunction of so many disjunctions of three updates at each step; with a program."""
     updates = " && ".join("(" + joined(" || ", f"[o{i}# <- t()]", 3) + ")" for i in range(size))
@@ -242,6 +250,8 @@ LIMITS = [
            lambda n: (n * (n + 3.0)) ** 3),
     Family("branches of cells, depth 3", [*SYNTH, "--depth", "3"], lambda n: specification(n, []), rising(7), "none", 8,
            "large branches 10000000", lambda n: 8.0**n),
+    Family("branches where a test reads a cell, depth 3", [*SYNTH, "--depth", "3", "--env-states", "4", "--env-bound", "4"], cells_in_tests,
+           rising(7), "reason genuine", 8, "large branches 10000000", lambda n: 8.0**n),
     Family("nodes of a program", RUN, long_program, doubling(2**16), "loop", 2**16 + 1, "large program-nodes 65536"),
     Family("states of a program", [*CHECK, "--bound", "15"], crossing, doubling(64), "accepted", 65, "large program-states 64"),
     Family("windows", RUN, windows, doubling(64), "formula holds", 65, "large windows 64"),
