@@ -1,23 +1,16 @@
--- What the entries of a text give, by their places, and the faults of entries as causes.
+-- What the entries of a text give, by their places.
 use Rattle.std.proofs.Common.{◌≡◌, ◌∙◌, ℕ, ◌<◌, List, length, map, get_or, Option, Some, None, sym, ap, arith}
-use Rattle.std.specs.Prelude.{option_map, slice_get, Result, IfErr}
-use Rattle.std.specs.Result.{IsErrAnd}
+use Rattle.std.specs.Prelude.{option_map, slice_get}
 use Rattle.std.proofs.lemmas.List.{length-map}
 use Rattle.std.proofs.lemmas.Option.{slice_get-get_or, slice_get-map}
-use Rattle.std.proofs.lemmas.Result.{err_from_is_err_and}
 use Rattle.sequence.proofs.Lists.{map_map}
 use Rattle.tsl_terms.specs.Name.{Name}
-use Rattle.table_syntax.specs.Syntax.{Entry, TablesSyntax}
+use Rattle.table_syntax.specs.Syntax.{Entry}
 use Rattle.table_syntax.specs.declared.reading.Entry.{Entry as LentEntry}
 use Rattle.table_syntax.specs.View.{entry_view, entries_view}
-use Rattle.entry_names.specs.declared.locating.EntryFault.{EntryFault}
-use Rattle.entry_names.specs.declared.locating.EntryFault.TheVariants as entry
-use Rattle.entry_names.specs.Needed.{needed}
-use Rattle.entry_names.specs.Entries.{Subject, subject_of, AreLocated, HasEntryFault}
+use Rattle.entry_names.specs.Entries.{subject_of, AreLocated}
 use Rattle.entry_names.proofs.Locate.{none_given, place_within, entry_given}
-use Rattle.table_interp.specs.declared.TableError.{TableError}
-use Rattle.table_interp.specs.Tables.{subjects_of, numbers_for, HasEntryCause}
-use Rattle.table_interp.specs.internal.Texts.{entry_error}
+use Rattle.table_interp.specs.Tables.{numbers_for}
 
 -- ---- the numbers that are given for a name, by the entry that lies in memory at a place
 
@@ -42,20 +35,3 @@ module _ (names : List Name) (es : List LentEntry) (places : List (Option ℕ)) 
 
 pub subjects_are : (lent es : List LentEntry) → lent ≡ es → map (λ e. subject_of (entry_view e)) lent ≡ map subject_of (entries_view es)
 subjects_are lent es same = sym (map_map subject_of entry_view lent) ∙ ap (λ xs. map subject_of (map entry_view xs)) same
-
--- ---- faults
-
-entry_cause : (names : List Name) (cells : List ℕ) (given : TablesSyntax) (fault : EntryFault) →
-    HasEntryFault names (needed names cells) (subjects_of given) fault → HasEntryCause names cells given (entry_error fault)
-entry_cause names cells given (entry.Unknown start end) h = h
-entry_cause names cells given (entry.Twice start end) h = h
-entry_cause names cells given (entry.Missing id) h = h
-entry_cause names cells given entry.NoMemory h = tt
-
--- a fault of entries that is passed on
-pub entry_fault_passed : {T : Type 0} (names : List Name) (cells ids : List ℕ) (given : TablesSyntax) (subjects : List Subject)
-    (r : Result T TableError) (fault : EntryFault) → ids ≡ needed names cells → subjects ≡ subjects_of given →
-    IsErrAnd r (λ e. e ≡ entry_error fault) → HasEntryFault names ids subjects fault → IfErr r (HasEntryCause names cells given)
-entry_fault_passed names cells ids given subjects r fault same are h k =
-    let p = err_from_is_err_and r h in
-    rw (p.1, p.2) (entry_cause names cells given fault (rw (same, are) at k))

@@ -6,6 +6,5 @@ mod Refusals
 mod Columns
 mod Loops
 mod OneReading
-mod Stages
 mod OneTableCause
 mod OneInputCause
