@@ -1,9 +1,7 @@
 -- What is refused has one cause. Causes that come in an order, each of which speaks of what passes those before it, are put
 -- together of simple ones.
 use Rattle.std.proofs.Common.{◌≡◌, ◌∙◌, ℕ, ◌<◌, ◌≤◌, List, Option, Some, None, refl, sym, ap, subst, arith, ◌⊎◌, inl, inr}
-use Rattle.std.specs.Prelude.{◌≢◌, slice_get, Result, IfErr}
-use Rattle.std.specs.Result.{IsErrAnd}
-use Rattle.std.proofs.lemmas.Result.{err_from_is_err_and}
+use Rattle.std.specs.Prelude.{◌≢◌, slice_get}
 use Rattle.sequence.proofs.Options.{none_never_some, one_value}
 use Rattle.tsl_text.specs.declared.Token.{Token}
 use Rattle.table_syntax.specs.Syntax.{TextToken}
@@ -20,10 +18,6 @@ pub record Causes (E : Type 0) : Type 1 where
   pub Has : E → Type 0
   pub refuses : (e : E) → Has e → Passes → ⊥
   pub one : (a b : E) → Has a → Has b → a ≡ b
-
--- a fault that is passed on
-pub passed_on : {T E : Type 0} (r : Result T E) (fault : E) (P : E → Type 0) → IsErrAnd r (λ e. e ≡ fault) → P fault → IfErr r P
-passed_on r fault P h k = let p = err_from_is_err_and r h in rw (p.1, p.2) k
 
 -- ---- simple causes
 

@@ -1,5 +1,5 @@
 -- Entries have one fault, and none where each needed name has one.
-use Rattle.std.proofs.Common.{◌≡◌, ℕ, List, not, refl, sym, inl, inr}
+use Rattle.std.proofs.Common.{ℕ, List, not, refl, sym, inl, inr}
 use Rattle.std.specs.Prelude.{◌≢◌}
 use Rattle.std.specs.List.{find}
 use Rattle.tsl_terms.specs.Name.{Name}

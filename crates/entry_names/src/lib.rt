@@ -2,7 +2,8 @@
 //!
 //! Texts of tables and of words give something for each of the names that an interpretation is for: the
 //! functions, the predicates other than equality, and some cells (`specs/Needed.antt`). What an entry gives
-//! plays no part here: it is seen as a kind and a name (`specs/Entries.antt`).
+//! plays no part here: it is seen as a kind and a name (`specs/Entries.antt`). A text of inputs has a column
+//! for each input, which is seen as an entry for a cell.
 //!
 //! - `needed` gives the names in the order in which they are looked at.
 //! - `entry_places` answers `Ok` exactly where each needed name has one entry and each entry is for a needed

@@ -3,7 +3,6 @@ use Rattle.std.proofs.Common.{◌≡◌, ◌∙◌, ℕ, ◌<◌, List, length, 
 use Rattle.std.specs.Prelude.{option_map, slice_get}
 use Rattle.std.proofs.lemmas.List.{length-map}
 use Rattle.std.proofs.lemmas.Option.{slice_get-get_or, slice_get-map}
-use Rattle.sequence.proofs.Lists.{map_map}
 use Rattle.tsl_terms.specs.Name.{Name}
 use Rattle.table_syntax.specs.Syntax.{Entry}
 use Rattle.table_syntax.specs.declared.reading.Entry.{Entry as LentEntry}
@@ -30,8 +29,3 @@ module _ (names : List Name) (es : List LentEntry) (places : List (Option ℕ)) 
       ap (option_map (λ (d : Entry). d.numbers))
       (entry_given subject_of names (entries_view es) places l id within place (entry_view e) there
       (slice_get-map entry_view es place ∙ ap (option_map entry_view) found))
-
--- ---- entries in memory
-
-pub subjects_are : (lent es : List LentEntry) → lent ≡ es → map (λ e. subject_of (entry_view e)) lent ≡ map subject_of (entries_view es)
-subjects_are lent es same = sym (map_map subject_of entry_view lent) ∙ ap (λ xs. map subject_of (map entry_view xs)) same

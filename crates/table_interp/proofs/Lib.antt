@@ -3,6 +3,7 @@ mod Growing
 mod GivenNumbers
 mod Facts
 mod Refusals
+mod Rows
 mod Columns
 mod Loops
 mod OneReading

@@ -13,7 +13,7 @@ use Rattle.tsl_terms.specs.Value.{beside}
 use Rattle.tsl_meaning.specs.Interpretation.{InputRows, IsRow, IsInputLoop}
 use Rattle.table_syntax.specs.Syntax.{InputsSyntax}
 use Rattle.table_interp.specs.Inputs.{by_inputs, all_rows, GivesRows}
-use Rattle.table_interp.proofs.Columns.{rows_below}
+use Rattle.table_interp.proofs.Rows.{rows_below}
 
 beside_below : (domain s : ℕ) (columns row : List ℕ) (v : ℕ) → AllByRecursion (λ w. w < domain) row → beside s columns row ≡ Some v →
     v < domain

@@ -1,10 +1,9 @@
 -- A text has at most one cause why it spells no rows for inputs, and none where it spells them.
-use Rattle.std.proofs.Common.{◌≡◌, ◌∙◌, ℕ, Bool, false, List, None, length, map, not, refl, sym, ap, arith, inl, inr, ⊎_elim}
+use Rattle.std.proofs.Common.{◌≡◌, ◌∙◌, ℕ, Bool, List, None, length, map, not, refl, sym, ap, arith, inl, inr, ⊎_elim}
 use Rattle.std.specs.Prelude.{◌≢◌, option_and_then, slice_get, is_some}
 use Rattle.std.specs.List.{find}
 use Rattle.std.proofs.lemmas.Bool.{cases_lt, false≢true}
-use Rattle.sequence.proofs.Each.{each_at}
-use Rattle.sequence.proofs.Finds.{each_fails}
+use Rattle.sequence.proofs.Finds.{find_none_at}
 use Rattle.tsl_terms.specs.Name.{Name}
 use Rattle.table_syntax.specs.Syntax.{TextToken, InputsSyntax}
 use Rattle.table_syntax.specs.Grammar.{IsInputs}
@@ -30,7 +29,7 @@ module _ (test : List ℕ → Bool) (rows : List (List ℕ)) where
 
   pub none_at : (at : ℕ) → IsFirstAt test rows at → find test rows ≡ None → ⊥
   none_at at h none =
-      false≢true (sym (each_at (λ r. test r ≡ false) rows at h.member (each_fails test rows none) h.there) ∙ h.passed)
+      false≢true (sym (find_none_at test rows at h.member none h.there) ∙ h.passed)
 
   -- a row passes a test
   abbrev pub first_row : Causes ℕ

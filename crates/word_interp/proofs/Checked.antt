@@ -1,5 +1,5 @@
 -- What stands at the places of names is what the entries give for them.
-use Rattle.std.proofs.Common.{◌≡◌, ◌∙◌, ℕ, suc, ◌+◌, ◌<◌, Bool, true, false, cond, List, [], ◌∷◌, ◌++◌, length, map}
+use Rattle.std.proofs.Common.{◌≡◌, ◌∙◌, ℕ, suc, ◌+◌, ◌<◌, Bool, cond, List, [], ◌∷◌, ◌++◌, length, map}
 use Rattle.std.proofs.Common.{Option, Some, None, refl, sym, ap, subst, arith}
 use Rattle.std.specs.Prelude.{option_map, option_and_then, slice_get, is_some, All}
 use Rattle.std.specs.List.{find, AllByRecursion}
@@ -10,6 +10,7 @@ use Rattle.sequence.specs.Numbers.{numbers_from}
 use Rattle.sequence.proofs.Numbers.{numbers_at, numbers_more}
 use Rattle.sequence.proofs.Lists.{map_map}
 use Rattle.sequence.proofs.Finds.{found_has}
+use Rattle.sequence.proofs.Each.{each_weaker}
 use Rattle.tsl_terms.specs.Name.{Name}
 use Rattle.tsl_meaning.specs.Interpretation.{Interpretation}
 use Rattle.table_syntax.specs.declared.words.Given.{Given}
@@ -19,22 +20,13 @@ use Rattle.table_syntax.specs.View.{word_entry_view, word_entries_view}
 use Rattle.entry_names.specs.Needed.{needed, is_for}
 use Rattle.entry_names.specs.declared.locating.EntryFault.{EntryFault}
 use Rattle.entry_names.specs.Entries.{Subject, word_subject_of, AreLocated, AreWhole, HasEntryFault}
-use Rattle.entry_names.proofs.Locate.{none_given, place_within, entry_given}
+use Rattle.entry_names.proofs.Locate.{found_view, none_given, place_within, entry_given}
 use Rattle.word_interp.specs.Operations.{table_given, value_given}
 use Rattle.word_interp.specs.Words.{domain_of, subjects_of, given_for, takes_others, no_word, has_other_arity, too_large}
 use Rattle.word_interp.specs.Words.{AreInRange, Gives, HasOtherArity, HasLargeNumber}
 use Rattle.word_interp.specs.internal.Applied.{given_at}
 
 -- ---- one name by the place of its entry
-
-found_view : {X Y : Type 0} (view : X → Y) (test : Y → Bool) (xs : List X) →
-    find test (map view xs) ≡ option_map view (find (λ x. test (view x)) xs)
-found_view view test [] = refl
-found_view view test (x ∷ xs) = by (test (view x)) (found_view view test xs) where
-  by : (b : Bool) → find test (map view xs) ≡ option_map view (find (λ y. test (view y)) xs) →
-      cond b (Some (view x)) (find test (map view xs)) ≡ option_map view (cond b (Some x) (find (λ y. test (view y)) xs))
-  by true h = refl
-  by false h = h
 
 module _ (names : List Name) (entries : List ReadWordEntry) (places : List (Option ℕ))
     (l : AreLocated names (map (λ e. word_subject_of (word_entry_view e)) entries) places) (id : ℕ) (within : id < length names) where
@@ -75,10 +67,6 @@ map_each : {X Y : Type 0} (f g : X → Y) (xs : List X) → AllByRecursion (λ x
 map_each f g [] each = refl
 map_each f g (x ∷ xs) each = λ i. each.0 i ∷ map_each f g xs each.1 i
 
-each_so : {X : Type 0} (P Q : X → Type 0) → ((x : X) → P x → Q x) → (xs : List X) → AllByRecursion P xs → AllByRecursion Q xs
-each_so P Q f [] each = tt
-each_so P Q f (x ∷ xs) each = (f x each.0, each_so P Q f xs each.1)
-
 module _ (names : List Name) (entries : List WordEntry) (given : List (Option Given))
     (is : given ≡ map (given_for names entries) (numbers_from 0 (length names))) where
   given_here : (id : ℕ) → id < length names → given_at given id ≡ given_for names entries id
@@ -93,7 +81,7 @@ module _ (names : List Name) (entries : List WordEntry) (given : List (Option Gi
       find (λ id. test id (given_at given id)) ids ≡ find (λ id. test id (given_for names entries id)) ids
   same_search test ids within =
       find_agree (λ id. test id (given_at given id)) (λ id. test id (given_for names entries id)) ids
-      (each_so (λ id. id < length names) (λ id. test id (given_at given id) ≡ test id (given_for names entries id))
+      (each_weaker (λ id. id < length names) (λ id. test id (given_at given id) ≡ test id (given_for names entries id))
       (λ id inside. ap (test id) (given_here id inside)) ids (recursion_from_All (λ id. id < length names) ids within))
 
   pub same_tables : (domain : ℕ) → map (table_given domain) given
@@ -105,7 +93,7 @@ module _ (names : List Name) (entries : List WordEntry) (given : List (Option Gi
       map (λ s. value_given domain (given_at given s)) cells ≡ map (λ s. value_given domain (given_for names entries s)) cells
   same_values domain cells within =
       map_each (λ s. value_given domain (given_at given s)) (λ s. value_given domain (given_for names entries s)) cells
-      (each_so (λ id. id < length names) (λ s. value_given domain (given_at given s) ≡ value_given domain (given_for names entries s))
+      (each_weaker (λ id. id < length names) (λ s. value_given domain (given_at given s) ≡ value_given domain (given_for names entries s))
       (λ s inside. ap (value_given domain) (given_here s inside)) cells (recursion_from_All (λ s. s < length names) cells within))
 
 -- ---- what the checks say
@@ -146,11 +134,6 @@ module _ (names : List Name) (cells : List ℕ) (text : WordsSyntax) (whole : Ar
   large_number id value fitting first number = record { so_far = record { so_far = whole; fitting = fitting }; first = first; number = number }
 
 -- ---- what the parts are made of
-
-pub subjects_are : (es lent : List ReadWordEntry) → lent ≡ es →
-    map (λ e. word_subject_of (word_entry_view e)) lent ≡ map word_subject_of (word_entries_view es)
-subjects_are es lent same =
-    ap (map (λ e. word_subject_of (word_entry_view e))) same ∙ sym (map_map word_subject_of word_entry_view es)
 
 module _ (names : List Name) (cells : List ℕ) (text : WordsSyntax) (ids : List ℕ) (subjects : List Subject) (a : ids ≡ needed names cells)
     (b : subjects ≡ subjects_of text) where

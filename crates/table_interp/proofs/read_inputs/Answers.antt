@@ -6,7 +6,7 @@ use Rattle.tsl_meaning.specs.Interpretation.{rows_of}
 use Rattle.table_syntax.specs.View.{inputs_view}
 use Rattle.table_interp.proofs.Loops.{are_loop}
 use Rattle.table_syntax.proofs.Readings.{has_cycle}
-use Rattle.entry_names.proofs.OneCause.{passed_on}
+use Rattle.sequence.proofs.Results.{handed_on}
 use Rattle.table_interp.proofs.OneInputCause.{inputs_refused}
 use Rattle.table_interp.proofs.Refusals.{input_form_cause, row_cause}
 use Rattle.table_interp.proofs.read_inputs.Goals as goal
@@ -21,7 +21,7 @@ rows_from-requires-clause-some c =
 
 pub returns-in_err-given-clause-refused : goal.returns-in_err-given-clause-refused
 returns-in_err-given-clause-refused c =
-    passed_on _ _ _ c.from_residual.ensures.1 (inputs_refused c.args.text.now c.args.names.now c.args.inputs.now c.args.domain _
+    handed_on _ _ _ c.from_residual.ensures.1 (inputs_refused c.args.text.now c.args.names.now c.args.inputs.now c.args.domain _
     (input_form_cause c.args.text.now c.args.names.now c.args.inputs.now c.args.domain _ c.in_err-given.ensures.fault))
 
 pub returns-clause-rows : goal.returns-clause-rows
