@@ -1,6 +1,5 @@
 mod Lookups
 mod Growing
-mod GivenNumbers
 mod Facts
 mod Refusals
 mod Rows

@@ -1,7 +1,7 @@
 -- What stands at the places of names is what the entries give for them.
 use Rattle.std.proofs.Common.{◌≡◌, ◌∙◌, ℕ, suc, ◌+◌, ◌<◌, Bool, cond, List, [], ◌∷◌, ◌++◌, length, map}
 use Rattle.std.proofs.Common.{Option, Some, None, refl, sym, ap, subst, arith}
-use Rattle.std.specs.Prelude.{option_map, option_and_then, slice_get, is_some, All}
+use Rattle.std.specs.Prelude.{option_map, option_and_then, is_some, All}
 use Rattle.std.specs.List.{find, AllByRecursion}
 use Rattle.std.proofs.lemmas.Option.{slice_get-map}
 use Rattle.std.proofs.lemmas.List.{map-append}
@@ -14,41 +14,14 @@ use Rattle.sequence.proofs.Each.{each_weaker}
 use Rattle.tsl_terms.specs.Name.{Name}
 use Rattle.tsl_meaning.specs.Interpretation.{Interpretation}
 use Rattle.table_syntax.specs.declared.words.Given.{Given}
-use Rattle.table_syntax.specs.declared.words.WordEntry.{WordEntry as ReadWordEntry}
 use Rattle.table_syntax.specs.Syntax.{WordEntry, WordsSyntax}
-use Rattle.table_syntax.specs.View.{word_entry_view, word_entries_view}
-use Rattle.entry_names.specs.Needed.{needed, is_for}
+use Rattle.entry_names.specs.Needed.{needed}
 use Rattle.entry_names.specs.declared.locating.EntryFault.{EntryFault}
-use Rattle.entry_names.specs.Entries.{Subject, word_subject_of, AreLocated, AreWhole, HasEntryFault}
-use Rattle.entry_names.proofs.Locate.{found_view, none_given, place_within, entry_given}
+use Rattle.entry_names.specs.Entries.{Subject, AreWhole, HasEntryFault}
 use Rattle.word_interp.specs.Operations.{table_given, value_given}
 use Rattle.word_interp.specs.Words.{domain_of, subjects_of, given_for, takes_others, no_word, has_other_arity, too_large}
 use Rattle.word_interp.specs.Words.{AreInRange, Gives, HasOtherArity, HasLargeNumber}
 use Rattle.word_interp.specs.internal.Applied.{given_at}
-
--- ---- one name by the place of its entry
-
-module _ (names : List Name) (entries : List ReadWordEntry) (places : List (Option ℕ))
-    (l : AreLocated names (map (λ e. word_subject_of (word_entry_view e)) entries) places) (id : ℕ) (within : id < length names) where
-  given_is : given_for names (word_entries_view entries) id
-      ≡ option_map (λ (e : WordEntry). e.given) (option_map word_entry_view (find (λ e. is_for names id (word_entry_view e).name) entries))
-  given_is = ap (option_map (λ (e : WordEntry). e.given)) (found_view word_entry_view (λ e. is_for names id e.name) entries)
-
-  pub nothing_given : slice_get places id ≡ Some None → given_for names (word_entries_view entries) id ≡ None
-  nothing_given there =
-      given_is
-      ∙ ap (λ o. option_map (λ (e : WordEntry). e.given) (option_map word_entry_view o))
-      (none_given (λ e. word_subject_of (word_entry_view e)) names entries places l id within there)
-
-  pub inside : (place : ℕ) → slice_get places id ≡ Some (Some place) → place < length entries
-  inside = place_within (λ e. word_subject_of (word_entry_view e)) names entries places l id within
-
-  pub something_given : (place : ℕ) (e : ReadWordEntry) → slice_get places id ≡ Some (Some place) → slice_get entries place ≡ Some e →
-      given_for names (word_entries_view entries) id ≡ Some e.given
-  something_given place e there at =
-      given_is
-      ∙ ap (λ o. option_map (λ (e : WordEntry). e.given) (option_map word_entry_view o))
-      (entry_given (λ d. word_subject_of (word_entry_view d)) names entries places l id within place e there at)
 
 -- ---- all names
 
