@@ -5,13 +5,14 @@ use Rattle.std.specs.Prelude.{slice_get, option_map, is_some, IsSomeAnd}
 use Rattle.std.specs.Option.{option_map_or}
 use Rattle.std.specs.List.{find, list_all, list_any, AllByRecursion}
 use Rattle.std.proofs.lemmas.Bool.{and_parts}
-use Rattle.std.proofs.lemmas.Option.{none-some, same_Some, slice_get-map, slice_get_within}
+use Rattle.std.proofs.lemmas.Option.{slice_get-map, slice_get_within}
 use Rattle.std.proofs.lemmas.List.Elements.{All-from_recursion}
 use Rattle.sequence.specs.Numbers.{is_among}
 use Rattle.sequence.specs.Options.{passes}
 use Rattle.sequence.proofs.Each.{each_both}
 use Rattle.sequence.proofs.Finds.{each_fails}
 use Rattle.sequence.proofs.Lists.{map_map}
+use Rattle.sequence.proofs.Options.{some_mapped, none_mapped}
 use Rattle.sequence.proofs.Numbers.{among_place}
 use Rattle.sequence.proofs.Passes.{passes_at}
 use Rattle.tsl_terms.specs.declared.names.NameKind.TheVariants.{Signal}
@@ -30,15 +31,6 @@ use Rattle.table_interp.specs.internal.Texts.{column_error}
 list_any-map : {X Y : Type 0} (p : Y → Bool) (f : X → Y) (xs : List X) → list_any p (map f xs) ≡ list_any (λ x. p (f x)) xs
 list_any-map p f [] = refl
 list_any-map p f (x ∷ xs) = ap (λ b. p (f x) || b) (list_any-map p f xs)
-
--- what an image comes from
-image_none : {X Y : Type 0} (f : X → Y) (o : Option X) → option_map f o ≡ None → o ≡ None
-image_none f None e = refl
-image_none f (Some x) e = absurd (none-some (f x) (sym e))
-
-image_of : {X Y : Type 0} (f : X → Y) (o : Option X) (y : Y) → option_map f o ≡ Some y → (x : X) × (o ≡ Some x) × (f x ≡ y)
-image_of f None y e = absurd (none-some y e)
-image_of f (Some x) y e = (x, refl, same_Some (f x) y e)
 
 pub numbers_are : (names : List Name) (given : InputsSyntax) → numbers_of names (columns_of given) ≡ map (number_for names) given.names
 numbers_are names given = map_map (λ (e : Subject). number_for names e.name) column_subject_of given.names
@@ -78,7 +70,7 @@ module _ (names : List Name) (inputs : List ℕ) (are : IsTrue (list_all (λ s. 
   no_column id = ap not (list_any-map (λ (e : Subject). is_for names id e.name) column_subject_of given.names)
 
   known_columns : AreKnownEntries names inputs (columns_of given) → AreKnown names inputs given
-  known_columns h = image_none column_subject_of _ (sym found_known ∙ h)
+  known_columns h = none_mapped column_subject_of _ (sym found_known ∙ h)
 
   once_columns : AreOnceEntries names inputs (columns_of given) → AreOnce names inputs given
   once_columns h = record {
@@ -96,7 +88,7 @@ module _ (names : List Name) (inputs : List ℕ) (are : IsTrue (list_all (λ s. 
   pub column_cause : (domain : ℕ) (fault : EntryFault) → HasEntryFault names inputs (columns_of given) fault →
       HasRowCause names inputs given domain (column_error fault)
   column_cause domain (entry.Unknown s f) h =
-      let column = image_of column_subject_of (find (λ x. not (is_input_name names inputs x)) given.names) h.entry (sym found_known ∙ h.first) in
+      let column = some_mapped column_subject_of (find (λ x. not (is_input_name names inputs x)) given.names) h.entry (sym found_known ∙ h.first) in
       record {
         column = column.0;
         first = column.1;
@@ -104,7 +96,7 @@ module _ (names : List Name) (inputs : List ℕ) (are : IsTrue (list_all (λ s. 
         ends = h.ends ∙ ap (λ (e : Subject). e.name.token.end) (sym column.2);
       }
   column_cause domain (entry.Twice s f) h =
-      let column = image_of column_subject_of (slice_get given.names h.at) h.entry
+      let column = some_mapped column_subject_of (slice_get given.names h.at) h.entry
       (sym (slice_get-map column_subject_of given.names h.at) ∙ h.there) in
       record {
         known = known_columns h.known;

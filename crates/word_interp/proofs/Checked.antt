@@ -1,6 +1,6 @@
 -- What stands at the places of names is what the entries give for them.
 use Rattle.std.proofs.Common.{◌≡◌, ◌∙◌, ℕ, suc, ◌+◌, ◌<◌, Bool, cond, List, [], ◌∷◌, ◌++◌, length, map}
-use Rattle.std.proofs.Common.{Option, Some, None, refl, sym, ap, subst, arith}
+use Rattle.std.proofs.Common.{Option, Some, refl, sym, ap, arith}
 use Rattle.std.specs.Prelude.{option_map, option_and_then, is_some, All}
 use Rattle.std.specs.List.{find, AllByRecursion}
 use Rattle.std.proofs.lemmas.Option.{slice_get-map}
@@ -16,11 +16,9 @@ use Rattle.tsl_meaning.specs.Interpretation.{Interpretation}
 use Rattle.table_syntax.specs.declared.words.Given.{Given}
 use Rattle.table_syntax.specs.Syntax.{WordEntry, WordsSyntax}
 use Rattle.entry_names.specs.Needed.{needed}
-use Rattle.entry_names.specs.declared.locating.EntryFault.{EntryFault}
-use Rattle.entry_names.specs.Entries.{Subject, AreWhole, HasEntryFault}
 use Rattle.word_interp.specs.Operations.{table_given, value_given}
-use Rattle.word_interp.specs.Words.{domain_of, subjects_of, given_for, takes_others, no_word, has_other_arity, too_large}
-use Rattle.word_interp.specs.Words.{AreInRange, Gives, HasOtherArity, HasLargeNumber}
+use Rattle.word_interp.specs.Words.{domain_of, given_for, takes_others, no_word, has_other_arity, too_large}
+use Rattle.word_interp.specs.Words.{AreInRange, Gives}
 use Rattle.word_interp.specs.internal.Applied.{given_at}
 
 -- ---- all names
@@ -93,32 +91,7 @@ module _ (names : List Name) (cells : List ℕ) (text : WordsSyntax) (domain : �
       (recursion_from_All (λ i. i < length names) ids within) (sym first) in
       ap (no_word domain) (given_here names text.entries given is id inside) ∙ ap (λ m. no_word m (given_for names text.entries id)) d
 
-module _ (names : List Name) (cells : List ℕ) (text : WordsSyntax) (whole : AreWhole names (needed names cells) (subjects_of text)) where
-  pub are_in_range : find (has_other_arity names text) (needed names cells) ≡ None →
-      find (λ id. is_some (too_large names text id)) (needed names cells) ≡ None → AreInRange names cells text
-  are_in_range fitting in_range = record { so_far = record { so_far = whole; fitting = fitting }; in_range = in_range }
-
-  pub other_arity : (id : ℕ) → find (has_other_arity names text) (needed names cells) ≡ Some id → HasOtherArity names cells text id
-  other_arity id first = record { so_far = whole; first = first }
-
-  pub large_number : (id value : ℕ) → find (has_other_arity names text) (needed names cells) ≡ None →
-      find (λ i. is_some (too_large names text i)) (needed names cells) ≡ Some id → too_large names text id ≡ Some value →
-      HasLargeNumber names cells text id value
-  large_number id value fitting first number = record { so_far = record { so_far = whole; fitting = fitting }; first = first; number = number }
-
 -- ---- what the parts are made of
-
-module _ (names : List Name) (cells : List ℕ) (text : WordsSyntax) (ids : List ℕ) (subjects : List Subject) (a : ids ≡ needed names cells)
-    (b : subjects ≡ subjects_of text) where
-  pub whole_given : AreWhole names ids subjects → AreWhole names (needed names cells) (subjects_of text)
-  whole_given h =
-      subst (λ (xs : List ℕ). AreWhole names xs (subjects_of text)) a (subst (λ (ss : List Subject). AreWhole names ids ss) b h)
-
-  pub fault_given : (fault : EntryFault) → HasEntryFault names ids subjects fault →
-      HasEntryFault names (needed names cells) (subjects_of text) fault
-  fault_given fault h =
-      subst (λ (xs : List ℕ). HasEntryFault names xs (subjects_of text) fault) a
-      (subst (λ (ss : List Subject). HasEntryFault names ids ss fault) b h)
 
 pub gives : (names : List Name) (cells : List ℕ) (text : WordsSyntax) (interpretation : Interpretation) (domain : ℕ)
     (given : List (Option Given)) (kept : List ℕ) → domain ≡ domain_of text →
