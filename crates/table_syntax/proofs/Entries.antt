@@ -25,6 +25,30 @@ use Rattle.table_syntax.specs.internal.Reading.{word_at, numeral_at, from_one, p
 use Rattle.table_syntax.proofs.Terminals.{word_is, word_taken, numeral_is, numeral_taken, from_one_is, from_one_taken, word_is_name, word_of_kind}
 use Rattle.table_syntax.proofs.Terminals.{kind_is, has_kind, has_one, has_positive}
 
+-- ---- forms one after another
+
+module _ {T V W : Type 0} where
+  pub then_of : {Is : List T → V → Type 0} {Next : V → Grammar T W} {r : ℕ} {w : W} (front tail : List T) (v : V) → Is front v →
+      Next v r tail w → Then Is Next r (front ++ tail) w
+  then_of front tail v h k = record { value = v; front = front; tail = tail; split = refl; first = h; second = k }
+
+  -- one terminal before a form
+  pub one_then : {value : T → Option V} {Next : V → Grammar T W} {r : ℕ} {tail : List T} {v : V} {w : W} (x : T) → value x ≡ Some v →
+      Next v r tail w → Then (IsOne value) Next r (x ∷ tail) w
+  one_then x e k = then_of (x ∷ []) _ _ (x, refl, e) k
+
+  -- the same at another level
+  pub elsewhere : {Is : List T → V → Type 0} {Next : V → Grammar T W} {r s : ℕ} {xs : List T} {w : W} →
+      ((v : V) (ys : List T) → Next v r ys w → Next v s ys w) → Then Is Next r xs w → Then Is Next s xs w
+  elsewhere lift h = record {
+    value = h.value;
+    front = h.front;
+    tail = h.tail;
+    split = h.split;
+    first = h.first;
+    second = lift h.value h.tail h.second;
+  }
+
 -- ---- entries
 
 -- the first word of an entry, and what it decides
@@ -47,14 +71,7 @@ module _ {E : Type 0} (read : NameKind → Reader TextToken E) (IsForm : NameKin
     none = λ x rest e. none_here (kind_at x) rest e;
     some = λ x rest e. some_here (kind_at x) x rest e;
     begins = begins;
-    lift = λ r xs e h. record {
-      value = h.value;
-      front = h.front;
-      tail = h.tail;
-      split = h.split;
-      first = h.first;
-      second = lift_form h.value r h.tail e h.second;
-    };
+    lift = λ r xs e h. elsewhere (λ kind ys k. lift_form kind r ys e k) h;
     follows = λ x e. follows x (kind_at x) refl e;
     stops = λ x e. absurd e;
     weaker = λ x e. absurd e;
@@ -135,43 +152,19 @@ module _ {E V : Type 0} {head word : List ℕ} {Are : List TextToken → List E 
         is = e.second.2;
       }
 
-  pub of_parts : (r : ℕ) (xs : List TextToken) (v : V) → HeadedParts head word Are made xs v → IsHeaded head word Are made r xs v
-  of_parts r xs v p = record {
-    value = tt;
-    front = p.first ∷ [];
-    tail = p.one ∷ p.second ∷ p.digits ∷ p.tail;
-    split = p.split;
-    first = (p.first, refl, word_taken head p.first p.is_first);
-    second = record {
-      value = tt;
-      front = p.one ∷ [];
-      tail = p.second ∷ p.digits ∷ p.tail;
-      split = refl;
-      first = (p.one, refl, numeral_taken (codes "1") p.one p.is_one);
-      second = record {
-        value = tt;
-        front = p.second ∷ [];
-        tail = p.digits ∷ p.tail;
-        split = refl;
-        first = (p.second, refl, word_taken word p.second p.is_second);
-        second = record {
-          value = p.number;
-          front = p.digits ∷ [];
-          tail = p.tail;
-          split = refl;
-          first = (p.digits, refl, ap (option_and_then from_one) p.is_number ∙ from_one_taken p.number p.some);
-          second = record {
-            value = p.entries;
-            front = p.tail;
-            tail = [];
-            split = sym (append-nil p.tail);
-            first = p.derived;
-            second = (tt, refl, p.is);
-          };
-        };
-      };
-    };
-  }
+  pub of_parts : {xs : List TextToken} (es : List E) (r : ℕ) (a b c d : TextToken) (n : ℕ) → is_word head a ≡ true →
+      is_numeral (codes "1") b ≡ true → is_word word c ≡ true → number_at d ≡ Some n → 1 ≤ n → Are xs es →
+      IsHeaded head word Are made r (a ∷ b ∷ c ∷ d ∷ xs) (made n es)
+  of_parts {xs = xs} es r a b c d n first one second number some entries =
+      one_then a (word_taken head a first) (one_then b (numeral_taken (codes "1") b one) (one_then c (word_taken word c second)
+      (one_then d (ap (option_and_then from_one) number ∙ from_one_taken n some) (record {
+        value = es;
+        front = xs;
+        tail = [];
+        split = sym (append-nil xs);
+        first = entries;
+        second = (tt, refl, refl);
+      }))))
 
 module _ {E V : Type 0} {head word : List ℕ} (has_head : HasExample (word_at head)) (has_second : HasExample (word_at word))
     {Are : List TextToken → List E → Type 0} (none : Begins Are []) {read : Reader TextToken (List E)}

@@ -74,7 +74,7 @@ use Rattle.table_syntax.specs.internal.Reading.{
 use Rattle.table_syntax.proofs.Terminals.{word_is, word_taken, numeral_is, numeral_taken, name_is, name_taken, symbol_is, symbol_taken}
 use Rattle.table_syntax.proofs.Terminals.{words_differ, word_is_name, name_no_number, word_of_kind, kind_is, kind_taken, name_example, number_example}
 use Rattle.table_syntax.proofs.Terminals.{has_number, has_name, has_symbol, has_word, has_one}
-use Rattle.table_syntax.proofs.Entries.{IsByKind, by_kind, IsHeaded, HeadedParts, parts_of, of_parts, headed_exact}
+use Rattle.table_syntax.proofs.Entries.{then_of, one_then, elsewhere, IsByKind, by_kind, IsHeaded, HeadedParts, parts_of, of_parts, headed_exact}
 
 -- ---- numbers
 
@@ -171,25 +171,9 @@ form_begins Predicate r =
     (λ name. mapped_begins (entry_made Predicate name) (λ r. AreNumbers) r numbers_begin)
 
 lift_form : (kind : NameKind) (r : ℕ) (xs : List TextToken) (e : Entry) → IsForm kind r xs e → IsForm kind (suc (suc r)) xs e
-lift_form Signal r xs e h = record { value = h.value; front = h.front; tail = h.tail; split = h.split; first = h.first; second = h.second }
-lift_form Function r xs e h = record {
-  value = h.value;
-  front = h.front;
-  tail = h.tail;
-  split = h.split;
-  first = h.first;
-  second =
-      h.second;
-}
-lift_form Predicate r xs e h = record {
-  value = h.value;
-  front = h.front;
-  tail = h.tail;
-  split = h.split;
-  first = h.first;
-  second =
-      h.second;
-}
+lift_form Signal r xs e h = elsewhere (λ v ys k. k) h
+lift_form Function r xs e h = elsewhere (λ v ys k. k) h
+lift_form Predicate r xs e h = elsewhere (λ v ys k. k) h
 
 entry_members : (room : ℕ) → Member (IsByKind IsForm) NoNumber Never room entry_member (λ x. is_some (kind_at x))
     (λ xs. and_then (taking kind_at xs) entry_of_kind)
@@ -199,71 +183,25 @@ entry_members = by_kind entry_of_kind IsForm form_exact form_begins lift_form na
 
 entry_is : (r : ℕ) (xs : List TextToken) (e : Entry) → IsByKind IsForm r xs e → IsEntry xs e
 entry_is r xs e h = by h.value (kind_is h.first.0 h.value h.first.2) h.second where
-  split : xs ≡ h.first.0 ∷ h.tail
-  split = h.split ∙ ap (λ front. front ++ h.tail) h.first.1
-
   by : (kind : NameKind) → is_word (word_of_kind kind) h.first.0 ≡ true → IsForm kind r h.tail e → IsEntry xs e
   by Signal word k =
       let name = name_is k.first.0 k.value k.first.2 in
       let value = k.second.1 in
-      let tail : h.tail ≡ k.first.0 ∷ value.0 ∷ [] = k.split ∙ ap (λ front. front ++ k.tail) k.first.1
-      ∙ ap (λ zs. k.first.0 ∷ zs) value.1 in
-      rw (split, tail, k.second.2, name.1) (cell h.first.0 k.first.0 value.0 k.second.0 word name.0 value.2)
+      rw (after_one h, after_one k, value.1, k.second.2, name.1) (cell h.first.0 k.first.0 value.0 k.second.0 word name.0 value.2)
   by Function word k =
       let name = symbol_is k.first.0 k.value k.first.2 in
-      let tail : h.tail ≡ k.first.0 ∷ k.tail = k.split ∙ ap (λ front. front ++ k.tail) k.first.1 in
-      rw (split, tail, k.second.2, name.1) (function h.first.0 k.first.0 word name.0 k.second.1)
+      rw (after_one h, after_one k, k.second.2, name.1) (function h.first.0 k.first.0 word name.0 k.second.1)
   by Predicate word k =
       let name = symbol_is k.first.0 k.value k.first.2 in
-      let tail : h.tail ≡ k.first.0 ∷ k.tail = k.split ∙ ap (λ front. front ++ k.tail) k.first.1 in
-      rw (split, tail, k.second.2, name.1) (predicate h.first.0 k.first.0 word name.0 k.second.1)
+      rw (after_one h, after_one k, k.second.2, name.1) (predicate h.first.0 k.first.0 word name.0 k.second.1)
 
 is_entry : (r : ℕ) (xs : List TextToken) (e : Entry) → IsEntry xs e → IsByKind IsForm r xs e
-is_entry r xs e (function {xs = ys} {ns = ns} x y word name h) = record {
-  value = Function;
-  front = x ∷ [];
-  tail = y ∷ ys;
-  split = refl;
-  first = (x, refl, kind_taken x Function word);
-  second = record {
-    value = y;
-    front = y ∷ [];
-    tail = ys;
-    split = refl;
-    first = (y, refl, symbol_taken y name);
-    second = (ns, h, refl);
-  };
-}
-is_entry r xs e (predicate {xs = ys} {ns = ns} x y word name h) = record {
-  value = Predicate;
-  front = x ∷ [];
-  tail = y ∷ ys;
-  split = refl;
-  first = (x, refl, kind_taken x Predicate word);
-  second = record {
-    value = y;
-    front = y ∷ [];
-    tail = ys;
-    split = refl;
-    first = (y, refl, symbol_taken y name);
-    second = (ns, h, refl);
-  };
-}
-is_entry r xs e (cell x y z n word name number) = record {
-  value = Signal;
-  front = x ∷ [];
-  tail = y ∷ z ∷ [];
-  split = refl;
-  first = (x, refl, kind_taken x Signal word);
-  second = record {
-    value = y;
-    front = y ∷ [];
-    tail = z ∷ [];
-    split = refl;
-    first = (y, refl, name_taken y name);
-    second = (n, (z, refl, number), refl);
-  };
-}
+is_entry r xs e (function {ns = ns} x y word name h) =
+    one_then x (kind_taken x Function word) (one_then y (symbol_taken y name) (ns, h, refl))
+is_entry r xs e (predicate {ns = ns} x y word name h) =
+    one_then x (kind_taken x Predicate word) (one_then y (symbol_taken y name) (ns, h, refl))
+is_entry r xs e (cell x y z n word name number) =
+    one_then x (kind_taken x Signal word) (one_then y (name_taken y name) (n, (z, refl, number), refl))
 
 are_entries : (r : ℕ) (xs : List TextToken) (es : List Entry) → AreAll (IsByKind IsForm) r xs es → AreEntries xs es
 are_entries r xs es none = no_entry
@@ -377,8 +315,7 @@ some_begin =
     (λ first. mapped_begins (λ rest. first ∷ rest) (λ r. AreRows) 0 rows_begin)
 
 row_anywhere : (r s : ℕ) (xs : List TextToken) (ns : List ℕ) → IsRow r xs ns → IsRow s xs ns
-row_anywhere r s xs ns h =
-    record { value = h.value; front = h.front; tail = h.tail; split = h.split; first = h.first; second = h.second }
+row_anywhere r s xs ns h = elsewhere (λ v ys k. k) h
 
 some_exact : (room : ℕ) → Exact AreSome NoRow room some_rows
 unfolding some_rows
@@ -398,21 +335,8 @@ some_exact room =
     follow r first xs ns h rest b = before xs rest h.0 h.1 b
 
 row_rows : (xs : List TextToken) (first : List ℕ) (rest : List (List ℕ)) → AreRows xs (first ∷ rest) → AreSome 0 xs (first ∷ rest)
-row_rows xs first rest (more_rows {xs = ys} {ys = zs} x word h more) = record {
-  value = first;
-  front = x ∷ ys;
-  tail = zs;
-  split = refl;
-  first = record {
-    value = tt;
-    front = x ∷ [];
-    tail = ys;
-    split = refl;
-    first = (x, refl, word_taken (codes "row") x word);
-    second = h;
-  };
-  second = (rest, more, refl);
-}
+row_rows xs first rest (more_rows {xs = ys} x word h more) =
+    then_of (x ∷ ys) _ _ (one_then x (word_taken (codes "row") x word) h) (rest, more, refl)
 
 rows_row : (xs : List TextToken) (ns : List (List ℕ)) → AreSome 0 xs ns →
     (first : List ℕ) × (rest : List (List ℕ)) × (ns ≡ first ∷ rest) × AreRows xs (first ∷ rest)
@@ -442,23 +366,7 @@ is_tables : (r : ℕ) (xs : List TextToken) (t : TablesSyntax) → IsTablesText 
 is_tables r xs t h = tables_by xs t (parts_of r xs t h)
 
 tables_are : (r : ℕ) (xs : List TextToken) (t : TablesSyntax) → IsTables xs t → IsTablesText r xs t
-tables_are r xs t (tables {xs = ys} {es = es} a b c d n head one word number few entries) = of_parts r xs t (record {
-  first = a;
-  one = b;
-  second = c;
-  digits = d;
-  number = n;
-  tail = ys;
-  entries = es;
-  split = refl;
-  is_first = head;
-  is_one = one;
-  is_second = word;
-  is_number = number;
-  some = few;
-  derived = entries;
-  is = refl;
-})
+tables_are r xs t (tables a b c d n head one word number few entries) = of_parts _ r a b c d n head one word number few entries
 
 pub tables_exact : (room : ℕ) → Exact (λ r. IsTables) Never room tables_text
 unfolding tables_text
@@ -539,21 +447,7 @@ module _ where
 
   some_rows_exact : (room : ℕ) → Exact (λ r. AreSome 0) Never room some_rows
   some_rows_exact room =
-      exact_as (λ r xs ns h. record {
-        value = h.value;
-        front = h.front;
-        tail = h.tail;
-        split = h.split;
-        first = h.first;
-        second = h.second;
-      }) (λ r xs ns h. record {
-        value = h.value;
-        front = h.front;
-        tail = h.tail;
-        split = h.split;
-        first = h.first;
-        second = h.second;
-      }) (λ x e. absurd e) (some_exact room)
+      exact_as (λ r xs ns h. elsewhere (λ v ys k. k) h) (λ r xs ns h. elsewhere (λ v ys k. k) h) (λ x e. absurd e) (some_exact room)
 
   input_head_exact : (room : ℕ) → Exact InputsHead Never room inputs_text
   unfolding inputs_text
@@ -585,58 +479,18 @@ module _ where
       (word_is (codes "cycle") e.first.0 e.first.2) cycle.3)
 
   inputs_are : (r : ℕ) (xs : List TextToken) (t : InputsSyntax) → IsInputs xs t → InputsHead r xs t
-  inputs_are r xs t (inputs {xs = us} {ys = vs} {zs = ws} {ns = ns} {stem = stem} {rows = rs} {row = first} a b s c head one columns
-      stem_word
-      stem_rows cycle_word cycle_rows) = record {
-        value = tt;
-        front = a ∷ [];
-        tail = b ∷ (us ++ s ∷ (vs ++ c ∷ ws));
-        split = refl;
-        first = (a, refl, word_taken (codes "tslinputs") a head);
-        second = record {
-          value = tt;
-          front = b ∷ [];
-          tail = us ++ s ∷ (vs ++ c ∷ ws);
-          split = refl;
-          first = (b, refl, numeral_taken (codes "1") b one);
-          second = record {
-            value = ns;
-            front = us;
-            tail = s ∷ (vs ++ c ∷ ws);
-            split = refl;
-            first = columns;
-            second = record {
-              value = tt;
-              front = s ∷ [];
-              tail = vs ++ c ∷ ws;
-              split = refl;
-              first = (s, refl, word_taken (codes "stem") s stem_word);
-              second = record {
-                value = stem;
-                front = vs;
-                tail = c ∷ ws;
-                split = refl;
-                first = stem_rows;
-                second = record {
-                  value = tt;
-                  front = c ∷ [];
-                  tail = ws;
-                  split = refl;
-                  first = (c, refl, word_taken (codes "cycle") c cycle_word);
-                  second = record {
-                    value = first ∷ rs;
-                    front = ws;
-                    tail = [];
-                    split = sym (append-nil ws);
-                    first = row_rows ws first rs cycle_rows;
-                    second = (tt, refl, refl);
-                  };
-                };
-              };
-            };
-          };
-        };
-      }
+  inputs_are r xs t (inputs {xs = us} {ys = vs} {zs = ws} {rows = rs} {row = first} a b s c head one columns stem_word stem_rows
+      cycle_word cycle_rows) =
+      one_then a (word_taken (codes "tslinputs") a head) (one_then b (numeral_taken (codes "1") b one) (then_of us _ _ columns
+      (one_then s (word_taken (codes "stem") s stem_word) (then_of vs _ _ stem_rows
+      (one_then c (word_taken (codes "cycle") c cycle_word) (record {
+        value = first ∷ rs;
+        front = ws;
+        tail = [];
+        split = sym (append-nil ws);
+        first = row_rows ws first rs cycle_rows;
+        second = (tt, refl, refl);
+      }))))))
 
   pub inputs_exact : (room : ℕ) → Exact (λ r. IsInputs) Never room inputs_text
   inputs_exact room = exact_as is_inputs inputs_are (λ x e. e) (input_head_exact room)

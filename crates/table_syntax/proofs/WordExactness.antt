@@ -50,7 +50,7 @@ use Rattle.table_syntax.specs.internal.Reading.{
 }
 use Rattle.table_syntax.proofs.Terminals.{words_differ, name_is, name_taken, symbol_is, symbol_taken, word_of_kind, kind_is, kind_taken}
 use Rattle.table_syntax.proofs.Terminals.{name_example, has_name, has_symbol, has_word}
-use Rattle.table_syntax.proofs.Entries.{IsByKind, by_kind, IsHeaded, HeadedParts, parts_of, of_parts, headed_exact}
+use Rattle.table_syntax.proofs.Entries.{one_then, elsewhere, IsByKind, by_kind, IsHeaded, HeadedParts, parts_of, of_parts, headed_exact}
 use Rattle.table_syntax.proofs.Exactness.{IsNumber, number_exact, number_begins}
 
 -- ---- operations
@@ -120,22 +120,8 @@ is_operation r xs o h = by h.value h.first.2 h.second where
       (constant h.first.0 k.1.0 k.0 (constant_if (is_word (codes "const") h.first.0) (operation_at h.first.0) is) k.1.2)
 
 operations_are : (r : ℕ) (xs : List TextToken) (o : WordOperation) → IsOperation xs o → Then (IsOne operation_word_at) IsRest r xs o
-operations_are r xs o (by_word x p word) = record {
-  value = Some p;
-  front = x ∷ [];
-  tail = [];
-  split = refl;
-  first = (x, refl, word_taken x p word);
-  second = (refl, refl);
-}
-operations_are r xs o (constant x y n word number) = record {
-  value = None;
-  front = x ∷ [];
-  tail = y ∷ [];
-  split = refl;
-  first = (x, refl, constant_taken x word);
-  second = (n, (y, refl, number), refl);
-}
+operations_are r xs o (by_word x p word) = one_then x (word_taken x p word) (refl, refl)
+operations_are r xs o (constant x y n word number) = one_then x (constant_taken x word) (n, (y, refl, number), refl)
 
 operation_exact : (room : ℕ) → Exact (λ r. IsOperation) Any room operation
 unfolding operation
@@ -191,12 +177,9 @@ form_begins Signal r =
     (taken_begins name_at has_name 0) (cell_begins r)
 
 lift_form : (kind : NameKind) (r : ℕ) (xs : List TextToken) (e : WordEntry) → IsForm kind r xs e → IsForm kind (suc (suc r)) xs e
-lift_form Function r xs e h =
-    record { value = h.value; front = h.front; tail = h.tail; split = h.split; first = h.first; second = h.second }
-lift_form Predicate r xs e h =
-    record { value = h.value; front = h.front; tail = h.tail; split = h.split; first = h.first; second = h.second }
-lift_form Signal r xs e h =
-    record { value = h.value; front = h.front; tail = h.tail; split = h.split; first = h.first; second = h.second }
+lift_form Function r xs e h = elsewhere (λ v ys k. k) h
+lift_form Predicate r xs e h = elsewhere (λ v ys k. k) h
+lift_form Signal r xs e h = elsewhere (λ v ys k. k) h
 
 entry_members : (room : ℕ) → Member (IsByKind IsForm) Any Never room word_entry_member (λ x. is_some (kind_at x))
     (λ xs. and_then (taking kind_at xs) word_entry_of_kind)
@@ -220,51 +203,12 @@ entry_is r xs e h = by h.value (kind_is h.first.0 h.value h.first.2) h.second wh
       (word_cell h.first.0 k.first.0 value.0 k.second.0 word name.0 value.2)
 
 is_entry : (r : ℕ) (xs : List TextToken) (e : WordEntry) → IsWordEntry xs e → IsByKind IsForm r xs e
-is_entry r xs e (word_function {xs = ys} {o = o} x y word name h) = record {
-  value = Function;
-  front = x ∷ [];
-  tail = y ∷ ys;
-  split = refl;
-  first = (x, refl, kind_taken x Function word);
-  second = record {
-    value = y;
-    front = y ∷ [];
-    tail = ys;
-    split = refl;
-    first = (y, refl, name_taken y name);
-    second = (o, h, refl);
-  };
-}
-is_entry r xs e (word_predicate x y z t word name test) = record {
-  value = Predicate;
-  front = x ∷ [];
-  tail = y ∷ z ∷ [];
-  split = refl;
-  first = (x, refl, kind_taken x Predicate word);
-  second = record {
-    value = y;
-    front = y ∷ [];
-    tail = z ∷ [];
-    split = refl;
-    first = (y, refl, symbol_taken y name);
-    second = (t, (z, refl, test), refl);
-  };
-}
-is_entry r xs e (word_cell x y z n word name number) = record {
-  value = Signal;
-  front = x ∷ [];
-  tail = y ∷ z ∷ [];
-  split = refl;
-  first = (x, refl, kind_taken x Signal word);
-  second = record {
-    value = y;
-    front = y ∷ [];
-    tail = z ∷ [];
-    split = refl;
-    first = (y, refl, name_taken y name);
-    second = (n, (z, refl, number), refl);
-  };
-}
+is_entry r xs e (word_function {o = o} x y word name h) =
+    one_then x (kind_taken x Function word) (one_then y (name_taken y name) (o, h, refl))
+is_entry r xs e (word_predicate x y z t word name test) =
+    one_then x (kind_taken x Predicate word) (one_then y (symbol_taken y name) (t, (z, refl, test), refl))
+is_entry r xs e (word_cell x y z n word name number) =
+    one_then x (kind_taken x Signal word) (one_then y (name_taken y name) (n, (z, refl, number), refl))
 
 are_entries : (r : ℕ) (xs : List TextToken) (es : List WordEntry) → AreAll (IsByKind IsForm) r xs es → AreWordEntries xs es
 are_entries r xs es none = no_word_entry
@@ -299,23 +243,7 @@ is_words : (r : ℕ) (xs : List TextToken) (t : WordsSyntax) → IsWordsText r x
 is_words r xs t h = words_by xs t (parts_of r xs t h)
 
 words_are : (r : ℕ) (xs : List TextToken) (t : WordsSyntax) → IsWords xs t → IsWordsText r xs t
-words_are r xs t (words {xs = ys} {es = es} a b c d n head one word number few entries) = of_parts r xs t (record {
-  first = a;
-  one = b;
-  second = c;
-  digits = d;
-  number = n;
-  tail = ys;
-  entries = es;
-  split = refl;
-  is_first = head;
-  is_one = one;
-  is_second = word;
-  is_number = number;
-  some = few;
-  derived = entries;
-  is = refl;
-})
+words_are r xs t (words a b c d n head one word number few entries) = of_parts _ r a b c d n head one word number few entries
 
 pub words_exact : (room : ℕ) → Exact (λ r. IsWords) Never room words_text
 unfolding words_text
