@@ -3,8 +3,10 @@ use Rattle.std.proofs.Common.{◌≡◌, ℕ, suc, ◌≤◌, true, false, List,
 use Rattle.std.proofs.lemmas.List.{append-nil}
 use Rattle.std.specs.Prelude.{Option, Some, None, option_map, option_and_then, is_some, codes}
 use Rattle.tsl_terms.specs.declared.names.NameKind.{NameKind}
-use Rattle.token_readers.specs.Readers.{Reader, value_or_wrong, taking, and_then}
-use Rattle.token_readers.specs.Exact.{Grammar, Begins, Exact}
+use Rattle.token_readers.specs.Readers.{Reader, value_or_wrong, taking, and_then, map_read, at_end}
+use Rattle.token_readers.specs.Exact.{Grammar, Before, Begins, Exact}
+use Rattle.token_readers.proofs.Runs.{exact_as}
+use Rattle.token_readers.proofs.Then.{Any}
 use Rattle.token_readers.proofs.Terminals.{turn_of}
 use Rattle.token_readers.proofs.Taken.{HasExample, IsOne, taken_begins, taken_exact, IsEnd, Never, end_exact, end_begins}
 use Rattle.token_readers.proofs.Sequels.{
@@ -49,6 +51,52 @@ module _ {T V W : Type 0} where
     second = lift h.value h.tail h.second;
   }
 
+-- ---- forms that are read exactly, and that some terminals are
+
+pub record Form {T V : Type 0} (Is : Grammar T V) (ends : T → Type 0) (room : ℕ) (reader : Reader T V) : Type 0 where
+  pub exact : Exact Is ends room reader
+  pub begins : (r : ℕ) → Begins (Is r) []
+
+pub one_terminal : {T V : Type 0} (value : T → Option V) (room : ℕ) → HasExample value → Form (λ r. IsOne value) Any room (taking value)
+one_terminal value room e = record { exact = taken_exact value e room; begins = λ r. taken_begins value e 0 }
+
+module _ {T V W : Type 0} where
+  pub mapped_form : {Is : Grammar T V} {ends : T → Type 0} {room : ℕ} {reader : Reader T V} (make : V → W) → Form Is ends room reader →
+      Form (IsMapped make Is) ends room (λ xs. map_read make (reader xs))
+  mapped_form {Is = Is} make k = record { exact = mapped_exact make k.exact; begins = λ r. mapped_begins make Is r (k.begins r) }
+
+  pub then_form : {Is : List T → V → Type 0} {Next : V → Grammar T W} {ends : T → Type 0} {room : ℕ} {reader : Reader T V}
+      {next : V → Reader T W} → Form (λ r. Is) Any room reader → ((v : V) → Form (Next v) ends room (next v)) →
+      Form (Then Is Next) ends room (λ xs. and_then (reader xs) next)
+  then_form {Is = Is} {Next = Next} k second = record {
+    exact = then_exact (λ r v. (second v).begins r) k.exact (λ v. (second v).exact);
+    begins = λ r. then_begins Is Next r (k.begins r) (λ v. (second v).begins r);
+  }
+
+  -- before some terminals, with which each further form begins
+  pub before_form : {Is : List T → V → Type 0} {Next : V → Grammar T W} {firsts ends : T → Type 0} {room : ℕ} {reader : Reader T V}
+      {next : V → Reader T W} →
+      ((r : ℕ) (v : V) (xs : List T) (w : W) → Next v r xs w → (rest : List T) → Before ends rest → Before firsts (xs ++ rest)) →
+      Form (λ r. Is) firsts room reader → ((v : V) → Form (Next v) ends room (next v)) →
+      Form (Then Is Next) ends room (λ xs. and_then (reader xs) next)
+  before_form {Is = Is} {Next = Next} follow k second = record {
+    exact = then_before (λ r v. (second v).begins r) follow k.exact (λ v. (second v).exact);
+    begins = λ r. then_begins Is Next r (k.begins r) (λ v. (second v).begins r);
+  }
+
+-- the same in other words
+pub other_form : {T V : Type 0} {Is Others : Grammar T V} {ends fewer : T → Type 0} {room : ℕ} {reader : Reader T V} →
+    ((r : ℕ) (xs : List T) (v : V) → Is r xs v → Others r xs v) → ((r : ℕ) (xs : List T) (v : V) → Others r xs v → Is r xs v) →
+    ((x : T) → fewer x → ends x) → Form Is ends room reader → Form Others fewer room reader
+other_form to from weaker k = record {
+  exact = exact_as to from weaker k.exact;
+  begins = λ r. record {
+    ending = (k.begins r).ending;
+    value = (k.begins r).value;
+    derives = to r (k.begins r).ending (k.begins r).value (k.begins r).derives;
+  };
+}
+
 -- ---- entries
 
 -- the first word of an entry, and what it decides
@@ -56,12 +104,11 @@ abbrev pub IsByKind : {E : Type 0} → (NameKind → Grammar TextToken E) → Gr
 IsByKind IsForm = Then (IsOne kind_at) IsForm
 
 module _ {E : Type 0} (read : NameKind → Reader TextToken E) (IsForm : NameKind → Grammar TextToken E) {each : TextToken → Type 0}
-    (form_exact : (kind : NameKind) (room : ℕ) → Exact (IsForm kind) each room (read kind))
-    (form_begins : (kind : NameKind) (r : ℕ) → Begins (IsForm kind r) [])
+    (form : (kind : NameKind) (room : ℕ) → Form (IsForm kind) each room (read kind))
     (lift_form : (kind : NameKind) (r : ℕ) (xs : List TextToken) (e : E) → IsForm kind r xs e → IsForm kind (suc (suc r)) xs e)
     (named : (x : TextToken) → is_name_token x ≡ true → each x) where
   whole_exact : (room : ℕ) → Exact (IsByKind IsForm) each room (λ xs. and_then (taking kind_at xs) read)
-  whole_exact room = then_exact (λ r kind. form_begins kind r) (taken_exact kind_at has_kind room) (λ kind. form_exact kind room)
+  whole_exact room = (then_form (one_terminal kind_at room has_kind) (λ kind. form kind room)).exact
 
   pub by_kind : (room : ℕ) → Member (IsByKind IsForm) each Never room (member_by read) (λ x. is_some (kind_at x))
       (λ xs. and_then (taking kind_at xs) read)
@@ -166,50 +213,18 @@ module _ {E V : Type 0} {head word : List ℕ} {Are : List TextToken → List E 
         second = (tt, refl, refl);
       }))))
 
+pub at_the_end : (room : ℕ) → Form (IsEnd {T = TextToken}) Never room at_end
+at_the_end room = record { exact = end_exact room; begins = λ r. end_begins }
+
 module _ {E V : Type 0} {head word : List ℕ} (has_head : HasExample (word_at head)) (has_second : HasExample (word_at word))
-    {Are : List TextToken → List E → Type 0} (none : Begins Are []) {read : Reader TextToken (List E)}
-    (exact : (room : ℕ) → Exact (λ r. Are) Never room read) (made : ℕ → List E → V) where
-  -- such a text, from its end
-  abbrev TextEnd : ℕ → List E → Grammar TextToken V
-  TextEnd n es = IsMapped (λ _. made n es) IsEnd
-
-  abbrev TextEntries : ℕ → Grammar TextToken V
-  TextEntries n = Then Are (TextEnd n)
-
-  abbrev TextNumber : Grammar TextToken V
-  TextNumber = Then (IsOne positive_at) TextEntries
-
-  abbrev TextSecond : Grammar TextToken V
-  TextSecond = Then (IsOne (word_at word)) (λ _. TextNumber)
-
-  abbrev TextOne : Grammar TextToken V
-  TextOne = Then (IsOne (numeral_at (codes "1"))) (λ _. TextSecond)
-
-  end_begin : (r n : ℕ) (es : List E) → Begins (TextEnd n es r) []
-  end_begin r n es = mapped_begins (λ _. made n es) IsEnd r end_begins
-
-  entries_begin : (r n : ℕ) → Begins (TextEntries n r) []
-  entries_begin r n = then_begins Are (TextEnd n) r none (λ es. end_begin r n es)
-
-  number_begin : (r : ℕ) → Begins (TextNumber r) []
-  number_begin r = then_begins (IsOne positive_at) TextEntries r (taken_begins positive_at has_positive 0) (λ n. entries_begin r n)
-
-  second_begin : (r : ℕ) → Begins (TextSecond r) []
-  second_begin r = then_begins (IsOne (word_at word)) (λ _. TextNumber) r (taken_begins (word_at word) has_second 0) (λ v. number_begin r)
-
-  one_begin : (r : ℕ) → Begins (TextOne r) []
-  one_begin r =
-      then_begins (IsOne (numeral_at (codes "1"))) (λ _. TextSecond) r (taken_begins (numeral_at (codes "1")) has_one 0)
-      (λ v. second_begin r)
-
+    {Are : List TextToken → List E → Type 0} {read : Reader TextToken (List E)}
+    (form : (room : ℕ) → Form (λ r. Are) Never room read) (made : ℕ → List E → V) where
   pub headed_exact : (room : ℕ) → Exact (IsHeaded head word Are made) Never room (headed_text head word read made)
   headed_exact room =
-      then_exact (λ r v. one_begin r) (taken_exact (word_at head) has_head room) (λ _.
-      then_exact (λ r v. second_begin r) (taken_exact (numeral_at (codes "1")) has_one room) (λ _.
-      then_exact (λ r v. number_begin r) (taken_exact (word_at word) has_second room) (λ _.
-      then_exact (λ r n. entries_begin r n) (taken_exact positive_at has_positive room) (λ n.
-      then_before (λ r es. end_begin r n es) (λ r es xs v h rest b. nothing_follows Never (λ _. made n es) r xs v h rest b)
-      (exact room) (λ es. mapped_exact (λ _. made n es) (end_exact room))))))
+      (then_form (one_terminal (word_at head) room has_head) (λ _. then_form (one_terminal (numeral_at (codes "1")) room has_one) (λ _.
+      then_form (one_terminal (word_at word) room has_second) (λ _. then_form (one_terminal positive_at room has_positive) (λ n.
+      before_form (λ r es xs v h rest b. nothing_follows Never (λ _. made n es) r xs v h rest b) (form room)
+      (λ es. mapped_form (λ _. made n es) (at_the_end room))))))).exact
 
 pub headed_end : {E V : Type 0} (head word : List ℕ) (read : Reader TextToken (List E)) (made : ℕ → List E → V) →
     Ends (headed_text head word read made)
