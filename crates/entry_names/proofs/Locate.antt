@@ -152,6 +152,7 @@ found_view view test (x ∷ xs) = by (test (view x)) (found_view view test xs) w
   by false h = h
 
 -- what is seen of it
-pub seen_entry : {U V W : Type 0} (view : U → V) (test : V → Bool) (what : V → W) (xs : List U) (o : Option U) → o ≡ find (λ x. test (view x)) xs →
+pub seen_entry : {U V W : Type 0} (view : U → V) (test : V → Bool) (what : V → W) (xs : List U) (o : Option U) →
+    o ≡ find (λ x. test (view x)) xs →
     option_map what (option_map view o) ≡ option_map what (find test (map view xs))
 seen_entry view test what xs o is = ap (option_map what) (ap (option_map view) is ∙ sym (found_view view test xs))

@@ -21,7 +21,8 @@ use Rattle.table_syntax.specs.Syntax.{TextToken, InputsSyntax}
 use Rattle.entry_names.specs.declared.locating.EntryFault.{EntryFault}
 use Rattle.entry_names.specs.declared.locating.EntryFault.TheVariants as entry
 use Rattle.entry_names.specs.Needed.{number_for, is_for, IsFirstRepeat, HasNoRepeat}
-use Rattle.entry_names.specs.Entries.{Subject, column_subject_of, is_needed_as, is_known, numbers_of, has_no_entry, AreLocated, HasEntryFault}
+use Rattle.entry_names.specs.Entries.{Subject, column_subject_of, is_needed_as, is_known, numbers_of, has_no_entry}
+use Rattle.entry_names.specs.Entries.{AreLocated, HasEntryFault}
 use Rattle.entry_names.specs.Entries.{AreKnown as AreKnownEntries, AreOnce as AreOnceEntries, AreWhole as AreWholeEntries}
 use Rattle.entry_names.proofs.Locate.{found_view, slot_is, has_place}
 use Rattle.table_interp.specs.Inputs.{is_input_name, has_no_column, AreKnown, AreOnce, AreWhole, HasRowCause}
@@ -88,7 +89,8 @@ module _ (names : List Name) (inputs : List ℕ) (are : IsTrue (list_all (λ s. 
   pub column_cause : (domain : ℕ) (fault : EntryFault) → HasEntryFault names inputs (columns_of given) fault →
       HasRowCause names inputs given domain (column_error fault)
   column_cause domain (entry.Unknown s f) h =
-      let column = some_mapped column_subject_of (find (λ x. not (is_input_name names inputs x)) given.names) h.entry (sym found_known ∙ h.first) in
+      let column = some_mapped column_subject_of (find (λ x. not (is_input_name names inputs x)) given.names) h.entry
+      (sym found_known ∙ h.first) in
       record {
         column = column.0;
         first = column.1;
@@ -114,8 +116,8 @@ module _ (names : List Name) (inputs : List ℕ) (are : IsTrue (list_all (λ s. 
   column_cause domain entry.NoMemory h = tt
 
   -- each input's column has a place
-  pub have_places : (places : List (Option ℕ)) → AreLocated names (columns_of given) places → AllByRecursion (λ s. s < length names) inputs →
-      AreWhole names inputs given → HavePlaces places inputs
+  pub have_places : (places : List (Option ℕ)) → AreLocated names (columns_of given) places →
+      AllByRecursion (λ s. s < length names) inputs → AreWhole names inputs given → HavePlaces places inputs
   have_places places l within h =
       All-from_recursion (λ s. IsSomeAnd (slice_get places s) (λ slot. is_some slot ≡ true)) inputs
       (each_both (λ s. s < length names) (λ s. has_no_column names given s ≡ false)

@@ -171,7 +171,8 @@ module _ (names : List Name) (cells : List ℕ) (given : TablesSyntax) (within :
         ap (λ b. cond b (numbers_for names given.entries id) (Some [])) symbol ∙ g.is in
         let found = some_mapped (λ t. Some t) (slice_get interpretation.tables id) (Some g.numbers)
         (sym (slice_get-map (λ t. Some t) interpretation.tables id)
-        ∙ ap (λ ts. slice_get ts id) (sym (gathered_are (map (table_of names given.entries) (numbers_from 0 (length names))) interpretation.tables gives.tables))
+        ∙ ap (λ ts. slice_get ts id)
+        (sym (gathered_are (map (table_of names given.entries) (numbers_from 0 (length names))) interpretation.tables gives.tables))
         ∙ slice_get-map (table_of names given.entries) (numbers_from 0 (length names)) id
         ∙ ap (option_map (table_of names given.entries)) (numbers_at 0 (length names) id inside ∙ ap (λ n. Some n) (omega arith))
         ∙ ap (λ t. Some t) table) in

@@ -140,7 +140,8 @@ form Signal room =
     then_form (one_terminal name_at room has_name)
     (λ name. other_form (λ r xs v h. h) (λ r xs v h. h) (λ x e. tt) (mapped_form (λ n. entry_made Signal name (n ∷ [])) (number_form room)))
 form Function room = then_form (one_terminal symbol_at room has_symbol) (λ name. mapped_form (entry_made Function name) (numbers_form room))
-form Predicate room = then_form (one_terminal symbol_at room has_symbol) (λ name. mapped_form (entry_made Predicate name) (numbers_form room))
+form Predicate room =
+    then_form (one_terminal symbol_at room has_symbol) (λ name. mapped_form (entry_made Predicate name) (numbers_form room))
 
 lift_form : (kind : NameKind) (r : ℕ) (xs : List TextToken) (e : Entry) → IsForm kind r xs e → IsForm kind (suc (suc r)) xs e
 lift_form Signal r xs e h = elsewhere (λ v ys k. k) h

@@ -50,7 +50,8 @@ use Rattle.table_syntax.specs.internal.Reading.{
 }
 use Rattle.table_syntax.proofs.Terminals.{words_differ, name_is, name_taken, symbol_is, symbol_taken, word_of_kind, kind_is, kind_taken}
 use Rattle.table_syntax.proofs.Terminals.{name_example, has_name, has_symbol, has_word}
-use Rattle.table_syntax.proofs.Entries.{one_then, elsewhere, Form, one_terminal, mapped_form, then_form, other_form, IsByKind, by_kind, IsHeaded, HeadedParts, parts_of, of_parts, headed_exact}
+use Rattle.table_syntax.proofs.Entries.{one_then, elsewhere, Form, one_terminal, mapped_form, then_form, other_form}
+use Rattle.table_syntax.proofs.Entries.{IsByKind, by_kind, IsHeaded, HeadedParts, parts_of, of_parts, headed_exact}
 use Rattle.table_syntax.proofs.Exactness.{IsNumber, number_form}
 
 -- ---- operations

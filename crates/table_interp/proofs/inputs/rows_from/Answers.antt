@@ -25,7 +25,8 @@ order_of-requires c =
     rw c.deref.ensures.value
     (have_places c.args.names.now c.args.inputs.now c.requires.inputs (inputs_view c.args.given.now) c.in_ok-places.places.items
     c.in_ok-places.ensures.located
-    (recursion_from_All (λ s. s < length c.args.names.now) c.args.inputs.now (cells_within c.args.names.now c.args.inputs.now c.requires.inputs))
+    (recursion_from_All (λ s. s < length c.args.names.now) c.args.inputs.now
+    (cells_within c.args.names.now c.args.inputs.now c.requires.inputs))
     c.in_ok-places.ensures.whole)
 
 pub all_ordered-requires : goal.all_ordered-requires
@@ -48,7 +49,8 @@ pub returns-clause-gives : goal.returns-clause-gives
 returns-clause-gives c =
     let columns = c.in_ok-places.ensures.located in
     let stands = order_stands columns c.in_ok-order.order.items c.args.inputs.now
-    (recursion_from_All (λ s. s < length c.args.names.now) c.args.inputs.now (cells_within c.args.names.now c.args.inputs.now c.requires.inputs))
+    (recursion_from_All (λ s. s < length c.args.names.now) c.args.inputs.now
+    (cells_within c.args.names.now c.args.inputs.now c.requires.inputs))
     (rw c.deref.ensures.value at c.in_ok-order.ensures) in
     record {
       in_range = c.in_ok-check_values.ensures.ok;
